@@ -1,4 +1,4 @@
--- Which tokens a text spells.
+-- Which tokens a text spells (ISO/IEC 9899:1999, 6.4).
 use Rattle.std.specs.Prelude.{◌≡◌, ◌≢◌, ℕ, ◌+◌, ◌-◌, ◌^◌, ◌<◌, ◌≤◌, Bool, true, false, IsTrue, List, [], ◌∷◌, ◌++◌, length, take, drop, slice_index, ◌⊎◌}
 use Rattle.std.specs.List.{prefix_len}
 use Rattle.scan.specs.declared.token.Mark.{Mark}
@@ -52,9 +52,9 @@ abbrev pub IsName : List ℕ → Type 0
 IsName [] = ⊥
 IsName (byte ∷ bytes) = IsTrue (is_letter byte) × Every is_word bytes
 
--- 0x begins the digits of base 16
-abbrev pub base_sign : ℕ → List ℕ → Type 0
-base_sign base sign = ((base ≡ 10) × (sign ≡ [])) ⊎ ((base ≡ 16) × (sign ≡ 48 ∷ 120 ∷ []))
+-- 0x stands before the digits of base 16, and nothing before those of base 10
+abbrev pub IsBaseSign : ℕ → List ℕ → Type 0
+IsBaseSign base sign = ((base ≡ 10) × (sign ≡ [])) ⊎ ((base ≡ 16) × (sign ≡ 48 ∷ 120 ∷ []))
 
 -- at least one digit, and in base 10 no zero before others
 abbrev pub IsDigits : ℕ → List ℕ → Type 0
@@ -65,7 +65,7 @@ abbrev pub suffix : Bool → List ℕ
 suffix false = []
 suffix true = 117 ∷ []
 
--- the values without u and with it
+-- what the values are below, without u and with it
 abbrev pub limit : Bool → ℕ
 limit false = 2 ^ 31
 limit true = 2 ^ 32
@@ -75,13 +75,13 @@ pub record IsNumber (word : List ℕ) (value : ℕ) (unsigned : Bool) : Type 0 w
   pub base : ℕ
   pub sign : List ℕ
   pub digits : List ℕ
-  pub based : base_sign base sign
+  pub based : IsBaseSign base sign
   pub formed : IsDigits base digits
   pub parts : word ≡ sign ++ (digits ++ suffix unsigned)
   pub value_is : value ≡ base_value base 0 digits
   pub small : value < limit unsigned
 
--- a text between two quotes
+-- a string: two quotes, and what stands between them
 abbrev pub IsQuoted : List ℕ → Type 0
 IsQuoted word = (inside : List ℕ) × Every is_text inside × (word ≡ 34 ∷ (inside ++ 34 ∷ []))
 
@@ -93,7 +93,7 @@ IsLexeme (Symbol mark) word = word ≡ mark_bytes mark
 
 -- ---- what may stand behind a token
 
--- No byte of a word stands behind a number, nor a sign behind one that ends in e.
+-- No letter, digit or underscore stands behind a number, nor a sign behind one that ends in e.
 abbrev pub IsApart : Kind → List ℕ → List ℕ → Type 0
 IsApart Name word rest = Unit {0}
 IsApart (Number value unsigned) word rest =
@@ -130,7 +130,7 @@ IsGap text n = IsBlank ⊎ (IsBlock ⊎ IsLine)
     IsLine : Type 0
     IsLine = (rest : List ℕ) × (text ≡ 47 ∷ 47 ∷ rest) × (n ≡ prefix_len is_in_line rest + 2)
 
--- the first n bytes are a token of this kind, the longest that begins there
+-- The first n bytes are a token of this kind. It is the longest that begins there, where no comment begins.
 pub record IsToken (kind : Kind) (text : List ℕ) (n : ℕ) : Type 0 where
   pub within : n ≤ length text
   pub form : IsLexeme kind (take n text)

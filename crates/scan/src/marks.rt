@@ -1,4 +1,4 @@
-//! Marks, by their first byte or their first two.
+//! Marks, by their first byte or their first two (ISO/IEC 9899:1999, 6.4.6).
 
 ghost use Rattle.std.specs.Prelude.{◌≡◌};
 ghost use Rattle.scan.specs.Reading.{mark_of, pair_of};
