@@ -114,17 +114,3 @@ piece_at (first ∷ rest) =
     else if is_word first then number_at (first ∷ rest)
     else if first == 34 then text_at rest
     else comment_or_mark first rest
-
--- ---- the first fault
-
--- blanks, comments and tokens fill the text up to a place
-pub data IsReached (text : List ℕ) : ℕ → Type 0 where
-  starts : IsReached text 0
-  goes_on : {at next : ℕ} (kind : Option Kind) (n : ℕ) → IsReached text at → piece_at (drop at text) ≡ Ok (kind, n) → next ≡ at + n → IsReached text next
-
-abbrev pub line_of : List ℕ → ℕ → ℕ
-line_of text place = count_by (λ byte. byte == 10) (take place text) + 1
-
-abbrev pub IsFirstFault : List ℕ → ScanFault → Type 0
-IsFirstFault text Memory = Unit {0}
-IsFirstFault text (Found fault line) = (at : ℕ) × IsReached text at × (at < length text) × (piece_at (drop at text) ≡ Err fault) × (line ≡ line_of text at)

@@ -1,5 +1,5 @@
 -- Which tokens a text spells (ISO/IEC 9899:1999, 6.4).
-use Rattle.std.specs.Prelude.{◌≡◌, ◌≢◌, ℕ, ◌+◌, ◌-◌, ◌^◌, ◌<◌, ◌≤◌, Bool, true, false, IsTrue, List, [], ◌∷◌, ◌++◌, length, take, drop, slice_index, ◌⊎◌}
+use Rattle.std.specs.Prelude.{◌≡◌, ◌≢◌, ℕ, ◌+◌, ◌-◌, ◌^◌, ◌<◌, ◌≤◌, Bool, true, false, IsTrue, List, [], ◌∷◌, ◌++◌, length, take, drop, slice_index, ◌⊎◌, count_by, ◌==◌}
 use Rattle.std.specs.List.{prefix_len}
 use Rattle.scan.specs.declared.token.Mark.{Mark}
 use Rattle.scan.specs.declared.token.Mark.TheVariants.{OpenParen, CloseParen, OpenBrace, CloseBrace, OpenBracket, CloseBracket, Semicolon, Comma, Assign, Star, Arrow, Ampersand, Bar, Caret, Tilde, Exclamation, Plus, Minus, Slash, Percent, Less, Greater, LessEqual, GreaterEqual, Equal, NotEqual, LogicalAnd, LogicalOr, ShiftLeft, ShiftRight}
@@ -146,3 +146,7 @@ pub data SpellsFrom (text : List ℕ) : ℕ → List Token → Type 0 where
 
 abbrev pub Spells : List ℕ → List Token → Type 0
 Spells text tokens = SpellsFrom text 0 tokens
+
+-- the line of a place, counted from 1
+abbrev pub line_of : List ℕ → ℕ → ℕ
+line_of text place = count_by (λ byte. byte == 10) (take place text) + 1
