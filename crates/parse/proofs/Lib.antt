@@ -4,3 +4,7 @@ pub mod Table
 pub mod Levels
 pub mod Climbing
 pub mod Lines
+pub mod Sentences
+pub mod Blocks
+pub mod Programs
+pub mod Again
