@@ -8,3 +8,6 @@ pub mod Sentences
 pub mod Blocks
 pub mod Programs
 pub mod Again
+pub mod Ranges
+pub mod Trees
+pub mod Whole
