@@ -138,7 +138,6 @@ result_again : (r : ResultType) → IsTrue (is_built_result r) → (es : List Sp
 unfolding result_at
 result_again Void built es ls rest h = rw (first_is (Fixed' (fixed.Word words.Void)) es ls rest (fixed.Word words.Void) h) refl
 result_again IntResult built es ls rest h = rw (first_is (Fixed' (fixed.Word words.Jint)) es ls rest (fixed.Word words.Void) h, first_is (Fixed' (fixed.Word words.Jint)) es ls rest (fixed.Word words.Jint) h) refl
-
 result_again (ReferenceResult r) built es ls rest h = absurd (no_built built)
   where
     no_built : false ≡ true → ⊥

@@ -279,16 +279,18 @@ pub is_tree : (items : List Item) → AreItems items → length items ≤ 256 �
 is_tree items is few range =
     let facts = all_facts items is range in
     let functions = all_functions items is in
-    let statics = no_statics items facts in
-    (record {
-      levelled_expressions = all_of (λ f. block_levelled f.body) (λ f k. k.body.levels) items facts;
-      numbers = all_of (λ f. block_numbers f.body) (λ f k. k.body.numbers) items facts;
-      forms = all_of (λ f. block_well_formed f.body) (λ f k. k.body.formed) items facts;
-      low = all_of (λ f. nat_le (block_height f.body) 32) (λ f k. le-leb (block_height f.body) 32 k.body.low) items facts;
-      few_functions = omega (arith, functions, few);
-      few_statics = omega (arith, statics);
-      few_names = all_of (λ f. nat_le (length (parameter_names f ++ names_declared (statements_of f.body))) 256) (λ f k. le-leb _ 256 k.names) items facts;
-    }, all_built items facts)
+    let statics = no_statics items facts in (
+      record {
+        levelled_expressions = all_of (λ f. block_levelled f.body) (λ f k. k.body.levels) items facts;
+        numbers = all_of (λ f. block_numbers f.body) (λ f k. k.body.numbers) items facts;
+        forms = all_of (λ f. block_well_formed f.body) (λ f k. k.body.formed) items facts;
+        low = all_of (λ f. nat_le (block_height f.body) 32) (λ f k. le-leb (block_height f.body) 32 k.body.low) items facts;
+        few_functions = omega (arith, functions, few);
+        few_statics = omega (arith, statics);
+        few_names = all_of (λ f. nat_le (length (parameter_names f ++ names_declared (statements_of f.body))) 256) (λ f k. le-leb _ 256 k.names) items facts;
+      },
+      all_built items facts,
+    )
 
 to_items : (items : List Item) → is_built (unit_of items) ≡ true → list_all (λ f. block_levelled f.body) (functions_of (unit_of items)) ≡ true → list_all (λ f. block_well_formed f.body) (functions_of (unit_of items)) ≡ true → list_all (λ f. nat_le (block_height f.body) 32) (functions_of (unit_of items)) ≡ true → AreItems items
 to_items [] built levels forms low = tt

@@ -11,14 +11,13 @@ use Rattle.scan.specs.Spelling.{SpellsFrom, ends, passes, takes, Spells, line_of
 use Rattle.syntax.specs.Tree.{Item, SourceUnit}
 use Rattle.syntax.specs.Limits.{IsTree}
 use Rattle.parse.specs.declared.fault.ParseFault.{ParseFault}
-use Rattle.parse.specs.declared.fault.ParseFault.TheVariants.{Memory}
-use Rattle.parse.specs.declared.fault.ParseFault.TheVariants as faults
+use Rattle.parse.specs.declared.fault.ParseFault.TheVariants.{Memory, Found}
 use Rattle.parse.specs.declared.words.Word.{Word}
 use Rattle.parse.specs.declared.lexemes.Fixed.TheVariants as fixed
 use Rattle.parse.specs.Words.{word_of}
 use Rattle.parse.specs.Meaning.{Fixed', name_or_word, meaning_of, token_meaning}
 use Rattle.parse.specs.Lexemes.{Lexed, is_fixed_meaning, line_ends, lexemes, AreInOrder}
-use Rattle.parse.specs.Results.{Fails, Gives}
+use Rattle.parse.specs.Results.{Fails}
 use Rattle.parse.specs.Built.{is_built}
 use Rattle.parse.specs.Spelling.{Spelled, Anywhere, OnLine, item, spell, Stands, SpellsUnit}
 use Rattle.parse.specs.Reading.{starts_with, items_at, unit_at}
@@ -109,12 +108,12 @@ unit_of items = record { items = items }
 abbrev pub items_of : List ℕ → List Token → Result (List Item) ParseFault
 items_of text tokens = items_at (length (lexemes text 0 1 tokens) + 1) 0 (lexemes text 0 1 tokens)
 
-pub record Found (text : List ℕ) (items : List Item) : Type 0 where
+pub record IsFound (text : List ℕ) (items : List Item) : Type 0 where
   pub tree : IsTree (unit_of items)
   pub spelled : SpellsUnit text (unit_of items)
   pub built : is_built (unit_of items) ≡ true
 
-pub items_found : (text : List ℕ) (tokens : List Token) (items : List Item) → Spells text tokens → items_of text tokens ≡ Ok items → Found text items
+pub items_found : (text : List ℕ) (tokens : List Token) (items : List Item) → Spells text tokens → items_of text tokens ≡ Ok items → IsFound text items
 items_found text tokens items spelled h =
     let w = lexemes_is text 0 1 tokens (order_of text spelled) refl in
     let t = items_take (length (lexemes text 0 1 tokens) + 1) 0 (lexemes text 0 1 tokens) items h in
@@ -144,26 +143,37 @@ items_only text tokens unit unique spelled built s =
 
 -- ---- from items to units
 
--- what the items are read as, in the lexemes that the code has
-pub items_read : {A : Type 0} (text : List ℕ) (tokens : List Token) (ls : List Lexed) (r : Result A ParseFault) (view : A → List Item) → ls ≡ lexemes text 0 1 tokens → Gives view r (items_at (length ls + 1) 0 ls) → Gives view r (items_of text tokens)
-items_read text tokens ls r view is given = subst (λ (l : List Lexed). Gives view r (items_at (length l + 1) 0 l)) is given
-
-pub unit_read : (ls : List Lexed) (items : List Item) → items_at (length ls + 1) 0 ls ≡ Ok items → unit_at ls ≡ Ok (unit_of items)
-unfolding unit_at
-unit_read ls items e = rw e refl
-
-pub unit_fails : (ls : List Lexed) (e : ParseFault) → Fails e (items_at (length ls + 1) 0 ls) → Fails e (unit_at ls)
-unfolding unit_at
-unit_fails ls Memory h = tt
-unit_fails ls (faults.Found fault line) h = rw h refl
-
-abbrev pub unit_given : SourceUnit → Result SourceUnit ParseFault
-unit_given unit = Ok unit
-
 abbrev items_given : List Item → Result (List Item) ParseFault
 items_given items = Ok items
 
--- a fault where a built unit is spelled is want of memory
-pub fails_only : (text : List ℕ) (tokens : List Token) (e : ParseFault) (unit : SourceUnit) → Fails e (items_of text tokens) → items_of text tokens ≡ Ok unit.items → Fails e (unit_given unit)
-fails_only text tokens Memory unit h is = tt
-fails_only text tokens (faults.Found fault line) unit h is = let f : items_given unit.items ≡ Err (faults.Found fault line) = sym is ∙ h in absurd cc
+abbrev unit_given : SourceUnit → Result SourceUnit ParseFault
+unit_given unit = Ok unit
+
+items_same : (a b : List Item) → items_given a ≡ items_given b → a ≡ b
+items_same a b e = cc
+
+-- what is read of lexemes, which are the text's
+module _ (text : List ℕ) (tokens : List Token) (spelled : Spells text tokens) (ls : List Lexed) (is : ls ≡ lexemes text 0 1 tokens) where
+  pub found_by : (items : List Item) → items_at (length ls + 1) 0 ls ≡ Ok items → IsFound text items
+  found_by items given = items_found text tokens items spelled (subst (λ (l : List Lexed). items_at (length l + 1) 0 l ≡ items_given items) is given)
+
+  pub unit_by : (items : List Item) → items_at (length ls + 1) 0 ls ≡ Ok items → unit_at (lexemes text 0 1 tokens) ≡ Ok (unit_of items)
+  unfolding unit_at
+  unit_by items given = ap unit_at (sym is) ∙ rw given refl
+
+  pub fault_by : (e : ParseFault) → Fails e (items_at (length ls + 1) 0 ls) → Fails e (unit_at (lexemes text 0 1 tokens))
+  unfolding unit_at
+  fault_by Memory h = tt
+  fault_by (Found fault line) h = ap unit_at (sym is) ∙ rw h refl
+
+  module _ (unique : (others : List Token) → Spells text others → others ≡ tokens) where
+    only_items : (unit : SourceUnit) → is_built unit ≡ true → SpellsUnit text unit → items_at (length ls + 1) 0 ls ≡ Ok unit.items
+    only_items unit built s = subst (λ (l : List Lexed). items_at (length l + 1) 0 l ≡ items_given unit.items) (sym is) (items_only text tokens unit unique spelled built s)
+
+    pub only_by : (items : List Item) (unit : SourceUnit) → items_at (length ls + 1) 0 ls ≡ Ok items → is_built unit ≡ true → SpellsUnit text unit → unit_given unit ≡ Ok (unit_of items)
+    only_by items unit given built s = ap (λ (l : List Item). unit_given (unit_of l)) (items_same unit.items items (sym (only_items unit built s) ∙ given))
+
+    -- a fault where a built unit is spelled is want of memory
+    pub no_fault_by : (e : ParseFault) (unit : SourceUnit) → Fails e (items_at (length ls + 1) 0 ls) → is_built unit ≡ true → SpellsUnit text unit → Fails e (unit_given unit)
+    no_fault_by Memory unit h built s = tt
+    no_fault_by (Found fault line) unit h built s = let f : items_given unit.items ≡ Err (Found fault line) = sym (only_items unit built s) ∙ h in absurd cc

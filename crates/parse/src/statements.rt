@@ -32,11 +32,7 @@ fn put(alloc: Global, line: usize, lexemes: &[Lexeme]) -> Result<(Stmt, &[Lexeme
 
 /// What stands behind the `return` of this line.
 #[tactic(auto, unfolding(crate::specs::Reading::return_at))]
-fn returned(
-    alloc: Global,
-    line: usize,
-    lexemes: &[Lexeme],
-) -> Result<(Stmt, &[Lexeme]), ParseFault>
+fn returned(alloc: Global, line: usize, lexemes: &[Lexeme]) -> Result<(Stmt, &[Lexeme]), ParseFault>
     ensures { Gives (λ x. (stmt_tree x.0, views x.1.now)) result (return_at 31 line (views lexemes.now)) }
 {
     if starts_with(Fixed::Mark(Mark::Semicolon), lexemes) {
