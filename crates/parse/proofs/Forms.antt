@@ -1,5 +1,5 @@
 -- Which trees are read: of the forms that are built, levelled, and no higher than there is room.
-use Rattle.std.proofs.Common.{◌≡◌, ℕ, ◌+◌, ◌≤◌, Bool, true, false, List, [], ◌∷◌}
+use Rattle.std.proofs.Common.{ℕ, ◌+◌, ◌≤◌, Bool, true, false, List, [], ◌∷◌}
 use Rattle.std.specs.Prelude.{IsTrue}
 use Rattle.syntax.specs.Tree.{Expr, Number, Named, Variable, Element, Prefix, Binary, Paren, Stmt, PutJint, Return, ReturnValue, Block, End, Next, Function, Item, StaticItem, FunctionItem}
 use Rattle.syntax.specs.Limits.{operator_level, prefix_level, height}

@@ -13,7 +13,7 @@ use Rattle.parse.specs.declared.lexemes.Fixed.TheVariants as fixed
 use Rattle.parse.specs.Results.{◌>>=◌}
 use Rattle.parse.specs.Meaning.{Meaning, Fixed', Name', Number', Text'}
 use Rattle.parse.specs.Lexemes.{Lexed, same_fixed, expect}
-use Rattle.parse.specs.Built.{is_built_prefix, is_built_operator}
+use Rattle.parse.specs.Built.{is_built_prefix}
 use Rattle.parse.specs.Spelling.{Spelled, Anywhere, mark, word, operator_mark, prefix_tokens, expression}
 use Rattle.parse.specs.Reading.{Reader, ReadExpr, starts_with, behind, operator_at, climb, climb_step, under_prefix, in_parens, behind_paren, number_of, number_first, operand_by, expr_by, deeper}
 use Rattle.parse.proofs.Forms.{IsLevelled}

@@ -1,20 +1,18 @@
 -- The numbers of a tree are in range, since those of the tokens are.
-use Rattle.std.proofs.Common.{◌≡◌, ℕ, ◌+◌, ◌<◌, Bool, true, false, List, [], ◌∷◌, ◌++◌, Option, Some, None, refl, sym, subst}
-use Rattle.std.specs.Prelude.{◌&&◌, nat_lt}
+use Rattle.std.proofs.Common.{◌≡◌, ℕ, ◌<◌, Bool, true, false, List, [], ◌∷◌, ◌++◌, Option, Some, None, refl, subst}
 use Rattle.std.specs.List.{AllZip}
 use Rattle.std.proofs.lemmas.Bool.{and_from, lt-ltb}
 use Rattle.scan.specs.declared.token.Token.{Token}
 use Rattle.scan.specs.declared.token.Kind.{Kind}
 use Rattle.scan.specs.declared.token.Kind.TheVariants as kinds
 use Rattle.scan.specs.declared.token.Mark.TheVariants as marks
-use Rattle.scan.specs.Spelling.{SpellsFrom, ends, passes, takes, IsToken, IsLexeme, limit}
+use Rattle.scan.specs.Spelling.{SpellsFrom, ends, passes, takes, IsLexeme, limit}
 use Rattle.syntax.specs.Tree.{Expr, Number, Named, Variable, Element, Prefix, Binary, Paren}
 use Rattle.syntax.specs.Limits.{number_limit, numbers_in_range}
 use Rattle.parse.specs.declared.words.Word.{Word}
-use Rattle.parse.specs.declared.lexemes.Fixed.{Fixed}
 use Rattle.parse.specs.Words.{word_of}
 use Rattle.parse.specs.Meaning.{Meaning, Fixed', Name', Number', Text', name_or_word, meaning_of, token_meaning}
-use Rattle.parse.specs.Spelling.{Spelled, Anywhere, OnLine, meaning_in, mark, name, operator_mark, prefix_tokens, expression, Stands}
+use Rattle.parse.specs.Spelling.{Spelled, Anywhere, OnLine, meaning_in, mark, operator_mark, prefix_tokens, expression, Stands}
 
 abbrev pub IsInRange : Meaning → Type 0
 IsInRange (Fixed' f) = Unit {0}

@@ -1,17 +1,17 @@
 -- The trees that are read are the built ones that a text may spell.
-use Rattle.std.proofs.Common.{◌≡◌, ℕ, ◌+◌, ◌<◌, ◌≤◌, max, Bool, true, false, List, [], ◌∷◌, ◌++◌, length, map, Option, None, refl, sym, ap, subst, ◌∙◌, arith}
+use Rattle.std.proofs.Common.{◌≡◌, ℕ, ◌+◌, ◌≤◌, Bool, true, false, List, [], ◌∷◌, ◌++◌, length, Option, None, refl, sym, ap, ◌∙◌, arith}
 use Rattle.std.specs.Prelude.{◌&&◌, nat_le, nat_lt, flat_map}
-use Rattle.std.specs.List.{list_all, filter_map, cons_option}
+use Rattle.std.specs.List.{list_all, cons_option}
 use Rattle.std.proofs.lemmas.Bool.{and_from, and_parts, leb-true, le-leb, ltb-true, lt-ltb}
 use Rattle.scan.specs.declared.token.Mark.TheVariants as marks
 use Rattle.base.specs.Bytes.{Identifier}
 use Rattle.syntax.specs.Tree.{Expr, Number, Named, Variable, Element, Prefix, Binary, Paren, Stmt, Declare, DeclareBuffer, DeclareChars, DeclareArray, Assign, AssignElement, Perform, PutJint, If, IfElse, While, Return, ReturnValue, Block, End, Next, Parameter, Function, Item, StaticItem, FunctionItem, SourceUnit}
 use Rattle.syntax.specs.Parts.{functions_of, statics_of, statements_within, statements_of, own_expressions, declared_name, names_declared, parameter_names}
-use Rattle.syntax.specs.Limits.{operator_level, prefix_level, level, levelled, numbers_in_range, height, statement_height, block_height, is_end, well_formed, block_well_formed, IsTree}
+use Rattle.syntax.specs.Limits.{operator_level, prefix_level, level, levelled, numbers_in_range, statement_height, block_height, block_well_formed, IsTree}
 use Rattle.parse.specs.Built.{is_built_prefix, is_built_operator, is_built_expression, is_built_statement, is_built_block, is_built_result, are_built_parameters, is_built_item, is_built}
 use Rattle.parse.specs.Spelling.{mark, expression, statement, inside, parameters, function, item, spell}
 use Rattle.parse.specs.Reading.{is_return}
-use Rattle.parse.proofs.Forms.{IsLevelled, IsExpr, IsForm, MayFollow, IsBlock, IsFunction, AreItems}
+use Rattle.parse.proofs.Forms.{IsLevelled, IsForm, MayFollow, IsBlock, IsFunction, AreItems}
 use Rattle.parse.proofs.Table.{level_small}
 use Rattle.parse.proofs.Ranges.{AreInRange, range_left, range_right, numbers_of}
 

@@ -177,3 +177,11 @@ module _ (text : List ℕ) (tokens : List Token) (spelled : Spells text tokens) 
     pub no_fault_by : (e : ParseFault) (unit : SourceUnit) → Fails e (items_at (length ls + 1) 0 ls) → is_built unit ≡ true → SpellsUnit text unit → Fails e (unit_given unit)
     no_fault_by Memory unit h built s = tt
     no_fault_by (Found fault line) unit h built s = let f : items_given unit.items ≡ Err (Found fault line) = sym (only_items unit built s) ∙ h in absurd cc
+
+-- no text has two trees that are built
+pub one_tree : (text : List ℕ) (a b : SourceUnit) → ((tokens others : List Token) → Spells text tokens → Spells text others → tokens ≡ others) → is_built a ≡ true → is_built b ≡ true → SpellsUnit text a → SpellsUnit text b → a ≡ b
+one_tree text a b unique built_a built_b of_a of_b =
+    let only = λ (others : List Token) (s : Spells text others). unique others of_a.0 s of_a.1 in
+    let first = items_only text of_a.0 a only of_a.1 built_a of_a in
+    let second = items_only text of_a.0 b only of_a.1 built_b of_b in
+    ap unit_of (items_same a.items b.items (sym first ∙ second))

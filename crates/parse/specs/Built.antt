@@ -1,7 +1,7 @@
 -- Which trees are built in memory today. Each form that joins them becomes a case that is true, until all are.
-use Rattle.std.specs.Prelude.{ℕ, Bool, true, false, ◌&&◌, List, [], ◌∷◌}
+use Rattle.std.specs.Prelude.{Bool, true, false, ◌&&◌, List, [], ◌∷◌}
 use Rattle.std.specs.List.{list_all}
-use Rattle.syntax.specs.Tree.{PrefixOp, LogicalNot, Complement, ToWord, ToInt, BinaryOp, LogicalOr, LogicalAnd, BitOr, BitXor, BitAnd, Equal, NotEqual, Less, LessEqual, Greater, GreaterEqual, ShiftLeft, ShiftRight, Add, Subtract, Multiply, Divide, Remainder, Expr, Number, Named, Variable, Element, Prefix, Binary, Paren, Stmt, PutJint, Return, ReturnValue, Block, End, Next, ResultType, Void, IntResult, ReferenceResult, Parameter, Function, Item, StaticItem, FunctionItem, SourceUnit}
+use Rattle.syntax.specs.Tree.{PrefixOp, LogicalNot, Complement, ToWord, ToInt, BinaryOp, LogicalOr, LogicalAnd, BitOr, BitXor, BitAnd, Equal, NotEqual, Less, LessEqual, Greater, GreaterEqual, ShiftLeft, ShiftRight, Add, Subtract, Multiply, Divide, Remainder, Expr, Number, Named, Variable, Element, Prefix, Binary, Paren, Stmt, PutJint, Return, ReturnValue, Block, End, Next, ResultType, Void, IntResult, ReferenceResult, Parameter, Item, StaticItem, FunctionItem, SourceUnit}
 
 abbrev pub is_built_prefix : PrefixOp → Bool
 is_built_prefix LogicalNot = false

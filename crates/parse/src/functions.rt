@@ -1,6 +1,6 @@
 //! Functions and the whole program.
 
-ghost use Rattle.std.specs.Prelude.{◌≡◌, ◌+◌, length, map, IfOk, IsTrue, Ok};
+ghost use Rattle.std.specs.Prelude.{◌≡◌, ℕ, ◌+◌, List, length, map, IfOk, IsTrue, Ok};
 ghost use Rattle.scan.specs.Spelling.{Spells};
 ghost use Rattle.syntax.specs.Tree.{SourceUnit};
 ghost use Rattle.syntax.specs.Views.{result_tree, block_tree, function_tree, item_tree, unit_tree};
@@ -124,4 +124,11 @@ pub fn parse(alloc: Global, text: &[u8], tokens: &[Token]) -> Result<Unit, Parse
     let lexemes = lexemes(alloc, text, tokens)?;
     let items = items(alloc, &lexemes)?;
     Ok(Unit::new(items))
+}
+
+/// The law that no text spells two units of those that are read, for the proofs of callers.
+pub fn one_unit()
+    ensures { (text : List ℕ) (a b : SourceUnit) → IsTrue (is_built a) → IsTrue (is_built b) → SpellsUnit text a → SpellsUnit text b → a ≡ b }
+{
+    one_spelling();
 }

@@ -9,7 +9,7 @@ mod statements;
 mod words;
 
 pub use fault::{Fault, ParseFault};
-pub use functions::parse;
+pub use functions::{one_unit, parse};
 
 #[cfg(test)]
 mod tests;

@@ -1,5 +1,5 @@
 -- What stands at a place of a text, found from left to right, with the fault that is met there.
-use Rattle.std.specs.Prelude.{◌≡◌, ℕ, ◌+◌, ◌-◌, ◌<◌, Bool, true, false, not, ◌&&◌, ◌||◌, ◌==◌, nat_lt, List, [], ◌∷◌, length, take, drop, slice_index, Option, Some, None, Result, Ok, Err, if◌then◌else◌, count_by}
+use Rattle.std.specs.Prelude.{ℕ, ◌+◌, ◌-◌, Bool, true, false, not, ◌&&◌, ◌||◌, ◌==◌, nat_lt, List, [], ◌∷◌, length, take, drop, slice_index, Option, Some, None, Result, Ok, Err, if◌then◌else◌}
 use Rattle.std.specs.List.{prefix_len}
 use Rattle.std.specs.Option.{option_map}
 use Rattle.scan.specs.declared.token.Mark.{Mark}
@@ -8,8 +8,6 @@ use Rattle.scan.specs.declared.token.Kind.{Kind}
 use Rattle.scan.specs.declared.token.Kind.TheVariants.{Name, Number, Text, Symbol}
 use Rattle.scan.specs.declared.fault.Fault.{Fault}
 use Rattle.scan.specs.declared.fault.Fault.TheVariants.{BadByte, OpenComment, BadNumber, BadText}
-use Rattle.scan.specs.declared.fault.ScanFault.{ScanFault}
-use Rattle.scan.specs.declared.fault.ScanFault.TheVariants.{Memory, Found}
 use Rattle.scan.specs.Bytes.{is_blank, is_letter, is_word, is_text, is_in_line, is_digit, base_value}
 use Rattle.scan.specs.Spelling.{limit}
 
