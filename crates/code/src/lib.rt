@@ -6,3 +6,5 @@ pub mod code;
 pub mod instr;
 pub mod plain;
 pub mod stack;
+#[cfg(test)]
+mod tests;
