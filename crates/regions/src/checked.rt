@@ -1,0 +1,53 @@
+//! Units that are accepted.
+
+ghost use Rattle.std.specs.Prelude.{◌≡◌};
+ghost use Rattle.syntax.specs.Limits.{IsTree};
+ghost use Rattle.syntax.specs.Views.{unit_tree};
+ghost use Rattle.types.specs.SortRules.{IsSorted};
+ghost use Rattle.regions.specs.Regions.{HasRegions};
+
+use std::marker::Model;
+use syntax::Unit;
+
+/// A unit that keeps the rules of sorts and regions.
+#[derive(Debug, Drop)]
+pub struct Checked {
+    unit: Unit,
+}
+
+impl Model for Checked {
+    ghost use Rattle.std.specs.Prelude.{List, ◌≡◌};
+    ghost use Rattle.std.specs.Coded.{codes};
+    ghost use Rattle.syntax.specs.declared.unit.Item.{Item};
+    ghost use Rattle.syntax.specs.contracts.unit.Item as item;
+    ghost use Rattle.syntax.specs.Views.{unit_tree};
+    ghost use Rattle.types.specs.SortRules.{IsSorted};
+    ghost use Rattle.regions.specs.Regions.{HasRegions};
+
+    ghost Value = { List Item };
+
+    ghost coded = { Prim.hlevel (codes, item.the_row.coded) };
+
+    ghost view = { λ c. c.unit };
+
+    ghost invariant = { λ c. IsSorted (unit_tree c.unit) × HasRegions (unit_tree c.unit) };
+}
+
+impl Checked {
+    /// A unit that is known to keep the rules.
+    pub(crate) fn of(unit: Unit) -> Checked
+        requires sorted { IsSorted (unit_tree unit) }
+        requires regions { HasRegions (unit_tree unit) }
+        ensures { result ≡ unit }
+    {
+        Checked { unit }
+    }
+
+    pub fn unit(&self) -> &Unit
+        ensures same { result.now ≡ self.now }
+        ensures sorted { IsSorted (unit_tree result.now) }
+        ensures regions { HasRegions (unit_tree result.now) }
+    {
+        &self.unit
+    }
+}

@@ -1,0 +1,39 @@
+//! The rules on ways through a function, and what a program does.
+#![tactic(auto)]
+
+mod checked;
+
+ghost use Rattle.regions.specs.FirstFaults.{AcceptedBreaksNothing, AcceptedOrBroken, AcceptedOrFirst, NotBoth, OneFirst};
+ghost use Rattle.regions.specs.Reachable.{ReachableIsComputed};
+
+pub use checked::Checked;
+
+/// A function that is accepted breaks no rule.
+pub fn accepted_breaks_nothing()
+    ensures { AcceptedBreaksNothing }
+{}
+
+/// A function that is not accepted breaks a rule.
+pub fn accepted_or_broken()
+    ensures { AcceptedOrBroken }
+{}
+
+/// A unit is accepted, or a fault is answered.
+pub fn accepted_or_first()
+    ensures { AcceptedOrFirst }
+{}
+
+/// No fault is answered for a unit that is accepted.
+pub fn not_both()
+    ensures { NotBoth }
+{}
+
+/// A statement has one first fault at most.
+pub fn one_first()
+    ensures { OneFirst }
+{}
+
+/// The computed list is the set of the reachable objects.
+pub fn reachable_is_computed()
+    ensures { ReachableIsComputed }
+{}

@@ -1,0 +1,4 @@
+pub mod Tree
+pub mod Parts
+pub mod Limits
+pub mod Views

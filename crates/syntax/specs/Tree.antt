@@ -1,0 +1,119 @@
+-- The syntax tree of a program text, without where it lies in memory.
+use Rattle.std.specs.Prelude.{ℕ, Bool, List}
+use Rattle.base.specs.Bytes.{Identifier}
+use Rattle.base.specs.Element.{ElementType}
+
+-- the reference types of the JNI, each a word of its own, all of one sort
+pub data ReferenceType : Type 0 where
+  JObject JClass JString JArray JThrowable JIntArray JShortArray JByteArray JCharArray JObjectArray : ReferenceType
+
+-- the named constants
+pub data Constant : Type 0 where
+  True False Commit Abort Null : Constant
+
+-- what a function returns
+pub data ResultType : Type 0 where
+  Void : ResultType
+  IntResult : ResultType
+  ReferenceResult : ReferenceType → ResultType
+
+-- the types that a parameter may have
+pub data ParameterType : Type 0 where
+  IntParameter : ParameterType
+  ReferenceParameter : ReferenceType → ParameterType
+
+-- the types that a declared scalar, reference or field ID may have
+pub data VariableType : Type 0 where
+  UInt32 JIntVariable JSize JBoolean JFieldId : VariableType
+  ReferenceVariable : ReferenceType → VariableType
+
+-- the operators in front of an operand, and the casts
+pub data PrefixOp : Type 0 where
+  LogicalNot Complement ToWord ToInt : PrefixOp
+
+-- the operators between two operands
+pub data BinaryOp : Type 0 where
+  LogicalOr LogicalAnd BitOr BitXor BitAnd Equal NotEqual Less LessEqual Greater GreaterEqual : BinaryOp
+  ShiftLeft ShiftRight Add Subtract Multiply Divide Remainder : BinaryOp
+
+-- an expression; parentheses are kept
+pub data Expr : Type 0 where
+  Number : (value : ℕ) (unsigned : Bool) → Expr
+  Named : Constant → Expr
+  Variable : Identifier → Expr
+  Element : Identifier → Expr → Expr
+  Prefix : PrefixOp → Expr → Expr
+  Binary : BinaryOp → Expr → Expr → Expr
+  Paren : Expr → Expr
+
+-- an argument of a call, after `env`
+pub data Argument : Type 0 where
+  Value : Expr → Argument
+  Text : List ℕ → Argument
+  AddressOf : Identifier → Argument
+
+-- (*env)->function(env, arguments)
+pub record Call : Type 0 where
+  pub function : Identifier
+  pub arguments : List Argument
+
+-- the right side of a declaration or an assignment
+pub data RightSide : Type 0 where
+  FromExpr : Expr → RightSide
+  FromCall : Call → RightSide
+
+-- what an `if` tests; a call is tested for 0
+pub data Test : Type 0 where
+  TestExpr : Expr → Test
+  TestCall : Call → Test
+
+mutual
+  -- each statement and each end of a block has its line, that of its first token
+  pub data Stmt : Type 0 where
+    Declare : (line : ℕ) → VariableType → Identifier → RightSide → Stmt
+    DeclareBuffer : (line : ℕ) → ElementType → Identifier → RightSide → Stmt
+    DeclareChars : (line : ℕ) → Identifier → RightSide → Stmt
+    DeclareArray : (line : ℕ) → ElementType → Identifier → (size : ℕ) → Stmt
+    Assign : (line : ℕ) → Identifier → RightSide → Stmt
+    AssignElement : (line : ℕ) → Identifier → (index value : Expr) → Stmt
+    Perform : (line : ℕ) → Call → Stmt
+    PutJint : (line : ℕ) → Expr → Stmt
+    If : (line : ℕ) → Test → (then' : Block) → Stmt
+    IfElse : (line : ℕ) → Test → (then' else' : Block) → Stmt
+    While : (line : ℕ) → Expr → (body : Block) → Stmt
+    Return : (line : ℕ) → Stmt
+    ReturnValue : (line : ℕ) → Expr → Stmt
+
+  -- a block's statements, and at its end the line of its closing brace
+  pub data Block : Type 0 where
+    End : (line : ℕ) → Block
+    Next : Stmt → Block → Block
+
+-- a parameter of a function
+pub record Parameter : Type 0 where
+  pub type : ParameterType
+  pub name : Identifier
+
+-- a native method's function; `line` is that of its head
+pub record Function : Type 0 where
+  pub line : ℕ
+  pub result : ResultType
+  pub name : Identifier
+  pub class_name : Identifier
+  pub parameters : List Parameter
+  pub body : Block
+
+-- a file-scope reference, which begins as NULL
+pub record Static : Type 0 where
+  pub line : ℕ
+  pub type : ReferenceType
+  pub name : Identifier
+
+-- what stands in a text, outside of functions
+pub data Item : Type 0 where
+  StaticItem : Static → Item
+  FunctionItem : Function → Item
+
+-- the items of a text, in their order
+pub record SourceUnit : Type 0 where
+  pub items : List Item

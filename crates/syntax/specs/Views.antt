@@ -1,0 +1,77 @@
+-- The trees that lie in memory, as trees of the language.
+use Rattle.std.specs.Prelude.{ℕ, List, [], ◌∷◌, map, Option, Some, None}
+use Rattle.syntax.specs.declared.expr.Expr.{Expr as ExprInMemory}
+use Rattle.syntax.specs.declared.expr.Expr.TheVariants as expr
+use Rattle.syntax.specs.declared.expr.PrefixOp.{PrefixOp as PrefixInMemory}
+use Rattle.syntax.specs.declared.expr.PrefixOp.TheVariants as prefix
+use Rattle.syntax.specs.declared.expr.BinaryOp.{BinaryOp as BinaryInMemory}
+use Rattle.syntax.specs.declared.expr.BinaryOp.TheVariants as binary
+use Rattle.syntax.specs.declared.stmt.Stmt.{Stmt as StmtInMemory}
+use Rattle.syntax.specs.declared.stmt.Form.{Form}
+use Rattle.syntax.specs.declared.stmt.Form.TheVariants as form
+use Rattle.syntax.specs.declared.stmt.Block.{Block as BlockInMemory}
+use Rattle.syntax.specs.declared.unit.ResultType.{ResultType as ResultInMemory}
+use Rattle.syntax.specs.declared.unit.ResultType.TheVariants as results
+use Rattle.syntax.specs.declared.unit.Function.{Function as FunctionInMemory}
+use Rattle.syntax.specs.declared.unit.Item.{Item as ItemInMemory}
+use Rattle.syntax.specs.declared.unit.Item.TheVariants as item
+use Rattle.syntax.specs.Tree.{PrefixOp, Complement, ToWord, ToInt, BinaryOp, BitOr, BitXor, BitAnd, Add, Subtract, Multiply, Expr, Number, Prefix, Binary, Paren, Stmt, PutJint, Return, ReturnValue, Block, End, Next, ResultType, Void, IntResult, Function, Item, FunctionItem, SourceUnit}
+
+abbrev pub prefix_tree : PrefixInMemory → PrefixOp
+prefix_tree prefix.Complement = Complement
+prefix_tree prefix.ToWord = ToWord
+prefix_tree prefix.ToInt = ToInt
+
+abbrev pub binary_tree : BinaryInMemory → BinaryOp
+binary_tree binary.BitOr = BitOr
+binary_tree binary.BitXor = BitXor
+binary_tree binary.BitAnd = BitAnd
+binary_tree binary.Add = Add
+binary_tree binary.Subtract = Subtract
+binary_tree binary.Multiply = Multiply
+
+abbrev pub expr_tree : ExprInMemory → Expr
+expr_tree (expr.Number value unsigned) = Number value unsigned
+expr_tree (expr.Prefix' op p a) = Prefix (prefix_tree op) (expr_tree a)
+expr_tree (expr.Binary' op p a q b) = Binary (binary_tree op) (expr_tree a) (expr_tree b)
+expr_tree (expr.Paren' p a) = Paren (expr_tree a)
+
+-- a return with a value or without
+abbrev pub return_tree : ℕ → Option ExprInMemory → Stmt
+return_tree line None = Return line
+return_tree line (Some e) = ReturnValue line (expr_tree e)
+
+abbrev pub form_tree : ℕ → Form → Stmt
+form_tree line (form.PutJint e) = PutJint line (expr_tree e)
+form_tree line (form.Return e) = return_tree line e
+
+abbrev pub stmt_tree : StmtInMemory → Stmt
+stmt_tree s = form_tree s.line s.form
+
+-- statements, and the line of the brace behind them
+abbrev pub statements_tree : List StmtInMemory → ℕ → Block
+statements_tree [] end_line = End end_line
+statements_tree (s ∷ rest) end_line = Next (stmt_tree s) (statements_tree rest end_line)
+
+abbrev pub block_tree : BlockInMemory → Block
+block_tree b = statements_tree b.statements.items b.end_line
+
+abbrev pub result_tree : ResultInMemory → ResultType
+result_tree results.Void = Void
+result_tree results.Jint = IntResult
+
+abbrev pub function_tree : FunctionInMemory → Function
+function_tree f = record {
+  line = f.line;
+  result = result_tree f.result;
+  name = f.name;
+  class_name = f.class_name;
+  parameters = [];
+  body = block_tree f.body;
+}
+
+abbrev pub item_tree : ItemInMemory → Item
+item_tree (item.Function f) = FunctionItem (function_tree f)
+
+abbrev pub unit_tree : List ItemInMemory → SourceUnit
+unit_tree items = record { items = map item_tree items }

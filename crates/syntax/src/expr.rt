@@ -1,0 +1,40 @@
+//! Expressions.
+
+/// An expression (ISO/IEC 9899:1999, 6.5).
+#[derive(Debug, Drop)]
+pub enum Expr {
+    /// A number, and whether it ends in `u`.
+    Number { value: u32, unsigned: bool },
+    Prefix(PrefixOp, Box<Expr>),
+    Binary(BinaryOp, Box<Expr>, Box<Expr>),
+    /// Parentheses, which are kept.
+    Paren(Box<Expr>),
+}
+
+/// An operator in front of its operand, or a cast.
+#[derive(Clone, Copy, Debug, PartialEq, Eq)]
+pub enum PrefixOp {
+    /// `~`
+    Complement,
+    /// `(uint32_t)`
+    ToWord,
+    /// `(jint)`
+    ToInt,
+}
+
+/// An operator between two operands.
+#[derive(Clone, Copy, Debug, PartialEq, Eq)]
+pub enum BinaryOp {
+    /// `|`
+    BitOr,
+    /// `^`
+    BitXor,
+    /// `&`
+    BitAnd,
+    /// `+`
+    Add,
+    /// `-`
+    Subtract,
+    /// `*`
+    Multiply,
+}

@@ -1,0 +1,58 @@
+//! Units whose names and sorts keep the rules.
+
+ghost use Rattle.std.specs.Prelude.{◌≡◌};
+ghost use Rattle.syntax.specs.Limits.{IsTree};
+ghost use Rattle.syntax.specs.Views.{unit_tree};
+ghost use Rattle.types.specs.SortRules.{IsSorted};
+
+use std::marker::Model;
+use syntax::Unit;
+
+/// A unit that is sorted.
+#[derive(Debug, Drop)]
+pub struct Typed {
+    unit: Unit,
+}
+
+impl Model for Typed {
+    ghost use Rattle.std.specs.Prelude.{List};
+    ghost use Rattle.std.specs.Coded.{codes};
+    ghost use Rattle.syntax.specs.declared.unit.Item.{Item};
+    ghost use Rattle.syntax.specs.contracts.unit.Item as item;
+    ghost use Rattle.syntax.specs.Limits.{IsTree};
+    ghost use Rattle.syntax.specs.Views.{unit_tree};
+    ghost use Rattle.types.specs.SortRules.{IsSorted};
+
+    ghost Value = { List Item };
+
+    ghost coded = { Prim.hlevel (codes, item.the_row.coded) };
+
+    ghost view = { λ t. t.unit };
+
+    ghost invariant = { λ t. IsSorted (unit_tree t.unit) };
+}
+
+impl Typed {
+    /// A unit that is known to be sorted.
+    pub(crate) fn of(unit: Unit) -> Typed
+        requires { IsSorted (unit_tree unit) }
+        ensures { result ≡ unit }
+    {
+        Typed { unit }
+    }
+
+    pub fn unit(&self) -> &Unit
+        ensures same { result.now ≡ self.now }
+        ensures sorted { IsSorted (unit_tree result.now) }
+    {
+        &self.unit
+    }
+
+    pub fn into_unit(self) -> Unit
+        ensures same { result ≡ self }
+        ensures sorted { IsSorted (unit_tree result) }
+    {
+        let Typed { unit } = self;
+        unit
+    }
+}
