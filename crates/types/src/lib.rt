@@ -1,6 +1,10 @@
 //! The sorts of a program's expressions, and the functions of the JNI.
 #![tactic(auto)]
 
+mod checker;
+mod fault;
+mod sort;
 mod typed;
 
-pub use typed::Typed;
+pub use fault::{Fault, SortRule, TypeFault};
+pub use typed::{Typed, type_unit};
