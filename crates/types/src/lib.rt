@@ -6,5 +6,8 @@ mod fault;
 mod sort;
 mod typed;
 
+#[cfg(test)]
+mod tests;
+
 pub use fault::{Fault, SortRule, TypeFault};
 pub use typed::{Typed, type_unit};
