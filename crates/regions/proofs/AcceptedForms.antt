@@ -25,6 +25,7 @@ use Rattle.syntax.specs.Tree.{Complement, ToWord, ToInt, Expr, Prefix, Binary, S
 use Rattle.syntax.specs.Views.{expr_tree, prefix_tree, binary_tree, form_tree, stmt_tree, statements_tree, result_tree, function_tree, item_tree, unit_tree}
 use Rattle.types.specs.Sorts.{Sort, Word, Jint, Flag, Truth, Ref, Global, FieldId, Buffer, Array, Scope, sort_of, prefix_sort, binary_sort, is_castable, is_jint, OnWords, group}
 use Rattle.types.specs.SortRules.{IsSorted, SortRule, sort_rules, breaks, Place, StatementForm, broken_at, places_of, places_within, item_places, function_places, HeadForm, with_declared, statement_fits, returns_nothing, return_fits}
+use Rattle.types.proofs.SortLemmas.{on_words, binary-words}
 use Rattle.regions.specs.RegionStates.{RegionState, state_at_entry}
 use Rattle.regions.specs.Regions.{Way, On, Returned, Keeps, KeepsBlock, IsEnd, AcceptedFunction, HasRegions}
 use Rattle.regions.specs.WellSorted.{HasSort, IsNumber, BlockFits, EndsByReturn, IsWellSorted, AreWellSorted}
@@ -112,24 +113,6 @@ jint_sort (Some Global) h = absurd cc
 jint_sort (Some FieldId) h = absurd cc
 jint_sort (Some (Buffer t w)) h = absurd cc
 jint_sort (Some (Array t n)) h = absurd cc
-
--- the operators in memory work on words
-pub on_words : (op : BinaryInMemory) → group (binary_tree op) ≡ OnWords
-on_words binary.BitOr = refl
-on_words binary.BitXor = refl
-on_words binary.BitAnd = refl
-on_words binary.Add = refl
-on_words binary.Subtract = refl
-on_words binary.Multiply = refl
-
--- their sort is that of their operands
-pub binary-words : (scope : Scope) (op : BinaryInMemory) (a b : Expr) → sort_of scope (Binary (binary_tree op) a b) ≡ binary_sort OnWords (sort_of scope a) (sort_of scope b)
-binary-words scope binary.BitOr a b = refl
-binary-words scope binary.BitXor a b = refl
-binary-words scope binary.BitAnd a b = refl
-binary-words scope binary.Add a b = refl
-binary-words scope binary.Subtract a b = refl
-binary-words scope binary.Multiply a b = refl
 
 below : (n limit : ℕ) → nat_lt n limit ≡ true → n < limit
 below n limit h = grind (arith, nat_tests)
