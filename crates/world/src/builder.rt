@@ -139,7 +139,12 @@ fn take_heap(builder: &mut WorldBuilder, number: usize, bytes: &[u8]) -> Result<
 
 /// Takes a line `class NAME`.
 #[tactic(auto, unfolding(crate::specs::ReadingWorlds::class_scene))]
-fn take_class(alloc: Global, builder: &mut WorldBuilder, number: usize, name: &[u8]) -> Result<(), ReadError>
+fn take_class(
+    alloc: Global,
+    builder: &mut WorldBuilder,
+    number: usize,
+    name: &[u8],
+) -> Result<(), ReadError>
     ensures { OnScene result (scene_of builder.new) (class_scene (scene_of builder.old) number name.now) }
 {
     if let Some(rule) = builder.class_rule(name) {
@@ -170,7 +175,12 @@ fn take_thread(
 
 /// Takes a line that isn't empty.
 #[tactic(auto, unfolding(crate::specs::ReadingWorlds::line_scene))]
-fn take_line(alloc: Global, builder: &mut WorldBuilder, number: usize, line: &[u8]) -> Result<(), ReadError>
+fn take_line(
+    alloc: Global,
+    builder: &mut WorldBuilder,
+    number: usize,
+    line: &[u8],
+) -> Result<(), ReadError>
     ensures { OnScene result (scene_of builder.new) (line_scene (scene_of builder.old) number line.now) }
 {
     let rule = Rule::Form;

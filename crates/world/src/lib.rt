@@ -27,3 +27,6 @@ pub use text::{Text, put_each};
 pub use words::{MOST_WORDS, Word, read_words};
 pub use world::{Call, World};
 pub use writing::write_run;
+
+#[cfg(test)]
+mod tests;

@@ -130,9 +130,7 @@ fn is_built_in(name: &[u8]) -> bool
 fn is_among(classes: &[Vec<u8>], name: &[u8]) -> bool
     ensures { result ≡ list_any (λ class. bytes_eq class.items name.now || bytes_eq (array_name class.items) name.now) classes.now }
 {
-    classes
-        .iter()
-        .any(|class| class.as_slice() == name || is_array_name(class, name))
+    classes.iter().any(|class| class.as_slice() == name || is_array_name(class, name))
 }
 
 /// Whether a built-in class or one of these has this name.
