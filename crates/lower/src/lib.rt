@@ -1,0 +1,2 @@
+//! From checked programs to code.
+#![tactic(auto)]

@@ -1,0 +1,90 @@
+//! Tokens: their kinds, and where they stand in a text.
+
+/// A punctuator (ISO/IEC 9899:1999, 6.4.6), of those that the language uses.
+#[derive(Clone, Copy, Debug, PartialEq, Eq)]
+pub enum Mark {
+    /// `(`
+    OpenParen,
+    /// `)`
+    CloseParen,
+    /// `{`
+    OpenBrace,
+    /// `}`
+    CloseBrace,
+    /// `[`
+    OpenBracket,
+    /// `]`
+    CloseBracket,
+    /// `;`
+    Semicolon,
+    /// `,`
+    Comma,
+    /// `=`
+    Assign,
+    /// `*`
+    Star,
+    /// `->`
+    Arrow,
+    /// `&`
+    Ampersand,
+    /// `|`
+    Bar,
+    /// `^`
+    Caret,
+    /// `~`
+    Tilde,
+    /// `!`
+    Exclamation,
+    /// `+`
+    Plus,
+    /// `-`
+    Minus,
+    /// `/`
+    Slash,
+    /// `%`
+    Percent,
+    /// `<`
+    Less,
+    /// `>`
+    Greater,
+    /// `<=`
+    LessEqual,
+    /// `>=`
+    GreaterEqual,
+    /// `==`
+    Equal,
+    /// `!=`
+    NotEqual,
+    /// `&&`
+    LogicalAnd,
+    /// `||`
+    LogicalOr,
+    /// `<<`
+    ShiftLeft,
+    /// `>>`
+    ShiftRight,
+}
+
+/// What a token is (ISO/IEC 9899:1999, 6.4).
+#[derive(Clone, Copy, Debug, PartialEq, Eq)]
+pub enum Kind {
+    /// A name or a reserved word: letters, digits and underscores, of which the first is no digit
+    /// (6.4.1, 6.4.2).
+    Name,
+    /// A decimal or hexadecimal number, and whether it ends in `u` (6.4.4.1). Its value is below
+    /// 2^31, or with `u` below 2^32. Of C99's suffixes there is no other; octal numbers there are
+    /// none.
+    Number { value: u32, unsigned: bool },
+    /// A string of printable ASCII between two quotes, with no backslash in it (6.4.5).
+    Text,
+    /// A punctuator (6.4.6).
+    Symbol(Mark),
+}
+
+/// A token, from the byte `start` of its text up to the byte `end`, which is no part of it.
+#[derive(Clone, Copy, Debug, PartialEq, Eq)]
+pub struct Token {
+    pub kind: Kind,
+    pub start: usize,
+    pub end: usize,
+}
