@@ -14,9 +14,9 @@ mod std_sink;
 mod text;
 mod words;
 mod world;
+mod world_text;
 mod writing;
 
-pub use builder::read_world;
 pub use fault::{ReadError, Rule, TextFault};
 pub use journal::{Entry, entries_are_read_again, read_journal};
 pub use report::{Printed, Standing};
@@ -26,6 +26,7 @@ pub use std_sink::StdSink;
 pub use text::{Text, put_each};
 pub use words::{MOST_WORDS, Word, read_words};
 pub use world::{Call, World};
+pub use world_text::read_world;
 pub use writing::write_run;
 
 #[cfg(test)]

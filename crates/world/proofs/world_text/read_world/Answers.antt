@@ -5,7 +5,7 @@ use Rattle.world.specs.Reading.{Gives}
 use Rattle.world.specs.ReadingWorlds.{scene_of, scene_of_text}
 use Rattle.world.proofs.WordLemmas.{nonempty, empty}
 use Rattle.world.proofs.BuilderLemmas.{skips, takes, stops, ends}
-use Rattle.world.proofs.builder.read_world.Goals as goal
+use Rattle.world.proofs.world_text.read_world.Goals as goal
 
 pub overflow_add-number : goal.overflow_add-number
 overflow_add-number c =

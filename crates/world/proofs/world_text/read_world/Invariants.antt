@@ -1,7 +1,7 @@
 use Rattle.std.proofs.Common.{◌≡◌, ◌+◌, length}
 use Rattle.world.specs.Parts.{parts_of, parts_left}
 use Rattle.world.specs.ReadingWorlds.{scene_of, lines_scene, scene_of_text}
-use Rattle.world.proofs.builder.read_world.Given as goal
+use Rattle.world.proofs.world_text.read_world.Given as goal
 
 abbrev pub invariant-loop-line : goal.invariant-loop-line
 invariant-loop-line l = record {
