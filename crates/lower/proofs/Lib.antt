@@ -1,1 +1,3 @@
-mod Terms
+pub mod Terms
+pub mod Places
+pub mod Bodies

@@ -139,4 +139,4 @@ abbrev pub DoesEffect : List Instr → (place : ℕ) → (stack : List ℕ) → 
 DoesEffect code place stack rest (Becomes tasks) = GoesOn code place stack (tasks ++ rest)
 DoesEffect code place stack rest (Prints z) = PrintsTop code place stack z rest
 DoesEffect code place stack rest Returns = LeavesCall code place
-DoesEffect code place stack rest effect = ⊥
+DoesEffect code place stack rest e = ⊥
