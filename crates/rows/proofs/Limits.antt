@@ -136,10 +136,7 @@ copies_too_many : prints copies_too_many-program plain_world 9 â‰¡ Some (pos 1 â
 unfolding opened
 copies_too_many = refl
 
--- JNIEXPORT void JNICALL Java_A_f(JNIEnv *env, jclass cls, jintArray a) { jint *p0 =
---     (*env)->GetPrimitiveArrayCritical(env, a, NULL); jint *p1 = (*env)->GetPrimitiveArrayCritical(env, a, NULL); jint
---     .. and so on
---     } return; }
+-- 65 buffers p0 to p64, each `jint *p0 = (*env)->GetPrimitiveArrayCritical(env, a, NULL);`, and what the last ones are
 abbrev pub views_64-program : SourceUnit
 views_64-program =
     unit_of
