@@ -1,7 +1,6 @@
 -- A unit in memory is accepted where each function ends by a return, and else that is its first fault.
-use Rattle.std.proofs.Common.{◌≡◌, ℕ, Bool, true, false, not, ◌||◌, ◌⊎◌, inl, inr, List, [], ◌∷◌, ◌++◌, Option, Some, None, Result, Ok, Err, refl, sym, ap, ◌∙◌, subst, bytes_eq, map}
+use Rattle.std.proofs.Common.{◌≡◌, ℕ, true, ◌⊎◌, inl, inr, List, [], ◌∷◌, ◌++◌, Option, Some, None, Result, Ok, Err, refl, sym, ap, ◌∙◌, subst, bytes_eq}
 use lib.Pointwise.{bytes_decides}
-use Rattle.std.specs.List.{AllByRecursion}
 use Rattle.std.specs.Option.{option_or}
 use Rattle.base.specs.Bytes.{Identifier}
 use Rattle.syntax.specs.declared.expr.Expr.{Expr as ExprInMemory}
@@ -13,16 +12,16 @@ use Rattle.syntax.specs.declared.unit.Function.{Function as FunctionInMemory}
 use Rattle.syntax.specs.declared.unit.Item.{Item as ItemInMemory}
 use Rattle.syntax.specs.declared.unit.Item.TheVariants as item
 use Rattle.syntax.specs.Parts.{elements_in, functions_of}
-use Rattle.syntax.specs.Tree.{PutJint, Return, ReturnValue, Block, End, Next, Function}
-use Rattle.syntax.specs.Views.{expr_tree, form_tree, stmt_tree, statements_tree, function_tree, item_tree, unit_tree}
+use Rattle.syntax.specs.Tree.{PutJint, Block, End, Next}
+use Rattle.syntax.specs.Views.{expr_tree, form_tree, statements_tree, function_tree, unit_tree}
 use Rattle.types.proofs.SortLemmas.{no_names}
 use Rattle.regions.specs.declared.fault.RegionFault.{RegionFault}
 use Rattle.regions.specs.FirstFaults.{first_broken, FirstInFunction, FirstInFunctions, IsFirstRegionFault}
 use Rattle.regions.specs.OpenEnds.{Finds, fault_of, behind_return, open_behind, open_end, open_items}
-use Rattle.regions.specs.RegionRules.{NoReturn, HeldBuffer}
+use Rattle.regions.specs.RegionRules.{NoReturn}
 use Rattle.regions.specs.RegionStates.{RegionState, ReferenceAt}
-use Rattle.regions.specs.Regions.{Way, On, Returned, AcceptedFunction, HasRegions, EndLine, holds_own, left}
-use Rattle.regions.specs.Ways.{Fault, own_way, behind, returned_before, way_if, way_of, way_of_block}
+use Rattle.regions.specs.Regions.{Way, On, Returned, AcceptedFunction, HasRegions, EndLine}
+use Rattle.regions.specs.Ways.{Fault, own_way, behind, returned_before, way_of, way_of_block}
 use Rattle.regions.proofs.Ways.{keeps_block}
 use Rattle.regions.proofs.FirstWays.{firsts_block, no_first_in}
 

@@ -4,6 +4,8 @@
 mod checked;
 mod checker;
 mod fault;
+#[cfg(test)]
+mod tests;
 
 ghost use Rattle.regions.specs.FirstFaults.{AcceptedBreaksNothing, AcceptedOrBroken, AcceptedOrFirst, NotBoth, OneFirst};
 ghost use Rattle.regions.specs.Reachable.{ReachableIsComputed};

@@ -1,6 +1,5 @@
-use Rattle.std.proofs.Common.{sym, ap, ◌∙◌, subst, Some}
+use Rattle.std.proofs.Common.{sym, ap, ◌∙◌}
 use Rattle.std.proofs.lemmas.Result.{err_from_is_err_and}
-use Rattle.syntax.specs.Views.{unit_tree}
 use Rattle.regions.specs.OpenEnds.{open_items}
 use Rattle.regions.proofs.OpenLemmas.{accepted-unit, faulty-unit, accepted-none}
 use Rattle.regions.proofs.checked.check.Goals as goal
