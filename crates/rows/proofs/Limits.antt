@@ -136,7 +136,7 @@ copies_too_many : prints copies_too_many-program plain_world 9 â‰¡ Some (pos 1 â
 unfolding opened
 copies_too_many = refl
 
--- 65 buffers p0 to p64, each `jint *p0 = (*env)->GetPrimitiveArrayCritical(env, a, NULL);`, and what the last ones are
+-- jint *p0 = (*env)->GetPrimitiveArrayCritical(env, a, NULL); and so on to p64; prints 1 where p63 is NULL, 2 where p64 is
 abbrev pub views_64-program : SourceUnit
 views_64-program =
     unit_of
