@@ -3,8 +3,8 @@ use Rattle.std.specs.Prelude.{◌≡◌, [], ◌∷◌, ◌++◌, Option, Some, 
 use Rattle.std.specs.Option.{option_and_then}
 use Rattle.std.proofs.Common.{◌∙◌, ap}
 use Rattle.syntax.specs.Tree.{SourceUnit}
-use Rattle.world.specs.Journal.{Journal}
 use Rattle.world.specs.declared.journal.Entry.{Entry}
+use Rattle.world.specs.Journal.{Journal}
 use Rattle.world.specs.Schedule.{Schedule}
 use Rattle.world.specs.World.{World}
 use Rattle.regions.specs.Run.{HasRoom, HasRoomFrom, replay, replay_from, Follows, Over, Collects, Waits, Steps}

@@ -1,16 +1,16 @@
--- World steps by the thread's next task.
-use Rattle.std.specs.Prelude.{◌≡◌, ℕ, true, false, ℤ, List, [], ◌∷◌, ◌++◌, Some, None, refl, is_none, not, ◌&&◌}
-use Rattle.std.specs.Option.{option_map}
+-- A step of a run is a step of one thread.
+use Rattle.std.specs.Prelude.{◌≡◌, ℕ, Bool, true, false, List, ◌∷◌, Some, None, refl, is_none, not, ◌&&◌}
 use Rattle.std.proofs.Common.{ap, ◌∙◌}
 use Rattle.std.proofs.lemmas.Bool.{and_from}
 use Rattle.syntax.specs.Tree.{SourceUnit}
 use Rattle.classes.specs.Class.{Classes}
-use Rattle.regions.specs.CallStep.{waits_at}
-use Rattle.regions.specs.State.{State, Thread, Unfinished, thread_at, with_thread}
-use Rattle.regions.specs.Step.{world_step, can_step, is_live, is_unfinished, waits, settled, task_step, task_line, refused_step, enter}
-use Rattle.regions.specs.Task.{Task, Print}
-use Rattle.regions.specs.Term.{Done}
-use Rattle.regions.specs.Value.{Int}
+use Rattle.regions.specs.Thread.{Thread, Unfinished, sight_of}
+use Rattle.regions.specs.State.{State, thread_at, lent, advanced}
+use Rattle.regions.specs.Task.{Task}
+use Rattle.regions.specs.Effect.{effect_of}
+use Rattle.regions.specs.Activation.{entry_step}
+use Rattle.regions.specs.ThreadStep.{after_effect, after_refused_effect, step_within, thread_step, waits}
+use Rattle.regions.specs.Step.{world_step, can_step, is_live, is_unfinished, is_waiting}
 
 -- thread k is t, which can step
 pub record Steps (classes : Classes) (s : State) (k : ℕ) (t : Thread) : Type 0 where
@@ -18,33 +18,33 @@ pub record Steps (classes : Classes) (s : State) (k : ℕ) (t : Thread) : Type 0
   pub can : can_step classes s k ≡ true
 
 -- a thread that hasn't ended and doesn't wait can step, where the machine hasn't stopped
-pub steps : (classes : Classes) (s : State) (k : ℕ) (t : Thread) → s.stop ≡ None → thread_at s k ≡ Some t → t.ending ≡ Unfinished → waits_at classes s k t t.tasks ≡ false → Steps classes s k t
+pub steps : (classes : Classes) (s : State) (k : ℕ) (t : Thread) → s.stop ≡ None → thread_at s k ≡ Some t → t.ending ≡ Unfinished → waits classes k s.shared t ≡ false → Steps classes s k t
 steps classes s k t goes here live free = record {
   thread = here;
-  can = and_from (is_none s.stop && is_live (thread_at s k)) (not (waits classes s k (thread_at s k)))
+  can = and_from (is_none s.stop && is_live (thread_at s k)) (not (is_waiting classes k s.shared (thread_at s k)))
       (and_from (is_none s.stop) (is_live (thread_at s k)) (ap is_none goes) (ap is_live here ∙ ap is_unfinished live))
-      (ap (λ o. not (waits classes s k o)) here ∙ ap not free);
+      (ap (λ o. not (is_waiting classes k s.shared o)) here ∙ ap not free);
 }
 
--- the next task takes a step
-pub step-task : (unit : SourceUnit) (classes : Classes) (s : State) (k : ℕ) (t : Thread) (task : Task) (rest : List Task) → Steps classes s k t → t.tasks ≡ Some (task ∷ rest)
-    → world_step unit classes s (record { thread = k; refused = false }) ≡ settled s k (task_line task) (task_step classes s k t task rest)
+-- the run's step is the thread's
+pub step-thread : (unit : SourceUnit) (classes : Classes) (s : State) (k : ℕ) (t : Thread) (refused : Bool) → Steps classes s k t
+    → world_step unit classes s (record { thread = k; refused = refused }) ≡ advanced s k (thread_step unit classes (lent s) k s.shared t refused)
 unfolding world_step
-step-task unit classes s k t task rest h e = rw (h.can, h.thread, e) refl
+step-thread unit classes s k t refused h = rw (h.can, h.thread) refl
+
+-- the thread's step is the effect of its first task
+pub step-effect : (unit : SourceUnit) (classes : Classes) (s : State) (k : ℕ) (t : Thread) (task : Task) (rest : List Task) → Steps classes s k t → t.tasks ≡ Some (task ∷ rest)
+    → world_step unit classes s (record { thread = k; refused = false }) ≡ advanced s k (after_effect classes (lent s) k s.shared t rest (effect_of (sight_of s.shared t) task))
+step-effect unit classes s k t task rest h e =
+    step-thread unit classes s k t false h ∙ ap (λ o. advanced s k (step_within unit classes (lent s) k s.shared t false o)) e
 
 -- the same with its allocation refused
 pub step-refused : (unit : SourceUnit) (classes : Classes) (s : State) (k : ℕ) (t : Thread) (task : Task) (rest : List Task) → Steps classes s k t → t.tasks ≡ Some (task ∷ rest)
-    → world_step unit classes s (record { thread = k; refused = true }) ≡ settled s k (task_line task) (refused_step classes s k t task rest)
-unfolding world_step
-step-refused unit classes s k t task rest h e = rw (h.can, h.thread, e) refl
+    → world_step unit classes s (record { thread = k; refused = true }) ≡ advanced s k (after_refused_effect classes (lent s) k s.shared t rest (effect_of (sight_of s.shared t) task))
+step-refused unit classes s k t task rest h e =
+    step-thread unit classes s k t true h ∙ ap (λ o. advanced s k (step_within unit classes (lent s) k s.shared t true o)) e
 
 -- the entry into the next call
 pub step-entry : (unit : SourceUnit) (classes : Classes) (s : State) (k : ℕ) (t : Thread) → Steps classes s k t → t.tasks ≡ None
-    → world_step unit classes s (record { thread = k; refused = false }) ≡ option_map (with_thread s k) (enter unit classes t t.calls)
-unfolding world_step
-step-entry unit classes s k t h e = rw (h.can, h.thread, e) refl
-
--- a number is printed
-pub step-print : (unit : SourceUnit) (classes : Classes) (s : State) (k : ℕ) (t : Thread) (line : ℕ) (z : ℤ) (rest : List Task) → Steps classes s k t → t.tasks ≡ Some (Print line (Done (Int z)) ∷ rest)
-    → world_step unit classes s (record { thread = k; refused = false }) ≡ Some (with_thread (record s { printed = s.printed ++ record { thread = k; number = z } ∷ [] }) k (record t { tasks = Some rest }))
-step-print unit classes s k t line z rest h e = step-task unit classes s k t (Print line (Done (Int z))) rest h e
+    → world_step unit classes s (record { thread = k; refused = false }) ≡ advanced s k (entry_step unit classes s.shared t)
+step-entry unit classes s k t h e = step-thread unit classes s k t false h ∙ ap (λ o. advanced s k (step_within unit classes (lent s) k s.shared t false o)) e

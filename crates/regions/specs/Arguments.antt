@@ -1,19 +1,19 @@
--- The arguments of a call, looked up in its own step.
+-- The arguments of a call, looked up in its own step, and what each function finds at their places.
 use Rattle.std.specs.Prelude.{ℕ, false, ℤ, pos, List, [], map, zip, slice_get, Option, Some, None}
 use Rattle.syntax.specs.Tree as tree
-use Rattle.base.specs.Bytes.{Identifier, lookup}
+use Rattle.base.specs.Bytes.{Identifier}
 use Rattle.base.specs.Element.{JInt}
-use Rattle.syntax.specs.Tree.{Commit, Abort}
-use Rattle.syntax.specs.Tree.{Expr, Argument, AddressOf}
+use Rattle.syntax.specs.Tree.{Commit, Abort, Expr, Argument, AddressOf}
 use Rattle.classes.specs.Class.{NumberField}
 use Rattle.classes.specs.Fields.{FieldId}
 use Rattle.types.specs.JniFunction.{JniFunction}
-use Rattle.types.specs.Prototype.{ParameterKind, FieldID, ArrayVariable, BufferVariable, Mode, IsCopy, prototype}
+use Rattle.types.specs.Prototype.{FieldID, ArrayVariable, BufferVariable, Mode, IsCopy, prototype, ParameterKind}
 use Rattle.world.specs.Object.{Reference}
+use Rattle.regions.specs.Sight.{Sight}
 use Rattle.regions.specs.Task.{Operand, NumberOperand, Given}
 use Rattle.regions.specs.Term.{Done}
 use Rattle.regions.specs.Value.{Int}
-use Rattle.regions.specs.Variable.{Variable, LocalRef, FieldHandle, StaticReference, Empty, Live, Variables, Statics, as_static}
+use Rattle.regions.specs.Variable.{StaticReference, Empty, Live}
 
 -- how a buffer of copied elements is released
 pub data ReleaseMode : Type 0 where
@@ -29,18 +29,6 @@ pub data Actual : Type 0 where
   ModeActual : ReleaseMode → Actual
   NothingActual : Actual
 
--- what a local reference or a static holds
-abbrev pub held : Option Variable → Option StaticReference → StaticReference
-held (Some (LocalRef level r)) s = as_static r
-held (Some v) s = Empty
-held None (Some s) = s
-held None None = Empty
-
--- what a field ID holds
-abbrev pub held_field : Option Variable → Option FieldId
-held_field (Some (FieldHandle f)) = f
-held_field v = None
-
 -- the mode that stands for `JNI_COMMIT`, `JNI_ABORT` or 0
 abbrev pub mode_of : Expr → ReleaseMode
 mode_of (tree.Named Commit) = CopyBack
@@ -53,30 +41,30 @@ named_variable (tree.Variable x) = x
 named_variable e = []
 
 -- a name or NULL where a reference is asked for
-abbrev pub reference_argument : Variables → Statics → Expr → Actual
-reference_argument vs ss (tree.Variable x) = ReferenceActual x (held (lookup x vs) (lookup x ss))
-reference_argument vs ss e = ReferenceActual [] Empty
+abbrev pub reference_argument : Sight → Expr → Actual
+reference_argument sight (tree.Variable x) = ReferenceActual x (sight.reference x)
+reference_argument sight e = ReferenceActual [] Empty
 
 -- an argument that is neither number nor text
-abbrev pub look_up_expression : Variables → Statics → ParameterKind → Expr → Actual
-look_up_expression vs ss FieldID e = FieldActual (held_field (lookup (named_variable e) vs))
-look_up_expression vs ss (ArrayVariable T) e = VariableActual (named_variable e)
-look_up_expression vs ss (BufferVariable access) e = VariableActual (named_variable e)
-look_up_expression vs ss Mode e = ModeActual (mode_of e)
-look_up_expression vs ss IsCopy e = NothingActual
-look_up_expression vs ss p e = reference_argument vs ss e
+abbrev pub look_up_expression : Sight → ParameterKind → Expr → Actual
+look_up_expression sight FieldID e = FieldActual (sight.field (named_variable e))
+look_up_expression sight (ArrayVariable T) e = VariableActual (named_variable e)
+look_up_expression sight (BufferVariable access) e = VariableActual (named_variable e)
+look_up_expression sight Mode e = ModeActual (mode_of e)
+look_up_expression sight IsCopy e = NothingActual
+look_up_expression sight p e = reference_argument sight e
 
 -- any argument
-abbrev pub look_up : Variables → Statics → ParameterKind × Operand → Actual
-look_up vs ss (p, NumberOperand (Done (Int z))) = NumberActual z
-look_up vs ss (p, NumberOperand e) = NothingActual
-look_up vs ss (p, Given (tree.Text bytes)) = TextActual bytes
-look_up vs ss (p, Given (AddressOf x)) = VariableActual x
-look_up vs ss (p, Given (Argument.Value e)) = look_up_expression vs ss p e
+abbrev pub look_up : Sight → ParameterKind × Operand → Actual
+look_up sight (p, NumberOperand (Done (Int z))) = NumberActual z
+look_up sight (p, NumberOperand e) = NothingActual
+look_up sight (p, Given (tree.Text bytes)) = TextActual bytes
+look_up sight (p, Given (AddressOf x)) = VariableActual x
+look_up sight (p, Given (Argument.Value e)) = look_up_expression sight p e
 
 -- the arguments of a call, its numbers being worked out
-abbrev pub actuals : Variables → Statics → JniFunction → List Operand → List Actual
-actuals vs ss f operands = map (look_up vs ss) (zip (prototype f).parameters operands)
+abbrev pub actuals : Sight → JniFunction → List Operand → List Actual
+actuals sight f operands = map (look_up sight) (zip (prototype f).parameters operands)
 
 -- ---- an argument by its place after `env`, from 0
 

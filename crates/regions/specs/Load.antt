@@ -6,7 +6,7 @@ use Rattle.syntax.specs.Tree.{Parameter, ParameterType, IntParameter, ReferenceP
 use Rattle.classes.specs.Class.{Classes}
 use Rattle.world.specs.Object.{ObjectValue, Number, Refers}
 use Rattle.world.specs.World.{Invocation, World}
-use Rattle.regions.specs.Step.{function_at, class_of_function}
+use Rattle.regions.specs.Activation.{function_at, class_of_function}
 
 -- a number for `jint`, and NULL or any object for a reference type
 abbrev pub fits_parameter : ParameterType → ObjectValue → Bool

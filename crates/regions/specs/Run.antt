@@ -2,19 +2,20 @@
 use Rattle.std.specs.Prelude.{◌≡◌, ◌≢◌, ℕ, ◌+◌, ◌<◌, ◌≤◌, ◌==◌, Bool, true, false, ℤ, ◌⊎◌, List, [], ◌∷◌, ◌++◌, map, length, drop, filter, Option, Some, None}
 use Rattle.std.specs.Option.{option_and_then, option_map, option_map_or}
 use Rattle.syntax.specs.Tree.{SourceUnit}
-use Rattle.world.specs.Journal.{Journal, journal_line}
 use Rattle.world.specs.declared.journal.Entry.{Entry}
+use Rattle.world.specs.Journal.{Journal, journal_line}
 use Rattle.world.specs.Object.{Object, sizes}
-use Rattle.world.specs.Report.{report_text}
 use Rattle.world.specs.declared.report.Printed.{Printed}
-use Rattle.world.specs.Schedule.{Schedule}
+use Rattle.world.specs.Report.{report_text}
 use Rattle.world.specs.declared.schedule.ScheduleWord.TheVariants.{Turn, Collect}
+use Rattle.world.specs.Schedule.{Schedule}
 use Rattle.world.specs.World.{World}
 use Rattle.regions.specs.Reachable.{live_size}
 use Rattle.regions.specs.ReportOf.{report}
 use Rattle.regions.specs.Start.{start}
-use Rattle.regions.specs.State.{State, Thread, Ending, Unfinished, thread_at, views}
+use Rattle.regions.specs.State.{State, thread_at, views}
 use Rattle.regions.specs.Step.{world_step, can_step}
+use Rattle.regions.specs.Thread.{Thread, Ending, Unfinished}
 
 -- ---- replay
 
@@ -52,7 +53,7 @@ JournalFollows unit w journal schedule = (end : State) × Follows unit w (start 
 -- the objects that a thread's next step makes, if nothing is refused
 abbrev pub made_between : State → Option State → List Object
 made_between s None = []
-made_between s (Some next) = drop (length s.heap) next.heap
+made_between s (Some next) = drop (length s.shared.heap) next.shared.heap
 
 -- the objects that thread k's next step makes, if nothing is refused
 abbrev pub made : SourceUnit → World → State → ℕ → List Object

@@ -1,11 +1,12 @@
 -- The state in which a run begins.
 use Rattle.std.specs.Prelude.{List, [], map, None}
 use Rattle.base.specs.Bytes.{Identifier}
-use Rattle.syntax.specs.Tree.{Static, SourceUnit}
 use Rattle.syntax.specs.Parts.{statics_of}
+use Rattle.syntax.specs.Tree.{Static, SourceUnit}
 use Rattle.world.specs.World.{Invocation, World, loaded_objects}
+use Rattle.regions.specs.State.{State}
+use Rattle.regions.specs.Thread.{Thread, Unfinished}
 use Rattle.regions.specs.Variable.{StaticReference, Empty, Statics}
-use Rattle.regions.specs.State.{Thread, Unfinished, State}
 
 -- a thread before the entry of its first call
 abbrev pub waiting_thread : List Invocation → Thread
@@ -22,11 +23,8 @@ null_statics unit = map null_static (statics_of unit)
 -- the state in which a run begins
 abbrev pub start : SourceUnit → World → State
 start unit w = record {
-  heap = loaded_objects w;
-  statics = null_statics unit;
-  globals = [];
-  monitors = [];
-  printed = [];
+  shared = record { heap = loaded_objects w; statics = null_statics unit; globals = []; monitors = [] };
   threads = map waiting_thread w.threads;
+  printed = [];
   stop = None;
 }

@@ -3,8 +3,7 @@ use Rattle.std.specs.Prelude.{ℕ, List, [], ◌∷◌, Option, Some, None, zip,
 use Rattle.syntax.specs.Tree as tree
 use Rattle.base.specs.Bytes.{Identifier}
 use Rattle.base.specs.Element.{ElementType, JChar}
-use Rattle.syntax.specs.Tree.{Null}
-use Rattle.syntax.specs.Tree.{Expr, Argument, RightSide, FromExpr, FromCall, Call, Test, TestExpr, TestCall, VariableType, JFieldId, Stmt, Block, End, Next}
+use Rattle.syntax.specs.Tree.{Null, Expr, Argument, RightSide, FromExpr, FromCall, Call, Test, TestExpr, TestCall, VariableType, JFieldId, Stmt, Block, End, Next}
 use Rattle.types.specs.JniFunction.{JniFunction}
 use Rattle.types.specs.Prototype.{ParameterKind, IntNumber, prototype, function_named}
 use Rattle.regions.specs.Term.{Term, term_of}

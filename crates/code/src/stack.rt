@@ -1,0 +1,50 @@
+//! The operand stack.
+
+ghost use Rattle.std.specs.Prelude.{◌≡◌, ◌≤◌, ◌<◌, [], ◌∷◌, length};
+
+use arrayvec::ArrayVec;
+use std::marker::Model;
+
+/// At most 64 words, seen as the list of them with the topmost first. It never allocates.
+#[derive(Drop, Debug)]
+pub struct Stack {
+    words: ArrayVec<u32, 64>,
+}
+
+impl Model for Stack {
+    ghost use Rattle.std.specs.Prelude.{List, ℕ, reverse, length, ◌≤◌};
+
+    ghost Value = { List ℕ };
+
+    ghost view = { λ s. reverse s.words.items };
+
+    ghost invariant = { λ s. length s.words.items ≤ 64 };
+}
+
+impl Stack {
+    /// The empty stack.
+    pub fn new() -> Self
+        ensures { result ≡ [] }
+    {
+        Stack {
+            words: ArrayVec::new(),
+        }
+    }
+
+    /// Puts a word on top.
+    pub fn push(&mut self, word: u32)
+        requires { length self.old < 64 }
+        ensures { self.new ≡ word ∷ self.old }
+    {
+        self.words.push(word);
+    }
+
+    /// Takes the topmost word.
+    pub fn pop(&mut self) -> u32
+        requires { 0 < length self.old }
+        ensures words { self.old ≡ result ∷ self.new }
+        ensures room { length self.new < 64 }
+    {
+        self.words.pop().unwrap()
+    }
+}

@@ -1,0 +1,130 @@
+//! A sink made of a writer.
+
+ghost use Rattle.std.specs.Prelude.{◌≡◌, ℕ, ◌+◌, ◌-◌, ◌<◌, ◌≤◌, ◌^◌, Option, List, [], OnOk, OnErr, length, drop};
+ghost use Rattle.std.specs.Io.KnownBytes.{Keeps, append_known};
+
+use crate::sink::{Sink, SinkFailed};
+use arrayvec::ArrayVec;
+use std::io::Write;
+
+/// A writer behind a buffer of 4,096 bytes, with the number of its failures.
+///
+/// The bytes that it tells are those that the writer took, followed by those that wait in the buffer. After a
+/// `flush` that succeeds none waits, so they are exactly what the writer took. It never allocates.
+#[derive(Drop)]
+pub struct StdSink<W: Write> {
+    writer: W,
+    buffer: ArrayVec<u8, 4096>,
+    // How many bytes of the buffer the writer took already.
+    sent: usize,
+    failures: u64,
+    ghost sent_before: { sent ≤ length buffer.items },
+}
+
+impl<W: Write> StdSink<W> {
+    /// A sink to which nothing was put.
+    pub fn new(writer: W) -> StdSink<W>
+        ensures writer { result.writer ≡ writer }
+        ensures empty { result.buffer.items ≡ [] }
+        ensures none { result.failures ≡ 0 }
+    {
+        StdSink {
+            writer,
+            buffer: ArrayVec::new(),
+            sent: 0,
+            failures: 0,
+        }
+    }
+
+    /// The writer, again. Bytes that wait are lost.
+    pub fn into_inner(self) -> W
+        ensures { result ≡ self.writer }
+    {
+        let StdSink {
+            writer,
+            buffer: _,
+            sent: _,
+            failures: _,
+        } = self;
+        writer
+    }
+
+    /// How many writes failed.
+    pub fn failures(&self) -> u64
+        ensures { result ≡ self.now.failures }
+    {
+        self.failures
+    }
+
+    /// Gives the writer some of the bytes that wait.
+    fn send_some(&mut self) -> Result<(), SinkFailed>
+        requires can_fail { self.old.failures < 2 ^ 64 - 1 }
+        requires some { self.old.sent < length self.old.buffer.items }
+        ensures kept { Keeps (append_known (W.contents self.old.writer) (drop self.old.sent self.old.buffer.items))
+            (append_known (W.contents self.new.writer) (drop self.new.sent self.new.buffer.items)) }
+        ensures buffer { self.new.buffer.items ≡ self.old.buffer.items }
+        ensures some { OnOk result (self.old.sent < self.new.sent) }
+        ensures same { OnOk result (self.new.failures ≡ self.old.failures) }
+        ensures failed { OnErr result (self.new.failures ≡ self.old.failures + 1) }
+    {
+        let (_, waiting) = self.buffer.as_slice().split_at(self.sent);
+        match self.writer.write(waiting) {
+            Ok(taken) if taken > 0 => {
+                self.sent += taken;
+                Ok(())
+            }
+            _ => {
+                self.failures += 1;
+                Err(SinkFailed)
+            }
+        }
+    }
+
+    /// Gives the writer all of the bytes that wait, and empties the buffer.
+    fn send_all(&mut self) -> Result<(), SinkFailed>
+        requires { self.old.failures < 2 ^ 64 - 1 }
+        ensures kept { Keeps (append_known (W.contents self.old.writer) (drop self.old.sent self.old.buffer.items))
+            (append_known (W.contents self.new.writer) (drop self.new.sent self.new.buffer.items)) }
+        ensures empty { OnOk result (self.new.buffer.items ≡ []) }
+        ensures same { OnOk result (self.new.failures ≡ self.old.failures) }
+        ensures failed { OnErr result (self.new.failures ≡ self.old.failures + 1) }
+    {
+        while self.sent < self.buffer.len() {
+            self.send_some()?;
+        }
+        self.sent = 0;
+        self.buffer.clear();
+        Ok(())
+    }
+}
+
+impl<W: Write> Sink for StdSink<W> {
+    ghost written = { λ s. record {
+      bytes = append_known (W.contents s.writer) (drop s.sent s.buffer.items);
+      waiting = length s.buffer.items - s.sent;
+      failures = s.failures;
+    } };
+
+    fn put(&mut self, bytes: &[u8]) -> Result<usize, SinkFailed> {
+        if self.buffer.is_full() {
+            self.send_all()?;
+        }
+        let room = self.buffer.remaining_capacity();
+        let (front, _) = bytes.split_at(bytes.len().min(room));
+        match self.buffer.try_extend_from_slice(front) {
+            Ok(()) => Ok(front.len()),
+            Err(_) => unreachable!(),
+        }
+    }
+
+    fn flush(&mut self) -> Result<(), SinkFailed> {
+        self.send_all()?;
+        match self.writer.flush() {
+            Ok(()) => Ok(()),
+            Err(_) => {
+                self.failures += 1;
+                Err(SinkFailed)
+            }
+        }
+    }
+}
