@@ -4,10 +4,9 @@
 mod checker;
 mod fault;
 mod sort;
-mod typed;
-
 #[cfg(test)]
 mod tests;
+mod typed;
 
 pub use fault::{Fault, SortRule, TypeFault};
 pub use typed::{Typed, type_unit};
