@@ -1,1 +1,3 @@
 mod Refusals
+mod SayLemmas
+mod FileLemmas

@@ -1,3 +1,6 @@
 pub mod Errors
 pub mod Programs
 pub mod Passes
+pub mod Texts
+pub mod Runs
+pub mod Serve

@@ -1,8 +1,28 @@
-//! Runs native methods over a heap.
+//! Runs native methods over a heap: `jnirun run PROG WORLD --schedule FILE`.
 #![tactic(auto)]
 
+mod command;
 mod fault;
 mod files;
 mod program;
+mod run;
+mod serve;
 
-fn main() {}
+use crate::files::FileSystem;
+use crate::serve::{COMMAND_LINE, FAILED, serve};
+use std::process::ExitCode;
+use world::StdSink;
+
+fn main(rt: HostRuntime) -> ExitCode {
+    let mut out = StdSink::new(rt.stdout());
+    let mut err = StdSink::new(rt.stderr());
+    let mut files = FileSystem::new(&rt);
+    let Ok(args) = std::env::args(&rt) else {
+        return ExitCode::from(COMMAND_LINE);
+    };
+    let Ok(words) = args.collect::<Vec<String>>(rt.alloc()) else {
+        return ExitCode::from(FAILED);
+    };
+    let status = serve(rt.alloc(), words.as_slice(), &mut files, &mut out, &mut err);
+    ExitCode::from(status)
+}

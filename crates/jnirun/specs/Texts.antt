@@ -1,0 +1,29 @@
+-- What a program, a world and a schedule mean together, and which fault others earn.
+use Rattle.std.specs.Prelude.{◌≡◌, ℕ, List, length, Some, None, Ok, Err}
+use Rattle.syntax.specs.Tree.{SourceUnit}
+use Rattle.world.specs.declared.fault.TextFault.{TextFault}
+use Rattle.world.specs.ReadingSchedules.{schedule_of}
+use Rattle.world.specs.ReadingWorlds.{scene_of_text}
+use Rattle.world.specs.Rule.{rule_number}
+use Rattle.world.specs.Scene.{Scene}
+use Rattle.world.specs.SceneWorld.{world_of_scene}
+use Rattle.world.specs.Schedule.{Schedule}
+use Rattle.regions.specs.Load.{first_load_fault}
+use Rattle.jnirun.specs.Programs.{IsProgram, IsRefusedProgram}
+
+-- the unit, the world and the schedule of three texts, which go with each other
+pub record Meaning (program world schedule : List ℕ) : Type 0 where
+  pub unit : SourceUnit
+  pub of_program : IsProgram program unit
+  pub scene : Scene
+  pub of_world : scene_of_text world ≡ Ok scene
+  pub words : Schedule
+  pub of_schedule : schedule_of schedule (length scene.threads) ≡ Ok words
+  pub loads : first_load_fault unit (world_of_scene scene) ≡ None
+
+-- The texts are read in their order, and then loaded. This number and line are those of the first that is refused.
+pub data AreRefused (program world schedule : List ℕ) : (number line : ℕ) → Type 0 where
+  by_program : (number line : ℕ) → IsRefusedProgram program number line → AreRefused program world schedule number line
+  by_world : (unit : SourceUnit) (fault : TextFault) → IsProgram program unit → scene_of_text world ≡ Err fault → AreRefused program world schedule (rule_number fault.rule) fault.line
+  by_schedule : (unit : SourceUnit) (scene : Scene) (fault : TextFault) → IsProgram program unit → scene_of_text world ≡ Ok scene → schedule_of schedule (length scene.threads) ≡ Err fault → AreRefused program world schedule (rule_number fault.rule) fault.line
+  by_load : (unit : SourceUnit) (scene : Scene) (words : Schedule) (line : ℕ) → IsProgram program unit → scene_of_text world ≡ Ok scene → schedule_of schedule (length scene.threads) ≡ Ok words → first_load_fault unit (world_of_scene scene) ≡ Some line → AreRefused program world schedule 82 line
