@@ -7,6 +7,8 @@ mod files;
 mod program;
 mod run;
 mod serve;
+#[cfg(test)]
+mod tests;
 
 use crate::files::FileSystem;
 use crate::serve::{COMMAND_LINE, FAILED, serve};
