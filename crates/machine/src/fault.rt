@@ -37,7 +37,7 @@ impl<T: Drop> From<AllocFailed<T>> for LoadFault {
 /// Why a schedule was not run to its end. The steps taken stay.
 #[derive(Clone, Copy, Debug, PartialEq, Eq, Error)]
 pub enum RunFault {
-    /// Fault 52: the journal has 1,000,000 entries.
+    /// Fault 92: the journal has 1,000,000 entries.
     #[error("the journal is full")]
     Full,
     /// Fault 9: host memory was refused.

@@ -1,0 +1,5 @@
+pub mod Calls
+pub mod Threads
+pub mod Steps
+pub mod Names
+pub mod LoadLemmas
