@@ -3,3 +3,4 @@ pub mod Threads
 pub mod Steps
 pub mod Names
 pub mod LoadLemmas
+pub mod ThreadLoads
