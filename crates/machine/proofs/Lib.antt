@@ -4,3 +4,5 @@ pub mod Steps
 pub mod Names
 pub mod LoadLemmas
 pub mod ThreadLoads
+pub mod Runs
+pub mod Reports

@@ -96,7 +96,7 @@ module _ (p : Lowered) (scene : Scene) (ts : List Thread) (printed : List Printe
       let a = advances classes (lent c.state) k c.state.shared f.source c.monitors f.agrees live in
       let next = next_state c.state k a.next e in
       let step : world_step (unit_tree p.unit) classes c.state (entry_of k) ≡ Some next =
-          step-thread (unit_tree p.unit) classes c.state k f.source false (steps_here live) ∙ ap (advanced c.state k) a.steps in
+      step-thread (unit_tree p.unit) classes c.state k f.source false (steps_here live) ∙ ap (advanced c.state k) a.steps in
       record {
         lowered = c.lowered;
         state = next;

@@ -211,9 +211,9 @@ enters p classes lent k shared t after s n lowered h none calls call ending =
     let code = code_of (functions_of (unit_tree p.unit)) p.codes n f.function lowered f.numbered in
     let next : source.Thread = entered s c.rest f.function f.class c.call.arguments in
     let found : enter (unit_tree p.unit) classes s s.calls ≡ Some next =
-        ap (enter (unit_tree p.unit) classes s) c.is
-        ∙ ap (entered_function classes s c.call c.rest) f.named
-        ∙ ap (option_map (λ d. entered s c.rest f.function d c.call.arguments)) f.of_class in
+    ap (enter (unit_tree p.unit) classes s) c.is
+    ∙ ap (entered_function classes s c.call c.rest) f.named
+    ∙ ap (option_map (λ d. entered s c.rest f.function d c.call.arguments)) f.of_class in
     let stands : CallStands p (record { function = n; place = 0; stack = [] }) (tasks_of f.function.body) = record { code = code.0; of_function = code.1; stands = code.2.begins; depth = refl } in
     record {
       next = next;

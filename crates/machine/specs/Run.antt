@@ -6,6 +6,8 @@ use Rattle.world.specs.declared.journal.Entry.{Entry}
 use Rattle.world.specs.declared.report.Printed.{Printed}
 use Rattle.world.specs.declared.report.Standing.{Standing}
 use Rattle.world.specs.declared.report.Standing.TheVariants as standing
+use Rattle.world.specs.declared.schedule.ScheduleWord.{ScheduleWord}
+use Rattle.world.specs.declared.schedule.ScheduleWord.TheVariants.{Turn, Collect}
 use Rattle.world.specs.Scene.{Scene}
 use Rattle.world.specs.SceneWorld.{world_of_scene}
 use Rattle.world.specs.Schedule.{Schedule}
@@ -23,7 +25,7 @@ use Rattle.machine.specs.declared.thread.Ending.{Ending}
 use Rattle.machine.specs.declared.thread.Ending.TheVariants.{Unfinished, Ended}
 use Rattle.machine.specs.declared.thread.Event.{Event}
 use Rattle.machine.specs.declared.thread.Event.TheVariants as event
-use Rattle.machine.specs.declared.turn.Turn.{Turn}
+use Rattle.machine.specs.declared.turn.Turn.{Turn as Answer}
 use Rattle.machine.specs.declared.turn.Turn.TheVariants as turn
 use Rattle.machine.specs.Agrees.{ThreadsAgree}
 
@@ -88,7 +90,7 @@ abbrev pub stepped : Run → ℕ → Run
 stepped r k = record r { journal = r.journal ++ entry_of k ∷ [] }
 
 -- what a turn of thread k was
-abbrev pub TurnHolds : Run → ℕ → Run → Turn → Type 0
+abbrev pub TurnHolds : Run → ℕ → Run → Answer → Type 0
 TurnHolds old k new turn.Ended = (new ≡ old) × InState old (λ s. HasEnded s k)
 TurnHolds old k new turn.Full = (new ≡ old) × (1000000 ≤ length old.journal) × InState old (λ s. can_turn old s k ≡ true)
 TurnHolds old k new turn.Stepped = (new ≡ stepped old k) × InState old (λ s. can_turn old s k ≡ true)
@@ -98,6 +100,11 @@ abbrev pub PrintedBy : Run → List Printed → Type 0
 PrintedBy r printed = InState r (λ s. printed ≡ s.printed)
 
 -- ---- runs
+
+-- a word of a schedule that gives no step of the run
+abbrev pub GivesNoStep : Run → ScheduleWord → Type 0
+GivesNoStep r Collect = InState r (λ s. Unit {0})
+GivesNoStep r (Turn k) = InState r (λ s. can_turn r s k ≡ false)
 
 -- The steps taken follow the schedule.
 pub record RunsAlong (old new : Run) (schedule : Schedule) : Type 0 where

@@ -23,7 +23,11 @@ use syntax::{Function, Item};
 use world::{Call, World};
 
 /// The world's threads before their first calls.
-pub fn load_threads(alloc: Global, program: &Program<'_>, world: &World) -> Result<Vec<Thread>, LoadFault>
+pub fn load_threads(
+    alloc: Global,
+    program: &Program<'_>,
+    world: &World,
+) -> Result<Vec<Thread>, LoadFault>
     ensures agree { IfOk result (λ threads. ThreadsAgree program.now (world_of_scene world.now).classes threads.items
         (map waiting_thread (world_of_scene world.now).threads)) }
     ensures all { OnOk result (flat_map (refused_calls (unit_tree program.now.unit) (world_of_scene world.now).classes) (world_of_scene world.now).threads ≡ []) }
@@ -40,7 +44,12 @@ pub fn load_threads(alloc: Global, program: &Program<'_>, world: &World) -> Resu
 }
 
 /// A thread before its first call.
-fn load_thread(alloc: Global, program: &Program<'_>, world: &World, calls: &[Call]) -> Result<Thread, LoadFault>
+fn load_thread(
+    alloc: Global,
+    program: &Program<'_>,
+    world: &World,
+    calls: &[Call],
+) -> Result<Thread, LoadFault>
     requires { IsTrue (has_call calls.now) }
     ensures agrees { IfOk result (λ thread. ThreadAgrees program.now (world_of_scene world.now).classes thread
         (waiting_thread (map invocation_of calls.now))) }
@@ -62,7 +71,12 @@ fn load_thread(alloc: Global, program: &Program<'_>, world: &World, calls: &[Cal
 }
 
 /// The number of a call's function, if the call fits it.
-fn load_call(alloc: Global, program: &Program<'_>, world: &World, call: &Call) -> Result<Option<usize>, AllocError>
+fn load_call(
+    alloc: Global,
+    program: &Program<'_>,
+    world: &World,
+    call: &Call,
+) -> Result<Option<usize>, AllocError>
     ensures { IfOk result (IsCallOf program.now (world_of_scene world.now).classes (invocation_of call.now)) }
 {
     let Some(number) = function_number(program, call.function()) else {

@@ -1,12 +1,12 @@
 //! The machine.
 
-ghost use Rattle.std.specs.Prelude.{◌≡◌, ℕ, ◌+◌, ◌<◌, ◌≤◌, [], ◌∷◌, ◌++◌, length, map, replicate, take, IfOk, IfErr, OnOk, OnErr, IsSome, None, vec_len, vec_capacity};
+ghost use Rattle.std.specs.Prelude.{◌≡◌, ℕ, ◌+◌, ◌<◌, ◌≤◌, [], ◌∷◌, ◌++◌, length, map, replicate, take, IfOk, IfErr, OnOk, OnErr, IfSome, IfNone, IsSome, Err, None, vec_len, vec_capacity};
 ghost use Rattle.syntax.specs.Views.{unit_tree};
 ghost use Rattle.world.specs.SceneWorld.{world_of_scene};
 ghost use Rattle.world.specs.Sink.{CanFail};
 ghost use Rattle.regions.specs.Load.{first_load_fault};
 ghost use Rattle.machine.specs.Loading.{IsLoadFault};
-ghost use Rattle.machine.specs.Run.{replay_of, IsUnstarted, TurnHolds, RunsAlong, RunsInto, PrintedBy, WritesRun, printed_after, standing_by_ending};
+ghost use Rattle.machine.specs.Run.{replay_of, IsUnstarted, TurnHolds, RunsAlong, RunsInto, PrintedBy, WritesRun, GivesNoStep, printed_after, standing_by_ending};
 
 use crate::fault::{LoadFault, RunFault};
 use crate::load::load_threads;
@@ -112,6 +112,88 @@ impl<'a> Machine<'a> {
             .unwrap();
         Ok(Turn::Stepped)
     }
+
+    /// The thread of a schedule's word, where it is a turn of a thread that the world has.
+    fn turn_of(&self, word: ScheduleWord) -> Option<u8>
+        ensures turn { IfSome result (λ k. (word ≡ ScheduleWord.Turn k) × (0 < k) × (k ≤ length self.now.world.threads)) }
+        ensures none { IfNone result (GivesNoStep self.now word) }
+    {
+        let _ = &self.world;
+        match word {
+            ScheduleWord::Turn(k) if k > 0 && usize::from(k) <= self.threads.len() => Some(k),
+            _ => None,
+        }
+    }
+
+    /// Takes one word of a schedule.
+    fn take_word(&mut self, word: ScheduleWord) -> Result<(), RunFault>
+        ensures ok { OnOk result (RunsAlong self.old self.new (word ∷ [])) }
+        ensures err { OnErr result (self.new ≡ self.old) }
+        ensures full { result ≡ Err RunFault.Full → 1000000 ≤ length self.new.journal }
+        ensures runs { IsSome (replay_of self.new) }
+    {
+        let _ = &self.world;
+        let Some(k) = self.turn_of(word) else {
+            return Ok(());
+        };
+        match self.step(k) {
+            Err(_) => Err(RunFault::Memory),
+            Ok(turn) => match turn {
+                Turn::Full => Err(RunFault::Full),
+                _ => Ok(()),
+            },
+        }
+    }
+
+    /// Takes a word so many times.
+    fn repeat(&mut self, word: ScheduleWord, times: u32) -> Result<(), RunFault>
+        ensures ok { OnOk result (RunsAlong self.old self.new (replicate times word)) }
+        ensures err { OnErr result (RunsInto self.old self.new (replicate times word)) }
+        ensures full { result ≡ Err RunFault.Full → 1000000 ≤ length self.new.journal }
+        ensures runs { IsSome (replay_of self.new) }
+    {
+        let _ = &self.world;
+        for _taken in 0..times {
+            match self.take_word(word) {
+                Ok(()) => {}
+                Err(fault) => return Err(fault),
+            }
+        }
+        Ok(())
+    }
+
+    /// Lets the threads take steps in the order of the schedule. A collection and a turn of a thread that the world
+    /// lacks give none. After an `Err` the steps of a beginning of the schedule stay.
+    pub fn run(&mut self, schedule: &Schedule) -> Result<(), RunFault>
+        ensures ok { OnOk result (RunsAlong self.old self.new schedule.now) }
+        ensures err { OnErr result (RunsInto self.old self.new schedule.now) }
+        ensures full { result ≡ Err RunFault.Full → 1000000 ≤ length self.new.journal }
+        ensures runs { IsSome (replay_of self.new) }
+    {
+        let _ = &self.world;
+        for repetition in schedule.repetitions() {
+            match self.repeat(repetition.word, repetition.times) {
+                Ok(()) => {}
+                Err(fault) => return Err(fault),
+            }
+        }
+        Ok(())
+    }
+
+    /// Writes the report of the run and the line of its journal, and flushes the sink. It takes no host memory.
+    pub fn report<S: Sink>(&self, sink: &mut S) -> Result<(), SinkFailed>
+        requires { CanFail (S.written sink.old) }
+        ensures run { WritesRun self.now (S.written sink.old) (S.written sink.new) result }
+        ensures none_waits { OnOk result ((S.written sink.new).waiting ≡ 0) }
+    {
+        let standings = standings_of(&self.threads);
+        write_run(
+            sink,
+            self.printed.as_slice(),
+            standings.as_slice(),
+            self.journal.as_slice(),
+        )
+    }
 }
 
 /// Writes down what a step lets others see.
@@ -122,5 +204,26 @@ fn note(printed: &mut Vec<Printed>, k: u8, event: Event)
     match event {
         Event::Quiet => {}
         Event::Printed(number) => printed.push(Printed { thread: k, number }).unwrap(),
+    }
+}
+
+/// How each thread stands.
+fn standings_of(threads: &[Thread]) -> ArrayVec<Standing, 8>
+    requires { length threads.now ≤ 8 }
+    ensures { result.items ≡ map (λ thread. standing_by_ending thread.ending) threads.now }
+{
+    let mut standings = ArrayVec::new();
+    for thread in threads {
+        standings.push(standing_of(thread.ending));
+    }
+    standings
+}
+
+fn standing_of(ending: Ending) -> Standing
+    ensures { result ≡ standing_by_ending ending }
+{
+    match ending {
+        Ending::Unfinished => Standing::Running,
+        Ending::Ended => Standing::Ended,
     }
 }

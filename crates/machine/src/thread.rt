@@ -94,8 +94,11 @@ fn enter(thread: &mut Thread)
 
 /// The end of a call.
 fn leave(thread: &mut Thread)
-    ensures { thread.new ≡ record { calls = thread.old.calls; call = None;
-        ending = ending_after thread.old.calls.items thread.old.ending } }
+    ensures { thread.new ≡ record {
+      calls = thread.old.calls;
+      call = None;
+      ending = ending_after thread.old.calls.items thread.old.ending;
+    } }
 {
     thread.call = None;
     if thread.calls.is_empty() {

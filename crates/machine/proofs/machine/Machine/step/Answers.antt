@@ -33,18 +33,28 @@ threads_of a b threads h e = h ∙ ap (λ (r : Run). length r.world.threads) e
 pub returns-then-eq-clause-turn : goal.returns-then-eq-clause-turn
 returns-then-eq-clause-turn c =
     let count = threads_of _ _ _ c.self.invariant.count c.self.view_is in
-    let at = thread_there c.self.inside.threads.items c.args.k c.from-index.result _ c.index.result.now c.from-index.ensures c.requires.counted c.requires.is_thread count c.index.ensures in
-    (refl, (c.self.invariant.state, subst (λ (r : Run). replay_of r ≡ Some c.self.invariant.state) c.self.view_is c.self.invariant.replays,
-    has_ended _ _ _ _ _ c.self.invariant c.args.k (c.from-index.result - 1) c.index.result.now (counted c.args.k c.from-index.result c.from-index.ensures c.requires.counted) at (is_ended _ c.if-eq.ensures)))
+    let at = thread_there c.self.inside.threads.items c.args.k c.from-index.result _ c.index.result.now c.from-index.ensures c.requires.counted c.requires.is_thread count c.index.ensures in (
+      refl,
+      (
+        c.self.invariant.state,
+        subst (λ (r : Run). replay_of r ≡ Some c.self.invariant.state) c.self.view_is c.self.invariant.replays,
+        has_ended _ _ _ _ _ c.self.invariant c.args.k (c.from-index.result - 1) c.index.result.now (counted c.args.k c.from-index.result c.from-index.ensures c.requires.counted) at (is_ended _ c.if-eq.ensures),
+      ),
+    )
 
 pub returns-then-len-ge-MOST_ENTRIES-clause-turn : goal.returns-then-len-ge-MOST_ENTRIES-clause-turn
 returns-then-len-ge-MOST_ENTRIES-clause-turn c =
     let count = threads_of _ _ _ c.self.invariant.count c.self.view_is in
     let at = thread_there c.self.inside.threads.items c.args.k c.from-index.result _ c.index.result.now c.from-index.ensures c.requires.counted c.requires.is_thread count c.index.ensures in
-    let full : 1000000 ≤ length c.self.inside.journal.items = omega (arith, c.len.ensures) in
-    (refl, subst (λ (r : Run). 1000000 ≤ length r.journal) c.self.view_is full,
-    (c.self.invariant.state, subst (λ (r : Run). replay_of r ≡ Some c.self.invariant.state) c.self.view_is c.self.invariant.replays,
-    subst (λ (r : Run). can_turn r c.self.invariant.state c.args.k ≡ true) c.self.view_is (can_turn_here _ _ _ _ _ c.self.invariant c.args.k (c.from-index.result - 1) c.index.result.now (counted c.args.k c.from-index.result c.from-index.ensures c.requires.counted) at (is_live _ c.if-eq.ensures))))
+    let full : 1000000 ≤ length c.self.inside.journal.items = omega (arith, c.len.ensures) in (
+      refl,
+      subst (λ (r : Run). 1000000 ≤ length r.journal) c.self.view_is full,
+      (
+        c.self.invariant.state,
+        subst (λ (r : Run). replay_of r ≡ Some c.self.invariant.state) c.self.view_is c.self.invariant.replays,
+        subst (λ (r : Run). can_turn r c.self.invariant.state c.args.k ≡ true) c.self.view_is (can_turn_here _ _ _ _ _ c.self.invariant c.args.k (c.from-index.result - 1) c.index.result.now (counted c.args.k c.from-index.result c.from-index.ensures c.requires.counted) at (is_live _ c.if-eq.ensures)),
+      ),
+    )
 
 -- the thread that steps is the one that was looked at
 same_thread : (ts : List Thread) (i : ℕ) (a b : Thread) → slice_get ts i ≡ Some a → slice_get ts i ≡ Some b → a.ending ≡ Unfinished → b.ending ≡ Unfinished
@@ -77,8 +87,11 @@ returns-clause-turn c =
     let count = threads_of _ _ _ c.self.invariant.count c.self.view_is in
     let seen = thread_there c.self.inside.threads.items c.args.k c.from-index.result _ c.index.result.now c.from-index.ensures c.requires.counted c.requires.is_thread count c.index.ensures in (
       subst (λ (r : Run). ◌≡◌ {A = Run} (record { unit = i.program.unit; world = i.world; journal = c.push.new.self.items }) (stepped r c.args.k)) c.self.view_is (ap (λ (j : List Entry). let r : Run = record { unit = i.program.unit; world = i.world; journal = j } in r) (one_more c)),
-      (c.self.invariant.state, subst (λ (r : Run). replay_of r ≡ Some c.self.invariant.state) c.self.view_is c.self.invariant.replays,
-      subst (λ (r : Run). can_turn r c.self.invariant.state c.args.k ≡ true) c.self.view_is (can_turn_here _ _ _ _ _ c.self.invariant c.args.k (c.from-index.result - 1) c.index.result.now (counted c.args.k c.from-index.result c.from-index.ensures c.requires.counted) seen (is_live _ c.if-eq.ensures))),
+      (
+        c.self.invariant.state,
+        subst (λ (r : Run). replay_of r ≡ Some c.self.invariant.state) c.self.view_is c.self.invariant.replays,
+        subst (λ (r : Run). can_turn r c.self.invariant.state c.args.k ≡ true) c.self.view_is (can_turn_here _ _ _ _ _ c.self.invariant c.args.k (c.from-index.result - 1) c.index.result.now (counted c.args.k c.from-index.result c.from-index.ensures c.requires.counted) seen (is_live _ c.if-eq.ensures)),
+      ),
     )
 
 pub returns-clause-runs : goal.returns-clause-runs
