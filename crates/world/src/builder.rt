@@ -1,6 +1,6 @@
 //! What the lines of a world have said so far.
 
-ghost use Rattle.std.specs.Prelude.{◌≡◌, true, map};
+ghost use Rattle.std.specs.Prelude.{◌≡◌, ◌≤◌, true, map, length};
 ghost use Rattle.std.specs.List.{list_all};
 ghost use Rattle.world.specs.Scene.{has_call};
 
@@ -13,4 +13,5 @@ pub struct WorldBuilder {
     pub classes: Vec<Vec<u8>>,
     pub threads: Vec<Vec<Call>>,
     ghost each_has_call: { list_all has_call (map (λ t. t.items) threads.items) ≡ true },
+    ghost few: { length threads.items ≤ 8 },
 }

@@ -31,6 +31,12 @@ pub enum Standing {
     Running,
 }
 
+impl Default for Standing {
+    fn default() -> Standing {
+        Standing::Running
+    }
+}
+
 impl Text for Printed {
     ghost use Rattle.world.specs.Report.{printed_line};
 

@@ -1,0 +1,201 @@
+-- Several words go along with a schedule.
+use Rattle.std.proofs.Common.{◌≡◌, ℕ, zero, suc, ◌+◌, ◌-◌, ◌<◌, ◌≤◌, Bool, true, false, List, [], ◌∷◌, ◌++◌, length, take, drop, get_or, map, replicate, Option, Some, None, refl, sym, ap, ◌∙◌, subst, arith, IsSome, append_assoc, append-nil}
+use Rattle.std.specs.Prelude.{slice_get, is_none, not, ◌&&◌, flat_map}
+use Rattle.std.specs.Option.{option_and_then}
+use Rattle.std.proofs.lemmas.Bool.{and_left, and_right}
+use Rattle.std.proofs.lemmas.List.{replicate-append-replicate, take-append-drop, take_all}
+use Rattle.std.proofs.lemmas.Option.{slice_get_past, slice_get-get_or}
+use Rattle.std.proofs.lemmas.List.Concat.{flat_map-cons}
+use Rattle.std.proofs.lemmas.Grind.{flat_map-append}
+use Rattle.world.specs.declared.schedule.Repetition.{Repetition}
+use Rattle.world.specs.ReadingSchedules.{repeated_words}
+use Rattle.syntax.specs.Views.{unit_tree}
+use Rattle.syntax.specs.declared.unit.Item.{Item}
+use Rattle.classes.specs.Class.{Classes}
+use Rattle.world.specs.declared.journal.Entry.{Entry}
+use Rattle.world.specs.declared.schedule.ScheduleWord.{ScheduleWord}
+use Rattle.world.specs.declared.schedule.ScheduleWord.TheVariants.{Turn, Collect}
+use Rattle.world.specs.Scene.{Scene}
+use Rattle.world.specs.SceneWorld.{world_of_scene}
+use Rattle.world.specs.Schedule.{Schedule}
+use Rattle.world.specs.World.{World}
+use Rattle.regions.specs.Run.{replay, replay_from, Follows, Over, Collects, Waits, Steps}
+use Rattle.regions.specs.Start.{start}
+use Rattle.regions.specs.State.{State, thread_at}
+use Rattle.regions.specs.Step.{can_step, is_live, is_waiting, world_step}
+use Rattle.regions.specs.Thread as source
+use Rattle.regions.proofs.RunLaws.{replay_from-append, follows-replay, follows-append}
+use Rattle.machine.specs.declared.turn.Turn.{Turn as Answer}
+use Rattle.machine.specs.declared.turn.Turn.TheVariants as turn
+use Rattle.machine.specs.Run.{Run, replay_of, InState, can_turn, HasEnded, TurnHolds, GivesNoStep, entry_of, stepped, RunsAlong, RunsInto}
+
+-- the walk from a state of a run along these words
+abbrev pub Walk : Run → State → List Entry → Schedule → State → Type 0
+Walk r before steps words after = Follows (unit_tree r.unit) (world_of_scene r.world) before steps words after
+
+-- ---- states
+
+-- the replay of a run with more entries
+replay_with : (r : Run) (steps : List Entry) (s : State) → replay_of r ≡ Some s → replay (unit_tree r.unit) (world_of_scene r.world) (r.journal ++ steps) ≡ replay_from (unit_tree r.unit) (world_of_scene r.world) s steps
+replay_with r steps s h =
+    replay_from-append (unit_tree r.unit) (world_of_scene r.world) (start (unit_tree r.unit) (world_of_scene r.world)) r.journal steps
+    ∙ ap (option_and_then (λ t. replay_from (unit_tree r.unit) (world_of_scene r.world) t steps)) h
+
+-- the same program and world
+same_replay : (a b : Run) → b.unit ≡ a.unit → b.world ≡ a.world → replay_of b ≡ replay (unit_tree a.unit) (world_of_scene a.world) b.journal
+same_replay a b u w =
+    ap (λ (x : List Item). replay (unit_tree x) (world_of_scene b.world) b.journal) u
+    ∙ ap (λ (x : Scene). replay (unit_tree a.unit) (world_of_scene x) b.journal) w
+
+-- the state that a walk leads to
+pub leads : (old new : Run) (words : Schedule) (r : RunsAlong old new words) → replay_of new ≡ Some r.after
+leads old new words r =
+    same_replay old new r.same_unit r.same_world
+    ∙ ap (λ (j : List Entry). replay (unit_tree old.unit) (world_of_scene old.world) j) r.journal
+    ∙ replay_with old r.steps r.before r.replays
+    ∙ follows-replay (unit_tree old.unit) (world_of_scene old.world) r.follows
+
+-- ---- walks
+
+-- one walk after another
+pub along_both : (a b c : Run) (words more : Schedule) → RunsAlong a b words → RunsAlong b c more → RunsAlong a c (words ++ more)
+along_both a b c words more p q =
+    let there : q.before ≡ p.after = cc (q.replays, leads a b words p) in
+    let on_unit : Follows (unit_tree a.unit) (world_of_scene b.world) q.before q.steps more q.after = subst (λ (x : List Item). Follows (unit_tree x) (world_of_scene b.world) q.before q.steps more q.after) p.same_unit q.follows in
+    let on_world : Walk a q.before q.steps more q.after = subst (λ (x : Scene). Follows (unit_tree a.unit) (world_of_scene x) q.before q.steps more q.after) p.same_world on_unit in
+    record {
+      same_unit = q.same_unit ∙ p.same_unit;
+      same_world = q.same_world ∙ p.same_world;
+      steps = p.steps ++ q.steps;
+      journal = q.journal ∙ ap (λ (j : List Entry). j ++ q.steps) p.journal ∙ append_assoc a.journal p.steps q.steps;
+      before = p.before;
+      replays = p.replays;
+      after = q.after;
+      follows = follows-append (unit_tree a.unit) (world_of_scene a.world) q.steps more q.after p.follows (subst (λ s. Walk a s q.steps more q.after) there on_world);
+    }
+
+-- one walk and a beginning of another
+pub along_into : (a b c : Run) (words more : Schedule) → RunsAlong a b words → RunsInto b c more → RunsInto a c (words ++ more)
+along_into a b c words more p q = record {
+  taken = words ++ q.taken;
+  left = q.left;
+  is = ap (λ (w : Schedule). words ++ w) q.is ∙ sym (append_assoc words q.taken q.left);
+  along = along_both a b c words q.taken p q.along;
+}
+
+-- a beginning of a schedule's beginning
+pub into_more : (a b : Run) (words more : Schedule) → RunsInto a b words → RunsInto a b (words ++ more)
+into_more a b words more p = record {
+  taken = p.taken;
+  left = p.left ++ more;
+  is = ap (λ (w : Schedule). w ++ more) p.is ∙ append_assoc p.taken p.left more;
+  along = p.along;
+}
+
+-- a walk is a beginning
+pub all_taken : (a b : Run) (words : Schedule) → RunsAlong a b words → RunsInto a b words
+all_taken a b words p = record { taken = words; left = []; is = sym (append-nil words); along = p }
+
+-- nothing was done yet
+pub none_yet : (r : Run) → IsSome (replay_of r) → RunsAlong r r []
+none_yet r d = by_state (replay_of r) refl d
+  where
+    by_state : (o : Option State) → replay_of r ≡ o → IsSome o → RunsAlong r r []
+    by_state None e d = absurd (let f : false ≡ true = d in cc)
+    by_state (Some s) e d = record { same_unit = refl; same_world = refl; steps = []; journal = sym (append-nil r.journal); before = s; replays = e; after = s; follows = Over s }
+
+-- ---- one word
+
+no_step : (r : Run) (word : ScheduleWord) → GivesNoStep r word → RunsAlong r r (word ∷ [])
+no_step r Collect h = record { same_unit = refl; same_world = refl; steps = []; journal = sym (append-nil r.journal); before = h.0; replays = h.1; after = h.0; follows = Collects h.0 h.0 [] [] (Over h.0) }
+no_step r (Turn k) h = record { same_unit = refl; same_world = refl; steps = []; journal = sym (append-nil r.journal); before = h.0; replays = h.1; after = h.0; follows = Waits h.0 h.0 k [] [] h.2 (Over h.0) }
+
+pub word_without_step : (r : Run) (word : ScheduleWord) → GivesNoStep r word → RunsAlong r r (word ∷ [])
+word_without_step r word h = no_step r word h
+
+-- a thread that has ended can't step
+ended_waits : (classes : Classes) (s : State) (k : ℕ) → HasEnded s k → can_step classes s k ≡ false
+ended_waits classes s k h =
+    and_left (is_none s.stop && is_live (thread_at s k)) (not (is_waiting classes k s.shared (thread_at s k)))
+    (and_right (is_none s.stop) (is_live (thread_at s k)) (ap is_live h.is ∙ h.ended))
+
+-- the step of a journal with one more entry
+step_of : (r new : Run) (e : Entry) (s : State) → new ≡ record r { journal = r.journal ++ e ∷ [] } → replay_of r ≡ Some s → IsSome (replay_of new) → (n : State) × (world_step (unit_tree r.unit) (world_of_scene r.world).classes s e ≡ Some n)
+step_of r new e s is h defined = there (world_step (unit_tree r.unit) (world_of_scene r.world).classes s e) (subst IsSome (ap replay_of is ∙ replay_with r (e ∷ []) s h) defined)
+  where
+    there : (o : Option State) → IsSome (option_and_then (λ t. replay_from (unit_tree r.unit) (world_of_scene r.world) t []) o) → (n : State) × (o ≡ Some n)
+    there None d = absurd (let f : false ≡ true = d in cc)
+    there (Some n) d = (n, refl)
+
+stepped_once : (r new : Run) (k : ℕ) (s : State) → new ≡ stepped r k → replay_of r ≡ Some s → can_turn r s k ≡ true → IsSome (replay_of new) → RunsAlong r new (Turn k ∷ [])
+stepped_once r new k s is h can defined =
+    let n = step_of r new (entry_of k) s is h defined in
+    subst (λ x. RunsAlong r x (Turn k ∷ [])) (sym is) (record {
+      same_unit = refl;
+      same_world = refl;
+      steps = entry_of k ∷ [];
+      journal = refl;
+      before = s;
+      replays = h;
+      after = n.0;
+      follows = Steps s n.0 n.0 k false [] [] can n.1 (Over n.0);
+    })
+
+-- a turn, but where the journal is full
+pub turned : (r new : Run) (k : ℕ) (t : Answer) → TurnHolds r k new t → IsSome (replay_of new) → (t ≡ turn.Full → ⊥) → RunsAlong r new (Turn k ∷ [])
+turned r new k turn.Ended h defined full =
+    subst (λ x. RunsAlong r x (Turn k ∷ [])) (sym h.0) (no_step r (Turn k) (h.1.0, h.1.1, ended_waits (world_of_scene r.world).classes h.1.0 k h.1.2))
+turned r new k turn.Full h defined full = absurd (full refl)
+turned r new k turn.Stepped h defined full = stepped_once r new k h.1.0 h.0 h.1.1 h.1.2 defined
+
+pub full_same : (old new : Run) (k : ℕ) (t : Answer) → t ≡ turn.Full → TurnHolds old k new t → (new ≡ old) × (1000000 ≤ length new.journal)
+full_same old new k t e h = let g : TurnHolds old k new turn.Full = subst (TurnHolds old k new) e h in (g.0, subst (λ (r : Run). 1000000 ≤ length r.journal) (sym g.0) g.1)
+
+-- ---- threads that are not there
+
+missing : (s : State) (k : ℕ) → length s.threads < k → thread_at s k ≡ None
+missing s zero h = refl
+missing s (suc i) h = slice_get_past s.threads i (omega (arith, h))
+
+pub missing_waits : (classes : Classes) (s : State) (k : ℕ) → length s.threads < k → can_step classes s k ≡ false
+missing_waits classes s k h =
+    and_left (is_none s.stop && is_live (thread_at s k)) (not (is_waiting classes k s.shared (thread_at s k)))
+    (and_right (is_none s.stop) (is_live (thread_at s k)) (ap is_live (missing s k h)))
+
+-- ---- several words
+
+pub replicate_more : (word : ScheduleWord) (i : ℕ) → replicate (i + 1) word ≡ replicate i word ++ word ∷ []
+replicate_more word i = sym (replicate-append-replicate i 1 word)
+
+pub replicate_rest : (word : ScheduleWord) (i times : ℕ) → i ≤ times → replicate times word ≡ replicate i word ++ replicate (times - i) word
+replicate_rest word i times h = let e : i + (times - i) ≡ times = omega (arith, h) in sym (replicate-append-replicate i (times - i) word ∙ ap (λ n. replicate n word) e)
+
+-- the words of the repetitions up to a place
+abbrev pub words_to : List Repetition → ℕ → Schedule
+words_to reps i = flat_map repeated_words (take i reps)
+
+pub words_more : (reps : List Repetition) (i : ℕ) (x : Repetition) → slice_get reps i ≡ Some x → words_to reps (i + 1) ≡ words_to reps i ++ repeated_words x
+words_more reps i x at = ap (flat_map repeated_words) (take_one reps i x at) ∙ flat_map-append repeated_words (take i reps) (x ∷ []) ∙ ap (λ (w : Schedule). words_to reps i ++ w) (flat_map-cons repeated_words x [] ∙ append-nil (repeated_words x))
+  where
+    take_one : (reps : List Repetition) (i : ℕ) (x : Repetition) → slice_get reps i ≡ Some x → take (i + 1) reps ≡ take i reps ++ x ∷ []
+    take_one [] i x h = absurd (cc)
+    take_one (y ∷ reps) zero x h = let same : y ≡ x = cc in ap (λ (z : Repetition). z ∷ []) same
+    take_one (y ∷ reps) (suc i) x h = let e : suc i + 1 ≡ suc (i + 1) = omega arith in rw e (ap (λ (l : List Repetition). y ∷ l) (take_one reps i x h))
+
+pub words_all : (reps : List Repetition) (i : ℕ) → flat_map repeated_words reps ≡ words_to reps i ++ flat_map repeated_words (drop i reps)
+words_all reps i = ap (flat_map repeated_words) (sym (take-append-drop i reps)) ∙ flat_map-append repeated_words (take i reps) (drop i reps)
+
+pub words_past : (reps : List Repetition) (i : ℕ) → length reps ≤ i → words_to reps i ≡ flat_map repeated_words reps
+words_past reps i h = ap (flat_map repeated_words) (take_all i reps h)
+
+-- one repetition more
+pub one_repetition : (a b c : Run) (reps : List Repetition) (i : ℕ) (d : Repetition) → i < length reps → RunsAlong a b (words_to reps i) → RunsAlong b c (repeated_words (get_or reps i d)) → RunsAlong a c (words_to reps (i + 1))
+one_repetition a b c reps i d h p q =
+    subst (λ (w : Schedule). RunsAlong a c w) (sym (words_more reps i (get_or reps i d) (slice_get-get_or reps i d h))) (along_both a b c (words_to reps i) (repeated_words (get_or reps i d)) p q)
+
+-- a beginning of one repetition more
+pub part_of_repetition : (a b c : Run) (reps : List Repetition) (i : ℕ) (d : Repetition) (schedule : Schedule) → flat_map repeated_words reps ≡ schedule → i < length reps → RunsAlong a b (words_to reps i) → RunsInto b c (repeated_words (get_or reps i d)) → RunsInto a c schedule
+part_of_repetition a b c reps i d schedule whole h p q =
+    subst (λ (w : Schedule). RunsInto a c w) (sym (words_all reps (i + 1)) ∙ whole)
+    (into_more a c (words_to reps (i + 1)) (flat_map repeated_words (drop (i + 1) reps))
+    (subst (λ (w : Schedule). RunsInto a c w) (sym (words_more reps i (get_or reps i d) (slice_get-get_or reps i d h))) (along_into a b c (words_to reps i) (repeated_words (get_or reps i d)) p q)))

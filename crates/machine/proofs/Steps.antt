@@ -1,0 +1,111 @@
+-- A step of the machine is a step of the state that its journal leads to.
+use Rattle.std.proofs.Common.{◌≡◌, ℕ, zero, suc, ◌+◌, ◌<◌, ◌≤◌, true, false, List, [], ◌∷◌, ◌++◌, length, Option, Some, None, refl, sym, ap, ◌∙◌, subst, arith}
+use Rattle.std.specs.Prelude.{slice_get, slice_set}
+use Rattle.std.proofs.Math.ListN.{length-set}
+use Rattle.syntax.specs.Views.{unit_tree}
+use Rattle.classes.specs.Class.{Classes}
+use Rattle.world.specs.declared.journal.Entry.{Entry}
+use Rattle.world.specs.declared.report.Printed.{Printed}
+use Rattle.world.specs.Scene.{Scene}
+use Rattle.world.specs.SceneWorld.{world_of_scene}
+use Rattle.world.specs.World.{World}
+use Rattle.regions.specs.State.{State, thread_at, set_thread, lent, with_event, advanced}
+use Rattle.regions.specs.Step.{can_step, is_unfinished, world_step}
+use Rattle.regions.specs.Thread as source
+use Rattle.regions.specs.Thread.{Lent, Shared}
+use Rattle.regions.proofs.RunLaws.{replay_more}
+use Rattle.regions.proofs.StepLaws.{Steps, steps, step-thread}
+use Rattle.lower.specs.Lowered.{Lowered}
+use Rattle.machine.specs.declared.thread.Ending.TheVariants.{Unfinished, Ended}
+use Rattle.machine.specs.declared.thread.Event.{Event}
+use Rattle.machine.specs.declared.thread.Event.TheVariants as event
+use Rattle.machine.specs.declared.thread.Thread.{Thread}
+use Rattle.machine.specs.Agrees.{ThreadAgrees, ThreadsAgree, Advances, ending_view, event_view}
+use Rattle.machine.specs.Run.{Corresponds, printed_after, entry_of, HasEnded}
+use Rattle.machine.proofs.Threads.{unblocked}
+
+-- one thread of several
+pub record Found (p : Lowered) (classes : Classes) (t : Thread) (ss : List source.Thread) (i : ℕ) : Type 0 where
+  pub source : source.Thread
+  pub is : slice_get ss i ≡ Some source
+  pub agrees : ThreadAgrees p classes t source
+
+pub found : (p : Lowered) (classes : Classes) (ts : List Thread) (ss : List source.Thread) (i : ℕ) (t : Thread) → ThreadsAgree p classes ts ss → slice_get ts i ≡ Some t → Found p classes t ss i
+found p classes [] [] i t h e = absurd (cc)
+found p classes [] (s ∷ ss) i t h e = absurd h
+found p classes (x ∷ ts) [] i t h e = absurd h
+found p classes (x ∷ ts) (s ∷ ss) zero t h e = record { source = s; is = refl; agrees = let same : x ≡ t = cc in subst (λ y. ThreadAgrees p classes y s) same h.0 }
+found p classes (x ∷ ts) (s ∷ ss) (suc i) t h e = let f = found p classes ts ss i t h.1 e in record { source = f.source; is = f.is; agrees = f.agrees }
+
+changed : (p : Lowered) (classes : Classes) (ts : List Thread) (ss : List source.Thread) (i : ℕ) (t : Thread) (s : source.Thread) → ThreadsAgree p classes ts ss → ThreadAgrees p classes t s → ThreadsAgree p classes (slice_set ts i t) (slice_set ss i s)
+changed p classes [] [] i t s h a = tt
+changed p classes [] (y ∷ ss) i t s h a = absurd h
+changed p classes (x ∷ ts) [] i t s h a = absurd h
+changed p classes (x ∷ ts) (y ∷ ss) zero t s h a = (a, h.1)
+changed p classes (x ∷ ts) (y ∷ ss) (suc i) t s h a = (h.0, changed p classes ts ss i t s h.1 a)
+
+-- ---- what a step changes
+
+-- the state after a step of thread k that leaves the shared state as it was
+abbrev pub next_state : State → ℕ → source.Thread → Event → State
+next_state s k t e = with_event (record s { threads = set_thread s.threads k t }) k (event_view e)
+
+printed_next : (s : State) (k : ℕ) (t : source.Thread) (e : Event) → (next_state s k t e).printed ≡ printed_after s.printed k e
+printed_next s k t event.Quiet = refl
+printed_next s k t (event.Printed z) = refl
+
+stop_next : (s : State) (k : ℕ) (t : source.Thread) (e : Event) → (next_state s k t e).stop ≡ s.stop
+stop_next s k t event.Quiet = refl
+stop_next s k t (event.Printed z) = refl
+
+shared_next : (s : State) (k : ℕ) (t : source.Thread) (e : Event) → (next_state s k t e).shared ≡ s.shared
+shared_next s k t event.Quiet = refl
+shared_next s k t (event.Printed z) = refl
+
+threads_next : (s : State) (k : ℕ) (t : source.Thread) (e : Event) → (next_state s k t e).threads ≡ set_thread s.threads k t
+threads_next s k t event.Quiet = refl
+threads_next s k t (event.Printed z) = refl
+
+-- ---- thread k of the state that the journal leads to, which is the machine's at i
+
+module _ (p : Lowered) (scene : Scene) (ts : List Thread) (printed : List Printed) (journal : List Entry) (c : Corresponds p scene ts printed journal) (k i : ℕ) (t : Thread) (counted : k ≡ suc i) (at : slice_get ts i ≡ Some t) where
+  abbrev pub classes : Classes
+  classes = (world_of_scene scene).classes
+
+  pub the_thread : Found p classes t c.state.threads i
+  the_thread = found p classes ts c.state.threads i t c.threads_agree at
+
+  there : thread_at c.state k ≡ Some the_thread.source
+  there = ap (thread_at c.state) counted ∙ the_thread.is
+
+  steps_here : t.ending ≡ Unfinished → Steps classes c.state k the_thread.source
+  steps_here live = steps classes c.state k the_thread.source c.running there (the_thread.agrees.ending ∙ ap ending_view live) (unblocked p classes k c.state.shared t the_thread.source c.lowered the_thread.agrees)
+
+  pub can_turn_here : t.ending ≡ Unfinished → can_step classes c.state k ≡ true
+  can_turn_here live = (steps_here live).can
+
+  pub has_ended : t.ending ≡ Ended → HasEnded c.state k
+  has_ended ended = record { running = c.running; thread = the_thread.source; is = there; ended = ap is_unfinished (the_thread.agrees.ending ∙ ap ending_view ended) }
+
+  -- the machine after the step
+  pub steps_on : (after : Thread) (e : Event) → t.ending ≡ Unfinished
+      → ((classes : Classes) (lent : Lent) (k : ℕ) (shared : Shared) (s : source.Thread) → shared.monitors ≡ [] → ThreadAgrees p classes t s → t.ending ≡ Unfinished → Advances p classes lent k shared s after e)
+      → Corresponds p scene (slice_set ts i after) (printed_after printed k e) (journal ++ entry_of k ∷ [])
+  steps_on after e live advances =
+      let f = the_thread in
+      let a = advances classes (lent c.state) k c.state.shared f.source c.monitors f.agrees live in
+      let next = next_state c.state k a.next e in
+      let step : world_step (unit_tree p.unit) classes c.state (entry_of k) ≡ Some next =
+      step-thread (unit_tree p.unit) classes c.state k f.source false (steps_here live) ∙ ap (advanced c.state k) a.steps in
+      record {
+        lowered = c.lowered;
+        state = next;
+        replays = replay_more (unit_tree p.unit) (world_of_scene scene) journal (entry_of k) c.state next c.replays step;
+        threads_agree = subst (ThreadsAgree p classes (slice_set ts i after)) (sym (threads_next c.state k a.next e ∙ ap (λ n. set_thread c.state.threads n a.next) counted)) (changed p classes ts c.state.threads i after a.next c.threads_agree a.agrees);
+        same_printed = printed_next c.state k a.next e ∙ ap (λ l. printed_after l k e) c.same_printed;
+        running = stop_next c.state k a.next e ∙ c.running;
+        heap = ap (λ (x : Shared). x.heap) (shared_next c.state k a.next e) ∙ c.heap;
+        monitors = ap (λ (x : Shared). x.monitors) (shared_next c.state k a.next e) ∙ c.monitors;
+        count = length-set ts i after ∙ c.count;
+        few = subst (λ n. n ≤ 8) (sym (length-set ts i after)) c.few;
+      }

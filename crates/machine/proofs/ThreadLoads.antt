@@ -1,0 +1,90 @@
+-- The threads of a world that load, and the first call that doesn't.
+use Rattle.std.proofs.Common.{◌≡◌, ℕ, zero, suc, ◌+◌, ◌<◌, ◌≤◌, List, [], ◌∷◌, ◌++◌, length, drop, map, Option, Some, None, refl, sym, ap, ◌∙◌, subst, arith, append_assoc, append-nil}
+use Rattle.std.specs.Prelude.{slice_get, flat_map}
+use Rattle.std.specs.Global.{Vec}
+use Rattle.std.proofs.lemmas.List.Concat.{flat_map-cons}
+use Rattle.std.proofs.Math.ListN.{drop_of_length-le}
+use Rattle.syntax.specs.Tree.{SourceUnit}
+use Rattle.classes.specs.Class.{Classes}
+use Rattle.world.specs.Scene.{CallScene}
+use Rattle.world.specs.SceneWorld.{invocation_of}
+use Rattle.world.specs.World.{Invocation}
+use Rattle.regions.specs.Start.{waiting_thread}
+use Rattle.regions.specs.Thread as source
+use Rattle.lower.specs.Lowered.{Lowered}
+use Rattle.machine.specs.declared.fault.LoadFault.{LoadFault}
+use Rattle.machine.specs.declared.fault.LoadFault.TheVariants.{DoesNotFit, Memory}
+use Rattle.machine.specs.declared.thread.Thread.{Thread}
+use Rattle.machine.specs.Agrees.{ThreadAgrees, ThreadsAgree}
+use Rattle.machine.specs.Loading.{IsFirstOf, refused_calls}
+
+-- the calls of each thread in memory
+abbrev pub called : List (Vec CallScene) → List (List Invocation)
+called ts = map (λ (t : Vec CallScene). map invocation_of t.items) ts
+
+two_maps : (ts : List (Vec CallScene)) → called ts ≡ map (λ calls. map invocation_of calls) (map (λ t. t.items) ts)
+two_maps [] = refl
+two_maps (t ∷ ts) = ap (λ (xs : List (List Invocation)). map invocation_of t.items ∷ xs) (two_maps ts)
+
+pub called_is : (ts : List (Vec CallScene)) (threads : List (List CallScene)) → map (λ t. t.items) ts ≡ threads → called ts ≡ map (λ calls. map invocation_of calls) threads
+called_is ts threads e = two_maps ts ∙ ap (λ (xs : List (List CallScene)). map (λ calls. map invocation_of calls) xs) e
+
+-- the threads from a place on
+threads_drop : (ts : List (Vec CallScene)) (i : ℕ) (x : Vec CallScene) → slice_get ts i ≡ Some x → drop i ts ≡ x ∷ drop (i + 1) ts
+threads_drop [] i x h = absurd (cc)
+threads_drop (y ∷ ts) zero x h = let same : y ≡ x = cc in ap (λ (z : Vec CallScene). z ∷ ts) same
+threads_drop (y ∷ ts) (suc i) x h = let e : suc i + 1 ≡ suc (i + 1) = omega arith in rw e (threads_drop ts i x h)
+
+-- ---- threads that agree
+
+abbrev pub AgreeSoFar : Lowered → Classes → List (Vec CallScene) → (i : ℕ) → List Thread → Type 0
+AgreeSoFar p classes ts i threads = (rest : List Thread) → ThreadsAgree p classes rest (map waiting_thread (called (drop i ts))) → ThreadsAgree p classes (threads ++ rest) (map waiting_thread (called ts))
+
+pub one_more : (p : Lowered) (classes : Classes) (ts : List (Vec CallScene)) (i : ℕ) (x : Vec CallScene) (t : Thread) (threads : List Thread) → slice_get ts i ≡ Some x → ThreadAgrees p classes t (waiting_thread (map invocation_of x.items)) → AgreeSoFar p classes ts i threads → AgreeSoFar p classes ts (i + 1) (threads ++ t ∷ [])
+one_more p classes ts i x t threads at a so_far rest h =
+    subst (λ (l : List Thread). ThreadsAgree p classes l (map waiting_thread (called ts))) (sym (append_assoc threads (t ∷ []) rest))
+    (so_far (t ∷ rest) (subst (λ (us : List (Vec CallScene)). ThreadsAgree p classes (t ∷ rest) (map waiting_thread (called us))) (sym (threads_drop ts i x at)) (a, h)))
+
+pub all_agree : (p : Lowered) (classes : Classes) (ts : List (Vec CallScene)) (i : ℕ) (threads : List Thread) → length ts ≤ i → AgreeSoFar p classes ts i threads → ThreadsAgree p classes threads (map waiting_thread (called ts))
+all_agree p classes ts i threads past so_far =
+    let none : ThreadsAgree p classes [] (map waiting_thread (called (drop i ts))) = rw (drop_of_length-le ts past) tt in
+    subst (λ (n : List Thread). ThreadsAgree p classes n (map waiting_thread (called ts))) (append-nil threads) (so_far [] none)
+
+-- ---- calls that don't load
+
+-- the calls of these threads that don't load
+abbrev pub refused_of : SourceUnit → Classes → List (Vec CallScene) → List Invocation
+refused_of unit classes ts = flat_map (refused_calls unit classes) (called ts)
+
+first : (a b : List Invocation) (e : LoadFault) → IsFirstOf a e → IsFirstOf (a ++ b) e
+first [] b (DoesNotFit line) h = absurd (cc)
+first (x ∷ a) b (DoesNotFit line) h = h
+first a b Memory h = tt
+
+module _ (unit : SourceUnit) (classes : Classes) (ts : List (Vec CallScene)) (i : ℕ) (x : Vec CallScene) (at : slice_get ts i ≡ Some x) where
+  here : refused_of unit classes (drop i ts) ≡ refused_calls unit classes (map invocation_of x.items) ++ refused_of unit classes (drop (i + 1) ts)
+  here = ap (refused_of unit classes) (threads_drop ts i x at) ∙ flat_map-cons (refused_calls unit classes) (map invocation_of x.items) (called (drop (i + 1) ts))
+
+  pub loads_at : refused_calls unit classes (map invocation_of x.items) ≡ [] → refused_of unit classes (drop i ts) ≡ refused_of unit classes (drop (i + 1) ts)
+  loads_at none = here ∙ ap (λ (l : List Invocation). l ++ refused_of unit classes (drop (i + 1) ts)) none
+
+  pub refused_at : (e : LoadFault) → IsFirstOf (refused_calls unit classes (map invocation_of x.items)) e → IsFirstOf (refused_of unit classes (drop i ts)) e
+  refused_at e h = subst (λ (l : List Invocation). IsFirstOf l e) (sym here) (first (refused_calls unit classes (map invocation_of x.items)) (refused_of unit classes (drop (i + 1) ts)) e h)
+
+pub none_refused : (unit : SourceUnit) (classes : Classes) (ts : List (Vec CallScene)) (i : ℕ) → length ts ≤ i → refused_of unit classes (drop i ts) ≡ []
+none_refused unit classes ts i past = ap (refused_of unit classes) (drop_of_length-le ts past)
+
+-- as many threads as agree
+pub agree_length : (p : Lowered) (classes : Classes) (ts : List Thread) (ss : List source.Thread) → ThreadsAgree p classes ts ss → length ts ≡ length ss
+agree_length p classes [] [] h = refl
+agree_length p classes [] (s ∷ ss) h = absurd h
+agree_length p classes (t ∷ ts) [] h = absurd h
+agree_length p classes (t ∷ ts) (s ∷ ss) h = ap suc (agree_length p classes ts ss h.1)
+
+pub waiting_length : (threads : List (List CallScene)) → length (map waiting_thread (map (λ calls. map invocation_of calls) threads)) ≡ length threads
+waiting_length [] = refl
+waiting_length (t ∷ threads) = ap suc (waiting_length threads)
+
+pub items_length : (ts : List (Vec CallScene)) → length (map (λ t. t.items) ts) ≡ length ts
+items_length [] = refl
+items_length (t ∷ ts) = ap suc (items_length ts)

@@ -1,0 +1,11 @@
+use Rattle.std.proofs.Common.{◌≡◌, drop}
+use Rattle.syntax.specs.Views.{unit_tree}
+use Rattle.world.specs.SceneWorld.{world_of_scene}
+use Rattle.machine.proofs.ThreadLoads.{AgreeSoFar, refused_of}
+use Rattle.machine.proofs.load.load_threads.Given as goal
+
+abbrev pub invariant-loop-calls : goal.invariant-loop-calls
+invariant-loop-calls l = record {
+  agree : AgreeSoFar l.program (world_of_scene l.world).classes l.calls-items l.calls-index l.threads.items;
+  all : refused_of (unit_tree l.program.unit) (world_of_scene l.world).classes l.calls-items ≡ refused_of (unit_tree l.program.unit) (world_of_scene l.world).classes (drop l.calls-index l.calls-items);
+}

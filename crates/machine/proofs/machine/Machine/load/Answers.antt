@@ -1,0 +1,24 @@
+use Rattle.std.proofs.Common.{◌≡◌, ◌≤◌, length, refl, sym, ap, ◌∙◌, subst, arith}
+use Rattle.syntax.specs.Views.{unit_tree}
+use Rattle.world.specs.SceneWorld.{world_of_scene}
+use Rattle.regions.specs.Start.{start}
+use Rattle.machine.proofs.ThreadLoads.{agree_length, waiting_length, items_length}
+use Rattle.machine.proofs.machine.Machine.load.Goals as goal
+
+pub invariant_of-result : goal.invariant_of-result
+invariant_of-result c =
+    let w = world_of_scene c.args.world in
+    let count : length c.in-Ok.threads.items ≡ length c.args.world.threads = agree_length _ _ _ _ c.in-Ok.ensures.agree ∙ waiting_length c.args.world.threads in
+    let long : length c.args.world.threads ≡ length c.threads.result.now = sym (ap length c.threads.ensures.calls) ∙ items_length c.threads.result.now in
+    record {
+      lowered = c.unit.ensures.lowered;
+      state = start (unit_tree c.args.program.unit) w;
+      replays = rw c.new-in-Ok.ensures.items refl;
+      threads_agree = c.in-Ok.ensures.agree;
+      same_printed = sym c.new.ensures.items;
+      running = refl;
+      heap = refl;
+      monitors = refl;
+      count = count;
+      few = omega (arith, count, long, c.threads.ensures.few);
+    }

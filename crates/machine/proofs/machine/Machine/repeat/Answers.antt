@@ -1,0 +1,24 @@
+use Rattle.std.proofs.Common.{◌≡◌, ◌≤◌, ◌-◌, ◌∷◌, [], sym, ap, subst, replicate, arith, IsSome, refl}
+use Rattle.world.specs.Schedule.{Schedule}
+use Rattle.machine.specs.Run.{Run, RunsAlong, RunsInto, replay_of}
+use Rattle.machine.proofs.Runs.{none_yet, along_both, all_taken, into_more, replicate_more, replicate_rest}
+use Rattle.machine.proofs.machine.Machine.repeat.Goals as goal
+
+pub loop-taken-init : goal.loop-taken-init
+loop-taken-init c =
+    let runs : IsSome (replay_of c.args.self.now) = subst (λ (r : Run). IsSome (replay_of r)) c.self.view_is (rw c.self.invariant.replays refl) in
+    record { along = none_yet c.args.self.now runs; runs = runs }
+
+pub returns-in-Err-clause-err : goal.returns-in-Err-clause-err
+returns-in-Err-clause-err c =
+    let i = c.loop-taken._taken in
+    let here = subst (λ (r : Run). RunsAlong c.args.self.now r (replicate i c.args.word)) (sym c.in-Err.ensures.err) c.loop-taken.invariant.along in
+    subst (λ (w : Schedule). RunsInto c.args.self.now c.take_word.new.self w) (sym (replicate_rest c.args.word i c.args.times (omega arith)))
+    (into_more c.args.self.now c.take_word.new.self (replicate i c.args.word) (replicate (c.args.times - i) c.args.word) (all_taken _ _ _ here))
+
+pub loop-taken-preserved : goal.loop-taken-preserved
+loop-taken-preserved c = record {
+  along = subst (λ (w : Schedule). RunsAlong c.args.self.now c.take_word.new.self w) (sym (replicate_more c.args.word c.loop-taken._taken))
+      (along_both c.args.self.now c.loop-taken.self c.take_word.new.self (replicate c.loop-taken._taken c.args.word) (c.args.word ∷ []) c.loop-taken.invariant.along c.in-Ok.ensures.ok);
+  runs = c.in-Ok.ensures.runs;
+}

@@ -1,0 +1,40 @@
+-- What loading answers.
+use Rattle.std.specs.Prelude.{◌≡◌, ℕ, Bool, true, false, not, List, [], filter, map, Option, Some, None, slice_get}
+use Rattle.syntax.specs.Parts.{functions_of}
+use Rattle.syntax.specs.Tree.{Function, SourceUnit}
+use Rattle.syntax.specs.Views.{unit_tree}
+use Rattle.classes.specs.Class.{Classes}
+use Rattle.world.specs.World.{Invocation, World}
+use Rattle.regions.specs.Activation.{function_at}
+use Rattle.regions.specs.Load.{call_loads, first_load_fault}
+use Rattle.lower.specs.Lowered.{Lowered}
+use Rattle.machine.specs.declared.fault.LoadFault.{LoadFault}
+use Rattle.machine.specs.declared.fault.LoadFault.TheVariants.{DoesNotFit, Memory}
+use Rattle.machine.specs.Agrees.{CallAgrees}
+
+-- the place of the function of a name
+pub record IsNumberOf (p : Lowered) (name : List ℕ) (number : ℕ) : Type 0 where
+  pub function : Function
+  pub named : function_at (unit_tree p.unit) name ≡ Some function
+  pub numbered : slice_get (functions_of (unit_tree p.unit)) number ≡ Some function
+  pub has_name : function.name ≡ name
+  pub no_parameters : function.parameters ≡ []
+
+-- a call's function by its number, or none where the call doesn't load
+abbrev pub IsCallOf : Lowered → Classes → Invocation → Option ℕ → Type 0
+IsCallOf p classes call None = call_loads (unit_tree p.unit) classes call ≡ false
+IsCallOf p classes call (Some number) = CallAgrees p classes number call × (call_loads (unit_tree p.unit) classes call ≡ true)
+
+-- the calls that don't load
+abbrev pub refused_calls : SourceUnit → Classes → List Invocation → List Invocation
+refused_calls unit classes calls = filter (λ c. not (call_loads unit classes c)) calls
+
+-- the fault's line is that of the first of these
+abbrev pub IsFirstOf : List Invocation → LoadFault → Type 0
+IsFirstOf calls (DoesNotFit line) = slice_get (map (λ (c : Invocation). c.line) calls) 0 ≡ Some line
+IsFirstOf calls Memory = Unit {0}
+
+-- why a world was not loaded
+abbrev pub IsLoadFault : SourceUnit → World → LoadFault → Type 0
+IsLoadFault unit w (DoesNotFit line) = first_load_fault unit w ≡ Some line
+IsLoadFault unit w Memory = Unit {0}

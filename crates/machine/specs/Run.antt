@@ -1,0 +1,138 @@
+-- A run, as its program, its world and the steps taken.
+use Rattle.std.specs.Prelude.{◌≡◌, ℕ, ◌<◌, ◌≤◌, Bool, true, false, is_none, List, [], ◌∷◌, ◌++◌, length, map, Option, Some, None, Result}
+use Rattle.syntax.specs.declared.unit.Item.{Item}
+use Rattle.syntax.specs.Views.{unit_tree}
+use Rattle.world.specs.declared.journal.Entry.{Entry}
+use Rattle.world.specs.declared.report.Printed.{Printed}
+use Rattle.world.specs.declared.report.Standing.{Standing}
+use Rattle.world.specs.declared.report.Standing.TheVariants as standing
+use Rattle.world.specs.declared.schedule.ScheduleWord.{ScheduleWord}
+use Rattle.world.specs.declared.schedule.ScheduleWord.TheVariants.{Turn, Collect}
+use Rattle.world.specs.Scene.{Scene}
+use Rattle.world.specs.SceneWorld.{world_of_scene}
+use Rattle.world.specs.Schedule.{Schedule}
+use Rattle.world.specs.Sink as sink
+use Rattle.world.specs.Sink.{Written}
+use Rattle.world.specs.World.{World, loaded_objects}
+use Rattle.regions.specs.Run as source
+use Rattle.regions.specs.Run.{replay, Follows}
+use Rattle.regions.specs.State.{State, thread_at}
+use Rattle.regions.specs.Step.{can_step, is_unfinished}
+use Rattle.regions.specs.Thread.{Thread as SourceThread}
+use Rattle.lower.specs.Lowered.{Lowered, IsLowered}
+use Rattle.machine.specs.declared.thread.Thread.{Thread}
+use Rattle.machine.specs.declared.thread.Ending.{Ending}
+use Rattle.machine.specs.declared.thread.Ending.TheVariants.{Unfinished, Ended}
+use Rattle.machine.specs.declared.thread.Event.{Event}
+use Rattle.machine.specs.declared.thread.Event.TheVariants as event
+use Rattle.machine.specs.declared.turn.Turn.{Turn as Answer}
+use Rattle.machine.specs.declared.turn.Turn.TheVariants as turn
+use Rattle.machine.specs.Agrees.{ThreadsAgree}
+
+-- a program's items, the world in memory and the steps taken
+pub record Run : Type 0 where
+  pub unit : List Item
+  pub world : Scene
+  pub journal : List Entry
+
+-- the state that the journal leads to
+abbrev pub replay_of : Run → Option State
+replay_of r = replay (unit_tree r.unit) (world_of_scene r.world) r.journal
+
+-- a run of this program on this world before its first step
+pub record IsUnstarted (unit : List Item) (scene : Scene) (r : Run) : Type 0 where
+  pub of_unit : r.unit ≡ unit
+  pub on_world : r.world ≡ scene
+  pub unstarted : r.journal ≡ []
+
+-- The machine stands for the state that its journal leads to.
+pub record Corresponds (p : Lowered) (scene : Scene) (threads : List Thread) (printed : List Printed) (journal : List Entry) : Type 0 where
+  pub lowered : IsLowered p
+  pub state : State
+  pub replays : replay (unit_tree p.unit) (world_of_scene scene) journal ≡ Some state
+  pub threads_agree : ThreadsAgree p (world_of_scene scene).classes threads state.threads
+  pub same_printed : state.printed ≡ printed
+  -- no instruction traps, allocates or enters a monitor yet
+  pub running : state.stop ≡ None
+  pub heap : state.shared.heap ≡ loaded_objects (world_of_scene scene)
+  pub monitors : state.shared.monitors ≡ []
+  pub count : length threads ≡ length scene.threads
+  pub few : length threads ≤ 8
+
+-- the numbers printed after a step
+abbrev pub printed_after : List Printed → ℕ → Event → List Printed
+printed_after printed k event.Quiet = printed
+printed_after printed k (event.Printed z) = printed ++ record { thread = k; number = z } ∷ []
+
+-- ---- turns
+
+-- a fact of the state that the journal leads to
+abbrev pub InState : Run → (State → Type 0) → Type 0
+InState r P = (s : State) × (replay_of r ≡ Some s) × P s
+
+-- whether thread k can step in a state of the run
+abbrev pub can_turn : Run → State → ℕ → Bool
+can_turn r s k = can_step (world_of_scene r.world).classes s k
+
+-- thread k has ended, and no trap has stopped the machine
+pub record HasEnded (s : State) (k : ℕ) : Type 0 where
+  pub running : s.stop ≡ None
+  pub thread : SourceThread
+  pub is : thread_at s k ≡ Some thread
+  pub ended : is_unfinished thread.ending ≡ false
+
+-- a step of thread k
+abbrev pub entry_of : ℕ → Entry
+entry_of k = record { thread = k; refused = false }
+
+-- the run with a step of thread k more
+abbrev pub stepped : Run → ℕ → Run
+stepped r k = record r { journal = r.journal ++ entry_of k ∷ [] }
+
+-- what a turn of thread k was
+abbrev pub TurnHolds : Run → ℕ → Run → Answer → Type 0
+TurnHolds old k new turn.Ended = (new ≡ old) × InState old (λ s. HasEnded s k)
+TurnHolds old k new turn.Full = (new ≡ old) × (1000000 ≤ length old.journal) × InState old (λ s. can_turn old s k ≡ true)
+TurnHolds old k new turn.Stepped = (new ≡ stepped old k) × InState old (λ s. can_turn old s k ≡ true)
+
+-- the numbers printed so far
+abbrev pub PrintedBy : Run → List Printed → Type 0
+PrintedBy r printed = InState r (λ s. printed ≡ s.printed)
+
+-- ---- runs
+
+-- a word of a schedule that gives no step of the run
+abbrev pub GivesNoStep : Run → ScheduleWord → Type 0
+GivesNoStep r Collect = InState r (λ s. Unit {0})
+GivesNoStep r (Turn k) = InState r (λ s. can_turn r s k ≡ false)
+
+-- The steps taken follow the schedule.
+pub record RunsAlong (old new : Run) (schedule : Schedule) : Type 0 where
+  pub same_unit : new.unit ≡ old.unit
+  pub same_world : new.world ≡ old.world
+  pub steps : List Entry
+  pub journal : new.journal ≡ old.journal ++ steps
+  pub before : State
+  pub replays : replay_of old ≡ Some before
+  pub after : State
+  pub follows : Follows (unit_tree old.unit) (world_of_scene old.world) before steps schedule after
+
+-- the steps of a beginning of the schedule were taken
+pub record RunsInto (old new : Run) (schedule : Schedule) : Type 0 where
+  pub taken : Schedule
+  pub left : Schedule
+  pub is : schedule ≡ taken ++ left
+  pub along : RunsAlong old new taken
+
+-- ---- reports
+
+-- how a thread stands
+abbrev pub standing_by_ending : Ending → Standing
+standing_by_ending Unfinished = standing.Running
+standing_by_ending Ended = standing.Ended
+
+-- what a run writes in all was written, or a beginning of it
+pub record WritesRun {T E : Type 0} (r : Run) (old new : Written) (result : Result T E) : Type 0 where
+  pub text : List ℕ
+  pub is : source.Writes (unit_tree r.unit) (world_of_scene r.world) r.journal text
+  pub written : sink.Writes old new result text

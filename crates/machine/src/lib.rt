@@ -1,0 +1,12 @@
+//! The machine, which runs lowered programs on their worlds.
+#![tactic(auto)]
+
+mod fault;
+mod load;
+mod machine;
+mod thread;
+mod turn;
+
+pub use fault::{LoadFault, RunFault};
+pub use machine::{MOST_ENTRIES, Machine};
+pub use turn::Turn;

@@ -1,0 +1,229 @@
+//! The machine.
+
+ghost use Rattle.std.specs.Prelude.{◌≡◌, ℕ, ◌+◌, ◌<◌, ◌≤◌, [], ◌∷◌, ◌++◌, length, map, replicate, take, IfOk, IfErr, OnOk, OnErr, IfSome, IfNone, IsSome, Err, None, vec_len, vec_capacity};
+ghost use Rattle.syntax.specs.Views.{unit_tree};
+ghost use Rattle.world.specs.SceneWorld.{world_of_scene};
+ghost use Rattle.world.specs.Sink.{CanFail};
+ghost use Rattle.regions.specs.Load.{first_load_fault};
+ghost use Rattle.machine.specs.Loading.{IsLoadFault};
+ghost use Rattle.machine.specs.Run.{replay_of, IsUnstarted, TurnHolds, RunsAlong, RunsInto, PrintedBy, WritesRun, GivesNoStep, printed_after, standing_by_ending};
+
+use crate::fault::{LoadFault, RunFault};
+use crate::load::load_threads;
+use crate::thread::{Ending, Event, Thread, advance};
+use crate::turn::Turn;
+use arrayvec::ArrayVec;
+use lower::Program;
+use std::alloc::{AllocError, Global};
+use std::marker::Model;
+use world::{Entry, Printed, Schedule, ScheduleWord, Sink, SinkFailed, Standing, World, write_run};
+
+/// How many entries a journal has at most.
+pub const MOST_ENTRIES: usize = 1_000_000;
+
+/// A lowered program on a world, with the steps that were taken. It stands for the replay of its journal.
+#[derive(Drop)]
+pub struct Machine<'a> {
+    program: Program<'a>,
+    world: World,
+    threads: Vec<Thread>,
+    printed: Vec<Printed>,
+    journal: Vec<Entry>,
+}
+
+impl<'a> Model for Machine<'a> {
+    ghost use Rattle.std.specs.Coded.{codes as all_codes};
+    ghost use Rattle.syntax.specs.contracts.unit.Item as item;
+    ghost use Rattle.machine.specs.Run.{Run, Corresponds};
+
+    ghost Value = { Run };
+
+    ghost coded = { Prim.hlevel (all_codes, item.the_row.coded) };
+
+    ghost view = { λ m. record { unit = m.program.unit; world = m.world; journal = m.journal.items } };
+
+    ghost invariant = { λ m. Corresponds m.program m.world m.threads.items m.printed.items m.journal.items };
+}
+
+impl<'a> Machine<'a> {
+    /// A machine before its first step.
+    ///
+    /// Fault 82 exactly where a call of the world doesn't fit the program: its function or the function's class is
+    /// unknown, or the arguments don't fit the parameters in number and kind.
+    pub fn load(alloc: Global, program: Program<'a>, world: World) -> Result<Machine<'a>, LoadFault>
+        ensures ok { IfOk result (IsUnstarted program.entry.unit world) }
+        ensures fits { OnOk result (first_load_fault (unit_tree program.entry.unit) (world_of_scene world) ≡ None) }
+        ensures fault { IfErr result (IsLoadFault (unit_tree program.entry.unit) (world_of_scene world)) }
+    {
+        let _ = program.unit();
+        let _ = world.threads();
+        match load_threads(alloc, &program, &world) {
+            Ok(threads) => Ok(Machine {
+                program,
+                world,
+                threads,
+                printed: Vec::new(alloc),
+                journal: Vec::new(alloc),
+            }),
+            Err(fault) => Err(fault),
+        }
+    }
+
+    /// The steps taken so far.
+    pub fn journal(&self) -> &[Entry]
+        ensures entries { result.now ≡ self.now.journal }
+        ensures runs { IsSome (replay_of self.now) }
+    {
+        let _ = &self.world;
+        self.journal.as_slice()
+    }
+
+    /// The numbers printed so far.
+    pub fn lines(&self) -> &[Printed]
+        ensures { PrintedBy self.now result.now }
+    {
+        self.printed.as_slice()
+    }
+
+    /// Lets thread `k`, counted from 1, take one step. After an `Err` the same turn can be asked again.
+    pub fn step(&mut self, k: u8) -> Result<Turn, AllocError>
+        requires counted { 0 < k }
+        requires is_thread { k ≤ length self.old.world.threads }
+        ensures turn { IfOk result (TurnHolds self.old k self.new) }
+        ensures err { OnErr result (self.new ≡ self.old) }
+        ensures runs { IsSome (replay_of self.new) }
+    {
+        let index = usize::from(k) - 1;
+        if self.threads[index].ending == Ending::Ended {
+            return Ok(Turn::Ended);
+        }
+        if self.journal.len() >= MOST_ENTRIES {
+            return Ok(Turn::Full);
+        }
+        self.journal.reserve(1)?;
+        self.printed.reserve(1)?;
+        let event = advance(&self.program, &mut self.threads[index]);
+        note(&mut self.printed, k, event);
+        self.journal
+            .push(Entry {
+                thread: k,
+                refused: false,
+            })
+            .unwrap();
+        Ok(Turn::Stepped)
+    }
+
+    /// The thread of a schedule's word, where it is a turn of a thread that the world has.
+    fn turn_of(&self, word: ScheduleWord) -> Option<u8>
+        ensures turn { IfSome result (λ k. (word ≡ ScheduleWord.Turn k) × (0 < k) × (k ≤ length self.now.world.threads)) }
+        ensures none { IfNone result (GivesNoStep self.now word) }
+    {
+        let _ = &self.world;
+        match word {
+            ScheduleWord::Turn(k) if k > 0 && usize::from(k) <= self.threads.len() => Some(k),
+            _ => None,
+        }
+    }
+
+    /// Takes one word of a schedule.
+    fn take_word(&mut self, word: ScheduleWord) -> Result<(), RunFault>
+        ensures ok { OnOk result (RunsAlong self.old self.new (word ∷ [])) }
+        ensures err { OnErr result (self.new ≡ self.old) }
+        ensures full { result ≡ Err RunFault.Full → 1000000 ≤ length self.new.journal }
+        ensures runs { IsSome (replay_of self.new) }
+    {
+        let _ = &self.world;
+        let Some(k) = self.turn_of(word) else {
+            return Ok(());
+        };
+        match self.step(k) {
+            Err(_) => Err(RunFault::Memory),
+            Ok(turn) => match turn {
+                Turn::Full => Err(RunFault::Full),
+                _ => Ok(()),
+            },
+        }
+    }
+
+    /// Takes a word so many times.
+    fn repeat(&mut self, word: ScheduleWord, times: u32) -> Result<(), RunFault>
+        ensures ok { OnOk result (RunsAlong self.old self.new (replicate times word)) }
+        ensures err { OnErr result (RunsInto self.old self.new (replicate times word)) }
+        ensures full { result ≡ Err RunFault.Full → 1000000 ≤ length self.new.journal }
+        ensures runs { IsSome (replay_of self.new) }
+    {
+        let _ = &self.world;
+        for _taken in 0..times {
+            match self.take_word(word) {
+                Ok(()) => {}
+                Err(fault) => return Err(fault),
+            }
+        }
+        Ok(())
+    }
+
+    /// Lets the threads take steps in the order of the schedule. A collection and a turn of a thread that the world
+    /// lacks give none. After an `Err` the steps of a beginning of the schedule stay.
+    pub fn run(&mut self, schedule: &Schedule) -> Result<(), RunFault>
+        ensures ok { OnOk result (RunsAlong self.old self.new schedule.now) }
+        ensures err { OnErr result (RunsInto self.old self.new schedule.now) }
+        ensures full { result ≡ Err RunFault.Full → 1000000 ≤ length self.new.journal }
+        ensures runs { IsSome (replay_of self.new) }
+    {
+        let _ = &self.world;
+        for repetition in schedule.repetitions() {
+            match self.repeat(repetition.word, repetition.times) {
+                Ok(()) => {}
+                Err(fault) => return Err(fault),
+            }
+        }
+        Ok(())
+    }
+
+    /// Writes the report of the run and the line of its journal, and flushes the sink. It takes no host memory.
+    pub fn report<S: Sink>(&self, sink: &mut S) -> Result<(), SinkFailed>
+        requires { CanFail (S.written sink.old) }
+        ensures run { WritesRun self.now (S.written sink.old) (S.written sink.new) result }
+        ensures none_waits { OnOk result ((S.written sink.new).waiting ≡ 0) }
+    {
+        let standings = standings_of(&self.threads);
+        write_run(
+            sink,
+            self.printed.as_slice(),
+            standings.as_slice(),
+            self.journal.as_slice(),
+        )
+    }
+}
+
+/// Writes down what a step lets others see.
+fn note(printed: &mut Vec<Printed>, k: u8, event: Event)
+    requires { vec_len printed.old < vec_capacity printed.old }
+    ensures { printed.new.items ≡ printed_after printed.old.items k event }
+{
+    match event {
+        Event::Quiet => {}
+        Event::Printed(number) => printed.push(Printed { thread: k, number }).unwrap(),
+    }
+}
+
+/// How each thread stands.
+fn standings_of(threads: &[Thread]) -> ArrayVec<Standing, 8>
+    requires { length threads.now ≤ 8 }
+    ensures { result.items ≡ map (λ thread. standing_by_ending thread.ending) threads.now }
+{
+    let mut standings = ArrayVec::new();
+    for thread in threads {
+        standings.push(standing_of(thread.ending));
+    }
+    standings
+}
+
+fn standing_of(ending: Ending) -> Standing
+    ensures { result ≡ standing_by_ending ending }
+{
+    match ending {
+        Ending::Unfinished => Standing::Running,
+        Ending::Ended => Standing::Ended,
+    }
+}
