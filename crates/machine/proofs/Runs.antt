@@ -146,7 +146,7 @@ pub turned : (r new : Run) (k : ℕ) (t : Answer) → TurnHolds r k new t → Is
 turned r new k turn.Ended h defined full =
     subst (λ x. RunsAlong r x (Turn k ∷ [])) (sym h.0) (no_step r (Turn k) (h.1.0, h.1.1, ended_waits (world_of_scene r.world).classes h.1.0 k h.1.2))
 turned r new k turn.Full h defined full = absurd (full refl)
-turned r new k turn.Stepped h defined full = stepped_once r new k h.1.0 h.0 h.1.1 h.1.2 defined
+turned r new k turn.Stepped h defined full = stepped_once r new k h.2.0 h.0 h.2.1 h.2.2 defined
 
 pub full_same : (old new : Run) (k : ℕ) (t : Answer) → t ≡ turn.Full → TurnHolds old k new t → (new ≡ old) × (1000000 ≤ length new.journal)
 full_same old new k t e h = let g : TurnHolds old k new turn.Full = subst (TurnHolds old k new) e h in (g.0, subst (λ (r : Run). 1000000 ≤ length r.journal) (sym g.0) g.1)

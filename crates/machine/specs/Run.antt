@@ -93,7 +93,7 @@ stepped r k = record r { journal = r.journal ++ entry_of k ∷ [] }
 abbrev pub TurnHolds : Run → ℕ → Run → Answer → Type 0
 TurnHolds old k new turn.Ended = (new ≡ old) × InState old (λ s. HasEnded s k)
 TurnHolds old k new turn.Full = (new ≡ old) × (1000000 ≤ length old.journal) × InState old (λ s. can_turn old s k ≡ true)
-TurnHolds old k new turn.Stepped = (new ≡ stepped old k) × InState old (λ s. can_turn old s k ≡ true)
+TurnHolds old k new turn.Stepped = (new ≡ stepped old k) × (length old.journal < 1000000) × InState old (λ s. can_turn old s k ≡ true)
 
 -- the numbers printed so far
 abbrev pub PrintedBy : Run → List Printed → Type 0

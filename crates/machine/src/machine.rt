@@ -75,14 +75,14 @@ impl<'a> Machine<'a> {
         ensures runs { IsSome (replay_of self.now) }
     {
         let _ = &self.world;
-        self.journal.as_slice()
+        &self.journal
     }
 
     /// The numbers printed so far.
     pub fn lines(&self) -> &[Printed]
         ensures { PrintedBy self.now result.now }
     {
-        self.printed.as_slice()
+        &self.printed
     }
 
     /// Lets thread `k`, counted from 1, take one step. After an `Err` the same turn can be asked again.

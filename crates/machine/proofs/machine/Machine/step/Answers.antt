@@ -85,8 +85,10 @@ pub returns-clause-turn : goal.returns-clause-turn
 returns-clause-turn c =
     let i = c.self.inside in
     let count = threads_of _ _ _ c.self.invariant.count c.self.view_is in
-    let seen = thread_there c.self.inside.threads.items c.args.k c.from-index.result _ c.index.result.now c.from-index.ensures c.requires.counted c.requires.is_thread count c.index.ensures in (
+    let seen = thread_there c.self.inside.threads.items c.args.k c.from-index.result _ c.index.result.now c.from-index.ensures c.requires.counted c.requires.is_thread count c.index.ensures in
+    let room : length c.self.inside.journal.items < 1000000 = omega (arith, c.len.ensures, c.if-len-ge-MOST_ENTRIES.false) in (
       subst (λ (r : Run). ◌≡◌ {A = Run} (record { unit = i.program.unit; world = i.world; journal = c.push.new.self.items }) (stepped r c.args.k)) c.self.view_is (ap (λ (j : List Entry). let r : Run = record { unit = i.program.unit; world = i.world; journal = j } in r) (one_more c)),
+      subst (λ (r : Run). length r.journal < 1000000) c.self.view_is room,
       (
         c.self.invariant.state,
         subst (λ (r : Run). replay_of r ≡ Some c.self.invariant.state) c.self.view_is c.self.invariant.replays,
