@@ -1,3 +1,4 @@
 mod Refusals
 mod SayLemmas
 mod FileLemmas
+mod RunLemmas

@@ -18,6 +18,8 @@ use Rattle.lower.specs.declared.fault.LowerFault.TheVariants as lowering
 use Rattle.world.specs.declared.fault.ReadError.{ReadError}
 use Rattle.world.specs.declared.fault.ReadError.TheVariants as reading
 use Rattle.world.specs.Rule.{rule_number}
+use Rattle.machine.specs.declared.fault.LoadFault.{LoadFault}
+use Rattle.machine.specs.declared.fault.LoadFault.TheVariants as loading
 use Rattle.jnirun.specs.declared.fault.RunError.{RunError}
 use Rattle.jnirun.specs.declared.fault.RunError.TheVariants.{Memory, File, Fault}
 use Rattle.jnirun.specs.declared.files.FileFault.{FileFault}
@@ -45,6 +47,10 @@ of_lower lowering.TooLong = Fault 51 0
 abbrev pub of_reading : ReadError → RunError
 of_reading reading.Memory = Memory
 of_reading (reading.Fault fault) = Fault (rule_number fault.rule) fault.line
+
+abbrev pub of_load : LoadFault → RunError
+of_load loading.Memory = Memory
+of_load (loading.DoesNotFit line) = Fault 82 line
 
 abbrev pub of_file : FileFault → RunError
 of_file files.Memory = Memory

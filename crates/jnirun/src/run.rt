@@ -2,24 +2,92 @@
 
 ghost use Rattle.std.specs.Prelude.{◌≡◌, ℕ, List};
 ghost use Rattle.world.specs.Sink.{CanFail};
+ghost use Rattle.jnirun.specs.Errors.{of_lower, of_reading, of_load};
 ghost use Rattle.jnirun.specs.Texts.{Meaning, AreRefused};
 ghost use Rattle.jnirun.specs.Runs.{RunsTexts, IsRun, IsRunOrFails};
 
 use crate::fault::RunError;
+use crate::program::program;
+use lower::{LowerFault, lower};
+use machine::{LoadFault, Machine, RunFault};
 use std::alloc::Global;
-use world::Sink;
+use world::{ReadError, Sink, read_schedule, read_world};
 
-/// Runs the program in the world by the schedule, and writes the report and the journal.
+fn of_lower(fault: LowerFault) -> RunError
+    ensures { result ≡ of_lower fault }
+{
+    match fault {
+        LowerFault::Memory => RunError::Memory,
+        LowerFault::TooLong => RunError::Fault(51, 0),
+    }
+}
+
+fn of_reading(error: ReadError) -> RunError
+    ensures { result ≡ of_reading error }
+{
+    match error {
+        ReadError::Memory => RunError::Memory,
+        ReadError::Fault(fault) => RunError::Fault(u32::from(fault.rule.number()), fault.line),
+    }
+}
+
+fn of_load(fault: LoadFault) -> RunError
+    ensures { result ≡ of_load fault }
+{
+    match fault {
+        LoadFault::Memory => RunError::Memory,
+        LoadFault::DoesNotFit(line) => RunError::Fault(82, line),
+    }
+}
+
+/// Runs the program in the world by the schedule, and writes the report of the run and its journal.
+///
+/// On `Ok` what was written is the report of the source run that the journal names, and that journal, which follows the
+/// schedule. A fault is one that the texts earn, and nothing is written then. The texts are read in their order: the program is
+/// scanned, parsed, checked for sorts and regions and lowered, then the world and the schedule are read, then they are
+/// loaded.
 pub fn run_text<W: Sink>(
-    _alloc: Global,
-    program: &[u8],
-    world: &[u8],
-    schedule: &[u8],
+    alloc: Global,
+    program_text: &[u8],
+    world_text: &[u8],
+    schedule_text: &[u8],
     out: &mut W,
 ) -> Result<(), RunError>
     requires { CanFail (W.written out.old) }
-    ensures run { RunsTexts (W.written out.old) (W.written out.new) result (IsRun program.now world.now schedule.now) (AreRefused program.now world.now schedule.now) }
-    ensures accepted { Meaning program.now world.now schedule.now → IsRunOrFails result }
+    ensures run { RunsTexts (W.written out.old) (W.written out.new) result
+        (IsRun program_text.now world_text.now schedule_text.now) (AreRefused program_text.now world_text.now schedule_text.now) }
+    // Texts that mean a run are refused for memory, for length or by the writer alone.
+    ensures accepted { Meaning program_text.now world_text.now schedule_text.now → IsRunOrFails result }
 {
-    Err(RunError::Memory)
+    let checked = match program(alloc, program_text) {
+        Ok(checked) => checked,
+        Err(error) => return Err(error),
+    };
+    let lowered = match lower(alloc, &checked) {
+        Ok(lowered) => lowered,
+        Err(fault) => return Err(of_lower(fault)),
+    };
+    let world = match read_world(alloc, world_text) {
+        Ok(world) => world,
+        Err(error) => return Err(of_reading(error)),
+    };
+    let threads = world.threads().len() as u8;
+    let schedule = match read_schedule(alloc, schedule_text, threads) {
+        Ok(schedule) => schedule,
+        Err(error) => return Err(of_reading(error)),
+    };
+    let mut machine = match Machine::load(alloc, lowered, world) {
+        Ok(machine) => machine,
+        Err(fault) => return Err(of_load(fault)),
+    };
+    match machine.run(&schedule) {
+        Ok(()) => {}
+        Err(RunFault::Memory) => return Err(RunError::Memory),
+        // A schedule has no more words than a journal may have entries.
+        Err(RunFault::Full) => unreachable!(),
+    }
+    match machine.report(out) {
+        Ok(()) => Ok(()),
+        Err(_) => Err(RunError::Writer),
+    }
 }

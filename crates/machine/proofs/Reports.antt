@@ -34,6 +34,7 @@ use Rattle.machine.specs.declared.thread.Ending.TheVariants as ending
 use Rattle.machine.specs.declared.thread.Thread.{Thread}
 use Rattle.machine.specs.Agrees.{ThreadsAgree, ending_view}
 use Rattle.machine.specs.Run as run
+use Rattle.regions.specs.Run.{JournalHasRoom}
 use Rattle.machine.specs.Run.{Run, Corresponds, WritesRun}
 use Rattle.machine.proofs.Threads.{unblocked}
 
@@ -155,5 +156,6 @@ writes_run p scene ts printed journal c now view old new result numbers standing
     record {
       text = report_text (report_without_objects numbers standings) ++ journal_line entries;
       is = subst (λ (r : Run). source_run.Writes (unit_tree r.unit) (world_of_scene r.world) r.journal (report_text (report_without_objects numbers standings) ++ journal_line entries)) view written;
+      has_room = subst (λ (r : Run). JournalHasRoom (unit_tree r.unit) (world_of_scene r.world) r.journal) view c.has_room;
       written = h;
     }

@@ -1,5 +1,5 @@
 -- Several words go along with a schedule.
-use Rattle.std.proofs.Common.{◌≡◌, ℕ, zero, suc, ◌+◌, ◌-◌, ◌<◌, ◌≤◌, Bool, true, false, List, [], ◌∷◌, ◌++◌, length, take, drop, get_or, map, replicate, Option, Some, None, refl, sym, ap, ◌∙◌, subst, arith, IsSome, append_assoc, append-nil}
+use Rattle.std.proofs.Common.{length-append, ◌≡◌, ℕ, zero, suc, ◌+◌, ◌-◌, ◌<◌, ◌≤◌, Bool, true, false, List, [], ◌∷◌, ◌++◌, length, take, drop, get_or, map, replicate, Option, Some, None, refl, sym, ap, ◌∙◌, subst, arith, IsSome, append_assoc, append-nil}
 use Rattle.std.specs.Prelude.{slice_get, is_none, not, ◌&&◌, flat_map}
 use Rattle.std.specs.Option.{option_and_then}
 use Rattle.std.proofs.lemmas.Bool.{and_left, and_right}
@@ -79,6 +79,7 @@ pub along_into : (a b c : Run) (words more : Schedule) → RunsAlong a b words �
 along_into a b c words more p q = record {
   taken = words ++ q.taken;
   left = q.left;
+  some_left = q.some_left;
   is = ap (λ (w : Schedule). words ++ w) q.is ∙ sym (append_assoc words q.taken q.left);
   along = along_both a b c words q.taken p q.along;
 }
@@ -88,13 +89,14 @@ pub into_more : (a b : Run) (words more : Schedule) → RunsInto a b words → R
 into_more a b words more p = record {
   taken = p.taken;
   left = p.left ++ more;
+  some_left = omega (arith, length-append p.left more, p.some_left);
   is = ap (λ (w : Schedule). w ++ more) p.is ∙ append_assoc p.taken p.left more;
   along = p.along;
 }
 
--- a walk is a beginning
-pub all_taken : (a b : Run) (words : Schedule) → RunsAlong a b words → RunsInto a b words
-all_taken a b words p = record { taken = words; left = []; is = sym (append-nil words); along = p }
+-- a walk is a beginning where more is to come
+pub begun : (a b : Run) (words more : Schedule) → RunsAlong a b words → 0 < length more → RunsInto a b (words ++ more)
+begun a b words more p h = record { taken = words; left = more; some_left = h; is = refl; along = p }
 
 -- nothing was done yet
 pub none_yet : (r : Run) → IsSome (replay_of r) → RunsAlong r r []

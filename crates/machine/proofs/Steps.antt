@@ -1,7 +1,8 @@
 -- A step of the machine is a step of the state that its journal leads to.
-use Rattle.std.proofs.Common.{◌≡◌, ℕ, zero, suc, ◌+◌, ◌<◌, ◌≤◌, true, false, List, [], ◌∷◌, ◌++◌, length, Option, Some, None, refl, sym, ap, ◌∙◌, subst, arith}
+use Rattle.std.proofs.Common.{◌≡◌, ℕ, zero, suc, ◌+◌, ◌<◌, ◌≤◌, true, false, List, [], ◌∷◌, ◌++◌, length, drop, Option, Some, None, refl, sym, ap, ◌∙◌, subst, arith}
 use Rattle.std.specs.Prelude.{slice_get, slice_set}
 use Rattle.std.proofs.Math.ListN.{length-set}
+use Rattle.std.proofs.Math.Seq.{drop-length}
 use Rattle.syntax.specs.Views.{unit_tree}
 use Rattle.classes.specs.Class.{Classes}
 use Rattle.world.specs.declared.journal.Entry.{Entry}
@@ -13,7 +14,9 @@ use Rattle.regions.specs.State.{State, thread_at, set_thread, lent, with_event, 
 use Rattle.regions.specs.Step.{can_step, is_unfinished, world_step}
 use Rattle.regions.specs.Thread as source
 use Rattle.regions.specs.Thread.{Lent, Shared}
-use Rattle.regions.proofs.RunLaws.{replay_more}
+use Rattle.regions.proofs.RunLaws.{replay_more, has_room-more}
+use Rattle.regions.specs.Run.{HasRoom, made_between}
+use Rattle.regions.specs.Start.{start}
 use Rattle.regions.proofs.StepLaws.{Steps, steps, step-thread}
 use Rattle.lower.specs.Lowered.{Lowered}
 use Rattle.machine.specs.declared.thread.Ending.TheVariants.{Unfinished, Ended}
@@ -87,6 +90,10 @@ module _ (p : Lowered) (scene : Scene) (ts : List Thread) (printed : List Printe
   pub has_ended : t.ending ≡ Ended → HasEnded c.state k
   has_ended ended = record { running = c.running; thread = the_thread.source; is = there; ended = ap is_unfinished (the_thread.agrees.ending ∙ ap ending_view ended) }
 
+  -- a step that leaves the heap as it was has room
+  makes_nothing : (s next : State) → world_step (unit_tree p.unit) classes s (entry_of k) ≡ Some next → next.shared.heap ≡ s.shared.heap → HasRoom (unit_tree p.unit) (world_of_scene scene) s k false
+  makes_nothing s next step same = λ some. absurd (some (ap (made_between s) step ∙ ap (drop (length s.shared.heap)) same ∙ drop-length s.shared.heap))
+
   -- the machine after the step
   pub steps_on : (after : Thread) (e : Event) → t.ending ≡ Unfinished
       → ((classes : Classes) (lent : Lent) (k : ℕ) (shared : Shared) (s : source.Thread) → shared.monitors ≡ [] → ThreadAgrees p classes t s → t.ending ≡ Unfinished → Advances p classes lent k shared s after e)
@@ -106,6 +113,8 @@ module _ (p : Lowered) (scene : Scene) (ts : List Thread) (printed : List Printe
         running = stop_next c.state k a.next e ∙ c.running;
         heap = ap (λ (x : Shared). x.heap) (shared_next c.state k a.next e) ∙ c.heap;
         monitors = ap (λ (x : Shared). x.monitors) (shared_next c.state k a.next e) ∙ c.monitors;
+        has_room = has_room-more (unit_tree p.unit) (world_of_scene scene) (Some (start (unit_tree p.unit) (world_of_scene scene))) journal (entry_of k) c.has_room
+            (λ s there. let same : c.state ≡ s = cc (sym c.replays, there) in subst (λ (x : State). HasRoom (unit_tree p.unit) (world_of_scene scene) x k false) same (makes_nothing c.state next step (ap (λ (x : Shared). x.heap) (shared_next c.state k a.next e))));
         count = length-set ts i after ∙ c.count;
         few = subst (λ n. n ≤ 8) (sym (length-set ts i after)) c.few;
       }

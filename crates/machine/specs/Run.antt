@@ -15,7 +15,7 @@ use Rattle.world.specs.Sink as sink
 use Rattle.world.specs.Sink.{Written}
 use Rattle.world.specs.World.{World, loaded_objects}
 use Rattle.regions.specs.Run as source
-use Rattle.regions.specs.Run.{replay, Follows}
+use Rattle.regions.specs.Run.{replay, Follows, JournalHasRoom}
 use Rattle.regions.specs.State.{State, thread_at}
 use Rattle.regions.specs.Step.{can_step, is_unfinished}
 use Rattle.regions.specs.Thread.{Thread as SourceThread}
@@ -56,6 +56,8 @@ pub record Corresponds (p : Lowered) (scene : Scene) (threads : List Thread) (pr
   pub running : state.stop ≡ None
   pub heap : state.shared.heap ≡ loaded_objects (world_of_scene scene)
   pub monitors : state.shared.monitors ≡ []
+  -- no step was refused an allocation, and those that made objects had room
+  pub has_room : JournalHasRoom (unit_tree p.unit) (world_of_scene scene) journal
   pub count : length threads ≡ length scene.threads
   pub few : length threads ≤ 8
 
@@ -117,10 +119,11 @@ pub record RunsAlong (old new : Run) (schedule : Schedule) : Type 0 where
   pub after : State
   pub follows : Follows (unit_tree old.unit) (world_of_scene old.world) before steps schedule after
 
--- the steps of a beginning of the schedule were taken
+-- the steps of a beginning of the schedule were taken, which is not the whole
 pub record RunsInto (old new : Run) (schedule : Schedule) : Type 0 where
   pub taken : Schedule
   pub left : Schedule
+  pub some_left : 0 < length left
   pub is : schedule ≡ taken ++ left
   pub along : RunsAlong old new taken
 
@@ -135,4 +138,5 @@ standing_by_ending Ended = standing.Ended
 pub record WritesRun {T E : Type 0} (r : Run) (old new : Written) (result : Result T E) : Type 0 where
   pub text : List ℕ
   pub is : source.Writes (unit_tree r.unit) (world_of_scene r.world) r.journal text
+  pub has_room : JournalHasRoom (unit_tree r.unit) (world_of_scene r.world) r.journal
   pub written : sink.Writes old new result text

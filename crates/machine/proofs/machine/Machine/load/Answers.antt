@@ -19,6 +19,7 @@ invariant_of-result c =
       running = refl;
       heap = refl;
       monitors = refl;
+      has_room = rw c.new-in-Ok.ensures.items tt;
       count = count;
       few = omega (arith, count, long, c.threads.ensures.few);
     }

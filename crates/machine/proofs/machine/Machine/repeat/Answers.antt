@@ -1,7 +1,8 @@
 use Rattle.std.proofs.Common.{◌≡◌, ◌≤◌, ◌-◌, ◌∷◌, [], sym, ap, subst, replicate, arith, IsSome, refl}
+use Rattle.std.proofs.lemmas.List.{length-replicate}
 use Rattle.world.specs.Schedule.{Schedule}
 use Rattle.machine.specs.Run.{Run, RunsAlong, RunsInto, replay_of}
-use Rattle.machine.proofs.Runs.{none_yet, along_both, all_taken, into_more, replicate_more, replicate_rest}
+use Rattle.machine.proofs.Runs.{none_yet, along_both, begun, replicate_more, replicate_rest}
 use Rattle.machine.proofs.machine.Machine.repeat.Goals as goal
 
 pub loop-taken-init : goal.loop-taken-init
@@ -14,7 +15,7 @@ returns-in-Err-clause-err c =
     let i = c.loop-taken._taken in
     let here = subst (λ (r : Run). RunsAlong c.args.self.now r (replicate i c.args.word)) (sym c.in-Err.ensures.err) c.loop-taken.invariant.along in
     subst (λ (w : Schedule). RunsInto c.args.self.now c.take_word.new.self w) (sym (replicate_rest c.args.word i c.args.times (omega arith)))
-    (into_more c.args.self.now c.take_word.new.self (replicate i c.args.word) (replicate (c.args.times - i) c.args.word) (all_taken _ _ _ here))
+    (begun c.args.self.now c.take_word.new.self (replicate i c.args.word) (replicate (c.args.times - i) c.args.word) here (omega (arith, length-replicate (c.args.times - i) c.args.word)))
 
 pub loop-taken-preserved : goal.loop-taken-preserved
 loop-taken-preserved c = record {

@@ -1,0 +1,110 @@
+-- What the layers answer, as what a run does to the sink.
+use Rattle.std.proofs.Common.{◌≡◌, ℕ, List, [], ◌∷◌, ◌++◌, Option, Some, None, Result, Ok, Err, length, refl, sym, ap, ◌∙◌, subst}
+use Rattle.syntax.specs.declared.unit.Item.{Item}
+use Rattle.syntax.specs.Tree.{SourceUnit}
+use Rattle.syntax.specs.Views.{unit_tree}
+use Rattle.world.specs.declared.fault.ReadError.{ReadError}
+use Rattle.world.specs.declared.fault.ReadError.TheVariants as reading
+use Rattle.world.specs.Reading.{Fails}
+use Rattle.world.specs.ReadingSchedules.{schedule_of}
+use Rattle.world.specs.ReadingWorlds.{scene_of_text}
+use Rattle.world.specs.Scene.{Scene}
+use Rattle.world.specs.Schedule.{Schedule}
+use Rattle.world.specs.SceneWorld.{world_of_scene}
+use Rattle.world.specs.Sink.{Written}
+use Rattle.regions.specs.Load.{first_load_fault}
+use Rattle.world.specs.declared.journal.Entry.{Entry}
+use Rattle.world.specs.Journal.{Journal}
+use Rattle.world.specs.World.{World}
+use Rattle.regions.specs.State.{State}
+use Rattle.regions.specs.Run.{Follows, JournalFollows, JournalHasRoom, Writes, replay}
+use Rattle.regions.specs.Start.{start}
+use Rattle.lower.specs.declared.fault.LowerFault.{LowerFault}
+use Rattle.lower.specs.declared.fault.LowerFault.TheVariants as lowering
+use Rattle.lower.specs.Layout.{IsTooLong}
+use Rattle.machine.specs.declared.fault.LoadFault.{LoadFault}
+use Rattle.machine.specs.declared.fault.LoadFault.TheVariants as loading
+use Rattle.machine.specs.Loading.{IsLoadFault}
+use Rattle.machine.specs.Run.{Run, IsUnstarted, RunsAlong, WritesRun, replay_of}
+use Rattle.jnirun.specs.declared.fault.RunError.{RunError}
+use Rattle.jnirun.specs.declared.fault.RunError.TheVariants.{Memory, File, Fault, Writer}
+use Rattle.jnirun.specs.Errors.{of_lower, of_reading, of_load}
+use Rattle.jnirun.specs.Passes.{IsRefusal}
+use Rattle.jnirun.specs.Programs.{IsProgram, by_length}
+use Rattle.jnirun.specs.Texts.{Meaning, AreRefused, by_program, by_world, by_schedule, by_load}
+use Rattle.jnirun.specs.Runs.{RunsTexts, IsRun}
+
+-- what a report answered is what the run answers
+abbrev pub as_run : {T E : Type 0} → Result T E → Result (Unit {0}) RunError
+as_run (Ok x) = Ok tt
+as_run (Err e) = Err Writer
+
+-- the three texts, and what the sink had
+module _ (program world schedule : List ℕ) (old : Written) where
+  abbrev pub Refuses : RunError → Type 0
+  Refuses e = RunsTexts old old (Err e) (IsRun program world schedule) (AreRefused program world schedule)
+
+  pub refused_program : (e : RunError) → IsRefusal program e → Refuses e
+  refused_program Memory h = refl
+  refused_program (Fault number line) h = (refl, by_program number line h)
+  refused_program File h = absurd h
+  refused_program Writer h = absurd h
+
+  pub refused_length : (unit : SourceUnit) (f : LowerFault) → IsProgram program unit → (f ≡ lowering.TooLong → IsTooLong unit) → Refuses (of_lower f)
+  refused_length unit lowering.Memory is h = refl
+  refused_length unit lowering.TooLong is h = (refl, by_program 51 0 (by_length unit is (h refl)))
+
+  pub refused_world : (unit : SourceUnit) (e : ReadError) → IsProgram program unit → Fails e (scene_of_text world) → Refuses (of_reading e)
+  refused_world unit reading.Memory is h = refl
+  refused_world unit (reading.Fault fault) is h = (refl, by_world unit fault is h)
+
+  pub refused_schedule : (unit : SourceUnit) (scene : Scene) (e : ReadError) → IsProgram program unit → scene_of_text world ≡ Ok scene → Fails e (schedule_of schedule (length scene.threads)) → Refuses (of_reading e)
+  refused_schedule unit scene reading.Memory is w h = refl
+  refused_schedule unit scene (reading.Fault fault) is w h = (refl, by_schedule unit scene fault is w h)
+
+  pub refused_load : (unit : SourceUnit) (scene : Scene) (words : Schedule) (f : LoadFault) → IsProgram program unit → scene_of_text world ≡ Ok scene → schedule_of schedule (length scene.threads) ≡ Ok words → IsLoadFault unit (world_of_scene scene) f → Refuses (of_load f)
+  refused_load unit scene words loading.Memory is w s h = refl
+  refused_load unit scene words (loading.DoesNotFit line) is w s h = (refl, by_load unit scene words line is w s h)
+
+  -- a schedule's run from the start is one of the journal
+  follows_all : (items : List Item) (scene : Scene) (begun ended : Run) (words : Schedule) → IsUnstarted items scene begun → RunsAlong begun ended words → JournalFollows (unit_tree items) (world_of_scene scene) ended.journal words
+  follows_all items scene begun ended words un along =
+      let unit_is : unit_tree begun.unit ≡ unit_tree items = ap unit_tree un.of_unit in
+      let world_is : world_of_scene begun.world ≡ world_of_scene scene = ap world_of_scene un.on_world in
+      let steps : along.steps ≡ ended.journal = sym (along.journal ∙ ap (λ (j : List Entry). j ++ along.steps) un.unstarted) in
+      let at_start : replay_of begun ≡ Some (start (unit_tree begun.unit) (world_of_scene begun.world)) = ap (replay (unit_tree begun.unit) (world_of_scene begun.world)) un.unstarted in
+      let first : along.before ≡ start (unit_tree begun.unit) (world_of_scene begun.world) = cc (along.replays, at_start) in
+      let here : Follows (unit_tree begun.unit) (world_of_scene begun.world) (start (unit_tree begun.unit) (world_of_scene begun.world)) along.steps words along.after =
+          subst (λ (s : State). Follows (unit_tree begun.unit) (world_of_scene begun.world) s along.steps words along.after) first along.follows in
+      let on_unit : Follows (unit_tree items) (world_of_scene begun.world) (start (unit_tree items) (world_of_scene begun.world)) along.steps words along.after =
+          subst (λ (u : SourceUnit). Follows u (world_of_scene begun.world) (start u (world_of_scene begun.world)) along.steps words along.after) unit_is here in
+      let on_world : Follows (unit_tree items) (world_of_scene scene) (start (unit_tree items) (world_of_scene scene)) along.steps words along.after =
+          subst (λ (w : World). Follows (unit_tree items) w (start (unit_tree items) w) along.steps words along.after) world_is on_unit in
+      (along.after, subst (λ (j : Journal). Follows (unit_tree items) (world_of_scene scene) (start (unit_tree items) (world_of_scene scene)) j words along.after) steps on_world)
+
+  -- the unit and the world of a run stay
+  same_parts : (items : List Item) (scene : Scene) (begun ended : Run) (words : Schedule) → IsUnstarted items scene begun → RunsAlong begun ended words → ended ≡ record { unit = items; world = scene; journal = ended.journal }
+  same_parts items scene begun ended words un along =
+      ap (λ (u : List Item). let r : Run = record { unit = u; world = ended.world; journal = ended.journal } in r) (along.same_unit ∙ un.of_unit)
+      ∙ ap (λ (s : Scene). let r : Run = record { unit = items; world = s; journal = ended.journal } in r) (along.same_world ∙ un.on_world)
+
+  -- the texts' meaning, from what the layers answered
+  abbrev pub meaning_of : (items : List Item) (scene : Scene) (words : Schedule) → IsProgram program (unit_tree items) → scene_of_text world ≡ Ok scene → schedule_of schedule (length scene.threads) ≡ Ok words → first_load_fault (unit_tree items) (world_of_scene scene) ≡ None → Meaning program world schedule
+  meaning_of items scene words is w s l = record { unit = unit_tree items; of_program = is; scene = scene; of_world = w; words = words; of_schedule = s; loads = l }
+
+  -- the run that a machine wrote
+  is_run : (items : List Item) (scene : Scene) (words : Schedule) (begun ended : Run) (text : List ℕ) (is : IsProgram program (unit_tree items)) (w : scene_of_text world ≡ Ok scene) (s : schedule_of schedule (length scene.threads) ≡ Ok words) (l : first_load_fault (unit_tree items) (world_of_scene scene) ≡ None)
+      → IsUnstarted items scene begun → RunsAlong begun ended words → Writes (unit_tree ended.unit) (world_of_scene ended.world) ended.journal text → JournalHasRoom (unit_tree ended.unit) (world_of_scene ended.world) ended.journal → IsRun program world schedule text
+  is_run items scene words begun ended text is w s l un along writes room = record {
+    meaning = meaning_of items scene words is w s l;
+    journal = ended.journal;
+    writes = subst (λ (r : Run). Writes (unit_tree r.unit) (world_of_scene r.world) ended.journal text) (same_parts items scene begun ended words un along) writes;
+    follows = follows_all items scene begun ended words un along;
+    has_room = subst (λ (r : Run). JournalHasRoom (unit_tree r.unit) (world_of_scene r.world) ended.journal) (same_parts items scene begun ended words un along) room;
+  }
+
+  pub ran : (items : List Item) (scene : Scene) (words : Schedule) (begun ended : Run) (new : Written) {T E : Type 0} (result : Result T E)
+      → IsProgram program (unit_tree items) → scene_of_text world ≡ Ok scene → schedule_of schedule (length scene.threads) ≡ Ok words → first_load_fault (unit_tree items) (world_of_scene scene) ≡ None
+      → IsUnstarted items scene begun → RunsAlong begun ended words → WritesRun ended old new result → RunsTexts old new (as_run result) (IsRun program world schedule) (AreRefused program world schedule)
+  ran items scene words begun ended new (Ok x) is w s l un along h = record { text = h.text; runs = is_run items scene words begun ended h.text is w s l un along h.is h.has_room; appended = h.written }
+  ran items scene words begun ended new (Err x) is w s l un along h = record { text = h.text; runs = is_run items scene words begun ended h.text is w s l un along h.is h.has_room; stopped = h.written }
