@@ -32,7 +32,7 @@ use Rattle.jnirun.specs.Errors.{of_lower, of_reading, of_load}
 use Rattle.jnirun.specs.Passes.{IsRefusal}
 use Rattle.jnirun.specs.Programs.{IsProgram, by_length}
 use Rattle.jnirun.specs.Texts.{Meaning, AreRefused, by_program, by_world, by_schedule, by_load}
-use Rattle.jnirun.specs.Runs.{RunsTexts, IsRun}
+use Rattle.jnirun.specs.Runs.{RunsTexts, IsRun, IsRunOrFails}
 
 -- what a report answered is what the run answers
 abbrev pub as_run : {T E : Type 0} → Result T E → Result (Unit {0}) RunError
@@ -108,3 +108,11 @@ module _ (program world schedule : List ℕ) (old : Written) where
       → IsUnstarted items scene begun → RunsAlong begun ended words → WritesRun ended old new result → RunsTexts old new (as_run result) (IsRun program world schedule) (AreRefused program world schedule)
   ran items scene words begun ended new (Ok x) is w s l un along h = record { text = h.text; runs = is_run items scene words begun ended h.text is w s l un along h.is h.has_room; appended = h.written }
   ran items scene words begun ended new (Err x) is w s l un along h = record { text = h.text; runs = is_run items scene words begun ended h.text is w s l un along h.is h.has_room; stopped = h.written }
+
+  -- texts that mean a run load
+  pub loads_or_fails : (items : List Item) (scene : Scene) (f : LoadFault) (m : Meaning program world schedule) → unit_tree items ≡ m.unit → scene_of_text world ≡ Ok scene → IsLoadFault (unit_tree items) (world_of_scene scene) f → IsRunOrFails (Err (of_load f))
+  loads_or_fails items scene loading.Memory m same w h = tt
+  loads_or_fails items scene (loading.DoesNotFit line) m same w h =
+      let here : m.scene ≡ scene = cc (m.of_world, w) in
+      let none : first_load_fault (unit_tree items) (world_of_scene scene) ≡ None = ap (λ (s : Scene). first_load_fault (unit_tree items) (world_of_scene s)) (sym here) ∙ ap (λ (u : SourceUnit). first_load_fault u (world_of_scene m.scene)) same ∙ m.loads in
+      absurd (cc (none, h))

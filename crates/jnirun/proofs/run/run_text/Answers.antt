@@ -1,42 +1,57 @@
-use Rattle.std.proofs.Common.{rules, ◌≡◌, ℕ, List, ◌+◌, ◌-◌, ◌*◌, ◌<◌, ◌≤◌, length, ◌/◌, ◌%◌, Bool, true, false, nat_eq, nat_lt, [], ◌∷◌, ◌++◌, slice_index_or, slice_set, bit_and, bit_or, Fits, w8, w32, w64, Bor, MutBor}
-use Rattle.world.specs.Sink.{CanFail}
-use Rattle.jnirun.specs.Errors.{of_lower, of_reading, of_load}
-use Rattle.jnirun.specs.Texts.{Meaning, AreRefused}
-use Rattle.jnirun.specs.Runs.{RunsTexts, IsRun, IsRunOrFails}
+use Rattle.std.proofs.Common.{◌≡◌, ℕ, length, sym, ap, ◌∙◌, subst, Ok, Err, None, List}
+use Rattle.std.proofs.lemmas.List.{length-map}
+use Rattle.syntax.specs.declared.unit.Item.{Item}
+use Rattle.syntax.specs.Views.{unit_tree}
+use Rattle.world.specs.ReadingSchedules.{schedule_of}
+use Rattle.world.specs.SceneWorld.{world_of_scene}
+use Rattle.regions.specs.Load.{first_load_fault}
+use Rattle.machine.specs.Loading.{IsLoadFault}
+use Rattle.machine.specs.Run.{IsUnstarted}
+use Rattle.jnirun.proofs.RunLemmas.{refused_program, refused_length, refused_world, refused_schedule, refused_load, ran, loads_or_fails}
 use Rattle.jnirun.proofs.run.run_text.Goals as goal
 
--- src/run.rt:64:23
 pub returns-in-Err-clause-run : goal.returns-in-Err-clause-run
-returns-in-Err-clause-run g c = ?
+returns-in-Err-clause-run g c =
+    refused_program c.args.program_text.now c.args.world_text.now c.args.schedule_text.now (g.W.Sink.written c.args.out.now) c.in-Err.error c.in-Err.ensures.fault
 
--- src/run.rt:68:23
 pub returns-in-Err-lower-clause-run : goal.returns-in-Err-lower-clause-run
-returns-in-Err-lower-clause-run g c = ?
+returns-in-Err-lower-clause-run g c =
+    rw c.of_lower.ensures (refused_length c.args.program_text.now c.args.world_text.now c.args.schedule_text.now (g.W.Sink.written c.args.out.now) (unit_tree c.in-Ok.checked) c.in-Err-lower.fault c.in-Ok.ensures.program (λ e. c.in-Err-lower.ensures.too_long (ap Err e)))
 
--- src/run.rt:72:23
 pub returns-in-Err-read_world-clause-run : goal.returns-in-Err-read_world-clause-run
-returns-in-Err-read_world-clause-run g c = ?
+returns-in-Err-read_world-clause-run g c =
+    rw c.of_reading.ensures (refused_world c.args.program_text.now c.args.world_text.now c.args.schedule_text.now (g.W.Sink.written c.args.out.now) (unit_tree c.in-Ok.checked) c.in-Err-read_world.error c.in-Ok.ensures.program c.in-Err-read_world.ensures)
 
--- src/run.rt:77:23
 pub returns-in-Err-read_schedule-clause-run : goal.returns-in-Err-read_schedule-clause-run
-returns-in-Err-read_schedule-clause-run g c = ?
+returns-in-Err-read_schedule-clause-run g c =
+    let count : length c.threads.result.now ≡ length c.in-Ok-read_world.world.threads = simp length-map at (ap length c.threads.ensures.calls) in
+    rw c.of_reading-in-Err-read_schedule.ensures (refused_schedule c.args.program_text.now c.args.world_text.now c.args.schedule_text.now (g.W.Sink.written c.args.out.now) (unit_tree c.in-Ok.checked) c.in-Ok-read_world.world c.in-Err-read_schedule.error
+    c.in-Ok.ensures.program c.in-Ok-read_world.ensures (rw count at c.in-Err-read_schedule.ensures))
 
--- src/run.rt:81:23
 pub returns-in-Err-load-clause-run : goal.returns-in-Err-load-clause-run
-returns-in-Err-load-clause-run g c = ?
+returns-in-Err-load-clause-run g c =
+    let count : length c.threads.result.now ≡ length c.in-Ok-read_world.world.threads = simp length-map at (ap length c.threads.ensures.calls) in
+    rw c.of_load.ensures (refused_load c.args.program_text.now c.args.world_text.now c.args.schedule_text.now (g.W.Sink.written c.args.out.now) (unit_tree c.in-Ok.checked) c.in-Ok-read_world.world c.in-Ok-read_schedule.schedule c.in-Err-load.fault
+    c.in-Ok.ensures.program c.in-Ok-read_world.ensures (rw count at c.in-Ok-read_schedule.ensures) (rw c.in-Ok-lower.ensures.ok at c.in-Err-load.ensures.fault))
 
--- src/run.rt:81:23
 pub returns-in-Err-load-clause-accepted : goal.returns-in-Err-load-clause-accepted
-returns-in-Err-load-clause-accepted g c = ?
+returns-in-Err-load-clause-accepted g c = λ m.
+    rw c.of_load.ensures (loads_or_fails c.args.program_text.now c.args.world_text.now c.args.schedule_text.now (g.W.Sink.written c.args.out.now) c.in-Ok.checked c.in-Ok-read_world.world c.in-Err-load.fault m
+    (c.in-Ok.ensures.only m.unit m.of_program) c.in-Ok-read_world.ensures (rw c.in-Ok-lower.ensures.ok at c.in-Err-load.ensures.fault))
 
--- src/run.rt:87:32
 pub unreachable-requires : goal.unreachable-requires
 unreachable-requires g c = ?
 
--- src/run.rt:61:1
 pub returns-in-Ok-report-clause-run : goal.returns-in-Ok-report-clause-run
-returns-in-Ok-report-clause-run g c = ?
+returns-in-Ok-report-clause-run g c =
+    let count : length c.threads.result.now ≡ length c.in-Ok-read_world.world.threads = simp length-map at (ap length c.threads.ensures.calls) in
+    ran c.args.program_text.now c.args.world_text.now c.args.schedule_text.now (g.W.Sink.written c.args.out.now) c.in-Ok.checked c.in-Ok-read_world.world c.in-Ok-read_schedule.schedule c.in-Ok-load.machine c.run.new.self (g.W.Sink.written c.report.new.sink) (Ok c.in-Ok-report.field-0)
+    c.in-Ok.ensures.program c.in-Ok-read_world.ensures (rw count at c.in-Ok-read_schedule.ensures) (rw c.in-Ok-lower.ensures.ok at c.in-Ok-load.ensures.fits)
+    (rw c.in-Ok-lower.ensures.ok at c.in-Ok-load.ensures.ok) c.in-Ok-run.ensures.ok c.in-Ok-report.ensures.run
 
--- src/run.rt:49:1
 pub returns-clause-run : goal.returns-clause-run
-returns-clause-run g c = ?
+returns-clause-run g c =
+    let count : length c.threads.result.now ≡ length c.in-Ok-read_world.world.threads = simp length-map at (ap length c.threads.ensures.calls) in
+    ran c.args.program_text.now c.args.world_text.now c.args.schedule_text.now (g.W.Sink.written c.args.out.now) c.in-Ok.checked c.in-Ok-read_world.world c.in-Ok-read_schedule.schedule c.in-Ok-load.machine c.run.new.self (g.W.Sink.written c.report.new.sink) (Err c.in-Err-report.field-0)
+    c.in-Ok.ensures.program c.in-Ok-read_world.ensures (rw count at c.in-Ok-read_schedule.ensures) (rw c.in-Ok-lower.ensures.ok at c.in-Ok-load.ensures.fits)
+    (rw c.in-Ok-lower.ensures.ok at c.in-Ok-load.ensures.ok) c.in-Ok-run.ensures.ok c.in-Err-report.ensures.run
