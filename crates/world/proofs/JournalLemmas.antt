@@ -77,7 +77,7 @@ counted-from : (n : ℕ) (es : List Entry) → fold (λ (a : ℕ) (e : Entry). a
 counted-from n [] = omega arith
 counted-from n (e ∷ es) = omega (arith, counted-from (n + 1) es)
 
-counted : (es : List Entry) → sum_by (λ (e : Entry). 1) es ≡ length es
+pub counted : (es : List Entry) → sum_by (λ (e : Entry). 1) es ≡ length es
 counted es = omega (arith, counted-from 0 es)
 
 pub entries_again : EntriesAreReadAgain

@@ -6,3 +6,6 @@ pub mod JournalLemmas
 pub mod ReportLemmas
 pub mod NameLemmas
 pub mod BuilderLemmas
+pub mod WordLaws
+pub mod ScheduleLaws
+pub mod JournalLaws

@@ -1,6 +1,7 @@
 //! The entries of a run.
 
-ghost use Rattle.std.specs.Prelude.{◌≡◌, ℕ, List, Some, None};
+ghost use Rattle.std.specs.Prelude.{◌≡◌, ℕ, List, Some, None, IfOk};
+ghost use Rattle.world.specs.Journal.{IsJournalText};
 ghost use Rattle.world.specs.Reading.{Gives};
 ghost use Rattle.world.specs.ReadingJournals.{journal_of, EntriesAreReadAgain};
 
@@ -56,7 +57,8 @@ impl Word for Entry {
 /// Fault 81: a word has no form. 82: an entry of a thread that the world lacks. 83: more than 1,000,000 entries.
 /// Of one line the least of these, and of several lines that of the first.
 pub fn read_journal(alloc: Global, text: &[u8], threads: u8) -> Result<Vec<Entry>, ReadError>
-    ensures { Gives (λ v. v.items) result (journal_of text.now threads) }
+    ensures read { Gives (λ v. v.items) result (journal_of text.now threads) }
+    ensures means { IfOk result (λ v. IsJournalText threads text.now v.items) }
 {
     read_words::<Entry>(alloc, text, threads)
 }

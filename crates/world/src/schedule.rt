@@ -1,6 +1,7 @@
 //! In which order the threads step.
 
-ghost use Rattle.std.specs.Prelude.{◌≡◌, ℕ, List, ◌≤◌};
+ghost use Rattle.std.specs.Prelude.{◌≡◌, ℕ, List, ◌≤◌, IfOk};
+ghost use Rattle.world.specs.Schedule.{IsScheduleText};
 ghost use Rattle.world.specs.Reading.{Gives};
 ghost use Rattle.world.specs.ReadingSchedules.{named_turn, schedule_of};
 
@@ -104,7 +105,8 @@ fn turn_of(name: u8) -> Option<ScheduleWord>
 /// Fault 81: a word has no form. 82: a turn of a thread that the world lacks. 83: more than 1,000,000 words, each
 /// counted as often as it is repeated. Of one line the least of these, and of several lines that of the first.
 pub fn read_schedule(alloc: Global, text: &[u8], threads: u8) -> Result<Schedule, ReadError>
-    ensures { Gives (λ words. words) result (schedule_of text.now threads) }
+    ensures read { Gives (λ words. words) result (schedule_of text.now threads) }
+    ensures means { IfOk result (IsScheduleText threads text.now) }
 {
     let repetitions = read_words::<Repetition>(alloc, text, threads)?;
     Ok(Schedule { repetitions })
