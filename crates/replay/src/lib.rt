@@ -1,0 +1,5 @@
+//! A second opinion on runs: an interpreter of trees that replays a journal, without code, addresses or a collector.
+#![tactic(auto)]
+
+mod task;
+mod term;
