@@ -1,2 +1,3 @@
 pub mod Views
 pub mod Tasks
+pub mod Activations
