@@ -1,2 +1,6 @@
 pub mod Puts
 pub mod PartLemmas
+pub mod WordLemmas
+pub mod LineLemmas
+pub mod JournalLemmas
+pub mod ReportLemmas

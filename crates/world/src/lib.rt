@@ -10,11 +10,15 @@ mod schedule;
 mod sink;
 mod std_sink;
 mod text;
+mod words;
+mod writing;
 
 pub use fault::{ReadError, Rule, TextFault};
-pub use journal::Entry;
-pub use report::Printed;
-pub use schedule::ScheduleWord;
+pub use journal::{Entry, entries_are_read_again, read_journal};
+pub use report::{Printed, Standing};
+pub use schedule::{Repetition, Schedule, ScheduleWord, read_schedule};
 pub use sink::{Sink, SinkFailed, put_all, put_pieces};
 pub use std_sink::StdSink;
 pub use text::{Text, put_each};
+pub use words::{MOST_WORDS, Word, read_words};
+pub use writing::write_run;
