@@ -1,1 +1,3 @@
 mod TaskLemmas
+mod ThreadLemmas
+mod RangeLemmas

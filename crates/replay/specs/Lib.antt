@@ -1,3 +1,4 @@
 pub mod Views
 pub mod Tasks
 pub mod Activations
+pub mod Threads

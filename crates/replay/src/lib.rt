@@ -4,3 +4,4 @@
 mod activation;
 mod task;
 mod term;
+mod thread;
