@@ -4,3 +4,5 @@ pub mod WordLemmas
 pub mod LineLemmas
 pub mod JournalLemmas
 pub mod ReportLemmas
+pub mod NameLemmas
+pub mod BuilderLemmas

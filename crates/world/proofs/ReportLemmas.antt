@@ -27,9 +27,9 @@ standings_at xs i n d h e =
     let long : i < length (map standing_view xs) = omega (arith, h, length-map xs standing_view) in
     let long_too : i < length (numbered xs) = omega (arith, h, length-numbered xs) in
     let item : get_or (numbered xs) i (1, standing_view d) ≡ (n + 1, standing_view (get_or xs i d)) =
-        get_or-enumerate_from 1 (map standing_view xs) i (1, standing_view d) long
-        ∙ ap (λ v. (1 + i, v)) (get_or-map standing_view xs i d (standing_view d) h)
-        ∙ ap (λ k. (k, standing_view (get_or xs i d))) (omega (arith, e)) in
+    get_or-enumerate_from 1 (map standing_view xs) i (1, standing_view d) long
+    ∙ ap (λ v. (1 + i, v)) (get_or-map standing_view xs i d (standing_view d) h)
+    ∙ ap (λ k. (k, standing_view (get_or xs i d))) (omega (arith, e)) in
     flat_map-at thread_line (numbered xs) i (1, standing_view d) long_too
     ∙ ap (λ v. thread_line v ++ flat_map thread_line (drop (i + 1) (numbered xs))) item
 

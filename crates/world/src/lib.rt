@@ -1,8 +1,10 @@
 //! The texts of a run: worlds, schedules and journals are read, reports and journals are written.
 #![tactic(auto)]
 
+mod builder;
 mod fault;
 mod journal;
+mod names;
 mod natural;
 mod parts;
 mod report;
@@ -11,6 +13,8 @@ mod sink;
 mod std_sink;
 mod text;
 mod words;
+mod world;
+mod world_text;
 mod writing;
 
 pub use fault::{ReadError, Rule, TextFault};
@@ -21,4 +25,9 @@ pub use sink::{Sink, SinkFailed, put_all, put_pieces};
 pub use std_sink::StdSink;
 pub use text::{Text, put_each};
 pub use words::{MOST_WORDS, Word, read_words};
+pub use world::{Call, World};
+pub use world_text::read_world;
 pub use writing::write_run;
+
+#[cfg(test)]
+mod tests;

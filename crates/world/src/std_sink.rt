@@ -100,9 +100,10 @@ impl<W: Write> StdSink<W> {
 
 impl<W: Write> Sink for StdSink<W> {
     ghost written = { λ s. record {
-        bytes = append_known (W.contents s.writer) (drop s.sent s.buffer.items);
-        waiting = length s.buffer.items - s.sent;
-        failures = s.failures } };
+      bytes = append_known (W.contents s.writer) (drop s.sent s.buffer.items);
+      waiting = length s.buffer.items - s.sent;
+      failures = s.failures;
+    } };
 
     fn put(&mut self, bytes: &[u8]) -> Result<usize, SinkFailed> {
         if self.buffer.is_full() {

@@ -8,7 +8,7 @@ returns-in-Ok-clause-kept g c =
     let waiting = c.split_at.result.1.now in
     let at : waiting ≡ drop c.args.self.now.sent c.args.self.now.buffer.items = c.split_at.ensures.back ∙ ap (drop c.args.self.now.sent) c.as_slice.ensures.value in
     let cut : drop c.args.self.now.sent c.args.self.now.buffer.items ≡ take c.in-Ok.taken waiting ++ drop (c.args.self.now.sent + c.in-Ok.taken) c.args.self.now.buffer.items =
-        sym at ∙ sym (take-append-drop c.in-Ok.taken waiting)
-        ∙ ap (λ r. take c.in-Ok.taken waiting ++ r) (ap (drop c.in-Ok.taken) at ∙ drop-drop c.in-Ok.taken c.args.self.now.sent c.args.self.now.buffer.items) in
+    sym at ∙ sym (take-append-drop c.in-Ok.taken waiting)
+    ∙ ap (λ r. take c.in-Ok.taken waiting ++ r) (ap (drop c.in-Ok.taken) at ∙ drop-drop c.in-Ok.taken c.args.self.now.sent c.args.self.now.buffer.items) in
     append_known-moved (g.W.Write.contents c.args.self.now.writer) (g.W.Write.contents c.write.new.self) (take c.in-Ok.taken waiting)
     (drop (c.args.self.now.sent + c.in-Ok.taken) c.args.self.now.buffer.items) (drop c.args.self.now.sent c.args.self.now.buffer.items) c.in-Ok.ensures.bytes cut

@@ -1,0 +1,57 @@
+//! Lowered programs.
+
+use code::code::Code;
+use regions::Checked;
+use std::marker::Model;
+use syntax::Unit;
+
+/// A checked program, and the code of its functions in their order.
+#[derive(Drop, Debug)]
+pub struct Program<'a> {
+    checked: &'a Checked,
+    codes: Vec<Code>,
+}
+
+impl<'a> Model for Program<'a> {
+    ghost use Rattle.std.specs.Coded.{codes as all_codes};
+    ghost use Rattle.syntax.specs.contracts.unit.Item as item;
+    ghost use Rattle.lower.specs.Lowered.{Lowered, IsLowered};
+
+    ghost Value = { Lowered };
+
+    ghost coded = { Prim.hlevel (all_codes, item.the_row.coded) };
+
+    ghost view = { λ p. record { unit = p.checked.now; codes = p.codes.items } };
+
+    ghost invariant = { λ p. IsLowered (record { unit = p.checked.now; codes = p.codes.items }) };
+}
+
+impl<'a> Program<'a> {
+    ghost use Rattle.std.specs.Prelude.{◌≡◌, slice_get, length};
+    ghost use Rattle.std.specs.Option.{option_copied};
+    ghost use Rattle.lower.specs.Lowered.{IsLowered};
+
+    pub(crate) fn of(checked: &'a Checked, codes: Vec<Code>) -> Self
+        requires { IsLowered (record { unit = checked.now; codes = codes.items }) }
+        ensures unit { result.unit ≡ checked.now }
+        ensures codes { result.codes ≡ codes.items }
+    {
+        Program { checked, codes }
+    }
+
+    /// The unit that was lowered.
+    pub fn unit(&self) -> &Unit
+        ensures unit { result.now ≡ self.now.unit }
+        ensures lowered { IsLowered self.now }
+    {
+        self.checked.unit()
+    }
+
+    /// The code of a function, by its place among the unit's functions, counted from 0.
+    pub fn code(&self, function: usize) -> Option<&Code>
+        ensures code { option_copied result ≡ slice_get self.now.codes function }
+        ensures lowered { IsLowered self.now }
+    {
+        self.codes.get(function)
+    }
+}
