@@ -1,5 +1,5 @@
 -- The code of a body begins with its first statement, keeps the stack in its range, and leaves.
-use Rattle.std.proofs.Common.{◌≡◌, ℕ, zero, suc, ◌+◌, ◌-◌, ◌<◌, ◌≤◌, true, false, List, [], ◌∷◌, ◌++◌, length, Option, Some, None, refl, sym, ap, ◌∙◌, subst, arith, append_assoc, length-append}
+use Rattle.std.proofs.Common.{◌≡◌, ℕ, suc, ◌+◌, ◌-◌, ◌<◌, true, false, List, [], ◌∷◌, ◌++◌, length, Option, Some, None, refl, sym, ap, ◌∙◌, subst, arith, append_assoc, length-append}
 use Rattle.std.specs.Option.{option_and_then}
 use Rattle.std.proofs.lemmas.List.{append-nil}
 use Rattle.std.proofs.lemmas.Bool.{lt-ltb}
@@ -14,7 +14,7 @@ use Rattle.syntax.specs.declared.stmt.Form.{Form}
 use Rattle.syntax.specs.declared.stmt.Form.TheVariants as form
 use Rattle.syntax.specs.Limits.{height}
 use Rattle.syntax.specs.Tree.{Block, End, Next, ResultType}
-use Rattle.syntax.specs.Views.{prefix_tree, binary_tree, expr_tree, return_tree, form_tree, stmt_tree, statements_tree}
+use Rattle.syntax.specs.Views.{prefix_tree, binary_tree, expr_tree, form_tree, statements_tree}
 use Rattle.types.specs.Sorts.{Sort, Jint}
 use Rattle.types.specs.Sorts as sort
 use Rattle.code.specs.declared.instr.Instr.{Instr}
@@ -25,8 +25,8 @@ use Rattle.regions.specs.Term.{term_of}
 use Rattle.regions.specs.Task.{tasks_of}
 use Rattle.regions.specs.WellSorted as accepted
 use Rattle.regions.specs.WellSorted.{HasSort, BlockFits, EndsByReturn}
-use Rattle.lower.specs.Layout.{prefix_code, operator_code, expr_code, stmt_code, block_code}
-use Rattle.lower.specs.Stands.{term_code, TermHasSort, HasInstruction, IsUntouched, IsNumber, HasAt, StandsFor}
+use Rattle.lower.specs.Layout.{prefix_code, operator_code, expr_code, block_code}
+use Rattle.lower.specs.Stands.{term_code, TermHasSort, IsUntouched, IsNumber, HasAt, StandsFor}
 use Rattle.lower.proofs.Terms.{untouched_begun, untouched_held}
 use Rattle.lower.proofs.Places.{has_front, has_back, get-append_seam, has_all}
 

@@ -1,5 +1,5 @@
 -- What stands at a place of the code, and what its instruction does.
-use Rattle.std.proofs.Common.{◌≡◌, ℕ, zero, suc, ◌+◌, ◌<◌, List, [], ◌∷◌, ◌++◌, length, Some, refl, sym, ap, ◌∙◌, subst, arith, append_assoc, length-append}
+use Rattle.std.proofs.Common.{◌≡◌, ℕ, ◌+◌, List, [], ◌∷◌, ◌++◌, length, Some, refl, sym, ap, subst, arith, append_assoc, length-append}
 use Rattle.std.specs.Prelude.{slice_get}
 use Rattle.std.specs.Int.{w32, cast_unsigned}
 use Rattle.std.proofs.Math.Facts.{to_z-of_z}
@@ -10,10 +10,10 @@ use Rattle.code.specs.declared.instr.Instr.{Instr}
 use Rattle.code.specs.declared.instr.Instr.TheVariants as instr
 use Rattle.regions.specs.Sight.{Sight}
 use Rattle.regions.specs.Value.{Value, Word, Int}
-use Rattle.regions.specs.Term.{Term, Done, Number, Named, Read, Element, IsNull, Prefix, And, Or, Binary, reduce}
+use Rattle.regions.specs.Term.{Term, Done, Named, Read, reduce}
 use Rattle.regions.specs.Task.{Task, Print, Return, ReturnValue}
 use Rattle.regions.specs.Effect.{Effect, Returns, goes_on, with_value, return_effect, effect_of}
-use Rattle.lower.specs.Stands.{held, term_code, TermHasSort, IsNumber, HasAt, TaskStands, StandsFor, GoesOn, DoesEffect}
+use Rattle.lower.specs.Stands.{held, term_code, TermHasSort, IsNumber, HasAt, StandsFor, GoesOn, DoesEffect}
 use Rattle.lower.proofs.Terms.{IsOpen, StepsTerm, steps_term}
 
 -- a step inside the term of a task

@@ -1,9 +1,9 @@
 -- The first instruction of a term's code replaces the leftmost part that can be reduced.
-use Rattle.std.proofs.Common.{◌≡◌, ℕ, ℤ, pos, ◌+◌, ◌-◌, ◌<◌, ◌^◌, ◌%◌, ◌*◌, lit<, Bool, true, false, List, [], ◌∷◌, ◌++◌, Option, Some, None, refl, sym, ap, ◌∙◌, subst, arith, append_assoc, bit_and, bit_or, bit_xor, Fits}
+use Rattle.std.proofs.Common.{◌≡◌, ℕ, ℤ, pos, ◌-◌, ◌<◌, ◌^◌, ◌%◌, ◌*◌, lit<, true, false, List, [], ◌∷◌, ◌++◌, Some, refl, sym, ap, ◌∙◌, arith, append_assoc}
 use Rattle.std.specs.Prelude.{FitsSigned}
 use Rattle.std.proofs.Math.Nat.{mod-lt}
 use Rattle.std.proofs.Math.Facts.{Fits-and, Fits-or, Fits-xor, Fits-of_lt, Fits-lt-pow, Fits-of_z, of_z-to_z, sfits_to_z}
-use Rattle.std.specs.Int.{w32, cast_signed, cast_unsigned}
+use Rattle.std.specs.Int.{w32, cast_unsigned}
 use Rattle.syntax.specs.Tree.{PrefixOp, LogicalNot, Complement, ToWord, ToInt, BinaryOp, BitOr, BitXor, BitAnd, Add, Subtract, Multiply}
 use Rattle.base.specs.Element.{JInt}
 use Rattle.types.specs.Sorts.{Sort, Jint}
@@ -12,12 +12,11 @@ use Rattle.code.specs.declared.instr.Operator.{Operator}
 use Rattle.code.specs.declared.instr.Operator.TheVariants as operator
 use Rattle.code.specs.declared.instr.Instr.{Instr}
 use Rattle.code.specs.declared.instr.Instr.TheVariants as instr
-use Rattle.code.specs.declared.instr.Plain.{Plain}
 use Rattle.code.specs.declared.instr.Plain.TheVariants as plain
 use Rattle.code.specs.Effect.{plain_of, operate}
 use Rattle.regions.specs.Sight.{Sight}
-use Rattle.regions.specs.Value.{Value, Word, Int, Outcome, Gives, outcome_map, binary_value, convert}
-use Rattle.regions.specs.Term.{Term, Done, Number, Named, Read, Element, IsNull, Prefix, And, Or, Binary, Reduction, done, with_part, reduce}
+use Rattle.regions.specs.Value.{Value, Word, Int, Gives, outcome_map, binary_value, convert}
+use Rattle.regions.specs.Term.{Term, Done, Number, Prefix, Binary, Reduction, done, with_part, reduce}
 use Rattle.lower.specs.Layout.{prefix_code, operator_code}
 use Rattle.lower.specs.Stands.{word_of, held, term_code, HasInstruction, ValueHasSort, TermHasSort, IsUntouched, IsBegun}
 

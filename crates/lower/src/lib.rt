@@ -4,6 +4,8 @@
 mod fault;
 mod lowering;
 mod program;
+#[cfg(test)]
+mod tests;
 
 pub use fault::LowerFault;
 pub use lowering::lower;

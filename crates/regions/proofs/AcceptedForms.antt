@@ -1,15 +1,12 @@
 -- The unit of a `Checked` is well sorted.
-use Rattle.std.proofs.Common.{◌≡◌, ℕ, zero, suc, ◌≤◌, ◌<◌, ◌+◌, ◌^◌, max, Bool, true, false, not, ◌&&◌, ◌||◌, ◌⊎◌, inl, inr, List, [], ◌∷◌, ◌++◌, length, get_or, Option, Some, None, refl, sym, ap, ◌∙◌, subst, arith, cond, map, filter, flat_map, nat_lt, nat_le, true≢false}
+use Rattle.std.proofs.Common.{◌≡◌, ℕ, zero, suc, ◌≤◌, ◌<◌, ◌+◌, ◌^◌, max, Bool, true, false, not, ◌&&◌, ◌||◌, inl, inr, List, [], ◌∷◌, ◌++◌, length, get_or, Option, Some, None, refl, sym, ◌∙◌, subst, arith, cond, map, filter, flat_map, nat_lt, nat_le}
 use Rattle.std.proofs.lemmas.Bool.Decides.{nat_tests}
 use Rattle.std.proofs.lemmas.Grind.{flat_map-append}
 use Rattle.std.proofs.lemmas.List.Folds.{list_all-append}
 use Rattle.std.specs.List.{list_all, AllByRecursion}
 use Rattle.syntax.specs.declared.expr.Expr.{Expr as ExprInMemory}
 use Rattle.syntax.specs.declared.expr.Expr.TheVariants as expr
-use Rattle.syntax.specs.declared.expr.PrefixOp.{PrefixOp as PrefixInMemory}
 use Rattle.syntax.specs.declared.expr.PrefixOp.TheVariants as prefix
-use Rattle.syntax.specs.declared.expr.BinaryOp.{BinaryOp as BinaryInMemory}
-use Rattle.syntax.specs.declared.expr.BinaryOp.TheVariants as binary
 use Rattle.syntax.specs.declared.stmt.Stmt.{Stmt as StmtInMemory}
 use Rattle.syntax.specs.declared.stmt.Form.{Form as FormInMemory}
 use Rattle.syntax.specs.declared.stmt.Form.TheVariants as form
@@ -19,14 +16,15 @@ use Rattle.syntax.specs.declared.unit.Function.{Function as FunctionInMemory}
 use Rattle.syntax.specs.declared.unit.Item.{Item as ItemInMemory}
 use Rattle.syntax.specs.declared.unit.Item.TheVariants as item
 use Rattle.base.specs.Bytes.{Identifier}
-use Rattle.syntax.specs.Limits.{IsTree, height, highest, own_height, numbers_in_range, statement_height, block_height}
+use Rattle.syntax.specs.Limits.{IsTree, height, numbers_in_range, statement_height, block_height}
 use Rattle.syntax.specs.Parts.{functions_of, statements_of, statements_within, own_expressions, names_declared}
-use Rattle.syntax.specs.Tree.{Complement, ToWord, ToInt, Expr, Prefix, Binary, Stmt, PutJint, Return, ReturnValue, Block, End, Next, ResultType, Void, IntResult, ReferenceResult, Function}
-use Rattle.syntax.specs.Views.{expr_tree, prefix_tree, binary_tree, form_tree, stmt_tree, statements_tree, result_tree, function_tree, item_tree, unit_tree}
-use Rattle.types.specs.Sorts.{Sort, Word, Jint, Flag, Truth, Ref, Global, FieldId, Buffer, Array, Scope, sort_of, prefix_sort, binary_sort, is_castable, is_jint, OnWords, group}
-use Rattle.types.specs.SortRules.{IsSorted, SortRule, sort_rules, breaks, Place, StatementForm, broken_at, places_of, places_within, item_places, function_places, HeadForm, with_declared, statement_fits, returns_nothing, return_fits}
+use Rattle.syntax.specs.Tree.{Complement, Stmt, PutJint, Return, ReturnValue, Block, Next, ResultType, Void, IntResult, ReferenceResult, Function}
+use Rattle.syntax.specs.Views.{expr_tree, form_tree, stmt_tree, statements_tree, result_tree, function_tree, item_tree, unit_tree}
+use Rattle.types.specs.Sorts.{Sort, Word, Jint, Flag, Truth, Ref, Global, FieldId, Buffer, Array, Scope, sort_of, prefix_sort, binary_sort, is_castable, is_jint, OnWords}
+use Rattle.types.specs.SortRules.{IsSorted, sort_rules, breaks, Place, StatementForm, broken_at, places_of, places_within, item_places, function_places, HeadForm, with_declared, returns_nothing, return_fits}
+use Rattle.types.proofs.SortLemmas.{on_words, binary-words}
 use Rattle.regions.specs.RegionStates.{RegionState, state_at_entry}
-use Rattle.regions.specs.Regions.{Way, On, Returned, Keeps, KeepsBlock, IsEnd, AcceptedFunction, HasRegions}
+use Rattle.regions.specs.Regions.{Returned, KeepsBlock, AcceptedFunction, HasRegions}
 use Rattle.regions.specs.WellSorted.{HasSort, IsNumber, BlockFits, EndsByReturn, IsWellSorted, AreWellSorted}
 
 -- ---- truth values and empty lists
@@ -112,24 +110,6 @@ jint_sort (Some Global) h = absurd cc
 jint_sort (Some FieldId) h = absurd cc
 jint_sort (Some (Buffer t w)) h = absurd cc
 jint_sort (Some (Array t n)) h = absurd cc
-
--- the operators in memory work on words
-pub on_words : (op : BinaryInMemory) → group (binary_tree op) ≡ OnWords
-on_words binary.BitOr = refl
-on_words binary.BitXor = refl
-on_words binary.BitAnd = refl
-on_words binary.Add = refl
-on_words binary.Subtract = refl
-on_words binary.Multiply = refl
-
--- their sort is that of their operands
-pub binary-words : (scope : Scope) (op : BinaryInMemory) (a b : Expr) → sort_of scope (Binary (binary_tree op) a b) ≡ binary_sort OnWords (sort_of scope a) (sort_of scope b)
-binary-words scope binary.BitOr a b = refl
-binary-words scope binary.BitXor a b = refl
-binary-words scope binary.BitAnd a b = refl
-binary-words scope binary.Add a b = refl
-binary-words scope binary.Subtract a b = refl
-binary-words scope binary.Multiply a b = refl
 
 below : (n limit : ℕ) → nat_lt n limit ≡ true → n < limit
 below n limit h = grind (arith, nat_tests)
@@ -234,11 +214,13 @@ well_sorted (item.Function f ∷ items) taken h r low ways =
     let function = function_tree f in
     let own = function_places taken [] function in
     let broken = sym (flat_map-append broken_at own (item_places (function.name ∷ taken) [] (map item_tree items))) ∙ h in
-    let statements = nil-right (broken_at (record { line = function.line; known = []; taken = taken; returns = function.result; form = HeadForm function })) _ (nil-left (flat_map broken_at own) _ broken) in
-    (record {
-      fits = block_fits f.result _ _ f.body.statements.items f.body.end_line statements (and-left (numbers_in function) _ r) (within (block_height function.body) 32 (and-left (is_low function) _ low));
-      ends = block_ends (state_at_entry function) (state_at_entry function) f.body.statements.items f.body.end_line ways.0;
-    }, well_sorted items (function.name ∷ taken) (nil-right (flat_map broken_at own) _ broken) (and-right (numbers_in function) _ r) (and-right (is_low function) _ low) ways.1)
+    let statements = nil-right (broken_at (record { line = function.line; known = []; taken = taken; returns = function.result; form = HeadForm function })) _ (nil-left (flat_map broken_at own) _ broken) in (
+      record {
+        fits = block_fits f.result _ _ f.body.statements.items f.body.end_line statements (and-left (numbers_in function) _ r) (within (block_height function.body) 32 (and-left (is_low function) _ low));
+        ends = block_ends (state_at_entry function) (state_at_entry function) f.body.statements.items f.body.end_line ways.0;
+      },
+      well_sorted items (function.name ∷ taken) (nil-right (flat_map broken_at own) _ broken) (and-right (numbers_in function) _ r) (and-right (is_low function) _ low) ways.1,
+    )
 
 -- a unit that lies in memory and keeps all rules is well sorted
 pub checked-well_sorted : (items : List ItemInMemory) → IsTree (unit_tree items) → IsSorted (unit_tree items) → HasRegions (unit_tree items) → AreWellSorted (unit_tree items)

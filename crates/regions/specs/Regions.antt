@@ -1,5 +1,5 @@
 -- Which units are accepted: each way through a function keeps the rules on buffers, references and frames.
-use Rattle.std.specs.Prelude.{◌≡◌, ℕ, ◌+◌, Bool, not, ◌⊎◌, List, bytes_eq, filter, IsTrue, Contains}
+use Rattle.std.specs.Prelude.{◌≡◌, ℕ, ◌+◌, Bool, not, ◌⊎◌, bytes_eq, filter, IsTrue, Contains}
 use Rattle.std.specs.List.{list_any, AllByRecursion}
 use Rattle.base.specs.Bytes.{Identifier}
 use Rattle.syntax.specs.Tree.{Null}

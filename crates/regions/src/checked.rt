@@ -1,14 +1,19 @@
 //! Units that are accepted.
 
-ghost use Rattle.std.specs.Prelude.{◌≡◌};
+ghost use Rattle.std.specs.Prelude.{◌≡◌, IfOk, IfErr, IsOk};
 ghost use Rattle.syntax.specs.Limits.{IsTree};
 ghost use Rattle.syntax.specs.Views.{unit_tree};
 ghost use Rattle.types.specs.SortRules.{IsSorted};
 ghost use Rattle.regions.specs.Regions.{HasRegions};
 ghost use Rattle.regions.specs.WellSorted.{AreWellSorted};
+ghost use Rattle.regions.specs.FirstFaults.{IsFirstRegionFault};
+ghost use Rattle.regions.specs.OpenEnds.{rule_of};
 
+use crate::checker::check_items;
+use crate::fault::RegionFault;
 use std::marker::Model;
 use syntax::Unit;
+use types::Typed;
 
 /// A unit that keeps the rules of sorts and regions.
 #[derive(Debug, Drop)]
@@ -55,4 +60,19 @@ impl Checked {
         let _ = self.unit.items();
         &self.unit
     }
+}
+
+/// The unit, where each way through its functions keeps the rules. It takes no memory, and reads each statement once.
+pub fn check(typed: Typed) -> Result<Checked, RegionFault>
+    // A unit that is answered is the one given, and it is accepted.
+    ensures same { IfOk result (λ c. c ≡ typed) }
+    ensures accepted { IfOk result (λ _. HasRegions (unit_tree typed)) }
+    // An accepted unit is answered.
+    ensures only { HasRegions (unit_tree typed) → IsOk result }
+    // The fault is the first in text order, and at one place the one of the least number.
+    ensures first { IfErr result (λ e. IsFirstRegionFault (rule_of e.rule) e.line (unit_tree typed)) }
+{
+    let unit = typed.into_unit();
+    check_items(unit.items())?;
+    Ok(Checked::of(unit))
 }

@@ -2,11 +2,16 @@
 #![tactic(auto)]
 
 mod checked;
+mod checker;
+mod fault;
+#[cfg(test)]
+mod tests;
 
 ghost use Rattle.regions.specs.FirstFaults.{AcceptedBreaksNothing, AcceptedOrBroken, AcceptedOrFirst, NotBoth, OneFirst};
 ghost use Rattle.regions.specs.Reachable.{ReachableIsComputed};
 
-pub use checked::Checked;
+pub use checked::{Checked, check};
+pub use fault::{RegionFault, RegionRule};
 
 /// A function that is accepted breaks no rule.
 pub fn accepted_breaks_nothing()

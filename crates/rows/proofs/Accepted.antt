@@ -329,7 +329,8 @@ returns_early-first = refl
 -- (*env)->FatalError(env, "x");
 -- jint v33 = (*env)->MonitorEnter(env, o);
 -- jint v34 = (*env)->MonitorExit(env, g);
--- if (g == NULL && !(i != NULL) || w == NULL) { put_jint((jint)c); } else { while (c == JNI_TRUE || n < 4) { c = JNI_FALSE; } }
+-- if (g == NULL && !(i != NULL) || w == NULL) { put_jint((jint)c); } else { while (c == JNI_TRUE || n < 4) { c =
+--     JNI_FALSE; } }
 -- uint32_t u = ~255u << 3u | (uint32_t)c ^ 7u % 2u & 1u;
 -- return o;
 -- }

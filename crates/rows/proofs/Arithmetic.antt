@@ -32,7 +32,8 @@ returns_zero-run : run returns_zero returns_zero-world (turns 1 9)
 unfolding opened
 returns_zero-run = refl
 
--- JNIEXPORT void JNICALL Java_A_f(JNIEnv *env, jclass cls) { put_jint((jint)(4294967295u + 1u)); put_jint((jint)2147483648u); return; }
+-- JNIEXPORT void JNICALL Java_A_f(JNIEnv *env, jclass cls) { put_jint((jint)(4294967295u + 1u));
+--     put_jint((jint)2147483648u); return; }
 abbrev pub wraps : SourceUnit
 wraps =
     unit_of

@@ -15,7 +15,8 @@ use Rattle.rows.proofs.Computed.{unit_of, native, block, reference_parameter, ca
 -- jint *p = (*env)->GetIntArrayElements(env, a, NULL);
 -- if (p != NULL) { p[0] = 9; (*env)->ReleaseIntArrayElements(env, a, p, 0); }
 -- return; }
--- JNIEXPORT void JNICALL Java_A_g(JNIEnv *env, jclass cls, jintArray a) { jint b[1] = {0}; b[0] = 5; (*env)->SetIntArrayRegion(env, a, 0, 1, b); return; }
+-- JNIEXPORT void JNICALL Java_A_g(JNIEnv *env, jclass cls, jintArray a) { jint b[1] = {0}; b[0] = 5;
+--     (*env)->SetIntArrayRegion(env, a, 0, 1, b); return; }
 abbrev pub copied_back : SourceUnit
 copied_back =
     unit_of
@@ -82,7 +83,8 @@ copied_back-run = refl
 -- jint *p = (*env)->GetIntArrayElements(env, a, NULL);
 -- if (p != NULL) { p[0] = 9; (*env)->ReleaseIntArrayElements(env, a, p, JNI_ABORT); }
 -- return; }
--- JNIEXPORT void JNICALL Java_A_g(JNIEnv *env, jclass cls, jintArray a) { jint b[1] = {0}; b[0] = 5; (*env)->SetIntArrayRegion(env, a, 0, 1, b); return; }
+-- JNIEXPORT void JNICALL Java_A_g(JNIEnv *env, jclass cls, jintArray a) { jint b[1] = {0}; b[0] = 5;
+--     (*env)->SetIntArrayRegion(env, a, 0, 1, b); return; }
 abbrev pub given_up : SourceUnit
 given_up =
     unit_of
@@ -147,9 +149,11 @@ given_up-run = refl
 
 -- JNIEXPORT void JNICALL Java_A_f(JNIEnv *env, jclass cls, jintArray a) {
 -- jint *p = (*env)->GetIntArrayElements(env, a, NULL);
--- if (p != NULL) { p[0] = 9; (*env)->ReleaseIntArrayElements(env, a, p, JNI_COMMIT); p[1] = 4; (*env)->ReleaseIntArrayElements(env, a, p, JNI_ABORT); }
+-- if (p != NULL) { p[0] = 9; (*env)->ReleaseIntArrayElements(env, a, p, JNI_COMMIT); p[1] = 4;
+--     (*env)->ReleaseIntArrayElements(env, a, p, JNI_ABORT); }
 -- return; }
--- JNIEXPORT void JNICALL Java_A_g(JNIEnv *env, jclass cls, jintArray a) { jint b[1] = {0}; b[0] = 5; (*env)->SetIntArrayRegion(env, a, 0, 1, b); return; }
+-- JNIEXPORT void JNICALL Java_A_g(JNIEnv *env, jclass cls, jintArray a) { jint b[1] = {0}; b[0] = 5;
+--     (*env)->SetIntArrayRegion(env, a, 0, 1, b); return; }
 abbrev pub committed_beside_another : SourceUnit
 committed_beside_another =
     unit_of
@@ -221,9 +225,11 @@ committed_beside_another-run = refl
 
 -- JNIEXPORT void JNICALL Java_A_f(JNIEnv *env, jclass cls, jintArray a) {
 -- jint *p = (*env)->GetIntArrayElements(env, a, NULL);
--- if (p != NULL) { p[0] = 9; (*env)->ReleaseIntArrayElements(env, a, p, JNI_COMMIT); p[1] = 4; (*env)->ReleaseIntArrayElements(env, a, p, JNI_ABORT); }
+-- if (p != NULL) { p[0] = 9; (*env)->ReleaseIntArrayElements(env, a, p, JNI_COMMIT); p[1] = 4;
+--     (*env)->ReleaseIntArrayElements(env, a, p, JNI_ABORT); }
 -- return; }
--- JNIEXPORT void JNICALL Java_A_g(JNIEnv *env, jclass cls, jintArray a) { jint b[1] = {0}; b[0] = 5; (*env)->SetIntArrayRegion(env, a, 0, 1, b); return; }
+-- JNIEXPORT void JNICALL Java_A_g(JNIEnv *env, jclass cls, jintArray a) { jint b[1] = {0}; b[0] = 5;
+--     (*env)->SetIntArrayRegion(env, a, 0, 1, b); return; }
 abbrev pub committed : SourceUnit
 committed =
     unit_of

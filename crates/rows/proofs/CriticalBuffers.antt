@@ -75,9 +75,11 @@ own_array-run = refl
 
 -- JNIEXPORT void JNICALL Java_A_f(JNIEnv *env, jclass cls, jintArray a) {
 -- jint *q = (*env)->GetPrimitiveArrayCritical(env, a, NULL);
--- if (q != NULL) { uint32_t s = (uint32_t)q[0] + (uint32_t)q[1]; (*env)->ReleasePrimitiveArrayCritical(env, a, q, 0); put_jint((jint)s); }
+-- if (q != NULL) { uint32_t s = (uint32_t)q[0] + (uint32_t)q[1]; (*env)->ReleasePrimitiveArrayCritical(env, a, q, 0);
+--     put_jint((jint)s); }
 -- return; }
--- JNIEXPORT void JNICALL Java_A_g(JNIEnv *env, jclass cls, jintArray a) { jint b[2] = {0}; b[0] = 10; b[1] = 20; (*env)->SetIntArrayRegion(env, a, 0, 2, b); return; }
+-- JNIEXPORT void JNICALL Java_A_g(JNIEnv *env, jclass cls, jintArray a) { jint b[2] = {0}; b[0] = 10; b[1] = 20;
+--     (*env)->SetIntArrayRegion(env, a, 0, 2, b); return; }
 abbrev pub written_by_another : SourceUnit
 written_by_another =
     unit_of
@@ -147,9 +149,11 @@ written_by_another-run = refl
 
 -- JNIEXPORT void JNICALL Java_A_f(JNIEnv *env, jclass cls, jintArray a) {
 -- jint *q = (*env)->GetPrimitiveArrayCritical(env, a, NULL);
--- if (q != NULL) { uint32_t s = (uint32_t)q[0] + (uint32_t)q[1]; (*env)->ReleasePrimitiveArrayCritical(env, a, q, 0); put_jint((jint)s); }
+-- if (q != NULL) { uint32_t s = (uint32_t)q[0] + (uint32_t)q[1]; (*env)->ReleasePrimitiveArrayCritical(env, a, q, 0);
+--     put_jint((jint)s); }
 -- return; }
--- JNIEXPORT void JNICALL Java_A_g(JNIEnv *env, jclass cls, jintArray a) { jintArray b = (*env)->NewIntArray(env, 2); return; }
+-- JNIEXPORT void JNICALL Java_A_g(JNIEnv *env, jclass cls, jintArray a) { jintArray b = (*env)->NewIntArray(env, 2);
+--     return; }
 abbrev pub allocated_by_another : SourceUnit
 allocated_by_another =
     unit_of

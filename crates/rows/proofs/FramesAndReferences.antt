@@ -154,7 +154,8 @@ deleted_global-run : run deleted_global deleted_global-world (turns 1 3 ++ turns
 unfolding opened
 deleted_global-run = refl
 
--- JNIEXPORT void JNICALL Java_A_f(JNIEnv *env, jclass cls) { jint e = (*env)->EnsureLocalCapacity(env, 1023); put_jint(e); return; }
+-- JNIEXPORT void JNICALL Java_A_f(JNIEnv *env, jclass cls) { jint e = (*env)->EnsureLocalCapacity(env, 1023);
+--     put_jint(e); return; }
 abbrev pub capacity_granted : SourceUnit
 capacity_granted =
     unit_of
@@ -185,7 +186,8 @@ capacity_granted-run : run capacity_granted capacity_granted-world (turns 1 9)
 unfolding opened
 capacity_granted-run = refl
 
--- JNIEXPORT void JNICALL Java_A_f(JNIEnv *env, jclass cls) { jint e = (*env)->EnsureLocalCapacity(env, 1024); put_jint(e); return; }
+-- JNIEXPORT void JNICALL Java_A_f(JNIEnv *env, jclass cls) { jint e = (*env)->EnsureLocalCapacity(env, 1024);
+--     put_jint(e); return; }
 abbrev pub capacity_refused : SourceUnit
 capacity_refused =
     unit_of

@@ -7,7 +7,8 @@ use Rattle.classes.specs.Mangling.{unmangle}
 use Rattle.types.specs.Prototype.{function_named}
 use Rattle.rows.proofs.Computed.{unit_of, native}
 
--- JNIEXPORT void JNICALL Java_A_f(JNIEnv *env, jclass cls) { put_jint((((((((((((((((((((((((((((((((1)))))))))))))))))))))))))))))))); return; }
+-- JNIEXPORT void JNICALL Java_A_f(JNIEnv *env, jclass cls) {
+--     put_jint((((((((((((((((((((((((((((((((1)))))))))))))))))))))))))))))))); return; }
 abbrev pub highest : SourceUnit
 highest =
     unit_of
@@ -55,7 +56,8 @@ highest-height : map (λ f. block_height f.body) (functions_of highest) ≡ 32 �
 unfolding function_named unmangle
 highest-height = refl
 
--- JNIEXPORT void JNICALL Java_A_f(JNIEnv *env, jclass cls) { put_jint(((((((((((((((((((((((((((((((((1))))))))))))))))))))))))))))))))); return; }
+-- JNIEXPORT void JNICALL Java_A_f(JNIEnv *env, jclass cls) {
+--     put_jint(((((((((((((((((((((((((((((((((1))))))))))))))))))))))))))))))))); return; }
 abbrev pub too_high : SourceUnit
 too_high =
     unit_of

@@ -136,7 +136,7 @@ copies_too_many : prints copies_too_many-program plain_world 9 ≡ Some (pos 1 �
 unfolding opened
 copies_too_many = refl
 
--- JNIEXPORT void JNICALL Java_A_f(JNIEnv *env, jclass cls, jintArray a) { jint *p0 = (*env)->GetPrimitiveArrayCritical(env, a, NULL); jint *p1 = (*env)->GetPrimitiveArrayCritical(env, a, NULL); jint *p2 = (*env)->GetPrimitiveArrayCritical(env, a, NULL); jint *p3 = (*env)->GetPrimitiveArrayCritical(env, a, NULL); jint *p4 = (*env)->GetPrimitiveArrayCritical(env, a, NULL); jint *p5 = (*env)->GetPrimitiveArrayCritical(env, a, NULL); jint *p6 = (*env)->GetPrimitiveArrayCritical(env, a, NULL); jint *p7 = (*env)->GetPrimitiveArrayCritical(env, a, NULL); jint *p8 = (*env)->GetPrimitiveArrayCritical(env, a, NULL); jint *p9 = (*env)->GetPrimitiveArrayCritical(env, a, NULL); jint *p10 = (*env)->GetPrimitiveArrayCritical(env, a, NULL); jint *p11 = (*env)->GetPrimitiveArrayCritical(env, a, NULL); jint *p12 = (*env)->GetPrimitiveArrayCritical(env, a, NULL); jint *p13 = (*env)->GetPrimitiveArrayCritical(env, a, NULL); jint *p14 = (*env)->GetPrimitiveArrayCritical(env, a, NULL); jint *p15 = (*env)->GetPrimitiveArrayCritical(env, a, NULL); jint *p16 = (*env)->GetPrimitiveArrayCritical(env, a, NULL); jint *p17 = (*env)->GetPrimitiveArrayCritical(env, a, NULL); jint *p18 = (*env)->GetPrimitiveArrayCritical(env, a, NULL); jint *p19 = (*env)->GetPrimitiveArrayCritical(env, a, NULL); jint *p20 = (*env)->GetPrimitiveArrayCritical(env, a, NULL); jint *p21 = (*env)->GetPrimitiveArrayCritical(env, a, NULL); jint *p22 = (*env)->GetPrimitiveArrayCritical(env, a, NULL); jint *p23 = (*env)->GetPrimitiveArrayCritical(env, a, NULL); jint *p24 = (*env)->GetPrimitiveArrayCritical(env, a, NULL); jint *p25 = (*env)->GetPrimitiveArrayCritical(env, a, NULL); jint *p26 = (*env)->GetPrimitiveArrayCritical(env, a, NULL); jint *p27 = (*env)->GetPrimitiveArrayCritical(env, a, NULL); jint *p28 = (*env)->GetPrimitiveArrayCritical(env, a, NULL); jint *p29 = (*env)->GetPrimitiveArrayCritical(env, a, NULL); jint *p30 = (*env)->GetPrimitiveArrayCritical(env, a, NULL); jint *p31 = (*env)->GetPrimitiveArrayCritical(env, a, NULL); jint *p32 = (*env)->GetPrimitiveArrayCritical(env, a, NULL); jint *p33 = (*env)->GetPrimitiveArrayCritical(env, a, NULL); jint *p34 = (*env)->GetPrimitiveArrayCritical(env, a, NULL); jint *p35 = (*env)->GetPrimitiveArrayCritical(env, a, NULL); jint *p36 = (*env)->GetPrimitiveArrayCritical(env, a, NULL); jint *p37 = (*env)->GetPrimitiveArrayCritical(env, a, NULL); jint *p38 = (*env)->GetPrimitiveArrayCritical(env, a, NULL); jint *p39 = (*env)->GetPrimitiveArrayCritical(env, a, NULL); jint *p40 = (*env)->GetPrimitiveArrayCritical(env, a, NULL); jint *p41 = (*env)->GetPrimitiveArrayCritical(env, a, NULL); jint *p42 = (*env)->GetPrimitiveArrayCritical(env, a, NULL); jint *p43 = (*env)->GetPrimitiveArrayCritical(env, a, NULL); jint *p44 = (*env)->GetPrimitiveArrayCritical(env, a, NULL); jint *p45 = (*env)->GetPrimitiveArrayCritical(env, a, NULL); jint *p46 = (*env)->GetPrimitiveArrayCritical(env, a, NULL); jint *p47 = (*env)->GetPrimitiveArrayCritical(env, a, NULL); jint *p48 = (*env)->GetPrimitiveArrayCritical(env, a, NULL); jint *p49 = (*env)->GetPrimitiveArrayCritical(env, a, NULL); jint *p50 = (*env)->GetPrimitiveArrayCritical(env, a, NULL); jint *p51 = (*env)->GetPrimitiveArrayCritical(env, a, NULL); jint *p52 = (*env)->GetPrimitiveArrayCritical(env, a, NULL); jint *p53 = (*env)->GetPrimitiveArrayCritical(env, a, NULL); jint *p54 = (*env)->GetPrimitiveArrayCritical(env, a, NULL); jint *p55 = (*env)->GetPrimitiveArrayCritical(env, a, NULL); jint *p56 = (*env)->GetPrimitiveArrayCritical(env, a, NULL); jint *p57 = (*env)->GetPrimitiveArrayCritical(env, a, NULL); jint *p58 = (*env)->GetPrimitiveArrayCritical(env, a, NULL); jint *p59 = (*env)->GetPrimitiveArrayCritical(env, a, NULL); jint *p60 = (*env)->GetPrimitiveArrayCritical(env, a, NULL); jint *p61 = (*env)->GetPrimitiveArrayCritical(env, a, NULL); jint *p62 = (*env)->GetPrimitiveArrayCritical(env, a, NULL); jint *p63 = (*env)->GetPrimitiveArrayCritical(env, a, NULL); jint *p64 = (*env)->GetPrimitiveArrayCritical(env, a, NULL); if (p63 == NULL) { put_jint(1); } if (p64 == NULL) { put_jint(2); } return; }
+-- jint *p0 = (*env)->GetPrimitiveArrayCritical(env, a, NULL); and so on to p64; prints 1 where p63 is NULL, 2 where p64 is
 abbrev pub views_64-program : SourceUnit
 views_64-program =
     unit_of
@@ -414,7 +414,9 @@ views_64 : prints views_64-program array_world 75 ≡ Some (pos 2 ∷ [])
 unfolding opened
 views_64 = refl
 
--- JNIEXPORT void JNICALL Java_A_f(JNIEnv *env, jclass cls) { jint e = (*env)->EnsureLocalCapacity(env, 1); jint d = (*env)->PushLocalFrame(env, 1007); put_jint(d); jint c = (*env)->PushLocalFrame(env, 1); put_jint(c); (*env)->ExceptionClear(env); jint b = (*env)->PushLocalFrame(env, 0); put_jint(b); return; }
+-- JNIEXPORT void JNICALL Java_A_f(JNIEnv *env, jclass cls) { jint e = (*env)->EnsureLocalCapacity(env, 1); jint d =
+--     (*env)->PushLocalFrame(env, 1007); put_jint(d); jint c = (*env)->PushLocalFrame(env, 1); put_jint(c);
+--     (*env)->ExceptionClear(env); jint b = (*env)->PushLocalFrame(env, 0); put_jint(b); return; }
 abbrev pub capacities_1024-program : SourceUnit
 capacities_1024-program =
     unit_of

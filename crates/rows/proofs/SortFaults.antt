@@ -225,7 +225,8 @@ copied_known_names-broken : broken copied_known_names ≡ (1, ReferenceCopied) �
 unfolding function_named unmangle
 copied_known_names-broken = refl
 
--- JNIEXPORT void JNICALL Java_A_f(JNIEnv *env, jclass cls, jintArray a) { jint *p = (*env)->GetIntArrayElements(env, a, NULL); (*env)->ReleaseIntArrayElements(env, a, p, 1); return; }
+-- JNIEXPORT void JNICALL Java_A_f(JNIEnv *env, jclass cls, jintArray a) { jint *p = (*env)->GetIntArrayElements(env,
+--     a, NULL); (*env)->ReleaseIntArrayElements(env, a, p, 1); return; }
 abbrev pub bad_mode : SourceUnit
 bad_mode =
     unit_of
@@ -244,7 +245,8 @@ bad_mode-broken : broken bad_mode ≡ (1, BadMode) ∷ []
 unfolding function_named unmangle
 bad_mode-broken = refl
 
--- JNIEXPORT void JNICALL Java_A_f(JNIEnv *env, jclass cls, jstring s) { const jchar *p = (*env)->GetStringChars(env, s, NULL); p[0] = 1; return; }
+-- JNIEXPORT void JNICALL Java_A_f(JNIEnv *env, jclass cls, jstring s) { const jchar *p = (*env)->GetStringChars(env,
+--     s, NULL); p[0] = 1; return; }
 abbrev pub read_only : SourceUnit
 read_only =
     unit_of

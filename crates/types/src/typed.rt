@@ -1,10 +1,14 @@
 //! Units whose names and sorts keep the rules.
 
-ghost use Rattle.std.specs.Prelude.{◌≡◌};
+ghost use Rattle.std.specs.Prelude.{◌≡◌, IfOk, IfErr, IsOkUnless, Some};
 ghost use Rattle.syntax.specs.Limits.{IsTree};
 ghost use Rattle.syntax.specs.Views.{unit_tree};
-ghost use Rattle.types.specs.SortRules.{IsSorted};
+ghost use Rattle.types.specs.SortRules.{IsSorted, first_fault, broken};
+ghost use Rattle.types.specs.Faults.{Finds, IfBroken, fault_of};
 
+use crate::checker::check_items;
+use crate::fault::TypeFault;
+use std::alloc::Global;
 use std::marker::Model;
 use syntax::Unit;
 
@@ -55,4 +59,26 @@ impl Typed {
         let Typed { unit } = self;
         unit
     }
+}
+
+fn check_unit(alloc: Global, unit: &Unit) -> Result<(), TypeFault>
+    ensures { Finds result (broken (unit_tree unit.now)) }
+{
+    check_items(alloc, unit.items())
+}
+
+/// The unit, where it keeps the rules on names and sorts. A statement's expressions are read once; beside that it
+/// compares each function's name with those of the functions before it.
+#[tactic(auto, using(crate::proofs::FindsLemmas::unit_rules))]
+pub fn type_unit(alloc: Global, unit: Unit) -> Result<Typed, TypeFault>
+    // A unit that is answered is the one given, and it is sorted.
+    ensures same { IfOk result (λ t. t ≡ unit) }
+    ensures sorted { IfOk result (λ _. IsSorted (unit_tree unit)) }
+    // A sorted unit is answered, unless memory runs out.
+    ensures only { IsSorted (unit_tree unit) → IsOkUnless result TypeFault.Memory }
+    // The fault is the first broken rule in text order, and at one statement the one of the least number.
+    ensures first { IfErr result (λ e. IfBroken e (λ f. first_fault (unit_tree unit) ≡ Some (fault_of f))) }
+{
+    check_unit(alloc, &unit)?;
+    Ok(Typed::of(unit))
 }

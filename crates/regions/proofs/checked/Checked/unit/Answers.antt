@@ -1,6 +1,3 @@
-use Rattle.std.proofs.Common.{subst, sym}
-use Rattle.syntax.specs.Limits.{IsTree}
-use Rattle.syntax.specs.Views.{unit_tree}
 use Rattle.regions.proofs.AcceptedForms.{checked-well_sorted}
 use Rattle.regions.proofs.checked.Checked.unit.Goals as goal
 

@@ -1,0 +1,41 @@
+-- The fault of a pass is one that the text earns.
+use Rattle.std.proofs.Common.{◌≡◌, List, ℕ, Some, Ok, Err, refl, sym, ◌∙◌}
+use Rattle.syntax.specs.declared.unit.Item.{Item}
+use Rattle.syntax.specs.Tree.{SourceUnit}
+use Rattle.syntax.specs.Views.{unit_tree}
+use Rattle.scan.specs.declared.token.Token.{Token}
+use Rattle.scan.specs.declared.fault.ScanFault.{ScanFault}
+use Rattle.scan.specs.declared.fault.ScanFault.TheVariants as scanning
+use Rattle.scan.specs.Spelling.{Spells}
+use Rattle.scan.specs.Faults.{IsFirstFault}
+use Rattle.parse.specs.declared.fault.ParseFault.{ParseFault}
+use Rattle.parse.specs.declared.fault.ParseFault.TheVariants as parsing
+use Rattle.parse.specs.Lexemes.{lexemes}
+use Rattle.parse.specs.Reading.{unit_at}
+use Rattle.parse.specs.Results.{Fails}
+use Rattle.parse.specs.Spelling.{SpellsUnit}
+use Rattle.types.specs.declared.fault.TypeFault.{TypeFault}
+use Rattle.types.specs.declared.fault.TypeFault.TheVariants as sorting
+use Rattle.types.specs.Faults.{IfBroken, fault_of, rule_of}
+use Rattle.types.specs.SortRules.{IsSorted, first_fault}
+use Rattle.regions.specs.declared.fault.RegionFault.{RegionFault}
+use Rattle.regions.specs.FirstFaults.{IsFirstRegionFault}
+use Rattle.regions.specs.OpenEnds as open_ends
+use Rattle.jnirun.specs.Errors.{of_scan, of_parse, of_types, of_regions}
+use Rattle.jnirun.specs.Passes.{IsRefusal}
+use Rattle.jnirun.specs.Programs.{by_scan, by_parse, by_sorts, by_regions}
+
+pub scan_refusal : (text : List ℕ) (f : ScanFault) → IsFirstFault text f → IsRefusal text (of_scan f)
+scan_refusal text scanning.Memory h = tt
+scan_refusal text (scanning.Found fault line) h = by_scan fault line h
+
+pub parse_refusal : (text : List ℕ) (tokens : List Token) (f : ParseFault) → Spells text tokens → Fails f (unit_at (lexemes text 0 1 tokens)) → IsRefusal text (of_parse f)
+parse_refusal text tokens parsing.Memory s h = tt
+parse_refusal text tokens (parsing.Found fault line) s h = by_parse tokens fault line s h
+
+pub types_refusal : (text : List ℕ) (unit : SourceUnit) (f : TypeFault) → SpellsUnit text unit → IfBroken f (λ g. first_fault unit ≡ Some (fault_of g)) → IsRefusal text (of_types f)
+types_refusal text unit sorting.Memory s h = tt
+types_refusal text unit (sorting.Broken fault) s h = by_sorts unit (rule_of fault.rule) fault.line s h
+
+pub regions_refusal : (text : List ℕ) (unit : SourceUnit) (f : RegionFault) → SpellsUnit text unit → IsSorted unit → IsFirstRegionFault (open_ends.rule_of f.rule) f.line unit → IsRefusal text (of_regions f)
+regions_refusal text unit f s t h = by_regions unit (open_ends.rule_of f.rule) f.line s t h

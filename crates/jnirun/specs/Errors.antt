@@ -1,0 +1,51 @@
+-- The faults of the layers below, as errors of a run.
+use Rattle.std.specs.Prelude.{ℕ}
+use Rattle.scan.specs.declared.fault.ScanFault.{ScanFault}
+use Rattle.scan.specs.declared.fault.ScanFault.TheVariants as scanning
+use Rattle.scan.specs.Faults as scan_faults
+use Rattle.parse.specs.declared.fault.ParseFault.{ParseFault}
+use Rattle.parse.specs.declared.fault.ParseFault.TheVariants as parsing
+use Rattle.parse.specs.Faults as parse_faults
+use Rattle.types.specs.declared.fault.TypeFault.{TypeFault}
+use Rattle.types.specs.declared.fault.TypeFault.TheVariants as sorting
+use Rattle.types.specs.Faults as type_faults
+use Rattle.types.specs.SortRules.{sort_rule_number}
+use Rattle.regions.specs.declared.fault.RegionFault.{RegionFault}
+use Rattle.regions.specs.OpenEnds as region_faults
+use Rattle.regions.specs.RegionRules.{region_rule_number}
+use Rattle.lower.specs.declared.fault.LowerFault.{LowerFault}
+use Rattle.lower.specs.declared.fault.LowerFault.TheVariants as lowering
+use Rattle.world.specs.declared.fault.ReadError.{ReadError}
+use Rattle.world.specs.declared.fault.ReadError.TheVariants as reading
+use Rattle.world.specs.Rule.{rule_number}
+use Rattle.jnirun.specs.declared.fault.RunError.{RunError}
+use Rattle.jnirun.specs.declared.fault.RunError.TheVariants.{Memory, File, Fault}
+use Rattle.jnirun.specs.declared.files.FileFault.{FileFault}
+use Rattle.jnirun.specs.declared.files.FileFault.TheVariants as files
+
+abbrev pub of_scan : ScanFault → RunError
+of_scan scanning.Memory = Memory
+of_scan (scanning.Found fault line) = Fault (scan_faults.number_of_kind fault) line
+
+abbrev pub of_parse : ParseFault → RunError
+of_parse parsing.Memory = Memory
+of_parse (parsing.Found fault line) = Fault (parse_faults.number_of_kind fault) line
+
+abbrev pub of_types : TypeFault → RunError
+of_types sorting.Memory = Memory
+of_types (sorting.Broken fault) = Fault (sort_rule_number (type_faults.rule_of fault.rule)) fault.line
+
+abbrev pub of_regions : RegionFault → RunError
+of_regions fault = Fault (region_rule_number (region_faults.rule_of fault.rule)) fault.line
+
+abbrev pub of_lower : LowerFault → RunError
+of_lower lowering.Memory = Memory
+of_lower lowering.TooLong = Fault 51 0
+
+abbrev pub of_reading : ReadError → RunError
+of_reading reading.Memory = Memory
+of_reading (reading.Fault fault) = Fault (rule_number fault.rule) fault.line
+
+abbrev pub of_file : FileFault → RunError
+of_file files.Memory = Memory
+of_file files.File = File

@@ -1,0 +1,3 @@
+pub mod Errors
+pub mod Programs
+pub mod Passes

@@ -1,0 +1,41 @@
+-- Which program texts are accepted, and which fault another earns.
+use Rattle.std.specs.Prelude.{◌≡◌, ℕ, IsTrue, List, Some, Err}
+use Rattle.syntax.specs.Tree.{SourceUnit}
+use Rattle.scan.specs.declared.token.Token.{Token}
+use Rattle.scan.specs.declared.fault.Fault.{Fault as BadToken}
+use Rattle.scan.specs.declared.fault.ScanFault.TheVariants as scanning
+use Rattle.scan.specs.Spelling.{Spells}
+use Rattle.scan.specs.Faults.{IsFirstFault}
+use Rattle.scan.specs.Faults as scan_faults
+use Rattle.parse.specs.declared.fault.Fault.{Fault as BadForm}
+use Rattle.parse.specs.declared.fault.ParseFault.TheVariants as parsing
+use Rattle.parse.specs.Built.{is_built}
+use Rattle.parse.specs.Faults as parse_faults
+use Rattle.parse.specs.Lexemes.{lexemes}
+use Rattle.parse.specs.Reading.{unit_at}
+use Rattle.parse.specs.Spelling.{SpellsUnit}
+use Rattle.types.specs.SortRules.{SortRule, sort_rule_number, IsSorted, first_fault}
+use Rattle.regions.specs.RegionRules.{RegionRule, region_rule_number}
+use Rattle.regions.specs.Regions.{HasRegions}
+use Rattle.regions.specs.FirstFaults.{IsFirstRegionFault}
+use Rattle.lower.specs.Layout.{IsTooLong}
+
+-- the unit is the tree that the text spells, of forms that are built, and it keeps the rules of sorts and regions
+pub record IsProgram (text : List ℕ) (unit : SourceUnit) : Type 0 where
+  pub spelled : SpellsUnit text unit
+  pub built : IsTrue (is_built unit)
+  pub sorted : IsSorted unit
+  pub regions : HasRegions unit
+
+-- The text is refused with this number at this line, by the first pass that finds a fault.
+pub data IsRefusedProgram (text : List ℕ) : (number line : ℕ) → Type 0 where
+  -- it has no tokens
+  by_scan : (fault : BadToken) (line : ℕ) → IsFirstFault text (scanning.Found fault line) → IsRefusedProgram text (scan_faults.number_of_kind fault) line
+  -- its tokens form no tree
+  by_parse : (tokens : List Token) (fault : BadForm) (line : ℕ) → Spells text tokens → unit_at (lexemes text 0 1 tokens) ≡ Err (parsing.Found fault line) → IsRefusedProgram text (parse_faults.number_of_kind fault) line
+  -- a rule of sorts is broken
+  by_sorts : (unit : SourceUnit) (rule : SortRule) (line : ℕ) → SpellsUnit text unit → first_fault unit ≡ Some (line, rule) → IsRefusedProgram text (sort_rule_number rule) line
+  -- a rule of regions is broken
+  by_regions : (unit : SourceUnit) (rule : RegionRule) (line : ℕ) → SpellsUnit text unit → IsSorted unit → IsFirstRegionFault rule line unit → IsRefusedProgram text (region_rule_number rule) line
+  -- the code of a function would be too long
+  by_length : (unit : SourceUnit) → IsProgram text unit → IsTooLong unit → IsRefusedProgram text 51 0

@@ -1,0 +1,344 @@
+-- Expressions: what is read is spelled so, and what is spelled so is read. Nothing here names an operator or its level.
+use Rattle.std.proofs.Common.{◌≡◌, ℕ, zero, suc, ◌+◌, ◌<◌, ◌≤◌, max, Bool, true, false, List, [], ◌∷◌, ◌++◌, Option, Some, None, Result, Ok, refl, sym, ap, subst, ◌∙◌, append_assoc, arith, inl, inr}
+use Rattle.std.specs.Prelude.{nat_lt, ◌==◌, IsTrue}
+use Rattle.std.proofs.lemmas.Bool.{le-ltb, lt-ltb, ltb-true, ltb-false, ne_eqb}
+use Rattle.std.proofs.lemmas.List.{append-nil}
+use Rattle.scan.specs.declared.token.Mark.TheVariants as marks
+use Rattle.syntax.specs.Tree.{PrefixOp, LogicalNot, Complement, ToWord, ToInt, BinaryOp, Expr, Number, Named, Variable, Element, Prefix, Binary, Paren}
+use Rattle.syntax.specs.Limits.{operator_level, prefix_level, height}
+use Rattle.parse.specs.declared.fault.ParseFault.{ParseFault}
+use Rattle.parse.specs.declared.words.Word.TheVariants as words
+use Rattle.parse.specs.declared.lexemes.Fixed.{Fixed}
+use Rattle.parse.specs.declared.lexemes.Fixed.TheVariants as fixed
+use Rattle.parse.specs.Results.{◌>>=◌}
+use Rattle.parse.specs.Meaning.{Meaning, Fixed', Name', Number', Text'}
+use Rattle.parse.specs.Lexemes.{Lexed, same_fixed, expect}
+use Rattle.parse.specs.Built.{is_built_prefix, is_built_operator}
+use Rattle.parse.specs.Spelling.{Spelled, Anywhere, mark, word, operator_mark, prefix_tokens, expression}
+use Rattle.parse.specs.Reading.{Reader, ReadExpr, starts_with, behind, operator_at, climb, climb_step, under_prefix, in_parens, behind_paren, number_of, number_first, operand_by, expr_by, deeper}
+use Rattle.parse.proofs.Forms.{IsLevelled}
+use Rattle.parse.proofs.Singles.{Begins, bind_ok, ok_is, chosen, begins_append, begins_split, first_takes, first_rest, first_is, starts_takes, expect_takes, expect_again}
+use Rattle.parse.proofs.Table.{operator_is, operator_built, operator_again, operator_first, level_small}
+
+-- an expression that stands at a operator_level stands at a looser one
+pub weaker : (e : Expr) (m n : ℕ) → n ≤ m → IsLevelled m e → IsLevelled n e
+weaker (Number value unsigned) m n le h = tt
+weaker (Named c) m n le h = h
+weaker (Variable x) m n le h = h
+weaker (Element x i) m n le h = h
+weaker (Prefix op e) m n le h = h
+weaker (Binary op a b) m n le h = (omega (arith, h.0), h.1, h.2, h.3)
+weaker (Paren e) m n le h = h
+
+-- no operator of this operator_level or tighter comes Next
+abbrev pub Stops : ℕ → List Lexed → Type 0
+Stops least ls = (op : BinaryOp) → operator_at ls ≡ Some op → operator_level op < least
+
+-- the operator that comes Next may have this to its left
+abbrev pub Takeable : Expr → List Lexed → Type 0
+Takeable e ls = (op : BinaryOp) → operator_at ls ≡ Some op → IsLevelled (operator_level op) e
+
+same_op : (o : Option BinaryOp) (a b : BinaryOp) → o ≡ Some a → o ≡ Some b → a ≡ b
+same_op o a b e f = let g : Some a ≡ Some b = sym e ∙ f in cc
+
+abbrev answer : ReadExpr → Result ReadExpr ParseFault
+answer x = Ok x
+
+-- ---- what is read is spelled so
+
+pub record Takes (least : ℕ) (ls : List Lexed) (x : ReadExpr) : Type 0 where
+  pub parts : Begins (expression x.0) ls x.2
+  pub levelled : IsLevelled least x.0
+  pub high : x.1 ≡ height x.0
+  pub stops : Stops least x.2
+
+abbrev pub AllTakes : Reader → ℕ → Type 0
+AllTakes deep room = (least : ℕ) (ls : List Lexed) (x : ReadExpr) → deep least ls ≡ Ok x → Takes least ls x × (height x.0 < room)
+
+-- an operand, which stands at each operator_level
+record TakesOperand (room : ℕ) (ls : List Lexed) (x : ReadExpr) : Type 0 where
+  parts : Begins (expression x.0) ls x.2
+  levelled : (least : ℕ) → IsLevelled least x.0
+  high : x.1 ≡ height x.0
+  low : height x.0 ≤ room
+
+-- an expression that goes on from left
+record TakesMore (room least : ℕ) (left : Expr) (ls : List Lexed) (x : ReadExpr) : Type 0 where
+  more : List Spelled
+  spelled : expression x.0 ≡ expression left ++ more
+  parts : Begins more ls x.2
+  levelled : IsLevelled least x.0
+  high : x.1 ≡ height x.0
+  low : height x.0 ≤ room
+  stops : Stops least x.2
+
+module _ (deep : Reader) (room : ℕ) (all : AllTakes deep room) where
+  prefix_takes : (op : PrefixOp) → IsTrue (is_built_prefix op) → (before : List Spelled) (ls mid : List Lexed) (x : ReadExpr) → prefix_tokens op ≡ before → Begins before ls mid → under_prefix deep op mid ≡ Ok x → TakesOperand room ls x
+  unfolding under_prefix
+  prefix_takes op built before ls mid x is h e =
+      let a = bind_ok (deep prefix_level mid) (λ y. Ok (Prefix op y.0, 1 + y.1, y.2)) x e in
+      let t = all prefix_level mid a.0 a.1 in
+      let made : ReadExpr = (Prefix op a.0.0, 1 + a.0.1, a.0.2) in
+      subst (λ (y : ReadExpr). TakesOperand room ls y) (ok_is made x a.2) (record {
+        parts = begins_append (prefix_tokens op) (expression a.0.0) ls mid a.0.2 (subst (λ (b : List Spelled). Begins b ls mid) (sym is) h) t.0.parts;
+        levelled = λ least. (built, t.0.levelled);
+        high = ap (λ n. 1 + n) t.0.high;
+        low = omega (arith, t.1);
+      })
+
+  parens_take : (ls : List Lexed) (x : ReadExpr) → Begins (mark marks.OpenParen ∷ []) ls (behind ls) → in_parens deep (behind ls) ≡ Ok x → TakesOperand room ls x
+  unfolding in_parens
+  parens_take ls x h e =
+      let a = bind_ok (deep 0 (behind ls)) (λ y. expect (fixed.Mark marks.CloseParen) y.2 >>= λ after. Ok (Paren y.0, 1 + y.1, after)) x e in
+      let b = bind_ok (expect (fixed.Mark marks.CloseParen) a.0.2) (λ after. Ok (Paren a.0.0, 1 + a.0.1, after)) x a.2 in
+      let t = all 0 (behind ls) a.0 a.1 in
+      let made : ReadExpr = (Paren a.0.0, 1 + a.0.1, b.0) in
+      subst (λ (y : ReadExpr). TakesOperand room ls y) (ok_is made x b.2) (record {
+        parts = first_takes _ _ ls b.0 h (begins_append (expression a.0.0) (mark marks.CloseParen ∷ []) (behind ls) a.0.2 b.0 t.0.parts (expect_takes _ a.0.2 b.0 b.1));
+        levelled = λ least. t.0.levelled;
+        high = ap (λ n. 1 + n) t.0.high;
+        low = omega (arith, t.1);
+      })
+
+  cast_takes : (op : PrefixOp) → IsTrue (is_built_prefix op) → (w : Fixed) (ls : List Lexed) (x : ReadExpr) → prefix_tokens op ≡ mark marks.OpenParen ∷ Anywhere (Fixed' w) ∷ mark marks.CloseParen ∷ [] → Begins (mark marks.OpenParen ∷ []) ls (behind ls) → starts_with w (behind ls) ≡ true → (expect (fixed.Mark marks.CloseParen) (behind (behind ls)) >>= λ after. under_prefix deep op after) ≡ Ok x → TakesOperand room ls x
+  cast_takes op built w ls x is h s e =
+      let a = bind_ok (expect (fixed.Mark marks.CloseParen) (behind (behind ls))) (λ after. under_prefix deep op after) x e in
+      prefix_takes op built (mark marks.OpenParen ∷ Anywhere (Fixed' w) ∷ mark marks.CloseParen ∷ []) ls a.0 x is (first_takes (Fixed' (fixed.Mark marks.OpenParen)) (Anywhere (Fixed' w) ∷ mark marks.CloseParen ∷ []) ls a.0 h (first_takes (Fixed' w) (mark marks.CloseParen ∷ []) (behind ls) a.0 (starts_takes w (behind ls) s) (expect_takes _ (behind (behind ls)) a.0 a.1))) a.2
+
+  paren_takes : (ls : List Lexed) (x : ReadExpr) → Begins (mark marks.OpenParen ∷ []) ls (behind ls) → behind_paren deep (behind ls) ≡ Ok x → TakesOperand room ls x
+  unfolding behind_paren
+  paren_takes ls x h e =
+      elim (chosen (starts_with (fixed.Word words.Uint32) (behind ls)) _ _ (Ok x) e) [
+        | inl w ↦ cast_takes ToWord refl (fixed.Word words.Uint32) ls x refl h w.0 w.1
+        | inr w ↦ elim (chosen (starts_with (fixed.Word words.Jint) (behind ls)) _ _ (Ok x) w.1) [
+          | inl v ↦ cast_takes ToInt refl (fixed.Word words.Jint) ls x refl h v.0 v.1
+          | inr v ↦ parens_take ls x h v.1
+        ]
+      ]
+
+  number_takes : (l : Lexed) (ls : List Lexed) (x : ReadExpr) (m : Meaning) → l.meaning ≡ m → number_of m (l ∷ ls) ls ≡ Ok x → TakesOperand room (l ∷ ls) x
+  number_takes l ls x (Number' value unsigned) is e =
+      let made : ReadExpr = (Number value unsigned, 0, ls) in
+      subst (λ (y : ReadExpr). TakesOperand room (l ∷ ls) y) (ok_is made x e) (record { parts = (is, refl); levelled = λ least. tt; high = refl; low = omega arith })
+  number_takes l ls x (Fixed' f) is e = absurd cc
+  number_takes l ls x (Name' bytes) is e = absurd cc
+  number_takes l ls x (Text' bytes) is e = absurd cc
+
+  number_first_takes : (ls : List Lexed) (x : ReadExpr) → number_first ls ≡ Ok x → TakesOperand room ls x
+  number_first_takes [] x e = absurd cc
+  number_first_takes (l ∷ ls) x e = number_takes l ls x l.meaning refl e
+
+  operand_takes : (ls : List Lexed) (x : ReadExpr) → operand_by room deep ls ≡ Ok x → TakesOperand room ls x
+  unfolding operand_by
+  operand_takes ls x e =
+      elim (chosen (starts_with (fixed.Mark marks.Tilde) ls) _ _ (Ok x) e) [
+        | inl w ↦ elim (chosen (room == 0) _ _ (Ok x) w.1) [
+          | inl v ↦ absurd cc
+          | inr v ↦ prefix_takes Complement refl (mark marks.Tilde ∷ []) ls (behind ls) x refl (starts_takes (fixed.Mark marks.Tilde) ls w.0) v.1
+        ]
+        | inr w ↦ elim (chosen (starts_with (fixed.Mark marks.OpenParen) ls) _ _ (Ok x) w.1) [
+          | inl v ↦ elim (chosen (room == 0) _ _ (Ok x) v.1) [
+            | inl u ↦ absurd cc
+            | inr u ↦ paren_takes ls x (starts_takes (fixed.Mark marks.OpenParen) ls v.0) u.1
+          ]
+          | inr v ↦ number_first_takes ls x v.1
+        ]
+      ]
+
+  stays : (least : ℕ) (left : Expr) (high : ℕ) (ls : List Lexed) (x : ReadExpr) → high ≡ height left → height left ≤ room → IsLevelled least left → Stops least ls → answer (left, high, ls) ≡ Ok x → TakesMore room least left ls x
+  stays least left high ls x h low levelled stops e =
+      let made : ReadExpr = (left, high, ls) in
+      subst (λ (y : ReadExpr). TakesMore room least left ls y) (ok_is made x e) (record { more = []; spelled = sym (append-nil (expression left)); parts = refl; levelled = levelled; high = h; low = low; stops = stops })
+
+  climb_takes : (steps least : ℕ) (left : Expr) (high : ℕ) (ls : List Lexed) (x : ReadExpr) → high ≡ height left → height left ≤ room → IsLevelled least left → Takeable left ls → climb deep room least steps left high ls ≡ Ok x → TakesMore room least left ls x
+  unfolding climb
+  climb_takes zero least left high ls x h low levelled takeable e = absurd cc
+  climb_takes (suc steps) least left high ls x h low levelled takeable e =
+      climbed (climb_takes steps least) (operator_at ls) refl e
+    where
+      climbed : ((left : Expr) (high : ℕ) (ls : List Lexed) (x : ReadExpr) → high ≡ height left → height left ≤ room → IsLevelled least left → Takeable left ls → climb deep room least steps left high ls ≡ Ok x → TakesMore room least left ls x) → (o : Option BinaryOp) → operator_at ls ≡ o → climb_step deep room least (climb deep room least steps) left high ls o ≡ Ok x → TakesMore room least left ls x
+      climbed rec None o e = stays least left high ls x h low levelled (λ op same. let f : None ≡ Some op = sym o ∙ same in absurd cc) e
+      climbed rec (Some op) o e =
+          elim (chosen (nat_lt (operator_level op) least) _ _ (Ok x) e) [
+            | inl w ↦ stays least left high ls x h low levelled (λ other same. subst (λ (b : BinaryOp). operator_level b < least) (same_op (operator_at ls) op other o same) (ltb-true (operator_level op) least w.0)) w.1
+            | inr w ↦ elim (chosen (nat_lt high room) _ _ (Ok x) w.1) [
+              | inr v ↦ absurd cc
+              | inl v ↦
+                  let le = ltb-false (operator_level op) least w.0 in
+                  let lt = ltb-true high room v.0 in
+                  let a = bind_ok (deep (operator_level op + 1) (behind ls)) (λ r. climb deep room least steps (Binary op left r.0) (1 + max high r.1) r.2) x v.1 in
+                  let t = all (operator_level op + 1) (behind ls) a.0 a.1 in
+                  let built = operator_built op ls o in
+                  let now_high : 1 + max high a.0.1 ≡ height (Binary op left a.0.0) = omega (arith, t.0.high) in
+                  let now_low : height (Binary op left a.0.0) ≤ room = omega (arith, t.1) in
+                  let m = rec (Binary op left a.0.0) (1 + max high a.0.1) a.0.2 x now_high now_low (le, built, takeable op o, t.0.levelled) (λ other same. (let n = t.0.stops other same in omega (arith, n), built, takeable op o, t.0.levelled)) a.2 in
+                  record {
+                    more = (mark (operator_mark op) ∷ expression a.0.0) ++ m.more;
+                    spelled = m.spelled ∙ append_assoc (expression left) (mark (operator_mark op) ∷ expression a.0.0) m.more;
+                    parts = first_takes (Fixed' (fixed.Mark (operator_mark op))) (expression a.0.0 ++ m.more) ls x.2 (operator_is op ls o) (begins_append (expression a.0.0) m.more (behind ls) a.0.2 x.2 t.0.parts m.parts);
+                    levelled = m.levelled;
+                    high = m.high;
+                    low = m.low;
+                    stops = m.stops;
+                  }
+            ]
+          ]
+
+  pub expr_takes : (least : ℕ) (ls : List Lexed) (x : ReadExpr) → expr_by room deep least ls ≡ Ok x → Takes least ls x × (height x.0 ≤ room)
+  unfolding expr_by
+  expr_takes least ls x e =
+      let a = bind_ok (operand_by room deep ls) (λ y. climb deep room least (room + 1) y.0 y.1 y.2) x e in
+      let t = operand_takes ls a.0 a.1 in
+      let m = climb_takes (room + 1) least a.0.0 a.0.1 a.0.2 x t.high t.low (t.levelled least) (λ op same. t.levelled (operator_level op)) a.2 in
+      (record { parts = subst (λ (es : List Spelled). Begins es ls x.2) (sym m.spelled) (begins_append (expression a.0.0) m.more ls a.0.2 x.2 t.parts m.parts); levelled = m.levelled; high = m.high; stops = m.stops }, m.low)
+
+pub deeper_takes : (room : ℕ) → AllTakes (deeper room) room
+unfolding deeper
+deeper_takes zero = λ least ls x e. absurd cc
+deeper_takes (suc room) = λ least ls x e.
+    let t = expr_takes (deeper room) room (deeper_takes room) least ls x e in
+    (t.0, omega (arith, t.1))
+
+-- ---- what is spelled so is read
+
+abbrev pub AllAgain : Reader → ℕ → Type 0
+AllAgain deep room = (least : ℕ) (ls rest : List Lexed) (e : Expr) → Begins (expression e) ls rest → IsLevelled least e → height e < room → Stops least rest → deep least ls ≡ Ok (e, height e, rest)
+
+-- An expression that is spelled here is read, and then what goes on from it.
+record Climbed (deep : Reader) (room least : ℕ) (ls : List Lexed) (e : Expr) (rest : List Lexed) : Type 0 where
+  steps : ℕ
+  enough : room < height e + steps
+  same : expr_by room deep least ls ≡ climb deep room least steps e (height e) rest
+
+not_built : false ≡ true → ⊥
+not_built e = cc
+
+-- what stands one deeper is lower
+under : (n room : ℕ) → 1 + n ≤ room → n < room
+under n room le = omega (arith, le)
+
+-- no expression begins with another fixed token than these
+pub no_first : (f : Fixed) → same_fixed (fixed.Mark marks.Tilde) f ≡ false → same_fixed (fixed.Mark marks.OpenParen) f ≡ false → (least : ℕ) (e : Expr) → IsLevelled least e → (ls rest : List Lexed) → Begins (expression e) ls rest → starts_with f ls ≡ false
+no_first f tilde paren least (Number value unsigned) levelled ls rest h = first_is (Number' value unsigned) [] ls rest f h
+no_first f tilde paren least (Named c) levelled ls rest h = absurd levelled
+no_first f tilde paren least (Variable x) levelled ls rest h = absurd levelled
+no_first f tilde paren least (Element x i) levelled ls rest h = absurd levelled
+no_first f tilde paren least (Prefix LogicalNot e) levelled ls rest h = absurd (not_built levelled.0)
+no_first f tilde paren least (Prefix Complement e) levelled ls rest h = first_is (Fixed' (fixed.Mark marks.Tilde)) (expression e) ls rest f h ∙ tilde
+no_first f tilde paren least (Prefix ToWord e) levelled ls rest h = first_is (Fixed' (fixed.Mark marks.OpenParen)) (word words.Uint32 ∷ mark marks.CloseParen ∷ expression e) ls rest f h ∙ paren
+no_first f tilde paren least (Prefix ToInt e) levelled ls rest h = first_is (Fixed' (fixed.Mark marks.OpenParen)) (word words.Jint ∷ mark marks.CloseParen ∷ expression e) ls rest f h ∙ paren
+no_first f tilde paren least (Binary op a b) levelled ls rest h = let parts = begins_split (expression a) (mark (operator_mark op) ∷ expression b) ls rest h in no_first f tilde paren (operator_level op) a levelled.2 ls parts.0 parts.1
+no_first f tilde paren least (Paren e) levelled ls rest h = first_is (Fixed' (fixed.Mark marks.OpenParen)) (expression e ++ mark marks.CloseParen ∷ []) ls rest f h ∙ paren
+
+abbrev IsOperand : Expr → Type 0
+IsOperand (Number value unsigned) = Unit {0}
+IsOperand (Named c) = Unit {0}
+IsOperand (Variable x) = Unit {0}
+IsOperand (Element x i) = Unit {0}
+IsOperand (Prefix op e) = Unit {0}
+IsOperand (Binary op a b) = ⊥
+IsOperand (Paren e) = Unit {0}
+
+-- where no operator of the operator_level comes, nothing goes on
+climb_ends : (deep : Reader) (room steps least : ℕ) (e : Expr) (high : ℕ) (rest : List Lexed) → high ≤ room → room < high + steps → Stops least rest → climb deep room least steps e high rest ≡ Ok (e, high, rest)
+unfolding climb
+climb_ends deep room zero least e high rest low enough stops = absurd (omega arith)
+climb_ends deep room (suc steps) least e high rest low enough stops = ended (operator_at rest) refl
+  where
+    ended : (o : Option BinaryOp) → operator_at rest ≡ o → climb_step deep room least (climb deep room least steps) e high rest o ≡ Ok (e, high, rest)
+    ended None is = refl
+    ended (Some op) is = rw (lt-ltb (operator_level op) least (stops op is)) refl
+
+module _ (deep : Reader) (room : ℕ) (all : AllAgain deep room) where
+  prefix_again : (op : PrefixOp) (e : Expr) (ls rest : List Lexed) → Begins (expression e) ls rest → IsLevelled prefix_level e → height e < room → under_prefix deep op ls ≡ Ok (Prefix op e, 1 + height e, rest)
+  unfolding under_prefix
+  prefix_again op e ls rest h levelled low = rw (all prefix_level ls rest e h levelled low (λ other same. level_small other)) refl
+
+  room_left : (e : Expr) → height e < room → (room == 0) ≡ false
+  room_left e low = ne_eqb room 0 (omega arith)
+
+  cast_again : (op : PrefixOp) (w : Fixed) (e : Expr) (ls rest : List Lexed) → Begins (Anywhere (Fixed' w) ∷ mark marks.CloseParen ∷ expression e) ls rest → IsLevelled prefix_level e → height e < room → (expect (fixed.Mark marks.CloseParen) (behind ls) >>= λ after. under_prefix deep op after) ≡ Ok (Prefix op e, 1 + height e, rest)
+  cast_again op w e ls rest h levelled low =
+      let a = expect_again (fixed.Mark marks.CloseParen) (expression e) (behind ls) rest (first_rest (Anywhere (Fixed' w)) (mark marks.CloseParen ∷ expression e) ls rest h) in
+      rw a.1 (prefix_again op e a.0 rest a.2 levelled low)
+
+  -- each operand
+  operand_again : (e : Expr) (ls rest : List Lexed) → IsOperand e → Begins (expression e) ls rest → IsLevelled 0 e → height e ≤ room → operand_by room deep ls ≡ Ok (e, height e, rest)
+  unfolding operand_by behind_paren in_parens
+  operand_again (Number value unsigned) ls rest is h levelled low = number_again value unsigned ls rest h
+    where
+      number_again : (value : ℕ) (unsigned : Bool) (ls rest : List Lexed) → Begins (Anywhere (Number' value unsigned) ∷ []) ls rest → operand_by room deep ls ≡ Ok (Number value unsigned, 0, rest)
+      number_again value unsigned [] rest h = absurd h
+      number_again value unsigned (l ∷ ls) rest h = rw h.0 (ap (λ (r : List Lexed). answer (Number value unsigned, 0, r)) h.1)
+  operand_again (Named c) ls rest is h levelled low = absurd levelled
+  operand_again (Variable x) ls rest is h levelled low = absurd levelled
+  operand_again (Element x i) ls rest is h levelled low = absurd levelled
+  operand_again (Prefix LogicalNot e) ls rest is h levelled low = absurd (not_built levelled.0)
+  operand_again (Prefix Complement e) ls rest is h levelled low =
+      let f = first_is (Fixed' (fixed.Mark marks.Tilde)) (expression e) ls rest (fixed.Mark marks.Tilde) h in
+      rw (f, room_left e (under _ room low)) (prefix_again Complement e (behind ls) rest (first_rest (mark marks.Tilde) (expression e) ls rest h) levelled.1 (under _ room low))
+  operand_again (Prefix ToWord e) ls rest is h levelled low =
+      let es : List Spelled = word words.Uint32 ∷ mark marks.CloseParen ∷ expression e in
+      let inside = first_rest (mark marks.OpenParen) es ls rest h in
+      let t = first_is (Fixed' (fixed.Mark marks.OpenParen)) es ls rest (fixed.Mark marks.Tilde) h in
+      let f = first_is (Fixed' (fixed.Mark marks.OpenParen)) es ls rest (fixed.Mark marks.OpenParen) h in
+      let g = first_is (Fixed' (fixed.Word words.Uint32)) (mark marks.CloseParen ∷ expression e) (behind ls) rest (fixed.Word words.Uint32) inside in
+      rw (t, f, room_left e (under _ room low), g) (cast_again ToWord (fixed.Word words.Uint32) e (behind ls) rest inside levelled.1 (under _ room low))
+  operand_again (Prefix ToInt e) ls rest is h levelled low =
+      let es : List Spelled = word words.Jint ∷ mark marks.CloseParen ∷ expression e in
+      let inside = first_rest (mark marks.OpenParen) es ls rest h in
+      let t = first_is (Fixed' (fixed.Mark marks.OpenParen)) es ls rest (fixed.Mark marks.Tilde) h in
+      let f = first_is (Fixed' (fixed.Mark marks.OpenParen)) es ls rest (fixed.Mark marks.OpenParen) h in
+      let u = first_is (Fixed' (fixed.Word words.Jint)) (mark marks.CloseParen ∷ expression e) (behind ls) rest (fixed.Word words.Uint32) inside in
+      let g = first_is (Fixed' (fixed.Word words.Jint)) (mark marks.CloseParen ∷ expression e) (behind ls) rest (fixed.Word words.Jint) inside in
+      rw (t, f, room_left e (under _ room low), u, g) (cast_again ToInt (fixed.Word words.Jint) e (behind ls) rest inside levelled.1 (under _ room low))
+  operand_again (Binary op a b) ls rest is h levelled low = absurd is
+  operand_again (Paren e) ls rest is h levelled low =
+      let es : List Spelled = expression e ++ mark marks.CloseParen ∷ [] in
+      let inside = first_rest (mark marks.OpenParen) es ls rest h in
+      let t = first_is (Fixed' (fixed.Mark marks.OpenParen)) es ls rest (fixed.Mark marks.Tilde) h in
+      let f = first_is (Fixed' (fixed.Mark marks.OpenParen)) es ls rest (fixed.Mark marks.OpenParen) h in
+      let parts = begins_split (expression e) (mark marks.CloseParen ∷ []) (behind ls) rest inside in
+      let u = no_first (fixed.Word words.Uint32) refl refl 0 e levelled (behind ls) parts.0 parts.1 in
+      let v = no_first (fixed.Word words.Jint) refl refl 0 e levelled (behind ls) parts.0 parts.1 in
+      let closed = operator_first (Fixed' (fixed.Mark marks.CloseParen)) [] parts.0 rest parts.2 in
+      let d = all 0 (behind ls) parts.0 e parts.1 levelled (under _ room low) (λ op same. let g : None ≡ Some op = sym closed ∙ same in absurd cc) in
+      let a = expect_again (fixed.Mark marks.CloseParen) [] parts.0 rest parts.2 in
+      rw (t, f, room_left e (under _ room low), u, v, d, a.1) (ap (λ (r : List Lexed). answer (Paren e, 1 + height e, r)) a.2)
+
+  from_operand : (e : Expr) (least : ℕ) (ls rest : List Lexed) → operand_by room deep ls ≡ Ok (e, height e, rest) → Climbed deep room least ls e rest
+  unfolding expr_by
+  from_operand e least ls rest h = record { steps = room + 1; enough = omega arith; same = rw h refl }
+
+  climb_next : (steps least : ℕ) (op : BinaryOp) (a b : Expr) (mid rest : List Lexed) → height a < room → room < height a + steps → least ≤ operator_level op → operator_at mid ≡ Some op → deep (operator_level op + 1) (behind mid) ≡ Ok (b, height b, rest) → (s : ℕ) × (room < height (Binary op a b) + s) × (climb deep room least steps a (height a) mid ≡ climb deep room least s (Binary op a b) (height (Binary op a b)) rest)
+  unfolding climb
+  climb_next zero least op a b mid rest low enough le o d = absurd (omega arith)
+  climb_next (suc s) least op a b mid rest low enough le o d =
+      (s, omega arith, rw (o, le-ltb (operator_level op) least le, lt-ltb (height a) room low, d) refl)
+
+  climbed : (e : Expr) (least : ℕ) (ls rest : List Lexed) → Begins (expression e) ls rest → IsLevelled least e → height e ≤ room → Takeable e rest → Climbed deep room least ls e rest
+  climbed (Number value unsigned) least ls rest h levelled low takeable = from_operand _ least ls rest (operand_again (Number value unsigned) ls rest tt h levelled low)
+  climbed (Named c) least ls rest h levelled low takeable = absurd levelled
+  climbed (Variable x) least ls rest h levelled low takeable = absurd levelled
+  climbed (Element x i) least ls rest h levelled low takeable = absurd levelled
+  climbed (Prefix op e) least ls rest h levelled low takeable = from_operand _ least ls rest (operand_again (Prefix op e) ls rest tt h levelled low)
+  climbed (Paren e) least ls rest h levelled low takeable = from_operand _ least ls rest (operand_again (Paren e) ls rest tt h levelled low)
+  climbed (Binary op a b) least ls rest h levelled low takeable =
+      let parts = begins_split (expression a) (mark (operator_mark op) ∷ expression b) ls rest h in
+      let o = operator_again op levelled.1 (expression b) parts.0 rest parts.2 in
+      let low_a : height a < room = omega arith in
+      let low_b : height b < room = omega arith in
+      let first = climbed a least ls parts.0 parts.1 (weaker a (operator_level op) least levelled.0 levelled.2) (omega (arith, low_a)) (λ other same. subst (λ (q : BinaryOp). IsLevelled (operator_level q) a) (same_op (operator_at parts.0) op other o same) levelled.2) in
+      let d = all (operator_level op + 1) (behind parts.0) rest b (first_rest (mark (operator_mark op)) (expression b) parts.0 rest parts.2) levelled.3 low_b (λ other same. let q = takeable other same in omega (arith, q.0)) in
+      let more = climb_next first.steps least op a b parts.0 rest low_a first.enough levelled.0 o d in
+      record { steps = more.0; enough = more.1; same = first.same ∙ more.2 }
+
+  pub expr_again : (least : ℕ) (ls rest : List Lexed) (e : Expr) → Begins (expression e) ls rest → IsLevelled least e → height e ≤ room → Stops least rest → expr_by room deep least ls ≡ Ok (e, height e, rest)
+  expr_again least ls rest e h levelled low stops =
+      let c = climbed e least ls rest h levelled low (λ op same. weaker e least (operator_level op) (let lt = stops op same in omega (arith, lt)) levelled) in
+      c.same ∙ climb_ends deep room c.steps least e (height e) rest low c.enough stops
+
+pub deeper_again : (room : ℕ) → AllAgain (deeper room) room
+unfolding deeper
+deeper_again zero = λ least ls rest e h levelled low stops. absurd (omega (arith, low))
+deeper_again (suc room) = λ least ls rest e h levelled low stops. expr_again (deeper room) room (deeper_again room) least ls rest e h levelled (omega (arith, low)) stops

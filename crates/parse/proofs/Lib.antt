@@ -1,0 +1,13 @@
+pub mod Forms
+pub mod Singles
+pub mod Table
+pub mod Levels
+pub mod Climbing
+pub mod Lines
+pub mod Sentences
+pub mod Blocks
+pub mod Programs
+pub mod Again
+pub mod Ranges
+pub mod Trees
+pub mod Whole

@@ -1,0 +1,186 @@
+-- Functions and units: what is read is spelled so, and what is spelled so is read.
+use Rattle.std.proofs.Common.{◌≡◌, ℕ, zero, suc, ◌+◌, ◌<◌, ◌≤◌, true, false, List, [], ◌∷◌, ◌++◌, length, Result, Ok, refl, sym, ap, subst, arith, inl, inr}
+use Rattle.std.specs.Prelude.{◌==◌, ◌≢◌, flat_map}
+use Rattle.std.proofs.lemmas.Bool.{eqb-false}
+use Rattle.scan.specs.declared.token.Mark.TheVariants as marks
+use Rattle.syntax.specs.Tree.{ResultType, Void, IntResult, Block, Function, Item, FunctionItem}
+use Rattle.parse.specs.declared.fault.ParseFault.{ParseFault}
+use Rattle.parse.specs.declared.words.Word.TheVariants as words
+use Rattle.parse.specs.declared.lexemes.Fixed.{Fixed}
+use Rattle.parse.specs.declared.lexemes.Fixed.TheVariants as fixed
+use Rattle.parse.specs.Results.{◌>>=◌}
+use Rattle.parse.specs.Meaning.{Meaning, Fixed', Name', Number', Text'}
+use Rattle.parse.specs.Lexemes.{Lexed, line_at, expect, name_in, name_at}
+use Rattle.parse.specs.Built.{is_built_result}
+use Rattle.parse.specs.Spelling.{Spelled, Anywhere, OnLine, mark, word, result_word, inside, function, item}
+use Rattle.parse.specs.Reading.{starts_with, behind, result_at, head_at, body_at, block_at, function_at, items_at}
+use Rattle.parse.proofs.Forms.{IsBlock, IsFunction, AreItems}
+use Rattle.parse.proofs.Singles.{Begins, bind_ok, ok_is, chosen, begins_append, starts_takes, expect_takes}
+use Rattle.parse.proofs.Sentences.{block_takes, begins_length}
+
+result_takes : (ls : List Lexed) (x : ResultType × List Lexed) → result_at ls ≡ Ok x → Begins (word (result_word x.0) ∷ []) ls x.1
+unfolding result_at
+result_takes ls x e =
+    elim (chosen (starts_with (fixed.Word words.Void) ls) _ _ (Ok x) e) [
+      | inl w ↦ subst (λ (y : ResultType × List Lexed). Begins (word (result_word y.0) ∷ []) ls y.1) (ok_is (Void, behind ls) x w.1) (starts_takes (fixed.Word words.Void) ls w.0)
+      | inr v ↦ elim (chosen (starts_with (fixed.Word words.Jint) ls) _ _ (Ok x) v.1) [
+        | inl w ↦ subst (λ (y : ResultType × List Lexed). Begins (word (result_word y.0) ∷ []) ls y.1) (ok_is (IntResult, behind ls) x w.1) (starts_takes (fixed.Word words.Jint) ls w.0)
+        | inr w ↦ absurd cc
+      ]
+    ]
+
+result_built : (ls : List Lexed) (x : ResultType × List Lexed) → result_at ls ≡ Ok x → is_built_result x.0 ≡ true
+unfolding result_at
+result_built ls x e =
+    elim (chosen (starts_with (fixed.Word words.Void) ls) _ _ (Ok x) e) [
+      | inl w ↦ ap (λ (y : ResultType × List Lexed). is_built_result y.0) (sym (ok_is (Void, behind ls) x w.1))
+      | inr v ↦ elim (chosen (starts_with (fixed.Word words.Jint) ls) _ _ (Ok x) v.1) [
+        | inl w ↦ ap (λ (y : ResultType × List Lexed). is_built_result y.0) (sym (ok_is (IntResult, behind ls) x w.1))
+        | inr w ↦ absurd cc
+      ]
+    ]
+
+name_in_takes : (l : Lexed) (ls : List Lexed) (x : List ℕ × List Lexed) (m : Meaning) → l.meaning ≡ m → name_in m l.line ls ≡ Ok x → Begins (Anywhere (Name' x.0) ∷ []) (l ∷ ls) x.1
+name_in_takes l ls x (Name' bytes) is e = subst (λ (y : List ℕ × List Lexed). Begins (Anywhere (Name' y.0) ∷ []) (l ∷ ls) y.1) (ok_is (bytes, ls) x e) (is, refl)
+name_in_takes l ls x (Fixed' f) is e = absurd cc
+name_in_takes l ls x (Number' value unsigned) is e = absurd cc
+name_in_takes l ls x (Text' bytes) is e = absurd cc
+
+name_takes : (ls : List Lexed) (x : List ℕ × List Lexed) → name_at ls ≡ Ok x → Begins (Anywhere (Name' x.0) ∷ []) ls x.1
+unfolding name_at
+name_takes [] x e = absurd cc
+name_takes (l ∷ ls) x e = name_in_takes l ls x l.meaning refl e
+
+-- the parameters that each function has, up to the name of its class
+abbrev pub parameters_head : List Spelled
+parameters_head = mark marks.OpenParen ∷ word words.JniEnv ∷ mark marks.Star ∷ word words.Env ∷ mark marks.Comma ∷ word words.Jclass ∷ []
+
+head_takes : (ls rest : List Lexed) → head_at ls ≡ Ok rest → Begins parameters_head ls rest
+unfolding head_at
+head_takes ls rest h =
+    let a = bind_ok (expect (fixed.Mark marks.OpenParen) ls) (λ a. expect (fixed.Word words.JniEnv) a >>= λ b. expect (fixed.Mark marks.Star) b >>= λ c. expect (fixed.Word words.Env) c >>= λ d. expect (fixed.Mark marks.Comma) d >>= λ e. expect (fixed.Word words.Jclass) e) rest h in
+    let b = bind_ok (expect (fixed.Word words.JniEnv) a.0) (λ b. expect (fixed.Mark marks.Star) b >>= λ c. expect (fixed.Word words.Env) c >>= λ d. expect (fixed.Mark marks.Comma) d >>= λ e. expect (fixed.Word words.Jclass) e) rest a.2 in
+    let c = bind_ok (expect (fixed.Mark marks.Star) b.0) (λ c. expect (fixed.Word words.Env) c >>= λ d. expect (fixed.Mark marks.Comma) d >>= λ e. expect (fixed.Word words.Jclass) e) rest b.2 in
+    let d = bind_ok (expect (fixed.Word words.Env) c.0) (λ d. expect (fixed.Mark marks.Comma) d >>= λ e. expect (fixed.Word words.Jclass) e) rest c.2 in
+    let e = bind_ok (expect (fixed.Mark marks.Comma) d.0) (λ e. expect (fixed.Word words.Jclass) e) rest d.2 in
+    let t5 = begins_append (mark marks.Comma ∷ []) (word words.Jclass ∷ []) d.0 e.0 rest (expect_takes (fixed.Mark marks.Comma) d.0 e.0 e.1) (expect_takes (fixed.Word words.Jclass) e.0 rest e.2) in
+    let t4 = begins_append (word words.Env ∷ []) (mark marks.Comma ∷ word words.Jclass ∷ []) c.0 d.0 rest (expect_takes (fixed.Word words.Env) c.0 d.0 d.1) t5 in
+    let t3 = begins_append (mark marks.Star ∷ []) (word words.Env ∷ mark marks.Comma ∷ word words.Jclass ∷ []) b.0 c.0 rest (expect_takes (fixed.Mark marks.Star) b.0 c.0 c.1) t4 in
+    let t2 = begins_append (word words.JniEnv ∷ []) (mark marks.Star ∷ word words.Env ∷ mark marks.Comma ∷ word words.Jclass ∷ []) a.0 b.0 rest (expect_takes (fixed.Word words.JniEnv) a.0 b.0 b.1) t3 in
+    begins_append (mark marks.OpenParen ∷ []) (word words.JniEnv ∷ mark marks.Star ∷ word words.Env ∷ mark marks.Comma ∷ word words.Jclass ∷ []) ls a.0 rest (expect_takes (fixed.Mark marks.OpenParen) ls a.0 a.1) t2
+
+body_takes : (ls : List Lexed) (x : Block × List Lexed) → body_at ls ≡ Ok x → Begins (mark marks.CloseParen ∷ mark marks.OpenBrace ∷ inside x.0) ls x.1 × IsBlock 31 x.0
+unfolding body_at
+body_takes ls x h =
+    let a = bind_ok (expect (fixed.Mark marks.CloseParen) ls) (λ a. expect (fixed.Mark marks.OpenBrace) a >>= λ b. block_at 31 (length b + 1) false b) x h in
+    let b = bind_ok (expect (fixed.Mark marks.OpenBrace) a.0) (λ b. block_at 31 (length b + 1) false b) x a.2 in
+    let t = block_takes 31 (length b.0 + 1) false b.0 x b.2 in
+    let within = begins_append (mark marks.OpenBrace ∷ []) (inside x.0) a.0 b.0 x.1 (expect_takes (fixed.Mark marks.OpenBrace) a.0 b.0 b.1) t.parts in
+    (begins_append (mark marks.CloseParen ∷ []) (mark marks.OpenBrace ∷ inside x.0) ls a.0 x.1 (expect_takes (fixed.Mark marks.CloseParen) ls a.0 a.1) within, t.formed)
+
+-- the first lexeme, with its line
+on_expected : (f : Fixed) (ls rest : List Lexed) → expect f ls ≡ Ok rest → Begins (OnLine (line_at ls) (Fixed' f) ∷ []) ls rest
+on_expected f [] rest e = expect_takes f [] rest e
+on_expected f (l ∷ ls) rest e = let t = expect_takes f (l ∷ ls) rest e in ((t.0, refl), t.1)
+
+-- ---- a function, step by step
+
+abbrev Read : Type 0
+Read = Result (Function × List Lexed) ParseFault
+
+abbrev made : ℕ → ResultType → List ℕ → List ℕ → Block → Function
+made line r n c body = record { line = line; result = r; name = n; class_name = c; parameters = []; body = body }
+
+abbrev step6 : ℕ → ResultType → List ℕ → List ℕ → Block × List Lexed → Read
+step6 line r n c body = Ok (made line r n c body.0, body.1)
+
+abbrev step5 : ℕ → ResultType → List ℕ → List ℕ × List Lexed → Read
+step5 line r n c = body_at c.1 >>= step6 line r n c.0
+
+abbrev step4 : ℕ → ResultType → List ℕ → List Lexed → Read
+step4 line r n ls = name_at ls >>= step5 line r n
+
+abbrev step3 : ℕ → ResultType → List ℕ × List Lexed → Read
+step3 line r n = head_at n.1 >>= step4 line r n.0
+
+abbrev step2 : ℕ → ResultType → List Lexed → Read
+step2 line r ls = name_at ls >>= step3 line r
+
+abbrev step1 : ℕ → ResultType × List Lexed → Read
+step1 line r = expect (fixed.Word words.JniCall) r.1 >>= step2 line r.0
+
+abbrev step0 : ℕ → List Lexed → Read
+step0 line ls = result_at ls >>= step1 line
+
+pub record TakesFunction (ls : List Lexed) (x : Function × List Lexed) : Type 0 where
+  pub parts : Begins (function x.0) ls x.1
+  pub formed : IsFunction x.0
+  pub shorter : length x.1 < length ls
+
+shortens : (e : Spelled) (es : List Spelled) (ls rest : List Lexed) → Begins (e ∷ es) ls rest → length rest < length ls
+shortens e es ls rest h = let p = begins_length (e ∷ es) ls rest h in omega (arith, p)
+
+pub function_takes : (ls : List Lexed) (x : Function × List Lexed) → function_at ls ≡ Ok x → TakesFunction ls x
+unfolding function_at
+function_takes ls x h =
+    let line = line_at ls in
+    let a = bind_ok (expect (fixed.Word words.JniExport) ls) (step0 line) x h in
+    let b = bind_ok (result_at a.0) (step1 line) x a.2 in
+    let c = bind_ok (expect (fixed.Word words.JniCall) b.0.1) (step2 line b.0.0) x b.2 in
+    let d = bind_ok (name_at c.0) (step3 line b.0.0) x c.2 in
+    let e = bind_ok (head_at d.0.1) (step4 line b.0.0 d.0.0) x d.2 in
+    let f = bind_ok (name_at e.0) (step5 line b.0.0 d.0.0) x e.2 in
+    let g = bind_ok (body_at f.0.1) (step6 line b.0.0 d.0.0 f.0.0) x f.2 in
+    let body = body_takes f.0.1 g.0 g.1 in
+    let es6 : List Spelled = mark marks.CloseParen ∷ mark marks.OpenBrace ∷ inside g.0.0 in
+    let es5 : List Spelled = Anywhere (Name' f.0.0) ∷ es6 in
+    let es3 : List Spelled = Anywhere (Name' d.0.0) ∷ (parameters_head ++ es5) in
+    let es2 : List Spelled = word words.JniCall ∷ es3 in
+    let es1 : List Spelled = word (result_word b.0.0) ∷ es2 in
+    let t5 = begins_append (Anywhere (Name' f.0.0) ∷ []) es6 e.0 f.0.1 g.0.1 (name_takes e.0 f.0 f.1) body.0 in
+    let t4 = begins_append parameters_head es5 d.0.1 e.0 g.0.1 (head_takes d.0.1 e.0 e.1) t5 in
+    let t3 = begins_append (Anywhere (Name' d.0.0) ∷ []) (parameters_head ++ es5) c.0 d.0.1 g.0.1 (name_takes c.0 d.0 d.1) t4 in
+    let t2 = begins_append (word words.JniCall ∷ []) es3 b.0.1 c.0 g.0.1 (expect_takes (fixed.Word words.JniCall) b.0.1 c.0 c.1) t3 in
+    let t1 = begins_append (word (result_word b.0.0) ∷ []) es2 a.0 b.0.1 g.0.1 (result_takes a.0 b.0 b.1) t2 in
+    let t0 = begins_append (OnLine line (Fixed' (fixed.Word words.JniExport)) ∷ []) es1 ls a.0 g.0.1 (on_expected (fixed.Word words.JniExport) ls a.0 a.1) t1 in
+    subst (λ (y : Function × List Lexed). TakesFunction ls y) (ok_is (made line b.0.0 d.0.0 f.0.0 g.0.0, g.0.1) x g.2) (record {
+      parts = t0;
+      formed = record { result = result_built a.0 b.0 b.1; parameters = refl; body = body.1 };
+      shorter = shortens (OnLine line (Fixed' (fixed.Word words.JniExport))) es1 ls g.0.1 t0;
+    })
+
+-- ---- units
+
+pub record TakesItems (count : ℕ) (ls : List Lexed) (items : (List Item)) : Type 0 where
+  pub rest : List Lexed
+  pub parts : Begins (flat_map item items) ls rest
+  pub ended : starts_with fixed.End rest ≡ true
+  pub formed : AreItems items
+  pub few : count ≤ 256 → count + length items ≤ 256
+
+pub items_take : (steps count : ℕ) (ls : List Lexed) (items : (List Item)) → items_at steps count ls ≡ Ok items → TakesItems count ls items
+unfolding items_at
+items_take zero count ls items h = absurd cc
+items_take (suc steps) count ls items h =
+    elim (chosen (starts_with fixed.End ls) _ _ (Ok items) h) [
+      | inl w ↦ subst (λ (y : (List Item)). TakesItems count ls y) (ok_is [] items w.1) (record { rest = ls; parts = refl; ended = w.0; formed = tt; few = λ le. omega (arith, le) })
+      | inr w ↦ elim (chosen (starts_with (fixed.Word words.JniExport) ls) _ _ (Ok items) w.1) [
+        | inr v ↦ absurd cc
+        | inl v ↦ elim (chosen (count == 256) _ _ (Ok items) v.1) [
+          | inl u ↦ absurd cc
+          | inr u ↦
+              let a = bind_ok (function_at ls) (λ f. items_at steps (count + 1) f.1 >>= λ items. Ok (FunctionItem f.0 ∷ items)) items u.1 in
+              let b = bind_ok (items_at steps (count + 1) a.0.1) (λ items. Ok (FunctionItem a.0.0 ∷ items)) items a.2 in
+              let t = function_takes ls a.0 a.1 in
+              let r = items_take steps (count + 1) a.0.1 b.0 b.1 in
+              let other = eqb-false count 256 u.0 in
+              subst (λ (y : (List Item)). TakesItems count ls y) (ok_is (FunctionItem a.0.0 ∷ b.0) items b.2) (record {
+                rest = r.rest;
+                parts = begins_append (function a.0.0) (flat_map item b.0) ls a.0.1 r.rest t.parts r.parts;
+                ended = r.ended;
+                formed = (t.formed, r.formed);
+                few = λ le. let ne : count ≢ 256 = other in let q = r.few (omega arith) in omega (arith, q);
+              })
+        ]
+      ]
+    ]

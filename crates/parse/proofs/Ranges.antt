@@ -1,0 +1,79 @@
+-- The numbers of a tree are in range, since those of the tokens are.
+use Rattle.std.proofs.Common.{◌≡◌, ℕ, ◌+◌, ◌<◌, Bool, true, false, List, [], ◌∷◌, ◌++◌, Option, Some, None, refl, sym, subst}
+use Rattle.std.specs.Prelude.{◌&&◌, nat_lt}
+use Rattle.std.specs.List.{AllZip}
+use Rattle.std.proofs.lemmas.Bool.{and_from, lt-ltb}
+use Rattle.scan.specs.declared.token.Token.{Token}
+use Rattle.scan.specs.declared.token.Kind.{Kind}
+use Rattle.scan.specs.declared.token.Kind.TheVariants as kinds
+use Rattle.scan.specs.declared.token.Mark.TheVariants as marks
+use Rattle.scan.specs.Spelling.{SpellsFrom, ends, passes, takes, IsToken, IsLexeme, limit}
+use Rattle.syntax.specs.Tree.{Expr, Number, Named, Variable, Element, Prefix, Binary, Paren}
+use Rattle.syntax.specs.Limits.{number_limit, numbers_in_range}
+use Rattle.parse.specs.declared.words.Word.{Word}
+use Rattle.parse.specs.declared.lexemes.Fixed.{Fixed}
+use Rattle.parse.specs.Words.{word_of}
+use Rattle.parse.specs.Meaning.{Meaning, Fixed', Name', Number', Text', name_or_word, meaning_of, token_meaning}
+use Rattle.parse.specs.Spelling.{Spelled, Anywhere, OnLine, meaning_in, mark, name, operator_mark, prefix_tokens, expression, Stands}
+
+abbrev pub IsInRange : Meaning → Type 0
+IsInRange (Fixed' f) = Unit {0}
+IsInRange (Name' bytes) = Unit {0}
+IsInRange (Number' value unsigned) = value < number_limit unsigned
+IsInRange (Text' bytes) = Unit {0}
+
+abbrev pub AreInRange : List Spelled → Type 0
+AreInRange [] = Unit {0}
+AreInRange (s ∷ es) = IsInRange (meaning_in s) × AreInRange es
+
+pub range_left : (a b : List Spelled) → AreInRange (a ++ b) → AreInRange a
+range_left [] b h = tt
+range_left (s ∷ a) b h = (h.0, range_left a b h.1)
+
+pub range_right : (a b : List Spelled) → AreInRange (a ++ b) → AreInRange b
+range_right [] b h = h
+range_right (s ∷ a) b h = range_right a b h.1
+
+pub numbers_of : (e : Expr) → AreInRange (expression e) → numbers_in_range e ≡ true
+numbers_of (Number value unsigned) h = lt-ltb value (number_limit unsigned) h.0
+numbers_of (Named c) h = refl
+numbers_of (Variable x) h = refl
+numbers_of (Element x i) h = numbers_of i (range_left (expression i) (mark marks.CloseBracket ∷ []) h.1.1)
+numbers_of (Prefix op e) h = numbers_of e (range_right (prefix_tokens op) (expression e) h)
+numbers_of (Binary op a b) h =
+    let right = range_right (expression a) (mark (operator_mark op) ∷ expression b) h in
+    and_from (numbers_in_range a) (numbers_in_range b) (numbers_of a (range_left (expression a) (mark (operator_mark op) ∷ expression b) h)) (numbers_of b right.1)
+numbers_of (Paren e) h = numbers_of e (range_left (expression e) (mark marks.CloseParen ∷ []) h.1)
+
+-- ---- the tokens of a text
+
+limits_agree : (unsigned : Bool) (value : ℕ) → value < limit unsigned → value < number_limit unsigned
+limits_agree false value lt = lt
+limits_agree true value lt = lt
+
+word_in_range : (o : Option Word) (bytes : List ℕ) → IsInRange (name_or_word o bytes)
+word_in_range None bytes = tt
+word_in_range (Some w) bytes = tt
+
+lexeme_in_range : (kind : Kind) (word bytes : List ℕ) → IsLexeme kind word → IsInRange (meaning_of kind bytes)
+lexeme_in_range kinds.Name word bytes h = word_in_range (word_of bytes) bytes
+lexeme_in_range (kinds.Number value unsigned) word bytes h = limits_agree unsigned value h.small
+lexeme_in_range kinds.Text word bytes h = tt
+lexeme_in_range (kinds.Symbol m) word bytes h = tt
+
+abbrev pub AreTokensInRange : List ℕ → List Token → Type 0
+AreTokensInRange text [] = Unit {0}
+AreTokensInRange text (t ∷ tokens) = IsInRange (token_meaning text t) × AreTokensInRange text tokens
+
+pub tokens_in_range : (text : List ℕ) {at : ℕ} {tokens : List Token} → SpellsFrom text at tokens → AreTokensInRange text tokens
+unfolding token_meaning
+tokens_in_range text (ends h) = tt
+tokens_in_range text (passes n gap rest) = tokens_in_range text rest
+tokens_in_range text (takes kind n token rest) = (lexeme_in_range kind _ _ token.form, tokens_in_range text rest)
+
+pub spelled_in_range : (text : List ℕ) (tokens : List Token) (es : List Spelled) → AreTokensInRange text tokens → AllZip (Stands text) tokens es → AreInRange es
+spelled_in_range text [] [] range h = tt
+spelled_in_range text [] (e ∷ es) range h = absurd h
+spelled_in_range text (t ∷ tokens) [] range h = absurd h
+spelled_in_range text (t ∷ tokens) (Anywhere m ∷ es) range h = (subst IsInRange h.0 range.0, spelled_in_range text tokens es range.1 h.1)
+spelled_in_range text (t ∷ tokens) (OnLine line m ∷ es) range h = (subst IsInRange h.0.0 range.0, spelled_in_range text tokens es range.1 h.1)

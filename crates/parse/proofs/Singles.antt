@@ -1,0 +1,224 @@
+-- Single lexemes: what is expected and what is read.
+use Rattle.std.proofs.Common.{◌≡◌, ℕ, Bool, true, false, cond, List, [], ◌∷◌, ◌++◌, Result, Ok, Err, refl, sym, ap, subst, ◌∙◌, inl, inr}
+use Rattle.std.specs.Prelude.{◌⊎◌, ◌==◌, if◌then◌else◌}
+use Rattle.std.proofs.lemmas.Bool.{eqb-true, eq-eqb, false_from_ne_true}
+use Rattle.scan.specs.declared.token.Mark.{Mark}
+use Rattle.scan.specs.declared.token.Mark.TheVariants as marks
+use Rattle.parse.specs.declared.fault.Fault.TheVariants.{NoForm}
+use Rattle.parse.specs.declared.fault.ParseFault.{ParseFault}
+use Rattle.parse.specs.declared.fault.ParseFault.TheVariants.{Found}
+use Rattle.parse.specs.declared.words.Word.{Word}
+use Rattle.parse.specs.declared.words.Word.TheVariants as words
+use Rattle.parse.specs.declared.lexemes.Fixed.{Fixed}
+use Rattle.parse.specs.declared.lexemes.Fixed.TheVariants as fixed
+use Rattle.parse.specs.Results.{◌>>=◌}
+use Rattle.parse.specs.Meaning.{Meaning, Fixed', Name', Number', Text'}
+use Rattle.parse.specs.Lexemes.{Lexed, mark_code, word_code, same_mark, same_word, same_fixed, is_fixed_meaning, is_fixed, expect}
+use Rattle.parse.specs.Spelling.{Spelled, Anywhere, OnLine}
+use Rattle.parse.specs.Reading.{starts_with, behind}
+
+-- ---- results
+
+-- the value of a step that did not fail
+pub bind_ok : {A B : Type 0} (r : Result A ParseFault) (f : A → Result B ParseFault) (y : B) → (r >>= f) ≡ Ok y → (x : A) × (r ≡ Ok x) × (f x ≡ Ok y)
+bind_ok (Ok x) f y e = (x, refl, e)
+bind_ok (Err d) f y e = absurd cc
+
+abbrev done : {A : Type 0} → A → Result A ParseFault
+done x = Ok x
+
+pub ok_is : {A : Type 0} (x y : A) → done x ≡ done y → x ≡ y
+ok_is x y e = cc
+
+-- which way a test went
+pub chosen : {A : Type 0} (b : Bool) (x y z : A) → cond b x y ≡ z → ((b ≡ true) × (x ≡ z)) ⊎ ((b ≡ false) × (y ≡ z))
+chosen true x y z e = inl (refl, e)
+chosen false x y z e = inr (refl, e)
+
+-- ---- equality of fixed tokens
+
+abbrev mark_list : List Mark
+mark_list =
+    marks.OpenParen ∷ marks.CloseParen ∷ marks.OpenBrace ∷ marks.CloseBrace ∷ marks.OpenBracket
+    ∷ marks.CloseBracket ∷ marks.Semicolon ∷ marks.Comma ∷ marks.Assign ∷ marks.Star ∷ marks.Arrow
+    ∷ marks.Ampersand ∷ marks.Bar ∷ marks.Caret ∷ marks.Tilde ∷ marks.Exclamation ∷ marks.Plus ∷ marks.Minus
+    ∷ marks.Slash ∷ marks.Percent ∷ marks.Less ∷ marks.Greater ∷ marks.LessEqual ∷ marks.GreaterEqual
+    ∷ marks.Equal ∷ marks.NotEqual ∷ marks.LogicalAnd ∷ marks.LogicalOr ∷ marks.ShiftLeft ∷ marks.ShiftRight
+    ∷ []
+
+abbrev find_mark : List Mark → ℕ → Mark
+find_mark [] code = marks.Comma
+find_mark (m ∷ ms) code = if mark_code m == code then m else find_mark ms code
+
+mark_found : (m : Mark) → find_mark mark_list (mark_code m) ≡ m
+mark_found marks.OpenParen = refl
+mark_found marks.CloseParen = refl
+mark_found marks.OpenBrace = refl
+mark_found marks.CloseBrace = refl
+mark_found marks.OpenBracket = refl
+mark_found marks.CloseBracket = refl
+mark_found marks.Semicolon = refl
+mark_found marks.Comma = refl
+mark_found marks.Assign = refl
+mark_found marks.Star = refl
+mark_found marks.Arrow = refl
+mark_found marks.Ampersand = refl
+mark_found marks.Bar = refl
+mark_found marks.Caret = refl
+mark_found marks.Tilde = refl
+mark_found marks.Exclamation = refl
+mark_found marks.Plus = refl
+mark_found marks.Minus = refl
+mark_found marks.Slash = refl
+mark_found marks.Percent = refl
+mark_found marks.Less = refl
+mark_found marks.Greater = refl
+mark_found marks.LessEqual = refl
+mark_found marks.GreaterEqual = refl
+mark_found marks.Equal = refl
+mark_found marks.NotEqual = refl
+mark_found marks.LogicalAnd = refl
+mark_found marks.LogicalOr = refl
+mark_found marks.ShiftLeft = refl
+mark_found marks.ShiftRight = refl
+
+abbrev word_list : List Word
+word_list =
+    words.Static ∷ words.Const ∷ words.Void ∷ words.If ∷ words.Else ∷ words.While ∷ words.Return
+    ∷ words.JniExport ∷ words.JniCall ∷ words.JniEnv ∷ words.Env ∷ words.PutJint ∷ words.Uint32 ∷ words.Jint
+    ∷ words.Jsize ∷ words.Jboolean ∷ words.Jshort ∷ words.Jbyte ∷ words.Jchar ∷ words.JfieldId
+    ∷ words.Jobject ∷ words.Jclass ∷ words.Jstring ∷ words.Jarray ∷ words.Jthrowable ∷ words.JintArray
+    ∷ words.JshortArray ∷ words.JbyteArray ∷ words.JcharArray ∷ words.JobjectArray ∷ words.JniTrue
+    ∷ words.JniFalse ∷ words.JniCommit ∷ words.JniAbort ∷ words.Null ∷ words.Unused ∷ []
+
+abbrev find_word : List Word → ℕ → Word
+find_word [] code = words.Unused
+find_word (w ∷ ws) code = if word_code w == code then w else find_word ws code
+
+word_found : (w : Word) → find_word word_list (word_code w) ≡ w
+word_found words.Static = refl
+word_found words.Const = refl
+word_found words.Void = refl
+word_found words.If = refl
+word_found words.Else = refl
+word_found words.While = refl
+word_found words.Return = refl
+word_found words.JniExport = refl
+word_found words.JniCall = refl
+word_found words.JniEnv = refl
+word_found words.Env = refl
+word_found words.PutJint = refl
+word_found words.Uint32 = refl
+word_found words.Jint = refl
+word_found words.Jsize = refl
+word_found words.Jboolean = refl
+word_found words.Jshort = refl
+word_found words.Jbyte = refl
+word_found words.Jchar = refl
+word_found words.JfieldId = refl
+word_found words.Jobject = refl
+word_found words.Jclass = refl
+word_found words.Jstring = refl
+word_found words.Jarray = refl
+word_found words.Jthrowable = refl
+word_found words.JintArray = refl
+word_found words.JshortArray = refl
+word_found words.JbyteArray = refl
+word_found words.JcharArray = refl
+word_found words.JobjectArray = refl
+word_found words.JniTrue = refl
+word_found words.JniFalse = refl
+word_found words.JniCommit = refl
+word_found words.JniAbort = refl
+word_found words.Null = refl
+word_found words.Unused = refl
+
+mark_is : (a b : Mark) → same_mark a b ≡ true → a ≡ b
+mark_is a b e = sym (mark_found a) ∙ ap (find_mark mark_list) (eqb-true _ _ e) ∙ mark_found b
+
+word_is : (a b : Word) → same_word a b ≡ true → a ≡ b
+word_is a b e = sym (word_found a) ∙ ap (find_word word_list) (eqb-true _ _ e) ∙ word_found b
+
+-- a flag that tells equality is the test of the numbers
+pub mark_flag : (flag : Bool) (a b : Mark) → (flag ≡ true → a ≡ b) → (a ≡ b → flag ≡ true) → flag ≡ same_mark a b
+mark_flag true a b is back = sym (eq-eqb _ _ (ap mark_code (is refl)))
+mark_flag false a b is back = sym (false_from_ne_true _ (λ e. let f : false ≡ true = back (mark_is a b e) in absurd cc))
+
+pub word_flag : (flag : Bool) (a b : Word) → (flag ≡ true → a ≡ b) → (a ≡ b → flag ≡ true) → flag ≡ same_word a b
+word_flag true a b is back = sym (eq-eqb _ _ (ap word_code (is refl)))
+word_flag false a b is back = sym (false_from_ne_true _ (λ e. let f : false ≡ true = back (word_is a b e) in absurd cc))
+
+pub same_is : (a b : Fixed) → same_fixed a b ≡ true → a ≡ b
+same_is (fixed.Mark a) (fixed.Mark b) e = ap (λ (m : Mark). fixed.Mark m) (mark_is a b e)
+same_is (fixed.Mark a) (fixed.Word b) e = absurd cc
+same_is (fixed.Mark a) fixed.End e = absurd cc
+same_is (fixed.Word a) (fixed.Mark b) e = absurd cc
+same_is (fixed.Word a) (fixed.Word b) e = ap (λ (w : Word). fixed.Word w) (word_is a b e)
+same_is (fixed.Word a) fixed.End e = absurd cc
+same_is fixed.End (fixed.Mark b) e = absurd cc
+same_is fixed.End (fixed.Word b) e = absurd cc
+same_is fixed.End fixed.End e = refl
+
+pub same_itself : (a : Fixed) → same_fixed a a ≡ true
+same_itself (fixed.Mark a) = eq-eqb _ _ refl
+same_itself (fixed.Word a) = eq-eqb _ _ refl
+same_itself fixed.End = refl
+
+pub fixed_is : (m : Meaning) (f : Fixed) → is_fixed_meaning m f ≡ true → m ≡ Fixed' f
+fixed_is (Fixed' found) f e = ap (λ (g : Fixed). Fixed' g) (same_is found f e)
+fixed_is (Name' bytes) f e = absurd cc
+fixed_is (Number' value unsigned) f e = absurd cc
+fixed_is (Text' bytes) f e = absurd cc
+
+-- ---- lexemes that begin as a tree does
+
+abbrev pub Fits : Spelled → Lexed → Type 0
+Fits (Anywhere meaning) l = l.meaning ≡ meaning
+Fits (OnLine line meaning) l = (l.meaning ≡ meaning) × (l.line ≡ line)
+
+-- the lexemes begin as is spelled, and the rest stands behind
+abbrev pub Begins : List Spelled → List Lexed → List Lexed → Type 0
+Begins [] ls rest = ls ≡ rest
+Begins (e ∷ es) [] rest = ⊥
+Begins (e ∷ es) (l ∷ ls) rest = Fits e l × Begins es ls rest
+
+pub begins_append : (a b : List Spelled) (ls mid rest : List Lexed) → Begins a ls mid → Begins b mid rest → Begins (a ++ b) ls rest
+begins_append [] b ls mid rest h k = subst (λ (x : List Lexed). Begins b x rest) (sym h) k
+begins_append (e ∷ a) b [] mid rest h k = h
+begins_append (e ∷ a) b (l ∷ ls) mid rest h k = (h.0, begins_append a b ls mid rest h.1 k)
+
+pub begins_split : (a b : List Spelled) (ls rest : List Lexed) → Begins (a ++ b) ls rest → (mid : List Lexed) × Begins a ls mid × Begins b mid rest
+begins_split [] b ls rest h = (ls, refl, h)
+begins_split (e ∷ a) b [] rest h = absurd h
+begins_split (e ∷ a) b (l ∷ ls) rest h = let w = begins_split a b ls rest h.1 in (w.0, (h.0, w.1), w.2)
+
+-- a first lexeme that may stand on any line
+pub first_takes : (m : Meaning) (es : List Spelled) (ls rest : List Lexed) → Begins (Anywhere m ∷ []) ls (behind ls) → Begins es (behind ls) rest → Begins (Anywhere m ∷ es) ls rest
+first_takes m es [] rest h k = h
+first_takes m es (l ∷ ls) rest h k = (h.0, k)
+
+pub first_rest : (e : Spelled) (es : List Spelled) (ls rest : List Lexed) → Begins (e ∷ es) ls rest → Begins es (behind ls) rest
+first_rest e es [] rest h = absurd h
+first_rest e es (l ∷ ls) rest h = h.1
+
+pub first_is : (m : Meaning) (es : List Spelled) (ls rest : List Lexed) (f : Fixed) → Begins (Anywhere m ∷ es) ls rest → starts_with f ls ≡ is_fixed_meaning m f
+first_is m es [] rest f h = absurd h
+first_is m es (l ∷ ls) rest f h = ap (λ (x : Meaning). is_fixed_meaning x f) h.0
+
+pub starts_takes : (f : Fixed) (ls : List Lexed) → starts_with f ls ≡ true → Begins (Anywhere (Fixed' f) ∷ []) ls (behind ls)
+starts_takes f [] e = absurd cc
+starts_takes f (l ∷ ls) e = (fixed_is l.meaning f e, refl)
+
+pub expect_takes : (f : Fixed) (ls rest : List Lexed) → expect f ls ≡ Ok rest → Begins (Anywhere (Fixed' f) ∷ []) ls rest
+unfolding expect
+expect_takes f [] rest e = absurd cc
+expect_takes f (l ∷ ls) rest e =
+    elim (chosen (is_fixed l f) (Ok ls) (Err (Found NoForm l.line)) (Ok rest) e) [
+      | inl w ↦ (fixed_is l.meaning f w.0, ok_is ls rest w.1)
+      | inr w ↦ absurd cc
+    ]
+
+pub expect_again : (f : Fixed) (es : List Spelled) (ls rest : List Lexed) → Begins (Anywhere (Fixed' f) ∷ es) ls rest → (after : List Lexed) × (expect f ls ≡ Ok after) × Begins es after rest
+unfolding expect
+expect_again f es [] rest h = absurd h
+expect_again f es (l ∷ ls) rest h = (ls, rw (h.0, same_itself f) refl, h.1)

@@ -1,0 +1,179 @@
+-- From the lexemes of all tokens to the text.
+use Rattle.std.proofs.Common.{◌≡◌, ℕ, ◌+◌, ◌-◌, ◌≤◌, true, false, cond, List, [], ◌∷◌, ◌++◌, length, map, take, drop, Option, Some, None, Result, Ok, Err, refl, sym, ap, subst, ◌∙◌, arith, add-one}
+use Rattle.std.specs.Prelude.{slice_range, ◌==◌, flat_map}
+use Rattle.std.specs.List.{AllZip}
+use Rattle.std.proofs.lemmas.List.Sums.{sum_by-append}
+use Rattle.std.proofs.Math.Seq.{take-add}
+use Rattle.scan.specs.declared.token.Token.{Token}
+use Rattle.scan.specs.declared.token.Kind.{Kind}
+use Rattle.scan.specs.declared.token.Kind.TheVariants as kinds
+use Rattle.scan.specs.Spelling.{SpellsFrom, ends, passes, takes, Spells, line_of}
+use Rattle.syntax.specs.Tree.{Item, SourceUnit}
+use Rattle.syntax.specs.Limits.{IsTree}
+use Rattle.parse.specs.declared.fault.ParseFault.{ParseFault}
+use Rattle.parse.specs.declared.fault.ParseFault.TheVariants.{Memory, Found}
+use Rattle.parse.specs.declared.words.Word.{Word}
+use Rattle.parse.specs.declared.lexemes.Fixed.TheVariants as fixed
+use Rattle.parse.specs.Words.{word_of}
+use Rattle.parse.specs.Meaning.{Fixed', name_or_word, meaning_of, token_meaning}
+use Rattle.parse.specs.Lexemes.{Lexed, is_fixed_meaning, line_ends, lexemes, AreInOrder}
+use Rattle.parse.specs.Results.{Fails}
+use Rattle.parse.specs.Built.{is_built}
+use Rattle.parse.specs.Spelling.{Spelled, Anywhere, OnLine, item, spell, Stands, SpellsUnit}
+use Rattle.parse.specs.Reading.{starts_with, items_at, unit_at}
+use Rattle.parse.proofs.Singles.{Begins}
+use Rattle.parse.proofs.Ranges.{tokens_in_range, spelled_in_range}
+use Rattle.parse.proofs.Trees.{is_tree, tree_items}
+use Rattle.parse.proofs.Programs.{items_take}
+use Rattle.parse.proofs.Again.{items_again}
+
+-- ---- the tokens stand in order
+
+reaches : (text : List ℕ) {at : ℕ} {tokens : List Token} → SpellsFrom text at tokens → at ≤ length text
+reaches text (ends h) = omega arith
+reaches text (passes n gap rest) = let p = reaches text rest in omega (arith, p)
+reaches text (takes kind n token rest) = let p = reaches text rest in omega (arith, p)
+
+order_later : (text : List ℕ) (a b : ℕ) (tokens : List Token) → a ≤ b → AreInOrder text b tokens → AreInOrder text a tokens
+order_later text a b [] le h = omega arith
+order_later text a b (t ∷ tokens) le h = (omega (arith, h.0), h.1, h.2)
+
+pub order_of : (text : List ℕ) {at : ℕ} {tokens : List Token} → SpellsFrom text at tokens → AreInOrder text at tokens
+order_of text (ends h) = omega arith
+order_of text {at} {tokens} (passes n gap rest) = order_later text at (at + n) tokens (omega arith) (order_of text rest)
+order_of text {at} (takes kind n token rest) = let p = reaches text rest in (omega arith, record { ordered = omega arith; within = p }, order_of text rest)
+
+-- ---- the lines, counted on or from the start
+
+lines_more : (text : List ℕ) (a b : ℕ) → a ≤ b → line_ends (take a text) + line_ends (slice_range text a b) ≡ line_ends (take b text)
+lines_more text a b le =
+    let f : b ≡ a + (b - a) = omega arith in
+    sym (sum_by-append (λ byte. cond (byte == 10) 1 0) (take a text) (take (b - a) (drop a text))) ∙ ap line_ends (sym (take-add a (b - a) text)) ∙ ap (λ n. line_ends (take n text)) (sym f)
+
+-- what the tokens of a text stand for, with their lines
+abbrev lexemes_of : List ℕ → List Token → List Lexed
+lexemes_of text tokens = map (λ token. record { meaning = token_meaning text token; line = line_of text token.start }) tokens
+
+pub lexemes_is : (text : List ℕ) (place line : ℕ) (tokens : List Token) → AreInOrder text place tokens → line ≡ line_of text place → (last : ℕ) × (lexemes text place line tokens ≡ lexemes_of text tokens ++ record { meaning = Fixed' fixed.End; line = last } ∷ [])
+unfolding lexemes
+lexemes_is text place line [] order is = (line, refl)
+lexemes_is text place line (t ∷ tokens) order is =
+    let now : line + line_ends (slice_range text place t.start) ≡ line_of text t.start = let p = lines_more text place t.start order.0 in omega (arith, is, p) in
+    let w = lexemes_is text t.start (line + line_ends (slice_range text place t.start)) tokens (order_later text t.start t.end tokens order.1.ordered order.2) now in
+    (w.0, ap (λ (ls : List Lexed). record { meaning = token_meaning text t; line = line + line_ends (slice_range text place t.start) } ∷ ls) w.1 ∙ ap (λ n. record { meaning = token_meaning text t; line = n } ∷ (lexemes_of text tokens ++ record { meaning = Fixed' fixed.End; line = w.0 } ∷ [])) now)
+
+-- ---- the End stands behind all tokens and nowhere else
+
+word_not_end : (o : Option Word) (bytes : List ℕ) → is_fixed_meaning (name_or_word o bytes) fixed.End ≡ false
+word_not_end None bytes = refl
+word_not_end (Some w) bytes = refl
+
+not_end : (kind : Kind) (bytes : List ℕ) → is_fixed_meaning (meaning_of kind bytes) fixed.End ≡ false
+not_end kinds.Name bytes = word_not_end (word_of bytes) bytes
+not_end (kinds.Number value unsigned) bytes = refl
+not_end kinds.Text bytes = refl
+not_end (kinds.Symbol m) bytes = refl
+
+ends_early : (es : List Spelled) (rest : List Lexed) → Begins es [] rest → starts_with fixed.End rest ≡ true → ⊥
+ends_early [] rest h e = let f : starts_with fixed.End rest ≡ false = rw (sym h) refl in let g : true ≡ false = sym e ∙ f in absurd cc
+ends_early (x ∷ es) rest h e = h
+
+strip : (es : List Spelled) (text : List ℕ) (tokens : List Token) (l : Lexed) (rest : List Lexed) → Begins es (lexemes_of text tokens ++ l ∷ []) rest → starts_with fixed.End rest ≡ true → Begins es (lexemes_of text tokens) []
+unfolding token_meaning
+strip [] text [] l rest h e = refl
+strip [] text (t ∷ tokens) l rest h e = let f : starts_with fixed.End rest ≡ false = rw (sym h) (not_end t.kind (slice_range text t.start t.end)) in let g : true ≡ false = sym e ∙ f in absurd cc
+strip (x ∷ es) text [] l rest h e = absurd (ends_early es rest h.1 e)
+strip (x ∷ es) text (t ∷ tokens) l rest h e = (h.0, strip es text tokens l rest h.1 e)
+
+-- ---- tokens that stand as a tree is spelled
+
+begins_of : (text : List ℕ) (tokens : List Token) (es : List Spelled) → AllZip (Stands text) tokens es → Begins es (lexemes_of text tokens) []
+begins_of text [] [] h = refl
+begins_of text [] (e ∷ es) h = absurd h
+begins_of text (t ∷ tokens) [] h = absurd h
+begins_of text (t ∷ tokens) (Anywhere m ∷ es) h = (h.0, begins_of text tokens es h.1)
+begins_of text (t ∷ tokens) (OnLine line m ∷ es) h = (h.0, begins_of text tokens es h.1)
+
+stand_of : (text : List ℕ) (tokens : List Token) (es : List Spelled) → Begins es (lexemes_of text tokens) [] → AllZip (Stands text) tokens es
+stand_of text [] [] h = tt
+stand_of text [] (e ∷ es) h = absurd h
+stand_of text (t ∷ tokens) [] h = absurd cc
+stand_of text (t ∷ tokens) (Anywhere m ∷ es) h = (h.0, stand_of text tokens es h.1)
+stand_of text (t ∷ tokens) (OnLine line m ∷ es) h = (h.0, stand_of text tokens es h.1)
+
+abbrev unit_of : List Item → SourceUnit
+unit_of items = record { items = items }
+
+-- the items that the lexemes of a text give
+abbrev pub items_of : List ℕ → List Token → Result (List Item) ParseFault
+items_of text tokens = items_at (length (lexemes text 0 1 tokens) + 1) 0 (lexemes text 0 1 tokens)
+
+pub record IsFound (text : List ℕ) (items : List Item) : Type 0 where
+  pub tree : IsTree (unit_of items)
+  pub spelled : SpellsUnit text (unit_of items)
+  pub built : is_built (unit_of items) ≡ true
+
+pub items_found : (text : List ℕ) (tokens : List Token) (items : List Item) → Spells text tokens → items_of text tokens ≡ Ok items → IsFound text items
+items_found text tokens items spelled h =
+    let w = lexemes_is text 0 1 tokens (order_of text spelled) refl in
+    let t = items_take (length (lexemes text 0 1 tokens) + 1) 0 (lexemes text 0 1 tokens) items h in
+    let parts = subst (λ (ls : List Lexed). Begins (flat_map item items) ls t.rest) w.1 t.parts in
+    let stand = stand_of text tokens (flat_map item items) (strip (flat_map item items) text tokens (record { meaning = Fixed' fixed.End; line = w.0 }) t.rest parts t.ended) in
+    let range = spelled_in_range text tokens (flat_map item items) (tokens_in_range text spelled) stand in
+    let few : length items ≤ 256 = let f = t.few (omega arith) in omega (arith, f) in
+    let tree = is_tree items t.formed few range in
+    record { tree = tree.0; spelled = (tokens, spelled, (tree.0, stand)); built = tree.1 }
+
+-- ---- the other way round
+
+extend : (es : List Spelled) (ls more : List Lexed) → Begins es ls [] → Begins es (ls ++ more) more
+extend [] ls more h = ap (λ (x : List Lexed). x ++ more) h
+extend (e ∷ es) [] more h = absurd h
+extend (e ∷ es) (l ∷ ls) more h = (h.0, extend es ls more h.1)
+
+-- where the tokens are those of a built unit, its items are read
+pub items_only : (text : List ℕ) (tokens : List Token) (unit : SourceUnit) → ((others : List Token) → Spells text others → others ≡ tokens) → Spells text tokens → is_built unit ≡ true → SpellsUnit text unit → items_of text tokens ≡ Ok unit.items
+items_only text tokens unit unique spelled built s =
+    let w = lexemes_is text 0 1 tokens (order_of text spelled) refl in
+    let behind_all : List Lexed = record { meaning = Fixed' fixed.End; line = w.0 } ∷ [] in
+    let stand = subst (λ (ts : List Token). AllZip (Stands text) ts (spell unit)) (unique s.0 s.1) s.2.1 in
+    let parts = subst (λ (ls : List Lexed). Begins (spell unit) ls behind_all) (sym w.1) (extend (spell unit) (lexemes_of text tokens) behind_all (begins_of text tokens (spell unit) stand)) in
+    let is = tree_items unit built s.2.0 in
+    rw (add-one (length (lexemes text 0 1 tokens))) (items_again unit.items (length (lexemes text 0 1 tokens)) 0 (lexemes text 0 1 tokens) behind_all (omega arith) parts refl is.0 (omega (arith, is.1)))
+
+-- ---- from items to units
+
+abbrev items_given : List Item → Result (List Item) ParseFault
+items_given items = Ok items
+
+abbrev unit_given : SourceUnit → Result SourceUnit ParseFault
+unit_given unit = Ok unit
+
+items_same : (a b : List Item) → items_given a ≡ items_given b → a ≡ b
+items_same a b e = cc
+
+-- what is read of lexemes, which are the text's
+module _ (text : List ℕ) (tokens : List Token) (spelled : Spells text tokens) (ls : List Lexed) (is : ls ≡ lexemes text 0 1 tokens) where
+  pub found_by : (items : List Item) → items_at (length ls + 1) 0 ls ≡ Ok items → IsFound text items
+  found_by items given = items_found text tokens items spelled (subst (λ (l : List Lexed). items_at (length l + 1) 0 l ≡ items_given items) is given)
+
+  pub unit_by : (items : List Item) → items_at (length ls + 1) 0 ls ≡ Ok items → unit_at (lexemes text 0 1 tokens) ≡ Ok (unit_of items)
+  unfolding unit_at
+  unit_by items given = ap unit_at (sym is) ∙ rw given refl
+
+  pub fault_by : (e : ParseFault) → Fails e (items_at (length ls + 1) 0 ls) → Fails e (unit_at (lexemes text 0 1 tokens))
+  unfolding unit_at
+  fault_by Memory h = tt
+  fault_by (Found fault line) h = ap unit_at (sym is) ∙ rw h refl
+
+  module _ (unique : (others : List Token) → Spells text others → others ≡ tokens) where
+    only_items : (unit : SourceUnit) → is_built unit ≡ true → SpellsUnit text unit → items_at (length ls + 1) 0 ls ≡ Ok unit.items
+    only_items unit built s = subst (λ (l : List Lexed). items_at (length l + 1) 0 l ≡ items_given unit.items) (sym is) (items_only text tokens unit unique spelled built s)
+
+    pub only_by : (items : List Item) (unit : SourceUnit) → items_at (length ls + 1) 0 ls ≡ Ok items → is_built unit ≡ true → SpellsUnit text unit → unit_given unit ≡ Ok (unit_of items)
+    only_by items unit given built s = ap (λ (l : List Item). unit_given (unit_of l)) (items_same unit.items items (sym (only_items unit built s) ∙ given))
+
+    -- a fault where a built unit is spelled is want of memory
+    pub no_fault_by : (e : ParseFault) (unit : SourceUnit) → Fails e (items_at (length ls + 1) 0 ls) → is_built unit ≡ true → SpellsUnit text unit → Fails e (unit_given unit)
+    no_fault_by Memory unit h built s = tt
+    no_fault_by (Found fault line) unit h built s = let f : items_given unit.items ≡ Err (Found fault line) = sym (only_items unit built s) ∙ h in absurd cc

@@ -1,0 +1,21 @@
+use Rattle.std.proofs.Common.{◌+◌, ◌-◌, ◌*◌}
+use Rattle.parse.specs.Lexemes.{views}
+use Rattle.syntax.specs.Views.{expr_tree}
+use Rattle.parse.specs.Reading.{expr_at}
+use Rattle.parse.proofs.Climbing.{Climbs}
+use Rattle.parse.proofs.expressions.+expressions.Given as goal
+
+abbrev pub decreases-expression : goal.decreases-expression
+decreases-expression l = 3 * l.room + 2
+
+abbrev pub decreases-operand : goal.decreases-operand
+decreases-operand l = 3 * l.room + 1
+
+abbrev pub decreases-prefixed : goal.decreases-prefixed
+decreases-prefixed l = 3 * l.room
+
+abbrev pub invariant-expression-loop-op : goal.invariant-expression-loop-op
+invariant-expression-loop-op l = Climbs l.room l.least (expr_tree l.left) l.height (views l.rest) (expr_at l.room l.least (views l.lexemes))
+
+abbrev pub decreases-expression-loop-op : goal.decreases-expression-loop-op
+decreases-expression-loop-op l = l.room - l.height

@@ -1,0 +1,3 @@
+pub mod FindsLemmas
+pub mod SortLemmas
+mod BrokenLemmas

@@ -1,0 +1,65 @@
+//! Why a unit is not sorted.
+
+ghost use Rattle.std.specs.Prelude.{◌≡◌};
+ghost use Rattle.types.specs.declared.fault.TypeFault.TheVariants.{Memory};
+ghost use Rattle.types.specs.SortRules.{sort_rule_number};
+ghost use Rattle.types.specs.Faults.{rule_of};
+
+use std::alloc::{AllocError, AllocFailed};
+use thiserror::Error;
+
+/// A rule on names and sorts.
+#[derive(Clone, Copy, Debug, PartialEq, Eq)]
+pub enum SortRule {
+    /// A function's name is that of no native method (JNI Specification, chapter 2, "Resolving Native Method Names").
+    UnknownName,
+    /// Two functions have one name.
+    DeclaredTwice,
+    /// A sort does not fit.
+    SortMisfit,
+}
+
+impl SortRule {
+    /// The number of the fault.
+    pub fn number(self) -> u32
+        ensures { result ≡ sort_rule_number (rule_of self) }
+    {
+        match self {
+            SortRule::UnknownName => 21,
+            SortRule::DeclaredTwice => 22,
+            SortRule::SortMisfit => 23,
+        }
+    }
+}
+
+/// A rule that is broken, and the line of the first token of the statement or the function, counted from 1.
+#[derive(Clone, Copy, Debug, PartialEq, Eq)]
+pub struct Fault {
+    pub rule: SortRule,
+    pub line: usize,
+}
+
+/// Why `type_unit` answers no unit.
+#[derive(Debug, Drop, Error)]
+pub enum TypeFault {
+    #[error("out of memory")]
+    Memory,
+    #[error("line {}: {:?}", .0.line, .0.rule)]
+    Broken(Fault),
+}
+
+impl From<AllocError> for TypeFault {
+    ghost from_gives = { λ _ e. e ≡ Memory };
+
+    fn from(_e: AllocError) -> TypeFault {
+        TypeFault::Memory
+    }
+}
+
+impl<T: Drop> From<AllocFailed<T>> for TypeFault {
+    ghost from_gives = { λ _ e. e ≡ Memory };
+
+    fn from(_e: AllocFailed<T>) -> TypeFault {
+        TypeFault::Memory
+    }
+}
