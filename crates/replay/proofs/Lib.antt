@@ -1,3 +1,6 @@
 mod TaskLemmas
 mod ThreadLemmas
 mod RangeLemmas
+mod PlainTasks
+mod StateLemmas
+mod LoadLemmas

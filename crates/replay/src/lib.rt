@@ -2,6 +2,13 @@
 #![tactic(auto)]
 
 mod activation;
+mod fault;
+mod journal;
+mod load;
+mod state;
 mod task;
 mod term;
 mod thread;
+
+pub use fault::ReplayFault;
+pub use journal::replay;
