@@ -4,3 +4,4 @@ mod RangeLemmas
 mod PlainTasks
 mod StateLemmas
 mod LoadLemmas
+mod RunLemmas

@@ -64,6 +64,13 @@ pub record Replayed (unit : SourceUnit) (w : World) (journal : Journal) (m : Sta
   pub replays : replay unit w journal ≡ Some end
   pub stands : Stands unit w m end
 
+-- why a replay didn't begin
+abbrev pub IsLoadFault : SourceUnit → World → ReplayFault → Type 0
+IsLoadFault unit w (DoesNotFit line) = first_load_fault unit w ≡ Some line
+IsLoadFault unit w (Impossible i) = ⊥
+IsLoadFault unit w Memory = Unit {0}
+IsLoadFault unit w Writer = ⊥
+
 -- why a journal wasn't replayed
 abbrev pub IsRefused : SourceUnit → World → Journal → ReplayFault → Type 0
 IsRefused unit w journal (DoesNotFit line) = first_load_fault unit w ≡ Some line

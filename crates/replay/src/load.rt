@@ -7,7 +7,7 @@ ghost use Rattle.regions.specs.Load.{call_loads, is_callable, first_load_fault};
 ghost use Rattle.regions.specs.Start.{start};
 ghost use Rattle.replay.specs.States.{AreInRange, Stands};
 ghost use Rattle.replay.specs.Loading.{refused_calls, first_line, AreWaiting};
-ghost use Rattle.replay.specs.Replays.{IsRefused};
+ghost use Rattle.replay.specs.Replays.{IsLoadFault};
 
 use crate::fault::ReplayFault;
 use crate::state::State;
@@ -92,7 +92,7 @@ pub(crate) fn start<'a>(
     ensures stands { IfOk result (λ m. Stands (unit_tree items.now) (world_of_scene world.now) m (start (unit_tree items.now) (world_of_scene world.now))) }
     ensures range { IfOk result (λ m. AreInRange m.threads.items) }
     ensures fits { IfOk result (λ _. first_load_fault (unit_tree items.now) (world_of_scene world.now) ≡ None) }
-    ensures refused { IfErr result (IsRefused (unit_tree items.now) (world_of_scene world.now) []) }
+    ensures fault { IfErr result (IsLoadFault (unit_tree items.now) (world_of_scene world.now)) }
 {
     if let Some(line) = first_fault(alloc, items, world)? {
         return Err(ReplayFault::DoesNotFit(line));

@@ -7,6 +7,6 @@ use Rattle.replay.proofs.journal.run.Given as goal
 
 abbrev pub invariant-loop-done : goal.invariant-loop-done
 invariant-loop-done l = record {
-  replayed : Replayed (unit_tree l.fn.items.now) (world_of_scene l.fn.world.now) (take l.done l.journal) l.state;
+  replayed : Replayed (unit_tree l.fn.items) (world_of_scene l.fn.world) (take l.done l.journal) l.state;
   range : AreInRange l.state.threads.items;
 }
