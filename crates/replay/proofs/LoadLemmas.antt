@@ -1,14 +1,14 @@
 -- The first call that doesn't fit, and the threads before their first calls.
-use Rattle.std.proofs.Common.{◌≡◌, ℕ, zero, suc, ◌+◌, ◌<◌, ◌≤◌, Bool, true, false, cond, ◌&&◌, is_some, drop, take, List, [], ◌∷◌, ◌++◌, length, map, Option, Some, None, refl, sym, ap, ◌∙◌, subst, arith, IsTrue}
+use Rattle.std.proofs.Common.{◌≡◌, ℕ, zero, suc, ◌+◌, Bool, true, false, cond, ◌&&◌, is_some, drop, take, List, [], ◌∷◌, ◌++◌, map, Option, Some, None, refl, sym, ap, ◌∙◌, subst, arith, IsTrue}
 use Rattle.std.specs.Prelude.{slice_get, not, filter}
 use Rattle.std.specs.List.{flat_map, list_all}
 use Rattle.std.specs.Global.{Vec}
 use Rattle.syntax.specs.Tree.{SourceUnit}
 use Rattle.classes.specs.Class.{Classes}
-use Rattle.world.specs.Scene.{CallScene, Scene}
-use Rattle.world.specs.SceneWorld.{world_of_scene, invocation_of}
+use Rattle.world.specs.Scene.{CallScene}
+use Rattle.world.specs.SceneWorld.{invocation_of}
 use Rattle.world.specs.World.{Invocation}
-use Rattle.regions.specs.Load.{call_loads, first_load_fault}
+use Rattle.regions.specs.Load.{call_loads}
 use Rattle.regions.specs.Start.{waiting_thread}
 use Rattle.replay.specs.declared.thread.Thread.{Thread as ThreadInMemory}
 use Rattle.replay.specs.Loading.{refused_calls, first_line, IsWaiting, AreWaiting}

@@ -11,7 +11,7 @@ use Rattle.regions.specs.Effect.{Effect, Becomes, Sets, SetsNull, SetsElement, M
 use Rattle.regions.specs.Sight.{Sight}
 use Rattle.regions.specs.Task.{Task, SetScalar, SetElement, SetNull, MakeArray, Invoke, Print, Branch, EndIf, Loop, EndTurn, Return, ReturnValue, Impossible, task_of}
 use Rattle.regions.specs.Term.{Term, Done, Number, Named, Read, Element, IsNull, Prefix, And, Or, Binary, reduce}
-use Rattle.regions.specs.Thread.{Thread, Shared, Lent, Advance, NoAdvance, sight_of}
+use Rattle.regions.specs.Thread.{Thread, Shared, Lent, NoAdvance, sight_of}
 use Rattle.regions.specs.ThreadStep.{thread_step, step_within, after_refused_effect, next_effect, waits}
 use Rattle.regions.specs.Value.{Value, Word, Int, Flag, Truth, Outcome, Gives, Traps, Stuck}
 use Rattle.replay.specs.Activations.{tasks_from, tasks_left}

@@ -1,5 +1,5 @@
 -- A journal's replay goes on by an entry, or stops before it.
-use Rattle.std.proofs.Common.{◌≡◌, ℕ, ◌+◌, ◌<◌, ◌≤◌, Bool, true, false, List, [], ◌∷◌, ◌++◌, length, drop, take, map, Option, Some, None, refl, sym, ap, ◌∙◌, subst, arith, IsSome}
+use Rattle.std.proofs.Common.{◌≡◌, ℕ, ◌+◌, ◌<◌, ◌≤◌, true, false, [], ◌∷◌, ◌++◌, length, drop, take, map, Option, Some, None, refl, sym, ap, ◌∙◌, subst, arith}
 use Rattle.std.specs.Prelude.{slice_get, is_some}
 use Rattle.std.specs.Option.{option_and_then}
 use Rattle.std.proofs.lemmas.List.{take-append-drop, length-take-le, take_all}
@@ -7,20 +7,17 @@ use Rattle.syntax.specs.Tree.{SourceUnit}
 use Rattle.world.specs.declared.journal.Entry.{Entry}
 use Rattle.world.specs.Journal.{Journal, journal_line}
 use Rattle.world.specs.Report.{Report, report_text}
-use Rattle.world.specs.Sink.{Written, AppendsText, StopsWithin}
+use Rattle.world.specs.Sink.{Written}
 use Rattle.world.specs.Standing.{report_without_objects}
 use Rattle.world.specs.World.{World}
-use Rattle.regions.specs.Load.{first_load_fault}
-use Rattle.regions.specs.ReportOf.{report}
 use Rattle.regions.specs.Run.{Writes, replay, replay_from}
 use Rattle.regions.specs.Start.{start}
 use Rattle.regions.specs.State.{State}
-use Rattle.regions.specs.Step.{world_step}
 use Rattle.regions.proofs.RunLaws.{replay_from-append, replay_more}
 use Rattle.replay.specs.declared.fault.ReplayFault.{ReplayFault}
 use Rattle.replay.specs.declared.fault.ReplayFault.TheVariants.{DoesNotFit, Impossible, Memory, Writer}
 use Rattle.replay.specs.declared.state.State.{State as StateInMemory}
-use Rattle.replay.specs.States.{Stands, TakesEntry, standing_of}
+use Rattle.replay.specs.States.{TakesEntry, standing_of}
 use Rattle.replay.specs.Replays.{IsFirstImpossible, Replayed, IsRefused, IsLoadFault, IsStoppedBy, IsReplayable, IsFromOutside}
 use Rattle.replay.proofs.LoadLemmas.{drop_more, take_more}
 use Rattle.replay.proofs.StateLemmas.{report_same}

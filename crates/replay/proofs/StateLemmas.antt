@@ -1,22 +1,19 @@
 -- What an entry does to the state that a state in memory stands for.
-use Rattle.std.proofs.Common.{◌≡◌, ℕ, ℤ, zero, suc, ◌+◌, ◌<◌, ◌≤◌, Bool, true, false, cond, List, [], ◌∷◌, ◌++◌, length, map, Option, Some, None, refl, sym, ap, ◌∙◌, subst, arith}
+use Rattle.std.proofs.Common.{◌≡◌, ℕ, zero, suc, ◌+◌, ◌<◌, ◌≤◌, Bool, true, false, cond, List, [], ◌∷◌, ◌++◌, length, map, Option, Some, None, refl, sym, ap, ◌∙◌, subst, arith}
 use Rattle.std.specs.Prelude.{slice_get, slice_set, ◌&&◌, not, is_none}
 use Rattle.std.specs.List.{enumerate_from}
 use Rattle.syntax.specs.Tree.{SourceUnit}
 use Rattle.classes.specs.Class.{Classes}
 use Rattle.world.specs.declared.journal.Entry.{Entry}
 use Rattle.world.specs.declared.report.Printed.{Printed}
-use Rattle.world.specs.declared.report.Standing.{Standing}
-use Rattle.world.specs.Report.{Report, ThreadStanding}
+use Rattle.world.specs.Report.{ThreadStanding}
 use Rattle.world.specs.Standing.{standing_view, report_without_objects}
-use Rattle.world.specs.World.{World, loaded_objects}
-use Rattle.regions.specs.ReportOf.{report, shown, shown_row} 
+use Rattle.world.specs.World.{World}
+use Rattle.regions.specs.ReportOf.{report, shown, shown_row}
 use Rattle.regions.specs.ReportOf as language
-use Rattle.regions.specs.Run.{replay}
-use Rattle.regions.specs.Start.{start}
-use Rattle.regions.specs.State.{State, thread_at, set_thread, lent, with_event, advanced, Stop}
+use Rattle.regions.specs.State.{State, thread_at, set_thread, lent, with_event, advanced}
 use Rattle.regions.specs.Step.{world_step, can_step, step_of, is_blocked, is_live, is_unfinished, is_waiting}
-use Rattle.regions.specs.Thread.{Thread, Shared, Unfinished, Ended, Ending, Event, Quiet, PrintedNumber, Advance, NoAdvance}
+use Rattle.regions.specs.Thread.{Thread, Shared, Unfinished, Quiet, PrintedNumber, Advance}
 use Rattle.regions.specs.ThreadStep.{thread_step}
 use Rattle.regions.proofs.NoObjects.{shown_none}
 use Rattle.regions.proofs.StepLaws.{Steps, steps, step-thread}
@@ -25,7 +22,7 @@ use Rattle.replay.specs.declared.thread.Thread.{Thread as ThreadInMemory}
 use Rattle.replay.specs.declared.thread.Step.{Step}
 use Rattle.replay.specs.declared.thread.Step.TheVariants as step
 use Rattle.replay.specs.States.{ThreadsStand, AreInRange, Stands, printed_after, is_possible, Leads, standing_by, standing_of}
-use Rattle.replay.specs.Threads.{ThreadStands, WorkInRange, ending_in, Leaves, StepIs, TakesStep}
+use Rattle.replay.specs.Threads.{ThreadStands, WorkInRange, ending_in, StepIs, TakesStep}
 use Rattle.replay.proofs.PlainTasks.{refused_none, waits_none}
 
 -- ---- one thread of several
@@ -166,13 +163,15 @@ module _ (unit : SourceUnit) (w : World) (m : StateInMemory) (s : State) (h : St
     by_step : (took : Step) → StepIs unit w.classes s.shared after took (thread_step unit w.classes (lent s) (suc i) s.shared the_thread.source false) → new.printed.items ≡ printed_after m.printed.items (suc i) took
         → Leads unit w s (record { thread = suc i; refused = false }) new (is_possible took)
     by_step step.Quiet l printed = (
-        with_event (record s { threads = set_thread s.threads (suc i) l.next }) (suc i) Quiet,
-        step_is ∙ ap (advanced s (suc i)) l.advances,
-        record { shared = h.shared; threads = all_stand l.next l.stands; printed = h.printed ∙ sym printed; running = h.running })
+      with_event (record s { threads = set_thread s.threads (suc i) l.next }) (suc i) Quiet,
+      step_is ∙ ap (advanced s (suc i)) l.advances,
+      record { shared = h.shared; threads = all_stand l.next l.stands; printed = h.printed ∙ sym printed; running = h.running },
+    )
     by_step (step.Printed z) l printed = (
-        with_event (record s { threads = set_thread s.threads (suc i) l.next }) (suc i) (PrintedNumber z),
-        step_is ∙ ap (advanced s (suc i)) l.advances,
-        record { shared = h.shared; threads = all_stand l.next l.stands; printed = ap (λ (ps : List Printed). ps ++ record { thread = suc i; number = z } ∷ []) h.printed ∙ sym printed; running = h.running })
+      with_event (record s { threads = set_thread s.threads (suc i) l.next }) (suc i) (PrintedNumber z),
+      step_is ∙ ap (advanced s (suc i)) l.advances,
+      record { shared = h.shared; threads = all_stand l.next l.stands; printed = ap (λ (ps : List Printed). ps ++ record { thread = suc i; number = z } ∷ []) h.printed ∙ sym printed; running = h.running },
+    )
     by_step step.Nothing l printed = step_is ∙ ap (advanced s (suc i)) l
 
     takes_at : (took : Step) → TakesStep unit w.classes t took after → new.printed.items ≡ printed_after m.printed.items (suc i) took → Leads unit w s (record { thread = suc i; refused = false }) new (is_possible took)

@@ -1,5 +1,5 @@
 -- A thread in memory steps as the thread that it stands for.
-use Rattle.std.proofs.Common.{◌≡◌, ℕ, ℤ, Bool, true, false, List, [], ◌∷◌, ◌++◌, Option, Some, None, refl, sym, ap, ◌∙◌, map, length, ◌==◌, IsTrue}
+use Rattle.std.proofs.Common.{◌≡◌, ℕ, ℤ, true, false, List, [], ◌∷◌, Option, Some, None, refl, sym, ap, ◌∙◌, map, length, ◌==◌, IsTrue}
 use Rattle.std.specs.List.{list_all}
 use Rattle.std.specs.Option.{option_map, is_some}
 use Rattle.base.specs.Options.{some_passes}
@@ -19,13 +19,13 @@ use Rattle.world.specs.SceneWorld.{invocation_of}
 use Rattle.regions.specs.Sight.{Sight}
 use Rattle.regions.specs.Task.{Task}
 use Rattle.regions.specs.Effect.{Effect, effect_of, Becomes, Prints, Returns, NoEffect}
-use Rattle.regions.specs.Thread.{Thread, Shared, Lent, Event, Quiet, PrintedNumber, Advance, Advances as AdvancesTo, NoAdvance, Ending, Unfinished, Ended, Monitor, sight_of}
+use Rattle.regions.specs.Thread.{Thread, Shared, Lent, Quiet, PrintedNumber, Advances as AdvancesTo, NoAdvance, Unfinished, Ended, sight_of}
 use Rattle.regions.specs.Activation.{return_step, enter, entered, entry_advance, entered_function, class_of_function, function_at}
 use Rattle.regions.specs.ThreadStep.{thread_step, step_within, after_effect, with_tasks}
 use Rattle.replay.specs.declared.activation.Activation.{Activation}
 use Rattle.replay.specs.declared.thread.Thread.{Thread as ThreadInMemory}
 use Rattle.replay.specs.declared.task.Outcome.TheVariants as outcome
-use Rattle.replay.specs.Activations.{tasks_left, Advances, FirstDoes}
+use Rattle.replay.specs.Activations.{tasks_left, Advances}
 use Rattle.replay.specs.declared.task.Outcome.{Outcome}
 use Rattle.replay.specs.Threads.{ThreadStands, Leaves, StepIs, step_of, tasks_in, ending_in}
 

@@ -1,10 +1,10 @@
 -- Tasks that lie in memory, as those of the language, and what a step of one does.
-use Rattle.std.specs.Prelude.{◌≡◌, ℕ, Bool, List, [], ◌∷◌, if◌then◌else◌}
+use Rattle.std.specs.Prelude.{◌≡◌, Bool, List, [], ◌∷◌, if◌then◌else◌}
 use Rattle.syntax.specs.declared.stmt.Stmt.{Stmt as StmtInMemory}
 use Rattle.syntax.specs.Views.{stmt_tree}
 use Rattle.regions.specs.Sight.{Sight}
 use Rattle.regions.specs.Task.{Task, Print, Return, ReturnValue, task_of}
-use Rattle.regions.specs.Effect.{Effect, Becomes, Prints, Returns, NoEffect, effect_of}
+use Rattle.regions.specs.Effect.{Becomes, Prints, Returns, NoEffect, effect_of}
 use Rattle.replay.specs.Views.{term_view, NumbersInRange}
 use Rattle.replay.specs.declared.task.Task.{Task as TaskInMemory}
 use Rattle.replay.specs.declared.task.Task.TheVariants as task

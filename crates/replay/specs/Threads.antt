@@ -6,7 +6,7 @@ use Rattle.classes.specs.Class.{Classes}
 use Rattle.world.specs.SceneWorld.{invocation_of}
 use Rattle.regions.specs.Load.{call_loads}
 use Rattle.regions.specs.Task.{Task}
-use Rattle.regions.specs.Thread.{Ending, Unfinished, Ended, Thread, Monitor, Shared, Lent, Event, Quiet, PrintedNumber, Advance, Advances, NoAdvance}
+use Rattle.regions.specs.Thread.{Ending, Unfinished, Ended, Thread, Shared, Lent, Event, Quiet, PrintedNumber, Advance, Advances, NoAdvance}
 use Rattle.regions.specs.ThreadStep.{thread_step}
 use Rattle.replay.specs.declared.activation.Activation.{Activation}
 use Rattle.replay.specs.declared.task.Outcome.{Outcome}

@@ -1,9 +1,8 @@
 -- Terms and tasks that lie in memory, as those of the language.
-use Rattle.std.specs.Prelude.{◌≡◌, ℕ, ◌<◌, ◌-◌, ◌^◌, Bool, true, false, Option, Some, None, Result, Ok, Err}
-use Rattle.syntax.specs.Tree.{PrefixOp, BinaryOp}
+use Rattle.std.specs.Prelude.{◌≡◌, ◌<◌, Bool, true, false}
 use Rattle.syntax.specs.Views.{prefix_tree, binary_tree}
 use Rattle.syntax.specs.Limits.{number_limit}
-use Rattle.regions.specs.Value.{Value, Word, Int, Outcome, Gives, Traps, Stuck}
+use Rattle.regions.specs.Value.{Value, Word, Int, Gives, Stuck}
 use Rattle.regions.specs.Sight.{Sight}
 use Rattle.regions.specs.Term.{Term, Done, Number, Prefix, Binary, reduce}
 use Rattle.replay.specs.declared.term.Value.{Value as ValueInMemory}

@@ -36,10 +36,7 @@ fn begin(alloc: Global, activation: &mut Activation<'_>) -> Result<(), AllocErro
 }
 
 /// Lets an activation take its next step.
-pub(crate) fn advance(
-    alloc: Global,
-    activation: &mut Activation<'_>,
-) -> Result<Outcome, AllocError>
+pub(crate) fn advance(alloc: Global, activation: &mut Activation<'_>) -> Result<Outcome, AllocError>
     requires { IsInRange activation.old }
     ensures step { IfOk result (λ o. Advances (tasks_left activation.old) o (tasks_left activation.new)) }
     ensures range { IfOk result (λ _. IsInRange activation.new) }

@@ -1,6 +1,6 @@
-use Rattle.std.proofs.Common.{refl, sym, ◌∙◌, map}
+use Rattle.std.proofs.Common.{refl, sym}
 use Rattle.syntax.specs.Views.{unit_tree}
-use Rattle.world.specs.SceneWorld.{world_of_scene, invocation_of}
+use Rattle.world.specs.SceneWorld.{world_of_scene}
 use Rattle.replay.proofs.LoadLemmas.{refused, no_call, not_some, stand_waiting}
 use Rattle.replay.proofs.load.start.Goals as goal
 

@@ -1,6 +1,4 @@
 use Rattle.std.proofs.Common.{◌++◌, drop, map, List}
-use Rattle.std.specs.Global.{Vec}
-use Rattle.world.specs.Scene.{CallScene}
 use Rattle.replay.specs.declared.thread.Thread.{Thread}
 use Rattle.replay.specs.Loading.{AreWaiting}
 use Rattle.replay.specs.States.{AreInRange}

@@ -1,5 +1,5 @@
-use Rattle.std.proofs.Common.{◌≡◌, ℕ, suc, ◌-◌, ◌<◌, ◌≤◌, List, length, get_or, Some, refl, sym, ap, ◌∙◌, arith}
-use Rattle.std.specs.Prelude.{Vec, slice_get, slice_set, vec_len}
+use Rattle.std.proofs.Common.{◌≡◌, ℕ, ◌-◌, ◌≤◌, length, get_or, Some, refl, ap, arith}
+use Rattle.std.specs.Prelude.{Vec, slice_get, vec_len}
 use Rattle.std.proofs.lemmas.Option.{slice_get_read}
 use Rattle.syntax.specs.Views.{unit_tree}
 use Rattle.regions.specs.State.{thread_at}
@@ -40,5 +40,5 @@ returns-clause-step c = λ w s h.
     (omega arith) c.if-entry.false at c.if-thread.false (c.in_ok-step.ensures.step w.classes) refl c.in_ok-possible.ensures.printed)
 
 pub returns-clause-range : goal.returns-clause-range
-returns-clause-range c = 
+returns-clause-range c =
     range_set c.args.state.now.threads.items (c.from-k.result - 1) c.take_step.new.thread c.requires.range c.in_ok-step.ensures.range

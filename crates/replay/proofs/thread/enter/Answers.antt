@@ -1,4 +1,4 @@
-use Rattle.std.proofs.Common.{◌≡◌, sym, ap, ◌∙◌, None, ◌∷◌, rules}
+use Rattle.std.proofs.Common.{ap, ◌∙◌, None, rules}
 use Rattle.syntax.specs.Views.{unit_tree, function_tree}
 use Rattle.replay.specs.Tasks.{tasks_of_statements}
 use Rattle.replay.proofs.ThreadLemmas.{enters, tasks_of-statements}
