@@ -12,3 +12,6 @@ mod thread;
 
 pub use fault::ReplayFault;
 pub use journal::replay;
+
+#[cfg(test)]
+mod tests;
