@@ -10,6 +10,7 @@ use Rattle.world.specs.Report.{Report, report_text}
 use Rattle.world.specs.Sink.{Written}
 use Rattle.world.specs.Standing.{report_without_objects}
 use Rattle.world.specs.World.{World}
+use Rattle.regions.specs.Load.{first_load_fault}
 use Rattle.regions.specs.Run.{Writes, replay, replay_from}
 use Rattle.regions.specs.Start.{start}
 use Rattle.regions.specs.State.{State}
@@ -24,23 +25,27 @@ use Rattle.replay.proofs.StateLemmas.{report_same}
 
 module _ (unit : SourceUnit) (w : World) (journal : Journal) (i : ℕ) (e : Entry) (old new : StateInMemory) (at : slice_get journal i ≡ Some e) (h : Replayed unit w (take i journal) old) where
   -- the entry isn't possible
-  pub stops : i < length journal → TakesEntry unit old e false new → IsFirstImpossible unit w journal (i + 1)
-  stops low step = record {
-    done = take i journal;
-    entry = e;
-    rest = drop (i + 1) journal;
-    whole = sym (take-append-drop i journal) ∙ ap (λ (l : Journal). take i journal ++ l) (drop_more journal i e at);
-    number = omega (arith, length-take-le i journal (omega arith));
-    before = h.end;
-    replays = h.replays;
-    impossible = step w h.end h.stands;
-  }
+  pub stops : i < length journal → TakesEntry unit old e false new → (first_load_fault unit w ≡ None) × IsFirstImpossible unit w journal (i + 1)
+  stops low step = (
+    h.fits,
+    record {
+      done = take i journal;
+      entry = e;
+      rest = drop (i + 1) journal;
+      whole = sym (take-append-drop i journal) ∙ ap (λ (l : Journal). take i journal ++ l) (drop_more journal i e at);
+      number = omega (arith, length-take-le i journal (omega arith));
+      before = h.end;
+      replays = h.replays;
+      impossible = step w h.end h.stands;
+    },
+  )
 
   -- it is possible
   pub goes_on : TakesEntry unit old e true new → Replayed unit w (take (i + 1) journal) new
   goes_on step =
       let next = step w h.end h.stands in
       record {
+        fits = h.fits;
         end = next.0;
         replays = ap (replay unit w) (take_more journal i e at) ∙ replay_more unit w (take i journal) e h.end next.0 h.replays next.1;
         stands = next.2;
@@ -61,7 +66,7 @@ not_begun unit w journal Writer h = absurd h
 -- nothing was written
 pub unwritten : (unit : SourceUnit) (w : World) (journal : Journal) (old : Written) (f : ReplayFault) → IsRefused unit w journal f → IsStoppedBy unit w journal old old f
 unwritten unit w journal old (DoesNotFit line) h = (h, refl)
-unwritten unit w journal old (Impossible i) h = (h, refl)
+unwritten unit w journal old (Impossible i) h = (h.0, h.1, refl)
 unwritten unit w journal old Memory h = refl
 unwritten unit w journal old Writer h = absurd h
 
@@ -77,7 +82,7 @@ no_replay unit w journal i h =
 pub from_outside : (unit : SourceUnit) (w : World) (journal : Journal) (f : ReplayFault) → IsRefused unit w journal f → IsReplayable unit w journal → IsFromOutside f
 from_outside unit w journal (DoesNotFit line) h r = let bad : None ≡ Some line = sym r.fits ∙ h in absurd (cc)
 from_outside unit w journal (Impossible i) h r =
-    let bad : false ≡ true = subst (λ (o : Option State). is_some o ≡ true) (no_replay unit w journal i h) r.defined in absurd (cc)
+    let bad : false ≡ true = subst (λ (o : Option State). is_some o ≡ true) (no_replay unit w journal i h.1) r.defined in absurd (cc)
 from_outside unit w journal Memory h r = tt
 from_outside unit w journal Writer h r = absurd h
 

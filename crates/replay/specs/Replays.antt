@@ -25,14 +25,16 @@ pub record IsFirstImpossible (unit : SourceUnit) (w : World) (journal : Journal)
   pub replays : replay unit w done ≡ Some before
   pub impossible : world_step unit w.classes before entry ≡ None
 
--- the text of the journal's run was appended
+-- the calls fit, and the text of the journal's run was appended
 pub record WritesRun (unit : SourceUnit) (w : World) (journal : Journal) (old new : Written) : Type 0 where
+  pub fits : first_load_fault unit w ≡ None
   pub text : List ℕ
   pub is : Writes unit w journal text
   pub written : AppendsText old new text
 
--- the sink failed, and a beginning of that text was appended before
+-- the calls fit, the sink failed, and a beginning of that text was appended before
 pub record StopsInRun (unit : SourceUnit) (w : World) (journal : Journal) (old new : Written) : Type 0 where
+  pub fits : first_load_fault unit w ≡ None
   pub text : List ℕ
   pub is : Writes unit w journal text
   pub stopped : StopsWithin old new text
@@ -40,7 +42,7 @@ pub record StopsInRun (unit : SourceUnit) (w : World) (journal : Journal) (old n
 -- why a replay wasn't written, and what was done to the sink
 abbrev pub IsStoppedBy : SourceUnit → World → Journal → Written → Written → ReplayFault → Type 0
 IsStoppedBy unit w journal old new (DoesNotFit line) = (first_load_fault unit w ≡ Some line) × (new ≡ old)
-IsStoppedBy unit w journal old new (Impossible i) = IsFirstImpossible unit w journal i × (new ≡ old)
+IsStoppedBy unit w journal old new (Impossible i) = (first_load_fault unit w ≡ None) × IsFirstImpossible unit w journal i × (new ≡ old)
 IsStoppedBy unit w journal old new Memory = new ≡ old
 IsStoppedBy unit w journal old new Writer = StopsInRun unit w journal old new
 
@@ -58,8 +60,9 @@ pub record IsReplayable (unit : SourceUnit) (w : World) (journal : Journal) : Ty
 
 -- ---- before anything is written
 
--- the state that the journal leads to, in memory
+-- the calls fit, and the state in memory is the one that the journal leads to
 pub record Replayed (unit : SourceUnit) (w : World) (journal : Journal) (m : StateInMemory) : Type 0 where
+  pub fits : first_load_fault unit w ≡ None
   pub end : State
   pub replays : replay unit w journal ≡ Some end
   pub stands : Stands unit w m end
@@ -74,6 +77,6 @@ IsLoadFault unit w Writer = ⊥
 -- why a journal wasn't replayed
 abbrev pub IsRefused : SourceUnit → World → Journal → ReplayFault → Type 0
 IsRefused unit w journal (DoesNotFit line) = first_load_fault unit w ≡ Some line
-IsRefused unit w journal (Impossible i) = IsFirstImpossible unit w journal i
+IsRefused unit w journal (Impossible i) = (first_load_fault unit w ≡ None) × IsFirstImpossible unit w journal i
 IsRefused unit w journal Memory = Unit {0}
 IsRefused unit w journal Writer = ⊥
