@@ -1,0 +1,7 @@
+mod TaskLemmas
+mod ThreadLemmas
+mod RangeLemmas
+mod PlainTasks
+mod StateLemmas
+mod LoadLemmas
+mod RunLemmas

@@ -1,0 +1,5 @@
+use Rattle.replay.proofs.TaskLemmas.{return_works}
+use Rattle.replay.proofs.task.return_value.Goals as goal
+
+pub returns-in_default-clause-step : goal.returns-in_default-clause-step
+returns-in_default-clause-step c = rw c.worked.ensures (return_works _ _ _ _ c.in_default.not-Done c.reduce.ensures.step)

@@ -1,0 +1,28 @@
+-- Threads before their first calls, and calls that don't fit.
+use Rattle.std.specs.Prelude.{◌≡◌, ℕ, false, not, List, [], ◌∷◌, filter, map, slice_get, Option, None}
+use Rattle.syntax.specs.Tree.{SourceUnit}
+use Rattle.classes.specs.Class.{Classes}
+use Rattle.world.specs.Scene.{CallScene}
+use Rattle.world.specs.World.{Invocation}
+use Rattle.regions.specs.Load.{call_loads}
+use Rattle.replay.specs.declared.thread.Thread.{Thread as ThreadInMemory}
+
+-- the calls that don't fit
+abbrev pub refused_calls : SourceUnit → Classes → List Invocation → List Invocation
+refused_calls unit classes calls = filter (λ c. not (call_loads unit classes c)) calls
+
+-- the line of the first of these
+abbrev pub first_line : List Invocation → Option ℕ
+first_line calls = slice_get (map (λ (c : Invocation). c.line) calls) 0
+
+-- a thread has all of these calls to come
+pub record IsWaiting (t : ThreadInMemory) (calls : List CallScene) : Type 0 where
+  pub same : t.calls.now ≡ calls
+  pub idle : t.activation ≡ None
+  pub unended : t.ended ≡ false
+
+-- each thread has
+abbrev pub AreWaiting : List ThreadInMemory → List (List CallScene) → Type 0
+AreWaiting [] [] = Unit {0}
+AreWaiting (t ∷ ts) (c ∷ cs) = IsWaiting t c × AreWaiting ts cs
+AreWaiting ts cs = ⊥

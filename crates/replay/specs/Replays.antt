@@ -1,0 +1,82 @@
+-- What replaying a journal answers.
+use Rattle.std.specs.Prelude.{◌≡◌, ℕ, ◌+◌, List, ◌∷◌, ◌++◌, length, Some, None, IsSome}
+use Rattle.syntax.specs.Tree.{SourceUnit}
+use Rattle.world.specs.declared.journal.Entry.{Entry}
+use Rattle.world.specs.Journal.{Journal}
+use Rattle.world.specs.Sink.{Written, AppendsText, StopsWithin}
+use Rattle.world.specs.World.{World}
+use Rattle.regions.specs.Load.{first_load_fault}
+use Rattle.regions.specs.Run.{Writes, replay}
+use Rattle.regions.specs.State.{State}
+use Rattle.regions.specs.Step.{world_step}
+use Rattle.replay.specs.declared.fault.ReplayFault.{ReplayFault}
+use Rattle.replay.specs.declared.fault.ReplayFault.TheVariants.{DoesNotFit, Impossible, Memory, Writer}
+use Rattle.replay.specs.declared.state.State.{State as StateInMemory}
+use Rattle.replay.specs.States.{Stands}
+
+-- entry i, counted from 1, is the first that isn't possible
+pub record IsFirstImpossible (unit : SourceUnit) (w : World) (journal : Journal) (i : ℕ) : Type 0 where
+  pub done : Journal
+  pub entry : Entry
+  pub rest : Journal
+  pub whole : journal ≡ done ++ entry ∷ rest
+  pub number : i ≡ length done + 1
+  pub before : State
+  pub replays : replay unit w done ≡ Some before
+  pub impossible : world_step unit w.classes before entry ≡ None
+
+-- the calls fit, and the text of the journal's run was appended
+pub record WritesRun (unit : SourceUnit) (w : World) (journal : Journal) (old new : Written) : Type 0 where
+  pub fits : first_load_fault unit w ≡ None
+  pub text : List ℕ
+  pub is : Writes unit w journal text
+  pub written : AppendsText old new text
+
+-- the calls fit, the sink failed, and a beginning of that text was appended before
+pub record StopsInRun (unit : SourceUnit) (w : World) (journal : Journal) (old new : Written) : Type 0 where
+  pub fits : first_load_fault unit w ≡ None
+  pub text : List ℕ
+  pub is : Writes unit w journal text
+  pub stopped : StopsWithin old new text
+
+-- why a replay wasn't written, and what was done to the sink
+abbrev pub IsStoppedBy : SourceUnit → World → Journal → Written → Written → ReplayFault → Type 0
+IsStoppedBy unit w journal old new (DoesNotFit line) = (first_load_fault unit w ≡ Some line) × (new ≡ old)
+IsStoppedBy unit w journal old new (Impossible i) = (first_load_fault unit w ≡ None) × IsFirstImpossible unit w journal i × (new ≡ old)
+IsStoppedBy unit w journal old new Memory = new ≡ old
+IsStoppedBy unit w journal old new Writer = StopsInRun unit w journal old new
+
+-- memory was refused, or the writer failed
+abbrev pub IsFromOutside : ReplayFault → Type 0
+IsFromOutside (DoesNotFit line) = ⊥
+IsFromOutside (Impossible i) = ⊥
+IsFromOutside Memory = Unit {0}
+IsFromOutside Writer = Unit {0}
+
+-- the calls fit, and each entry is possible
+pub record IsReplayable (unit : SourceUnit) (w : World) (journal : Journal) : Type 0 where
+  pub fits : first_load_fault unit w ≡ None
+  pub defined : IsSome (replay unit w journal)
+
+-- ---- before anything is written
+
+-- the calls fit, and the state in memory is the one that the journal leads to
+pub record Replayed (unit : SourceUnit) (w : World) (journal : Journal) (m : StateInMemory) : Type 0 where
+  pub fits : first_load_fault unit w ≡ None
+  pub end : State
+  pub replays : replay unit w journal ≡ Some end
+  pub stands : Stands unit w m end
+
+-- why a replay didn't begin
+abbrev pub IsLoadFault : SourceUnit → World → ReplayFault → Type 0
+IsLoadFault unit w (DoesNotFit line) = first_load_fault unit w ≡ Some line
+IsLoadFault unit w (Impossible i) = ⊥
+IsLoadFault unit w Memory = Unit {0}
+IsLoadFault unit w Writer = ⊥
+
+-- why a journal wasn't replayed
+abbrev pub IsRefused : SourceUnit → World → Journal → ReplayFault → Type 0
+IsRefused unit w journal (DoesNotFit line) = first_load_fault unit w ≡ Some line
+IsRefused unit w journal (Impossible i) = (first_load_fault unit w ≡ None) × IsFirstImpossible unit w journal i
+IsRefused unit w journal Memory = Unit {0}
+IsRefused unit w journal Writer = ⊥

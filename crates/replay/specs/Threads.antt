@@ -1,0 +1,63 @@
+-- Threads that lie in memory, as those of the language.
+use Rattle.std.specs.Prelude.{◌≡◌, ℕ, Bool, true, false, List, [], map, Option, Some, None, IsTrue}
+use Rattle.std.specs.List.{list_all}
+use Rattle.syntax.specs.Tree.{SourceUnit}
+use Rattle.classes.specs.Class.{Classes}
+use Rattle.world.specs.SceneWorld.{invocation_of}
+use Rattle.regions.specs.Load.{call_loads}
+use Rattle.regions.specs.Task.{Task}
+use Rattle.regions.specs.Thread.{Ending, Unfinished, Ended, Thread, Shared, Lent, Event, Quiet, PrintedNumber, Advance, Advances, NoAdvance}
+use Rattle.regions.specs.ThreadStep.{thread_step}
+use Rattle.replay.specs.declared.activation.Activation.{Activation}
+use Rattle.replay.specs.declared.task.Outcome.{Outcome}
+use Rattle.replay.specs.declared.task.Outcome.TheVariants as outcome
+use Rattle.replay.specs.declared.thread.Thread.{Thread as ThreadInMemory}
+use Rattle.replay.specs.declared.thread.Step.{Step}
+use Rattle.replay.specs.declared.thread.Step.TheVariants as step
+use Rattle.replay.specs.Activations.{tasks_left, IsInRange}
+
+-- the tasks of the call in progress, if there is one
+abbrev pub tasks_in : Option Activation → Option (List Task)
+tasks_in None = None
+tasks_in (Some a) = Some (tasks_left a)
+
+abbrev pub WorkInRange : Option Activation → Type 0
+WorkInRange None = Unit {0}
+WorkInRange (Some a) = IsInRange a
+
+abbrev pub ending_in : (ended : Bool) → Ending
+ending_in true = Ended
+ending_in false = Unfinished
+
+-- what others see of what a call in progress did
+abbrev pub step_of : Outcome → Step
+step_of outcome.Stays = step.Quiet
+step_of (outcome.Printed z) = step.Printed z
+step_of outcome.Returned = step.Quiet
+step_of outcome.Nothing = step.Nothing
+
+-- a thread in memory stands for one of the language
+pub record ThreadStands (unit : SourceUnit) (classes : Classes) (t : ThreadInMemory) (s : Thread) : Type 0 where
+  pub calls : s.calls ≡ map invocation_of t.calls.now
+  pub loads : IsTrue (list_all (call_loads unit classes) (map invocation_of t.calls.now))
+  pub tasks : s.tasks ≡ tasks_in t.activation
+  pub pending : s.pending ≡ None
+  pub ending : s.ending ≡ ending_in t.ended
+
+-- a step leaves the thread so, and does nothing to what all threads share
+pub record Leaves (unit : SourceUnit) (classes : Classes) (shared : Shared) (t : ThreadInMemory) (event : Event) (advance : Advance) : Type 0 where
+  pub next : Thread
+  pub advances : advance ≡ Advances shared next event
+  pub stands : ThreadStands unit classes t next
+
+-- what a step in memory did is the thread's step
+abbrev pub StepIs : SourceUnit → Classes → Shared → ThreadInMemory → Step → Advance → Type 0
+StepIs unit classes shared t step.Quiet advance = Leaves unit classes shared t Quiet advance
+StepIs unit classes shared t (step.Printed z) advance = Leaves unit classes shared t (PrintedNumber z) advance
+StepIs unit classes shared t step.Nothing advance = advance ≡ NoAdvance
+
+-- the same for each thread that it stands for, where nobody owns a monitor
+abbrev pub TakesStep : SourceUnit → Classes → ThreadInMemory → Step → ThreadInMemory → Type 0
+TakesStep unit classes old took new =
+    (s : Thread) (shared : Shared) (lent : Lent) (k : ℕ) → ThreadStands unit classes old s → s.ending ≡ Unfinished → shared.monitors ≡ []
+    → StepIs unit classes shared new took (thread_step unit classes lent k shared s false)

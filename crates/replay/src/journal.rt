@@ -1,0 +1,70 @@
+//! Replays of journals.
+
+ghost use Rattle.std.specs.Prelude.{◌≡◌, IfOk, IfErr, OnOk, map};
+ghost use Rattle.syntax.specs.Limits.{IsTree};
+ghost use Rattle.syntax.specs.Views.{unit_tree};
+ghost use Rattle.world.specs.SceneWorld.{world_of_scene};
+ghost use Rattle.world.specs.Sink.{CanFail};
+ghost use Rattle.replay.specs.Replays.{Replayed, IsRefused, WritesRun, IsStoppedBy, IsReplayable, IsFromOutside};
+
+use crate::fault::ReplayFault;
+use crate::load::start;
+use crate::state::{State, standings_of, take_entry};
+use regions::Checked;
+use std::alloc::Global;
+use syntax::Item;
+use world::{Entry, Sink, World, write_run};
+
+/// The state that the journal leads to.
+fn run<'a>(
+    alloc: Global,
+    items: &'a [Item],
+    world: &'a World,
+    journal: &[Entry],
+) -> Result<State<'a>, ReplayFault>
+    requires { IsTree (unit_tree items.now) }
+    ensures end { IfOk result (Replayed (unit_tree items.now) (world_of_scene world.now) journal.now) }
+    ensures refused { IfErr result (IsRefused (unit_tree items.now) (world_of_scene world.now) journal.now) }
+{
+    let mut state = match start(alloc, items, world) {
+        Ok(state) => state,
+        Err(fault) => return Err(fault),
+    };
+    for (done, entry) in journal.iter().enumerate() {
+        if !take_entry(alloc, items, &mut state, *entry)? {
+            return Err(ReplayFault::Impossible(done + 1));
+        }
+    }
+    Ok(state)
+}
+
+/// Writes the report of a run that took these steps, and their journal, without code, addresses or a collector.
+///
+/// Its time is proportional to the journal's length, for programs and worlds of one size. What was written reaches
+/// the sink's writer before it answers `Ok`. Where an entry isn't possible or a call doesn't fit, and where memory is
+/// refused, nothing is written.
+pub fn replay<W: Sink>(
+    alloc: Global,
+    checked: &Checked,
+    world: &World,
+    journal: &[Entry],
+    out: &mut W,
+) -> Result<(), ReplayFault>
+    requires { CanFail (W.written out.old) }
+    ensures ok { OnOk result (WritesRun (unit_tree checked.now) (world_of_scene world.now) journal.now (W.written out.old) (W.written out.new)) }
+    ensures none_waits { OnOk result ((W.written out.new).waiting ≡ 0) }
+    ensures err { IfErr result (IsStoppedBy (unit_tree checked.now) (world_of_scene world.now) journal.now (W.written out.old) (W.written out.new)) }
+    // Faults 82 and 91 are answered only where they must be.
+    ensures only { IsReplayable (unit_tree checked.now) (world_of_scene world.now) journal.now → IfErr result IsFromOutside }
+{
+    let items = checked.unit().items();
+    let state = match run(alloc, items, world, journal) {
+        Ok(state) => state,
+        Err(fault) => return Err(fault),
+    };
+    let standings = standings_of(alloc, &state.threads)?;
+    match write_run(out, &state.printed, &standings, journal) {
+        Ok(()) => Ok(()),
+        Err(_) => Err(ReplayFault::Writer),
+    }
+}

@@ -1,0 +1,104 @@
+//! The state in which a replay begins.
+
+ghost use Rattle.std.specs.Prelude.{◌≡◌, IfOk, IfErr, map, [], None};
+ghost use Rattle.syntax.specs.Views.{unit_tree, function_tree};
+ghost use Rattle.world.specs.SceneWorld.{world_of_scene, invocation_of};
+ghost use Rattle.regions.specs.Load.{call_loads, is_callable, first_load_fault};
+ghost use Rattle.regions.specs.Start.{start};
+ghost use Rattle.replay.specs.States.{AreInRange, Stands};
+ghost use Rattle.replay.specs.Loading.{refused_calls, first_line, AreWaiting};
+ghost use Rattle.replay.specs.Replays.{IsLoadFault};
+
+use crate::fault::ReplayFault;
+use crate::state::State;
+use crate::thread::{Thread, function_at};
+use classes::mangling::unmangle;
+use std::alloc::{AllocError, Global};
+use syntax::{Function, Item};
+use world::{Call, World};
+
+/// Whether the function can be called without arguments: its class is there.
+fn is_callable(alloc: Global, world: &World, function: &Function) -> Result<bool, AllocError>
+    ensures { IfOk result (λ fits. fits ≡ is_callable (world_of_scene world.now).classes [] (function_tree function.now)) }
+{
+    match unmangle(alloc, function.name.as_bytes())? {
+        Some(native) => Ok(world.has_class(&native.class)),
+        None => Ok(false),
+    }
+}
+
+/// Whether a call's function is there, and can be called.
+fn fits(alloc: Global, items: &[Item], world: &World, call: &Call) -> Result<bool, AllocError>
+    ensures { IfOk result (λ fits. fits ≡ call_loads (unit_tree items.now) (world_of_scene world.now).classes (invocation_of call.now)) }
+{
+    match function_at(items, call.function()) {
+        Some(function) => is_callable(alloc, world, function),
+        None => Ok(false),
+    }
+}
+
+/// The line of the first of these calls that doesn't fit.
+fn first_unfit(
+    alloc: Global,
+    items: &[Item],
+    world: &World,
+    calls: &[Call],
+) -> Result<Option<usize>, AllocError>
+    ensures { IfOk result (λ line. line ≡ first_line (refused_calls (unit_tree items.now) (world_of_scene world.now).classes (map invocation_of calls.now))) }
+{
+    for call in calls {
+        if !fits(alloc, items, world, call)? {
+            return Ok(Some(call.line()));
+        }
+    }
+    Ok(None)
+}
+
+/// The line of the first call of a thread that doesn't fit.
+fn first_fault(alloc: Global, items: &[Item], world: &World) -> Result<Option<usize>, AllocError>
+    ensures { IfOk result (λ line. line ≡ first_load_fault (unit_tree items.now) (world_of_scene world.now)) }
+{
+    for calls in world.threads() {
+        let line = first_unfit(alloc, items, world, calls)?;
+        if line.is_some() {
+            return Ok(line);
+        }
+    }
+    Ok(None)
+}
+
+/// The threads before their first calls.
+fn waiting_threads<'a>(alloc: Global, world: &'a World) -> Result<Vec<Thread<'a>>, AllocError>
+    ensures waiting { IfOk result (λ threads. AreWaiting threads.items world.now.threads) }
+    ensures range { IfOk result (λ threads. AreInRange threads.items) }
+{
+    let mut threads = Vec::new(alloc);
+    for calls in world.threads() {
+        threads.push(Thread {
+            calls,
+            activation: None,
+            ended: false,
+        })?;
+    }
+    Ok(threads)
+}
+
+/// The state before the first entry.
+pub(crate) fn start<'a>(
+    alloc: Global,
+    items: &[Item],
+    world: &'a World,
+) -> Result<State<'a>, ReplayFault>
+    ensures stands { IfOk result (λ m. Stands (unit_tree items.now) (world_of_scene world.now) m (start (unit_tree items.now) (world_of_scene world.now))) }
+    ensures range { IfOk result (λ m. AreInRange m.threads.items) }
+    ensures fits { IfOk result (λ _. first_load_fault (unit_tree items.now) (world_of_scene world.now) ≡ None) }
+    ensures fault { IfErr result (IsLoadFault (unit_tree items.now) (world_of_scene world.now)) }
+{
+    if let Some(line) = first_fault(alloc, items, world)? {
+        return Err(ReplayFault::DoesNotFit(line));
+    }
+    Ok(State {
+        threads: waiting_threads(alloc, world)?,
+        printed: Vec::new(alloc),
+    })
+}
