@@ -1,5 +1,5 @@
 -- What the layers answer, as what a run does to the sink.
-use Rattle.std.proofs.Common.{◌≡◌, ℕ, List, [], ◌∷◌, ◌++◌, Option, Some, None, Result, Ok, Err, length, refl, sym, ap, ◌∙◌, subst}
+use Rattle.std.proofs.Common.{◌≡◌, ℕ, List, [], ◌∷◌, ◌++◌, Option, Some, None, Result, Ok, Err, length, refl, sym, ap, ◌∙◌, subst, ◌+◌, ◌≤◌, arith, length-append}
 use Rattle.syntax.specs.declared.unit.Item.{Item}
 use Rattle.syntax.specs.Tree.{SourceUnit}
 use Rattle.syntax.specs.Views.{unit_tree}
@@ -17,7 +17,7 @@ use Rattle.world.specs.declared.journal.Entry.{Entry}
 use Rattle.world.specs.Journal.{Journal}
 use Rattle.world.specs.World.{World}
 use Rattle.regions.specs.State.{State}
-use Rattle.regions.specs.Run.{Follows, JournalFollows, JournalHasRoom, Writes, replay}
+use Rattle.regions.specs.Run.{Over, Collects, Waits, Steps, Follows, JournalFollows, JournalHasRoom, Writes, replay}
 use Rattle.regions.specs.Start.{start}
 use Rattle.lower.specs.declared.fault.LowerFault.{LowerFault}
 use Rattle.lower.specs.declared.fault.LowerFault.TheVariants as lowering
@@ -25,7 +25,7 @@ use Rattle.lower.specs.Layout.{IsTooLong}
 use Rattle.machine.specs.declared.fault.LoadFault.{LoadFault}
 use Rattle.machine.specs.declared.fault.LoadFault.TheVariants as loading
 use Rattle.machine.specs.Loading.{IsLoadFault}
-use Rattle.machine.specs.Run.{Run, IsUnstarted, RunsAlong, WritesRun, replay_of}
+use Rattle.machine.specs.Run.{Run, IsUnstarted, RunsAlong, RunsInto, WritesRun, replay_of}
 use Rattle.jnirun.specs.declared.fault.RunError.{RunError}
 use Rattle.jnirun.specs.declared.fault.RunError.TheVariants.{Memory, File, Fault, Writer}
 use Rattle.jnirun.specs.Errors.{of_lower, of_reading, of_load}
@@ -33,6 +33,21 @@ use Rattle.jnirun.specs.Passes.{IsRefusal}
 use Rattle.jnirun.specs.Programs.{IsProgram, by_length}
 use Rattle.jnirun.specs.Texts.{Meaning, AreRefused, by_program, by_world, by_schedule, by_load}
 use Rattle.jnirun.specs.Runs.{RunsTexts, IsRun, IsRunOrFails}
+
+-- a journal has no more entries than the words that it follows
+follows_short : {unit : SourceUnit} {w : World} {s end : State} {journal : Journal} {words : Schedule} → Follows unit w s journal words end → length journal ≤ length words
+follows_short (Over s) = omega arith
+follows_short (Collects s end journal words h) = let short : length journal ≤ length words = follows_short h in omega (arith, short)
+follows_short (Waits s end k journal words e h) = let short : length journal ≤ length words = follows_short h in omega (arith, short)
+follows_short (Steps s next end k refused journal words c e h) = let short : length journal ≤ length words = follows_short h in omega (arith, short)
+
+-- so the journal is never full before the last of a schedule's words
+pub never_full : (items : List Item) (scene : Scene) (begun ended : Run) (words : Schedule) → IsUnstarted items scene begun → RunsInto begun ended words → length words ≤ 1000000 → 1000000 ≤ length ended.journal → ⊥
+never_full items scene begun ended words un into few full =
+    let steps : ended.journal ≡ into.along.steps = into.along.journal ∙ ap (λ (j : List Entry). j ++ into.along.steps) un.unstarted in
+    let short : length into.along.steps ≤ length into.taken = follows_short into.along.follows in
+    let parts : length words ≡ length into.taken + length into.left = ap length into.is ∙ length-append into.taken into.left in
+    absurd (omega (arith, ap length steps, short, parts, into.some_left))
 
 -- what a report answered is what the run answers
 abbrev pub as_run : {T E : Type 0} → Result T E → Result (Unit {0}) RunError
