@@ -1,9 +1,8 @@
 -- A report shows nothing of a heap with the class objects and the OutOfMemoryError object alone.
-use Rattle.std.specs.Prelude.{◌≡◌, ℕ, zero, suc, ◌+◌, ◌<◌, ◌≤◌, Bool, true, false, nat_lt, List, [], ◌∷◌, ◌++◌, length, filter, map, refl}
+use Rattle.std.specs.Prelude.{◌≡◌, ℕ, zero, suc, ◌+◌, ◌≤◌, Bool, true, false, nat_lt, List, [], ◌∷◌, ◌++◌, length, filter, refl}
 use Rattle.std.specs.List.{enumerate_from}
-use Rattle.std.proofs.Common.{ap, sym, ◌∙◌, cond, subst, arith, length-append}
+use Rattle.std.proofs.Common.{ap, ◌∙◌, cond, arith, length-append}
 use Rattle.std.proofs.lemmas.Bool.Decides.{nat_tests}
-use Rattle.std.proofs.lemmas.Grind.{common_steps}
 use Rattle.std.proofs.lemmas.List.{length-map}
 use Rattle.std.proofs.lemmas.List.Elements.{filter-append}
 use Rattle.std.proofs.lemmas.List.FromFn.{length-enumerate_from}
@@ -12,7 +11,7 @@ use Rattle.classes.specs.Class.{Class, Classes}
 use Rattle.world.specs.Object.{Object}
 use Rattle.world.specs.World.{World, class_object, class_objects, fresh_object, loaded_objects}
 use Rattle.regions.specs.Heap.{Heap}
-use Rattle.regions.specs.Reachable.{from_one, is_in, reachable, rising}
+use Rattle.regions.specs.Reachable.{from_one, is_in, reachable}
 use Rattle.regions.specs.ReportOf.{shown}
 use Rattle.regions.specs.State.{State}
 use Rattle.regions.proofs.ReachableLemmas.{reachable_lists}
