@@ -90,11 +90,11 @@ module _ (program world schedule : List ℕ) (old : Written) where
       let at_start : replay_of begun ≡ Some (start (unit_tree begun.unit) (world_of_scene begun.world)) = ap (replay (unit_tree begun.unit) (world_of_scene begun.world)) un.unstarted in
       let first : along.before ≡ start (unit_tree begun.unit) (world_of_scene begun.world) = cc (along.replays, at_start) in
       let here : Follows (unit_tree begun.unit) (world_of_scene begun.world) (start (unit_tree begun.unit) (world_of_scene begun.world)) along.steps words along.after =
-          subst (λ (s : State). Follows (unit_tree begun.unit) (world_of_scene begun.world) s along.steps words along.after) first along.follows in
+      subst (λ (s : State). Follows (unit_tree begun.unit) (world_of_scene begun.world) s along.steps words along.after) first along.follows in
       let on_unit : Follows (unit_tree items) (world_of_scene begun.world) (start (unit_tree items) (world_of_scene begun.world)) along.steps words along.after =
-          subst (λ (u : SourceUnit). Follows u (world_of_scene begun.world) (start u (world_of_scene begun.world)) along.steps words along.after) unit_is here in
+      subst (λ (u : SourceUnit). Follows u (world_of_scene begun.world) (start u (world_of_scene begun.world)) along.steps words along.after) unit_is here in
       let on_world : Follows (unit_tree items) (world_of_scene scene) (start (unit_tree items) (world_of_scene scene)) along.steps words along.after =
-          subst (λ (w : World). Follows (unit_tree items) w (start (unit_tree items) w) along.steps words along.after) world_is on_unit in
+      subst (λ (w : World). Follows (unit_tree items) w (start (unit_tree items) w) along.steps words along.after) world_is on_unit in
       (along.after, subst (λ (j : Journal). Follows (unit_tree items) (world_of_scene scene) (start (unit_tree items) (world_of_scene scene)) j words along.after) steps on_world)
 
   -- the unit and the world of a run stay

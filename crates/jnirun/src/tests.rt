@@ -98,34 +98,63 @@ fn run(rt: &impl AllocGlobal, program: &[u8], world: &[u8], schedule: &[u8]) -> 
 #[test]
 fn worked_runs(rt: HostRuntime) {
     let (status, out) = run(&rt, ZERO, WORLD, b"1*9");
-    assert_eq!(rt; (status, out.as_slice()), (0, b"T1 ended\njournal 1 1 1\n".as_slice()));
-    let wraps = b"JNIEXPORT void JNICALL Java_A_f(JNIEnv *env, jclass cls) { put_jint((jint)(4294967295u + 1u)); put_jint((jint)2147483648u); return; }";
+    assert_eq!(rt; status, 0);
+    assert_eq!(rt; out.as_slice(), b"T1 ended\njournal 1 1 1\n".as_slice());
+    let wraps =
+        b"JNIEXPORT void JNICALL Java_A_f(JNIEnv *env, jclass cls) { put_jint((jint)(4294967295u + 1u)); put_jint((jint)2147483648u); return; }";
     let (status, out) = run(&rt, wraps, WORLD, b"1*20");
     assert_eq!(rt; status, 0);
-    assert_eq!(rt; out.as_slice(), b"T1 0\nT1 -2147483648\nT1 ended\njournal 1 1 1 1 1 1 1 1 1 1\n".as_slice());
+    assert_eq!(rt;
+        out.as_slice(),
+        b"T1 0\nT1 -2147483648\nT1 ended\njournal 1 1 1 1 1 1 1 1 1 1\n".as_slice()
+    );
     let (status, out) = run(&rt, ZERO, WORLD, b"");
-    assert_eq!(rt; (status, out.as_slice()), (0, b"T1 running\njournal\n".as_slice()));
+    assert_eq!(rt; status, 0);
+    assert_eq!(rt; out.as_slice(), b"T1 running\njournal\n".as_slice());
 }
 
 #[test]
 fn refused_programs(rt: HostRuntime) {
     let open = b"JNIEXPORT void JNICALL Java_A_f(JNIEnv *env, jclass cls) { }";
-    let word = b"JNIEXPORT void JNICALL Java_A_f(JNIEnv *env, jclass cls) { put_jint(1u); return; }";
-    assert_eq!(rt; run(&rt, open, WORLD, b"1").1.as_slice(), b"fault 42 line 1\n".as_slice());
-    assert_eq!(rt; run(&rt, word, WORLD, b"1").1.as_slice(), b"fault 23 line 1\n".as_slice());
-    assert_eq!(rt; run(&rt, b"/*", WORLD, b"1").1.as_slice(), b"fault 2 line 1\n".as_slice());
-    assert_eq!(rt; run(&rt, b"", WORLD, b"").1.as_slice(), b"fault 82 line 3\n".as_slice());
+    let word =
+        b"JNIEXPORT void JNICALL Java_A_f(JNIEnv *env, jclass cls) { put_jint(1u); return; }";
+    assert_eq!(rt;
+        run(&rt, open, WORLD, b"1").1.as_slice(),
+        b"fault 42 line 1\n".as_slice()
+    );
+    assert_eq!(rt;
+        run(&rt, word, WORLD, b"1").1.as_slice(),
+        b"fault 23 line 1\n".as_slice()
+    );
+    assert_eq!(rt;
+        run(&rt, b"/*", WORLD, b"1").1.as_slice(),
+        b"fault 2 line 1\n".as_slice()
+    );
+    assert_eq!(rt;
+        run(&rt, b"", WORLD, b"").1.as_slice(),
+        b"fault 82 line 3\n".as_slice()
+    );
 }
 
 #[test]
 fn refused_worlds_and_schedules(rt: HostRuntime) {
-    assert_eq!(rt; run(&rt, ZERO, WORLD, b"2").1.as_slice(), b"fault 82 line 1\n".as_slice());
-    assert_eq!(rt; run(&rt, ZERO, WORLD, b"9").1.as_slice(), b"fault 81 line 1\n".as_slice());
+    assert_eq!(rt;
+        run(&rt, ZERO, WORLD, b"2").1.as_slice(),
+        b"fault 82 line 1\n".as_slice()
+    );
+    assert_eq!(rt;
+        run(&rt, ZERO, WORLD, b"9").1.as_slice(),
+        b"fault 81 line 1\n".as_slice()
+    );
     let small = b"heap 511\nclass A\nthread Java_A_f\n";
     let (status, out) = run(&rt, ZERO, small, b"1");
-    assert_eq!(rt; (status, out.as_slice()), (1, b"fault 83 line 1\n".as_slice()));
+    assert_eq!(rt; status, 1);
+    assert_eq!(rt; out.as_slice(), b"fault 83 line 1\n".as_slice());
     let returns = b"heap 512\r\nclass A\r\nthread Java_A_f\r\n";
-    assert_eq!(rt; run(&rt, ZERO, returns, b"1").1.as_slice(), b"fault 81 line 1\n".as_slice());
+    assert_eq!(rt;
+        run(&rt, ZERO, returns, b"1").1.as_slice(),
+        b"fault 81 line 1\n".as_slice()
+    );
 }
 
 #[test]
@@ -157,8 +186,17 @@ fn words(rt: HostRuntime) {
     let swapped = ["jnirun", "run", "w", "p", "--schedule", "s"];
     assert_eq!(rt; status_of(&rt, RUN.as_slice()), 0);
     assert_eq!(rt; status_of(&rt, swapped.as_slice()), 1);
-    assert_eq!(rt; status_of(&rt, ["jnirun", "run", "--schedule=s", "p", "w"].as_slice()), 0);
-    assert_eq!(rt; status_of(&rt, ["jnirun", "run", "p", "x", "--schedule", "s"].as_slice()), 3);
+    assert_eq!(rt;
+        status_of(&rt, ["jnirun", "run", "--schedule=s", "p", "w"].as_slice()),
+        0
+    );
+    assert_eq!(rt;
+        status_of(
+            &rt,
+            ["jnirun", "run", "p", "x", "--schedule", "s"].as_slice()
+        ),
+        3
+    );
     assert_eq!(rt; status_of(&rt, ["jnirun", "run", "p", "w"].as_slice()), 2);
     assert_eq!(rt; status_of(&rt, ["jnirun"].as_slice()), 2);
     assert_eq!(rt; status_of(&rt, ["jnirun", "walk"].as_slice()), 2);
