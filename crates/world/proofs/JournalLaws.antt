@@ -63,9 +63,9 @@ entries_read ((c ∷ cs) ∷ parts) es h =
     subst (AreEntriesOf ((c ∷ cs) ∷ parts)) (sym w.4) (record {
       spelled = ap (λ (b : List ℕ). b ∷ filter is_some_byte parts) first.spelled ∙ ap (λ (bs : List (List ℕ)). entry_text w.0 ∷ bs) a.spelled;
       known = λ threads k.
-        let both = both_true (nat_le w.0.thread threads) (list_all (λ (e : Entry). nat_le e.thread threads) w.1) k in
-        let one : nat_le 1 w.0.thread ≡ true = grind (arith, nat_tests, first.low) in
-        and_from (is_thread threads w.0.thread) (list_all (λ (e : Entry). is_thread threads e.thread) w.1) (and_from (nat_le 1 w.0.thread) (nat_le w.0.thread threads) one both.0) (a.known threads both.1);
+          let both = both_true (nat_le w.0.thread threads) (list_all (λ (e : Entry). nat_le e.thread threads) w.1) k in
+          let one : nat_le 1 w.0.thread ≡ true = grind (arith, nat_tests, first.low) in
+          and_from (is_thread threads w.0.thread) (list_all (λ (e : Entry). is_thread threads e.thread) w.1) (and_from (nat_le 1 w.0.thread) (nat_le w.0.thread threads) one both.0) (a.known threads both.1);
     })
 
 -- what is read is meant

@@ -46,7 +46,7 @@ some_with (Some x) (Some xs) ws h = (x, xs, refl, refl, cc)
 
 -- ---- numbers
 
-all_digits : (ds : List ℕ) → all_ascii_digits ds ≡ list_all is_ascii_digit ds
+pub all_digits : (ds : List ℕ) → all_ascii_digits ds ≡ list_all is_ascii_digit ds
 all_digits [] = refl
 all_digits (c ∷ cs) = ap (λ b. is_ascii_digit c && b) (all_digits cs)
 
@@ -116,7 +116,7 @@ repetition_read (name ∷ star ∷ digits) r h =
     let t = turn_read name w.0 w.1 in
     let mark : star ≡ 42 = grind (arith, nat_tests, g.0) in
     let text : name ∷ star ∷ digits ≡ turn_text w.0 ++ codes "*" ++ decimal n.0 =
-        ap (λ s. name ∷ s ∷ digits) mark ∙ ap (λ (ds : List ℕ). name ∷ 42 ∷ ds) (sym (decimal-natural_of digits n.0 n.1 (omega (arith, high)))) ∙ ap (λ (ts : List ℕ). ts ++ codes "*" ++ decimal n.0) (sym (turn_text-is name w.0 t)) in
+    ap (λ s. name ∷ s ∷ digits) mark ∙ ap (λ (ds : List ℕ). name ∷ 42 ∷ ds) (sym (decimal-natural_of digits n.0 n.1 (omega (arith, high)))) ∙ ap (λ (ts : List ℕ). ts ++ codes "*" ++ decimal n.0) (sym (turn_text-is name w.0 t)) in
     subst (IsRepetition (name ∷ star ∷ digits)) k.1 (record { times = Some n.0; thread = t.thread; turn = t.is; low = t.low; spelled = text; meant = refl; counted = k.0 })
 
 -- ---- all words
@@ -144,13 +144,13 @@ repetitions_read ((c ∷ cs) ∷ parts) rs h =
       spelled = ap (λ (b : List ℕ). b ∷ filter is_some_byte parts) first.spelled ∙ ap (λ (bs : List (List ℕ)). schedule_word (w.0.word, first.times) ∷ bs) a.spelled;
       meant = flat_map-cons words_meant (w.0.word, first.times) a.words ∙ ap (λ (s : List ScheduleWord). s ++ flat_map words_meant a.words) first.meant ∙ ap (λ (s : List ScheduleWord). repeated_words w.0 ++ s) a.meant ∙ sym (flat_map-cons repeated_words w.0 w.1);
       counted = λ threads k.
-        let both = both_true (is_known_turn threads w.0.word) (list_all (λ (r : Repetition). is_known_turn threads r.word) w.1) k in
-        and_from (is_turn threads w.0.word && is_count first.times) (list_all (λ (v : ScheduleWord × Option ℕ). is_turn threads v.0 && is_count v.1) a.words)
-        (and_from (is_turn threads w.0.word) (is_count first.times) (known_turn threads first.thread w.0.word first.turn first.low both.0) first.counted) (a.counted threads both.1);
+          let both = both_true (is_known_turn threads w.0.word) (list_all (λ (r : Repetition). is_known_turn threads r.word) w.1) k in
+          and_from (is_turn threads w.0.word && is_count first.times) (list_all (λ (v : ScheduleWord × Option ℕ). is_turn threads v.0 && is_count v.1) a.words)
+          (and_from (is_turn threads w.0.word) (is_count first.times) (known_turn threads first.thread w.0.word first.turn first.low both.0) first.counted) (a.counted threads both.1);
     })
 
 -- how many words repetitions stand for
-length-repeated : (rs : List Repetition) → length (flat_map repeated_words rs) ≡ sum_by (λ (r : Repetition). r.times) rs
+pub length-repeated : (rs : List Repetition) → length (flat_map repeated_words rs) ≡ sum_by (λ (r : Repetition). r.times) rs
 length-repeated [] = refl
 length-repeated (r ∷ rs) =
     ap length (flat_map-cons repeated_words r rs) ∙ length-append (repeated_words r) (flat_map repeated_words rs)

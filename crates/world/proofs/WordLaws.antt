@@ -183,3 +183,9 @@ module _ {W : Type 0} (spelled : List ℕ → Option W) (known : W → Bool) (ti
       ap (λ r. r >>= λ first. lines_words spelled known times (number + 1) (count + sum_by times first) lines >>= λ others. Ok (first ++ others)) line_is
       ∙ ap (λ r. r >>= λ others. Ok (x ++ others)) rest_is
       ∙ ap (λ (l : List W). Ok l) (sym t.4)
+
+-- empty parts are no words
+pub formed_words-filter : {W : Type 0} (spelled : List ℕ → Option W) (parts : List (List ℕ)) → formed_words spelled parts ≡ formed_words spelled (filter is_some_byte parts)
+formed_words-filter spelled [] = refl
+formed_words-filter spelled ([] ∷ parts) = formed_words-filter spelled parts
+formed_words-filter spelled ((c ∷ cs) ∷ parts) = ap (with_word (spelled (c ∷ cs))) (formed_words-filter spelled parts)
