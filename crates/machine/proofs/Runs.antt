@@ -1,5 +1,5 @@
 -- Several words go along with a schedule.
-use Rattle.std.proofs.Common.{◌≡◌, ℕ, zero, suc, ◌+◌, ◌-◌, ◌<◌, ◌≤◌, Bool, true, false, List, [], ◌∷◌, ◌++◌, length, take, drop, get_or, map, replicate, Option, Some, None, refl, sym, ap, ◌∙◌, subst, arith, IsSome, append_assoc, append-nil}
+use Rattle.std.proofs.Common.{◌≡◌, ℕ, zero, suc, ◌+◌, ◌-◌, ◌<◌, ◌≤◌, true, false, List, [], ◌∷◌, ◌++◌, length, take, drop, get_or, replicate, Option, Some, None, refl, sym, ap, ◌∙◌, subst, arith, IsSome, append_assoc, append-nil}
 use Rattle.std.specs.Prelude.{slice_get, is_none, not, ◌&&◌, flat_map}
 use Rattle.std.specs.Option.{option_and_then}
 use Rattle.std.proofs.lemmas.Bool.{and_left, and_right}
@@ -18,16 +18,14 @@ use Rattle.world.specs.declared.schedule.ScheduleWord.TheVariants.{Turn, Collect
 use Rattle.world.specs.Scene.{Scene}
 use Rattle.world.specs.SceneWorld.{world_of_scene}
 use Rattle.world.specs.Schedule.{Schedule}
-use Rattle.world.specs.World.{World}
 use Rattle.regions.specs.Run.{replay, replay_from, Follows, Over, Collects, Waits, Steps}
 use Rattle.regions.specs.Start.{start}
 use Rattle.regions.specs.State.{State, thread_at}
 use Rattle.regions.specs.Step.{can_step, is_live, is_waiting, world_step}
-use Rattle.regions.specs.Thread as source
 use Rattle.regions.proofs.RunLaws.{replay_from-append, follows-replay, follows-append}
 use Rattle.machine.specs.declared.turn.Turn.{Turn as Answer}
 use Rattle.machine.specs.declared.turn.Turn.TheVariants as turn
-use Rattle.machine.specs.Run.{Run, replay_of, InState, can_turn, HasEnded, TurnHolds, GivesNoStep, entry_of, stepped, RunsAlong, RunsInto}
+use Rattle.machine.specs.Run.{Run, replay_of, can_turn, HasEnded, TurnHolds, GivesNoStep, entry_of, stepped, RunsAlong, RunsInto}
 
 -- the walk from a state of a run along these words
 abbrev pub Walk : Run → State → List Entry → Schedule → State → Type 0

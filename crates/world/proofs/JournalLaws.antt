@@ -1,6 +1,6 @@
 -- The journal that is read is the one that the text means.
-use Rattle.std.proofs.Common.{◌≡◌, ℕ, suc, ◌+◌, ◌-◌, ◌<◌, ◌≤◌, Bool, true, false, cond, List, [], ◌∷◌, ◌++◌, length, map, Option, Some, None, Result, Ok, Err, refl, sym, ap, ◌∙◌, subst, arith, sum_by}
-use Rattle.std.specs.Prelude.{filter, ◌==◌, ◌&&◌, nat_le, codes, decimal, IfOk}
+use Rattle.std.proofs.Common.{◌≡◌, ℕ, ◌+◌, ◌-◌, ◌≤◌, Bool, true, false, cond, List, [], ◌∷◌, ◌++◌, map, Some, Result, Ok, Err, refl, sym, ap, ◌∙◌, subst, arith}
+use Rattle.std.specs.Prelude.{filter, ◌==◌, ◌&&◌, nat_le, IfOk}
 use Rattle.std.specs.Global.{Vec}
 use Rattle.std.specs.List.{list_all}
 use Rattle.std.proofs.lemmas.Bool.{and_from}
@@ -14,7 +14,7 @@ use Rattle.world.specs.ReadingJournals.{entry_named, entry_of, journal_of}
 use Rattle.world.specs.Reading.{Gives}
 use Rattle.world.specs.ReadingWords.{formed_words}
 use Rattle.world.specs.declared.fault.ReadError.{ReadError}
-use Rattle.world.specs.Words.{words_of, is_thread}
+use Rattle.world.specs.Words.{is_thread}
 use Rattle.world.proofs.JournalLemmas.{counted}
 use Rattle.world.proofs.ScheduleLaws.{guarded, guarded_option, some_with}
 use Rattle.world.proofs.WordLaws.{words_of-parts, all_parts, both_true, are_words}

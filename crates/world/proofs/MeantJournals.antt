@@ -1,14 +1,14 @@
 -- The journal that a text means is the one that is read.
-use Rattle.std.proofs.Common.{◌≡◌, ℕ, ◌≤◌, Bool, true, List, [], ◌∷◌, ◌++◌, length, map, Some, Ok, refl, sym, ap, ◌∙◌, arith, sum_by}
-use Rattle.std.specs.Prelude.{◌&&◌, nat_le}
+use Rattle.std.proofs.Common.{◌≡◌, ℕ, ◌≤◌, true, List, [], ◌∷◌, Some, Ok, sym, ap, ◌∙◌, arith}
+use Rattle.std.specs.Prelude.{nat_le}
 use Rattle.std.specs.List.{list_all}
 use Rattle.std.proofs.lemmas.Bool.Decides.{nat_tests}
 use Rattle.world.specs.declared.journal.Entry.{Entry}
-use Rattle.world.specs.Journal.{Journal, entry_text, IsJournalText}
+use Rattle.world.specs.Journal.{Journal, IsJournalText}
 use Rattle.world.specs.Parts.{parts_of}
 use Rattle.world.specs.ReadingJournals.{entry_of, journal_of, AreEntries}
 use Rattle.world.specs.ReadingWords.{formed_words}
-use Rattle.world.specs.Words.{words_of, is_thread}
+use Rattle.world.specs.Words.{is_thread}
 use Rattle.world.proofs.JournalLemmas.{counted, all_formed, all_known}
 use Rattle.world.proofs.WordLaws.{words_of-parts, all_parts, both_true, words_read, formed_words-filter}
 

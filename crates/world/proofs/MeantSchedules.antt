@@ -1,6 +1,6 @@
 -- The schedule that a text means is the one that is read.
-use Rattle.std.proofs.Common.{◌≡◌, ℕ, zero, suc, ◌+◌, ◌-◌, ◌^◌, ◌<◌, ◌≤◌, Bool, true, false, cond, List, [], ◌∷◌, ◌++◌, length, get_or, map, replicate, Option, Some, None, Ok, refl, sym, ap, ◌∙◌, subst, arith, sum_by}
-use Rattle.std.specs.Prelude.{filter, flat_map, ◌==◌, ◌&&◌, nat_le, codes, decimal, IsTrue}
+use Rattle.std.proofs.Common.{◌≡◌, ℕ, zero, suc, ◌+◌, ◌-◌, ◌^◌, ◌<◌, ◌≤◌, Bool, true, false, cond, List, [], ◌∷◌, ◌++◌, length, get_or, map, replicate, Option, Some, None, Ok, refl, sym, ap, ◌∙◌, arith}
+use Rattle.std.specs.Prelude.{flat_map, ◌==◌, ◌&&◌, nat_le, codes, decimal}
 use Rattle.std.specs.Option.{option_and_then}
 use Rattle.std.specs.List.{list_all}
 use Rattle.std.specs.Char.{is_ascii_digit}
@@ -12,7 +12,6 @@ use Rattle.std.proofs.lemmas.Fmt.{decimal_digit, decimal_nonempty, digits_decima
 use Rattle.std.proofs.lemmas.List.Concat.{flat_map-cons}
 use Rattle.std.proofs.lemmas.List.Folds.{list_all-append}
 use Rattle.std.proofs.lemmas.Str.Parse.{numerals_by_value, tells_all_ascii_digits}
-use Rattle.base.specs.Bytes.{is_some_byte}
 use Rattle.world.specs.declared.schedule.ScheduleWord.{ScheduleWord}
 use Rattle.world.specs.declared.schedule.ScheduleWord.TheVariants.{Turn, Collect}
 use Rattle.world.specs.declared.schedule.Repetition.{Repetition}
@@ -20,12 +19,12 @@ use Rattle.world.specs.Natural.{digits_number, natural_of}
 use Rattle.world.specs.Parts.{parts_of}
 use Rattle.world.specs.Reading.{◌>>=◌}
 use Rattle.world.specs.ReadingSchedules.{named_turn, repetition, repetition_of, is_known_turn, repeated_words, schedule_of}
-use Rattle.world.specs.ReadingWords.{with_word, formed_words, text_words}
-use Rattle.world.specs.Schedule.{turn_text, schedule_word, words_meant, is_turn, is_count, Schedule, IsScheduleText}
+use Rattle.world.specs.ReadingWords.{with_word, formed_words}
+use Rattle.world.specs.Schedule.{schedule_word, words_meant, is_turn, is_count, Schedule, IsScheduleText}
 use Rattle.world.specs.TextLaws.{is_turn_word}
-use Rattle.world.specs.Words.{words_of, is_thread}
+use Rattle.world.specs.Words.{is_thread}
 use Rattle.world.proofs.ScheduleLaws.{all_digits, length-repeated}
-use Rattle.world.proofs.WordLaws.{words_of-parts, all_parts, both_true, AreWords, words_read, formed_words-filter}
+use Rattle.world.proofs.WordLaws.{words_of-parts, all_parts, both_true, words_read, formed_words-filter}
 
 -- ---- numbers
 

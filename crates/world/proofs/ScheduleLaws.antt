@@ -1,5 +1,5 @@
 -- The schedule that is read is the one that the text means.
-use Rattle.std.proofs.Common.{◌≡◌, ℕ, suc, ◌+◌, ◌-◌, ◌^◌, ◌<◌, ◌≤◌, Bool, true, false, cond, List, [], ◌∷◌, ◌++◌, length, get_or, map, replicate, Option, Some, None, Ok, refl, sym, ap, ◌∙◌, subst, arith, sum_by}
+use Rattle.std.proofs.Common.{◌≡◌, ℕ, ◌+◌, ◌-◌, ◌^◌, ◌<◌, ◌≤◌, Bool, true, false, cond, List, [], ◌∷◌, ◌++◌, length, get_or, map, Option, Some, None, Ok, refl, sym, ap, ◌∙◌, subst, arith, sum_by}
 use Rattle.std.specs.Prelude.{filter, flat_map, ◌==◌, ◌&&◌, nat_le, codes, decimal}
 use Rattle.std.specs.Option.{option_and_then}
 use Rattle.std.specs.List.{list_all}
@@ -15,15 +15,14 @@ use Rattle.std.proofs.lemmas.List.Sums.{sum_by-cons}
 use Rattle.std.proofs.lemmas.Str.Parse.{numerals_by_value, tells_all_ascii_digits}
 use Rattle.base.specs.Bytes.{is_some_byte}
 use Rattle.world.specs.declared.schedule.ScheduleWord.{ScheduleWord}
-use Rattle.world.specs.declared.schedule.ScheduleWord.TheVariants.{Turn, Collect}
+use Rattle.world.specs.declared.schedule.ScheduleWord.TheVariants.{Turn}
 use Rattle.world.specs.declared.schedule.Repetition.{Repetition}
 use Rattle.world.specs.Natural.{digits_number, natural_of}
 use Rattle.world.specs.Parts.{parts_of}
 use Rattle.world.specs.ReadingSchedules.{named_turn, repetition, repetition_of, is_known_turn, repeated_words, schedule_of}
-use Rattle.world.specs.ReadingWords.{with_word, formed_words, lines_words, text_words}
-use Rattle.world.specs.Schedule.{turn_text, schedule_word, words_meant, is_turn, is_count, Schedule, IsScheduleText}
-use Rattle.world.specs.Words.{words_of, is_thread}
-use Rattle.world.proofs.WordLaws.{words_of-parts, all_parts, and_then_ok, both_true, AreWords, are_words}
+use Rattle.world.specs.ReadingWords.{with_word, formed_words, text_words}
+use Rattle.world.specs.Schedule.{turn_text, schedule_word, words_meant, is_turn, is_count, IsScheduleText}
+use Rattle.world.proofs.WordLaws.{words_of-parts, all_parts, and_then_ok, both_true, are_words}
 
 -- ---- options
 

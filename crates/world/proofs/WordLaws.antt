@@ -1,5 +1,5 @@
 -- Texts of words: the words that are read are those that the text has.
-use Rattle.std.proofs.Common.{◌≡◌, ℕ, suc, ◌+◌, ◌<◌, ◌≤◌, Bool, true, false, cond, List, [], ◌∷◌, ◌++◌, length, Option, Some, None, Result, Ok, Err, refl, sym, ap, ◌∙◌, subst, append_assoc, arith, sum_by}
+use Rattle.std.proofs.Common.{◌≡◌, ℕ, ◌+◌, ◌≤◌, Bool, true, false, cond, List, [], ◌∷◌, ◌++◌, Option, Some, None, Result, Ok, Err, refl, sym, ap, ◌∙◌, subst, arith, sum_by}
 use Rattle.std.specs.Prelude.{filter, flat_map, ◌==◌, ◌||◌, ◌&&◌, nat_le}
 use Rattle.std.specs.List.{list_all}
 use Rattle.std.proofs.lemmas.Bool.{and_from}
@@ -9,10 +9,10 @@ use Rattle.std.proofs.lemmas.List.Folds.{list_all-append}
 use Rattle.std.proofs.lemmas.List.Sums.{sum_by-append}
 use Rattle.base.specs.Bytes.{is_some_byte, with_first, split_at}
 use Rattle.world.specs.declared.fault.TextFault.{TextFault}
-use Rattle.world.specs.declared.fault.Rule.TheVariants.{Form, Name, Limit}
+use Rattle.world.specs.declared.fault.Rule.TheVariants.{Name, Limit}
 use Rattle.world.specs.Parts.{parts_of}
 use Rattle.world.specs.Reading.{◌>>=◌, refused}
-use Rattle.world.specs.ReadingWords.{with_word, formed_words, allowed_words, line_words, lines_words, text_words}
+use Rattle.world.specs.ReadingWords.{with_word, formed_words, allowed_words, line_words, lines_words}
 use Rattle.world.specs.Words.{words_of}
 use Rattle.world.proofs.PartLemmas.{some_part, slice_split-split_at}
 

@@ -1,4 +1,4 @@
-use Rattle.std.proofs.Common.{◌≡◌, ◌≤◌, ◌-◌, ◌∷◌, [], sym, ap, subst, replicate, arith, IsSome, refl}
+use Rattle.std.proofs.Common.{◌-◌, ◌∷◌, [], sym, subst, replicate, arith, IsSome, refl}
 use Rattle.world.specs.Schedule.{Schedule}
 use Rattle.machine.specs.Run.{Run, RunsAlong, RunsInto, replay_of}
 use Rattle.machine.proofs.Runs.{none_yet, along_both, all_taken, into_more, replicate_more, replicate_rest}
