@@ -11,3 +11,5 @@ pub mod ScheduleLaws
 pub mod JournalLaws
 pub mod MeantSchedules
 pub mod MeantJournals
+pub mod ClassTables
+pub mod WorldLaws
