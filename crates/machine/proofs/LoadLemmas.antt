@@ -1,17 +1,15 @@
 -- Calls that load, and calls that don't.
-use Rattle.std.proofs.Common.{◌≡◌, ℕ, zero, suc, ◌+◌, ◌<◌, ◌≤◌, Bool, true, false, List, [], ◌∷◌, ◌++◌, length, drop, map, Option, Some, None, refl, sym, ap, ◌∙◌, subst, arith, get_or, append_assoc, append-nil}
-use Rattle.std.specs.Prelude.{slice_get, is_some, not, filter, flat_map}
+use Rattle.std.proofs.Common.{◌≡◌, ℕ, zero, suc, ◌+◌, ◌≤◌, true, false, List, [], ◌∷◌, ◌++◌, length, drop, map, Option, Some, None, refl, sym, ap, ◌∙◌, subst, arith, append_assoc, append-nil}
+use Rattle.std.specs.Prelude.{slice_get, is_some}
 use Rattle.std.specs.Option.{option_and_then}
 use Rattle.std.proofs.lemmas.Bool.{and_from}
 use Rattle.std.proofs.Math.ListN.{drop_of_length-le}
 use Rattle.base.specs.Options.{some_passes}
 use Rattle.syntax.specs.Tree.{SourceUnit, Parameter}
-use Rattle.syntax.specs.Views.{unit_tree}
 use Rattle.classes.specs.Class.{Classes, class_named}
 use Rattle.classes.specs.Mangling.{native_class}
 use Rattle.world.specs.Scene.{CallScene, has_call}
 use Rattle.world.specs.SceneWorld.{invocation_of}
-use Rattle.world.specs.World.{Invocation}
 use Rattle.regions.specs.Activation.{class_of_function}
 use Rattle.regions.specs.Load.{call_loads, is_callable, fit_parameters}
 use Rattle.lower.specs.Lowered.{Lowered}

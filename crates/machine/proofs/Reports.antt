@@ -1,9 +1,8 @@
 -- The report of the state that a machine's journal leads to.
-use Rattle.std.proofs.Common.{◌≡◌, ℕ, zero, suc, ◌+◌, ◌<◌, ◌≤◌, Bool, true, false, cond, List, [], ◌∷◌, ◌++◌, length, map, Option, Some, None, Result, refl, sym, ap, ◌∙◌, subst, arith}
+use Rattle.std.proofs.Common.{◌≡◌, ℕ, zero, suc, ◌+◌, ◌≤◌, Bool, true, false, cond, List, [], ◌∷◌, ◌++◌, length, map, Option, None, Result, refl, sym, ap, ◌∙◌, subst, arith}
 use Rattle.std.specs.Prelude.{slice_get, filter, nat_lt, ◌==◌}
 use Rattle.std.specs.List.{enumerate_from}
 use Rattle.std.proofs.lemmas.Bool.Decides.{nat_tests}
-use Rattle.std.proofs.lemmas.Option.{slice_get_past}
 use Rattle.std.proofs.lemmas.List.{length-map, length-append}
 use Rattle.std.proofs.lemmas.List.FromFn.{length-enumerate_from}
 use Rattle.syntax.specs.Views.{unit_tree}
@@ -21,10 +20,10 @@ use Rattle.world.specs.Standing.{standing_view, report_without_objects}
 use Rattle.classes.specs.BuiltIns.{out_of_memory_error}
 use Rattle.world.specs.World.{World, fresh_object, class_object, class_objects, loaded_objects}
 use Rattle.regions.specs.Heap.{Heap}
-use Rattle.regions.specs.Reachable.{from_one, roots, is_in, rising, grown, closed, reachable}
+use Rattle.regions.specs.Reachable.{from_one, roots, is_in, rising, grown, closed}
 use Rattle.regions.specs.ReportOf.{standing_by_ending, standing_of, shown, shown_row, report}
 use Rattle.regions.specs.Run as source_run
-use Rattle.regions.specs.State.{Stop, State, thread_at}
+use Rattle.regions.specs.State.{Stop, State}
 use Rattle.regions.specs.Step.{is_waiting, is_blocked}
 use Rattle.regions.specs.Thread as source
 use Rattle.regions.specs.Thread.{Shared}

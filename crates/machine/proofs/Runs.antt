@@ -18,16 +18,14 @@ use Rattle.world.specs.declared.schedule.ScheduleWord.TheVariants.{Turn, Collect
 use Rattle.world.specs.Scene.{Scene}
 use Rattle.world.specs.SceneWorld.{world_of_scene}
 use Rattle.world.specs.Schedule.{Schedule}
-use Rattle.world.specs.World.{World}
 use Rattle.regions.specs.Run.{replay, replay_from, Follows, Over, Collects, Waits, Steps}
 use Rattle.regions.specs.Start.{start}
 use Rattle.regions.specs.State.{State, thread_at}
 use Rattle.regions.specs.Step.{can_step, is_live, is_waiting, world_step}
-use Rattle.regions.specs.Thread as source
 use Rattle.regions.proofs.RunLaws.{replay_from-append, follows-replay, follows-append}
 use Rattle.machine.specs.declared.turn.Turn.{Turn as Answer}
 use Rattle.machine.specs.declared.turn.Turn.TheVariants as turn
-use Rattle.machine.specs.Run.{Run, replay_of, InState, can_turn, HasEnded, TurnHolds, GivesNoStep, entry_of, stepped, RunsAlong, RunsInto}
+use Rattle.machine.specs.Run.{Run, replay_of, can_turn, HasEnded, TurnHolds, GivesNoStep, entry_of, stepped, RunsAlong, RunsInto}
 
 -- the walk from a state of a run along these words
 abbrev pub Walk : Run → State → List Entry → Schedule → State → Type 0

@@ -9,7 +9,6 @@ use Rattle.world.specs.declared.journal.Entry.{Entry}
 use Rattle.world.specs.declared.report.Printed.{Printed}
 use Rattle.world.specs.Scene.{Scene}
 use Rattle.world.specs.SceneWorld.{world_of_scene}
-use Rattle.world.specs.World.{World}
 use Rattle.regions.specs.State.{State, thread_at, set_thread, lent, with_event, advanced}
 use Rattle.regions.specs.Step.{can_step, is_unfinished, world_step}
 use Rattle.regions.specs.Thread as source

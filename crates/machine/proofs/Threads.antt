@@ -1,5 +1,5 @@
 -- A thread's step is that of the source's thread.
-use Rattle.std.proofs.Common.{◌≡◌, ℕ, ℤ, zero, suc, ◌+◌, ◌<◌, false, List, [], ◌∷◌, ◌++◌, length, take, Option, Some, None, refl, sym, ap, ◌∙◌, subst, arith}
+use Rattle.std.proofs.Common.{◌≡◌, ℕ, ℤ, zero, suc, false, List, [], ◌∷◌, ◌++◌, Option, Some, None, refl, sym, ap, ◌∙◌, subst}
 use Rattle.std.specs.Prelude.{slice_get}
 use Rattle.std.specs.Option.{option_map}
 use Rattle.syntax.specs.Parts.{functions_of}
@@ -12,7 +12,6 @@ use Rattle.regions.specs.Activation.{enter, entered, entered_function, entry_adv
 use Rattle.regions.specs.Activation as activation
 use Rattle.regions.specs.CallStep.{waits_with}
 use Rattle.regions.specs.Effect.{Effect, Becomes, Sets, SetsNull, SetsElement, MakesArray, Prints, Calls, Returns, TrapsAt, NoEffect, effect_of}
-use Rattle.regions.specs.Heap.{Heap}
 use Rattle.regions.specs.Start.{waiting_thread}
 use Rattle.regions.specs.Task.{Task, tasks_of}
 use Rattle.regions.specs.Thread as source
@@ -20,7 +19,7 @@ use Rattle.regions.specs.Thread.{Lent, Shared, Monitor, sight_of, without_owner}
 use Rattle.regions.specs.ThreadStep.{thread_step, step_within, after_effect, next_effect, waits, with_tasks}
 use Rattle.lower.specs.Lowered.{Lowered, IsLowered, IsCodeOf, AreCodesOf}
 use Rattle.machine.specs.declared.thread.Ending.{Ending}
-use Rattle.machine.specs.declared.thread.Ending.TheVariants.{Unfinished, Ended}
+use Rattle.machine.specs.declared.thread.Ending.TheVariants.{Unfinished}
 use Rattle.machine.specs.declared.thread.Event.{Event}
 use Rattle.machine.specs.declared.thread.Event.TheVariants as event
 use Rattle.machine.specs.declared.thread.Thread.{Thread}

@@ -1,5 +1,5 @@
 -- A run, as its program, its world and the steps taken.
-use Rattle.std.specs.Prelude.{◌≡◌, ℕ, ◌<◌, ◌≤◌, Bool, true, false, is_none, List, [], ◌∷◌, ◌++◌, length, map, Option, Some, None, Result}
+use Rattle.std.specs.Prelude.{◌≡◌, ℕ, ◌<◌, ◌≤◌, Bool, true, false, List, [], ◌∷◌, ◌++◌, length, Option, Some, None, Result}
 use Rattle.syntax.specs.declared.unit.Item.{Item}
 use Rattle.syntax.specs.Views.{unit_tree}
 use Rattle.world.specs.declared.journal.Entry.{Entry}
@@ -13,7 +13,7 @@ use Rattle.world.specs.SceneWorld.{world_of_scene}
 use Rattle.world.specs.Schedule.{Schedule}
 use Rattle.world.specs.Sink as sink
 use Rattle.world.specs.Sink.{Written}
-use Rattle.world.specs.World.{World, loaded_objects}
+use Rattle.world.specs.World.{loaded_objects}
 use Rattle.regions.specs.Run as source
 use Rattle.regions.specs.Run.{replay, Follows, JournalHasRoom}
 use Rattle.regions.specs.State.{State, thread_at}

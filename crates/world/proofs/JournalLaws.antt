@@ -1,6 +1,6 @@
 -- The journal that is read is the one that the text means.
-use Rattle.std.proofs.Common.{◌≡◌, ℕ, suc, ◌+◌, ◌-◌, ◌<◌, ◌≤◌, Bool, true, false, cond, List, [], ◌∷◌, ◌++◌, length, map, Option, Some, None, Result, Ok, Err, refl, sym, ap, ◌∙◌, subst, arith, sum_by}
-use Rattle.std.specs.Prelude.{filter, ◌==◌, ◌&&◌, nat_le, codes, decimal, IfOk}
+use Rattle.std.proofs.Common.{◌≡◌, ℕ, ◌+◌, ◌-◌, ◌≤◌, Bool, true, false, cond, List, [], ◌∷◌, ◌++◌, map, Some, Result, Ok, Err, refl, sym, ap, ◌∙◌, subst, arith}
+use Rattle.std.specs.Prelude.{filter, ◌==◌, ◌&&◌, nat_le, IfOk}
 use Rattle.std.specs.Global.{Vec}
 use Rattle.std.specs.List.{list_all}
 use Rattle.std.proofs.lemmas.Bool.{and_from}
@@ -14,7 +14,7 @@ use Rattle.world.specs.ReadingJournals.{entry_named, entry_of, journal_of}
 use Rattle.world.specs.Reading.{Gives}
 use Rattle.world.specs.ReadingWords.{formed_words}
 use Rattle.world.specs.declared.fault.ReadError.{ReadError}
-use Rattle.world.specs.Words.{words_of, is_thread}
+use Rattle.world.specs.Words.{is_thread}
 use Rattle.world.proofs.JournalLemmas.{counted}
 use Rattle.world.proofs.ScheduleLaws.{guarded, guarded_option, some_with}
 use Rattle.world.proofs.WordLaws.{words_of-parts, all_parts, both_true, are_words}
@@ -63,9 +63,9 @@ entries_read ((c ∷ cs) ∷ parts) es h =
     subst (AreEntriesOf ((c ∷ cs) ∷ parts)) (sym w.4) (record {
       spelled = ap (λ (b : List ℕ). b ∷ filter is_some_byte parts) first.spelled ∙ ap (λ (bs : List (List ℕ)). entry_text w.0 ∷ bs) a.spelled;
       known = λ threads k.
-        let both = both_true (nat_le w.0.thread threads) (list_all (λ (e : Entry). nat_le e.thread threads) w.1) k in
-        let one : nat_le 1 w.0.thread ≡ true = grind (arith, nat_tests, first.low) in
-        and_from (is_thread threads w.0.thread) (list_all (λ (e : Entry). is_thread threads e.thread) w.1) (and_from (nat_le 1 w.0.thread) (nat_le w.0.thread threads) one both.0) (a.known threads both.1);
+          let both = both_true (nat_le w.0.thread threads) (list_all (λ (e : Entry). nat_le e.thread threads) w.1) k in
+          let one : nat_le 1 w.0.thread ≡ true = grind (arith, nat_tests, first.low) in
+          and_from (is_thread threads w.0.thread) (list_all (λ (e : Entry). is_thread threads e.thread) w.1) (and_from (nat_le 1 w.0.thread) (nat_le w.0.thread threads) one both.0) (a.known threads both.1);
     })
 
 -- what is read is meant

@@ -62,14 +62,14 @@ unfolding mark
 word_read n true low high = named n true low high
 word_read n false low high = named n false low high
 
-all_formed : (threads : ℕ) (es : List Entry) → AreEntries threads es → formed_words entry_of (map entry_text es) ≡ Some es
+pub all_formed : (threads : ℕ) (es : List Entry) → AreEntries threads es → formed_words entry_of (map entry_text es) ≡ Some es
 all_formed threads [] h = refl
 all_formed threads (e ∷ es) h =
     ap (λ w. formed_words entry_of (w ∷ map entry_text es)) (word_is e h.1)
     ∙ ap (λ o. with_word o (formed_words entry_of (map entry_text es))) (word_read e.thread e.refused h.0 h.1)
     ∙ ap (with_word (Some e)) (all_formed threads es h.3)
 
-all_known : (threads : ℕ) (es : List Entry) → AreEntries threads es → list_all (λ e. nat_le e.thread threads) es ≡ true
+pub all_known : (threads : ℕ) (es : List Entry) → AreEntries threads es → list_all (λ e. nat_le e.thread threads) es ≡ true
 all_known threads [] h = refl
 all_known threads (e ∷ es) h = let k : nat_le e.thread threads ≡ true = grind (arith, nat_tests, h.2) in rw (k, all_known threads es h.3) refl
 

@@ -9,3 +9,7 @@ pub mod BuilderLemmas
 pub mod WordLaws
 pub mod ScheduleLaws
 pub mod JournalLaws
+pub mod MeantSchedules
+pub mod MeantJournals
+pub mod ClassTables
+pub mod WorldLaws

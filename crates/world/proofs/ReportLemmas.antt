@@ -1,5 +1,5 @@
 -- The parts of a report's text.
-use Rattle.std.proofs.Common.{◌≡◌, ℕ, ◌+◌, ◌<◌, ◌≤◌, List, [], ◌∷◌, ◌++◌, length, get_or, drop, map, Result, Ok, Err, refl, sym, ap, ◌∙◌, append-nil, add_comm, arith}
+use Rattle.std.proofs.Common.{◌≡◌, ℕ, ◌+◌, ◌<◌, ◌≤◌, List, [], ◌++◌, length, get_or, drop, map, Result, Ok, Err, sym, ap, ◌∙◌, append-nil, arith}
 use Rattle.std.specs.Prelude.{OnOk, OnErr}
 use Rattle.std.specs.List.{flat_map, enumerate_from}
 use Rattle.std.specs.Io.KnownBytes.{Keeps}

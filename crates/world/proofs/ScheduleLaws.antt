@@ -1,5 +1,5 @@
 -- The schedule that is read is the one that the text means.
-use Rattle.std.proofs.Common.{◌≡◌, ℕ, suc, ◌+◌, ◌-◌, ◌^◌, ◌<◌, ◌≤◌, Bool, true, false, cond, List, [], ◌∷◌, ◌++◌, length, get_or, map, replicate, Option, Some, None, Ok, refl, sym, ap, ◌∙◌, subst, arith, sum_by}
+use Rattle.std.proofs.Common.{◌≡◌, ℕ, ◌+◌, ◌-◌, ◌^◌, ◌<◌, ◌≤◌, Bool, true, false, cond, List, [], ◌∷◌, ◌++◌, length, get_or, map, Option, Some, None, Ok, refl, sym, ap, ◌∙◌, subst, arith, sum_by}
 use Rattle.std.specs.Prelude.{filter, flat_map, ◌==◌, ◌&&◌, nat_le, codes, decimal}
 use Rattle.std.specs.Option.{option_and_then}
 use Rattle.std.specs.List.{list_all}
@@ -15,15 +15,14 @@ use Rattle.std.proofs.lemmas.List.Sums.{sum_by-cons}
 use Rattle.std.proofs.lemmas.Str.Parse.{numerals_by_value, tells_all_ascii_digits}
 use Rattle.base.specs.Bytes.{is_some_byte}
 use Rattle.world.specs.declared.schedule.ScheduleWord.{ScheduleWord}
-use Rattle.world.specs.declared.schedule.ScheduleWord.TheVariants.{Turn, Collect}
+use Rattle.world.specs.declared.schedule.ScheduleWord.TheVariants.{Turn}
 use Rattle.world.specs.declared.schedule.Repetition.{Repetition}
 use Rattle.world.specs.Natural.{digits_number, natural_of}
 use Rattle.world.specs.Parts.{parts_of}
 use Rattle.world.specs.ReadingSchedules.{named_turn, repetition, repetition_of, is_known_turn, repeated_words, schedule_of}
-use Rattle.world.specs.ReadingWords.{with_word, formed_words, lines_words, text_words}
-use Rattle.world.specs.Schedule.{turn_text, schedule_word, words_meant, is_turn, is_count, Schedule, IsScheduleText}
-use Rattle.world.specs.Words.{words_of, is_thread}
-use Rattle.world.proofs.WordLaws.{words_of-parts, all_parts, and_then_ok, both_true, AreWords, are_words}
+use Rattle.world.specs.ReadingWords.{with_word, formed_words, text_words}
+use Rattle.world.specs.Schedule.{turn_text, schedule_word, words_meant, is_turn, is_count, IsScheduleText}
+use Rattle.world.proofs.WordLaws.{words_of-parts, all_parts, and_then_ok, both_true, are_words}
 
 -- ---- options
 
@@ -46,7 +45,7 @@ some_with (Some x) (Some xs) ws h = (x, xs, refl, refl, cc)
 
 -- ---- numbers
 
-all_digits : (ds : List ℕ) → all_ascii_digits ds ≡ list_all is_ascii_digit ds
+pub all_digits : (ds : List ℕ) → all_ascii_digits ds ≡ list_all is_ascii_digit ds
 all_digits [] = refl
 all_digits (c ∷ cs) = ap (λ b. is_ascii_digit c && b) (all_digits cs)
 
@@ -116,7 +115,7 @@ repetition_read (name ∷ star ∷ digits) r h =
     let t = turn_read name w.0 w.1 in
     let mark : star ≡ 42 = grind (arith, nat_tests, g.0) in
     let text : name ∷ star ∷ digits ≡ turn_text w.0 ++ codes "*" ++ decimal n.0 =
-        ap (λ s. name ∷ s ∷ digits) mark ∙ ap (λ (ds : List ℕ). name ∷ 42 ∷ ds) (sym (decimal-natural_of digits n.0 n.1 (omega (arith, high)))) ∙ ap (λ (ts : List ℕ). ts ++ codes "*" ++ decimal n.0) (sym (turn_text-is name w.0 t)) in
+    ap (λ s. name ∷ s ∷ digits) mark ∙ ap (λ (ds : List ℕ). name ∷ 42 ∷ ds) (sym (decimal-natural_of digits n.0 n.1 (omega (arith, high)))) ∙ ap (λ (ts : List ℕ). ts ++ codes "*" ++ decimal n.0) (sym (turn_text-is name w.0 t)) in
     subst (IsRepetition (name ∷ star ∷ digits)) k.1 (record { times = Some n.0; thread = t.thread; turn = t.is; low = t.low; spelled = text; meant = refl; counted = k.0 })
 
 -- ---- all words
@@ -144,13 +143,13 @@ repetitions_read ((c ∷ cs) ∷ parts) rs h =
       spelled = ap (λ (b : List ℕ). b ∷ filter is_some_byte parts) first.spelled ∙ ap (λ (bs : List (List ℕ)). schedule_word (w.0.word, first.times) ∷ bs) a.spelled;
       meant = flat_map-cons words_meant (w.0.word, first.times) a.words ∙ ap (λ (s : List ScheduleWord). s ++ flat_map words_meant a.words) first.meant ∙ ap (λ (s : List ScheduleWord). repeated_words w.0 ++ s) a.meant ∙ sym (flat_map-cons repeated_words w.0 w.1);
       counted = λ threads k.
-        let both = both_true (is_known_turn threads w.0.word) (list_all (λ (r : Repetition). is_known_turn threads r.word) w.1) k in
-        and_from (is_turn threads w.0.word && is_count first.times) (list_all (λ (v : ScheduleWord × Option ℕ). is_turn threads v.0 && is_count v.1) a.words)
-        (and_from (is_turn threads w.0.word) (is_count first.times) (known_turn threads first.thread w.0.word first.turn first.low both.0) first.counted) (a.counted threads both.1);
+          let both = both_true (is_known_turn threads w.0.word) (list_all (λ (r : Repetition). is_known_turn threads r.word) w.1) k in
+          and_from (is_turn threads w.0.word && is_count first.times) (list_all (λ (v : ScheduleWord × Option ℕ). is_turn threads v.0 && is_count v.1) a.words)
+          (and_from (is_turn threads w.0.word) (is_count first.times) (known_turn threads first.thread w.0.word first.turn first.low both.0) first.counted) (a.counted threads both.1);
     })
 
 -- how many words repetitions stand for
-length-repeated : (rs : List Repetition) → length (flat_map repeated_words rs) ≡ sum_by (λ (r : Repetition). r.times) rs
+pub length-repeated : (rs : List Repetition) → length (flat_map repeated_words rs) ≡ sum_by (λ (r : Repetition). r.times) rs
 length-repeated [] = refl
 length-repeated (r ∷ rs) =
     ap length (flat_map-cons repeated_words r rs) ∙ length-append (repeated_words r) (flat_map repeated_words rs)

@@ -1,5 +1,5 @@
 -- Texts of words: the words that are read are those that the text has.
-use Rattle.std.proofs.Common.{◌≡◌, ℕ, suc, ◌+◌, ◌<◌, ◌≤◌, Bool, true, false, cond, List, [], ◌∷◌, ◌++◌, length, Option, Some, None, Result, Ok, Err, refl, sym, ap, ◌∙◌, subst, append_assoc, arith, sum_by}
+use Rattle.std.proofs.Common.{◌≡◌, ℕ, ◌+◌, ◌≤◌, Bool, true, false, cond, List, [], ◌∷◌, ◌++◌, Option, Some, None, Result, Ok, Err, refl, sym, ap, ◌∙◌, subst, arith, sum_by}
 use Rattle.std.specs.Prelude.{filter, flat_map, ◌==◌, ◌||◌, ◌&&◌, nat_le}
 use Rattle.std.specs.List.{list_all}
 use Rattle.std.proofs.lemmas.Bool.{and_from}
@@ -9,10 +9,10 @@ use Rattle.std.proofs.lemmas.List.Folds.{list_all-append}
 use Rattle.std.proofs.lemmas.List.Sums.{sum_by-append}
 use Rattle.base.specs.Bytes.{is_some_byte, with_first, split_at}
 use Rattle.world.specs.declared.fault.TextFault.{TextFault}
-use Rattle.world.specs.declared.fault.Rule.TheVariants.{Form, Name, Limit}
+use Rattle.world.specs.declared.fault.Rule.TheVariants.{Name, Limit}
 use Rattle.world.specs.Parts.{parts_of}
 use Rattle.world.specs.Reading.{◌>>=◌, refused}
-use Rattle.world.specs.ReadingWords.{with_word, formed_words, allowed_words, line_words, lines_words, text_words}
+use Rattle.world.specs.ReadingWords.{with_word, formed_words, allowed_words, line_words, lines_words}
 use Rattle.world.specs.Words.{words_of}
 use Rattle.world.proofs.PartLemmas.{some_part, slice_split-split_at}
 
@@ -183,3 +183,9 @@ module _ {W : Type 0} (spelled : List ℕ → Option W) (known : W → Bool) (ti
       ap (λ r. r >>= λ first. lines_words spelled known times (number + 1) (count + sum_by times first) lines >>= λ others. Ok (first ++ others)) line_is
       ∙ ap (λ r. r >>= λ others. Ok (x ++ others)) rest_is
       ∙ ap (λ (l : List W). Ok l) (sym t.4)
+
+-- empty parts are no words
+pub formed_words-filter : {W : Type 0} (spelled : List ℕ → Option W) (parts : List (List ℕ)) → formed_words spelled parts ≡ formed_words spelled (filter is_some_byte parts)
+formed_words-filter spelled [] = refl
+formed_words-filter spelled ([] ∷ parts) = formed_words-filter spelled parts
+formed_words-filter spelled ((c ∷ cs) ∷ parts) = ap (with_word (spelled (c ∷ cs))) (formed_words-filter spelled parts)

@@ -1,5 +1,5 @@
 -- Journals, and the texts that they are read from and written as.
-use Rattle.std.specs.Prelude.{◌≡◌, ℕ, ◌≤◌, Bool, List, [], ◌∷◌, ◌++◌, length, map, codes, decimal, if◌then◌else◌, IsTrue, flat_map}
+use Rattle.std.specs.Prelude.{◌≡◌, ℕ, ◌≤◌, List, [], ◌∷◌, ◌++◌, length, map, codes, decimal, if◌then◌else◌, IsTrue, flat_map}
 use Rattle.std.specs.List.{list_all}
 use Rattle.world.specs.declared.journal.Entry.{Entry}
 use Rattle.world.specs.Words.{words_of, is_thread}

@@ -1,12 +1,11 @@
 -- The world that a scene is.
-use Rattle.std.specs.Prelude.{◌≡◌, ℕ, List, [], ◌∷◌, ◌++◌, map, fold, flat_map, None, Some}
+use Rattle.std.specs.Prelude.{List, [], ◌∷◌, ◌++◌, map, fold, flat_map, None, Some}
 use Rattle.base.specs.Bytes.{Identifier}
 use Rattle.classes.specs.Class.{Classes}
 use Rattle.classes.specs.BuiltIns.{built_ins, object_class}
 use Rattle.classes.specs.Additions.{new_class, with_class}
 use Rattle.world.specs.World.{Invocation, World}
 use Rattle.world.specs.WorldLines.{ClassLine, ThreadLine, CallLine, Lines}
-use Rattle.world.specs.WorldMeaning.{world_of}
 use Rattle.world.specs.Scene.{CallScene, Scene}
 
 -- the table with one more class below java/lang/Object, and its array class

@@ -1,5 +1,5 @@
 -- How threads stand, as they are held in memory.
-use Rattle.std.specs.Prelude.{ℕ, List, [], map}
+use Rattle.std.specs.Prelude.{List, [], map}
 use Rattle.world.specs.declared.report.Printed.{Printed}
 use Rattle.world.specs.declared.report.Standing.{Standing}
 use Rattle.world.specs.declared.report.Standing.TheVariants.{Trapped, Ended, Blocked, Running}

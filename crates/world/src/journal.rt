@@ -2,6 +2,7 @@
 
 ghost use Rattle.std.specs.Prelude.{◌≡◌, ℕ, List, Some, None, IfOk};
 ghost use Rattle.world.specs.Journal.{IsJournalText};
+ghost use Rattle.world.specs.TextLaws.{JournalsAreRead};
 ghost use Rattle.world.specs.Reading.{Gives};
 ghost use Rattle.world.specs.ReadingJournals.{journal_of, EntriesAreReadAgain};
 
@@ -66,4 +67,9 @@ pub fn read_journal(alloc: Global, text: &[u8], threads: u8) -> Result<Vec<Entry
 /// What is written of entries is read as these entries: a law, which computes nothing.
 pub fn entries_are_read_again()
     ensures { EntriesAreReadAgain }
+{}
+
+/// A journal is read of exactly the texts that mean it: a law, which computes nothing.
+pub fn journals_are_read()
+    ensures { JournalsAreRead }
 {}

@@ -18,9 +18,9 @@ mod world_text;
 mod writing;
 
 pub use fault::{ReadError, Rule, TextFault};
-pub use journal::{Entry, entries_are_read_again, read_journal};
+pub use journal::{Entry, entries_are_read_again, journals_are_read, read_journal};
 pub use report::{Printed, Standing};
-pub use schedule::{Repetition, Schedule, ScheduleWord, read_schedule};
+pub use schedule::{Repetition, Schedule, ScheduleWord, read_schedule, schedules_are_read};
 pub use sink::{Sink, SinkFailed, put_all, put_pieces};
 pub use std_sink::StdSink;
 pub use text::{Text, put_each};

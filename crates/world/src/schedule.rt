@@ -2,6 +2,7 @@
 
 ghost use Rattle.std.specs.Prelude.{◌≡◌, ℕ, List, ◌≤◌, IfOk};
 ghost use Rattle.world.specs.Schedule.{IsScheduleText};
+ghost use Rattle.world.specs.TextLaws.{SchedulesAreRead};
 ghost use Rattle.world.specs.Reading.{Gives};
 ghost use Rattle.world.specs.ReadingSchedules.{named_turn, schedule_of};
 
@@ -111,3 +112,8 @@ pub fn read_schedule(alloc: Global, text: &[u8], threads: u8) -> Result<Schedule
     let repetitions = read_words::<Repetition>(alloc, text, threads)?;
     Ok(Schedule { repetitions })
 }
+
+/// A schedule of turns is read of exactly the texts that mean it: a law, which computes nothing.
+pub fn schedules_are_read()
+    ensures { SchedulesAreRead }
+{}

@@ -1,6 +1,8 @@
 //! Reading the text of a world.
 
-ghost use Rattle.std.specs.Prelude.{◌≡◌, [], map, Some, None};
+ghost use Rattle.std.specs.Prelude.{◌≡◌, [], map, Some, None, IfOk};
+ghost use Rattle.world.specs.SceneWorld.{world_of_scene};
+ghost use Rattle.world.specs.WorldRules.{IsWorldText};
 ghost use Rattle.std.specs.Option.{option_map};
 ghost use Rattle.world.specs.Reading.{Gives};
 ghost use Rattle.world.specs.Parts.{parts_of};
@@ -214,7 +216,8 @@ fn finish(builder: WorldBuilder, last: usize) -> Result<World, ReadError>
 /// at the second thread's line, or at the last line. 84: the class objects don't fit into the heap. Of one line the
 /// least of these, and of several lines that of the first.
 pub fn read_world(alloc: Global, text: &[u8]) -> Result<World, ReadError>
-    ensures { Gives (λ scene. scene) result (scene_of_text text.now) }
+    ensures read { Gives (λ scene. scene) result (scene_of_text text.now) }
+    ensures means { IfOk result (λ scene. IsWorldText text.now (world_of_scene scene)) }
 {
     let mut builder = WorldBuilder {
         heap: 0,

@@ -1,4 +1,4 @@
-use Rattle.std.proofs.Common.{◌≡◌, ℕ, ◌<◌, Some, None, [], ◌∷◌, List, ◌+◌, length, refl, sym, ap, ◌∙◌, subst, to_z, of_z, ℤ, ◌⊎◌, ⊎_elim}
+use Rattle.std.proofs.Common.{◌≡◌, ℕ, Some, [], ◌∷◌, List, length, refl, sym, ap, ◌∙◌, subst, to_z, of_z, ℤ, ◌⊎◌, ⊎_elim}
 use Rattle.std.specs.Prelude.{slice_get}
 use Rattle.std.specs.Option.{option_copied}
 use Rattle.std.specs.Int.{w32, cast_signed}

@@ -1,4 +1,4 @@
-use Rattle.std.proofs.Common.{◌∙◌, sym, map, ap, ◌||◌}
+use Rattle.std.proofs.Common.{◌∙◌, sym, map}
 use Rattle.world.proofs.NameLemmas.{taken_names, among_items, or_first, or_second}
 use Rattle.world.proofs.names.is_taken.Goals as goal
 

@@ -1,4 +1,4 @@
-use Rattle.std.proofs.Common.{◌≡◌, ◌∷◌, drop, map}
+use Rattle.std.proofs.Common.{◌≡◌, drop, map}
 use Rattle.std.specs.List.{flat_map, enumerate_from}
 use Rattle.world.specs.Report.{thread_line}
 use Rattle.world.specs.Standing.{standing_view}

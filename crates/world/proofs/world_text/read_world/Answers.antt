@@ -5,6 +5,7 @@ use Rattle.world.specs.Reading.{Gives}
 use Rattle.world.specs.ReadingWorlds.{scene_of, scene_of_text}
 use Rattle.world.proofs.WordLemmas.{nonempty, empty}
 use Rattle.world.proofs.BuilderLemmas.{skips, takes, stops, ends}
+use Rattle.world.proofs.WorldLaws.{world_means}
 use Rattle.world.proofs.world_text.read_world.Goals as goal
 
 pub overflow_add-number : goal.overflow_add-number
@@ -18,8 +19,8 @@ loop-line-preserved-in-Continue-1 c = record {
   number = omega (arith, c.loop-line.invariant.number, ap length c.in-Some.ensures.steps);
 }
 
-pub returns-in_err-take_line : goal.returns-in_err-take_line
-returns-in_err-take_line c =
+pub returns-in_err-take_line-clause-read : goal.returns-in_err-take_line-clause-read
+returns-in_err-take_line-clause-read c =
     let p = err_from_is_err_and c.from_residual.result c.from_residual.ensures.1 in
     rw (p.1, p.2) (stops (scene_of c.loop-line.builder) (c.loop-line.number + 1) c.loop-line.last c.in-Some.line.now (parts_left c.loop-line.line-iterator) (parts_left c.next.new.self) (scene_of_text c.args.text.now)
     c.in-Some.ensures.steps c.loop-line.invariant.scene c.in_err-take_line.field-0.0 (nonempty (length c.in-Some.line.now) c.if-not-is_empty.ensures) c.in_err-take_line.ensures)
@@ -31,7 +32,10 @@ loop-line-preserved c = record {
   number = omega (arith, c.loop-line.invariant.number, ap length c.in-Some.ensures.steps);
 }
 
-pub returns : goal.returns
-returns c =
+pub returns-clause-read : goal.returns-clause-read
+returns-clause-read c =
     subst (Gives (λ scene. scene) c.finish.result)
     (ends (scene_of c.loop-line.builder) (c.loop-line.number + 1) c.loop-line.last (parts_left c.loop-line.line-iterator) (scene_of_text c.args.text.now) c.in-None.ensures.steps.0 c.loop-line.invariant.scene) c.finish.ensures
+
+pub returns-clause-means : goal.returns-clause-means
+returns-clause-means c = world_means c.args.text.now c.finish.result (returns-clause-read c)
