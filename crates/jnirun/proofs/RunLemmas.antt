@@ -9,13 +9,14 @@ use Rattle.world.specs.Reading.{Fails}
 use Rattle.world.specs.ReadingSchedules.{schedule_of}
 use Rattle.world.specs.ReadingWorlds.{scene_of_text}
 use Rattle.world.specs.Scene.{Scene}
-use Rattle.world.specs.Schedule.{Schedule}
+use Rattle.world.specs.Schedule.{Schedule, IsScheduleText}
 use Rattle.world.specs.SceneWorld.{world_of_scene}
 use Rattle.world.specs.Sink.{Written}
 use Rattle.regions.specs.Load.{first_load_fault}
 use Rattle.world.specs.declared.journal.Entry.{Entry}
 use Rattle.world.specs.Journal.{Journal}
 use Rattle.world.specs.World.{World}
+use Rattle.world.specs.WorldRules.{IsWorldText}
 use Rattle.regions.specs.State.{State}
 use Rattle.regions.specs.Run.{Over, Collects, Waits, Steps, Follows, JournalFollows, JournalHasRoom, Writes, replay}
 use Rattle.regions.specs.Start.{start}
@@ -109,9 +110,12 @@ module _ (program world schedule : List ℕ) (old : Written) where
 
   -- the run that a machine wrote
   is_run : (items : List Item) (scene : Scene) (words : Schedule) (begun ended : Run) (text : List ℕ) (is : IsProgram program (unit_tree items)) (w : scene_of_text world ≡ Ok scene) (s : schedule_of schedule (length scene.threads) ≡ Ok words) (l : first_load_fault (unit_tree items) (world_of_scene scene) ≡ None)
+      → IsWorldText world (world_of_scene scene) → IsScheduleText (length scene.threads) schedule words
       → IsUnstarted items scene begun → RunsAlong begun ended words → Writes (unit_tree ended.unit) (world_of_scene ended.world) ended.journal text → JournalHasRoom (unit_tree ended.unit) (world_of_scene ended.world) ended.journal → IsRun program world schedule text
-  is_run items scene words begun ended text is w s l un along writes room = record {
+  is_run items scene words begun ended text is w s l of_world of_schedule un along writes room = record {
     meaning = meaning_of items scene words is w s l;
+    of_world = of_world;
+    of_schedule = of_schedule;
     journal = ended.journal;
     writes = subst (λ (r : Run). Writes (unit_tree r.unit) (world_of_scene r.world) ended.journal text) (same_parts items scene begun ended words un along) writes;
     follows = follows_all items scene begun ended words un along;
@@ -120,9 +124,10 @@ module _ (program world schedule : List ℕ) (old : Written) where
 
   pub ran : (items : List Item) (scene : Scene) (words : Schedule) (begun ended : Run) (new : Written) {T E : Type 0} (result : Result T E)
       → IsProgram program (unit_tree items) → scene_of_text world ≡ Ok scene → schedule_of schedule (length scene.threads) ≡ Ok words → first_load_fault (unit_tree items) (world_of_scene scene) ≡ None
+      → IsWorldText world (world_of_scene scene) → IsScheduleText (length scene.threads) schedule words
       → IsUnstarted items scene begun → RunsAlong begun ended words → WritesRun ended old new result → RunsTexts old new (as_run result) (IsRun program world schedule) (AreRefused program world schedule)
-  ran items scene words begun ended new (Ok x) is w s l un along h = record { text = h.text; runs = is_run items scene words begun ended h.text is w s l un along h.is h.has_room; appended = h.written }
-  ran items scene words begun ended new (Err x) is w s l un along h = record { text = h.text; runs = is_run items scene words begun ended h.text is w s l un along h.is h.has_room; stopped = h.written }
+  ran items scene words begun ended new (Ok x) is w s l of_world of_schedule un along h = record { text = h.text; runs = is_run items scene words begun ended h.text is w s l of_world of_schedule un along h.is h.has_room; appended = h.written }
+  ran items scene words begun ended new (Err x) is w s l of_world of_schedule un along h = record { text = h.text; runs = is_run items scene words begun ended h.text is w s l of_world of_schedule un along h.is h.has_room; stopped = h.written }
 
   -- texts that mean a run load
   pub loads_or_fails : (items : List Item) (scene : Scene) (f : LoadFault) (m : Meaning program world schedule) → unit_tree items ≡ m.unit → scene_of_text world ≡ Ok scene → IsLoadFault (unit_tree items) (world_of_scene scene) f → IsRunOrFails (Err (of_load f))

@@ -1,8 +1,10 @@
 -- What a run of three texts writes.
-use Rattle.std.specs.Prelude.{◌≡◌, ◌⊎◌, ℕ, List, Result, Ok, Err}
+use Rattle.std.specs.Prelude.{◌≡◌, ◌⊎◌, ℕ, List, length, Result, Ok, Err}
 use Rattle.world.specs.Journal.{Journal}
+use Rattle.world.specs.Schedule.{IsScheduleText}
 use Rattle.world.specs.Sink.{Written, AppendsText, StopsWithin}
 use Rattle.world.specs.SceneWorld.{world_of_scene}
+use Rattle.world.specs.WorldRules.{IsWorldText}
 use Rattle.regions.specs.Run.{Writes, JournalFollows, JournalHasRoom}
 use Rattle.jnirun.specs.Texts.{Meaning, AreRefused}
 use Rattle.jnirun.specs.declared.fault.RunError.{RunError}
@@ -13,6 +15,8 @@ use Rattle.jnirun.specs.declared.fault.RunError.TheVariants.{Memory, File, Fault
 -- ended or stopped, and an allocation is marked refused only where live and new objects exceed the heap or something is pinned.
 pub record IsRun (program world schedule text : List ℕ) : Type 0 where
   pub meaning : Meaning program world schedule
+  pub of_world : IsWorldText world (world_of_scene meaning.scene)
+  pub of_schedule : IsScheduleText (length meaning.scene.threads) schedule meaning.words
   pub journal : Journal
   pub writes : Writes meaning.unit (world_of_scene meaning.scene) journal text
   pub follows : JournalFollows meaning.unit (world_of_scene meaning.scene) journal meaning.words

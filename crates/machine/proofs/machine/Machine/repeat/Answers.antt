@@ -1,4 +1,4 @@
-use Rattle.std.proofs.Common.{◌≡◌, ◌≤◌, ◌-◌, ◌∷◌, [], sym, ap, subst, replicate, arith, IsSome, refl}
+use Rattle.std.proofs.Common.{◌-◌, ◌∷◌, [], sym, subst, replicate, arith, IsSome, refl}
 use Rattle.std.proofs.lemmas.List.{length-replicate}
 use Rattle.world.specs.Schedule.{Schedule}
 use Rattle.machine.specs.Run.{Run, RunsAlong, RunsInto, replay_of}
