@@ -1,41 +1,25 @@
 -- What a line of a world says that is taken.
-use Rattle.std.proofs.Common.{◌≡◌, ℕ, zero, suc, ◌+◌, ◌-◌, ◌*◌, ◌^◌, ◌<◌, ◌≤◌, Bool, true, false, cond, List, [], ◌∷◌, ◌++◌, length, map, fold, min, Option, Some, None, Result, Ok, Err, refl, sym, ap, ◌∙◌, subst, arith, append_assoc, append-nil, length-append, inl}
-use Rattle.std.specs.Prelude.{codes, decimal, not, ◌&&◌, ◌||◌, ◌==◌, nat_lt, nat_le, filter, filter_map, is_some, IfOk, IsTrue}
+use Rattle.std.proofs.Common.{◌≡◌, ℕ, ◌-◌, ◌^◌, ◌≤◌, Bool, true, false, cond, List, [], ◌∷◌, ◌++◌, length, min, Option, Some, None, Ok, refl, sym, ap, ◌∙◌, arith}
+use Rattle.std.specs.Prelude.{codes, decimal, not, ◌&&◌, ◌||◌, ◌==◌, nat_lt}
 use Rattle.std.specs.Option.{option_map}
-use Rattle.std.specs.List.{list_all, list_any, enumerate_from, join_with_byte, slice_split, onto_first, AllZip}
+use Rattle.std.specs.List.{list_all, join_with_byte, slice_split, onto_first}
 use Rattle.std.specs.Str.{bytes_eq}
 use Rattle.std.proofs.lemmas.Bool.{and_from}
 use Rattle.std.proofs.lemmas.Bool.Decides.{nat_tests}
-use Rattle.std.proofs.lemmas.List.Folds.{list_all-append, list_any-append}
-use Rattle.std.proofs.lemmas.List.{length-map}
-use Rattle.std.proofs.lemmas.List.Elements.{filter_map-append}
-use Rattle.std.proofs.lemmas.List.Sums.{fold-append}
 use Rattle.std.proofs.lemmas.List.Splits.{join_with_byte-slice_split}
 use Rattle.std.proofs.lemmas.Slice.Eq.{bytes_eq-Decides}
-use Rattle.base.specs.Bytes.{Identifier, is_some_byte, split_at}
-use Rattle.classes.specs.Class.{Classes, class_named}
-use Rattle.classes.specs.BuiltIns.{built_ins}
-use Rattle.classes.specs.Additions.{NameTaken, BadSuperclass, BadSignature, TooMany, class_breaks, with_class, new_class}
-use Rattle.classes.specs.Mangling.{is_class_name}
-use Rattle.world.specs.declared.fault.TextFault.{TextFault}
+use Rattle.base.specs.Bytes.{Identifier, is_some_byte}
 use Rattle.world.specs.declared.fault.Rule.{Rule}
-use Rattle.world.specs.declared.fault.Rule.TheVariants.{Form, Limit}
+use Rattle.world.specs.declared.fault.Rule.TheVariants.{Form}
 use Rattle.world.specs.Natural.{natural_of}
-use Rattle.world.specs.declared.fault.ReadError.{ReadError}
-use Rattle.world.specs.Object.{Object}
 use Rattle.world.specs.Parts.{parts_of}
-use Rattle.world.specs.Reading.{◌>>=◌, refused, Gives}
-use Rattle.world.specs.ReadingWorlds.{two_of, below_zero, heap_of, heap_rule, least_class_rule, class_rule, thread_rule, ruled, with_cells, heap_scene, class_scene, thread_scene, words_scene, line_scene, finished_scene, lines_scene, scene_of_text}
-use Rattle.world.specs.Scene.{CallScene, Scene}
-use Rattle.world.specs.SceneWorld.{with_named_class, classes_named, invocation_of, world_of_scene}
-use Rattle.world.specs.World.{Invocation, World, loaded_objects}
-use Rattle.world.specs.WorldLines.{WorldLine, ClassLine, ThreadLine, Lines, spaced, line_text, IsLineText, text_lines}
-use Rattle.world.specs.WorldMeaning.{table_with, table_of, object_defined, objects_defined, object_of, threads_with, threads_of, invocation_of_line, world_of, cells_of}
-use Rattle.world.specs.WorldRules.{part_of, is_thread_line, is_call_line, is_in_order, is_line_word, is_within_limits, WorldRule, OfClass, LineForm, WrongName, OutOfLimit, HeapFull, world_rules, line_breaks, broken_by_line, broken_behind, IsNumberedLine, IsWorldText}
-use Rattle.world.proofs.ClassTables.{classes_length, loaded_size, superclass_holds}
-use Rattle.world.proofs.PartLemmas.{slice_split-split_at}
+use Rattle.world.specs.Reading.{refused}
+use Rattle.world.specs.ReadingWorlds.{two_of, below_zero, heap_of, heap_rule, class_rule, thread_rule, ruled, with_cells, heap_scene, class_scene, thread_scene, words_scene, line_scene}
+use Rattle.world.specs.Scene.{Scene}
+use Rattle.world.specs.WorldLines.{ClassLine, ThreadLine, spaced, line_text}
+use Rattle.world.specs.WorldRules.{is_line_word}
 use Rattle.world.proofs.ScheduleLaws.{decimal-natural_of}
-use Rattle.world.proofs.WordLaws.{and_then_ok, both_true}
+use Rattle.world.proofs.WordLaws.{both_true}
 use Rattle.world.proofs.KeptLines.{passes, either_false, not_false}
 
 -- ---- the forms of lines
