@@ -51,6 +51,9 @@ fn written(
     if machine.journal().len() > 4 || machine.lines().len() > 1 {
         return Err(Fail::new("too many steps"));
     }
+    if machine.finished() != (machine.journal().len() == 4) {
+        return Err(Fail::new("finished after four steps"));
+    }
     let mut sink = StdSink::new(Vec::new(alloc));
     machine.report(&mut sink)?;
     Ok(sink.into_inner())
