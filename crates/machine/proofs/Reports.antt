@@ -1,7 +1,7 @@
 -- The report of the state that a machine's journal leads to.
 use Rattle.std.proofs.Common.{◌≡◌, ℕ, zero, suc, ◌+◌, ◌≤◌, Bool, true, false, cond, List, [], ◌∷◌, ◌++◌, length, map, Option, None, Result, refl, sym, ap, ◌∙◌, subst, arith}
-use Rattle.std.specs.Prelude.{slice_get, filter, nat_lt, ◌==◌}
-use Rattle.std.specs.List.{enumerate_from}
+use Rattle.std.specs.Prelude.{slice_get, filter, nat_lt, ◌==◌, is_some, not, ◌||◌, ◌&&◌}
+use Rattle.std.specs.List.{list_all, enumerate_from}
 use Rattle.std.proofs.lemmas.Bool.Decides.{nat_tests}
 use Rattle.std.proofs.lemmas.List.{length-map, length-append}
 use Rattle.std.proofs.lemmas.List.FromFn.{length-enumerate_from}
@@ -24,7 +24,7 @@ use Rattle.regions.specs.Reachable.{from_one, roots, is_in, rising, grown, close
 use Rattle.regions.specs.ReportOf.{standing_by_ending, standing_of, shown, shown_row, report}
 use Rattle.regions.specs.Run as source_run
 use Rattle.regions.specs.State.{Stop, State}
-use Rattle.regions.specs.Step.{is_waiting, is_blocked}
+use Rattle.regions.specs.Step.{is_waiting, is_blocked, is_unfinished}
 use Rattle.regions.specs.Thread as source
 use Rattle.regions.specs.Thread.{Shared}
 use Rattle.lower.specs.Lowered.{Lowered, IsLowered}
@@ -34,7 +34,7 @@ use Rattle.machine.specs.declared.thread.Thread.{Thread}
 use Rattle.machine.specs.Agrees.{ThreadsAgree, ending_view}
 use Rattle.machine.specs.Run as run
 use Rattle.regions.specs.Run.{JournalHasRoom}
-use Rattle.machine.specs.Run.{Run, Corresponds, WritesRun}
+use Rattle.machine.specs.Run.{Run, Corresponds, WritesRun, IsFinished}
 use Rattle.machine.proofs.Threads.{unblocked}
 
 -- ---- no object is shown
@@ -136,6 +136,32 @@ report_is p scene ts printed journal c =
     ap (λ (l : List Printed). let r : Report = record { printed = l; standings = standings; objects = map (shown_row w.classes c.state.shared.heap) (shown w c.state) } in r) c.same_printed
     ∙ ap (λ (l : List ThreadStanding). let r : Report = record { printed = printed; standings = l; objects = map (shown_row w.classes c.state.shared.heap) (shown w c.state) } in r) same
     ∙ ap (λ (l : List ShownRow). let r : Report = record { printed = printed; standings = threads; objects = l } in r) none
+
+-- ---- the end
+
+one_ended : (e : Ending) (f : source.Ending) (blocked : Bool) → blocked ≡ false → f ≡ ending_view e → run.has_ended e ≡ (not (is_unfinished f) || blocked)
+one_ended ending.Unfinished f b h e = rw (h, e) refl
+one_ended ending.Ended f b h e = rw (h, e) refl
+
+each_ended : (p : Lowered) (classes : Classes) (s : State) (n : ℕ) (ts : List Thread) (ss : List source.Thread) → ((k : ℕ) → is_blocked classes s k ≡ false) → ThreadsAgree p classes ts ss
+    → list_all (λ (t : Thread). run.has_ended t.ending) ts ≡ list_all (λ (t : ℕ × source.Thread). not (is_unfinished t.1.ending) || is_blocked classes s t.0) (enumerate_from n ss)
+each_ended p classes s n [] [] free h = refl
+each_ended p classes s n [] (x ∷ ss) free h = absurd h
+each_ended p classes s n (t ∷ ts) [] free h = absurd h
+each_ended p classes s n (t ∷ ts) (x ∷ ss) free h =
+    ap (λ b. b && list_all (λ (t : Thread). run.has_ended t.ending) ts) (one_ended t.ending x.ending (is_blocked classes s n) (free n) h.0.ending)
+    ∙ ap (λ b. (not (is_unfinished x.ending) || is_blocked classes s n) && b) (each_ended p classes s (n + 1) ts ss free h.1)
+
+pub is_finished : (p : Lowered) (scene : Scene) (ts : List Thread) (printed : List Printed) (journal : List Entry) (c : Corresponds p scene ts printed journal) (now : Run)
+    → ◌≡◌ {A = Run} (record { unit = p.unit; world = scene; journal = journal }) now
+    → (answer : Bool) → answer ≡ list_all (λ (t : Thread). run.has_ended t.ending) ts → IsFinished now answer
+is_finished p scene ts printed journal c now view answer h =
+    let w = world_of_scene scene in
+    let free = never_blocked p w.classes c.state ts c.lowered c.threads_agree in
+    let same : answer ≡ run.is_finished w.classes c.state =
+    h ∙ each_ended p w.classes c.state 1 ts c.state.threads free c.threads_agree
+    ∙ ap (λ (o : Option Stop). is_some o || list_all (λ (t : ℕ × source.Thread). not (is_unfinished t.1.ending) || is_blocked w.classes c.state t.0) (enumerate_from 1 c.state.threads)) (sym c.running) in
+    subst (λ (r : Run). IsFinished r answer) view (c.state, c.replays, same)
 
 -- what is written of these parts is what the run writes
 pub writes_run : {T E : Type 0} (p : Lowered) (scene : Scene) (ts : List Thread) (printed : List Printed) (journal : List Entry) (c : Corresponds p scene ts printed journal) (now : Run)

@@ -1,6 +1,8 @@
 -- A run, as its program, its world and the steps taken.
-use Rattle.std.specs.Prelude.{◌≡◌, ℕ, ◌<◌, ◌≤◌, Bool, true, false, List, [], ◌∷◌, ◌++◌, length, Option, Some, None, Result}
+use Rattle.std.specs.Prelude.{◌≡◌, ℕ, ◌<◌, ◌≤◌, Bool, true, false, List, [], ◌∷◌, ◌++◌, length, Option, Some, None, Result, is_some, not, ◌||◌}
+use Rattle.std.specs.List.{list_all, enumerate_from}
 use Rattle.syntax.specs.declared.unit.Item.{Item}
+use Rattle.classes.specs.Class.{Classes}
 use Rattle.syntax.specs.Views.{unit_tree}
 use Rattle.world.specs.declared.journal.Entry.{Entry}
 use Rattle.world.specs.declared.report.Printed.{Printed}
@@ -17,7 +19,7 @@ use Rattle.world.specs.World.{loaded_objects}
 use Rattle.regions.specs.Run as source
 use Rattle.regions.specs.Run.{replay, Follows, JournalHasRoom}
 use Rattle.regions.specs.State.{State, thread_at}
-use Rattle.regions.specs.Step.{can_step, is_unfinished}
+use Rattle.regions.specs.Step.{can_step, is_blocked, is_unfinished}
 use Rattle.regions.specs.Thread.{Thread as SourceThread}
 use Rattle.lower.specs.Lowered.{Lowered, IsLowered}
 use Rattle.machine.specs.declared.thread.Thread.{Thread}
@@ -126,6 +128,22 @@ pub record RunsInto (old new : Run) (schedule : Schedule) : Type 0 where
   pub some_left : 0 < length left
   pub is : schedule ≡ taken ++ left
   pub along : RunsAlong old new taken
+
+-- ---- the end
+
+-- a thread in memory has ended
+abbrev pub has_ended : Ending → Bool
+has_ended Unfinished = false
+has_ended Ended = true
+
+-- a trap has stopped the machine, or each thread has ended or waits for a monitor
+abbrev pub is_finished : Classes → State → Bool
+is_finished classes s =
+    is_some s.stop || list_all (λ (t : ℕ × SourceThread). not (is_unfinished t.1.ending) || is_blocked classes s t.0) (enumerate_from 1 s.threads)
+
+-- whether no thread can take a step any more
+abbrev pub IsFinished : Run → Bool → Type 0
+IsFinished r answer = InState r (λ s. answer ≡ is_finished (world_of_scene r.world).classes s)
 
 -- ---- reports
 

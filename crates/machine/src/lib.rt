@@ -10,3 +10,6 @@ mod turn;
 pub use fault::{LoadFault, RunFault};
 pub use machine::{MOST_ENTRIES, Machine};
 pub use turn::Turn;
+
+#[cfg(test)]
+mod tests;

@@ -1,12 +1,13 @@
 //! The machine.
 
 ghost use Rattle.std.specs.Prelude.{◌≡◌, ℕ, ◌+◌, ◌<◌, ◌≤◌, [], ◌∷◌, ◌++◌, length, map, replicate, take, IfOk, IfErr, OnOk, OnErr, IfSome, IfNone, IsSome, Err, None, vec_len, vec_capacity};
+ghost use Rattle.std.specs.List.{list_all};
 ghost use Rattle.syntax.specs.Views.{unit_tree};
 ghost use Rattle.world.specs.SceneWorld.{world_of_scene};
 ghost use Rattle.world.specs.Sink.{CanFail};
 ghost use Rattle.regions.specs.Load.{first_load_fault};
 ghost use Rattle.machine.specs.Loading.{IsLoadFault};
-ghost use Rattle.machine.specs.Run.{replay_of, IsUnstarted, TurnHolds, RunsAlong, RunsInto, PrintedBy, WritesRun, GivesNoStep, printed_after, standing_by_ending};
+ghost use Rattle.machine.specs.Run.{replay_of, IsUnstarted, TurnHolds, RunsAlong, RunsInto, PrintedBy, IsFinished, has_ended, WritesRun, GivesNoStep, printed_after, standing_by_ending};
 
 use crate::fault::{LoadFault, RunFault};
 use crate::load::load_threads;
@@ -180,6 +181,13 @@ impl<'a> Machine<'a> {
         Ok(())
     }
 
+    /// Whether no thread can take a step any more. It takes no host memory.
+    pub fn finished(&self) -> bool
+        ensures { IsFinished self.now result }
+    {
+        all_ended(&self.threads)
+    }
+
     /// Writes the report of the run and the line of its journal, and flushes the sink. It takes no host memory.
     pub fn report<S: Sink>(&self, sink: &mut S) -> Result<(), SinkFailed>
         requires { CanFail (S.written sink.old) }
@@ -204,6 +212,21 @@ fn note(printed: &mut Vec<Printed>, k: u8, event: Event)
     match event {
         Event::Quiet => {}
         Event::Printed(number) => printed.push(Printed { thread: k, number }).unwrap(),
+    }
+}
+
+fn all_ended(threads: &[Thread]) -> bool
+    ensures { result ≡ list_all (λ thread. has_ended thread.ending) threads.now }
+{
+    threads.iter().all(|thread| has_ended(thread))
+}
+
+fn has_ended(thread: &Thread) -> bool
+    ensures { result ≡ has_ended thread.now.ending }
+{
+    match thread.ending {
+        Ending::Unfinished => false,
+        Ending::Ended => true,
     }
 }
 

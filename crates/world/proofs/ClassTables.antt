@@ -1,9 +1,8 @@
 -- The table of a world's classes, and the cells that its objects take.
-use Rattle.std.proofs.Common.{◌≡◌, ℕ, zero, suc, ◌+◌, ◌*◌, ◌<◌, ◌≤◌, Bool, true, false, List, [], ◌∷◌, ◌++◌, length, map, fold, Option, Some, None, refl, sym, ap, ◌∙◌, subst, arith, append_assoc, append-nil, length-append, sum_by}
-use Rattle.std.specs.Prelude.{codes, not, ◌&&◌, ◌||◌, ◌==◌, nat_lt, slice_get, cond}
+use Rattle.std.proofs.Common.{◌≡◌, ℕ, zero, suc, ◌+◌, ◌*◌, Bool, true, false, List, [], ◌∷◌, ◌++◌, length, map, fold, Some, None, refl, sym, ap, ◌∙◌, arith, append_assoc, append-nil, length-append, sum_by}
+use Rattle.std.specs.Prelude.{codes, not, nat_lt, slice_get, cond}
 use Rattle.std.specs.Option.{option_map, option_map_or}
-use Rattle.std.specs.List.{list_all, enumerate_from, position_or_len}
-use Rattle.std.specs.Str.{bytes_eq}
+use Rattle.std.specs.List.{list_all, enumerate_from}
 use Rattle.std.proofs.lemmas.Bool.{and_from}
 use Rattle.std.proofs.lemmas.Bool.Decides.{nat_tests}
 use Rattle.std.proofs.lemmas.List.Folds.{list_all-append}
@@ -12,9 +11,9 @@ use Rattle.base.specs.Bytes.{Identifier}
 use Rattle.base.specs.Options.{some_passes}
 use Rattle.classes.specs.Class.{Field, Class, Classes, class_at, class_named}
 use Rattle.classes.specs.BuiltIns.{built_ins, object_array_class, out_of_memory_error, has_own_making}
-use Rattle.classes.specs.Additions.{ClassRule, NameTaken, BadSuperclass, BadSignature, TooMany, class_breaks, new_class}
-use Rattle.classes.specs.Fields.{FieldId, own_statics}
-use Rattle.world.specs.Object.{ObjectValue, Object, size, sizes}
+use Rattle.classes.specs.Additions.{BadSuperclass, class_breaks, new_class}
+use Rattle.classes.specs.Fields.{FieldId}
+use Rattle.world.specs.Object.{Object, size, sizes}
 use Rattle.world.specs.SceneWorld.{with_named_class, classes_named}
 use Rattle.world.specs.World.{World, initial, class_object, fresh_object, class_objects, loaded_objects}
 use Rattle.world.proofs.WordLaws.{both_true}

@@ -13,3 +13,5 @@ pub mod MeantSchedules
 pub mod MeantJournals
 pub mod ClassTables
 pub mod WorldLaws
+pub mod KeptLines
+pub mod LineForms

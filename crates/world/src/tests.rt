@@ -118,11 +118,15 @@ fn a_world(rt: HostRuntime) -> Result<(), Fail> {
     )?;
     assert_eq!(rt; world.heap(), 512);
     assert_eq!(rt; world.classes().len(), 2);
-    assert_eq!(rt; world.threads().len(), 1);
-    let calls = &world.threads()[0];
-    assert_eq!(rt; calls.len(), 1);
-    assert_eq!(rt; calls[0].function(), b"Java_A_f".as_slice());
-    assert_eq!(rt; calls[0].line(), 6);
+    assert!(rt; world.has_class(b"[La/b_1/C;"));
+    let [calls] = world.threads() else {
+        return Err(Fail::new("one thread"));
+    };
+    let [call] = calls.as_slice() else {
+        return Err(Fail::new("one call"));
+    };
+    assert_eq!(rt; call.function(), b"Java_A_f".as_slice());
+    assert_eq!(rt; call.line(), 6);
     Ok(())
 }
 
