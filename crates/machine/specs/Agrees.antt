@@ -90,7 +90,7 @@ abbrev pub Executes : Lowered → Activation → (rest : List Task) → Effect �
 Executes p call rest (Becomes tasks) done = (done ≡ Did Quiet) × CallStands p call (tasks ++ rest)
 Executes p call rest (Prints z) done = (done ≡ Did (Printed z)) × CallStands p call rest
 Executes p call rest Returns done = done ≡ Returned
-Executes p call rest effect done = ⊥
+Executes p call rest _ done = ⊥
 
 -- the thread took the step that the source's thread takes, which leaves the shared state as it was
 pub record Advances (p : Lowered) (classes : Classes) (lent : Lent) (k : ℕ) (shared : Shared) (s : source.Thread) (t : Thread) (event : Event) : Type 0 where
