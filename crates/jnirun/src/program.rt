@@ -19,7 +19,10 @@ fn of_scan(fault: ScanFault) -> RunError
 {
     match fault {
         ScanFault::Memory => RunError::Memory,
-        ScanFault::Found { fault, line } => RunError::Fault(u32::from(fault.number()), Place::Line(line)),
+        ScanFault::Found { fault, line } => RunError::Fault(
+            u32::from(fault.number()),
+            Place::Line(line),
+        ),
     }
 }
 
@@ -28,7 +31,10 @@ fn of_parse(fault: ParseFault) -> RunError
 {
     match fault {
         ParseFault::Memory => RunError::Memory,
-        ParseFault::Found { fault, line } => RunError::Fault(u32::from(fault.number()), Place::Line(line)),
+        ParseFault::Found { fault, line } => RunError::Fault(
+            u32::from(fault.number()),
+            Place::Line(line),
+        ),
     }
 }
 

@@ -28,7 +28,10 @@ pub(crate) fn of_reading(error: ReadError) -> RunError
 {
     match error {
         ReadError::Memory => RunError::Memory,
-        ReadError::Fault(fault) => RunError::Fault(u32::from(fault.rule.number()), Place::Line(fault.line)),
+        ReadError::Fault(fault) => RunError::Fault(
+            u32::from(fault.rule.number()),
+            Place::Line(fault.line),
+        ),
     }
 }
 

@@ -67,12 +67,7 @@ fn say<S: Sink>(sink: &mut S, text: &[u8]) -> Result<(), SinkFailed>
 }
 
 /// Puts the number of a fault, the kind of its place, and the place's own number.
-fn put_fault<W: Sink>(
-    out: &mut W,
-    number: u32,
-    kind: &[u8],
-    place: usize,
-) -> Result<(), SinkFailed>
+fn put_fault<W: Sink>(out: &mut W, number: u32, kind: &[u8], place: usize) -> Result<(), SinkFailed>
     requires { CanFail (W.written out.old) }
     ensures { Writes (W.written out.old) (W.written out.new) result
         (codes "fault " ++ decimal number ++ kind.now ++ decimal place ++ codes "\n") }
@@ -83,13 +78,7 @@ fn put_fault<W: Sink>(
     let place = place_text.format(place);
     put_pieces(
         out,
-        &[
-            b"fault ",
-            number.as_bytes(),
-            kind,
-            place.as_bytes(),
-            b"\n",
-        ],
+        &[b"fault ", number.as_bytes(), kind, place.as_bytes(), b"\n"],
     )
 }
 

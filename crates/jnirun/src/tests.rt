@@ -65,11 +65,13 @@ const RUN: [&str; 6] = ["jnirun", "run", "p", "w", "--schedule", "o"];
 
 const REPLAY: [&str; 5] = ["jnirun", "replay", "p", "w", "o"];
 
-const FIRST: &[u8] = b"JNIEXPORT void JNICALL Java_A_f(JNIEnv *env, jclass cls)\n{\n    put_jint((jint)(2u + 3u * 4u - 1u));\n    return;\n}\n";
+const FIRST: &[u8] =
+    b"JNIEXPORT void JNICALL Java_A_f(JNIEnv *env, jclass cls)\n{\n    put_jint((jint)(2u + 3u * 4u - 1u));\n    return;\n}\n";
 
 const ZERO: &[u8] = b"JNIEXPORT jint JNICALL Java_A_f(JNIEnv *env, jclass cls) { return 0; }";
 
-const WRAPS: &[u8] = b"JNIEXPORT void JNICALL Java_A_f(JNIEnv *env, jclass cls) { put_jint((jint)(4294967295u + 1u)); put_jint((jint)2147483648u); return; }";
+const WRAPS: &[u8] =
+    b"JNIEXPORT void JNICALL Java_A_f(JNIEnv *env, jclass cls) { put_jint((jint)(4294967295u + 1u)); put_jint((jint)2147483648u); return; }";
 
 /// A worked example: its texts, and what its run writes.
 struct Worked {
@@ -184,16 +186,36 @@ fn worked_examples_run_and_replay(rt: HostRuntime) {
 fn refused_replays(rt: HostRuntime) {
     let cases = [
         // The thread has ended.
-        (ZERO, b"1 1 1 1".as_slice(), b"fault 91 entry 4\n".as_slice()),
+        (
+            ZERO,
+            b"1 1 1 1".as_slice(),
+            b"fault 91 entry 4\n".as_slice(),
+        ),
         // No step of it allocates, so none can be refused room.
         (ZERO, b"1!".as_slice(), b"fault 91 entry 1\n".as_slice()),
-        (ZERO, b"1\n1 1! 1".as_slice(), b"fault 91 entry 3\n".as_slice()),
+        (
+            ZERO,
+            b"1\n1 1! 1".as_slice(),
+            b"fault 91 entry 3\n".as_slice(),
+        ),
         (ZERO, b"2".as_slice(), b"fault 82 line 1\n".as_slice()),
         (ZERO, b"1\n9".as_slice(), b"fault 81 line 2\n".as_slice()),
         (ZERO, b"1*3".as_slice(), b"fault 81 line 1\n".as_slice()),
-        (ZERO, b"journal 1".as_slice(), b"fault 81 line 1\n".as_slice()),
-        (b"".as_slice(), b"1!".as_slice(), b"fault 82 line 3\n".as_slice()),
-        (b"/*".as_slice(), b"9".as_slice(), b"fault 2 line 1\n".as_slice()),
+        (
+            ZERO,
+            b"journal 1".as_slice(),
+            b"fault 81 line 1\n".as_slice(),
+        ),
+        (
+            b"".as_slice(),
+            b"1!".as_slice(),
+            b"fault 82 line 3\n".as_slice(),
+        ),
+        (
+            b"/*".as_slice(),
+            b"9".as_slice(),
+            b"fault 2 line 1\n".as_slice(),
+        ),
     ];
     for (program, journal, written) in cases {
         let (status, out) = replayed(&rt, program, WORLD, journal);
@@ -265,28 +287,38 @@ fn failing_writers(rt: HostRuntime) {
     }
 }
 
-/// The status of a command line.
-fn status_of(rt: &impl AllocGlobal, words: &[&str]) -> u8 {
-    done(rt, words, ZERO, WORLD, b"1").0
+/// The status of a command line, whose words stand between single spaces.
+fn status_of(rt: &impl AllocGlobal, line: &str) -> Option<u8> {
+    let Ok(words) = line.split(' ').collect::<Vec<&str>>(rt.alloc()) else {
+        return None;
+    };
+    Some(done(rt, words.as_slice(), ZERO, WORLD, b"1").0)
 }
 
 // Which word is the program, the world and the schedule or the journal is told by no clause.
 #[test]
 fn words(rt: HostRuntime) {
-    assert_eq!(rt; status_of(&rt, RUN.as_slice()), 0);
-    assert_eq!(rt; status_of(&rt, ["jnirun", "run", "w", "p", "--schedule", "o"].as_slice()), 1);
-    assert_eq!(rt; status_of(&rt, ["jnirun", "run", "--schedule=o", "p", "w"].as_slice()), 0);
-    assert_eq!(rt; status_of(&rt, ["jnirun", "run", "p", "x", "--schedule", "o"].as_slice()), 3);
-    assert_eq!(rt; status_of(&rt, ["jnirun", "run", "p", "w"].as_slice()), 2);
-    assert_eq!(rt; status_of(&rt, REPLAY.as_slice()), 0);
-    assert_eq!(rt; status_of(&rt, ["jnirun", "replay", "w", "p", "o"].as_slice()), 1);
-    assert_eq!(rt; status_of(&rt, ["jnirun", "replay", "p", "o", "w"].as_slice()), 1);
-    assert_eq!(rt; status_of(&rt, ["jnirun", "replay", "p", "w", "x"].as_slice()), 3);
-    assert_eq!(rt; status_of(&rt, ["jnirun", "replay", "p", "w"].as_slice()), 2);
-    assert_eq!(rt; status_of(&rt, ["jnirun", "replay", "p", "w", "o", "o"].as_slice()), 2);
-    assert_eq!(rt; status_of(&rt, ["jnirun", "replay", "p", "w", "--schedule", "o"].as_slice()), 2);
-    assert_eq!(rt; status_of(&rt, ["jnirun"].as_slice()), 2);
-    assert_eq!(rt; status_of(&rt, ["jnirun", "walk"].as_slice()), 2);
-    assert_eq!(rt; status_of(&rt, ["jnirun", "--help"].as_slice()), 0);
-    assert_eq!(rt; status_of(&rt, ["jnirun", "--version"].as_slice()), 0);
+    let cases = [
+        ("jnirun run p w --schedule o", 0),
+        ("jnirun run w p --schedule o", 1),
+        ("jnirun run --schedule=o p w", 0),
+        ("jnirun run p x --schedule o", 3),
+        ("jnirun run p w", 2),
+        ("jnirun run p w o", 2),
+        ("jnirun replay p w o", 0),
+        ("jnirun replay w p o", 1),
+        ("jnirun replay p o w", 1),
+        ("jnirun replay p w x", 3),
+        ("jnirun replay p w", 2),
+        ("jnirun replay p w o o", 2),
+        ("jnirun replay p w --schedule o", 2),
+        ("jnirun", 2),
+        ("jnirun walk", 2),
+        ("jnirun --help", 0),
+        ("jnirun replay --help", 0),
+        ("jnirun --version", 0),
+    ];
+    for (line, status) in cases {
+        assert_eq!(rt; status_of(&rt, line), Some(status), "{line}");
+    }
 }
