@@ -1,5 +1,5 @@
 -- What the layers answer, as what a replay does to the sink.
-use Rattle.std.proofs.Common.{◌≡◌, ℕ, List, Option, Some, None, Result, Ok, Err, length, refl, sym, ap, ◌∙◌, subst, IsSome}
+use Rattle.std.proofs.Common.{◌≡◌, ℕ, List, None, Ok, Err, length, refl, sym, subst}
 use Rattle.syntax.specs.Tree.{SourceUnit}
 use Rattle.world.specs.declared.fault.ReadError.{ReadError}
 use Rattle.world.specs.declared.fault.ReadError.TheVariants as reading
@@ -12,7 +12,7 @@ use Rattle.world.specs.SceneWorld.{world_of_scene}
 use Rattle.world.specs.Sink.{Written}
 use Rattle.world.specs.WorldRules.{IsWorldText}
 use Rattle.regions.specs.Load.{first_load_fault}
-use Rattle.regions.specs.Run.{Writes, replay}
+use Rattle.regions.specs.Run.{Writes}
 use Rattle.replay.specs.declared.fault.ReplayFault.{ReplayFault}
 use Rattle.replay.specs.declared.fault.ReplayFault.TheVariants as replaying
 use Rattle.replay.specs.Replays.{WritesRun, IsStoppedBy, IsReplayable, IsFromOutside}

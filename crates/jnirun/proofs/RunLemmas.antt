@@ -1,5 +1,5 @@
 -- What the layers answer, as what a run does to the sink.
-use Rattle.std.proofs.Common.{◌≡◌, ℕ, List, [], ◌∷◌, ◌++◌, Option, Some, None, Result, Ok, Err, length, refl, sym, ap, ◌∙◌, subst, ◌+◌, ◌≤◌, arith, length-append}
+use Rattle.std.proofs.Common.{◌≡◌, ℕ, List, ◌++◌, Some, None, Result, Ok, Err, length, refl, sym, ap, ◌∙◌, subst, ◌+◌, ◌≤◌, arith, length-append}
 use Rattle.syntax.specs.declared.unit.Item.{Item}
 use Rattle.syntax.specs.Tree.{SourceUnit}
 use Rattle.syntax.specs.Views.{unit_tree}

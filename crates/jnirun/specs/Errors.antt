@@ -1,5 +1,4 @@
 -- The faults of the layers below, as errors of a run.
-use Rattle.std.specs.Prelude.{ℕ}
 use Rattle.scan.specs.declared.fault.ScanFault.{ScanFault}
 use Rattle.scan.specs.declared.fault.ScanFault.TheVariants as scanning
 use Rattle.scan.specs.Faults as scan_faults

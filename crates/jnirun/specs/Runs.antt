@@ -1,12 +1,12 @@
 -- What a run of three texts writes.
-use Rattle.std.specs.Prelude.{◌≡◌, ◌⊎◌, ℕ, List, length, Result, Ok, Err}
+use Rattle.std.specs.Prelude.{◌≡◌, ℕ, List, length, Result, Ok, Err}
 use Rattle.world.specs.Journal.{Journal}
 use Rattle.world.specs.Schedule.{IsScheduleText}
 use Rattle.world.specs.Sink.{Written, AppendsText, StopsWithin}
 use Rattle.world.specs.SceneWorld.{world_of_scene}
 use Rattle.world.specs.WorldRules.{IsWorldText}
 use Rattle.regions.specs.Run.{Writes, JournalFollows, JournalHasRoom}
-use Rattle.jnirun.specs.Texts.{Meaning, AreRefused}
+use Rattle.jnirun.specs.Texts.{Meaning}
 use Rattle.jnirun.specs.declared.fault.Place.{Place}
 use Rattle.jnirun.specs.declared.fault.Place.TheVariants.{Line}
 use Rattle.jnirun.specs.declared.fault.RunError.{RunError}

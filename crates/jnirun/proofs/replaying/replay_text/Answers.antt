@@ -1,4 +1,4 @@
-use Rattle.std.proofs.Common.{◌≡◌, ℕ, length, ap}
+use Rattle.std.proofs.Common.{◌≡◌, length, ap}
 use Rattle.std.proofs.lemmas.List.{length-map}
 use Rattle.syntax.specs.Views.{unit_tree}
 use Rattle.jnirun.proofs.ReplayLemmas.{refused_program, refused_world, refused_journal, replayed, stopped, from_outside, replayable}
