@@ -2,3 +2,4 @@ mod Refusals
 mod SayLemmas
 mod FileLemmas
 mod RunLemmas
+mod ReplayLemmas

@@ -1,8 +1,6 @@
 -- The fault of a pass is one that the text earns.
-use Rattle.std.proofs.Common.{◌≡◌, List, ℕ, Some, Ok, Err, refl, sym, ◌∙◌}
-use Rattle.syntax.specs.declared.unit.Item.{Item}
+use Rattle.std.proofs.Common.{◌≡◌, List, ℕ, Some}
 use Rattle.syntax.specs.Tree.{SourceUnit}
-use Rattle.syntax.specs.Views.{unit_tree}
 use Rattle.scan.specs.declared.token.Token.{Token}
 use Rattle.scan.specs.declared.fault.ScanFault.{ScanFault}
 use Rattle.scan.specs.declared.fault.ScanFault.TheVariants as scanning

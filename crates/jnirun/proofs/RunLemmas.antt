@@ -1,5 +1,5 @@
 -- What the layers answer, as what a run does to the sink.
-use Rattle.std.proofs.Common.{◌≡◌, ℕ, List, [], ◌∷◌, ◌++◌, Option, Some, None, Result, Ok, Err, length, refl, sym, ap, ◌∙◌, subst, ◌+◌, ◌≤◌, arith, length-append}
+use Rattle.std.proofs.Common.{◌≡◌, ℕ, List, ◌++◌, Some, None, Result, Ok, Err, length, refl, sym, ap, ◌∙◌, subst, ◌+◌, ◌≤◌, arith, length-append}
 use Rattle.syntax.specs.declared.unit.Item.{Item}
 use Rattle.syntax.specs.Tree.{SourceUnit}
 use Rattle.syntax.specs.Views.{unit_tree}
@@ -27,12 +27,13 @@ use Rattle.machine.specs.declared.fault.LoadFault.{LoadFault}
 use Rattle.machine.specs.declared.fault.LoadFault.TheVariants as loading
 use Rattle.machine.specs.Loading.{IsLoadFault}
 use Rattle.machine.specs.Run.{Run, IsUnstarted, RunsAlong, RunsInto, WritesRun, replay_of}
+use Rattle.jnirun.specs.declared.fault.Place.TheVariants as place
 use Rattle.jnirun.specs.declared.fault.RunError.{RunError}
 use Rattle.jnirun.specs.declared.fault.RunError.TheVariants.{Memory, File, Fault, Writer}
 use Rattle.jnirun.specs.Errors.{of_lower, of_reading, of_load}
 use Rattle.jnirun.specs.Passes.{IsRefusal}
-use Rattle.jnirun.specs.Programs.{IsProgram, by_length}
-use Rattle.jnirun.specs.Texts.{Meaning, AreRefused, by_program, by_world, by_schedule, by_load}
+use Rattle.jnirun.specs.Programs.{IsProgram}
+use Rattle.jnirun.specs.Texts.{Meaning, AreRefused, by_program, by_length, by_world, by_schedule, by_load}
 use Rattle.jnirun.specs.Runs.{RunsTexts, IsRun, IsRunOrFails}
 
 -- a journal has no more entries than the words that it follows
@@ -62,13 +63,14 @@ module _ (program world schedule : List ℕ) (old : Written) where
 
   pub refused_program : (e : RunError) → IsRefusal program e → Refuses e
   refused_program Memory h = refl
-  refused_program (Fault number line) h = (refl, by_program number line h)
+  refused_program (Fault number (place.Line line)) h = (refl, by_program number line h)
+  refused_program (Fault number (place.Entry entry)) h = absurd h
   refused_program File h = absurd h
   refused_program Writer h = absurd h
 
   pub refused_length : (unit : SourceUnit) (f : LowerFault) → IsProgram program unit → (f ≡ lowering.TooLong → IsTooLong unit) → Refuses (of_lower f)
   refused_length unit lowering.Memory is h = refl
-  refused_length unit lowering.TooLong is h = (refl, by_program 51 0 (by_length unit is (h refl)))
+  refused_length unit lowering.TooLong is h = (refl, by_length unit is (h refl))
 
   pub refused_world : (unit : SourceUnit) (e : ReadError) → IsProgram program unit → Fails e (scene_of_text world) → Refuses (of_reading e)
   refused_world unit reading.Memory is h = refl

@@ -1,5 +1,4 @@
 -- The faults of the layers below, as errors of a run.
-use Rattle.std.specs.Prelude.{ℕ}
 use Rattle.scan.specs.declared.fault.ScanFault.{ScanFault}
 use Rattle.scan.specs.declared.fault.ScanFault.TheVariants as scanning
 use Rattle.scan.specs.Faults as scan_faults
@@ -20,37 +19,46 @@ use Rattle.world.specs.declared.fault.ReadError.TheVariants as reading
 use Rattle.world.specs.Rule.{rule_number}
 use Rattle.machine.specs.declared.fault.LoadFault.{LoadFault}
 use Rattle.machine.specs.declared.fault.LoadFault.TheVariants as loading
+use Rattle.replay.specs.declared.fault.ReplayFault.{ReplayFault}
+use Rattle.replay.specs.declared.fault.ReplayFault.TheVariants as replaying
+use Rattle.jnirun.specs.declared.fault.Place.TheVariants.{Line, Entry}
 use Rattle.jnirun.specs.declared.fault.RunError.{RunError}
-use Rattle.jnirun.specs.declared.fault.RunError.TheVariants.{Memory, File, Fault}
+use Rattle.jnirun.specs.declared.fault.RunError.TheVariants.{Memory, File, Fault, Writer}
 use Rattle.jnirun.specs.declared.files.FileFault.{FileFault}
 use Rattle.jnirun.specs.declared.files.FileFault.TheVariants as files
 
 abbrev pub of_scan : ScanFault → RunError
 of_scan scanning.Memory = Memory
-of_scan (scanning.Found fault line) = Fault (scan_faults.number_of_kind fault) line
+of_scan (scanning.Found fault line) = Fault (scan_faults.number_of_kind fault) (Line line)
 
 abbrev pub of_parse : ParseFault → RunError
 of_parse parsing.Memory = Memory
-of_parse (parsing.Found fault line) = Fault (parse_faults.number_of_kind fault) line
+of_parse (parsing.Found fault line) = Fault (parse_faults.number_of_kind fault) (Line line)
 
 abbrev pub of_types : TypeFault → RunError
 of_types sorting.Memory = Memory
-of_types (sorting.Broken fault) = Fault (sort_rule_number (type_faults.rule_of fault.rule)) fault.line
+of_types (sorting.Broken fault) = Fault (sort_rule_number (type_faults.rule_of fault.rule)) (Line fault.line)
 
 abbrev pub of_regions : RegionFault → RunError
-of_regions fault = Fault (region_rule_number (region_faults.rule_of fault.rule)) fault.line
+of_regions fault = Fault (region_rule_number (region_faults.rule_of fault.rule)) (Line fault.line)
 
 abbrev pub of_lower : LowerFault → RunError
 of_lower lowering.Memory = Memory
-of_lower lowering.TooLong = Fault 51 0
+of_lower lowering.TooLong = Fault 51 (Line 0)
 
 abbrev pub of_reading : ReadError → RunError
 of_reading reading.Memory = Memory
-of_reading (reading.Fault fault) = Fault (rule_number fault.rule) fault.line
+of_reading (reading.Fault fault) = Fault (rule_number fault.rule) (Line fault.line)
 
 abbrev pub of_load : LoadFault → RunError
 of_load loading.Memory = Memory
-of_load (loading.DoesNotFit line) = Fault 82 line
+of_load (loading.DoesNotFit line) = Fault 82 (Line line)
+
+abbrev pub of_replay : ReplayFault → RunError
+of_replay replaying.Memory = Memory
+of_replay (replaying.DoesNotFit line) = Fault 82 (Line line)
+of_replay (replaying.Impossible entry) = Fault 91 (Entry entry)
+of_replay replaying.Writer = Writer
 
 abbrev pub of_file : FileFault → RunError
 of_file files.Memory = Memory

@@ -3,4 +3,6 @@ pub mod Programs
 pub mod Passes
 pub mod Texts
 pub mod Runs
+pub mod Replays
+pub mod Files
 pub mod Serve

@@ -3,6 +3,7 @@ use Rattle.std.specs.Prelude.{◌≡◌, ℕ, List, Result, Ok, Err}
 use Rattle.syntax.specs.declared.unit.Item.{Item}
 use Rattle.syntax.specs.Tree.{SourceUnit}
 use Rattle.syntax.specs.Views.{unit_tree}
+use Rattle.jnirun.specs.declared.fault.Place.TheVariants.{Line, Entry}
 use Rattle.jnirun.specs.declared.fault.RunError.{RunError}
 use Rattle.jnirun.specs.declared.fault.RunError.TheVariants.{Memory, File, Fault, Writer}
 use Rattle.jnirun.specs.Programs.{IsRefusedProgram}
@@ -10,7 +11,8 @@ use Rattle.jnirun.specs.Programs.{IsRefusedProgram}
 -- the passes refuse the text so
 abbrev pub IsRefusal : List ℕ → RunError → Type 0
 IsRefusal text Memory = Unit {0}
-IsRefusal text (Fault number line) = IsRefusedProgram text number line
+IsRefusal text (Fault number (Line line)) = IsRefusedProgram text number line
+IsRefusal text (Fault number (Entry entry)) = ⊥
 IsRefusal text File = ⊥
 IsRefusal text Writer = ⊥
 

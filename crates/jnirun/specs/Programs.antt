@@ -18,7 +18,6 @@ use Rattle.types.specs.SortRules.{SortRule, sort_rule_number, IsSorted, first_fa
 use Rattle.regions.specs.RegionRules.{RegionRule, region_rule_number}
 use Rattle.regions.specs.Regions.{HasRegions}
 use Rattle.regions.specs.FirstFaults.{IsFirstRegionFault}
-use Rattle.lower.specs.Layout.{IsTooLong}
 
 -- the unit is the tree that the text spells, of forms that are built, and it keeps the rules of sorts and regions
 pub record IsProgram (text : List ℕ) (unit : SourceUnit) : Type 0 where
@@ -37,5 +36,3 @@ pub data IsRefusedProgram (text : List ℕ) : (number line : ℕ) → Type 0 whe
   by_sorts : (unit : SourceUnit) (rule : SortRule) (line : ℕ) → SpellsUnit text unit → first_fault unit ≡ Some (line, rule) → IsRefusedProgram text (sort_rule_number rule) line
   -- a rule of regions is broken
   by_regions : (unit : SourceUnit) (rule : RegionRule) (line : ℕ) → SpellsUnit text unit → IsSorted unit → IsFirstRegionFault rule line unit → IsRefusedProgram text (region_rule_number rule) line
-  -- the code of a function would be too long
-  by_length : (unit : SourceUnit) → IsProgram text unit → IsTooLong unit → IsRefusedProgram text 51 0

@@ -1,12 +1,14 @@
 -- What a run of three texts writes.
-use Rattle.std.specs.Prelude.{◌≡◌, ◌⊎◌, ℕ, List, length, Result, Ok, Err}
+use Rattle.std.specs.Prelude.{◌≡◌, ℕ, List, length, Result, Ok, Err}
 use Rattle.world.specs.Journal.{Journal}
 use Rattle.world.specs.Schedule.{IsScheduleText}
 use Rattle.world.specs.Sink.{Written, AppendsText, StopsWithin}
 use Rattle.world.specs.SceneWorld.{world_of_scene}
 use Rattle.world.specs.WorldRules.{IsWorldText}
 use Rattle.regions.specs.Run.{Writes, JournalFollows, JournalHasRoom}
-use Rattle.jnirun.specs.Texts.{Meaning, AreRefused}
+use Rattle.jnirun.specs.Texts.{Meaning}
+use Rattle.jnirun.specs.declared.fault.Place.{Place}
+use Rattle.jnirun.specs.declared.fault.Place.TheVariants.{Line}
 use Rattle.jnirun.specs.declared.fault.RunError.{RunError}
 use Rattle.jnirun.specs.declared.fault.RunError.TheVariants.{Memory, File, Fault, Writer}
 
@@ -22,24 +24,24 @@ pub record IsRun (program world schedule text : List ℕ) : Type 0 where
   pub follows : JournalFollows meaning.unit (world_of_scene meaning.scene) journal meaning.words
   pub has_room : JournalHasRoom meaning.unit (world_of_scene meaning.scene) journal
 
--- some text that a run writes was appended
+-- some text that a run or a replay writes was appended
 pub record AppendsRun (old new : Written) (Writes : List ℕ → Type 0) : Type 0 where
   pub text : List ℕ
   pub runs : Writes text
   pub appended : AppendsText old new text
 
--- a write failed within some text that a run writes
+-- a write failed within some text that a run or a replay writes
 pub record StopsRun (old new : Written) (Writes : List ℕ → Type 0) : Type 0 where
   pub text : List ℕ
   pub runs : Writes text
   pub stopped : StopsWithin old new text
 
--- What a call that runs did to the sink, by its answer: nothing is written for any fault but the writer's, and the
--- number and the line of a fault are those that the texts earn.
-abbrev pub RunsTexts : Written → Written → Result Unit RunError → (Writes : List ℕ → Type 0) → (Refused : ℕ → ℕ → Type 0) → Type 0
+-- What a call that runs or replays did to the sink, by its answer: nothing is written for any fault but the writer's, and
+-- the number and the place of a fault are those that the texts earn.
+abbrev pub RunsTexts : Written → Written → Result Unit RunError → (Writes : List ℕ → Type 0) → (Refused : ℕ → Place → Type 0) → Type 0
 RunsTexts old new (Ok _) Writes Refused = AppendsRun old new Writes
 RunsTexts old new (Err Memory) Writes Refused = new ≡ old
-RunsTexts old new (Err (Fault number line)) Writes Refused = (new ≡ old) × Refused number line
+RunsTexts old new (Err (Fault number place)) Writes Refused = (new ≡ old) × Refused number place
 RunsTexts old new (Err File) Writes Refused = new ≡ old
 RunsTexts old new (Err Writer) Writes Refused = StopsRun old new Writes
 
@@ -47,6 +49,6 @@ RunsTexts old new (Err Writer) Writes Refused = StopsRun old new Writes
 abbrev pub IsRunOrFails : Result Unit RunError → Type 0
 IsRunOrFails (Ok _) = Unit {0}
 IsRunOrFails (Err Memory) = Unit {0}
-IsRunOrFails (Err (Fault number line)) = (number ≡ 51) × (line ≡ 0)
+IsRunOrFails (Err (Fault number place)) = (number ≡ 51) × (place ≡ Line 0)
 IsRunOrFails (Err File) = ⊥
 IsRunOrFails (Err Writer) = Unit {0}

@@ -2,52 +2,50 @@
 use Rattle.std.specs.Prelude.{◌≡◌, ◌⊎◌, ℕ, Bool, ◌||◌, List, ◌++◌, codes, decimal, bytes_eq}
 use Rattle.std.specs.List.{list_any}
 use Rattle.world.specs.Sink.{Written, AppendsText, StopsWithin}
+use Rattle.jnirun.specs.declared.command.Command.{Command}
+use Rattle.jnirun.specs.declared.command.Command.TheVariants.{Run, Replay}
+use Rattle.jnirun.specs.declared.fault.Place.{Place}
+use Rattle.jnirun.specs.declared.fault.Place.TheVariants.{Line, Entry}
+use Rattle.jnirun.specs.Files.{OfFiles}
 use Rattle.jnirun.specs.Texts.{AreRefused}
 use Rattle.jnirun.specs.Runs.{IsRun}
+use Rattle.jnirun.specs.Replays.{IsReplay, AreRefusedReplays}
 
--- `fault 81 line 1`
-abbrev pub fault_line : ℕ → ℕ → List ℕ
-fault_line number line = codes "fault " ++ decimal number ++ codes " line " ++ decimal line ++ codes "\n"
+-- `fault 81 line 1`, or `fault 91 entry 4`
+abbrev pub fault_line : ℕ → Place → List ℕ
+fault_line number (Line line) = codes "fault " ++ decimal number ++ codes " line " ++ decimal line ++ codes "\n"
+fault_line number (Entry entry) = codes "fault " ++ decimal number ++ codes " entry " ++ decimal entry ++ codes "\n"
 
--- three files of these names, and what they may be read as
-pub record Given (gives : List ℕ → List ℕ → Type 0) (program_name world_name schedule_name : List ℕ) : Type 0 where
-  pub program : List ℕ
-  pub world : List ℕ
-  pub schedule : List ℕ
-  pub program_given : gives program_name program
-  pub world_given : gives world_name world
-  pub schedule_given : gives schedule_name schedule
+-- ---- files
 
--- what a run of the files of these names writes
-pub record RunsFiles (gives : List ℕ → List ℕ → Type 0) (program_name world_name schedule_name text : List ℕ) : Type 0 where
-  pub files : Given gives program_name world_name schedule_name
-  pub runs : IsRun files.program files.world files.schedule text
+-- what the command writes: the report and the journal of a run, or of a replay, of its files
+abbrev pub CommandWrites : (gives : List ℕ → List ℕ → Type 0) → Command → (text : List ℕ) → Type 0
+CommandWrites gives (Run program world schedule) text = OfFiles gives program.now world.now schedule.now (λ p w s. IsRun p w s text)
+CommandWrites gives (Replay program world journal) text = OfFiles gives program.now world.now journal.now (λ p w j. IsReplay p w j text)
 
--- the files of these names earn the number and the line
-pub record RefusesFiles (gives : List ℕ → List ℕ → Type 0) (program_name world_name schedule_name : List ℕ) (number line : ℕ) : Type 0 where
-  pub files : Given gives program_name world_name schedule_name
-  pub refused : AreRefused files.program files.world files.schedule number line
+-- its files earn the number and the place of a fault
+abbrev pub CommandEarns : (gives : List ℕ → List ℕ → Type 0) → Command → (number : ℕ) → Place → Type 0
+CommandEarns gives (Run program world schedule) number place = OfFiles gives program.now world.now schedule.now (λ p w s. AreRefused p w s number place)
+CommandEarns gives (Replay program world journal) number place = OfFiles gives program.now world.now journal.now (λ p w j. AreRefusedReplays p w j number place)
 
--- what a run of some files writes
-pub record RunsSomeFiles (gives : List ℕ → List ℕ → Type 0) (text : List ℕ) : Type 0 where
-  pub program_name : List ℕ
-  pub world_name : List ℕ
-  pub schedule_name : List ℕ
-  pub runs : RunsFiles gives program_name world_name schedule_name text
+-- what some command writes
+pub record SomeCommandWrites (gives : List ℕ → List ℕ → Type 0) (text : List ℕ) : Type 0 where
+  pub command : Command
+  pub writes : CommandWrites gives command text
 
--- some files earn the number and the line
-pub record RefusesSomeFiles (gives : List ℕ → List ℕ → Type 0) (number line : ℕ) : Type 0 where
-  pub program_name : List ℕ
-  pub world_name : List ℕ
-  pub schedule_name : List ℕ
-  pub refused : RefusesFiles gives program_name world_name schedule_name number line
+-- the files of some command earn the number and the place
+pub record SomeCommandEarns (gives : List ℕ → List ℕ → Type 0) (number : ℕ) (place : Place) : Type 0 where
+  pub command : Command
+  pub earns : CommandEarns gives command number place
 
 -- the line of a fault that was earned was appended
-pub record SaysFault (old new : Written) (Refused : ℕ → ℕ → Type 0) : Type 0 where
+pub record SaysFault (old new : Written) (Refused : ℕ → Place → Type 0) : Type 0 where
   pub number : ℕ
-  pub line : ℕ
-  pub earned : Refused number line
-  pub appended : AppendsText old new (fault_line number line)
+  pub place : Place
+  pub earned : Refused number place
+  pub appended : AppendsText old new (fault_line number place)
+
+-- ---- failures
 
 -- a word and a line feed were appended, or the sink failed within them
 abbrev pub Says : Written → Written → List ℕ → Type 0

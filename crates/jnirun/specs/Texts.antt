@@ -9,6 +9,9 @@ use Rattle.world.specs.Scene.{Scene}
 use Rattle.world.specs.SceneWorld.{world_of_scene}
 use Rattle.world.specs.Schedule.{Schedule}
 use Rattle.regions.specs.Load.{first_load_fault}
+use Rattle.lower.specs.Layout.{IsTooLong}
+use Rattle.jnirun.specs.declared.fault.Place.{Place}
+use Rattle.jnirun.specs.declared.fault.Place.TheVariants.{Line}
 use Rattle.jnirun.specs.Programs.{IsProgram, IsRefusedProgram}
 
 -- the unit, the world and the schedule of three texts, which go with each other
@@ -21,9 +24,12 @@ pub record Meaning (program world schedule : List ℕ) : Type 0 where
   pub of_schedule : schedule_of schedule (length scene.threads) ≡ Ok words
   pub loads : first_load_fault unit (world_of_scene scene) ≡ None
 
--- The texts are read in their order, and then loaded. This number and line are those of the first that is refused.
-pub data AreRefused (program world schedule : List ℕ) : (number line : ℕ) → Type 0 where
-  by_program : (number line : ℕ) → IsRefusedProgram program number line → AreRefused program world schedule number line
-  by_world : (unit : SourceUnit) (fault : TextFault) → IsProgram program unit → scene_of_text world ≡ Err fault → AreRefused program world schedule (rule_number fault.rule) fault.line
-  by_schedule : (unit : SourceUnit) (scene : Scene) (fault : TextFault) → IsProgram program unit → scene_of_text world ≡ Ok scene → schedule_of schedule (length scene.threads) ≡ Err fault → AreRefused program world schedule (rule_number fault.rule) fault.line
-  by_load : (unit : SourceUnit) (scene : Scene) (words : Schedule) (line : ℕ) → IsProgram program unit → scene_of_text world ≡ Ok scene → schedule_of schedule (length scene.threads) ≡ Ok words → first_load_fault unit (world_of_scene scene) ≡ Some line → AreRefused program world schedule 82 line
+-- The program is lowered, the other texts are read in their order, and all are loaded. This number and place are those of the
+-- first that is refused.
+pub data AreRefused (program world schedule : List ℕ) : (number : ℕ) → Place → Type 0 where
+  by_program : (number line : ℕ) → IsRefusedProgram program number line → AreRefused program world schedule number (Line line)
+  -- the code of a function would be too long
+  by_length : (unit : SourceUnit) → IsProgram program unit → IsTooLong unit → AreRefused program world schedule 51 (Line 0)
+  by_world : (unit : SourceUnit) (fault : TextFault) → IsProgram program unit → scene_of_text world ≡ Err fault → AreRefused program world schedule (rule_number fault.rule) (Line fault.line)
+  by_schedule : (unit : SourceUnit) (scene : Scene) (fault : TextFault) → IsProgram program unit → scene_of_text world ≡ Ok scene → schedule_of schedule (length scene.threads) ≡ Err fault → AreRefused program world schedule (rule_number fault.rule) (Line fault.line)
+  by_load : (unit : SourceUnit) (scene : Scene) (words : Schedule) (line : ℕ) → IsProgram program unit → scene_of_text world ≡ Ok scene → schedule_of schedule (length scene.threads) ≡ Ok words → first_load_fault unit (world_of_scene scene) ≡ Some line → AreRefused program world schedule 82 (Line line)

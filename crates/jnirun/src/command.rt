@@ -1,56 +1,102 @@
 //! The words of the command line.
 
-use clap::{Arg, ArgAction, Command, Error};
+use clap::{Arg, ArgAction, ArgMatches, Error};
 use std::alloc::Global;
 use std::convert::AsStr;
 
-/// The files that a run reads.
+/// What the words ask for, with the names of the files.
 #[derive(Clone, Copy, Debug)]
-pub struct RunCommand<'a> {
-    pub program: &'a str,
-    pub world: &'a str,
-    pub schedule: &'a str,
+pub enum Command<'a> {
+    /// A program runs in a world by a schedule.
+    Run {
+        program: &'a str,
+        world: &'a str,
+        schedule: &'a str,
+    },
+    /// The steps of a journal are taken again.
+    Replay {
+        program: &'a str,
+        world: &'a str,
+        journal: &'a str,
+    },
 }
 
-/// What the words ask for, or `None` where they don't say how to schedule. Which word is the program, the world and
-/// the schedule is `clap`'s doing; no clause tells it, and tests show it.
-pub fn parse<'a, S: AsStr>(alloc: Global, words: &'a [S]) -> Result<Option<RunCommand<'a>>, Error> {
-    let program = Arg::new(alloc, "PROG")
+/// A word that must be there.
+fn word<'a>(alloc: Global, name: &'a str, help: &'a str) -> Arg<'a> {
+    Arg::new(alloc, name)
         .required(true)
         .action(ArgAction::Set)
-        .help("The text of the native methods");
-    let world = Arg::new(alloc, "WORLD")
-        .required(true)
-        .action(ArgAction::Set)
-        .help("The heap, the classes, the objects and the threads");
+        .help(help)
+}
+
+/// `run PROG WORLD --schedule FILE`.
+fn run_command<'a>(alloc: Global) -> Result<clap::Command<'a>, Error> {
     let schedule = Arg::new(alloc, "FILE")
         .long("schedule")
         .action(ArgAction::Set)
         .help("The order in which the threads step");
-    let run = Command::new(alloc, "run")
+    let command = clap::Command::new(alloc, "run")
         .about("Runs a program in a world, and prints its report and its journal")
-        .arg(program)?
-        .arg(world)?
+        .arg(word(alloc, "PROG", "The text of the native methods"))?
+        .arg(word(
+            alloc,
+            "WORLD",
+            "The heap, the classes, the objects and the threads",
+        ))?
         .arg(schedule)?;
-    let command = Command::new(alloc, "jnirun")
+    Ok(command)
+}
+
+/// `replay PROG WORLD JOURNAL`.
+fn replay_command<'a>(alloc: Global) -> Result<clap::Command<'a>, Error> {
+    let command = clap::Command::new(alloc, "replay")
+        .about("Takes the steps of a journal again, and prints the report and the journal")
+        .arg(word(alloc, "PROG", "The text of the native methods"))?
+        .arg(word(
+            alloc,
+            "WORLD",
+            "The heap, the classes, the objects and the threads",
+        ))?
+        .arg(word(
+            alloc,
+            "JOURNAL",
+            "The steps that were taken, in their order",
+        ))?;
+    Ok(command)
+}
+
+/// The files of a run, where the words say how to schedule.
+fn run_of<'a>(given: &ArgMatches<'a>) -> Option<Command<'a>> {
+    Some(Command::Run {
+        program: given.get_str("PROG")?,
+        world: given.get_str("WORLD")?,
+        schedule: given.get_str("FILE")?,
+    })
+}
+
+/// The files of a replay.
+fn replay_of<'a>(given: &ArgMatches<'a>) -> Option<Command<'a>> {
+    Some(Command::Replay {
+        program: given.get_str("PROG")?,
+        world: given.get_str("WORLD")?,
+        journal: given.get_str("JOURNAL")?,
+    })
+}
+
+/// What the words ask for, or `None` where they don't say how to schedule. Which word is the program, the world, the
+/// schedule and the journal is `clap`'s doing; no clause tells it, and tests show it.
+pub fn parse<'a, S: AsStr>(alloc: Global, words: &'a [S]) -> Result<Option<Command<'a>>, Error> {
+    let command = clap::Command::new(alloc, "jnirun")
         .version("0.1.0")
         .about("Runs Java native methods on a heap whose objects move")
         .subcommand_required(true)
-        .subcommand(run)?;
+        .subcommand(run_command(alloc)?)?
+        .subcommand(replay_command(alloc)?)?;
     let matches = command.try_get_matches_from(words)?;
-    let Some(("run", given)) = matches.subcommand() else {
-        return Ok(None);
+    let command = match matches.subcommand() {
+        Some(("run", given)) => run_of(given),
+        Some(("replay", given)) => replay_of(given),
+        _ => None,
     };
-    let (Some(program), Some(world), Some(schedule)) = (
-        given.get_str("PROG"),
-        given.get_str("WORLD"),
-        given.get_str("FILE"),
-    ) else {
-        return Ok(None);
-    };
-    Ok(Some(RunCommand {
-        program,
-        world,
-        schedule,
-    }))
+    Ok(command)
 }

@@ -4,8 +4,27 @@ ghost use Rattle.std.specs.Prelude.{◌≡◌};
 ghost use Rattle.jnirun.specs.declared.fault.RunError.TheVariants.{Writer};
 
 use crate::files::FileFault;
+use std::fmt;
 use thiserror::Error;
 use world::SinkFailed;
+
+/// What a fault is found at. Both are counted from 1.
+#[derive(Clone, Copy, Debug, PartialEq, Eq)]
+pub enum Place {
+    /// The line of a text, or 0 where the fault has no line.
+    Line(usize),
+    /// The entry of a journal.
+    Entry(usize),
+}
+
+impl fmt::Display for Place {
+    fn fmt<W: fmt::Write>(&self, f: &mut fmt::Formatter<W>) -> fmt::Result {
+        match self {
+            Place::Line(line) => write!(f, "line {line}"),
+            Place::Entry(entry) => write!(f, "entry {entry}"),
+        }
+    }
+}
 
 /// Why there is no whole report.
 #[derive(Clone, Copy, Debug, PartialEq, Eq, Error)]
@@ -13,9 +32,9 @@ pub enum RunError {
     /// Host memory was refused.
     #[error("out of memory")]
     Memory,
-    /// A text is refused: the number of the fault and the line, counted from 1, or 0 where the fault has no line.
-    #[error("fault {0} line {1}")]
-    Fault(u32, usize),
+    /// A text is refused: the number of the fault and its place.
+    #[error("fault {0} {1}")]
+    Fault(u32, Place),
     /// A file can't be read, or is too large.
     #[error("a file can't be read, or is too large")]
     File,

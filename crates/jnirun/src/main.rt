@@ -1,10 +1,12 @@
-//! Runs native methods over a heap: `jnirun run PROG WORLD --schedule FILE`.
+//! Runs native methods over a heap: `jnirun run PROG WORLD --schedule FILE`, and replays their journals:
+//! `jnirun replay PROG WORLD JOURNAL`.
 #![tactic(auto)]
 
 mod command;
 mod fault;
 mod files;
 mod program;
+mod replaying;
 mod run;
 mod serve;
 #[cfg(test)]

@@ -7,7 +7,7 @@ ghost use Rattle.jnirun.specs.Errors.{of_scan, of_parse, of_types, of_regions};
 ghost use Rattle.jnirun.specs.Programs.{IsProgram};
 ghost use Rattle.jnirun.specs.Passes.{IsRefusal, IsUnitOr};
 
-use crate::fault::RunError;
+use crate::fault::{Place, RunError};
 use parse::{ParseFault, parse};
 use regions::{Checked, RegionFault, check};
 use scan::{ScanFault, scan};
@@ -19,7 +19,10 @@ fn of_scan(fault: ScanFault) -> RunError
 {
     match fault {
         ScanFault::Memory => RunError::Memory,
-        ScanFault::Found { fault, line } => RunError::Fault(u32::from(fault.number()), line),
+        ScanFault::Found { fault, line } => RunError::Fault(
+            u32::from(fault.number()),
+            Place::Line(line),
+        ),
     }
 }
 
@@ -28,7 +31,10 @@ fn of_parse(fault: ParseFault) -> RunError
 {
     match fault {
         ParseFault::Memory => RunError::Memory,
-        ParseFault::Found { fault, line } => RunError::Fault(u32::from(fault.number()), line),
+        ParseFault::Found { fault, line } => RunError::Fault(
+            u32::from(fault.number()),
+            Place::Line(line),
+        ),
     }
 }
 
@@ -37,14 +43,14 @@ fn of_types(fault: TypeFault) -> RunError
 {
     match fault {
         TypeFault::Memory => RunError::Memory,
-        TypeFault::Broken(fault) => RunError::Fault(fault.rule.number(), fault.line),
+        TypeFault::Broken(fault) => RunError::Fault(fault.rule.number(), Place::Line(fault.line)),
     }
 }
 
 fn of_regions(fault: RegionFault) -> RunError
     ensures { result ≡ of_regions fault }
 {
-    RunError::Fault(fault.rule.number(), fault.line)
+    RunError::Fault(fault.rule.number(), Place::Line(fault.line))
 }
 
 /// The checked unit of a program text: scanned, parsed, and checked for sorts and regions, in this order.

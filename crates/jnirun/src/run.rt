@@ -6,7 +6,7 @@ ghost use Rattle.jnirun.specs.Errors.{of_lower, of_reading, of_load};
 ghost use Rattle.jnirun.specs.Texts.{Meaning, AreRefused};
 ghost use Rattle.jnirun.specs.Runs.{RunsTexts, IsRun, IsRunOrFails};
 
-use crate::fault::RunError;
+use crate::fault::{Place, RunError};
 use crate::program::program;
 use lower::{LowerFault, lower};
 use machine::{LoadFault, Machine, RunFault};
@@ -18,16 +18,20 @@ fn of_lower(fault: LowerFault) -> RunError
 {
     match fault {
         LowerFault::Memory => RunError::Memory,
-        LowerFault::TooLong => RunError::Fault(51, 0),
+        LowerFault::TooLong => RunError::Fault(51, Place::Line(0)),
     }
 }
 
-fn of_reading(error: ReadError) -> RunError
+/// The fault of a world, a schedule or a journal.
+pub(crate) fn of_reading(error: ReadError) -> RunError
     ensures { result ≡ of_reading error }
 {
     match error {
         ReadError::Memory => RunError::Memory,
-        ReadError::Fault(fault) => RunError::Fault(u32::from(fault.rule.number()), fault.line),
+        ReadError::Fault(fault) => RunError::Fault(
+            u32::from(fault.rule.number()),
+            Place::Line(fault.line),
+        ),
     }
 }
 
@@ -36,7 +40,7 @@ fn of_load(fault: LoadFault) -> RunError
 {
     match fault {
         LoadFault::Memory => RunError::Memory,
-        LoadFault::DoesNotFit(line) => RunError::Fault(82, line),
+        LoadFault::DoesNotFit(line) => RunError::Fault(82, Place::Line(line)),
     }
 }
 

@@ -1,13 +1,14 @@
 //! The program over any files and sinks.
 
-ghost use Rattle.std.specs.Prelude.{◌≡◌, ◌≢◌, ◌≤◌, ◌⊎◌, ◌++◌, IsTrue, codes};
+ghost use Rattle.std.specs.Prelude.{◌≡◌, ◌≢◌, ◌≤◌, ◌⊎◌, ◌++◌, IsTrue, codes, decimal};
 ghost use Rattle.world.specs.Sink.{CanFail, Writes};
 ghost use Rattle.jnirun.specs.Runs.{RunsTexts, AppendsRun};
-ghost use Rattle.jnirun.specs.Serve.{RunsFiles, RefusesFiles, RunsSomeFiles, RefusesSomeFiles, SaysFault, IsFailure, SaysFailure, fault_line, is_help_word, asks_for_help};
+ghost use Rattle.jnirun.specs.Serve.{CommandWrites, CommandEarns, SomeCommandWrites, SomeCommandEarns, SaysFault, IsFailure, SaysFailure, fault_line, is_help_word, asks_for_help};
 
-use crate::command::{RunCommand, parse};
-use crate::fault::RunError;
-use crate::files::Files;
+use crate::command::{Command, parse};
+use crate::fault::{Place, RunError};
+use crate::files::{Files, read_texts};
+use crate::replaying::replay_text;
 use crate::run::run_text;
 use clap::Error;
 use clap::error::ErrorKind;
@@ -25,22 +26,35 @@ pub const COMMAND_LINE: u8 = 2;
 /// Memory, a file or a writer failed.
 pub const FAILED: u8 = 3;
 
-/// Reads the files, and runs.
+/// Reads the files of a command, and runs or replays.
 fn run_files<F: Files, W: Sink>(
     alloc: Global,
-    command: RunCommand<'_>,
+    command: Command<'_>,
     files: &mut F,
     out: &mut W,
 ) -> Result<(), RunError>
     requires { CanFail (W.written out.old) }
     ensures { RunsTexts (W.written out.old) (W.written out.new) result
-        (RunsFiles (F.gives files.old) command.entry.program.now command.entry.world.now command.entry.schedule.now)
-        (RefusesFiles (F.gives files.old) command.entry.program.now command.entry.world.now command.entry.schedule.now) }
+        (CommandWrites (F.gives files.old) command.entry) (CommandEarns (F.gives files.old) command.entry) }
 {
-    let program = files.read(alloc, command.program)?;
-    let world = files.read(alloc, command.world)?;
-    let schedule = files.read(alloc, command.schedule)?;
-    run_text(alloc, &program, &world, &schedule, out)
+    match command {
+        Command::Run {
+            program,
+            world,
+            schedule,
+        } => {
+            let texts = read_texts(alloc, files, program, world, schedule)?;
+            run_text(alloc, &texts.program, &texts.world, &texts.order, out)
+        }
+        Command::Replay {
+            program,
+            world,
+            journal,
+        } => {
+            let texts = read_texts(alloc, files, program, world, journal)?;
+            replay_text(alloc, &texts.program, &texts.world, &texts.order, out)
+        }
+    }
 }
 
 /// Writes a text, and sends on all that waits.
@@ -52,34 +66,37 @@ fn say<S: Sink>(sink: &mut S, text: &[u8]) -> Result<(), SinkFailed>
     sink.flush()
 }
 
-/// Puts the number and the line of a fault.
-fn put_fault<W: Sink>(out: &mut W, number: u32, line: usize) -> Result<(), SinkFailed>
+/// Puts the number of a fault, the kind of its place, and the place's own number.
+fn put_fault<W: Sink>(out: &mut W, number: u32, kind: &[u8], place: usize) -> Result<(), SinkFailed>
     requires { CanFail (W.written out.old) }
-    ensures { Writes (W.written out.old) (W.written out.new) result (fault_line number line) }
+    ensures { Writes (W.written out.old) (W.written out.new) result
+        (codes "fault " ++ decimal number ++ kind.now ++ decimal place ++ codes "\n") }
 {
     let mut number_text = Buffer::new();
-    let mut line_text = Buffer::new();
+    let mut place_text = Buffer::new();
     let number = number_text.format(number);
-    let line = line_text.format(line);
+    let place = place_text.format(place);
     put_pieces(
         out,
-        &[
-            b"fault ",
-            number.as_bytes(),
-            b" line ",
-            line.as_bytes(),
-            b"\n",
-        ],
+        &[b"fault ", number.as_bytes(), kind, place.as_bytes(), b"\n"],
     )
 }
 
-/// Writes the number and the line of a fault.
-fn say_fault<W: Sink>(out: &mut W, number: u32, line: usize) -> Result<(), SinkFailed>
+/// Writes the number and the place of a fault.
+fn say_fault<W: Sink>(out: &mut W, number: u32, place: Place) -> Result<(), SinkFailed>
     requires { CanFail (W.written out.old) }
-    ensures { Writes (W.written out.old) (W.written out.new) result (fault_line number line) }
+    ensures { Writes (W.written out.old) (W.written out.new) result (fault_line number place) }
 {
-    put_fault(out, number, line)?;
-    out.flush()
+    match place {
+        Place::Line(line) => {
+            put_fault(out, number, b" line ", line)?;
+            out.flush()
+        }
+        Place::Entry(entry) => {
+            put_fault(out, number, b" entry ", entry)?;
+            out.flush()
+        }
+    }
 }
 
 /// Writes a word and a line feed.
@@ -102,10 +119,10 @@ fn fail<E: Sink>(err: &mut E, word: &[u8]) -> u8
     FAILED
 }
 
-/// Runs, and says how it went.
+/// Runs or replays, and says how it went.
 fn run_command<F: Files, O: Sink, E: Sink>(
     alloc: Global,
-    command: RunCommand<'_>,
+    command: Command<'_>,
     files: &mut F,
     out: &mut O,
     err: &mut E,
@@ -114,16 +131,16 @@ fn run_command<F: Files, O: Sink, E: Sink>(
     requires err { CanFail (E.written err.old) }
     ensures status { result ≤ 3 }
     ensures done { result ≡ 0 → AppendsRun (O.written out.old) (O.written out.new)
-        (RunsFiles (F.gives files.old) command.entry.program.now command.entry.world.now command.entry.schedule.now) }
+        (CommandWrites (F.gives files.old) command.entry) }
     ensures refused { result ≡ 1 → SaysFault (O.written out.old) (O.written out.new)
-        (RefusesFiles (F.gives files.old) command.entry.program.now command.entry.world.now command.entry.schedule.now) }
+        (CommandEarns (F.gives files.old) command.entry) }
     ensures never { result ≢ 2 }
     ensures failed { result ≡ 3 → SaysFailure (E.written err.old) (E.written err.new) }
     ensures silent { result ≤ 1 → E.written err.new ≡ E.written err.old }
 {
     match run_files(alloc, command, files, out) {
         Ok(()) => DONE,
-        Err(RunError::Fault(number, line)) => match say_fault(out, number, line) {
+        Err(RunError::Fault(number, place)) => match say_fault(out, number, place) {
             Ok(()) => REFUSED,
             Err(_) => fail(err, b"writer"),
         },
@@ -188,10 +205,11 @@ pub fn serve<S: AsStr, F: Files, O: Sink, E: Sink>(
     requires out { CanFail (O.written out.old) }
     requires err { CanFail (E.written err.old) }
     ensures status { result ≤ 3 }
-    // What is written is a run's report and journal, of files that were read, or the help that was asked for.
-    ensures done { result ≡ 0 → AppendsRun (O.written out.old) (O.written out.new) (RunsSomeFiles (F.gives files.old))
+    // What is written is the report and the journal of a run or a replay, of files that were read, or the help that was
+    // asked for.
+    ensures done { result ≡ 0 → AppendsRun (O.written out.old) (O.written out.new) (SomeCommandWrites (F.gives files.old))
         ⊎ IsTrue (asks_for_help S.text words.now) }
-    ensures refused { result ≡ 1 → SaysFault (O.written out.old) (O.written out.new) (RefusesSomeFiles (F.gives files.old)) }
+    ensures refused { result ≡ 1 → SaysFault (O.written out.old) (O.written out.new) (SomeCommandEarns (F.gives files.old)) }
     ensures command_line { result ≡ 2 → O.written out.new ≡ O.written out.old }
     ensures failed { result ≡ 3 → SaysFailure (E.written err.old) (E.written err.new) }
     ensures silent { result ≤ 1 → E.written err.new ≡ E.written err.old }

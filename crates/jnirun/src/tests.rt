@@ -8,12 +8,13 @@ use std::io::{ErrorKind, Write};
 use std::test::Fail;
 use world::StdSink;
 
-/// Three files, `p`, `w` and `s`; every other name fails.
+/// Three files, `p`, `w` and `o`; every other name fails.
 #[derive(Drop)]
 struct Folder<'a> {
     program: &'a [u8],
     world: &'a [u8],
-    schedule: &'a [u8],
+    /// A schedule or a journal.
+    order: &'a [u8],
 }
 
 impl Files for Folder<'_> {
@@ -24,8 +25,8 @@ impl Files for Folder<'_> {
             self.program
         } else if name == "w" {
             self.world
-        } else if name == "s" {
-            self.schedule
+        } else if name == "o" {
+            self.order
         } else {
             return Err(FileFault::File);
         };
@@ -60,9 +61,59 @@ impl Write for Narrow {
 
 const WORLD: &[u8] = b"heap 512\nclass A\nthread Java_A_f\n";
 
-const RUN: [&str; 6] = ["jnirun", "run", "p", "w", "--schedule", "s"];
+const RUN: [&str; 6] = ["jnirun", "run", "p", "w", "--schedule", "o"];
+
+const REPLAY: [&str; 5] = ["jnirun", "replay", "p", "w", "o"];
+
+const FIRST: &[u8] =
+    b"JNIEXPORT void JNICALL Java_A_f(JNIEnv *env, jclass cls)\n{\n    put_jint((jint)(2u + 3u * 4u - 1u));\n    return;\n}\n";
 
 const ZERO: &[u8] = b"JNIEXPORT jint JNICALL Java_A_f(JNIEnv *env, jclass cls) { return 0; }";
+
+const WRAPS: &[u8] =
+    b"JNIEXPORT void JNICALL Java_A_f(JNIEnv *env, jclass cls) { put_jint((jint)(4294967295u + 1u)); put_jint((jint)2147483648u); return; }";
+
+/// A worked example: its texts, and what its run writes.
+struct Worked {
+    program: &'static [u8],
+    world: &'static [u8],
+    schedule: &'static [u8],
+    written: &'static [u8],
+}
+
+/// All worked examples; the first is that of `examples/`.
+const WORKED: [Worked; 5] = [
+    Worked {
+        program: FIRST,
+        world: WORLD,
+        schedule: b"1*20\n",
+        written: b"T1 13\nT1 ended\njournal 1 1 1 1 1 1 1 1 1 1 1\n",
+    },
+    Worked {
+        program: ZERO,
+        world: WORLD,
+        schedule: b"1*9",
+        written: b"T1 ended\njournal 1 1 1\n",
+    },
+    Worked {
+        program: WRAPS,
+        world: WORLD,
+        schedule: b"1*20",
+        written: b"T1 0\nT1 -2147483648\nT1 ended\njournal 1 1 1 1 1 1 1 1 1 1\n",
+    },
+    Worked {
+        program: WRAPS,
+        world: WORLD,
+        schedule: b"1*6",
+        written: b"T1 0\nT1 running\njournal 1 1 1 1 1 1\n",
+    },
+    Worked {
+        program: ZERO,
+        world: WORLD,
+        schedule: b"",
+        written: b"T1 running\njournal\n",
+    },
+];
 
 /// What the program wrote with `room` bytes for its output: status, output, and the error's first word.
 fn served<'a>(
@@ -84,33 +135,93 @@ fn served<'a>(
     (status, out.into_inner().taken, err.into_inner().taken)
 }
 
-/// The status and the output of a run of these texts.
-fn run(rt: &impl AllocGlobal, program: &[u8], world: &[u8], schedule: &[u8]) -> (u8, Vec<u8>) {
+/// The status and the output of a command over these texts.
+fn done(
+    rt: &impl AllocGlobal,
+    words: &[&str],
+    program: &[u8],
+    world: &[u8],
+    order: &[u8],
+) -> (u8, Vec<u8>) {
     let files = Folder {
         program,
         world,
-        schedule,
+        order,
     };
-    let (status, out, _err) = served(rt, RUN.as_slice(), files, 10_000);
+    let (status, out, _err) = served(rt, words, files, 10_000);
     (status, out)
 }
 
+/// The status and the output of a run.
+fn run(rt: &impl AllocGlobal, program: &[u8], world: &[u8], schedule: &[u8]) -> (u8, Vec<u8>) {
+    done(rt, RUN.as_slice(), program, world, schedule)
+}
+
+/// The status and the output of a replay.
+fn replayed(rt: &impl AllocGlobal, program: &[u8], world: &[u8], journal: &[u8]) -> (u8, Vec<u8>) {
+    done(rt, REPLAY.as_slice(), program, world, journal)
+}
+
+/// The entries that an output ends with.
+fn journal_of(out: &[u8]) -> &[u8] {
+    let lines = out.strip_suffix(b"\n").unwrap_or(out);
+    let last = lines.rsplit(|byte| *byte == b'\n').next().unwrap_or(lines);
+    last.strip_prefix(b"journal").unwrap_or(last)
+}
+
 #[test]
-fn worked_runs(rt: HostRuntime) {
-    let (status, out) = run(&rt, ZERO, WORLD, b"1*9");
-    assert_eq!(rt; status, 0);
-    assert_eq!(rt; out.as_slice(), b"T1 ended\njournal 1 1 1\n".as_slice());
-    let wraps =
-        b"JNIEXPORT void JNICALL Java_A_f(JNIEnv *env, jclass cls) { put_jint((jint)(4294967295u + 1u)); put_jint((jint)2147483648u); return; }";
-    let (status, out) = run(&rt, wraps, WORLD, b"1*20");
-    assert_eq!(rt; status, 0);
-    assert_eq!(rt;
-        out.as_slice(),
-        b"T1 0\nT1 -2147483648\nT1 ended\njournal 1 1 1 1 1 1 1 1 1 1\n".as_slice()
-    );
-    let (status, out) = run(&rt, ZERO, WORLD, b"");
-    assert_eq!(rt; status, 0);
-    assert_eq!(rt; out.as_slice(), b"T1 running\njournal\n".as_slice());
+fn worked_examples_run_and_replay(rt: HostRuntime) {
+    for worked in &WORKED {
+        let (status, out) = run(&rt, worked.program, worked.world, worked.schedule);
+        assert_eq!(rt; status, 0);
+        assert_eq!(rt; out.as_slice(), worked.written);
+        let journal = journal_of(&out);
+        let (status, again) = replayed(&rt, worked.program, worked.world, journal);
+        assert_eq!(rt; status, 0);
+        assert_eq!(rt; again.as_slice(), worked.written);
+    }
+}
+
+#[test]
+fn refused_replays(rt: HostRuntime) {
+    let cases = [
+        // The thread has ended.
+        (
+            ZERO,
+            b"1 1 1 1".as_slice(),
+            b"fault 91 entry 4\n".as_slice(),
+        ),
+        // No step of it allocates, so none can be refused room.
+        (ZERO, b"1!".as_slice(), b"fault 91 entry 1\n".as_slice()),
+        (
+            ZERO,
+            b"1\n1 1! 1".as_slice(),
+            b"fault 91 entry 3\n".as_slice(),
+        ),
+        (ZERO, b"2".as_slice(), b"fault 82 line 1\n".as_slice()),
+        (ZERO, b"1\n9".as_slice(), b"fault 81 line 2\n".as_slice()),
+        (ZERO, b"1*3".as_slice(), b"fault 81 line 1\n".as_slice()),
+        (
+            ZERO,
+            b"journal 1".as_slice(),
+            b"fault 81 line 1\n".as_slice(),
+        ),
+        (
+            b"".as_slice(),
+            b"1!".as_slice(),
+            b"fault 82 line 3\n".as_slice(),
+        ),
+        (
+            b"/*".as_slice(),
+            b"9".as_slice(),
+            b"fault 2 line 1\n".as_slice(),
+        ),
+    ];
+    for (program, journal, written) in cases {
+        let (status, out) = replayed(&rt, program, WORLD, journal);
+        assert_eq!(rt; status, 1);
+        assert_eq!(rt; out.as_slice(), written);
+    }
 }
 
 #[test]
@@ -159,47 +270,55 @@ fn refused_worlds_and_schedules(rt: HostRuntime) {
 
 #[test]
 fn failing_writers(rt: HostRuntime) {
-    let files = Folder {
-        program: ZERO,
-        world: WORLD,
-        schedule: b"1*9",
-    };
-    let (status, out, err) = served(&rt, RUN.as_slice(), files, 12);
-    assert_eq!(rt; status, 3);
-    assert_eq!(rt; out.as_slice(), b"T1 ended\njou".as_slice());
-    assert_eq!(rt; err.as_slice(), b"writer\n".as_slice());
+    let cases = [
+        (RUN.as_slice(), b"1*9".as_slice()),
+        (REPLAY.as_slice(), b"1 1 1".as_slice()),
+    ];
+    for (words, order) in cases {
+        let files = Folder {
+            program: ZERO,
+            world: WORLD,
+            order,
+        };
+        let (status, out, err) = served(&rt, words, files, 12);
+        assert_eq!(rt; status, 3);
+        assert_eq!(rt; out.as_slice(), b"T1 ended\njou".as_slice());
+        assert_eq!(rt; err.as_slice(), b"writer\n".as_slice());
+    }
 }
 
-/// The status of a command line.
-fn status_of(rt: &impl AllocGlobal, words: &[&str]) -> u8 {
-    let files = Folder {
-        program: ZERO,
-        world: WORLD,
-        schedule: b"1",
+/// The status of a command line, whose words stand between single spaces.
+fn status_of(rt: &impl AllocGlobal, line: &str) -> Option<u8> {
+    let Ok(words) = line.split(' ').collect::<Vec<&str>>(rt.alloc()) else {
+        return None;
     };
-    served(rt, words, files, 10_000).0
+    Some(done(rt, words.as_slice(), ZERO, WORLD, b"1").0)
 }
 
-// Which word is the program, the world and the schedule is told by no clause.
+// Which word is the program, the world and the schedule or the journal is told by no clause.
 #[test]
 fn words(rt: HostRuntime) {
-    let swapped = ["jnirun", "run", "w", "p", "--schedule", "s"];
-    assert_eq!(rt; status_of(&rt, RUN.as_slice()), 0);
-    assert_eq!(rt; status_of(&rt, swapped.as_slice()), 1);
-    assert_eq!(rt;
-        status_of(&rt, ["jnirun", "run", "--schedule=s", "p", "w"].as_slice()),
-        0
-    );
-    assert_eq!(rt;
-        status_of(
-            &rt,
-            ["jnirun", "run", "p", "x", "--schedule", "s"].as_slice()
-        ),
-        3
-    );
-    assert_eq!(rt; status_of(&rt, ["jnirun", "run", "p", "w"].as_slice()), 2);
-    assert_eq!(rt; status_of(&rt, ["jnirun"].as_slice()), 2);
-    assert_eq!(rt; status_of(&rt, ["jnirun", "walk"].as_slice()), 2);
-    assert_eq!(rt; status_of(&rt, ["jnirun", "--help"].as_slice()), 0);
-    assert_eq!(rt; status_of(&rt, ["jnirun", "--version"].as_slice()), 0);
+    let cases = [
+        ("jnirun run p w --schedule o", 0),
+        ("jnirun run w p --schedule o", 1),
+        ("jnirun run --schedule=o p w", 0),
+        ("jnirun run p x --schedule o", 3),
+        ("jnirun run p w", 2),
+        ("jnirun run p w o", 2),
+        ("jnirun replay p w o", 0),
+        ("jnirun replay w p o", 1),
+        ("jnirun replay p o w", 1),
+        ("jnirun replay p w x", 3),
+        ("jnirun replay p w", 2),
+        ("jnirun replay p w o o", 2),
+        ("jnirun replay p w --schedule o", 2),
+        ("jnirun", 2),
+        ("jnirun walk", 2),
+        ("jnirun --help", 0),
+        ("jnirun replay --help", 0),
+        ("jnirun --version", 0),
+    ];
+    for (line, status) in cases {
+        assert_eq!(rt; status_of(&rt, line), Some(status), "{line}");
+    }
 }

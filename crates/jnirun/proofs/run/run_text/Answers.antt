@@ -1,12 +1,6 @@
-use Rattle.std.proofs.Common.{◌≡◌, ℕ, length, sym, ap, ◌∙◌, subst, Ok, Err, None, List}
+use Rattle.std.proofs.Common.{◌≡◌, length, ap, Ok, Err}
 use Rattle.std.proofs.lemmas.List.{length-map}
-use Rattle.syntax.specs.declared.unit.Item.{Item}
 use Rattle.syntax.specs.Views.{unit_tree}
-use Rattle.world.specs.ReadingSchedules.{schedule_of}
-use Rattle.world.specs.SceneWorld.{world_of_scene}
-use Rattle.regions.specs.Load.{first_load_fault}
-use Rattle.machine.specs.Loading.{IsLoadFault}
-use Rattle.machine.specs.Run.{IsUnstarted}
 use Rattle.jnirun.proofs.RunLemmas.{refused_program, refused_length, refused_world, refused_schedule, refused_load, ran, loads_or_fails, never_full}
 use Rattle.jnirun.proofs.run.run_text.Goals as goal
 

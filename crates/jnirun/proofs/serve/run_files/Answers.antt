@@ -1,17 +1,11 @@
-use Rattle.jnirun.specs.Serve.{Given}
-use Rattle.jnirun.proofs.FileLemmas.{runs_files}
+use Rattle.jnirun.specs.Replays.{IsReplay, AreRefusedReplays}
+use Rattle.jnirun.proofs.FileLemmas.{of_files}
 use Rattle.jnirun.proofs.serve.run_files.Goals as goal
 
-pub returns : goal.returns
-returns g c =
-    let gives = g.F.Files.gives c.args.files.now in
-    let files : Given gives c.args.command.program.now c.args.command.world.now c.args.command.schedule.now = record {
-      program = c.in_ok-program.program.items;
-      world = c.in_ok-world.world.items;
-      schedule = c.in_ok-schedule.schedule.items;
-      program_given = c.in_ok-program.ensures.content;
-      world_given = c.read.ensures.kept _ _ c.in_ok-world.ensures.content;
-      schedule_given = c.read.ensures.kept _ _ (c.read-2.ensures.kept _ _ c.in_ok-schedule.ensures.content);
-    } in
-    runs_files (g.W.Sink.written c.args.out.now) (g.W.Sink.written c.run_text.new.out) c.run_text.result gives c.args.command.program.now c.args.command.world.now c.args.command.schedule.now files
-    (rw (c.deref.ensures.value, c.deref-2.ensures.value, c.deref-3.ensures.value) at c.run_text.ensures.run)
+pub returns-in_ok-texts-in-Replay : goal.returns-in_ok-texts-in-Replay
+returns-in_ok-texts-in-Replay g c =
+    rw c.in-Replay.is (of_files (g.W.Sink.written c.args.out.now) (g.W.Sink.written c.replay_text.new.out) c.replay_text.result (g.F.Files.gives c.args.files.now)
+    c.in-Replay.program.now c.in-Replay.world.now c.in-Replay.journal.now
+    c.in_ok-texts-in-Replay.texts.program.items c.in_ok-texts-in-Replay.texts.world.items c.in_ok-texts-in-Replay.texts.order.items
+    IsReplay AreRefusedReplays c.in_ok-texts-in-Replay.ensures
+    (rw (c.deref-in-Replay.ensures.value, c.deref-in-Replay-2.ensures.value, c.deref-in-Replay-3.ensures.value) at c.replay_text.ensures.replay))

@@ -1,0 +1,84 @@
+-- What the layers answer, as what a replay does to the sink.
+use Rattle.std.proofs.Common.{◌≡◌, ℕ, List, None, Ok, Err, length, refl, sym, subst}
+use Rattle.syntax.specs.Tree.{SourceUnit}
+use Rattle.world.specs.declared.fault.ReadError.{ReadError}
+use Rattle.world.specs.declared.fault.ReadError.TheVariants as reading
+use Rattle.world.specs.Journal.{Journal, IsJournalText}
+use Rattle.world.specs.Reading.{Fails}
+use Rattle.world.specs.ReadingJournals.{journal_of}
+use Rattle.world.specs.ReadingWorlds.{scene_of_text}
+use Rattle.world.specs.Scene.{Scene}
+use Rattle.world.specs.SceneWorld.{world_of_scene}
+use Rattle.world.specs.Sink.{Written}
+use Rattle.world.specs.WorldRules.{IsWorldText}
+use Rattle.regions.specs.Load.{first_load_fault}
+use Rattle.regions.specs.Run.{Writes}
+use Rattle.replay.specs.declared.fault.ReplayFault.{ReplayFault}
+use Rattle.replay.specs.declared.fault.ReplayFault.TheVariants as replaying
+use Rattle.replay.specs.Replays.{WritesRun, IsStoppedBy, IsReplayable, IsFromOutside}
+use Rattle.jnirun.specs.declared.fault.Place.TheVariants as place
+use Rattle.jnirun.specs.declared.fault.RunError.{RunError}
+use Rattle.jnirun.specs.declared.fault.RunError.TheVariants.{Memory, File, Fault, Writer}
+use Rattle.jnirun.specs.Errors.{of_reading, of_replay}
+use Rattle.jnirun.specs.Passes.{IsRefusal}
+use Rattle.jnirun.specs.Programs.{IsProgram}
+use Rattle.jnirun.specs.Runs.{RunsTexts}
+use Rattle.jnirun.specs.Replays.{ReplayMeaning, IsReplay, AreRefusedReplays, by_program, by_world, by_journal, by_load, by_entry, IsPossible, IsReplayOrFails}
+
+-- the three texts, and what the sink had
+module _ (program world journal : List ℕ) (old : Written) where
+  abbrev pub Refuses : RunError → Type 0
+  Refuses e = RunsTexts old old (Err e) (IsReplay program world journal) (AreRefusedReplays program world journal)
+
+  pub refused_program : (e : RunError) → IsRefusal program e → Refuses e
+  refused_program Memory h = refl
+  refused_program (Fault number (place.Line line)) h = (refl, by_program number line h)
+  refused_program (Fault number (place.Entry entry)) h = absurd h
+  refused_program File h = absurd h
+  refused_program Writer h = absurd h
+
+  pub refused_world : (unit : SourceUnit) (e : ReadError) → IsProgram program unit → Fails e (scene_of_text world) → Refuses (of_reading e)
+  refused_world unit reading.Memory is h = refl
+  refused_world unit (reading.Fault fault) is h = (refl, by_world unit fault is h)
+
+  pub refused_journal : (unit : SourceUnit) (scene : Scene) (e : ReadError) → IsProgram program unit → scene_of_text world ≡ Ok scene → Fails e (journal_of journal (length scene.threads)) → Refuses (of_reading e)
+  refused_journal unit scene reading.Memory is w h = refl
+  refused_journal unit scene (reading.Fault fault) is w h = (refl, by_journal unit scene fault is w h)
+
+  -- what was read of the three texts
+  module _ (unit : SourceUnit) (scene : Scene) (entries : Journal) (is : IsProgram program unit) (w : scene_of_text world ≡ Ok scene) (j : journal_of journal (length scene.threads) ≡ Ok entries) where
+    -- the texts' meaning, where they load
+    abbrev pub meaning_of : first_load_fault unit (world_of_scene scene) ≡ None → ReplayMeaning program world journal
+    meaning_of l = record { unit = unit; of_program = is; scene = scene; of_world = w; entries = entries; of_journal = j; loads = l }
+
+    -- the replay whose text this is
+    abbrev pub is_replay : IsWorldText world (world_of_scene scene) → IsJournalText (length scene.threads) journal entries → first_load_fault unit (world_of_scene scene) ≡ None → (text : List ℕ) → Writes unit (world_of_scene scene) entries text → IsReplay program world journal text
+    is_replay of_world of_journal l text writes = record { meaning = meaning_of l; of_world = of_world; of_journal = of_journal; writes = writes }
+
+    pub replayed : (new : Written) (x : Unit {0}) → IsWorldText world (world_of_scene scene) → IsJournalText (length scene.threads) journal entries → WritesRun unit (world_of_scene scene) entries old new
+        → RunsTexts old new (Ok x) (IsReplay program world journal) (AreRefusedReplays program world journal)
+    replayed new x of_world of_journal h = record { text = h.text; runs = is_replay of_world of_journal h.fits h.text h.is; appended = h.written }
+
+    pub stopped : (new : Written) (f : ReplayFault) → IsWorldText world (world_of_scene scene) → IsJournalText (length scene.threads) journal entries → IsStoppedBy unit (world_of_scene scene) entries old new f
+        → RunsTexts old new (Err (of_replay f)) (IsReplay program world journal) (AreRefusedReplays program world journal)
+    stopped new replaying.Memory of_world of_journal h = h
+    stopped new (replaying.DoesNotFit line) of_world of_journal h = (h.1, by_load unit scene entries line is w j h.0)
+    stopped new (replaying.Impossible entry) of_world of_journal h = (h.2, by_entry (meaning_of h.0) entry h.1)
+    stopped new replaying.Writer of_world of_journal h = record { text = h.text; runs = is_replay of_world of_journal h.fits h.text h.is; stopped = h.stopped }
+
+  -- memory or the writer refused
+  pub from_outside : (f : ReplayFault) → IsFromOutside f → IsReplayOrFails (Err (of_replay f))
+  from_outside replaying.Memory h = tt
+  from_outside (replaying.DoesNotFit line) h = h
+  from_outside (replaying.Impossible entry) h = h
+  from_outside replaying.Writer h = tt
+
+  -- a possible journal can be replayed
+  pub replayable : (unit : SourceUnit) (scene : Scene) (entries : Journal) (p : IsPossible program world journal) → unit ≡ p.meaning.unit → scene_of_text world ≡ Ok scene → journal_of journal (length scene.threads) ≡ Ok entries → IsReplayable unit (world_of_scene scene) entries
+  replayable unit scene entries p same w j =
+      let here : p.meaning.scene ≡ scene = cc (p.meaning.of_world, w) in
+      let read : journal_of journal (length scene.threads) ≡ Ok p.meaning.entries = subst (λ (s : Scene). journal_of journal (length s.threads) ≡ Ok p.meaning.entries) here p.meaning.of_journal in
+      let those : p.meaning.entries ≡ entries = cc (read, j) in
+      let on_unit : IsReplayable unit (world_of_scene p.meaning.scene) p.meaning.entries = subst (λ (u : SourceUnit). IsReplayable u (world_of_scene p.meaning.scene) p.meaning.entries) (sym same) (record { fits = p.meaning.loads; defined = p.replays }) in
+      let on_world : IsReplayable unit (world_of_scene scene) p.meaning.entries = subst (λ (s : Scene). IsReplayable unit (world_of_scene s) p.meaning.entries) here on_unit in
+      subst (λ (e : Journal). IsReplayable unit (world_of_scene scene) e) those on_world

@@ -1,0 +1,60 @@
+-- What a program, a world and a journal mean together, which fault others earn, and what a replay of them writes.
+use Rattle.std.specs.Prelude.{◌≡◌, ℕ, List, length, Some, None, IsSome, Result, Ok, Err}
+use Rattle.syntax.specs.Tree.{SourceUnit}
+use Rattle.world.specs.declared.fault.TextFault.{TextFault}
+use Rattle.world.specs.Journal.{Journal, IsJournalText}
+use Rattle.world.specs.ReadingJournals.{journal_of}
+use Rattle.world.specs.ReadingWorlds.{scene_of_text}
+use Rattle.world.specs.Rule.{rule_number}
+use Rattle.world.specs.Scene.{Scene}
+use Rattle.world.specs.SceneWorld.{world_of_scene}
+use Rattle.world.specs.WorldRules.{IsWorldText}
+use Rattle.regions.specs.Load.{first_load_fault}
+use Rattle.regions.specs.Run.{Writes, replay}
+use Rattle.replay.specs.Replays.{IsFirstImpossible}
+use Rattle.jnirun.specs.Programs.{IsProgram, IsRefusedProgram}
+use Rattle.jnirun.specs.declared.fault.Place.{Place}
+use Rattle.jnirun.specs.declared.fault.Place.TheVariants.{Line, Entry}
+use Rattle.jnirun.specs.declared.fault.RunError.{RunError}
+use Rattle.jnirun.specs.declared.fault.RunError.TheVariants.{Memory, File, Fault, Writer}
+
+-- the unit, the world and the journal of three texts, which go with each other
+pub record ReplayMeaning (program world journal : List ℕ) : Type 0 where
+  pub unit : SourceUnit
+  pub of_program : IsProgram program unit
+  pub scene : Scene
+  pub of_world : scene_of_text world ≡ Ok scene
+  pub entries : Journal
+  pub of_journal : journal_of journal (length scene.threads) ≡ Ok entries
+  pub loads : first_load_fault unit (world_of_scene scene) ≡ None
+
+-- The text is the report of the source run that the journal names, on a heap where objects have names and never move, and
+-- then that journal.
+pub record IsReplay (program world journal text : List ℕ) : Type 0 where
+  pub meaning : ReplayMeaning program world journal
+  pub of_world : IsWorldText world (world_of_scene meaning.scene)
+  pub of_journal : IsJournalText (length meaning.scene.threads) journal meaning.entries
+  pub writes : Writes meaning.unit (world_of_scene meaning.scene) meaning.entries text
+
+-- The texts are read in their order and loaded, and then each entry is taken. This number and place are those of the first
+-- that is refused.
+pub data AreRefusedReplays (program world journal : List ℕ) : (number : ℕ) → Place → Type 0 where
+  by_program : (number line : ℕ) → IsRefusedProgram program number line → AreRefusedReplays program world journal number (Line line)
+  by_world : (unit : SourceUnit) (fault : TextFault) → IsProgram program unit → scene_of_text world ≡ Err fault → AreRefusedReplays program world journal (rule_number fault.rule) (Line fault.line)
+  by_journal : (unit : SourceUnit) (scene : Scene) (fault : TextFault) → IsProgram program unit → scene_of_text world ≡ Ok scene → journal_of journal (length scene.threads) ≡ Err fault → AreRefusedReplays program world journal (rule_number fault.rule) (Line fault.line)
+  by_load : (unit : SourceUnit) (scene : Scene) (entries : Journal) (line : ℕ) → IsProgram program unit → scene_of_text world ≡ Ok scene → journal_of journal (length scene.threads) ≡ Ok entries → first_load_fault unit (world_of_scene scene) ≡ Some line → AreRefusedReplays program world journal 82 (Line line)
+  -- an entry isn't possible where the entries before it have led
+  by_entry : (meaning : ReplayMeaning program world journal) (entry : ℕ) → IsFirstImpossible meaning.unit (world_of_scene meaning.scene) meaning.entries entry → AreRefusedReplays program world journal 91 (Entry entry)
+
+-- each entry of the journal is possible where the entries before it have led
+pub record IsPossible (program world journal : List ℕ) : Type 0 where
+  pub meaning : ReplayMeaning program world journal
+  pub replays : IsSome (replay meaning.unit (world_of_scene meaning.scene) meaning.entries)
+
+-- Texts whose journal is possible are refused for want of memory alone, or by the writer.
+abbrev pub IsReplayOrFails : Result Unit RunError → Type 0
+IsReplayOrFails (Ok _) = Unit {0}
+IsReplayOrFails (Err Memory) = Unit {0}
+IsReplayOrFails (Err (Fault number place)) = ⊥
+IsReplayOrFails (Err File) = ⊥
+IsReplayOrFails (Err Writer) = Unit {0}
