@@ -203,6 +203,10 @@ call_again room c ls rest h is =
     let f = expect_again (fixed.Mark marks.CloseParen) [] parts.0 rest parts.2 in
     rw (a.1, n, b.1, d.1, add-one (length d.0), e, f.1) (ap (call_read c) f.2)
 
+-- what stands behind the first two tokens of a call
+abbrev call_behind : Call → List Spelled
+call_behind c = word words.Env ∷ mark marks.CloseParen ∷ mark marks.Arrow ∷ Anywhere (Name' c.function) ∷ mark marks.OpenParen ∷ word words.Env ∷ (argument_tokens c.arguments ++ mark marks.CloseParen ∷ [])
+
 call_starts : (es : List Spelled) (ls rest : List Lexed) → Begins (mark marks.OpenParen ∷ mark marks.Star ∷ es) ls rest → starts_call ls ≡ true
 call_starts es ls rest h =
     let s = first_is (Fixed' (fixed.Mark marks.OpenParen)) (mark marks.Star ∷ es) ls rest (fixed.Mark marks.OpenParen) h in
@@ -212,4 +216,4 @@ call_starts es ls rest h =
 pub right_again : (room : ℕ) (r : RightSide) (ls rest : List Lexed) → Begins (right r) ls rest → IsRight room r → operator_at rest ≡ None → right_at room ls ≡ Ok (r, rest)
 unfolding right_at
 right_again room (FromExpr e) ls rest h is none = rw (no_call 0 e is.levelled ls rest h, expr_reads_again room ls rest e h is none) refl
-right_again room (FromCall c) ls rest h is none = rw (call_starts _ ls rest h, call_again room c ls rest h is) refl
+right_again room (FromCall c) ls rest h is none = rw (call_starts (call_behind c) ls rest h, call_again room c ls rest h is) refl
