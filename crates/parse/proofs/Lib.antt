@@ -6,6 +6,7 @@ pub mod Levels
 pub mod Climbing
 pub mod Lines
 pub mod JniCalls
+pub mod Commas
 pub mod Sentences
 pub mod Blocks
 pub mod Programs

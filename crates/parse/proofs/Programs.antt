@@ -64,7 +64,7 @@ head_takes ls rest h =
 
 found_ok : {A : Type 0} (o : Option A) (ls : List Lexed) (x : A × List Lexed) → found o ls ≡ Ok x → (o ≡ Some x.0) × (behind ls ≡ x.1)
 found_ok None ls x e = absurd cc
-found_ok (Some y) ls x e =
+found_ok {A = A} (Some y) ls x e =
     let same : (y, behind ls) ≡ x = ok_is (y, behind ls) x e in
     (ap (λ (p : A × List Lexed). Some p.0) same, ap (λ (p : A × List Lexed). p.1) same)
 
