@@ -22,7 +22,7 @@ abbrev interface_tokens : List Spelled
 interface_tokens = mark marks.OpenParen ∷ mark marks.Star ∷ word words.Env ∷ mark marks.CloseParen ∷ mark marks.Arrow ∷ []
 
 -- arguments, each with the comma before it
-abbrev argument_tokens : List Argument → List Spelled
+abbrev pub argument_tokens : List Argument → List Spelled
 argument_tokens arguments = flat_map (λ a. mark marks.Comma ∷ argument a) arguments
 
 -- ---- what is read is spelled so

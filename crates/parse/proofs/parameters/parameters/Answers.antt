@@ -16,7 +16,7 @@ returns-then-len-eq-NAMES-clause-gives c = rw c.fault_at.ensures (parameters_man
 
 pub returns-in_err-parameter-clause-gives : goal.returns-in_err-parameter-clause-gives
 returns-in_err-parameter-clause-gives c =
-    let p = err_from_is_err_and c.from_residual-in_err-parameter.result c.from_residual-in_err-parameter.ensures.1 in
+    let p = err_from_is_err_and c.from_residual.result c.from_residual.ensures.1 in
     let h : Fails c.in_err-parameter.field-0.0 (parameter_at (behind (views c.parameters.rest.now))) = rw (sym c.behind.ensures) c.in_err-parameter.ensures in
     rw (p.1, p.2) (parameters_fail (map parameter_tree c.parameters.parameters.items) (views c.parameters.rest.now) (parameters_at 255 (views c.args.lexemes.now)) c.parameters.invariant c.in_err-parameter.field-0.0 (sym c.starts_with.ensures ∙ c.parameters-test.true) (λ n. omega (arith, n, length-map c.parameters.parameters.items parameter_tree, c.parameters.parameters.ok.0, c.len.ensures, c.if-len-eq-NAMES.false)) h)
 

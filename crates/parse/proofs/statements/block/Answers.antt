@@ -22,14 +22,14 @@ returns-in_err-stmt c =
 pub overflow_sub-free : goal.overflow_sub-free
 overflow_sub-free c =
     let few = (statement_takes c.args.room c.statements.free (views c.statements.rest.now) (stmt_tree c.in_ok-stmt.stmt, views c.in_ok-stmt.after.now) c.in_ok-stmt.ensures).few in
-    omega (arith, few, c.names_of.ensures)
+    omega (arith, few, c.names_of-free.ensures)
 
 pub statements-smaller : goal.statements-smaller
 statements-smaller c = (statement_takes c.args.room c.statements.free (views c.statements.rest.now) (stmt_tree c.in_ok-stmt.stmt, views c.in_ok-stmt.after.now) c.in_ok-stmt.ensures).shorter
 
 pub statements-preserved : goal.statements-preserved
 statements-preserved c =
-    rw c.in_ok-push.ensures.items (fills_on c.args.room c.statements.free c.statements.statements.items c.statements.returned (views c.statements.rest.now) (block_at c.args.room c.args.names (length (views c.args.lexemes.now) + 1) false (views c.args.lexemes.now)) c.statements.invariant c.in_ok-stmt.stmt (c.statements.free - c.names_of.result) c.is_return-returned.result (views c.in_ok-stmt.after.now) (sym c.starts_with.ensures ∙ c.statements-test.true) c.if-returned.false c.in_ok-stmt.ensures (ap (λ n. c.statements.free - n) c.names_of.ensures) c.is_return-returned.ensures)
+    rw c.in_ok-push.ensures.items (fills_on c.args.room c.statements.free c.statements.statements.items c.statements.returned (views c.statements.rest.now) (block_at c.args.room c.args.names (length (views c.args.lexemes.now) + 1) false (views c.args.lexemes.now)) c.statements.invariant c.in_ok-stmt.stmt (c.statements.free - c.names_of-free.result) c.is_return-returned.result (views c.in_ok-stmt.after.now) (sym c.starts_with.ensures ∙ c.statements-test.true) c.if-returned.false c.in_ok-stmt.ensures (ap (λ n. c.statements.free - n) c.names_of-free.ensures) c.is_return-returned.ensures)
 
 pub returns : goal.returns
 returns c =
