@@ -12,7 +12,7 @@ use Rattle.parse.specs.declared.words.Word.TheVariants as words
 use Rattle.parse.specs.declared.lexemes.Fixed.{Fixed}
 use Rattle.parse.specs.declared.lexemes.Fixed.TheVariants as fixed
 use Rattle.parse.specs.Meaning.{Meaning, Fixed', Name'}
-use Rattle.parse.specs.Lexemes.{Lexed, same_word, line_at, expect, name_at}
+use Rattle.parse.specs.Lexemes.{Lexed, same_word, expect}
 use Rattle.parse.specs.Built.{is_built_variable, is_built_result}
 use Rattle.parse.specs.Spelling.{Spelled, Anywhere, OnLine, mark, word, variable_word, parameter_word, expression, right, setting, statement, inside, result_word, parameter, function, item}
 use Rattle.parse.specs.Reading.{starts_with, behind, parameter_at, parameters_at, result_at, head_at, body_at, function_at, items_at, put_at, return_at, setting_at, declared_at, statement_at, is_return, names_of, block_at}

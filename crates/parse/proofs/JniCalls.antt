@@ -3,7 +3,6 @@ use Rattle.std.proofs.Common.{◌≡◌, ℕ, zero, suc, ◌+◌, ◌<◌, ◌�
 use Rattle.std.specs.Prelude.{flat_map}
 use Rattle.scan.specs.declared.token.Mark.TheVariants as marks
 use Rattle.syntax.specs.Tree.{Argument, Value, Text, AddressOf, Call, RightSide, FromExpr, FromCall}
-use Rattle.syntax.specs.Limits.{height}
 use Rattle.parse.specs.declared.fault.ParseFault.{ParseFault}
 use Rattle.parse.specs.declared.words.Word.TheVariants as words
 use Rattle.parse.specs.declared.lexemes.Fixed.TheVariants as fixed
@@ -11,7 +10,7 @@ use Rattle.parse.specs.Results.{◌>>=◌}
 use Rattle.parse.specs.Meaning.{Fixed', Name'}
 use Rattle.parse.specs.Lexemes.{Lexed, expect, name_at}
 use Rattle.parse.specs.Spelling.{Spelled, Anywhere, mark, word, argument, call, right}
-use Rattle.parse.specs.Reading.{ReadExpr, starts_with, behind, operator_at, expr_at, interface_at, argument_at, arguments_at, call_at, starts_call, right_at}
+use Rattle.parse.specs.Reading.{starts_with, behind, operator_at, expr_at, interface_at, argument_at, arguments_at, call_at, starts_call, right_at}
 use Rattle.parse.proofs.Forms.{IsArgument, AreArguments, IsRight}
 use Rattle.parse.proofs.Singles.{Begins, bind_ok, ok_is, chosen, begins_append, begins_split, begins_length, shortens, first_takes, first_rest, first_is, starts_takes, expect_takes, expect_again, then_takes, name_takes, name_again}
 use Rattle.parse.proofs.Table.{operator_first}

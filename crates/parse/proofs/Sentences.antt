@@ -15,7 +15,7 @@ use Rattle.parse.specs.Results.{◌>>=◌}
 use Rattle.parse.specs.Meaning.{Fixed', Name'}
 use Rattle.parse.specs.Lexemes.{Lexed, line_at, expect, name_at}
 use Rattle.parse.specs.Spelling.{Spelled, Anywhere, OnLine, mark, variable_word, expression, right, setting, statement, inside}
-use Rattle.parse.specs.Reading.{ReadExpr, starts_with, behind, expr_at, variable_type_at, right_at, put_at, return_at, setting_at, declared_at, statement_at, is_return, names_of, block_at}
+use Rattle.parse.specs.Reading.{starts_with, behind, expr_at, variable_type_at, right_at, put_at, return_at, setting_at, declared_at, statement_at, is_return, names_of, block_at}
 use Rattle.parse.proofs.Forms.{IsExpr, IsRight, IsForm, MayFollow, IsBlock}
 use Rattle.parse.proofs.Singles.{Begins, bind_ok, ok_is, chosen, begins_append, starts_takes, expect_takes, then_takes, name_takes, shortens, on_takes}
 use Rattle.parse.proofs.TypeWords.{variable_type_takes, variable_type_built}

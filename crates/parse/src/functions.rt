@@ -56,11 +56,7 @@ fn head(lexemes: &[Lexeme]) -> Result<&[Lexeme], ParseFault>
 
 /// A function's block, with what closes its parameters, where so many more names may be declared.
 #[tactic(auto, unfolding(crate::specs::Reading::body_at))]
-fn body(
-    alloc: Global,
-    free: usize,
-    lexemes: &[Lexeme],
-) -> Result<(Block, &[Lexeme]), ParseFault>
+fn body(alloc: Global, free: usize, lexemes: &[Lexeme]) -> Result<(Block, &[Lexeme]), ParseFault>
     ensures { Gives (λ x. (block_tree x.0, views x.1.now)) result (body_at free (views lexemes.now)) }
 {
     let rest = expect(Fixed::Mark(Mark::CloseParen), lexemes)?;

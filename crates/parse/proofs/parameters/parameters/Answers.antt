@@ -1,6 +1,6 @@
-use Rattle.std.proofs.Common.{◌≡◌, ◌+◌, length, map, Ok, sym, ◌∙◌, arith}
+use Rattle.std.proofs.Common.{◌≡◌, map, Ok, sym, ◌∙◌, arith}
 use Rattle.std.proofs.lemmas.Result.{err_from_is_err_and}
-use Rattle.std.proofs.lemmas.List.{map_push, length-map, length-append}
+use Rattle.std.proofs.lemmas.List.{map_push, length-map}
 use Rattle.parse.specs.Results.{Fails}
 use Rattle.parse.specs.Lexemes.{views}
 use Rattle.syntax.specs.Views.{parameter_tree}
