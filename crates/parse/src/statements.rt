@@ -94,10 +94,12 @@ fn declared(
     if free == 0 {
         return Err(fault_at(Fault::TooMany, lexemes));
     }
-    let line = line_at(lexemes);
     let (name, right, rest) = setting(alloc, room, behind(lexemes))?;
-    let form = Form::Declare(kind, name, right);
-    Ok((Stmt { line, form }, rest))
+    let stmt = Stmt {
+        line: line_at(lexemes),
+        form: Form::Declare(kind, name, right),
+    };
+    Ok((stmt, rest))
 }
 
 /// A statement, where so many more names may be declared.

@@ -125,14 +125,42 @@ fn statements(rt: HostRuntime) {
         ),
         (0, 1)
     );
-    for body in "jint n = 1;/jint n = NULL;/jint n = n;/jint n = (NULL);/jint n = (jint)(m + 1u);/jint n = (*env)->F(env);/jint n = (*env)->F(env, NULL, a + b, (c));/put_jint(NULL);/return NULL;/return (a);".split(
-        '/',
-    ) {
+    for body in [
+        "jint n = 1;",
+        "jint n = NULL;",
+        "jint n = n;",
+        "jint n = (NULL);",
+        "jint n = (jint)(m + 1u);",
+        "jint n = (*env)->F(env);",
+        "jint n = (*env)->F(env, NULL, a + b, (c));",
+        "put_jint(NULL);",
+        "return NULL;",
+        "return (a);",
+    ] {
         assert_eq!(rt; outcome_of(&rt, "", body), (0, 1));
     }
-    for body in "jint n\n;/jint\n= 1;/jint\nenv = 1;/\nn = 1;/jint n =\n;/jint n = (*env)\n+ 1;/jint n = (*\nx)->F(env);/jint n = (*env)->\nenv(env);/jint n = (*env)->F(\n);/jint n = (*env)->F(env\na);/jint n = (*env)->F(env,\n);/jint n = (*env)->F(env,\n\"t\");/jint n = (*env)->F(env,\n&a);/put_jint((\n*env)->F(env));/jint n = ((\n*env)->F(env));/jint n = 1 + (\n*env)->F(env);/jint n = (*env)->F(env)\n+ 1;/put_jint(\nJNI_TRUE);/put_jint(a\n[0]);/return;\njint n = 1;".split(
-        '/',
-    ) {
+    for body in [
+        "jint n\n;",
+        "jint\n= 1;",
+        "jint\nenv = 1;",
+        "\nn = 1;",
+        "jint n =\n;",
+        "jint n = (*env)\n+ 1;",
+        "jint n = (*\nx)->F(env);",
+        "jint n = (*env)->\nenv(env);",
+        "jint n = (*env)->F(\n);",
+        "jint n = (*env)->F(env\na);",
+        "jint n = (*env)->F(env,\n);",
+        "jint n = (*env)->F(env,\n\"t\");",
+        "jint n = (*env)->F(env,\n&a);",
+        "put_jint((\n*env)->F(env));",
+        "jint n = ((\n*env)->F(env));",
+        "jint n = 1 + (\n*env)->F(env);",
+        "jint n = (*env)->F(env)\n+ 1;",
+        "put_jint(\nJNI_TRUE);",
+        "put_jint(a\n[0]);",
+        "return;\njint n = 1;",
+    ] {
         assert_eq!(rt; outcome_of(&rt, "", body), (11, 2));
     }
 }
