@@ -1,35 +1,32 @@
 -- What is spelled so is read: statements, blocks, functions and units.
-use Rattle.std.proofs.Common.{◌≡◌, ℕ, zero, suc, ◌+◌, ◌<◌, ◌≤◌, Bool, true, false, List, [], ◌∷◌, ◌++◌, length, Result, Ok, refl, ap, ◌∙◌, arith, add-one}
+use Rattle.std.proofs.Common.{◌≡◌, ℕ, zero, suc, ◌+◌, ◌-◌, ◌<◌, ◌≤◌, Bool, true, false, List, [], ◌∷◌, ◌++◌, length, Some, Result, Ok, refl, ap, ◌∙◌, arith, add-one}
 use Rattle.std.specs.Prelude.{IsTrue, flat_map}
 use Rattle.std.proofs.lemmas.Bool.{ne_eqb}
 use Rattle.scan.specs.declared.token.Mark.TheVariants as marks
-use Rattle.syntax.specs.Tree.{Expr, Stmt, Declare, DeclareBuffer, DeclareChars, DeclareArray, Assign, AssignElement, Perform, PutJint, If, IfElse, While, Return, ReturnValue, Block, End, Next, ResultType, Void, IntResult, ReferenceResult, Parameter, Function, Item, StaticItem, FunctionItem}
+use Rattle.base.specs.Bytes.{Identifier}
+use Rattle.syntax.specs.Tree.{VariableType, UInt32, JIntVariable, JSize, JBoolean, JFieldId, ReferenceVariable, Expr, RightSide, Stmt, Declare, DeclareBuffer, DeclareChars, DeclareArray, Assign, AssignElement, Perform, PutJint, If, IfElse, While, Return, ReturnValue, Block, End, Next, ResultType, Void, IntResult, ReferenceResult, Parameter, Function, Item, StaticItem, FunctionItem}
+use Rattle.syntax.specs.Parts.{statements_within, statements_of, names_declared}
 use Rattle.parse.specs.declared.fault.ParseFault.{ParseFault}
+use Rattle.parse.specs.declared.words.Word.{Word}
 use Rattle.parse.specs.declared.words.Word.TheVariants as words
 use Rattle.parse.specs.declared.lexemes.Fixed.{Fixed}
 use Rattle.parse.specs.declared.lexemes.Fixed.TheVariants as fixed
 use Rattle.parse.specs.Meaning.{Meaning, Fixed', Name'}
-use Rattle.parse.specs.Lexemes.{Lexed, is_fixed_meaning, line_at, expect, name_at}
-use Rattle.parse.specs.Built.{is_built_result, are_built_parameters}
-use Rattle.parse.specs.Spelling.{Spelled, Anywhere, OnLine, mark, word, expression, statement, inside, result_word, function, item}
-use Rattle.parse.specs.Reading.{starts_with, behind, result_at, head_at, body_at, function_at, items_at, put_at, return_at, statement_at, is_return, block_at}
-use Rattle.parse.proofs.Forms.{IsExpr, IsForm, MayFollow, IsBlock, IsFunction, AreItems}
-use Rattle.parse.proofs.Singles.{Begins, same_itself, begins_split, first_rest, first_is, expect_again}
+use Rattle.parse.specs.Lexemes.{Lexed, same_word, expect}
+use Rattle.parse.specs.Built.{is_built_variable, is_built_result}
+use Rattle.parse.specs.Spelling.{Spelled, Anywhere, OnLine, mark, word, variable_word, parameter_word, expression, right, setting, statement, inside, result_word, parameter, function, item}
+use Rattle.parse.specs.Reading.{starts_with, behind, parameter_at, parameters_at, result_at, head_at, body_at, function_at, items_at, put_at, return_at, setting_at, declared_at, statement_at, is_return, names_of, block_at}
+use Rattle.parse.proofs.Forms.{IsExpr, IsRight, IsForm, MayFollow, IsBlock, IsFunction, AreItems}
+use Rattle.parse.proofs.Singles.{Begins, same_itself, begins_split, begins_length, first_rest, first_is, expect_again, name_again, on_is, on_line_is}
 use Rattle.parse.proofs.Table.{operator_first}
-use Rattle.parse.proofs.Levels.{no_first}
-use Rattle.parse.proofs.Sentences.{expr_reads_again, begins_length}
+use Rattle.parse.proofs.TypeWords.{parameter_type_again, variable_type_again}
+use Rattle.parse.proofs.Levels.{no_first, no_first_mark, expr_reads_again}
+use Rattle.parse.proofs.JniCalls.{right_again}
+use Rattle.parse.proofs.Sentences.{names_split}
 use Rattle.parse.proofs.Programs.{parameters_head}
 
 abbrev statement_read : Stmt → List Lexed → Result (Stmt × List Lexed) ParseFault
 statement_read s ls = Ok (s, ls)
-
-on_is : (line : ℕ) (m : Meaning) (es : List Spelled) (ls rest : List Lexed) (f : Fixed) → Begins (OnLine line m ∷ es) ls rest → starts_with f ls ≡ is_fixed_meaning m f
-on_is line m es [] rest f h = absurd h
-on_is line m es (l ∷ ls) rest f h = ap (λ (x : Meaning). is_fixed_meaning x f) h.0.0
-
-on_line_is : (line : ℕ) (m : Meaning) (es : List Spelled) (ls rest : List Lexed) → Begins (OnLine line m ∷ es) ls rest → line_at ls ≡ line
-on_line_is line m es [] rest h = absurd h
-on_line_is line m es (l ∷ ls) rest h = h.0.1
 
 put_again : (room line : ℕ) (e : Expr) (ls rest : List Lexed) → Begins (mark marks.OpenParen ∷ (expression e ++ (mark marks.CloseParen ∷ mark marks.Semicolon ∷ []))) ls rest → IsExpr room e → put_at room line ls ≡ Ok (PutJint line e, rest)
 unfolding put_at
@@ -52,20 +49,54 @@ value_again : (room line : ℕ) (e : Expr) (ls rest : List Lexed) → Begins (ex
 unfolding return_at
 value_again room line e ls rest h is =
     let parts = begins_split (expression e) (mark marks.Semicolon ∷ []) ls rest h in
-    let s = no_first (fixed.Mark marks.Semicolon) refl refl 0 e is.levelled ls parts.0 parts.1 in
+    let s = no_first (fixed.Mark marks.Semicolon) (no_first_mark marks.Semicolon refl refl) 0 e is.levelled ls parts.0 parts.1 in
     let d = expr_reads_again room ls parts.0 e parts.1 is (operator_first (Fixed' (fixed.Mark marks.Semicolon)) [] parts.0 rest parts.2) in
     let c = expect_again (fixed.Mark marks.Semicolon) [] parts.0 rest parts.2 in
     rw (s, d, c.1) (ap (statement_read (ReturnValue line e)) c.2)
 
+abbrev setting_read : Identifier → RightSide → List Lexed → Result (Identifier × RightSide × List Lexed) ParseFault
+setting_read x r ls = Ok (x, r, ls)
+
+setting_again : (room : ℕ) (x : Identifier) (r : RightSide) (ls rest : List Lexed) → Begins (setting x r) ls rest → IsRight room r → setting_at room ls ≡ Ok (x, r, rest)
+unfolding setting_at
+setting_again room x r ls rest h is =
+    let closing : List Spelled = mark marks.Semicolon ∷ [] in
+    let n = name_again x (mark marks.Assign ∷ (right r ++ closing)) ls rest h in
+    let a = expect_again (fixed.Mark marks.Assign) (right r ++ closing) (behind ls) rest (first_rest (Anywhere (Name' x)) (mark marks.Assign ∷ (right r ++ closing)) ls rest h) in
+    let parts = begins_split (right r) closing a.0 rest a.2 in
+    let d = right_again room r a.0 parts.0 parts.1 is (operator_first (Fixed' (fixed.Mark marks.Semicolon)) [] parts.0 rest parts.2) in
+    let c = expect_again (fixed.Mark marks.Semicolon) [] parts.0 rest parts.2 in
+    rw (n, a.1, d, c.1) (ap (setting_read x r) c.2)
+
+declared_again : (room free line : ℕ) (t : VariableType) (x : Identifier) (r : RightSide) (ls rest : List Lexed) → Begins (statement (Declare line t x r)) ls rest → IsRight room r → 1 ≤ free → declared_at room free (Some t) ls ≡ Ok (Declare line t x r, rest)
+unfolding declared_at
+declared_again room free line t x r ls rest h is few =
+    let first : Spelled = OnLine line (Fixed' (fixed.Word (variable_word t))) in
+    let l = on_line_is line (Fixed' (fixed.Word (variable_word t))) (setting x r) ls rest h in
+    rw (ne_eqb free 0 (omega (arith, few)), l, setting_again room x r (behind ls) rest (first_rest first (setting x r) ls rest h) is) refl
+
+-- no type of a variable is one of these words
+record IsNoStatement (w : Word) : Type 0 where
+  put : same_word w words.PutJint ≡ false
+  return : same_word w words.Return ≡ false
+
+no_statement : (t : VariableType) → IsTrue (is_built_variable t) → IsNoStatement (variable_word t)
+no_statement UInt32 built = absurd cc
+no_statement JIntVariable built = record { put = refl; return = refl }
+no_statement JSize built = absurd cc
+no_statement JBoolean built = absurd cc
+no_statement JFieldId built = absurd cc
+no_statement (ReferenceVariable r) built = absurd cc
+
 -- a statement is read, does not begin with a closing brace, and has a token
-record StmtAgain (room : ℕ) (s : Stmt) (ls rest : List Lexed) : Type 0 where
-  read : statement_at room ls ≡ Ok (s, rest)
+record StmtAgain (room free : ℕ) (s : Stmt) (ls rest : List Lexed) : Type 0 where
+  read : statement_at room free ls ≡ Ok (s, rest)
   no_brace : starts_with (fixed.Mark marks.CloseBrace) ls ≡ false
   shorter : length rest < length ls
 
-statement_again : (room : ℕ) (s : Stmt) (ls rest : List Lexed) → Begins (statement s) ls rest → IsForm room s → StmtAgain room s ls rest
+statement_again : (room free : ℕ) (s : Stmt) (ls rest : List Lexed) → Begins (statement s) ls rest → IsForm room s → names_of s ≤ free → StmtAgain room free s ls rest
 unfolding statement_at
-statement_again room (PutJint line e) ls rest h is =
+statement_again room free (PutJint line e) ls rest h is few =
     let es : List Spelled = mark marks.OpenParen ∷ (expression e ++ (mark marks.CloseParen ∷ mark marks.Semicolon ∷ [])) in
     let first : Spelled = OnLine line (Fixed' (fixed.Word words.PutJint)) in
     let s = on_is line (Fixed' (fixed.Word words.PutJint)) es ls rest (fixed.Word words.PutJint) h in
@@ -75,7 +106,7 @@ statement_again room (PutJint line e) ls rest h is =
       no_brace = on_is line (Fixed' (fixed.Word words.PutJint)) es ls rest (fixed.Mark marks.CloseBrace) h;
       shorter = omega (arith, p);
     }
-statement_again room (Return line) ls rest h is =
+statement_again room free (Return line) ls rest h is few =
     let es : List Spelled = mark marks.Semicolon ∷ [] in
     let first : Spelled = OnLine line (Fixed' (fixed.Word words.Return)) in
     let s = on_is line (Fixed' (fixed.Word words.Return)) es ls rest (fixed.Word words.PutJint) h in
@@ -86,7 +117,7 @@ statement_again room (Return line) ls rest h is =
       no_brace = on_is line (Fixed' (fixed.Word words.Return)) es ls rest (fixed.Mark marks.CloseBrace) h;
       shorter = omega (arith, p);
     }
-statement_again room (ReturnValue line e) ls rest h is =
+statement_again room free (ReturnValue line e) ls rest h is few =
     let es : List Spelled = expression e ++ mark marks.Semicolon ∷ [] in
     let first : Spelled = OnLine line (Fixed' (fixed.Word words.Return)) in
     let s = on_is line (Fixed' (fixed.Word words.Return)) es ls rest (fixed.Word words.PutJint) h in
@@ -97,34 +128,47 @@ statement_again room (ReturnValue line e) ls rest h is =
       no_brace = on_is line (Fixed' (fixed.Word words.Return)) es ls rest (fixed.Mark marks.CloseBrace) h;
       shorter = omega (arith, p);
     }
-statement_again room (Declare line t x r) ls rest h is = absurd is
-statement_again room (DeclareBuffer line t x r) ls rest h is = absurd is
-statement_again room (DeclareChars line x r) ls rest h is = absurd is
-statement_again room (DeclareArray line t x size) ls rest h is = absurd is
-statement_again room (Assign line x r) ls rest h is = absurd is
-statement_again room (AssignElement line x i e) ls rest h is = absurd is
-statement_again room (Perform line c) ls rest h is = absurd is
-statement_again room (If line test b) ls rest h is = absurd is
-statement_again room (IfElse line test b d) ls rest h is = absurd is
-statement_again room (While line test b) ls rest h is = absurd is
+statement_again room free (Declare line t x r) ls rest h is few =
+    let m : Meaning = Fixed' (fixed.Word (variable_word t)) in
+    let es : List Spelled = setting x r in
+    let no = no_statement t is.0 in
+    let s = on_is line m es ls rest (fixed.Word words.PutJint) h ∙ no.put in
+    let v = on_is line m es ls rest (fixed.Word words.Return) h ∙ no.return in
+    let p = begins_length (OnLine line m ∷ es) ls rest h in
+    record {
+      read = rw (s, v, variable_type_again t is.0 line es ls rest h, declared_again room free line t x r ls rest h is.1 few) refl;
+      no_brace = on_is line m es ls rest (fixed.Mark marks.CloseBrace) h;
+      shorter = omega (arith, p);
+    }
+statement_again room free (DeclareBuffer line t x r) ls rest h is few = absurd is
+statement_again room free (DeclareChars line x r) ls rest h is few = absurd is
+statement_again room free (DeclareArray line t x size) ls rest h is few = absurd is
+statement_again room free (Assign line x r) ls rest h is few = absurd is
+statement_again room free (AssignElement line x i e) ls rest h is few = absurd is
+statement_again room free (Perform line c) ls rest h is few = absurd is
+statement_again room free (If line test b) ls rest h is few = absurd is
+statement_again room free (IfElse line test b d) ls rest h is few = absurd is
+statement_again room free (While line test b) ls rest h is few = absurd is
 
 abbrev block_read : Block → List Lexed → Result (Block × List Lexed) ParseFault
 block_read b ls = Ok (b, ls)
 
-pub block_again : (room : ℕ) (b : Block) (steps : ℕ) (returned : Bool) (ls rest : List Lexed) → length ls ≤ steps → Begins (inside b) ls rest → IsBlock room b → MayFollow returned b → block_at room (suc steps) returned ls ≡ Ok (b, rest)
+pub block_again : (room free : ℕ) (b : Block) (steps : ℕ) (returned : Bool) (ls rest : List Lexed) → length ls ≤ steps → Begins (inside b) ls rest → IsBlock room b → MayFollow returned b → length (names_declared (statements_of b)) ≤ free → block_at room free (suc steps) returned ls ≡ Ok (b, rest)
 unfolding block_at
-block_again room (End line) steps returned ls rest enough h is follows =
+block_again room free (End line) steps returned ls rest enough h is follows few =
     let s = on_is line (Fixed' (fixed.Mark marks.CloseBrace)) [] ls rest (fixed.Mark marks.CloseBrace) h in
     rw (s, on_line_is line (Fixed' (fixed.Mark marks.CloseBrace)) [] ls rest h) (ap (block_read (End line)) (first_rest (OnLine line (Fixed' (fixed.Mark marks.CloseBrace))) [] ls rest h))
-block_again room (Next s b) steps true ls rest enough h is follows = absurd follows
-block_again room (Next s b) zero false ls rest enough h is follows =
+block_again room free (Next s b) steps true ls rest enough h is follows few = absurd follows
+block_again room free (Next s b) zero false ls rest enough h is follows few =
     let parts = begins_split (statement s) (inside b) ls rest h in
-    let one = statement_again room s ls parts.0 parts.1 is.0 in
+    let count = names_split (statements_within s) (statements_of b) in
+    let one = statement_again room free s ls parts.0 parts.1 is.0 (omega (arith, count, few)) in
     absurd (omega (arith, enough, one.shorter))
-block_again room (Next s b) (suc steps) false ls rest enough h is follows =
+block_again room free (Next s b) (suc steps) false ls rest enough h is follows few =
     let parts = begins_split (statement s) (inside b) ls rest h in
-    let one = statement_again room s ls parts.0 parts.1 is.0 in
-    let more = block_again room b steps (is_return s) parts.0 rest (omega (arith, enough, one.shorter)) parts.2 is.2 is.1 in
+    let count = names_split (statements_within s) (statements_of b) in
+    let one = statement_again room free s ls parts.0 parts.1 is.0 (omega (arith, count, few)) in
+    let more = block_again room (free - names_of s) b steps (is_return s) parts.0 rest (omega (arith, enough, one.shorter)) parts.2 is.2 is.1 (omega (arith, count, few)) in
     rw (one.no_brace, one.read, more) refl
 
 -- ---- functions
@@ -143,11 +187,6 @@ result_again (ReferenceResult r) built es ls rest h = absurd (no_built built)
     no_built : false ≡ true → ⊥
     no_built e = cc
 
-name_again : (n : List ℕ) (es : List Spelled) (ls rest : List Lexed) → Begins (Anywhere (Name' n) ∷ es) ls rest → name_at ls ≡ Ok (n, behind ls)
-unfolding name_at
-name_again n es [] rest h = absurd h
-name_again n es (l ∷ ls) rest h = rw h.0 refl
-
 head_again : (es : List Spelled) (ls rest : List Lexed) → Begins (parameters_head ++ es) ls rest → (after : List Lexed) × (head_at ls ≡ Ok after) × Begins es after rest
 unfolding head_at
 head_again es ls rest h =
@@ -159,21 +198,38 @@ head_again es ls rest h =
     let f = expect_again (fixed.Word words.Jclass) es e.0 rest e.2 in
     (f.0, rw (a.1, b.1, c.1, d.1, e.1) f.1, f.2)
 
-body_again : (b : Block) (ls rest : List Lexed) → Begins (mark marks.CloseParen ∷ mark marks.OpenBrace ∷ inside b) ls rest → IsBlock 31 b → body_at ls ≡ Ok (b, rest)
+parameter_again : (p : Parameter) (es : List Spelled) (ls rest : List Lexed) → Begins (word (parameter_word p.type) ∷ Anywhere (Name' p.name) ∷ es) ls rest → parameter_at ls ≡ Ok (p, behind (behind ls))
+unfolding parameter_at
+parameter_again p es ls rest h =
+    let inside_type = first_rest (word (parameter_word p.type)) (Anywhere (Name' p.name) ∷ es) ls rest h in
+    rw (parameter_type_again p.type (Anywhere (Name' p.name) ∷ es) ls rest h, name_again p.name es (behind ls) rest inside_type) refl
+
+abbrev parameters_read : List Parameter → List Lexed → Result (List Parameter × List Lexed) ParseFault
+parameters_read ps ls = Ok (ps, ls)
+
+parameters_again : (free : ℕ) (ps : List Parameter) (ls rest : List Lexed) → length ps ≤ free → Begins (flat_map parameter ps) ls rest → starts_with (fixed.Mark marks.Comma) rest ≡ false → parameters_at free ls ≡ Ok (ps, rest)
+unfolding parameters_at
+parameters_again zero [] ls rest few h comma = rw (ap (starts_with (fixed.Mark marks.Comma)) h ∙ comma) (ap (parameters_read []) h)
+parameters_again (suc free) [] ls rest few h comma = rw (ap (starts_with (fixed.Mark marks.Comma)) h ∙ comma) (ap (parameters_read []) h)
+parameters_again zero (p ∷ ps) ls rest few h comma = absurd (omega (arith, few))
+parameters_again (suc free) (p ∷ ps) ls rest few h comma =
+    let es1 : List Spelled = Anywhere (Name' p.name) ∷ flat_map parameter ps in
+    let es : List Spelled = word (parameter_word p.type) ∷ es1 in
+    let s = first_is (Fixed' (fixed.Mark marks.Comma)) es ls rest (fixed.Mark marks.Comma) h in
+    let h1 = first_rest (mark marks.Comma) es ls rest h in
+    let h2 = first_rest (word (parameter_word p.type)) es1 (behind ls) rest h1 in
+    let h3 = first_rest (Anywhere (Name' p.name)) (flat_map parameter ps) (behind (behind ls)) rest h2 in
+    let one = parameter_again p (flat_map parameter ps) (behind ls) rest h1 in
+    let more = parameters_again free ps (behind (behind (behind ls))) rest (omega (arith, few)) h3 comma in
+    rw (s, one, more) refl
+
+body_again : (free : ℕ) (b : Block) (ls rest : List Lexed) → Begins (mark marks.CloseParen ∷ mark marks.OpenBrace ∷ inside b) ls rest → IsBlock 31 b → length (names_declared (statements_of b)) ≤ free → body_at free ls ≡ Ok (b, rest)
 unfolding body_at
-body_again b ls rest h is =
+body_again free b ls rest h is few =
     let a = expect_again (fixed.Mark marks.CloseParen) (mark marks.OpenBrace ∷ inside b) ls rest h in
     let c = expect_again (fixed.Mark marks.OpenBrace) (inside b) a.0 rest a.2 in
-    let d = block_again 31 b (length c.0) false c.0 rest (omega arith) c.2 is tt in
+    let d = block_again 31 free b (length c.0) false c.0 rest (omega arith) c.2 is tt few in
     rw (a.1, c.1, add-one (length c.0)) d
-
--- a function with these parameters
-abbrev with_parameters : Function → List Parameter → Function
-with_parameters f ps = record { line = f.line; result = f.result; name = f.name; class_name = f.class_name; parameters = ps; body = f.body }
-
--- what stands behind the first token of a function
-abbrev function_rest : Function → List Spelled
-function_rest f = word (result_word f.result) ∷ word words.JniCall ∷ Anywhere (Name' f.name) ∷ (parameters_head ++ (Anywhere (Name' f.class_name) ∷ mark marks.CloseParen ∷ mark marks.OpenBrace ∷ inside f.body))
 
 record FunctionAgain (f : Function) (ls rest : List Lexed) : Type 0 where
   read : function_at ls ≡ Ok (f, rest)
@@ -181,14 +237,12 @@ record FunctionAgain (f : Function) (ls rest : List Lexed) : Type 0 where
   export : starts_with (fixed.Word words.JniExport) ls ≡ true
   shorter : length rest < length ls
 
-function_by : (f : Function) (ps : List Parameter) (ls rest : List Lexed) → IsTrue (are_built_parameters ps) → Begins (function (with_parameters f ps)) ls rest → IsTrue (is_built_result f.result) → IsBlock 31 f.body → FunctionAgain (with_parameters f ps) ls rest
+function_again : (f : Function) (ls rest : List Lexed) → Begins (function f) ls rest → IsFunction f → FunctionAgain f ls rest
 unfolding function_at
-function_by f (p ∷ ps) ls rest none h result is = absurd (no_parameters none)
-  where
-    no_parameters : false ≡ true → ⊥
-    no_parameters e = cc
-function_by f [] ls rest none h result is =
-    let es6 : List Spelled = mark marks.CloseParen ∷ mark marks.OpenBrace ∷ inside f.body in
+function_again f ls rest h is =
+    let names = is.names in
+    let es7 : List Spelled = mark marks.CloseParen ∷ mark marks.OpenBrace ∷ inside f.body in
+    let es6 : List Spelled = flat_map parameter f.parameters ++ es7 in
     let es5 : List Spelled = Anywhere (Name' f.class_name) ∷ es6 in
     let es4 : List Spelled = parameters_head ++ es5 in
     let es3 : List Spelled = Anywhere (Name' f.name) ∷ es4 in
@@ -196,24 +250,25 @@ function_by f [] ls rest none h result is =
     let es1 : List Spelled = word (result_word f.result) ∷ es2 in
     let first : Spelled = OnLine f.line (Fixed' (fixed.Word words.JniExport)) in
     let h1 = first_rest first es1 ls rest h in
-    let r = result_again f.result result es2 (behind ls) rest h1 in
+    let r = result_again f.result is.result es2 (behind ls) rest h1 in
     let h2 = first_rest (word (result_word f.result)) es2 (behind ls) rest h1 in
     let c = expect_again (fixed.Word words.JniCall) es3 (behind (behind ls)) rest h2 in
     let n = name_again f.name es4 c.0 rest c.2 in
     let h4 = first_rest (Anywhere (Name' f.name)) es4 c.0 rest c.2 in
     let e = head_again es5 (behind c.0) rest h4 in
     let k = name_again f.class_name es6 e.0 rest e.2 in
-    let b = body_again f.body (behind e.0) rest (first_rest (Anywhere (Name' f.class_name)) es6 e.0 rest e.2) is in
+    let h6 = first_rest (Anywhere (Name' f.class_name)) es6 e.0 rest e.2 in
+    let parts = begins_split (flat_map parameter f.parameters) es7 (behind e.0) rest h6 in
+    let comma = first_is (Fixed' (fixed.Mark marks.CloseParen)) (mark marks.OpenBrace ∷ inside f.body) parts.0 rest (fixed.Mark marks.Comma) parts.2 in
+    let q = parameters_again 255 f.parameters (behind e.0) parts.0 (omega (arith, names)) parts.1 comma in
+    let b = body_again (255 - length f.parameters) f.body parts.0 rest parts.2 is.body (omega (arith, names)) in
     let p = begins_length (first ∷ es1) ls rest h in
     record {
-      read = rw (expect_on f.line (fixed.Word words.JniExport) es1 ls rest h, r, c.1, n, e.1, k, b, on_line_is f.line (Fixed' (fixed.Word words.JniExport)) es1 ls rest h) refl;
+      read = rw (expect_on f.line (fixed.Word words.JniExport) es1 ls rest h, r, c.1, n, e.1, k, q, b, on_line_is f.line (Fixed' (fixed.Word words.JniExport)) es1 ls rest h) refl;
       no_end = on_is f.line (Fixed' (fixed.Word words.JniExport)) es1 ls rest fixed.End h;
       export = on_is f.line (Fixed' (fixed.Word words.JniExport)) es1 ls rest (fixed.Word words.JniExport) h;
       shorter = omega (arith, p);
     }
-
-function_again : (f : Function) (ls rest : List Lexed) → Begins (function f) ls rest → IsFunction f → FunctionAgain f ls rest
-function_again f ls rest h is = function_by f f.parameters ls rest is.parameters h is.result is.body
 
 -- ---- units
 

@@ -1,5 +1,5 @@
 -- What the loops over statements and over functions keep.
-use Rattle.std.proofs.Common.{◌≡◌, ℕ, zero, suc, ◌+◌, ◌<◌, ◌≤◌, Bool, true, false, List, [], ◌∷◌, ◌++◌, length, Result, Ok, Err, refl, sym, ap, ◌∙◌, arith, append_assoc, add-one}
+use Rattle.std.proofs.Common.{◌≡◌, ℕ, zero, suc, ◌+◌, ◌-◌, ◌<◌, ◌≤◌, Bool, true, false, List, [], ◌∷◌, ◌++◌, length, Result, Ok, Err, refl, sym, ap, ◌∙◌, arith, append_assoc, add-one}
 use Rattle.std.proofs.lemmas.Bool.{ne_eqb}
 use Rattle.std.proofs.lemmas.List.{append-nil, length-append}
 use Rattle.scan.specs.declared.token.Mark.TheVariants as marks
@@ -13,7 +13,7 @@ use Rattle.parse.specs.declared.words.Word.TheVariants as words
 use Rattle.parse.specs.declared.lexemes.Fixed.TheVariants as fixed
 use Rattle.parse.specs.Results.{◌>>=◌, Fails}
 use Rattle.parse.specs.Lexemes.{Lexed, line_at, fault_at}
-use Rattle.parse.specs.Reading.{starts_with, behind, statement_at, is_return, block_at, function_at, items_at}
+use Rattle.parse.specs.Reading.{starts_with, behind, statement_at, is_return, names_of, block_at, function_at, items_at}
 use Rattle.parse.proofs.Sentences.{statement_takes}
 use Rattle.parse.proofs.Programs.{function_takes}
 
@@ -34,10 +34,10 @@ abbrev pub with_before : List StmtInMemory → Result (Block × List Lexed) Pars
 with_before ss read = read >>= λ b. Ok (before ss b.0, b.1)
 
 -- What is read from here, behind the statements so far, is all that is read.
-pub record Fills (ss : List StmtInMemory) (returned : Bool) (ls : List Lexed) (total : Result (Block × List Lexed) ParseFault) : Type 0 where
+pub record Fills (room free : ℕ) (ss : List StmtInMemory) (returned : Bool) (ls : List Lexed) (total : Result (Block × List Lexed) ParseFault) : Type 0 where
   pub steps : ℕ
   pub enough : length ls ≤ steps
-  pub same : with_before ss (block_at 31 (suc steps) returned ls) ≡ total
+  pub same : with_before ss (block_at room free (suc steps) returned ls) ≡ total
 
 abbrev given : Block → List Lexed → Result (Block × List Lexed) ParseFault
 given b ls = Ok (b, ls)
@@ -46,45 +46,46 @@ no_before : (read : Result (Block × List Lexed) ParseFault) → with_before [] 
 no_before (Ok x) = refl
 no_before (Err f) = refl
 
-pub fills_start : (ls : List Lexed) → Fills [] false ls (block_at 31 (length ls + 1) false ls)
-fills_start ls = record { steps = length ls; enough = omega arith; same = no_before (block_at 31 (suc (length ls)) false ls) ∙ sym (ap (λ n. block_at 31 n false ls) (add-one (length ls))) }
-
-pub fills_done : (ss : List StmtInMemory) (returned : Bool) (ls : List Lexed) (total : Result (Block × List Lexed) ParseFault) → Fills ss returned ls total → starts_with (fixed.Mark marks.CloseBrace) ls ≡ true → total ≡ Ok (statements_tree ss (line_at ls), behind ls)
-unfolding block_at
-fills_done ss returned ls total f s =
-    let one : with_before ss (block_at 31 (suc f.steps) returned ls) ≡ Ok (statements_tree ss (line_at ls), behind ls) = rw s (ap (λ (b : Block). given b (behind ls)) (before_end ss (line_at ls))) in
-    sym f.same ∙ one
-
-pub fills_refuses : (ss : List StmtInMemory) (returned : Bool) (ls : List Lexed) (total : Result (Block × List Lexed) ParseFault) → Fills ss returned ls total → starts_with (fixed.Mark marks.CloseBrace) ls ≡ false → returned ≡ true → total ≡ Err (fault_at NoForm ls)
-unfolding block_at
-fills_refuses ss returned ls total f s r =
-    let one : with_before ss (block_at 31 (suc f.steps) returned ls) ≡ Err (fault_at NoForm ls) = rw (s, r) refl in
-    sym f.same ∙ one
-
-pub fills_fails : (e : ParseFault) (ss : List StmtInMemory) (returned : Bool) (ls : List Lexed) (total : Result (Block × List Lexed) ParseFault) → Fills ss returned ls total → starts_with (fixed.Mark marks.CloseBrace) ls ≡ false → returned ≡ false → Fails e (statement_at 31 ls) → Fails e total
-unfolding block_at
-fills_fails Memory ss returned ls total f s r h = tt
-fills_fails (Found fault line) ss returned ls total f s r h =
-    let one : with_before ss (block_at 31 (suc f.steps) returned ls) ≡ Err (Found fault line) = rw (s, r, h) refl in
-    sym f.same ∙ one
+pub fills_start : (room free : ℕ) (ls : List Lexed) → Fills room free [] false ls (block_at room free (length ls + 1) false ls)
+fills_start room free ls = record { steps = length ls; enough = omega arith; same = no_before (block_at room free (suc (length ls)) false ls) ∙ sym (ap (λ n. block_at room free n false ls) (add-one (length ls))) }
 
 regroup : (ss : List StmtInMemory) (s : StmtInMemory) (read : Result (Block × List Lexed) ParseFault) → with_before (ss ++ s ∷ []) read ≡ with_before ss (read >>= λ b. Ok (Next (stmt_tree s) b.0, b.1))
 regroup ss s (Ok x) = ap (λ (b : Block). given b x.1) (before_push ss s x.0)
 regroup ss s (Err e) = refl
 
-pub fills_on : (ss : List StmtInMemory) (returned : Bool) (ls : List Lexed) (total : Result (Block × List Lexed) ParseFault) (s : StmtInMemory) (now_returned : Bool) (after : List Lexed) → Fills ss returned ls total → starts_with (fixed.Mark marks.CloseBrace) ls ≡ false → returned ≡ false → statement_at 31 ls ≡ Ok (stmt_tree s, after) → now_returned ≡ is_return (stmt_tree s) → Fills (ss ++ s ∷ []) now_returned after total
-unfolding block_at
-fills_on ss returned ls total s now_returned after f no_close r h is =
-    go f.steps f.enough f.same
-  where
-    short : length after < length ls
-    short = (statement_takes 31 ls (stmt_tree s, after) h).shorter
+module _ (room free : ℕ) (ss : List StmtInMemory) (returned : Bool) (ls : List Lexed) (total : Result (Block × List Lexed) ParseFault) (f : Fills room free ss returned ls total) where
+  pub fills_done : starts_with (fixed.Mark marks.CloseBrace) ls ≡ true → total ≡ Ok (statements_tree ss (line_at ls), behind ls)
+  unfolding block_at
+  fills_done s =
+      let one : with_before ss (block_at room free (suc f.steps) returned ls) ≡ Ok (statements_tree ss (line_at ls), behind ls) = rw s (ap (λ (b : Block). given b (behind ls)) (before_end ss (line_at ls))) in
+      sym f.same ∙ one
 
-    go : (steps : ℕ) → length ls ≤ steps → with_before ss (block_at 31 (suc steps) returned ls) ≡ total → Fills (ss ++ s ∷ []) now_returned after total
-    go zero enough same = absurd (omega (arith, short))
-    go (suc steps) enough same =
-        let one : with_before ss (block_at 31 (suc (suc steps)) returned ls) ≡ with_before (ss ++ s ∷ []) (block_at 31 (suc steps) now_returned after) = rw (no_close, r, h, is) (sym (regroup ss s (block_at 31 (suc steps) (is_return (stmt_tree s)) after))) in
-        record { steps = steps; enough = omega (arith, short); same = sym one ∙ same }
+  pub fills_refuses : starts_with (fixed.Mark marks.CloseBrace) ls ≡ false → returned ≡ true → total ≡ Err (fault_at NoForm ls)
+  unfolding block_at
+  fills_refuses s r =
+      let one : with_before ss (block_at room free (suc f.steps) returned ls) ≡ Err (fault_at NoForm ls) = rw (s, r) refl in
+      sym f.same ∙ one
+
+  pub fills_fails : (e : ParseFault) → starts_with (fixed.Mark marks.CloseBrace) ls ≡ false → returned ≡ false → Fails e (statement_at room free ls) → Fails e total
+  unfolding block_at
+  fills_fails Memory s r h = tt
+  fills_fails (Found fault line) s r h =
+      let one : with_before ss (block_at room free (suc f.steps) returned ls) ≡ Err (Found fault line) = rw (s, r, h) refl in
+      sym f.same ∙ one
+
+  pub fills_on : (s : StmtInMemory) (now_free : ℕ) (now_returned : Bool) (after : List Lexed) → starts_with (fixed.Mark marks.CloseBrace) ls ≡ false → returned ≡ false → statement_at room free ls ≡ Ok (stmt_tree s, after) → now_free ≡ free - names_of (stmt_tree s) → now_returned ≡ is_return (stmt_tree s) → Fills room now_free (ss ++ s ∷ []) now_returned after total
+  unfolding block_at
+  fills_on s now_free now_returned after no_close r h is_free is =
+      go f.steps f.enough f.same
+    where
+      short : length after < length ls
+      short = (statement_takes room free ls (stmt_tree s, after) h).shorter
+
+      go : (steps : ℕ) → length ls ≤ steps → with_before ss (block_at room free (suc steps) returned ls) ≡ total → Fills room now_free (ss ++ s ∷ []) now_returned after total
+      go zero enough same = absurd (omega (arith, short))
+      go (suc steps) enough same =
+          let one : with_before ss (block_at room free (suc (suc steps)) returned ls) ≡ with_before (ss ++ s ∷ []) (block_at room now_free (suc steps) now_returned after) = rw (no_close, r, h, is_free, is) (sym (regroup ss s (block_at room (free - names_of (stmt_tree s)) (suc steps) (is_return (stmt_tree s)) after))) in
+          record { steps = steps; enough = omega (arith, short); same = sym one ∙ same }
 
 abbrev pub with_items : (List Item) → Result (List Item) ParseFault → Result (List Item) ParseFault
 with_items front read = read >>= λ items. Ok (front ++ items)

@@ -1,16 +1,17 @@
 -- Which trees are read: of the forms that are built, levelled, and no higher than there is room.
-use Rattle.std.proofs.Common.{ℕ, ◌+◌, ◌≤◌, Bool, true, false, List, [], ◌∷◌}
+use Rattle.std.proofs.Common.{ℕ, ◌+◌, ◌≤◌, Bool, true, false, List, [], ◌∷◌, length}
 use Rattle.std.specs.Prelude.{IsTrue}
-use Rattle.syntax.specs.Tree.{Expr, Number, Named, Variable, Element, Prefix, Binary, Paren, Stmt, PutJint, Return, ReturnValue, Block, End, Next, Function, Item, StaticItem, FunctionItem}
+use Rattle.syntax.specs.Tree.{Expr, Number, Named, Variable, Element, Prefix, Binary, Paren, Argument, Value, Text, AddressOf, RightSide, FromExpr, FromCall, Stmt, Declare, PutJint, Return, ReturnValue, Block, End, Next, Function, Item, StaticItem, FunctionItem}
+use Rattle.syntax.specs.Parts.{statements_of, names_declared}
 use Rattle.syntax.specs.Limits.{operator_level, prefix_level, height}
-use Rattle.parse.specs.Built.{is_built_prefix, is_built_operator, is_built_result, are_built_parameters}
+use Rattle.parse.specs.Built.{is_built_constant, is_built_prefix, is_built_operator, is_built_variable, is_built_result}
 use Rattle.parse.specs.Reading.{is_return}
 
 -- The expression stands where operators of this level or tighter do. All associate to the left.
 abbrev pub IsLevelled : ℕ → Expr → Type 0
 IsLevelled least (Number value unsigned) = Unit {0}
-IsLevelled least (Named c) = ⊥
-IsLevelled least (Variable x) = ⊥
+IsLevelled least (Named c) = IsTrue (is_built_constant c)
+IsLevelled least (Variable x) = Unit {0}
 IsLevelled least (Element x i) = ⊥
 IsLevelled least (Prefix op e) = IsTrue (is_built_prefix op) × IsLevelled prefix_level e
 IsLevelled least (Binary op a b) = (least ≤ operator_level op) × IsTrue (is_built_operator op) × IsLevelled (operator_level op) a × IsLevelled (operator_level op + 1) b
@@ -21,7 +22,21 @@ pub record IsExpr (room : ℕ) (e : Expr) : Type 0 where
   pub levelled : IsLevelled 0 e
   pub low : height e ≤ room
 
+abbrev pub IsArgument : ℕ → Argument → Type 0
+IsArgument room (Value e) = IsExpr room e
+IsArgument room (Text bytes) = ⊥
+IsArgument room (AddressOf x) = ⊥
+
+abbrev pub AreArguments : ℕ → List Argument → Type 0
+AreArguments room [] = Unit {0}
+AreArguments room (a ∷ more) = IsArgument room a × AreArguments room more
+
+abbrev pub IsRight : ℕ → RightSide → Type 0
+IsRight room (FromExpr e) = IsExpr room e
+IsRight room (FromCall c) = AreArguments room c.arguments
+
 abbrev pub IsForm : ℕ → Stmt → Type 0
+IsForm room (Declare line t x r) = IsTrue (is_built_variable t) × IsRight room r
 IsForm room (PutJint line e) = IsExpr room e
 IsForm room (Return line) = Unit {0}
 IsForm room (ReturnValue line e) = IsExpr room e
@@ -40,8 +55,8 @@ IsBlock room (Next s rest) = IsForm room s × MayFollow (is_return s) rest × Is
 
 pub record IsFunction (f : Function) : Type 0 where
   pub result : IsTrue (is_built_result f.result)
-  pub parameters : IsTrue (are_built_parameters f.parameters)
   pub body : IsBlock 31 f.body
+  pub names : length f.parameters + length (names_declared (statements_of f.body)) ≤ 255
 
 abbrev pub AreItems : List Item → Type 0
 AreItems [] = Unit {0}

@@ -1,30 +1,33 @@
 -- Expressions: what is read is spelled so, and what is spelled so is read. Nothing here names an operator or its level.
-use Rattle.std.proofs.Common.{◌≡◌, ℕ, zero, suc, ◌+◌, ◌<◌, ◌≤◌, max, Bool, true, false, List, [], ◌∷◌, ◌++◌, Option, Some, None, Result, Ok, refl, sym, ap, subst, ◌∙◌, append_assoc, arith, inl, inr}
+use Rattle.std.proofs.Common.{◌≡◌, ℕ, zero, suc, ◌+◌, ◌<◌, ◌≤◌, max, true, false, List, [], ◌∷◌, ◌++◌, Option, Some, None, Result, Ok, refl, sym, ap, subst, ◌∙◌, append_assoc, arith, inl, inr}
 use Rattle.std.specs.Prelude.{nat_lt, ◌==◌, IsTrue}
 use Rattle.std.proofs.lemmas.Bool.{le-ltb, lt-ltb, ltb-true, ltb-false, ne_eqb}
 use Rattle.std.proofs.lemmas.List.{append-nil}
+use Rattle.scan.specs.declared.token.Mark.{Mark}
 use Rattle.scan.specs.declared.token.Mark.TheVariants as marks
-use Rattle.syntax.specs.Tree.{PrefixOp, LogicalNot, Complement, ToWord, ToInt, BinaryOp, Expr, Number, Named, Variable, Element, Prefix, Binary, Paren}
+use Rattle.syntax.specs.Tree.{Constant, True, False, Commit, Abort, Null, PrefixOp, LogicalNot, Complement, ToWord, ToInt, BinaryOp, Expr, Number, Named, Variable, Element, Prefix, Binary, Paren}
 use Rattle.syntax.specs.Limits.{operator_level, prefix_level, height}
 use Rattle.parse.specs.declared.fault.ParseFault.{ParseFault}
+use Rattle.parse.specs.declared.words.Word.{Word}
 use Rattle.parse.specs.declared.words.Word.TheVariants as words
 use Rattle.parse.specs.declared.lexemes.Fixed.{Fixed}
 use Rattle.parse.specs.declared.lexemes.Fixed.TheVariants as fixed
 use Rattle.parse.specs.Results.{◌>>=◌}
 use Rattle.parse.specs.Meaning.{Meaning, Fixed', Name', Number', Text'}
-use Rattle.parse.specs.Lexemes.{Lexed, same_fixed, expect}
+use Rattle.parse.specs.Lexemes.{Lexed, same_mark, same_fixed, is_fixed_meaning, expect}
 use Rattle.parse.specs.Built.{is_built_prefix}
-use Rattle.parse.specs.Spelling.{Spelled, Anywhere, mark, word, operator_mark, prefix_tokens, expression}
-use Rattle.parse.specs.Reading.{Reader, ReadExpr, starts_with, behind, operator_at, climb, climb_step, under_prefix, in_parens, behind_paren, number_of, number_first, operand_by, expr_by, deeper}
-use Rattle.parse.proofs.Forms.{IsLevelled}
+use Rattle.parse.specs.Spelling.{Spelled, Anywhere, mark, word, constant_word, operator_mark, prefix_tokens, expression}
+use Rattle.parse.specs.Reading.{Reader, ReadExpr, starts_with, behind, operator_at, climb, climb_step, under_prefix, in_parens, behind_paren, constant_of_word, named_of, primary_of, primary_at, operand_by, expr_by, deeper, expr_at, starts_call}
+use Rattle.parse.proofs.Forms.{IsLevelled, IsExpr}
 use Rattle.parse.proofs.Singles.{Begins, bind_ok, ok_is, chosen, begins_append, begins_split, first_takes, first_rest, first_is, starts_takes, expect_takes, expect_again}
+use Rattle.parse.proofs.TypeWords.{constant_again, constant_is, constant_built}
 use Rattle.parse.proofs.Table.{operator_is, operator_built, operator_again, operator_first, level_small}
 
 -- an expression that stands at a operator_level stands at a looser one
 pub weaker : (e : Expr) (m n : ℕ) → n ≤ m → IsLevelled m e → IsLevelled n e
 weaker (Number value unsigned) m n le h = tt
 weaker (Named c) m n le h = h
-weaker (Variable x) m n le h = h
+weaker (Variable x) m n le h = tt
 weaker (Element x i) m n le h = h
 weaker (Prefix op e) m n le h = h
 weaker (Binary op a b) m n le h = (omega (arith, h.0), h.1, h.2, h.3)
@@ -116,17 +119,28 @@ module _ (deep : Reader) (room : ℕ) (all : AllTakes deep room) where
         ]
       ]
 
-  number_takes : (l : Lexed) (ls : List Lexed) (x : ReadExpr) (m : Meaning) → l.meaning ≡ m → number_of m (l ∷ ls) ls ≡ Ok x → TakesOperand room (l ∷ ls) x
-  number_takes l ls x (Number' value unsigned) is e =
+  named_takes : (l : Lexed) (ls : List Lexed) (x : ReadExpr) (w : Word) (o : Option Constant) → l.meaning ≡ Fixed' (fixed.Word w) → constant_of_word w ≡ o → named_of o (l ∷ ls) ls ≡ Ok x → TakesOperand room (l ∷ ls) x
+  named_takes l ls x w None is same e = absurd cc
+  named_takes l ls x w (Some c) is same e =
+      let made : ReadExpr = (Named c, 0, ls) in
+      subst (λ (y : ReadExpr). TakesOperand room (l ∷ ls) y) (ok_is made x e) (record { parts = (is ∙ ap (λ (v : Word). Fixed' (fixed.Word v)) (constant_is w c same), refl); levelled = λ least. constant_built w c same; high = refl; low = omega arith })
+
+  primary_of_takes : (l : Lexed) (ls : List Lexed) (x : ReadExpr) (m : Meaning) → l.meaning ≡ m → primary_of m (l ∷ ls) ls ≡ Ok x → TakesOperand room (l ∷ ls) x
+  primary_of_takes l ls x (Number' value unsigned) is e =
       let made : ReadExpr = (Number value unsigned, 0, ls) in
       subst (λ (y : ReadExpr). TakesOperand room (l ∷ ls) y) (ok_is made x e) (record { parts = (is, refl); levelled = λ least. tt; high = refl; low = omega arith })
-  number_takes l ls x (Fixed' f) is e = absurd cc
-  number_takes l ls x (Name' bytes) is e = absurd cc
-  number_takes l ls x (Text' bytes) is e = absurd cc
+  primary_of_takes l ls x (Name' bytes) is e =
+      let made : ReadExpr = (Variable bytes, 0, ls) in
+      subst (λ (y : ReadExpr). TakesOperand room (l ∷ ls) y) (ok_is made x e) (record { parts = (is, refl); levelled = λ least. tt; high = refl; low = omega arith })
+  primary_of_takes l ls x (Fixed' (fixed.Word w)) is e = named_takes l ls x w (constant_of_word w) is refl e
+  primary_of_takes l ls x (Fixed' (fixed.Mark m)) is e = absurd cc
+  primary_of_takes l ls x (Fixed' fixed.End) is e = absurd cc
+  primary_of_takes l ls x (Text' bytes) is e = absurd cc
 
-  number_first_takes : (ls : List Lexed) (x : ReadExpr) → number_first ls ≡ Ok x → TakesOperand room ls x
-  number_first_takes [] x e = absurd cc
-  number_first_takes (l ∷ ls) x e = number_takes l ls x l.meaning refl e
+  primary_takes : (ls : List Lexed) (x : ReadExpr) → primary_at ls ≡ Ok x → TakesOperand room ls x
+  unfolding primary_at
+  primary_takes [] x e = absurd cc
+  primary_takes (l ∷ ls) x e = primary_of_takes l ls x l.meaning refl e
 
   operand_takes : (ls : List Lexed) (x : ReadExpr) → operand_by room deep ls ≡ Ok x → TakesOperand room ls x
   unfolding operand_by
@@ -141,7 +155,7 @@ module _ (deep : Reader) (room : ℕ) (all : AllTakes deep room) where
             | inl u ↦ absurd cc
             | inr u ↦ paren_takes ls x (starts_takes (fixed.Mark marks.OpenParen) ls v.0) u.1
           ]
-          | inr v ↦ number_first_takes ls x v.1
+          | inr v ↦ primary_takes ls x v.1
         ]
       ]
 
@@ -218,17 +232,70 @@ under : (n room : ℕ) → 1 + n ≤ room → n < room
 under n room le = omega (arith, le)
 
 -- no expression begins with another fixed token than these
-pub no_first : (f : Fixed) → same_fixed (fixed.Mark marks.Tilde) f ≡ false → same_fixed (fixed.Mark marks.OpenParen) f ≡ false → (least : ℕ) (e : Expr) → IsLevelled least e → (ls rest : List Lexed) → Begins (expression e) ls rest → starts_with f ls ≡ false
-no_first f tilde paren least (Number value unsigned) levelled ls rest h = first_is (Number' value unsigned) [] ls rest f h
-no_first f tilde paren least (Named c) levelled ls rest h = absurd levelled
-no_first f tilde paren least (Variable x) levelled ls rest h = absurd levelled
-no_first f tilde paren least (Element x i) levelled ls rest h = absurd levelled
-no_first f tilde paren least (Prefix LogicalNot e) levelled ls rest h = absurd (not_built levelled.0)
-no_first f tilde paren least (Prefix Complement e) levelled ls rest h = first_is (Fixed' (fixed.Mark marks.Tilde)) (expression e) ls rest f h ∙ tilde
-no_first f tilde paren least (Prefix ToWord e) levelled ls rest h = first_is (Fixed' (fixed.Mark marks.OpenParen)) (word words.Uint32 ∷ mark marks.CloseParen ∷ expression e) ls rest f h ∙ paren
-no_first f tilde paren least (Prefix ToInt e) levelled ls rest h = first_is (Fixed' (fixed.Mark marks.OpenParen)) (word words.Jint ∷ mark marks.CloseParen ∷ expression e) ls rest f h ∙ paren
-no_first f tilde paren least (Binary op a b) levelled ls rest h = let parts = begins_split (expression a) (mark (operator_mark op) ∷ expression b) ls rest h in no_first f tilde paren (operator_level op) a levelled.2 ls parts.0 parts.1
-no_first f tilde paren least (Paren e) levelled ls rest h = first_is (Fixed' (fixed.Mark marks.OpenParen)) (expression e ++ mark marks.CloseParen ∷ []) ls rest f h ∙ paren
+pub record IsNoFirst (f : Fixed) : Type 0 where
+  pub tilde : same_fixed (fixed.Mark marks.Tilde) f ≡ false
+  pub paren : same_fixed (fixed.Mark marks.OpenParen) f ≡ false
+  pub constant : (c : Constant) → same_fixed (fixed.Word (constant_word c)) f ≡ false
+
+pub no_first : (f : Fixed) → IsNoFirst f → (least : ℕ) (e : Expr) → IsLevelled least e → (ls rest : List Lexed) → Begins (expression e) ls rest → starts_with f ls ≡ false
+no_first f is least (Number value unsigned) levelled ls rest h = first_is (Number' value unsigned) [] ls rest f h
+no_first f is least (Named c) levelled ls rest h = first_is (Fixed' (fixed.Word (constant_word c))) [] ls rest f h ∙ is.constant c
+no_first f is least (Variable x) levelled ls rest h = first_is (Name' x) [] ls rest f h
+no_first f is least (Element x i) levelled ls rest h = absurd levelled
+no_first f is least (Prefix LogicalNot e) levelled ls rest h = absurd (not_built levelled.0)
+no_first f is least (Prefix Complement e) levelled ls rest h = first_is (Fixed' (fixed.Mark marks.Tilde)) (expression e) ls rest f h ∙ is.tilde
+no_first f is least (Prefix ToWord e) levelled ls rest h = first_is (Fixed' (fixed.Mark marks.OpenParen)) (word words.Uint32 ∷ mark marks.CloseParen ∷ expression e) ls rest f h ∙ is.paren
+no_first f is least (Prefix ToInt e) levelled ls rest h = first_is (Fixed' (fixed.Mark marks.OpenParen)) (word words.Jint ∷ mark marks.CloseParen ∷ expression e) ls rest f h ∙ is.paren
+no_first f is least (Binary op a b) levelled ls rest h = let parts = begins_split (expression a) (mark (operator_mark op) ∷ expression b) ls rest h in no_first f is (operator_level op) a levelled.2 ls parts.0 parts.1
+no_first f is least (Paren e) levelled ls rest h = first_is (Fixed' (fixed.Mark marks.OpenParen)) (expression e ++ mark marks.CloseParen ∷ []) ls rest f h ∙ is.paren
+
+pub no_first_mark : (m : Mark) → same_mark marks.Tilde m ≡ false → same_mark marks.OpenParen m ≡ false → IsNoFirst (fixed.Mark m)
+no_first_mark m tilde paren = record { tilde = tilde; paren = paren; constant = λ c. refl }
+
+no_uint32 : IsNoFirst (fixed.Word words.Uint32)
+no_uint32 = record { tilde = refl; paren = refl; constant = other }
+  where
+    other : (c : Constant) → same_fixed (fixed.Word (constant_word c)) (fixed.Word words.Uint32) ≡ false
+    other True = refl
+    other False = refl
+    other Commit = refl
+    other Abort = refl
+    other Null = refl
+
+no_jint : IsNoFirst (fixed.Word words.Jint)
+no_jint = record { tilde = refl; paren = refl; constant = other }
+  where
+    other : (c : Constant) → same_fixed (fixed.Word (constant_word c)) (fixed.Word words.Jint) ≡ false
+    other True = refl
+    other False = refl
+    other Commit = refl
+    other Abort = refl
+    other Null = refl
+
+-- no expression begins as a call does
+not_paren : (ls : List Lexed) → starts_with (fixed.Mark marks.OpenParen) ls ≡ false → starts_call ls ≡ false
+not_paren ls e = rw e refl
+
+not_star : (ls : List Lexed) → starts_with (fixed.Mark marks.OpenParen) ls ≡ true → starts_with (fixed.Mark marks.Star) (behind ls) ≡ false → starts_call ls ≡ false
+not_star ls e f = rw (e, f) refl
+
+cast_no_call : (w : Word) (es : List Spelled) (ls rest : List Lexed) → Begins (mark marks.OpenParen ∷ word w ∷ es) ls rest → starts_call ls ≡ false
+cast_no_call w es ls rest h = not_star ls (first_is (Fixed' (fixed.Mark marks.OpenParen)) (word w ∷ es) ls rest (fixed.Mark marks.OpenParen) h) (first_is (Fixed' (fixed.Word w)) es (behind ls) rest (fixed.Mark marks.Star) (first_rest (mark marks.OpenParen) (word w ∷ es) ls rest h))
+
+pub no_call : (least : ℕ) (e : Expr) → IsLevelled least e → (ls rest : List Lexed) → Begins (expression e) ls rest → starts_call ls ≡ false
+no_call least (Number value unsigned) levelled ls rest h = not_paren ls (first_is (Number' value unsigned) [] ls rest (fixed.Mark marks.OpenParen) h)
+no_call least (Named c) levelled ls rest h = not_paren ls (first_is (Fixed' (fixed.Word (constant_word c))) [] ls rest (fixed.Mark marks.OpenParen) h)
+no_call least (Variable x) levelled ls rest h = not_paren ls (first_is (Name' x) [] ls rest (fixed.Mark marks.OpenParen) h)
+no_call least (Element x i) levelled ls rest h = absurd levelled
+no_call least (Prefix LogicalNot e) levelled ls rest h = absurd (not_built levelled.0)
+no_call least (Prefix Complement e) levelled ls rest h = not_paren ls (first_is (Fixed' (fixed.Mark marks.Tilde)) (expression e) ls rest (fixed.Mark marks.OpenParen) h)
+no_call least (Prefix ToWord e) levelled ls rest h = cast_no_call words.Uint32 (mark marks.CloseParen ∷ expression e) ls rest h
+no_call least (Prefix ToInt e) levelled ls rest h = cast_no_call words.Jint (mark marks.CloseParen ∷ expression e) ls rest h
+no_call least (Binary op a b) levelled ls rest h = let parts = begins_split (expression a) (mark (operator_mark op) ∷ expression b) ls rest h in no_call (operator_level op) a levelled.2 ls parts.0 parts.1
+no_call least (Paren e) levelled ls rest h =
+    let es : List Spelled = expression e ++ mark marks.CloseParen ∷ [] in
+    let parts = begins_split (expression e) (mark marks.CloseParen ∷ []) (behind ls) rest (first_rest (mark marks.OpenParen) es ls rest h) in
+    not_star ls (first_is (Fixed' (fixed.Mark marks.OpenParen)) es ls rest (fixed.Mark marks.OpenParen) h) (no_first (fixed.Mark marks.Star) (no_first_mark marks.Star refl refl) 0 e levelled (behind ls) parts.0 parts.1)
 
 abbrev IsOperand : Expr → Type 0
 IsOperand (Number value unsigned) = Unit {0}
@@ -262,16 +329,17 @@ module _ (deep : Reader) (room : ℕ) (all : AllAgain deep room) where
       let a = expect_again (fixed.Mark marks.CloseParen) (expression e) (behind ls) rest (first_rest (Anywhere (Fixed' w)) (mark marks.CloseParen ∷ expression e) ls rest h) in
       rw a.1 (prefix_again op e a.0 rest a.2 levelled low)
 
+  primary_again : (m : Meaning) (e : Expr) → is_fixed_meaning m (fixed.Mark marks.Tilde) ≡ false → is_fixed_meaning m (fixed.Mark marks.OpenParen) ≡ false → ((from after : List Lexed) → primary_of m from after ≡ answer (e, 0, after)) → (ls rest : List Lexed) → Begins (Anywhere m ∷ []) ls rest → operand_by room deep ls ≡ Ok (e, 0, rest)
+  unfolding operand_by primary_at
+  primary_again m e tilde paren so [] rest h = absurd h
+  primary_again m e tilde paren so (l ∷ ls) rest h = rw (h.0, tilde, paren, so (record { meaning = m; line = l.line } ∷ ls) ls) (ap (λ (r : List Lexed). answer (e, 0, r)) h.1)
+
   -- each operand
   operand_again : (e : Expr) (ls rest : List Lexed) → IsOperand e → Begins (expression e) ls rest → IsLevelled 0 e → height e ≤ room → operand_by room deep ls ≡ Ok (e, height e, rest)
   unfolding operand_by behind_paren in_parens
-  operand_again (Number value unsigned) ls rest is h levelled low = number_again value unsigned ls rest h
-    where
-      number_again : (value : ℕ) (unsigned : Bool) (ls rest : List Lexed) → Begins (Anywhere (Number' value unsigned) ∷ []) ls rest → operand_by room deep ls ≡ Ok (Number value unsigned, 0, rest)
-      number_again value unsigned [] rest h = absurd h
-      number_again value unsigned (l ∷ ls) rest h = rw h.0 (ap (λ (r : List Lexed). answer (Number value unsigned, 0, r)) h.1)
-  operand_again (Named c) ls rest is h levelled low = absurd levelled
-  operand_again (Variable x) ls rest is h levelled low = absurd levelled
+  operand_again (Number value unsigned) ls rest is h levelled low = primary_again (Number' value unsigned) (Number value unsigned) refl refl (λ from after. refl) ls rest h
+  operand_again (Named c) ls rest is h levelled low = primary_again (Fixed' (fixed.Word (constant_word c))) (Named c) refl refl (λ from after. rw (constant_again c levelled) refl) ls rest h
+  operand_again (Variable x) ls rest is h levelled low = primary_again (Name' x) (Variable x) refl refl (λ from after. refl) ls rest h
   operand_again (Element x i) ls rest is h levelled low = absurd levelled
   operand_again (Prefix LogicalNot e) ls rest is h levelled low = absurd (not_built levelled.0)
   operand_again (Prefix Complement e) ls rest is h levelled low =
@@ -299,8 +367,8 @@ module _ (deep : Reader) (room : ℕ) (all : AllAgain deep room) where
       let t = first_is (Fixed' (fixed.Mark marks.OpenParen)) es ls rest (fixed.Mark marks.Tilde) h in
       let f = first_is (Fixed' (fixed.Mark marks.OpenParen)) es ls rest (fixed.Mark marks.OpenParen) h in
       let parts = begins_split (expression e) (mark marks.CloseParen ∷ []) (behind ls) rest inside in
-      let u = no_first (fixed.Word words.Uint32) refl refl 0 e levelled (behind ls) parts.0 parts.1 in
-      let v = no_first (fixed.Word words.Jint) refl refl 0 e levelled (behind ls) parts.0 parts.1 in
+      let u = no_first (fixed.Word words.Uint32) no_uint32 0 e levelled (behind ls) parts.0 parts.1 in
+      let v = no_first (fixed.Word words.Jint) no_jint 0 e levelled (behind ls) parts.0 parts.1 in
       let closed = operator_first (Fixed' (fixed.Mark marks.CloseParen)) [] parts.0 rest parts.2 in
       let d = all 0 (behind ls) parts.0 e parts.1 levelled (under _ room low) (λ op same. let g : None ≡ Some op = sym closed ∙ same in absurd cc) in
       let a = expect_again (fixed.Mark marks.CloseParen) [] parts.0 rest parts.2 in
@@ -318,8 +386,8 @@ module _ (deep : Reader) (room : ℕ) (all : AllAgain deep room) where
 
   climbed : (e : Expr) (least : ℕ) (ls rest : List Lexed) → Begins (expression e) ls rest → IsLevelled least e → height e ≤ room → Takeable e rest → Climbed deep room least ls e rest
   climbed (Number value unsigned) least ls rest h levelled low takeable = from_operand _ least ls rest (operand_again (Number value unsigned) ls rest tt h levelled low)
-  climbed (Named c) least ls rest h levelled low takeable = absurd levelled
-  climbed (Variable x) least ls rest h levelled low takeable = absurd levelled
+  climbed (Named c) least ls rest h levelled low takeable = from_operand _ least ls rest (operand_again (Named c) ls rest tt h levelled low)
+  climbed (Variable x) least ls rest h levelled low takeable = from_operand _ least ls rest (operand_again (Variable x) ls rest tt h levelled low)
   climbed (Element x i) least ls rest h levelled low takeable = absurd levelled
   climbed (Prefix op e) least ls rest h levelled low takeable = from_operand _ least ls rest (operand_again (Prefix op e) ls rest tt h levelled low)
   climbed (Paren e) least ls rest h levelled low takeable = from_operand _ least ls rest (operand_again (Paren e) ls rest tt h levelled low)
@@ -342,3 +410,14 @@ pub deeper_again : (room : ℕ) → AllAgain (deeper room) room
 unfolding deeper
 deeper_again zero = λ least ls rest e h levelled low stops. absurd (omega (arith, low))
 deeper_again (suc room) = λ least ls rest e h levelled low stops. expr_again (deeper room) room (deeper_again room) least ls rest e h levelled (omega (arith, low)) stops
+
+-- ---- whole expressions
+
+pub expr_reads : (room : ℕ) (ls : List Lexed) (y : ReadExpr) → expr_at room 0 ls ≡ Ok y → Begins (expression y.0) ls y.2 × IsExpr room y.0
+expr_reads room ls y e =
+    let t = expr_takes (deeper room) room (deeper_takes room) 0 ls y e in
+    (t.0.parts, record { levelled = t.0.levelled; low = t.1 })
+
+pub expr_reads_again : (room : ℕ) (ls rest : List Lexed) (e : Expr) → Begins (expression e) ls rest → IsExpr room e → operator_at rest ≡ None → expr_at room 0 ls ≡ Ok (e, height e, rest)
+expr_reads_again room ls rest e h is none =
+    expr_again (deeper room) room (deeper_again room) 0 ls rest e h is.levelled is.low (λ op same. let f : None ≡ Some op = sym none ∙ same in absurd cc)

@@ -1,9 +1,12 @@
 pub mod Forms
 pub mod Singles
 pub mod Table
+pub mod TypeWords
 pub mod Levels
 pub mod Climbing
 pub mod Lines
+pub mod JniCalls
+pub mod Commas
 pub mod Sentences
 pub mod Blocks
 pub mod Programs

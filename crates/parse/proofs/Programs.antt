@@ -1,22 +1,24 @@
 -- Functions and units: what is read is spelled so, and what is spelled so is read.
-use Rattle.std.proofs.Common.{◌≡◌, ℕ, zero, suc, ◌+◌, ◌<◌, ◌≤◌, true, false, List, [], ◌∷◌, ◌++◌, length, Result, Ok, refl, sym, ap, subst, arith, inl, inr}
+use Rattle.std.proofs.Common.{◌≡◌, ℕ, zero, suc, ◌+◌, ◌-◌, ◌<◌, ◌≤◌, true, false, List, [], ◌∷◌, ◌++◌, length, Option, Some, None, Result, Ok, refl, sym, ap, subst, arith, inl, inr}
 use Rattle.std.specs.Prelude.{◌==◌, ◌≢◌, flat_map}
 use Rattle.std.proofs.lemmas.Bool.{eqb-false}
 use Rattle.scan.specs.declared.token.Mark.TheVariants as marks
-use Rattle.syntax.specs.Tree.{ResultType, Void, IntResult, Block, Function, Item, FunctionItem}
+use Rattle.syntax.specs.Tree.{ResultType, Void, IntResult, ParameterType, Parameter, Block, Function, Item, FunctionItem}
+use Rattle.syntax.specs.Parts.{statements_of, names_declared}
 use Rattle.parse.specs.declared.fault.ParseFault.{ParseFault}
 use Rattle.parse.specs.declared.words.Word.TheVariants as words
 use Rattle.parse.specs.declared.lexemes.Fixed.{Fixed}
 use Rattle.parse.specs.declared.lexemes.Fixed.TheVariants as fixed
 use Rattle.parse.specs.Results.{◌>>=◌}
-use Rattle.parse.specs.Meaning.{Meaning, Fixed', Name', Number', Text'}
-use Rattle.parse.specs.Lexemes.{Lexed, line_at, expect, name_in, name_at}
+use Rattle.parse.specs.Meaning.{Fixed', Name'}
+use Rattle.parse.specs.Lexemes.{Lexed, line_at, expect, name_at}
 use Rattle.parse.specs.Built.{is_built_result}
-use Rattle.parse.specs.Spelling.{Spelled, Anywhere, OnLine, mark, word, result_word, inside, function, item}
-use Rattle.parse.specs.Reading.{starts_with, behind, result_at, head_at, body_at, block_at, function_at, items_at}
+use Rattle.parse.specs.Spelling.{Spelled, Anywhere, OnLine, mark, word, result_word, parameter_word, inside, parameter, function, item}
+use Rattle.parse.specs.Reading.{starts_with, behind, found, parameter_type_at, parameter_at, parameters_at, result_at, head_at, body_at, block_at, function_at, items_at}
 use Rattle.parse.proofs.Forms.{IsBlock, IsFunction, AreItems}
-use Rattle.parse.proofs.Singles.{Begins, bind_ok, ok_is, chosen, begins_append, starts_takes, expect_takes}
-use Rattle.parse.proofs.Sentences.{block_takes, begins_length}
+use Rattle.parse.proofs.Singles.{Begins, bind_ok, ok_is, chosen, begins_append, first_takes, starts_takes, expect_takes, then_takes, name_takes, shortens}
+use Rattle.parse.proofs.TypeWords.{parameter_type_takes}
+use Rattle.parse.proofs.Sentences.{block_takes}
 
 result_takes : (ls : List Lexed) (x : ResultType × List Lexed) → result_at ls ≡ Ok x → Begins (word (result_word x.0) ∷ []) ls x.1
 unfolding result_at
@@ -40,17 +42,6 @@ result_built ls x e =
       ]
     ]
 
-name_in_takes : (l : Lexed) (ls : List Lexed) (x : List ℕ × List Lexed) (m : Meaning) → l.meaning ≡ m → name_in m l.line ls ≡ Ok x → Begins (Anywhere (Name' x.0) ∷ []) (l ∷ ls) x.1
-name_in_takes l ls x (Name' bytes) is e = subst (λ (y : List ℕ × List Lexed). Begins (Anywhere (Name' y.0) ∷ []) (l ∷ ls) y.1) (ok_is (bytes, ls) x e) (is, refl)
-name_in_takes l ls x (Fixed' f) is e = absurd cc
-name_in_takes l ls x (Number' value unsigned) is e = absurd cc
-name_in_takes l ls x (Text' bytes) is e = absurd cc
-
-name_takes : (ls : List Lexed) (x : List ℕ × List Lexed) → name_at ls ≡ Ok x → Begins (Anywhere (Name' x.0) ∷ []) ls x.1
-unfolding name_at
-name_takes [] x e = absurd cc
-name_takes (l ∷ ls) x e = name_in_takes l ls x l.meaning refl e
-
 -- the parameters that each function has, up to the name of its class
 abbrev pub parameters_head : List Spelled
 parameters_head = mark marks.OpenParen ∷ word words.JniEnv ∷ mark marks.Star ∷ word words.Env ∷ mark marks.Comma ∷ word words.Jclass ∷ []
@@ -69,14 +60,75 @@ head_takes ls rest h =
     let t2 = begins_append (word words.JniEnv ∷ []) (mark marks.Star ∷ word words.Env ∷ mark marks.Comma ∷ word words.Jclass ∷ []) a.0 b.0 rest (expect_takes (fixed.Word words.JniEnv) a.0 b.0 b.1) t3 in
     begins_append (mark marks.OpenParen ∷ []) (word words.JniEnv ∷ mark marks.Star ∷ word words.Env ∷ mark marks.Comma ∷ word words.Jclass ∷ []) ls a.0 rest (expect_takes (fixed.Mark marks.OpenParen) ls a.0 a.1) t2
 
-body_takes : (ls : List Lexed) (x : Block × List Lexed) → body_at ls ≡ Ok x → Begins (mark marks.CloseParen ∷ mark marks.OpenBrace ∷ inside x.0) ls x.1 × IsBlock 31 x.0
+-- ---- parameters
+
+found_ok : {A : Type 0} (o : Option A) (ls : List Lexed) (x : A × List Lexed) → found o ls ≡ Ok x → (o ≡ Some x.0) × (behind ls ≡ x.1)
+found_ok None ls x e = absurd cc
+found_ok {A = A} (Some y) ls x e =
+    let same : (y, behind ls) ≡ x = ok_is (y, behind ls) x e in
+    (ap (λ (p : A × List Lexed). Some p.0) same, ap (λ (p : A × List Lexed). p.1) same)
+
+abbrev TakesParameter : List Lexed → Parameter × List Lexed → Type 0
+TakesParameter ls x = Begins (word (parameter_word x.0.type) ∷ Anywhere (Name' x.0.name) ∷ []) ls x.1
+
+abbrev parameter_of : ParameterType → List ℕ → Parameter
+parameter_of t n = record { type = t; name = n }
+
+abbrev named : ParameterType → List ℕ × List Lexed → Result (Parameter × List Lexed) ParseFault
+named t n = Ok (parameter_of t n.0, n.1)
+
+parameter_takes : (ls : List Lexed) (x : Parameter × List Lexed) → parameter_at ls ≡ Ok x → TakesParameter ls x
+unfolding parameter_at
+parameter_takes ls x h =
+    let a = bind_ok (found (parameter_type_at ls) ls) (λ t. name_at t.1 >>= named t.0) x h in
+    let b = bind_ok (name_at a.0.1) (named a.0.0) x a.2 in
+    let f = found_ok (parameter_type_at ls) ls a.0 a.1 in
+    let type = subst (λ (mid : List Lexed). Begins (word (parameter_word a.0.0) ∷ []) ls mid) f.1 (parameter_type_takes a.0.0 ls f.0) in
+    let made : Parameter × List Lexed = (parameter_of a.0.0 b.0.0, b.0.1) in
+    subst (λ (y : Parameter × List Lexed). TakesParameter ls y) (ok_is made x b.2) (begins_append (word (parameter_word a.0.0) ∷ []) (Anywhere (Name' b.0.0) ∷ []) ls a.0.1 b.0.1 type (name_takes a.0.1 b.0 b.1))
+
+abbrev TakesParameters : ℕ → List Lexed → List Parameter × List Lexed → Type 0
+TakesParameters free ls x = Begins (flat_map parameter x.0) ls x.1 × (length x.0 ≤ free)
+
+parameters_take : (free : ℕ) (ls : List Lexed) (x : List Parameter × List Lexed) → parameters_at free ls ≡ Ok x → TakesParameters free ls x
+unfolding parameters_at
+parameters_take zero ls x e =
+    elim (chosen (starts_with (fixed.Mark marks.Comma) ls) _ _ (Ok x) e) [
+      | inl w ↦ absurd cc
+      | inr w ↦ subst (λ (y : List Parameter × List Lexed). TakesParameters zero ls y) (ok_is ([], ls) x w.1) (refl, omega arith)
+    ]
+parameters_take (suc free) ls x e =
+    elim (chosen (starts_with (fixed.Mark marks.Comma) ls) _ _ (Ok x) e) [
+      | inl w ↦
+          let a = bind_ok (parameter_at (behind ls)) (λ p. parameters_at free p.1 >>= λ more. Ok (p.0 ∷ more.0, more.1)) x w.1 in
+          let b = bind_ok (parameters_at free a.0.1) (λ more. Ok (a.0.0 ∷ more.0, more.1)) x a.2 in
+          let t = parameter_takes (behind ls) a.0 a.1 in
+          let r = parameters_take free a.0.1 b.0 b.1 in
+          let one = first_takes (Fixed' (fixed.Mark marks.Comma)) (word (parameter_word a.0.0.type) ∷ Anywhere (Name' a.0.0.name) ∷ []) ls a.0.1 (starts_takes (fixed.Mark marks.Comma) ls w.0) t in
+          let made : List Parameter × List Lexed = (a.0.0 ∷ b.0.0, b.0.1) in
+          subst (λ (y : List Parameter × List Lexed). TakesParameters (suc free) ls y) (ok_is made x b.2) (begins_append (parameter a.0.0) (flat_map parameter b.0.0) ls a.0.1 b.0.1 one r.0, let q = r.1 in omega (arith, q))
+      | inr w ↦ subst (λ (y : List Parameter × List Lexed). TakesParameters (suc free) ls y) (ok_is ([], ls) x w.1) (refl, omega arith)
+    ]
+
+-- ---- bodies
+
+record TakesBody (free : ℕ) (ls : List Lexed) (x : Block × List Lexed) : Type 0 where
+  parts : Begins (mark marks.CloseParen ∷ mark marks.OpenBrace ∷ inside x.0) ls x.1
+  formed : IsBlock 31 x.0
+  few : length (names_declared (statements_of x.0)) ≤ free
+
+body_takes : (free : ℕ) (ls : List Lexed) (x : Block × List Lexed) → body_at free ls ≡ Ok x → TakesBody free ls x
 unfolding body_at
-body_takes ls x h =
-    let a = bind_ok (expect (fixed.Mark marks.CloseParen) ls) (λ a. expect (fixed.Mark marks.OpenBrace) a >>= λ b. block_at 31 (length b + 1) false b) x h in
-    let b = bind_ok (expect (fixed.Mark marks.OpenBrace) a.0) (λ b. block_at 31 (length b + 1) false b) x a.2 in
-    let t = block_takes 31 (length b.0 + 1) false b.0 x b.2 in
-    let within = begins_append (mark marks.OpenBrace ∷ []) (inside x.0) a.0 b.0 x.1 (expect_takes (fixed.Mark marks.OpenBrace) a.0 b.0 b.1) t.parts in
-    (begins_append (mark marks.CloseParen ∷ []) (mark marks.OpenBrace ∷ inside x.0) ls a.0 x.1 (expect_takes (fixed.Mark marks.CloseParen) ls a.0 a.1) within, t.formed)
+body_takes free ls x h =
+    let a = bind_ok (expect (fixed.Mark marks.CloseParen) ls) (λ a. expect (fixed.Mark marks.OpenBrace) a >>= λ b. block_at 31 free (length b + 1) false b) x h in
+    let b = bind_ok (expect (fixed.Mark marks.OpenBrace) a.0) (λ b. block_at 31 free (length b + 1) false b) x a.2 in
+    let t = block_takes 31 free (length b.0 + 1) false b.0 x b.2 in
+    let within = then_takes (fixed.Mark marks.OpenBrace) (inside x.0) a.0 b.0 x.1 b.1 t.parts in
+    record {
+      parts = then_takes (fixed.Mark marks.CloseParen) (mark marks.OpenBrace ∷ inside x.0) ls a.0 x.1 a.1 within;
+      formed = t.formed;
+      few = t.few;
+    }
 
 -- the first lexeme, with its line
 on_expected : (f : Fixed) (ls rest : List Lexed) → expect f ls ≡ Ok rest → Begins (OnLine (line_at ls) (Fixed' f) ∷ []) ls rest
@@ -88,14 +140,17 @@ on_expected f (l ∷ ls) rest e = let t = expect_takes f (l ∷ ls) rest e in ((
 abbrev Read : Type 0
 Read = Result (Function × List Lexed) ParseFault
 
-abbrev made : ℕ → ResultType → List ℕ → List ℕ → Block → Function
-made line r n c body = record { line = line; result = r; name = n; class_name = c; parameters = []; body = body }
+abbrev made : ℕ → ResultType → List ℕ → List ℕ → List Parameter → Block → Function
+made line r n c ps body = record { line = line; result = r; name = n; class_name = c; parameters = ps; body = body }
 
-abbrev step6 : ℕ → ResultType → List ℕ → List ℕ → Block × List Lexed → Read
-step6 line r n c body = Ok (made line r n c body.0, body.1)
+abbrev step7 : ℕ → ResultType → List ℕ → List ℕ → List Parameter → Block × List Lexed → Read
+step7 line r n c ps body = Ok (made line r n c ps body.0, body.1)
+
+abbrev step6 : ℕ → ResultType → List ℕ → List ℕ → List Parameter × List Lexed → Read
+step6 line r n c ps = body_at (255 - length ps.0) ps.1 >>= step7 line r n c ps.0
 
 abbrev step5 : ℕ → ResultType → List ℕ → List ℕ × List Lexed → Read
-step5 line r n c = body_at c.1 >>= step6 line r n c.0
+step5 line r n c = parameters_at 255 c.1 >>= step6 line r n c.0
 
 abbrev step4 : ℕ → ResultType → List ℕ → List Lexed → Read
 step4 line r n ls = name_at ls >>= step5 line r n
@@ -117,9 +172,6 @@ pub record TakesFunction (ls : List Lexed) (x : Function × List Lexed) : Type 0
   pub formed : IsFunction x.0
   pub shorter : length x.1 < length ls
 
-shortens : (e : Spelled) (es : List Spelled) (ls rest : List Lexed) → Begins (e ∷ es) ls rest → length rest < length ls
-shortens e es ls rest h = let p = begins_length (e ∷ es) ls rest h in omega (arith, p)
-
 pub function_takes : (ls : List Lexed) (x : Function × List Lexed) → function_at ls ≡ Ok x → TakesFunction ls x
 unfolding function_at
 function_takes ls x h =
@@ -130,22 +182,26 @@ function_takes ls x h =
     let d = bind_ok (name_at c.0) (step3 line b.0.0) x c.2 in
     let e = bind_ok (head_at d.0.1) (step4 line b.0.0 d.0.0) x d.2 in
     let f = bind_ok (name_at e.0) (step5 line b.0.0 d.0.0) x e.2 in
-    let g = bind_ok (body_at f.0.1) (step6 line b.0.0 d.0.0 f.0.0) x f.2 in
-    let body = body_takes f.0.1 g.0 g.1 in
+    let k = bind_ok (parameters_at 255 f.0.1) (step6 line b.0.0 d.0.0 f.0.0) x f.2 in
+    let g = bind_ok (body_at (255 - length k.0.0) k.0.1) (step7 line b.0.0 d.0.0 f.0.0 k.0.0) x k.2 in
+    let ps = parameters_take 255 f.0.1 k.0 k.1 in
+    let body = body_takes (255 - length k.0.0) k.0.1 g.0 g.1 in
     let es6 : List Spelled = mark marks.CloseParen ∷ mark marks.OpenBrace ∷ inside g.0.0 in
-    let es5 : List Spelled = Anywhere (Name' f.0.0) ∷ es6 in
+    let es5 : List Spelled = Anywhere (Name' f.0.0) ∷ (flat_map parameter k.0.0 ++ es6) in
     let es3 : List Spelled = Anywhere (Name' d.0.0) ∷ (parameters_head ++ es5) in
     let es2 : List Spelled = word words.JniCall ∷ es3 in
     let es1 : List Spelled = word (result_word b.0.0) ∷ es2 in
-    let t5 = begins_append (Anywhere (Name' f.0.0) ∷ []) es6 e.0 f.0.1 g.0.1 (name_takes e.0 f.0 f.1) body.0 in
+    let t6 = begins_append (flat_map parameter k.0.0) es6 f.0.1 k.0.1 g.0.1 ps.0 body.parts in
+    let t5 = begins_append (Anywhere (Name' f.0.0) ∷ []) (flat_map parameter k.0.0 ++ es6) e.0 f.0.1 g.0.1 (name_takes e.0 f.0 f.1) t6 in
     let t4 = begins_append parameters_head es5 d.0.1 e.0 g.0.1 (head_takes d.0.1 e.0 e.1) t5 in
     let t3 = begins_append (Anywhere (Name' d.0.0) ∷ []) (parameters_head ++ es5) c.0 d.0.1 g.0.1 (name_takes c.0 d.0 d.1) t4 in
     let t2 = begins_append (word words.JniCall ∷ []) es3 b.0.1 c.0 g.0.1 (expect_takes (fixed.Word words.JniCall) b.0.1 c.0 c.1) t3 in
     let t1 = begins_append (word (result_word b.0.0) ∷ []) es2 a.0 b.0.1 g.0.1 (result_takes a.0 b.0 b.1) t2 in
     let t0 = begins_append (OnLine line (Fixed' (fixed.Word words.JniExport)) ∷ []) es1 ls a.0 g.0.1 (on_expected (fixed.Word words.JniExport) ls a.0 a.1) t1 in
-    subst (λ (y : Function × List Lexed). TakesFunction ls y) (ok_is (made line b.0.0 d.0.0 f.0.0 g.0.0, g.0.1) x g.2) (record {
+    let few = ps.1 in
+    subst (λ (y : Function × List Lexed). TakesFunction ls y) (ok_is (made line b.0.0 d.0.0 f.0.0 k.0.0 g.0.0, g.0.1) x g.2) (record {
       parts = t0;
-      formed = record { result = result_built a.0 b.0 b.1; parameters = refl; body = body.1 };
+      formed = record { result = result_built a.0 b.0 b.1; body = body.formed; names = omega (arith, few, body.few) };
       shorter = shortens (OnLine line (Fixed' (fixed.Word words.JniExport))) es1 ls g.0.1 t0;
     })
 

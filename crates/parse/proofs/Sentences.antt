@@ -1,40 +1,28 @@
 -- Statements and blocks: what is read is spelled so, and what is spelled so is read.
-use Rattle.std.proofs.Common.{◌≡◌, ℕ, zero, suc, ◌+◌, ◌<◌, Bool, true, false, List, [], ◌∷◌, ◌++◌, length, Option, Some, None, Ok, refl, sym, ap, subst, ◌∙◌, arith, inl, inr}
+use Rattle.std.proofs.Common.{◌≡◌, ℕ, zero, suc, ◌+◌, ◌-◌, ◌<◌, ◌≤◌, Bool, true, false, List, [], ◌∷◌, ◌++◌, length, Option, Some, None, Result, Ok, refl, ap, subst, ◌∙◌, arith, inl, inr}
+use Rattle.std.specs.Prelude.{◌==◌, ◌≢◌}
+use Rattle.std.proofs.lemmas.Bool.{eqb-false}
+use Rattle.std.proofs.lemmas.List.{length-append}
+use Rattle.std.proofs.lemmas.List.Elements.{filter_map-append}
 use Rattle.scan.specs.declared.token.Mark.TheVariants as marks
-use Rattle.syntax.specs.Tree.{Expr, Stmt, PutJint, Return, ReturnValue, Block, End, Next}
-use Rattle.syntax.specs.Limits.{height}
+use Rattle.base.specs.Bytes.{Identifier}
+use Rattle.syntax.specs.Tree.{VariableType, Expr, RightSide, Stmt, Declare, PutJint, Return, ReturnValue, Block, End, Next}
+use Rattle.syntax.specs.Parts.{statements_within, statements_of, declared_name, names_declared}
+use Rattle.parse.specs.declared.fault.ParseFault.{ParseFault}
 use Rattle.parse.specs.declared.words.Word.TheVariants as words
-use Rattle.parse.specs.declared.lexemes.Fixed.{Fixed}
 use Rattle.parse.specs.declared.lexemes.Fixed.TheVariants as fixed
 use Rattle.parse.specs.Results.{◌>>=◌}
-use Rattle.parse.specs.Meaning.{Fixed'}
-use Rattle.parse.specs.Lexemes.{Lexed, line_at, expect}
-use Rattle.parse.specs.Spelling.{Spelled, OnLine, mark, expression, statement, inside}
-use Rattle.parse.specs.Reading.{ReadExpr, starts_with, behind, operator_at, deeper, expr_at, put_at, return_at, statement_at, is_return, block_at}
-use Rattle.parse.proofs.Forms.{IsExpr, IsForm, MayFollow, IsBlock}
-use Rattle.parse.proofs.Singles.{Begins, bind_ok, ok_is, chosen, begins_append, starts_takes, fixed_is, expect_takes}
-use Rattle.parse.proofs.Levels.{expr_takes, expr_again, deeper_takes, deeper_again}
-
-pub begins_length : (es : List Spelled) (ls rest : List Lexed) → Begins es ls rest → length ls ≡ length es + length rest
-begins_length [] ls rest h = ap length h ∙ omega arith
-begins_length (e ∷ es) [] rest h = absurd h
-begins_length (e ∷ es) (l ∷ ls) rest h = let p = begins_length es ls rest h.1 in omega (arith, p)
-
-pub expr_reads : (room : ℕ) (ls : List Lexed) (y : ReadExpr) → expr_at room 0 ls ≡ Ok y → Begins (expression y.0) ls y.2 × IsExpr room y.0
-expr_reads room ls y e =
-    let t = expr_takes (deeper room) room (deeper_takes room) 0 ls y e in
-    (t.0.parts, record { levelled = t.0.levelled; low = t.1 })
-
-pub expr_reads_again : (room : ℕ) (ls rest : List Lexed) (e : Expr) → Begins (expression e) ls rest → IsExpr room e → operator_at rest ≡ None → expr_at room 0 ls ≡ Ok (e, height e, rest)
-expr_reads_again room ls rest e h is none =
-    expr_again (deeper room) room (deeper_again room) 0 ls rest e h is.levelled is.low (λ op same. let f : None ≡ Some op = sym none ∙ same in absurd cc)
+use Rattle.parse.specs.Meaning.{Fixed', Name'}
+use Rattle.parse.specs.Lexemes.{Lexed, line_at, expect, name_at}
+use Rattle.parse.specs.Spelling.{Spelled, Anywhere, OnLine, mark, variable_word, expression, right, setting, statement, inside}
+use Rattle.parse.specs.Reading.{starts_with, behind, expr_at, variable_type_at, right_at, put_at, return_at, setting_at, declared_at, statement_at, is_return, names_of, block_at}
+use Rattle.parse.proofs.Forms.{IsExpr, IsRight, IsForm, MayFollow, IsBlock}
+use Rattle.parse.proofs.Singles.{Begins, bind_ok, ok_is, chosen, begins_append, starts_takes, expect_takes, then_takes, name_takes, shortens, on_takes}
+use Rattle.parse.proofs.TypeWords.{variable_type_takes, variable_type_built}
+use Rattle.parse.proofs.Levels.{expr_reads}
+use Rattle.parse.proofs.JniCalls.{right_takes}
 
 -- ---- what is read is spelled so
-
--- a first lexeme on its line
-on_takes : (f : Fixed) (es : List Spelled) (ls rest : List Lexed) → starts_with f ls ≡ true → Begins es (behind ls) rest → Begins (OnLine (line_at ls) (Fixed' f) ∷ es) ls rest
-on_takes f es [] rest s h = absurd cc
-on_takes f es (l ∷ ls) rest s h = ((fixed_is l.meaning f s, refl), h)
 
 put_takes : (room line : ℕ) (ls : List Lexed) (x : Stmt × List Lexed) → put_at room line ls ≡ Ok x → (e : Expr) × (PutJint line e ≡ x.0) × IsExpr room e × Begins (mark marks.OpenParen ∷ (expression e ++ (mark marks.CloseParen ∷ mark marks.Semicolon ∷ []))) ls x.1
 unfolding put_at
@@ -81,59 +69,118 @@ return_takes room line ls x e =
           (Some b.0.0, ap (λ (p : Stmt × List Lexed). p.0) same, t.1, subst (λ (p : Stmt × List Lexed). Begins (expression b.0.0 ++ mark marks.Semicolon ∷ []) ls p.1) same (begins_append (expression b.0.0) (mark marks.Semicolon ∷ []) ls b.0.2 d.0 t.0 (expect_takes (fixed.Mark marks.Semicolon) b.0.2 d.0 d.1)))
     ]
 
-pub record TakesStmt (room : ℕ) (ls : List Lexed) (x : Stmt × List Lexed) : Type 0 where
+-- a name, and what it is set to
+abbrev Setting : Type 0
+Setting = Identifier × RightSide × List Lexed
+
+abbrev TakesSetting : ℕ → List Lexed → Setting → Type 0
+TakesSetting room ls x = Begins (setting x.0 x.1) ls x.2 × IsRight room x.1
+
+abbrev setting3 : Identifier → RightSide → List Lexed → Result Setting ParseFault
+setting3 x r rest = Ok (x, r, rest)
+
+abbrev setting2 : Identifier → RightSide × List Lexed → Result Setting ParseFault
+setting2 x r = expect (fixed.Mark marks.Semicolon) r.1 >>= setting3 x r.0
+
+abbrev setting1 : ℕ → Identifier → List Lexed → Result Setting ParseFault
+setting1 room x ls = right_at room ls >>= setting2 x
+
+abbrev setting0 : ℕ → Identifier × List Lexed → Result Setting ParseFault
+setting0 room x = expect (fixed.Mark marks.Assign) x.1 >>= setting1 room x.0
+
+setting_takes : (room : ℕ) (ls : List Lexed) (x : Setting) → setting_at room ls ≡ Ok x → TakesSetting room ls x
+unfolding setting_at
+setting_takes room ls x h =
+    let a = bind_ok (name_at ls) (setting0 room) x h in
+    let b = bind_ok (expect (fixed.Mark marks.Assign) a.0.1) (setting1 room a.0.0) x a.2 in
+    let c = bind_ok (right_at room b.0) (setting2 a.0.0) x b.2 in
+    let d = bind_ok (expect (fixed.Mark marks.Semicolon) c.0.1) (setting3 a.0.0 c.0.0) x c.2 in
+    let t = right_takes room b.0 c.0 c.1 in
+    let es : List Spelled = right c.0.0 ++ mark marks.Semicolon ∷ [] in
+    let t2 = begins_append (right c.0.0) (mark marks.Semicolon ∷ []) b.0 c.0.1 d.0 t.0 (expect_takes (fixed.Mark marks.Semicolon) c.0.1 d.0 d.1) in
+    let t1 = then_takes (fixed.Mark marks.Assign) es a.0.1 b.0 d.0 b.1 t2 in
+    let t0 = begins_append (Anywhere (Name' a.0.0) ∷ []) (mark marks.Assign ∷ es) ls a.0.1 d.0 (name_takes ls a.0 a.1) t1 in
+    let made : Setting = (a.0.0, c.0.0, d.0) in
+    subst (λ (y : Setting). TakesSetting room ls y) (ok_is made x d.2) (t0, t.1)
+
+pub record TakesStmt (room free : ℕ) (ls : List Lexed) (x : Stmt × List Lexed) : Type 0 where
   pub parts : Begins (statement x.0) ls x.1
   pub formed : IsForm room x.0
+  pub few : names_of x.0 ≤ free
   pub shorter : length x.1 < length ls
 
-shortens : (e : Spelled) (es : List Spelled) (ls rest : List Lexed) → Begins (e ∷ es) ls rest → length rest < length ls
-shortens e es ls rest h = let p = begins_length (e ∷ es) ls rest h in omega (arith, p)
+return_stmt : (room free line : ℕ) (o : Option Expr) (ls rest : List Lexed) → IsOperandExpr room o → Begins (OnLine line (Fixed' (fixed.Word words.Return)) ∷ (operand_tokens o ++ mark marks.Semicolon ∷ [])) ls rest → TakesStmt room free ls (return_of line o, rest)
+return_stmt room free line None ls rest is h = record { parts = h; formed = tt; few = omega arith; shorter = shortens (OnLine line (Fixed' (fixed.Word words.Return))) (mark marks.Semicolon ∷ []) ls rest h }
+return_stmt room free line (Some e) ls rest is h = record { parts = h; formed = is; few = omega arith; shorter = shortens (OnLine line (Fixed' (fixed.Word words.Return))) (expression e ++ mark marks.Semicolon ∷ []) ls rest h }
 
-return_stmt : (room line : ℕ) (o : Option Expr) (ls rest : List Lexed) → IsOperandExpr room o → Begins (OnLine line (Fixed' (fixed.Word words.Return)) ∷ (operand_tokens o ++ mark marks.Semicolon ∷ [])) ls rest → TakesStmt room ls (return_of line o, rest)
-return_stmt room line None ls rest is h = record { parts = h; formed = tt; shorter = shortens (OnLine line (Fixed' (fixed.Word words.Return))) (mark marks.Semicolon ∷ []) ls rest h }
-return_stmt room line (Some e) ls rest is h = record { parts = h; formed = is; shorter = shortens (OnLine line (Fixed' (fixed.Word words.Return))) (expression e ++ mark marks.Semicolon ∷ []) ls rest h }
+declared_takes : (room free : ℕ) (o : Option VariableType) (ls : List Lexed) (x : Stmt × List Lexed) → variable_type_at ls ≡ o → declared_at room free o ls ≡ Ok x → TakesStmt room free ls x
+unfolding declared_at
+declared_takes room free None ls x same e = absurd cc
+declared_takes room free (Some t) ls x same e =
+    elim (chosen (free == 0) _ _ (Ok x) e) [
+      | inl w ↦ absurd cc
+      | inr w ↦
+          let a = bind_ok (setting_at room (behind ls)) (λ s. Ok (Declare (line_at ls) t s.0 s.1, s.2)) x w.1 in
+          let s = setting_takes room (behind ls) a.0 a.1 in
+          let parts = variable_type_takes t (setting a.0.0 a.0.1) ls a.0.2 same s.0 in
+          let other : free ≢ 0 = eqb-false free 0 w.0 in
+          let made : Stmt × List Lexed = (Declare (line_at ls) t a.0.0 a.0.1, a.0.2) in
+          subst (λ (y : Stmt × List Lexed). TakesStmt room free ls y) (ok_is made x a.2) (record {
+            parts = parts;
+            formed = (variable_type_built t ls same, s.1);
+            few = omega (arith, other);
+            shorter = shortens (OnLine (line_at ls) (Fixed' (fixed.Word (variable_word t)))) (setting a.0.0 a.0.1) ls a.0.2 parts;
+          })
+    ]
 
-pub statement_takes : (room : ℕ) (ls : List Lexed) (x : Stmt × List Lexed) → statement_at room ls ≡ Ok x → TakesStmt room ls x
+pub statement_takes : (room free : ℕ) (ls : List Lexed) (x : Stmt × List Lexed) → statement_at room free ls ≡ Ok x → TakesStmt room free ls x
 unfolding statement_at
-statement_takes room ls x e =
+statement_takes room free ls x e =
     elim (chosen (starts_with (fixed.Word words.PutJint) ls) _ _ (Ok x) e) [
       | inl w ↦
           let t = put_takes room (line_at ls) (behind ls) x w.1 in
           let es : List Spelled = mark marks.OpenParen ∷ (expression t.0 ++ (mark marks.CloseParen ∷ mark marks.Semicolon ∷ [])) in
           let parts = on_takes (fixed.Word words.PutJint) es ls x.1 w.0 t.3 in
-          subst (λ (s : Stmt). TakesStmt room ls (s, x.1)) t.1 (record { parts = parts; formed = t.2; shorter = shortens (OnLine (line_at ls) (Fixed' (fixed.Word words.PutJint))) es ls x.1 parts })
+          subst (λ (s : Stmt). TakesStmt room free ls (s, x.1)) t.1 (record { parts = parts; formed = t.2; few = omega arith; shorter = shortens (OnLine (line_at ls) (Fixed' (fixed.Word words.PutJint))) es ls x.1 parts })
       | inr v ↦ elim (chosen (starts_with (fixed.Word words.Return) ls) _ _ (Ok x) v.1) [
         | inl w ↦
             let t = return_takes room (line_at ls) (behind ls) x w.1 in
             let parts = on_takes (fixed.Word words.Return) (operand_tokens t.0 ++ mark marks.Semicolon ∷ []) ls x.1 w.0 t.3 in
-            subst (λ (s : Stmt). TakesStmt room ls (s, x.1)) t.1 (return_stmt room (line_at ls) t.0 ls x.1 t.2 parts)
-        | inr w ↦ absurd cc
+            subst (λ (s : Stmt). TakesStmt room free ls (s, x.1)) t.1 (return_stmt room free (line_at ls) t.0 ls x.1 t.2 parts)
+        | inr w ↦ declared_takes room free (variable_type_at ls) ls x refl w.1
       ]
     ]
 
-pub record TakesBlock (room : ℕ) (returned : Bool) (ls : List Lexed) (x : Block × List Lexed) : Type 0 where
+-- the names of statements one behind the other
+pub names_split : (a b : List Stmt) → length (names_declared (a ++ b)) ≡ length (names_declared a) + length (names_declared b)
+names_split a b = ap length (filter_map-append declared_name a b) ∙ length-append (names_declared a) (names_declared b)
+
+pub record TakesBlock (room free : ℕ) (returned : Bool) (ls : List Lexed) (x : Block × List Lexed) : Type 0 where
   pub parts : Begins (inside x.0) ls x.1
   pub formed : IsBlock room x.0
   pub follows : MayFollow returned x.0
+  pub few : length (names_declared (statements_of x.0)) ≤ free
 
-pub block_takes : (room steps : ℕ) (returned : Bool) (ls : List Lexed) (x : Block × List Lexed) → block_at room steps returned ls ≡ Ok x → TakesBlock room returned ls x
+pub block_takes : (room free steps : ℕ) (returned : Bool) (ls : List Lexed) (x : Block × List Lexed) → block_at room free steps returned ls ≡ Ok x → TakesBlock room free returned ls x
 unfolding block_at
-block_takes room zero returned ls x e = absurd cc
-block_takes room (suc steps) returned ls x e =
+block_takes room free zero returned ls x e = absurd cc
+block_takes room free (suc steps) returned ls x e =
     elim (chosen (starts_with (fixed.Mark marks.CloseBrace) ls) _ _ (Ok x) e) [
-      | inl w ↦ subst (λ (y : Block × List Lexed). TakesBlock room returned ls y) (ok_is (End (line_at ls), behind ls) x w.1) (record { parts = on_takes (fixed.Mark marks.CloseBrace) [] ls (behind ls) w.0 refl; formed = tt; follows = may_end returned })
+      | inl w ↦ subst (λ (y : Block × List Lexed). TakesBlock room free returned ls y) (ok_is (End (line_at ls), behind ls) x w.1) (record { parts = on_takes (fixed.Mark marks.CloseBrace) [] ls (behind ls) w.0 refl; formed = tt; follows = may_end returned; few = omega arith })
       | inr v ↦ elim (chosen returned _ _ (Ok x) v.1) [
         | inl w ↦ absurd cc
         | inr w ↦
-            let a = bind_ok (statement_at room ls) (λ s. block_at room steps (is_return s.0) s.1 >>= λ b. Ok (Next s.0 b.0, b.1)) x w.1 in
-            let b = bind_ok (block_at room steps (is_return a.0.0) a.0.1) (λ b. Ok (Next a.0.0 b.0, b.1)) x a.2 in
-            let t = statement_takes room ls a.0 a.1 in
-            let r = block_takes room steps (is_return a.0.0) a.0.1 b.0 b.1 in
+            let a = bind_ok (statement_at room free ls) (λ s. block_at room (free - names_of s.0) steps (is_return s.0) s.1 >>= λ b. Ok (Next s.0 b.0, b.1)) x w.1 in
+            let b = bind_ok (block_at room (free - names_of a.0.0) steps (is_return a.0.0) a.0.1) (λ b. Ok (Next a.0.0 b.0, b.1)) x a.2 in
+            let t = statement_takes room free ls a.0 a.1 in
+            let r = block_takes room (free - names_of a.0.0) steps (is_return a.0.0) a.0.1 b.0 b.1 in
             let follows : MayFollow returned (Next a.0.0 b.0.0) = rw w.0 tt in
-            subst (λ (y : Block × List Lexed). TakesBlock room returned ls y) (ok_is (Next a.0.0 b.0.0, b.0.1) x b.2) (record {
+            let count = names_split (statements_within a.0.0) (statements_of b.0.0) in
+            subst (λ (y : Block × List Lexed). TakesBlock room free returned ls y) (ok_is (Next a.0.0 b.0.0, b.0.1) x b.2) (record {
               parts = begins_append (statement a.0.0) (inside b.0.0) ls a.0.1 b.0.1 t.parts r.parts;
               formed = (t.formed, r.follows, r.formed);
               follows = follows;
+              few = omega (arith, count, t.few, r.few);
             })
       ]
     ]

@@ -1,5 +1,5 @@
 -- Single lexemes: what is expected and what is read.
-use Rattle.std.proofs.Common.{◌≡◌, ℕ, Bool, true, false, cond, List, [], ◌∷◌, ◌++◌, Result, Ok, Err, refl, sym, ap, subst, ◌∙◌, inl, inr}
+use Rattle.std.proofs.Common.{◌≡◌, ℕ, ◌+◌, ◌<◌, length, arith, Bool, true, false, cond, List, [], ◌∷◌, ◌++◌, Result, Ok, Err, refl, sym, ap, subst, ◌∙◌, inl, inr}
 use Rattle.std.specs.Prelude.{◌⊎◌, ◌==◌, if◌then◌else◌}
 use Rattle.std.proofs.lemmas.Bool.{eqb-true, eq-eqb, false_from_ne_true}
 use Rattle.scan.specs.declared.token.Mark.{Mark}
@@ -13,7 +13,7 @@ use Rattle.parse.specs.declared.lexemes.Fixed.{Fixed}
 use Rattle.parse.specs.declared.lexemes.Fixed.TheVariants as fixed
 use Rattle.parse.specs.Results.{◌>>=◌}
 use Rattle.parse.specs.Meaning.{Meaning, Fixed', Name', Number', Text'}
-use Rattle.parse.specs.Lexemes.{Lexed, mark_code, word_code, same_mark, same_word, same_fixed, is_fixed_meaning, is_fixed, expect}
+use Rattle.parse.specs.Lexemes.{Lexed, mark_code, word_code, same_mark, same_word, same_fixed, is_fixed_meaning, is_fixed, line_at, expect, name_in, name_at}
 use Rattle.parse.specs.Spelling.{Spelled, Anywhere, OnLine}
 use Rattle.parse.specs.Reading.{starts_with, behind}
 
@@ -136,7 +136,7 @@ word_found words.Unused = refl
 mark_is : (a b : Mark) → same_mark a b ≡ true → a ≡ b
 mark_is a b e = sym (mark_found a) ∙ ap (find_mark mark_list) (eqb-true _ _ e) ∙ mark_found b
 
-word_is : (a b : Word) → same_word a b ≡ true → a ≡ b
+pub word_is : (a b : Word) → same_word a b ≡ true → a ≡ b
 word_is a b e = sym (word_found a) ∙ ap (find_word word_list) (eqb-true _ _ e) ∙ word_found b
 
 -- a flag that tells equality is the test of the numbers
@@ -222,3 +222,50 @@ pub expect_again : (f : Fixed) (es : List Spelled) (ls rest : List Lexed) → Be
 unfolding expect
 expect_again f es [] rest h = absurd h
 expect_again f es (l ∷ ls) rest h = (ls, rw (h.0, same_itself f) refl, h.1)
+
+-- a fixed lexeme, and what stands behind it
+pub then_takes : (f : Fixed) (es : List Spelled) (ls mid rest : List Lexed) → expect f ls ≡ Ok mid → Begins es mid rest → Begins (Anywhere (Fixed' f) ∷ es) ls rest
+then_takes f es ls mid rest e h = begins_append (Anywhere (Fixed' f) ∷ []) es ls mid rest (expect_takes f ls mid e) h
+
+-- ---- names
+
+name_in_takes : (l : Lexed) (ls : List Lexed) (x : List ℕ × List Lexed) (m : Meaning) → l.meaning ≡ m → name_in m l.line ls ≡ Ok x → Begins (Anywhere (Name' x.0) ∷ []) (l ∷ ls) x.1
+name_in_takes l ls x (Name' bytes) is e = subst (λ (y : List ℕ × List Lexed). Begins (Anywhere (Name' y.0) ∷ []) (l ∷ ls) y.1) (ok_is (bytes, ls) x e) (is, refl)
+name_in_takes l ls x (Fixed' f) is e = absurd cc
+name_in_takes l ls x (Number' value unsigned) is e = absurd cc
+name_in_takes l ls x (Text' bytes) is e = absurd cc
+
+pub name_takes : (ls : List Lexed) (x : List ℕ × List Lexed) → name_at ls ≡ Ok x → Begins (Anywhere (Name' x.0) ∷ []) ls x.1
+unfolding name_at
+name_takes [] x e = absurd cc
+name_takes (l ∷ ls) x e = name_in_takes l ls x l.meaning refl e
+
+pub name_again : (n : List ℕ) (es : List Spelled) (ls rest : List Lexed) → Begins (Anywhere (Name' n) ∷ es) ls rest → name_at ls ≡ Ok (n, behind ls)
+unfolding name_at
+name_again n es [] rest h = absurd h
+name_again n es (l ∷ ls) rest h = rw h.0 refl
+
+-- ---- lengths
+
+pub begins_length : (es : List Spelled) (ls rest : List Lexed) → Begins es ls rest → length ls ≡ length es + length rest
+begins_length [] ls rest h = ap length h ∙ omega arith
+begins_length (e ∷ es) [] rest h = absurd h
+begins_length (e ∷ es) (l ∷ ls) rest h = let p = begins_length es ls rest h.1 in omega (arith, p)
+
+pub shortens : (e : Spelled) (es : List Spelled) (ls rest : List Lexed) → Begins (e ∷ es) ls rest → length rest < length ls
+shortens e es ls rest h = let p = begins_length (e ∷ es) ls rest h in omega (arith, p)
+
+-- ---- the first lexeme of a statement
+
+-- a first lexeme on its line
+pub on_takes : (f : Fixed) (es : List Spelled) (ls rest : List Lexed) → starts_with f ls ≡ true → Begins es (behind ls) rest → Begins (OnLine (line_at ls) (Fixed' f) ∷ es) ls rest
+on_takes f es [] rest s h = absurd cc
+on_takes f es (l ∷ ls) rest s h = ((fixed_is l.meaning f s, refl), h)
+
+pub on_is : (line : ℕ) (m : Meaning) (es : List Spelled) (ls rest : List Lexed) (f : Fixed) → Begins (OnLine line m ∷ es) ls rest → starts_with f ls ≡ is_fixed_meaning m f
+on_is line m es [] rest f h = absurd h
+on_is line m es (l ∷ ls) rest f h = ap (λ (x : Meaning). is_fixed_meaning x f) h.0.0
+
+pub on_line_is : (line : ℕ) (m : Meaning) (es : List Spelled) (ls rest : List Lexed) → Begins (OnLine line m ∷ es) ls rest → line_at ls ≡ line
+on_line_is line m es [] rest h = absurd h
+on_line_is line m es (l ∷ ls) rest h = h.0.1

@@ -1,19 +1,20 @@
 -- The trees that are read are the built ones that a text may spell.
-use Rattle.std.proofs.Common.{◌≡◌, ℕ, ◌+◌, ◌≤◌, Bool, true, false, List, [], ◌∷◌, ◌++◌, length, Option, None, refl, sym, ap, ◌∙◌, arith}
+use Rattle.std.proofs.Common.{◌≡◌, ℕ, ◌+◌, ◌≤◌, Bool, true, false, List, [], ◌∷◌, ◌++◌, length, map, refl, sym, ap, ◌∙◌, arith}
 use Rattle.std.specs.Prelude.{◌&&◌, nat_le, nat_lt, flat_map}
-use Rattle.std.specs.List.{list_all, cons_option}
+use Rattle.std.specs.List.{list_all}
 use Rattle.std.proofs.lemmas.Bool.{and_from, and_parts, leb-true, le-leb, ltb-true, lt-ltb}
+use Rattle.std.proofs.lemmas.List.{length-append, length-map}
 use Rattle.scan.specs.declared.token.Mark.TheVariants as marks
-use Rattle.base.specs.Bytes.{Identifier}
-use Rattle.syntax.specs.Tree.{Expr, Number, Named, Variable, Element, Prefix, Binary, Paren, Stmt, Declare, DeclareBuffer, DeclareChars, DeclareArray, Assign, AssignElement, Perform, PutJint, If, IfElse, While, Return, ReturnValue, Block, End, Next, Parameter, Function, Item, StaticItem, FunctionItem, SourceUnit}
-use Rattle.syntax.specs.Parts.{functions_of, statics_of, statements_within, statements_of, own_expressions, declared_name, names_declared, parameter_names}
-use Rattle.syntax.specs.Limits.{operator_level, prefix_level, level, levelled, numbers_in_range, statement_height, block_height, block_well_formed, IsTree}
-use Rattle.parse.specs.Built.{is_built_prefix, is_built_operator, is_built_expression, is_built_statement, is_built_block, is_built_result, are_built_parameters, is_built_item, is_built}
-use Rattle.parse.specs.Spelling.{mark, expression, statement, inside, parameters, function, item, spell}
+use Rattle.syntax.specs.Tree.{Expr, Number, Named, Variable, Element, Prefix, Binary, Paren, Argument, Value, Text, AddressOf, RightSide, FromExpr, FromCall, Stmt, Declare, DeclareBuffer, DeclareChars, DeclareArray, Assign, AssignElement, Perform, PutJint, If, IfElse, While, Return, ReturnValue, Block, End, Next, Function, Item, StaticItem, FunctionItem, SourceUnit}
+use Rattle.syntax.specs.Parts.{functions_of, statics_of, statements_within, statements_of, argument_expressions, right_side_expressions, own_expressions, names_declared, parameter_names}
+use Rattle.syntax.specs.Limits.{operator_level, prefix_level, level, levelled, numbers_in_range, height, highest, statement_height, block_height, block_well_formed, IsTree}
+use Rattle.parse.specs.Built.{is_built_prefix, is_built_operator, is_built_expression, is_built_argument, is_built_right, is_built_variable, is_built_statement, is_built_block, is_built_result, is_built_item, is_built}
+use Rattle.parse.specs.Spelling.{mark, expression, right, statement, inside, parameters, function, item, spell}
 use Rattle.parse.specs.Reading.{is_return}
-use Rattle.parse.proofs.Forms.{IsLevelled, IsForm, MayFollow, IsBlock, IsFunction, AreItems}
+use Rattle.parse.proofs.Forms.{IsLevelled, AreArguments, IsRight, IsForm, MayFollow, IsBlock, IsFunction, AreItems}
 use Rattle.parse.proofs.Table.{level_small}
 use Rattle.parse.proofs.Ranges.{AreInRange, range_left, range_right, numbers_of}
+use Rattle.parse.proofs.JniCalls.{argument_tokens}
 
 false_true : false ≡ true → ⊥
 false_true e = cc
@@ -22,8 +23,8 @@ false_true e = cc
 
 level_of : (least : ℕ) (e : Expr) → least ≤ prefix_level → IsLevelled least e → least ≤ level e
 level_of least (Number value unsigned) le h = omega (arith, le)
-level_of least (Named c) le h = absurd h
-level_of least (Variable x) le h = absurd h
+level_of least (Named c) le h = omega (arith, le)
+level_of least (Variable x) le h = omega (arith, le)
 level_of least (Element x i) le h = absurd h
 level_of least (Prefix op e) le h = le
 level_of least (Binary op a b) le h = h.0
@@ -31,8 +32,8 @@ level_of least (Paren e) le h = omega (arith, le)
 
 levelled_of : (least : ℕ) (e : Expr) → IsLevelled least e → levelled e ≡ true
 levelled_of least (Number value unsigned) h = refl
-levelled_of least (Named c) h = absurd h
-levelled_of least (Variable x) h = absurd h
+levelled_of least (Named c) h = refl
+levelled_of least (Variable x) h = refl
 levelled_of least (Element x i) h = absurd h
 levelled_of least (Prefix op e) h = and_from (nat_le prefix_level (level e)) (levelled e) (le-leb prefix_level (level e) (level_of prefix_level e (omega arith) h.1)) (levelled_of prefix_level e h.1)
 levelled_of least (Binary op a b) h =
@@ -45,8 +46,8 @@ levelled_of least (Paren e) h = levelled_of 0 e h
 
 built_of : (least : ℕ) (e : Expr) → IsLevelled least e → is_built_expression e ≡ true
 built_of least (Number value unsigned) h = refl
-built_of least (Named c) h = absurd h
-built_of least (Variable x) h = absurd h
+built_of least (Named c) h = h
+built_of least (Variable x) h = refl
 built_of least (Element x i) h = absurd h
 built_of least (Prefix op e) h = and_from (is_built_prefix op) (is_built_expression e) h.0 (built_of prefix_level e h.1)
 built_of least (Binary op a b) h = and_from _ (is_built_expression b) (and_from (is_built_operator op) (is_built_expression a) h.1 (built_of (operator_level op) a h.2)) (built_of (operator_level op + 1) b h.3)
@@ -54,8 +55,8 @@ built_of least (Paren e) h = built_of 0 e h
 
 to_levelled : (e : Expr) (least : ℕ) → levelled e ≡ true → is_built_expression e ≡ true → least ≤ level e → IsLevelled least e
 to_levelled (Number value unsigned) least h built le = tt
-to_levelled (Named c) least h built le = absurd (false_true built)
-to_levelled (Variable x) least h built le = absurd (false_true built)
+to_levelled (Named c) least h built le = built
+to_levelled (Variable x) least h built le = tt
 to_levelled (Element x i) least h built le = absurd (false_true built)
 to_levelled (Prefix op e) least h built le =
     let p = and_parts (nat_le prefix_level (level e)) (levelled e) h in
@@ -71,6 +72,67 @@ to_levelled (Binary op a b) least h built le =
     (le, v.0, to_levelled a (operator_level op) q.1 v.1 (leb-true (operator_level op) (level a) r.0), to_levelled b (operator_level op + 1) p.1 u.1 (omega (arith, tighter)))
 to_levelled (Paren e) least h built le = to_levelled e 0 h built (omega arith)
 
+-- ---- arguments and right sides
+
+abbrev expressions_of : List Argument → List Expr
+expressions_of arguments = flat_map argument_expressions arguments
+
+record ArgumentFacts (room : ℕ) (arguments : List Argument) : Type 0 where
+  levels : list_all levelled (expressions_of arguments) ≡ true
+  numbers : AreInRange (argument_tokens arguments) → list_all numbers_in_range (expressions_of arguments) ≡ true
+  low : highest (map height (expressions_of arguments)) ≤ room
+  built : list_all is_built_argument arguments ≡ true
+
+argument_facts : (room : ℕ) (arguments : List Argument) → AreArguments room arguments → ArgumentFacts room arguments
+argument_facts room [] is = record { levels = refl; numbers = λ h. refl; low = omega arith; built = refl }
+argument_facts room (Value e ∷ more) is =
+    let facts = argument_facts room more is.1 in
+    let high = is.0.low in
+    let high_more = facts.low in
+    record {
+      levels = and_from (levelled e) _ (levelled_of 0 e is.0.levelled) facts.levels;
+      numbers = λ h. and_from (numbers_in_range e) _ (numbers_of e (range_left (expression e) (argument_tokens more) h.1)) (facts.numbers (range_right (expression e) (argument_tokens more) h.1));
+      low = omega (arith, high, high_more);
+      built = and_from (is_built_expression e) _ (built_of 0 e is.0.levelled) facts.built;
+    }
+argument_facts room (Text bytes ∷ more) is = absurd is.0
+argument_facts room (AddressOf x ∷ more) is = absurd is.0
+
+to_arguments : (room : ℕ) (arguments : List Argument) → list_all is_built_argument arguments ≡ true → list_all levelled (expressions_of arguments) ≡ true → highest (map height (expressions_of arguments)) ≤ room → AreArguments room arguments
+to_arguments room [] built h low = tt
+to_arguments room (Value e ∷ more) built h low =
+    let p = and_parts (levelled e) (list_all levelled (expressions_of more)) h in
+    let q = and_parts (is_built_expression e) (list_all is_built_argument more) built in
+    (record { levelled = to_levelled e 0 p.0 q.0 (omega arith); low = omega (arith, low) }, to_arguments room more q.1 p.1 (omega (arith, low)))
+to_arguments room (Text bytes ∷ more) built h low = absurd (false_true built)
+to_arguments room (AddressOf x ∷ more) built h low = absurd (false_true built)
+
+record RightFacts (room : ℕ) (r : RightSide) : Type 0 where
+  levels : list_all levelled (right_side_expressions r) ≡ true
+  numbers : AreInRange (right r) → list_all numbers_in_range (right_side_expressions r) ≡ true
+  low : highest (map height (right_side_expressions r)) ≤ room
+  built : is_built_right r ≡ true
+
+right_facts : (room : ℕ) (r : RightSide) → IsRight room r → RightFacts room r
+right_facts room (FromExpr e) is = record {
+  levels = and_from (levelled e) true (levelled_of 0 e is.levelled) refl;
+  numbers = λ h. and_from (numbers_in_range e) true (numbers_of e h) refl;
+  low = let low = is.low in omega (arith, low);
+  built = built_of 0 e is.levelled;
+}
+right_facts room (FromCall c) is =
+    let facts = argument_facts room c.arguments is in
+    record {
+      levels = facts.levels;
+      numbers = λ h. facts.numbers (range_left (argument_tokens c.arguments) (mark marks.CloseParen ∷ []) h.1.1.1.1.1.1.1.1);
+      low = facts.low;
+      built = facts.built;
+    }
+
+to_right : (room : ℕ) (r : RightSide) → is_built_right r ≡ true → list_all levelled (right_side_expressions r) ≡ true → highest (map height (right_side_expressions r)) ≤ room → IsRight room r
+to_right room (FromExpr e) built h low = record { levelled = to_levelled e 0 (and_parts (levelled e) true h).0 built (omega arith); low = omega (arith, low) }
+to_right room (FromCall c) built h low = to_arguments room c.arguments built h low
+
 -- ---- statements
 
 record FormFacts (room : ℕ) (s : Stmt) : Type 0 where
@@ -78,7 +140,6 @@ record FormFacts (room : ℕ) (s : Stmt) : Type 0 where
   levels : list_all levelled (own_expressions s) ≡ true
   numbers : AreInRange (statement s) → list_all numbers_in_range (own_expressions s) ≡ true
   low : statement_height s ≤ room
-  no_name : declared_name s ≡ None
   built : is_built_statement s ≡ true
 
 form_facts : (room : ℕ) (s : Stmt) → IsForm room s → FormFacts room s
@@ -87,19 +148,25 @@ form_facts room (PutJint line e) is = record {
   levels = and_from (levelled e) true (levelled_of 0 e is.levelled) refl;
   numbers = λ h. and_from (numbers_in_range e) true (numbers_of e (range_left (expression e) (mark marks.CloseParen ∷ mark marks.Semicolon ∷ []) h.1.1)) refl;
   low = let low = is.low in omega (arith, low);
-  no_name = refl;
   built = built_of 0 e is.levelled;
 }
-form_facts room (Return line) is = record { within = refl; levels = refl; numbers = λ h. refl; low = omega arith; no_name = refl; built = refl }
+form_facts room (Return line) is = record { within = refl; levels = refl; numbers = λ h. refl; low = omega arith; built = refl }
 form_facts room (ReturnValue line e) is = record {
   within = refl;
   levels = and_from (levelled e) true (levelled_of 0 e is.levelled) refl;
   numbers = λ h. and_from (numbers_in_range e) true (numbers_of e (range_left (expression e) (mark marks.Semicolon ∷ []) h.1)) refl;
   low = let low = is.low in omega (arith, low);
-  no_name = refl;
   built = built_of 0 e is.levelled;
 }
-form_facts room (Declare line t x r) is = absurd is
+form_facts room (Declare line t x r) is =
+    let facts = right_facts room r is.1 in
+    record {
+      within = refl;
+      levels = facts.levels;
+      numbers = λ h. facts.numbers (range_left (right r) (mark marks.Semicolon ∷ []) h.1.1.1);
+      low = facts.low;
+      built = and_from (is_built_variable t) (is_built_right r) is.0 facts.built;
+    }
 form_facts room (DeclareBuffer line t x r) is = absurd is
 form_facts room (DeclareChars line x r) is = absurd is
 form_facts room (DeclareArray line t x size) is = absurd is
@@ -117,7 +184,7 @@ well_formed_of room (Return line) (End last) is follows h = refl
 well_formed_of room (Return line) (Next s rest) is follows h = absurd follows
 well_formed_of room (ReturnValue line e) (End last) is follows h = refl
 well_formed_of room (ReturnValue line e) (Next s rest) is follows h = absurd follows
-well_formed_of room (Declare line t x r) rest is follows h = absurd is
+well_formed_of room (Declare line t x r) rest is follows h = and_from true (block_well_formed rest) refl h
 well_formed_of room (DeclareBuffer line t x r) rest is follows h = absurd is
 well_formed_of room (DeclareChars line x r) rest is follows h = absurd is
 well_formed_of room (DeclareArray line t x size) rest is follows h = absurd is
@@ -132,7 +199,7 @@ within_one : (s : Stmt) → is_built_statement s ≡ true → statements_within 
 within_one (PutJint line e) built = refl
 within_one (Return line) built = refl
 within_one (ReturnValue line e) built = refl
-within_one (Declare line t x r) built = absurd (false_true built)
+within_one (Declare line t x r) built = refl
 within_one (DeclareBuffer line t x r) built = absurd (false_true built)
 within_one (DeclareChars line x r) built = absurd (false_true built)
 within_one (DeclareArray line t x size) built = absurd (false_true built)
@@ -147,7 +214,7 @@ to_form : (room : ℕ) (s : Stmt) → is_built_statement s ≡ true → list_all
 to_form room (PutJint line e) built h low = record { levelled = to_levelled e 0 (and_parts (levelled e) true h).0 built (omega arith); low = omega (arith, low) }
 to_form room (Return line) built h low = tt
 to_form room (ReturnValue line e) built h low = record { levelled = to_levelled e 0 (and_parts (levelled e) true h).0 built (omega arith); low = omega (arith, low) }
-to_form room (Declare line t x r) built h low = absurd (false_true built)
+to_form room (Declare line t x r) built h low = let p = and_parts (is_built_variable t) (is_built_right r) built in (p.0, to_right room r p.1 h low)
 to_form room (DeclareBuffer line t x r) built h low = absurd (false_true built)
 to_form room (DeclareChars line x r) built h low = absurd (false_true built)
 to_form room (DeclareArray line t x size) built h low = absurd (false_true built)
@@ -164,7 +231,7 @@ to_follows (Return line) (End last) built h = (tt, refl)
 to_follows (Return line) (Next s rest) built h = absurd (false_true h)
 to_follows (ReturnValue line e) (End last) built h = (tt, refl)
 to_follows (ReturnValue line e) (Next s rest) built h = absurd (false_true h)
-to_follows (Declare line t x r) rest built h = absurd (false_true built)
+to_follows (Declare line t x r) rest built h = (tt, (and_parts true (block_well_formed rest) h).1)
 to_follows (DeclareBuffer line t x r) rest built h = absurd (false_true built)
 to_follows (DeclareChars line x r) rest built h = absurd (false_true built)
 to_follows (DeclareArray line t x size) rest built h = absurd (false_true built)
@@ -188,11 +255,10 @@ pub record BlockFacts (b : Block) : Type 0 where
   pub numbers : block_numbers b ≡ true
   pub formed : block_well_formed b ≡ true
   pub low : block_height b ≤ 32
-  pub names : names_declared (statements_of b) ≡ []
   pub built : is_built_block b ≡ true
 
 pub block_facts : (b : Block) → IsBlock 31 b → AreInRange (inside b) → BlockFacts b
-block_facts (End line) is range = record { levels = refl; numbers = refl; formed = refl; low = omega arith; names = refl; built = refl }
+block_facts (End line) is range = record { levels = refl; numbers = refl; formed = refl; low = omega arith; built = refl }
 block_facts (Next s rest) is range =
     let f = form_facts 31 s is.0 in
     let r = block_facts rest is.2 (range_right (statement s) (inside rest) range) in
@@ -202,7 +268,6 @@ block_facts (Next s rest) is range =
       numbers = ap (list_all (λ x. list_all numbers_in_range (own_expressions x))) all ∙ and_from _ _ (f.numbers (range_left (statement s) (inside rest) range)) r.numbers;
       formed = well_formed_of 31 s rest is.0 is.1 r.formed;
       low = omega (arith, f.low, r.low);
-      names = ap names_declared all ∙ ap (λ (o : Option Identifier). cons_option o (names_declared (statements_of rest))) f.no_name ∙ r.names;
       built = and_from _ _ f.built r.built;
     }
 
@@ -222,9 +287,12 @@ pub record FunctionFacts (f : Function) : Type 0 where
   pub names : length (parameter_names f ++ names_declared (statements_of f.body)) ≤ 256
   pub built : is_built_item (FunctionItem f) ≡ true
 
-no_parameters : (ps : List Parameter) → are_built_parameters ps ≡ true → ps ≡ []
-no_parameters [] h = refl
-no_parameters (p ∷ ps) h = absurd (false_true h)
+-- the names of a function, its class first
+names_count : (f : Function) → length (parameter_names f ++ names_declared (statements_of f.body)) ≡ 1 + length f.parameters + length (names_declared (statements_of f.body))
+names_count f =
+    let all = length-append (parameter_names f) (names_declared (statements_of f.body)) in
+    let behind_class = length-map f.parameters (λ p. p.name) in
+    omega (arith, all, behind_class)
 
 body_range : (f : Function) → AreInRange (function f) → AreInRange (inside f.body)
 body_range f range =
@@ -235,10 +303,12 @@ body_range f range =
 function_facts : (f : Function) → IsFunction f → AreInRange (function f) → FunctionFacts f
 function_facts f is range =
     let body = block_facts f.body is.body (body_range f range) in
+    let names = is.names in
+    let count = names_count f in
     record {
       body = body;
-      names = rw (body.names, no_parameters f.parameters is.parameters) (omega arith);
-      built = and_from _ _ (and_from _ _ is.result is.parameters) body.built;
+      names = omega (arith, count, names);
+      built = and_from _ _ is.result body.built;
     }
 
 abbrev AllFacts : List Item → Type 0
@@ -292,21 +362,26 @@ is_tree items is few range =
       all_built items facts,
     )
 
-to_items : (items : List Item) → is_built (unit_of items) ≡ true → list_all (λ f. block_levelled f.body) (functions_of (unit_of items)) ≡ true → list_all (λ f. block_well_formed f.body) (functions_of (unit_of items)) ≡ true → list_all (λ f. nat_le (block_height f.body) 32) (functions_of (unit_of items)) ≡ true → AreItems items
-to_items [] built levels forms low = tt
-to_items (StaticItem s ∷ items) built levels forms low = absurd (false_true built)
-to_items (FunctionItem f ∷ items) built levels forms low =
+abbrev few_names : Function → Bool
+few_names f = nat_le (length (parameter_names f ++ names_declared (statements_of f.body))) 256
+
+to_items : (items : List Item) → is_built (unit_of items) ≡ true → list_all (λ f. block_levelled f.body) (functions_of (unit_of items)) ≡ true → list_all (λ f. block_well_formed f.body) (functions_of (unit_of items)) ≡ true → list_all (λ f. nat_le (block_height f.body) 32) (functions_of (unit_of items)) ≡ true → list_all few_names (functions_of (unit_of items)) ≡ true → AreItems items
+to_items [] built levels forms low few = tt
+to_items (StaticItem s ∷ items) built levels forms low few = absurd (false_true built)
+to_items (FunctionItem f ∷ items) built levels forms low few =
     let b = and_parts (is_built_item (FunctionItem f)) (is_built (unit_of items)) built in
-    let c = and_parts (is_built_result f.result && are_built_parameters f.parameters) (is_built_block f.body) b.0 in
-    let d = and_parts (is_built_result f.result) (are_built_parameters f.parameters) c.0 in
+    let c = and_parts (is_built_result f.result) (is_built_block f.body) b.0 in
     let l = and_parts (block_levelled f.body) (list_all (λ f. block_levelled f.body) (functions_of (unit_of items))) levels in
     let w = and_parts (block_well_formed f.body) (list_all (λ f. block_well_formed f.body) (functions_of (unit_of items))) forms in
     let h = and_parts (nat_le (block_height f.body) 32) (list_all (λ f. nat_le (block_height f.body) 32) (functions_of (unit_of items))) low in
-    (record { result = d.0; parameters = d.1; body = to_block f.body c.1 l.0 w.0 (leb-true (block_height f.body) 32 h.0) }, to_items items b.1 l.1 w.1 h.1)
+    let n = and_parts (few_names f) (list_all few_names (functions_of (unit_of items))) few in
+    let names = leb-true (length (parameter_names f ++ names_declared (statements_of f.body))) 256 n.0 in
+    let count = names_count f in
+    (record { result = c.0; body = to_block f.body c.1 l.0 w.0 (leb-true (block_height f.body) 32 h.0); names = omega (arith, names, count) }, to_items items b.1 l.1 w.1 h.1 n.1)
 
 pub tree_items : (unit : SourceUnit) → is_built unit ≡ true → IsTree unit → AreItems unit.items × (length unit.items ≤ 256)
 tree_items unit built is =
-    let items = to_items unit.items built is.levelled_expressions is.forms is.low in
+    let items = to_items unit.items built is.levelled_expressions is.forms is.low is.few_names in
     let count = all_functions unit.items items in
     let few = is.few_functions in
     (items, omega (arith, count, few))

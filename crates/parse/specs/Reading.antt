@@ -1,18 +1,22 @@
 -- Reading lexemes from left to right, with the first fault that is met.
-use Rattle.std.specs.Prelude.{ℕ, zero, suc, ◌+◌, max, Bool, true, false, nat_lt, ◌==◌, List, [], ◌∷◌, length, Option, Some, None, Result, Ok, Err, if◌then◌else◌}
+use Rattle.std.specs.Prelude.{ℕ, zero, suc, ◌+◌, ◌-◌, max, Bool, true, false, nat_lt, ◌==◌, List, [], ◌∷◌, length, Option, Some, None, Result, Ok, Err, if◌then◌else◌}
+use Rattle.std.specs.Option.{option_map, option_flatten}
 use Rattle.scan.specs.declared.token.Mark.{Mark}
 use Rattle.scan.specs.declared.token.Mark.TheVariants as marks
-use Rattle.syntax.specs.Tree.{PrefixOp, Complement, ToWord, ToInt, BinaryOp, BitOr, BitXor, BitAnd, Add, Subtract, Multiply, Expr, Number, Prefix, Binary, Paren, Stmt, PutJint, Return, ReturnValue, Block, End, Next, ResultType, Void, IntResult, Function, Item, FunctionItem, SourceUnit}
+use Rattle.base.specs.Bytes.{Identifier}
+use Rattle.syntax.specs.Tree.{ReferenceType, JObject, JClass, JString, JArray, JThrowable, JIntArray, JShortArray, JByteArray, JCharArray, JObjectArray, Constant, Null, ParameterType, IntParameter, ReferenceParameter, VariableType, JIntVariable, PrefixOp, Complement, ToWord, ToInt, BinaryOp, BitOr, BitXor, BitAnd, Add, Subtract, Multiply, Expr, Number, Named, Variable, Prefix, Binary, Paren, Argument, Value, Call, RightSide, FromExpr, FromCall, Stmt, Declare, PutJint, Return, ReturnValue, Block, End, Next, ResultType, Void, IntResult, Parameter, Function, Item, FunctionItem, SourceUnit}
+use Rattle.syntax.specs.Parts.{statements_within, names_declared}
 use Rattle.syntax.specs.Limits.{operator_level, prefix_level}
 use Rattle.parse.specs.declared.fault.Fault.TheVariants.{NoForm, TooHigh, TooMany}
 use Rattle.parse.specs.declared.fault.ParseFault.{ParseFault}
 use Rattle.parse.specs.declared.fault.ParseFault.TheVariants.{Found}
+use Rattle.parse.specs.declared.words.Word.{Word}
 use Rattle.parse.specs.declared.words.Word.TheVariants as words
 use Rattle.parse.specs.declared.lexemes.Fixed.{Fixed}
 use Rattle.parse.specs.declared.lexemes.Fixed.TheVariants as fixed
 use Rattle.parse.specs.Results.{◌>>=◌}
 use Rattle.parse.specs.Meaning.{Meaning, Fixed', Name', Number', Text'}
-use Rattle.parse.specs.Lexemes.{Lexed, is_fixed, fault_at, line_at, expect, name_at}
+use Rattle.parse.specs.Lexemes.{Lexed, same_word, is_fixed, fault_at, line_at, expect, name_at}
 
 abbrev pub starts_with : Fixed → List Lexed → Bool
 starts_with f [] = false
@@ -88,22 +92,33 @@ behind_paren deep ls =
     else if starts_with (fixed.Word words.Jint) ls then (expect (fixed.Mark marks.CloseParen) (behind ls) >>= λ after. under_prefix deep ToInt after)
     else in_parens deep ls
 
-abbrev pub number_of : Meaning → List Lexed → List Lexed → Result ReadExpr ParseFault
-number_of (Number' value unsigned) ls after = Ok (Number value unsigned, 0, after)
-number_of (Fixed' f) ls after = Err (fault_at NoForm ls)
-number_of (Name' bytes) ls after = Err (fault_at NoForm ls)
-number_of (Text' bytes) ls after = Err (fault_at NoForm ls)
+abbrev pub constant_of_word : Word → Option Constant
+constant_of_word words.Null = Some Null
+constant_of_word _ = None
 
-abbrev pub number_first : List Lexed → Result ReadExpr ParseFault
-number_first [] = Err (Found NoForm 0)
-number_first (l ∷ after) = number_of l.meaning (l ∷ after) after
+abbrev pub named_of : Option Constant → List Lexed → List Lexed → Result ReadExpr ParseFault
+named_of None ls after = Err (fault_at NoForm ls)
+named_of (Some c) ls after = Ok (Named c, 0, after)
 
--- a number, a prefix with its operand, or parentheses
+-- a number, a named constant or a name; what stands first means this
+abbrev pub primary_of : Meaning → List Lexed → List Lexed → Result ReadExpr ParseFault
+primary_of (Number' value unsigned) ls after = Ok (Number value unsigned, 0, after)
+primary_of (Name' bytes) ls after = Ok (Variable bytes, 0, after)
+primary_of (Fixed' (fixed.Word w)) ls after = named_of (constant_of_word w) ls after
+primary_of (Fixed' (fixed.Mark m)) ls after = Err (fault_at NoForm ls)
+primary_of (Fixed' fixed.End) ls after = Err (fault_at NoForm ls)
+primary_of (Text' bytes) ls after = Err (fault_at NoForm ls)
+
+unfoldable pub primary_at : List Lexed → Result ReadExpr ParseFault
+primary_at [] = Err (Found NoForm 0)
+primary_at (l ∷ after) = primary_of l.meaning (l ∷ after) after
+
+-- a prefix with its operand, parentheses, or what holds best
 unfoldable pub operand_by : ℕ → Reader → List Lexed → Result ReadExpr ParseFault
 operand_by room deep ls =
     if starts_with (fixed.Mark marks.Tilde) ls then (if room == 0 then Err (fault_at TooHigh ls) else under_prefix deep Complement (behind ls))
     else if starts_with (fixed.Mark marks.OpenParen) ls then (if room == 0 then Err (fault_at TooHigh ls) else behind_paren deep (behind ls))
-    else number_first ls
+    else primary_at ls
 
 unfoldable pub expr_by : ℕ → Reader → ℕ → List Lexed → Result ReadExpr ParseFault
 expr_by room deep least ls = operand_by room deep ls >>= λ e. climb deep room least (room + 1) e.0 e.1 e.2
@@ -120,6 +135,96 @@ operand_at room ls = operand_by room (deeper room) ls
 abbrev pub expr_at : ℕ → ℕ → List Lexed → Result ReadExpr ParseFault
 expr_at room least ls = expr_by room (deeper room) least ls
 
+-- ---- words of types
+
+abbrev pub word_in : Meaning → Option Word
+word_in (Fixed' (fixed.Word w)) = Some w
+word_in (Fixed' (fixed.Mark m)) = None
+word_in (Fixed' fixed.End) = None
+word_in (Name' bytes) = None
+word_in (Number' value unsigned) = None
+word_in (Text' bytes) = None
+
+-- the reserved word that comes next
+abbrev pub word_at : List Lexed → Option Word
+word_at [] = None
+word_at (l ∷ ls) = word_in l.meaning
+
+abbrev pub reference_of_word : Word → Option ReferenceType
+reference_of_word words.Jobject = Some JObject
+reference_of_word words.Jclass = Some JClass
+reference_of_word words.Jstring = Some JString
+reference_of_word words.Jarray = Some JArray
+reference_of_word words.Jthrowable = Some JThrowable
+reference_of_word words.JintArray = Some JIntArray
+reference_of_word words.JshortArray = Some JShortArray
+reference_of_word words.JbyteArray = Some JByteArray
+reference_of_word words.JcharArray = Some JCharArray
+reference_of_word words.JobjectArray = Some JObjectArray
+reference_of_word _ = None
+
+abbrev pub parameter_of_word : Word → Option ParameterType
+parameter_of_word w = if same_word w words.Jint then Some IntParameter else option_map (λ r. ReferenceParameter r) (reference_of_word w)
+
+abbrev pub variable_of_word : Word → Option VariableType
+variable_of_word words.Jint = Some JIntVariable
+variable_of_word _ = None
+
+-- the type of a parameter that comes next, and that of a variable
+abbrev pub parameter_type_at : List Lexed → Option ParameterType
+parameter_type_at ls = option_flatten (option_map parameter_of_word (word_at ls))
+
+abbrev pub variable_type_at : List Lexed → Option VariableType
+variable_type_at ls = option_flatten (option_map variable_of_word (word_at ls))
+
+-- what the first lexeme stands for, and what stands behind it
+abbrev pub found : {A : Type 0} → Option A → List Lexed → Result (A × List Lexed) ParseFault
+found None ls = Err (fault_at NoForm ls)
+found (Some x) ls = Ok (x, behind ls)
+
+-- ---- calls
+
+-- (*env)->
+unfoldable pub interface_at : List Lexed → Result (List Lexed) ParseFault
+interface_at ls = do
+  a ← expect (fixed.Mark marks.OpenParen) ls
+  b ← expect (fixed.Mark marks.Star) a
+  c ← expect (fixed.Word words.Env) b
+  d ← expect (fixed.Mark marks.CloseParen) c
+  expect (fixed.Mark marks.Arrow) d
+
+unfoldable pub argument_at : ℕ → List Lexed → Result (Argument × List Lexed) ParseFault
+argument_at room ls = do
+  e ← expr_at room 0 ls
+  Ok (Value e.0, e.2)
+
+-- arguments, each with the comma before it, of which there are fewer than steps
+unfoldable pub arguments_at : (room steps : ℕ) → List Lexed → Result (List Argument × List Lexed) ParseFault
+arguments_at room zero ls = Err (fault_at NoForm ls)
+arguments_at room (suc steps) ls =
+    if starts_with (fixed.Mark marks.Comma) ls
+    then (argument_at room (behind ls) >>= λ a. arguments_at room steps a.1 >>= λ more. Ok (a.0 ∷ more.0, more.1))
+    else Ok ([], ls)
+
+unfoldable pub call_at : ℕ → List Lexed → Result (Call × List Lexed) ParseFault
+call_at room ls = do
+  a ← interface_at ls
+  function ← name_at a
+  b ← expect (fixed.Mark marks.OpenParen) function.1
+  c ← expect (fixed.Word words.Env) b
+  arguments ← arguments_at room (length c + 1) c
+  after ← expect (fixed.Mark marks.CloseParen) arguments.1
+  Ok (record { function = function.0; arguments = arguments.0 }, after)
+
+-- no expression begins with these two
+abbrev pub starts_call : List Lexed → Bool
+starts_call ls = if starts_with (fixed.Mark marks.OpenParen) ls then starts_with (fixed.Mark marks.Star) (behind ls) else false
+
+unfoldable pub right_at : ℕ → List Lexed → Result (RightSide × List Lexed) ParseFault
+right_at room ls =
+    if starts_call ls then (call_at room ls >>= λ c. Ok (FromCall c.0, c.1))
+    else (expr_at room 0 ls >>= λ e. Ok (FromExpr e.0, e.2))
+
 -- ---- statements
 
 unfoldable pub put_at : (room line : ℕ) → List Lexed → Result (Stmt × List Lexed) ParseFault
@@ -135,24 +240,45 @@ return_at room line ls =
     if starts_with (fixed.Mark marks.Semicolon) ls then Ok (Return line, behind ls)
     else (expr_at room 0 ls >>= λ e. expect (fixed.Mark marks.Semicolon) e.2 >>= λ rest. Ok (ReturnValue line e.0, rest))
 
-unfoldable pub statement_at : ℕ → List Lexed → Result (Stmt × List Lexed) ParseFault
-statement_at room ls =
+-- a name, and what it is set to
+unfoldable pub setting_at : ℕ → List Lexed → Result (Identifier × RightSide × List Lexed) ParseFault
+setting_at room ls = do
+  name ← name_at ls
+  within ← expect (fixed.Mark marks.Assign) name.1
+  right ← right_at room within
+  rest ← expect (fixed.Mark marks.Semicolon) right.1
+  Ok (name.0, right.0, rest)
+
+-- a declaration, where so many more names may be declared
+unfoldable pub declared_at : (room free : ℕ) → Option VariableType → List Lexed → Result (Stmt × List Lexed) ParseFault
+declared_at room free None ls = Err (fault_at NoForm ls)
+declared_at room free (Some t) ls =
+    if free == 0 then Err (fault_at TooMany ls)
+    else (setting_at room (behind ls) >>= λ s. Ok (Declare (line_at ls) t s.0 s.1, s.2))
+
+unfoldable pub statement_at : (room free : ℕ) → List Lexed → Result (Stmt × List Lexed) ParseFault
+statement_at room free ls =
     if starts_with (fixed.Word words.PutJint) ls then put_at room (line_at ls) (behind ls)
     else if starts_with (fixed.Word words.Return) ls then return_at room (line_at ls) (behind ls)
-    else Err (fault_at NoForm ls)
+    else declared_at room free (variable_type_at ls) ls
+
+-- how many names a statement declares
+abbrev pub names_of : Stmt → ℕ
+names_of s = length (names_declared (statements_within s))
 
 abbrev pub is_return : Stmt → Bool
 is_return (Return line) = true
 is_return (ReturnValue line e) = true
 is_return s = false
 
--- statements up to the closing brace, of which there are fewer than steps; none stands behind a return
-unfoldable pub block_at : ℕ → ℕ → Bool → List Lexed → Result (Block × List Lexed) ParseFault
-block_at room zero returned ls = Err (fault_at NoForm ls)
-block_at room (suc steps) returned ls =
+-- statements up to the closing brace, of which there are fewer than steps, where so many more names
+-- may be declared; none stands behind a return
+unfoldable pub block_at : (room free steps : ℕ) → Bool → List Lexed → Result (Block × List Lexed) ParseFault
+block_at room free zero returned ls = Err (fault_at NoForm ls)
+block_at room free (suc steps) returned ls =
     if starts_with (fixed.Mark marks.CloseBrace) ls then Ok (End (line_at ls), behind ls)
     else if returned then Err (fault_at NoForm ls)
-    else (statement_at room ls >>= λ s. block_at room steps (is_return s.0) s.1 >>= λ b. Ok (Next s.0 b.0, b.1))
+    else (statement_at room free ls >>= λ s. block_at room (free - names_of s.0) steps (is_return s.0) s.1 >>= λ b. Ok (Next s.0 b.0, b.1))
 
 -- ---- functions
 
@@ -172,12 +298,28 @@ head_at ls = do
   e ← expect (fixed.Mark marks.Comma) d
   expect (fixed.Word words.Jclass) e
 
-unfoldable pub body_at : List Lexed → Result (Block × List Lexed) ParseFault
-body_at ls = do
+unfoldable pub parameter_at : List Lexed → Result (Parameter × List Lexed) ParseFault
+parameter_at ls = do
+  t ← found (parameter_type_at ls) ls
+  name ← name_at t.1
+  Ok (record { type = t.0; name = name.0 }, name.1)
+
+-- parameters, each with the comma before it, where there may be so many
+unfoldable pub parameters_at : ℕ → List Lexed → Result (List Parameter × List Lexed) ParseFault
+parameters_at zero ls = if starts_with (fixed.Mark marks.Comma) ls then Err (fault_at TooMany ls) else Ok ([], ls)
+parameters_at (suc free) ls =
+    if starts_with (fixed.Mark marks.Comma) ls
+    then (parameter_at (behind ls) >>= λ p. parameters_at free p.1 >>= λ more. Ok (p.0 ∷ more.0, more.1))
+    else Ok ([], ls)
+
+-- a function's block, with what closes its parameters
+unfoldable pub body_at : ℕ → List Lexed → Result (Block × List Lexed) ParseFault
+body_at free ls = do
   a ← expect (fixed.Mark marks.CloseParen) ls
   b ← expect (fixed.Mark marks.OpenBrace) a
-  block_at 31 (length b + 1) false b
+  block_at 31 free (length b + 1) false b
 
+-- a function; behind the class it may have 255 more names
 unfoldable pub function_at : List Lexed → Result (Function × List Lexed) ParseFault
 function_at ls = do
   a ← expect (fixed.Word words.JniExport) ls
@@ -186,8 +328,9 @@ function_at ls = do
   name ← name_at b
   c ← head_at name.1
   class_name ← name_at c
-  body ← body_at class_name.1
-  Ok (record { line = line_at ls; result = result.0; name = name.0; class_name = class_name.0; parameters = []; body = body.0 }, body.1)
+  parameters ← parameters_at 255 class_name.1
+  body ← body_at (255 - length parameters.0) parameters.1
+  Ok (record { line = line_at ls; result = result.0; name = name.0; class_name = class_name.0; parameters = parameters.0; body = body.0 }, body.1)
 
 -- functions up to the end, of which there are fewer than steps, behind a count of them
 unfoldable pub items_at : ℕ → ℕ → List Lexed → Result (List Item) ParseFault

@@ -3,17 +3,17 @@
 ghost use Rattle.std.specs.Prelude.{◌≡◌, ◌≤◌, IfOk};
 ghost use Rattle.std.specs.Option.{option_map};
 ghost use Rattle.syntax.specs.Limits.{operator_level};
-ghost use Rattle.syntax.specs.Views.{prefix_tree, binary_tree, expr_tree};
+ghost use Rattle.syntax.specs.Views.{constant_tree, prefix_tree, binary_tree, expr_tree};
 ghost use Rattle.parse.specs.Results.{Gives};
 ghost use Rattle.parse.specs.Lexemes.{views};
-ghost use Rattle.parse.specs.Reading.{operator_at, binary_of_mark, operand_at, expr_at, under_prefix, deeper};
+ghost use Rattle.parse.specs.Reading.{operator_at, binary_of_mark, constant_of_word, primary_at, operand_at, expr_at, under_prefix, deeper};
 
 use crate::fault::{Fault, ParseFault};
 use crate::lexemes::{Fixed, Lexeme, Shape, behind, expect, fault_at, starts_with, unexpected};
 use crate::words::Word;
 use scan::Mark;
 use std::alloc::Global;
-use syntax::{BinaryOp, Expr, PrefixOp};
+use syntax::{BinaryOp, Constant, Expr, Name, PrefixOp};
 
 /// An expression, its height, and what stands behind it.
 type ReadExpr<'t> = (Expr, u32, &'t [Lexeme]);
@@ -60,6 +60,39 @@ fn operator(rest: &[Lexeme]) -> Option<BinaryOp>
     }
 }
 
+/// The named constant of a word.
+fn constant_of(word: Word) -> Option<Constant>
+    ensures { option_map constant_tree result ≡ constant_of_word word }
+{
+    match word {
+        Word::Null => Some(Constant::Null),
+        _ => None,
+    }
+}
+
+/// A number, a named constant or a name.
+#[tactic(auto, unfolding(crate::specs::Reading::primary_at))]
+fn primary(alloc: Global, lexemes: &[Lexeme]) -> Result<ReadExpr<'_>, ParseFault>
+    ensures low { IfOk result (λ x. x.1 ≡ 0) }
+    ensures gives { Gives (λ x. (expr_tree x.0, x.1, views x.2.now)) result (primary_at (views lexemes.now)) }
+{
+    let Some((first, rest)) = lexemes.split_first() else {
+        return Err(unexpected(lexemes));
+    };
+    match &first.shape {
+        Shape::Number { value, unsigned } => {
+            let (value, unsigned) = (*value, *unsigned);
+            Ok((Expr::Number { value, unsigned }, 0, rest))
+        }
+        Shape::Name(bytes) => Ok((Expr::Variable(Name::new(alloc, bytes)?), 0, rest)),
+        Shape::Fixed(Fixed::Word(word)) => match constant_of(*word) {
+            Some(constant) => Ok((Expr::Named(constant), 0, rest)),
+            None => Err(unexpected(lexemes)),
+        },
+        _ => Err(unexpected(lexemes)),
+    }
+}
+
 /// An expression of this level or tighter, no higher than there is room.
 #[cycle(expressions)]
 #[tactic(auto, unfolding(crate::specs::Reading::expr_by))]
@@ -94,7 +127,7 @@ pub(crate) fn expression(
     Ok((left, height, rest))
 }
 
-/// A number, a prefix with its operand, or parentheses.
+/// A prefix with its operand, parentheses, or what holds best.
 #[cycle(expressions)]
 #[tactic(auto, using(crate::proofs::Climbing::deeps), unfolding(crate::specs::Reading::operand_by, crate::specs::Reading::behind_paren, crate::specs::Reading::in_parens))]
 fn operand(alloc: Global, room: u32, lexemes: &[Lexeme]) -> Result<ReadExpr<'_>, ParseFault>
@@ -102,38 +135,30 @@ fn operand(alloc: Global, room: u32, lexemes: &[Lexeme]) -> Result<ReadExpr<'_>,
     ensures low { IfOk result (λ x. x.1 ≤ room) }
     ensures gives { Gives (λ x. (expr_tree x.0, x.1, views x.2.now)) result (operand_at room (views lexemes.now)) }
 {
-    let Some((first, rest)) = lexemes.split_first() else {
-        return Err(unexpected(lexemes));
-    };
-    match &first.shape {
-        Shape::Number { value, unsigned } => {
-            let (value, unsigned) = (*value, *unsigned);
-            Ok((Expr::Number { value, unsigned }, 0, rest))
+    if starts_with(Fixed::Mark(Mark::Tilde), lexemes) {
+        if room == 0 {
+            return Err(fault_at(Fault::TooHigh, lexemes));
         }
-        Shape::Fixed(Fixed::Mark(Mark::Tilde)) => {
-            if room == 0 {
-                return Err(fault_at(Fault::TooHigh, lexemes));
-            }
-            prefixed(alloc, room, PrefixOp::Complement, rest)
-        }
-        Shape::Fixed(Fixed::Mark(Mark::OpenParen)) => {
-            if room == 0 {
-                return Err(fault_at(Fault::TooHigh, lexemes));
-            }
-            if starts_with(Fixed::Word(Word::Uint32), rest) {
-                let rest = expect(Fixed::Mark(Mark::CloseParen), behind(rest))?;
-                return prefixed(alloc, room, PrefixOp::ToWord, rest);
-            }
-            if starts_with(Fixed::Word(Word::Jint), rest) {
-                let rest = expect(Fixed::Mark(Mark::CloseParen), behind(rest))?;
-                return prefixed(alloc, room, PrefixOp::ToInt, rest);
-            }
-            let (inside, height, rest) = expression(alloc, room - 1, 0, rest)?;
-            let rest = expect(Fixed::Mark(Mark::CloseParen), rest)?;
-            Ok((Expr::Paren(Box::new(alloc, inside)?), 1 + height, rest))
-        }
-        _ => Err(unexpected(lexemes)),
+        return prefixed(alloc, room, PrefixOp::Complement, behind(lexemes));
     }
+    if starts_with(Fixed::Mark(Mark::OpenParen), lexemes) {
+        if room == 0 {
+            return Err(fault_at(Fault::TooHigh, lexemes));
+        }
+        let rest = behind(lexemes);
+        if starts_with(Fixed::Word(Word::Uint32), rest) {
+            let rest = expect(Fixed::Mark(Mark::CloseParen), behind(rest))?;
+            return prefixed(alloc, room, PrefixOp::ToWord, rest);
+        }
+        if starts_with(Fixed::Word(Word::Jint), rest) {
+            let rest = expect(Fixed::Mark(Mark::CloseParen), behind(rest))?;
+            return prefixed(alloc, room, PrefixOp::ToInt, rest);
+        }
+        let (inside, height, rest) = expression(alloc, room - 1, 0, rest)?;
+        let rest = expect(Fixed::Mark(Mark::CloseParen), rest)?;
+        return Ok((Expr::Paren(Box::new(alloc, inside)?), 1 + height, rest));
+    }
+    primary(alloc, lexemes)
 }
 
 /// What a prefix stands before.

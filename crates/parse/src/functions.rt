@@ -14,11 +14,15 @@ use crate::fault::{Fault, ParseFault};
 use crate::lexemes::{
     Fixed, Lexeme, behind, expect, fault_at, lexemes, line_at, name_at, starts_with, unexpected,
 };
+use crate::parameters::{NAMES, parameters};
 use crate::statements::block;
 use crate::words::Word;
 use scan::{Mark, Token, one_spelling};
 use std::alloc::Global;
 use syntax::{Block, Function, Item, Name, ResultType, Unit};
+
+/// How high the trees in a function's block may be, which counts one itself.
+const ROOM: u32 = 31;
 
 /// How many functions there may be.
 const FUNCTIONS: usize = 256;
@@ -50,14 +54,14 @@ fn head(lexemes: &[Lexeme]) -> Result<&[Lexeme], ParseFault>
     expect(Fixed::Word(Word::Jclass), rest)
 }
 
-/// A function's block, with what closes its parameters.
+/// A function's block, with what closes its parameters, where so many more names may be declared.
 #[tactic(auto, unfolding(crate::specs::Reading::body_at))]
-fn body(alloc: Global, lexemes: &[Lexeme]) -> Result<(Block, &[Lexeme]), ParseFault>
-    ensures { Gives (λ x. (block_tree x.0, views x.1.now)) result (body_at (views lexemes.now)) }
+fn body(alloc: Global, free: usize, lexemes: &[Lexeme]) -> Result<(Block, &[Lexeme]), ParseFault>
+    ensures { Gives (λ x. (block_tree x.0, views x.1.now)) result (body_at free (views lexemes.now)) }
 {
     let rest = expect(Fixed::Mark(Mark::CloseParen), lexemes)?;
     let rest = expect(Fixed::Mark(Mark::OpenBrace), rest)?;
-    block(alloc, rest)
+    block(alloc, ROOM, free, rest)
 }
 
 /// A function (JNI Specification, chapter 2, "Native Method Arguments").
@@ -72,13 +76,15 @@ fn function(alloc: Global, lexemes: &[Lexeme]) -> Result<(Function, &[Lexeme]), 
     let (name, rest) = name_at(rest)?;
     let rest = head(rest)?;
     let (class_name, rest) = name_at(rest)?;
-    let (body, rest) = body(alloc, rest)?;
+    let (parameters, rest) = parameters(alloc, rest)?;
+    let (body, rest) = body(alloc, NAMES - parameters.len(), rest)?;
     Ok((
         Function {
             line,
             result,
             name: Name::new(alloc, name)?,
             class_name: Name::new(alloc, class_name)?,
+            parameters,
             body,
         },
         rest,

@@ -5,7 +5,7 @@ ghost use Rattle.parse.specs.declared.fault.Fault.TheVariants.{NoForm};
 ghost use Rattle.parse.specs.Meaning.{between_quotes, token_meaning};
 ghost use Rattle.parse.specs.Results.{Gives};
 ghost use Rattle.parse.specs.Lexemes.{IsInside, AreInOrder, line_ends, lexemes, expect, same_mark, same_word, is_fixed, name_at, fault_at, line_at, view_shape, view, views};
-ghost use Rattle.parse.specs.Reading.{behind, starts_with};
+ghost use Rattle.parse.specs.Reading.{behind, starts_with, word_at};
 
 use crate::fault::{Fault, ParseFault};
 use crate::words::{Word, word_of};
@@ -166,7 +166,7 @@ fn same_mark(a: Mark, b: Mark) -> bool
     a == b
 }
 
-fn same_word(a: Word, b: Word) -> bool
+pub(crate) fn same_word(a: Word, b: Word) -> bool
     ensures { result ≡ same_word a b }
 {
     a == b
@@ -181,6 +181,17 @@ fn is_fixed(lexeme: &Lexeme, fixed: Fixed) -> bool
         (Shape::Fixed(Fixed::Word(found)), Fixed::Word(word)) => same_word(*found, word),
         (Shape::Fixed(Fixed::End), Fixed::End) => true,
         _ => false,
+    }
+}
+
+/// The reserved word that comes next.
+pub(crate) fn word_at(rest: &[Lexeme]) -> Option<Word>
+    ensures { result ≡ word_at (views rest.now) }
+{
+    let (first, _) = rest.split_first()?;
+    match &first.shape {
+        Shape::Fixed(Fixed::Word(word)) => Some(*word),
+        _ => None,
     }
 }
 

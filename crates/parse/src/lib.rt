@@ -1,11 +1,14 @@
 //! From a program's tokens to its syntax tree.
 #![tactic(auto)]
 
+mod calls;
 mod expressions;
 mod fault;
 mod functions;
 mod lexemes;
+mod parameters;
 mod statements;
+mod type_words;
 mod words;
 
 pub use fault::{Fault, ParseFault};

@@ -1,29 +1,37 @@
 //! Statements and blocks (ISO/IEC 9899:1999, 6.8).
 
-ghost use Rattle.std.specs.Prelude.{◌≡◌, ◌+◌, length, false};
-ghost use Rattle.syntax.specs.Views.{stmt_tree, block_tree};
+ghost use Rattle.std.specs.Prelude.{◌≡◌, ◌≤◌, ◌+◌, length, false};
+ghost use Rattle.syntax.specs.Views.{variable_type_tree, right_side_tree, stmt_tree, block_tree};
+ghost use Rattle.std.specs.Option.{option_map};
 ghost use Rattle.parse.specs.Results.{Gives};
 ghost use Rattle.parse.specs.Lexemes.{views};
-ghost use Rattle.parse.specs.Reading.{put_at, return_at, statement_at, is_return, block_at};
+ghost use Rattle.parse.specs.Reading.{put_at, return_at, setting_at, declared_at, statement_at, is_return, names_of, block_at};
 
+use crate::calls::right_side;
 use crate::expressions::expression;
-use crate::fault::ParseFault;
-use crate::lexemes::{Fixed, Lexeme, behind, expect, line_at, starts_with, unexpected};
+use crate::fault::{Fault, ParseFault};
+use crate::lexemes::{
+    Fixed, Lexeme, behind, expect, fault_at, line_at, name_at, starts_with, unexpected,
+};
+use crate::type_words::variable_type;
 use crate::words::Word;
 use scan::Mark;
 use std::alloc::Global;
-use syntax::{Block, Form, Stmt};
-
-/// How high the trees in a function's block may be, which counts one itself.
-const ROOM: u32 = 31;
+use syntax::{Block, Form, Name, RightSide, Stmt, VariableType};
 
 /// What stands behind the `put_jint` of this line.
 #[tactic(auto, unfolding(crate::specs::Reading::put_at))]
-fn put(alloc: Global, line: usize, lexemes: &[Lexeme]) -> Result<(Stmt, &[Lexeme]), ParseFault>
-    ensures { Gives (λ x. (stmt_tree x.0, views x.1.now)) result (put_at 31 line (views lexemes.now)) }
+fn put(
+    alloc: Global,
+    room: u32,
+    line: usize,
+    lexemes: &[Lexeme],
+) -> Result<(Stmt, &[Lexeme]), ParseFault>
+    requires { room ≤ 32 }
+    ensures { Gives (λ x. (stmt_tree x.0, views x.1.now)) result (put_at room line (views lexemes.now)) }
 {
     let rest = expect(Fixed::Mark(Mark::OpenParen), lexemes)?;
-    let (operand, _, rest) = expression(alloc, ROOM, 0, rest)?;
+    let (operand, _, rest) = expression(alloc, room, 0, rest)?;
     let rest = expect(Fixed::Mark(Mark::CloseParen), rest)?;
     let rest = expect(Fixed::Mark(Mark::Semicolon), rest)?;
     let form = Form::PutJint(operand);
@@ -32,32 +40,88 @@ fn put(alloc: Global, line: usize, lexemes: &[Lexeme]) -> Result<(Stmt, &[Lexeme
 
 /// What stands behind the `return` of this line.
 #[tactic(auto, unfolding(crate::specs::Reading::return_at))]
-fn returned(alloc: Global, line: usize, lexemes: &[Lexeme]) -> Result<(Stmt, &[Lexeme]), ParseFault>
-    ensures { Gives (λ x. (stmt_tree x.0, views x.1.now)) result (return_at 31 line (views lexemes.now)) }
+fn returned(
+    alloc: Global,
+    room: u32,
+    line: usize,
+    lexemes: &[Lexeme],
+) -> Result<(Stmt, &[Lexeme]), ParseFault>
+    requires { room ≤ 32 }
+    ensures { Gives (λ x. (stmt_tree x.0, views x.1.now)) result (return_at room line (views lexemes.now)) }
 {
     if starts_with(Fixed::Mark(Mark::Semicolon), lexemes) {
         let form = Form::Return(None);
         return Ok((Stmt { line, form }, behind(lexemes)));
     }
-    let (operand, _, rest) = expression(alloc, ROOM, 0, lexemes)?;
+    let (operand, _, rest) = expression(alloc, room, 0, lexemes)?;
     let rest = expect(Fixed::Mark(Mark::Semicolon), rest)?;
     let form = Form::Return(Some(operand));
     Ok((Stmt { line, form }, rest))
 }
 
-/// A statement.
+/// A name, what it is set to, and what stands behind the semicolon.
+#[tactic(auto, unfolding(crate::specs::Reading::setting_at))]
+fn setting(
+    alloc: Global,
+    room: u32,
+    lexemes: &[Lexeme],
+) -> Result<(Name, RightSide, &[Lexeme]), ParseFault>
+    requires { room ≤ 32 }
+    ensures { Gives (λ x. (x.0, right_side_tree x.1, views x.2.now)) result (setting_at room (views lexemes.now)) }
+{
+    let (name, rest) = name_at(lexemes)?;
+    let rest = expect(Fixed::Mark(Mark::Assign), rest)?;
+    let (right, rest) = right_side(alloc, room, rest)?;
+    let rest = expect(Fixed::Mark(Mark::Semicolon), rest)?;
+    Ok((Name::new(alloc, name)?, right, rest))
+}
+
+/// A declaration that begins with this type, where so many more names may be declared.
+#[tactic(auto, unfolding(crate::specs::Reading::declared_at))]
+fn declared(
+    alloc: Global,
+    room: u32,
+    free: usize,
+    kind: Option<VariableType>,
+    lexemes: &[Lexeme],
+) -> Result<(Stmt, &[Lexeme]), ParseFault>
+    requires { room ≤ 32 }
+    ensures { Gives (λ x. (stmt_tree x.0, views x.1.now)) result (declared_at room free (option_map variable_type_tree kind) (views lexemes.now)) }
+{
+    let Some(kind) = kind else {
+        return Err(unexpected(lexemes));
+    };
+    if free == 0 {
+        return Err(fault_at(Fault::TooMany, lexemes));
+    }
+    let (name, right, rest) = setting(alloc, room, behind(lexemes))?;
+    let stmt = Stmt {
+        line: line_at(lexemes),
+        form: Form::Declare(kind, name, right),
+    };
+    Ok((stmt, rest))
+}
+
+/// A statement, where so many more names may be declared.
 #[tactic(auto, unfolding(crate::specs::Reading::statement_at))]
-fn statement(alloc: Global, lexemes: &[Lexeme]) -> Result<(Stmt, &[Lexeme]), ParseFault>
-    ensures { Gives (λ x. (stmt_tree x.0, views x.1.now)) result (statement_at 31 (views lexemes.now)) }
+fn statement(
+    alloc: Global,
+    room: u32,
+    free: usize,
+    lexemes: &[Lexeme],
+) -> Result<(Stmt, &[Lexeme]), ParseFault>
+    requires { room ≤ 32 }
+    ensures { Gives (λ x. (stmt_tree x.0, views x.1.now)) result (statement_at room free (views lexemes.now)) }
 {
     let line = line_at(lexemes);
     if starts_with(Fixed::Word(Word::PutJint), lexemes) {
-        return put(alloc, line, behind(lexemes));
+        return put(alloc, room, line, behind(lexemes));
     }
     if starts_with(Fixed::Word(Word::Return), lexemes) {
-        return returned(alloc, line, behind(lexemes));
+        return returned(alloc, room, line, behind(lexemes));
     }
-    Err(unexpected(lexemes))
+    let kind = variable_type(lexemes);
+    declared(alloc, room, free, kind, lexemes)
 }
 
 /// Whether a statement is a return, which ends its block.
@@ -67,19 +131,37 @@ fn is_return(stmt: &Stmt) -> bool
     matches!(stmt.form, Form::Return(_))
 }
 
-/// Statements up to the closing brace.
-pub(crate) fn block(alloc: Global, lexemes: &[Lexeme]) -> Result<(Block, &[Lexeme]), ParseFault>
-    ensures { Gives (λ x. (block_tree x.0, views x.1.now)) result (block_at 31 (length (views lexemes.now) + 1) false (views lexemes.now)) }
+/// How many names a statement declares.
+fn names_of(stmt: &Stmt) -> usize
+    ensures { result ≡ names_of (stmt_tree stmt.now) }
+{
+    match stmt.form {
+        Form::Declare(..) => 1,
+        Form::PutJint(_) | Form::Return(_) => 0,
+    }
+}
+
+/// Statements up to the closing brace, where so many names may be declared.
+pub(crate) fn block(
+    alloc: Global,
+    room: u32,
+    names: usize,
+    lexemes: &[Lexeme],
+) -> Result<(Block, &[Lexeme]), ParseFault>
+    requires { room ≤ 32 }
+    ensures { Gives (λ x. (block_tree x.0, views x.1.now)) result (block_at room names (length (views lexemes.now) + 1) false (views lexemes.now)) }
 {
     let mut statements = Vec::new(alloc);
     let mut rest = lexemes;
+    let mut free = names;
     let mut returned = false;
     'statements: while !starts_with(Fixed::Mark(Mark::CloseBrace), rest) {
         if returned {
             return Err(unexpected(rest));
         }
-        let (stmt, after) = statement(alloc, rest)?;
+        let (stmt, after) = statement(alloc, room, free, rest)?;
         returned = is_return(&stmt);
+        free -= names_of(&stmt);
         statements.push(stmt)?;
         rest = after;
     }

@@ -2,20 +2,34 @@
 use Rattle.std.specs.Prelude.{ℕ, List, [], ◌∷◌, map, Option, Some, None}
 use Rattle.syntax.specs.declared.expr.Expr.{Expr as ExprInMemory}
 use Rattle.syntax.specs.declared.expr.Expr.TheVariants as expr
+use Rattle.syntax.specs.declared.expr.Constant.{Constant as ConstantInMemory}
+use Rattle.syntax.specs.declared.expr.Constant.TheVariants as constant
 use Rattle.syntax.specs.declared.expr.PrefixOp.{PrefixOp as PrefixInMemory}
 use Rattle.syntax.specs.declared.expr.PrefixOp.TheVariants as prefix
 use Rattle.syntax.specs.declared.expr.BinaryOp.{BinaryOp as BinaryInMemory}
 use Rattle.syntax.specs.declared.expr.BinaryOp.TheVariants as binary
+use Rattle.syntax.specs.declared.call.Call.{Call as CallInMemory}
+use Rattle.syntax.specs.declared.call.Argument.{Argument as ArgumentInMemory}
+use Rattle.syntax.specs.declared.call.Argument.TheVariants as argument
+use Rattle.syntax.specs.declared.call.RightSide.{RightSide as RightSideInMemory}
+use Rattle.syntax.specs.declared.call.RightSide.TheVariants as right
+use Rattle.syntax.specs.declared.declared_type.ReferenceType.{ReferenceType as ReferenceInMemory}
+use Rattle.syntax.specs.declared.declared_type.ReferenceType.TheVariants as reference
+use Rattle.syntax.specs.declared.declared_type.ParameterType.{ParameterType as ParameterTypeInMemory}
+use Rattle.syntax.specs.declared.declared_type.ParameterType.TheVariants as parameter
+use Rattle.syntax.specs.declared.declared_type.VariableType.{VariableType as VariableTypeInMemory}
+use Rattle.syntax.specs.declared.declared_type.VariableType.TheVariants as variable
 use Rattle.syntax.specs.declared.stmt.Stmt.{Stmt as StmtInMemory}
 use Rattle.syntax.specs.declared.stmt.Form.{Form}
 use Rattle.syntax.specs.declared.stmt.Form.TheVariants as form
 use Rattle.syntax.specs.declared.stmt.Block.{Block as BlockInMemory}
 use Rattle.syntax.specs.declared.unit.ResultType.{ResultType as ResultInMemory}
 use Rattle.syntax.specs.declared.unit.ResultType.TheVariants as results
+use Rattle.syntax.specs.declared.unit.Parameter.{Parameter as ParameterInMemory}
 use Rattle.syntax.specs.declared.unit.Function.{Function as FunctionInMemory}
 use Rattle.syntax.specs.declared.unit.Item.{Item as ItemInMemory}
 use Rattle.syntax.specs.declared.unit.Item.TheVariants as item
-use Rattle.syntax.specs.Tree.{PrefixOp, Complement, ToWord, ToInt, BinaryOp, BitOr, BitXor, BitAnd, Add, Subtract, Multiply, Expr, Number, Prefix, Binary, Paren, Stmt, PutJint, Return, ReturnValue, Block, End, Next, ResultType, Void, IntResult, Function, Item, FunctionItem, SourceUnit}
+use Rattle.syntax.specs.Tree.{PrefixOp, Complement, ToWord, ToInt, BinaryOp, BitOr, BitXor, BitAnd, Add, Subtract, Multiply, Constant, Null, ReferenceType, JObject, JClass, JString, JArray, JThrowable, JIntArray, JShortArray, JByteArray, JCharArray, JObjectArray, ParameterType, IntParameter, ReferenceParameter, VariableType, JIntVariable, Expr, Number, Named, Variable, Prefix, Binary, Paren, Argument, Value, Call, RightSide, FromExpr, FromCall, Stmt, Declare, PutJint, Return, ReturnValue, Block, End, Next, ResultType, Void, IntResult, Parameter, Function, Item, FunctionItem, SourceUnit}
 
 abbrev pub prefix_tree : PrefixInMemory → PrefixOp
 prefix_tree prefix.Complement = Complement
@@ -30,11 +44,45 @@ binary_tree binary.Add = Add
 binary_tree binary.Subtract = Subtract
 binary_tree binary.Multiply = Multiply
 
+abbrev pub constant_tree : ConstantInMemory → Constant
+constant_tree constant.Null = Null
+
 abbrev pub expr_tree : ExprInMemory → Expr
 expr_tree (expr.Number value unsigned) = Number value unsigned
+expr_tree (expr.Named c) = Named (constant_tree c)
+expr_tree (expr.Variable x) = Variable x
 expr_tree (expr.Prefix' op p a) = Prefix (prefix_tree op) (expr_tree a)
 expr_tree (expr.Binary' op p a q b) = Binary (binary_tree op) (expr_tree a) (expr_tree b)
 expr_tree (expr.Paren' p a) = Paren (expr_tree a)
+
+abbrev pub argument_tree : ArgumentInMemory → Argument
+argument_tree (argument.Value e) = Value (expr_tree e)
+
+abbrev pub call_tree : CallInMemory → Call
+call_tree c = record { function = c.function; arguments = map argument_tree c.arguments.items }
+
+abbrev pub right_side_tree : RightSideInMemory → RightSide
+right_side_tree (right.Expr e) = FromExpr (expr_tree e)
+right_side_tree (right.Call c) = FromCall (call_tree c)
+
+abbrev pub reference_tree : ReferenceInMemory → ReferenceType
+reference_tree reference.Object = JObject
+reference_tree reference.Class = JClass
+reference_tree reference.String = JString
+reference_tree reference.Array = JArray
+reference_tree reference.Throwable = JThrowable
+reference_tree reference.IntArray = JIntArray
+reference_tree reference.ShortArray = JShortArray
+reference_tree reference.ByteArray = JByteArray
+reference_tree reference.CharArray = JCharArray
+reference_tree reference.ObjectArray = JObjectArray
+
+abbrev pub parameter_type_tree : ParameterTypeInMemory → ParameterType
+parameter_type_tree parameter.Jint = IntParameter
+parameter_type_tree (parameter.Reference r) = ReferenceParameter (reference_tree r)
+
+abbrev pub variable_type_tree : VariableTypeInMemory → VariableType
+variable_type_tree variable.Jint = JIntVariable
 
 -- a return with a value or without
 abbrev pub return_tree : ℕ → Option ExprInMemory → Stmt
@@ -42,6 +90,7 @@ return_tree line None = Return line
 return_tree line (Some e) = ReturnValue line (expr_tree e)
 
 abbrev pub form_tree : ℕ → Form → Stmt
+form_tree line (form.Declare t x r) = Declare line (variable_type_tree t) x (right_side_tree r)
 form_tree line (form.PutJint e) = PutJint line (expr_tree e)
 form_tree line (form.Return e) = return_tree line e
 
@@ -60,13 +109,16 @@ abbrev pub result_tree : ResultInMemory → ResultType
 result_tree results.Void = Void
 result_tree results.Jint = IntResult
 
+abbrev pub parameter_tree : ParameterInMemory → Parameter
+parameter_tree p = record { type = parameter_type_tree p.kind; name = p.name }
+
 abbrev pub function_tree : FunctionInMemory → Function
 function_tree f = record {
   line = f.line;
   result = result_tree f.result;
   name = f.name;
   class_name = f.class_name;
-  parameters = [];
+  parameters = map parameter_tree f.parameters.items;
   body = block_tree f.body;
 }
 

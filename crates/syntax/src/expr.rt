@@ -1,14 +1,27 @@
 //! Expressions.
 
+use crate::name::Name;
+
 /// An expression (ISO/IEC 9899:1999, 6.5).
 #[derive(Debug, Drop)]
 pub enum Expr {
     /// A number, and whether it ends in `u`.
     Number { value: u32, unsigned: bool },
+    /// A named constant.
+    Named(Constant),
+    /// A name.
+    Variable(Name),
     Prefix(PrefixOp, Box<Expr>),
     Binary(BinaryOp, Box<Expr>, Box<Expr>),
     /// Parentheses, which are kept.
     Paren(Box<Expr>),
+}
+
+/// A constant with a name (JNI Specification, chapter 4; ISO/IEC 9899:1999, 7.17).
+#[derive(Clone, Copy, Debug, PartialEq, Eq)]
+pub enum Constant {
+    /// `NULL`
+    Null,
 }
 
 /// An operator in front of its operand, or a cast.

@@ -1,12 +1,16 @@
 //! The syntax tree of a program text, and what contracts see of it.
 #![tactic(auto)]
 
+mod call;
+mod declared_type;
 mod expr;
 mod name;
 mod stmt;
 mod unit;
 
-pub use expr::{BinaryOp, Expr, PrefixOp};
+pub use call::{Argument, Call, RightSide};
+pub use declared_type::{ParameterType, ReferenceType, VariableType};
+pub use expr::{BinaryOp, Constant, Expr, PrefixOp};
 pub use name::Name;
 pub use stmt::{Block, Form, Stmt};
-pub use unit::{Function, Item, ResultType, Unit};
+pub use unit::{Function, Item, Parameter, ResultType, Unit};

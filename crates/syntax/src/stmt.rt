@@ -1,6 +1,9 @@
 //! Statements and blocks.
 
+use crate::call::RightSide;
+use crate::declared_type::VariableType;
 use crate::expr::Expr;
+use crate::name::Name;
 
 /// Statements in braces.
 #[derive(Debug, Drop)]
@@ -21,6 +24,8 @@ pub struct Stmt {
 /// What a statement does.
 #[derive(Debug, Drop)]
 pub enum Form {
+    /// `jint x = e;`
+    Declare(VariableType, Name, RightSide),
     /// `put_jint(e);`
     PutJint(Expr),
     /// `return;` or `return e;`

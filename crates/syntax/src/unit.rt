@@ -4,6 +4,7 @@ ghost use Rattle.std.specs.Prelude.{◌≡◌};
 ghost use Rattle.syntax.specs.Limits.{IsTree};
 ghost use Rattle.syntax.specs.Views.{unit_tree};
 
+use crate::declared_type::ParameterType;
 use crate::name::Name;
 use crate::stmt::Block;
 use std::marker::Model;
@@ -23,7 +24,16 @@ pub struct Function {
     pub name: Name,
     /// The name of its parameter for the class.
     pub class_name: Name,
+    /// The parameters behind that for the class.
+    pub parameters: Vec<Parameter>,
     pub body: Block,
+}
+
+/// A parameter of a function.
+#[derive(Debug, Drop)]
+pub struct Parameter {
+    pub kind: ParameterType,
+    pub name: Name,
 }
 
 /// What a function returns.

@@ -1,0 +1,108 @@
+//! Calls of JNI functions, and what variables are set to.
+
+ghost use Rattle.std.specs.Prelude.{◌≡◌, ◌≤◌, ◌+◌, length, map};
+ghost use Rattle.syntax.specs.Views.{argument_tree, call_tree, right_side_tree};
+ghost use Rattle.parse.specs.Results.{Gives};
+ghost use Rattle.parse.specs.Lexemes.{views};
+ghost use Rattle.parse.specs.Reading.{interface_at, argument_at, arguments_at, call_at, starts_call, right_at};
+
+use crate::expressions::expression;
+use crate::fault::ParseFault;
+use crate::lexemes::{Fixed, Lexeme, behind, expect, name_at, starts_with};
+use crate::words::Word;
+use scan::Mark;
+use std::alloc::Global;
+use syntax::{Argument, Call, Name, RightSide};
+
+/// What stands behind `(*env)->`.
+#[tactic(auto, unfolding(crate::specs::Reading::interface_at))]
+fn interface(lexemes: &[Lexeme]) -> Result<&[Lexeme], ParseFault>
+    ensures { Gives (λ x. views x.now) result (interface_at (views lexemes.now)) }
+{
+    let rest = expect(Fixed::Mark(Mark::OpenParen), lexemes)?;
+    let rest = expect(Fixed::Mark(Mark::Star), rest)?;
+    let rest = expect(Fixed::Word(Word::Env), rest)?;
+    let rest = expect(Fixed::Mark(Mark::CloseParen), rest)?;
+    expect(Fixed::Mark(Mark::Arrow), rest)
+}
+
+/// An argument.
+#[tactic(auto, unfolding(crate::specs::Reading::argument_at))]
+fn argument(
+    alloc: Global,
+    room: u32,
+    lexemes: &[Lexeme],
+) -> Result<(Argument, &[Lexeme]), ParseFault>
+    requires { room ≤ 32 }
+    ensures { Gives (λ x. (argument_tree x.0, views x.1.now)) result (argument_at room (views lexemes.now)) }
+{
+    let (value, _, rest) = expression(alloc, room, 0, lexemes)?;
+    Ok((Argument::Value(value), rest))
+}
+
+/// Arguments, each with the comma before it.
+fn arguments(
+    alloc: Global,
+    room: u32,
+    lexemes: &[Lexeme],
+) -> Result<(Vec<Argument>, &[Lexeme]), ParseFault>
+    requires { room ≤ 32 }
+    ensures { Gives (λ x. (map argument_tree x.0.items, views x.1.now)) result (arguments_at room (length (views lexemes.now) + 1) (views lexemes.now)) }
+{
+    let mut arguments = Vec::new(alloc);
+    let mut rest = lexemes;
+    'arguments: while starts_with(Fixed::Mark(Mark::Comma), rest) {
+        let (argument, after) = argument(alloc, room, behind(rest))?;
+        arguments.push(argument)?;
+        rest = after;
+    }
+    Ok((arguments, rest))
+}
+
+/// A call.
+#[tactic(auto, unfolding(crate::specs::Reading::call_at))]
+fn call(alloc: Global, room: u32, lexemes: &[Lexeme]) -> Result<(Call, &[Lexeme]), ParseFault>
+    requires { room ≤ 32 }
+    ensures { Gives (λ x. (call_tree x.0, views x.1.now)) result (call_at room (views lexemes.now)) }
+{
+    let rest = interface(lexemes)?;
+    let (function, rest) = name_at(rest)?;
+    let rest = expect(Fixed::Mark(Mark::OpenParen), rest)?;
+    let rest = expect(Fixed::Word(Word::Env), rest)?;
+    let (arguments, rest) = arguments(alloc, room, rest)?;
+    let rest = expect(Fixed::Mark(Mark::CloseParen), rest)?;
+    let function = Name::new(alloc, function)?;
+    Ok((
+        Call {
+            function,
+            arguments,
+        },
+        rest,
+    ))
+}
+
+/// Whether a call comes next, since no expression begins so.
+fn starts_call(lexemes: &[Lexeme]) -> bool
+    ensures { result ≡ starts_call (views lexemes.now) }
+{
+    starts_with(Fixed::Mark(Mark::OpenParen), lexemes)
+        && starts_with(Fixed::Mark(Mark::Star), behind(lexemes))
+}
+
+/// An expression or a call.
+#[tactic(auto, unfolding(crate::specs::Reading::right_at))]
+pub(crate) fn right_side(
+    alloc: Global,
+    room: u32,
+    lexemes: &[Lexeme],
+) -> Result<(RightSide, &[Lexeme]), ParseFault>
+    requires { room ≤ 32 }
+    ensures { Gives (λ x. (right_side_tree x.0, views x.1.now)) result (right_at room (views lexemes.now)) }
+{
+    if starts_call(lexemes) {
+        let (call, rest) = call(alloc, room, lexemes)?;
+        return Ok((RightSide::Call(call), rest));
+    }
+    let (value, _, rest) = expression(alloc, room, 0, lexemes)?;
+    Ok((RightSide::Expr(value), rest))
+}

@@ -1,0 +1,51 @@
+//! Parameters of functions.
+
+ghost use Rattle.std.specs.Prelude.{◌≡◌, ◌≤◌, length, map, IfOk};
+ghost use Rattle.syntax.specs.Views.{parameter_tree};
+ghost use Rattle.parse.specs.Results.{Gives};
+ghost use Rattle.parse.specs.Lexemes.{views};
+ghost use Rattle.parse.specs.Reading.{parameter_at, parameters_at};
+
+use crate::fault::{Fault, ParseFault};
+use crate::lexemes::{Fixed, Lexeme, behind, fault_at, name_at, starts_with, unexpected};
+use crate::type_words::parameter_type;
+use scan::Mark;
+use std::alloc::Global;
+use syntax::{Name, Parameter};
+
+/// How many names a function may have behind that of its class.
+pub(crate) const NAMES: usize = 255;
+
+/// A parameter behind its comma.
+#[tactic(auto, unfolding(crate::specs::Reading::parameter_at))]
+fn parameter(alloc: Global, lexemes: &[Lexeme]) -> Result<(Parameter, &[Lexeme]), ParseFault>
+    ensures { Gives (λ x. (parameter_tree x.0, views x.1.now)) result (parameter_at (views lexemes.now)) }
+{
+    let Some(kind) = parameter_type(lexemes) else {
+        return Err(unexpected(lexemes));
+    };
+    let (name, rest) = name_at(behind(lexemes))?;
+    let name = Name::new(alloc, name)?;
+    Ok((Parameter { kind, name }, rest))
+}
+
+/// The parameters behind the class, each with the comma before it.
+pub(crate) fn parameters(
+    alloc: Global,
+    lexemes: &[Lexeme],
+) -> Result<(Vec<Parameter>, &[Lexeme]), ParseFault>
+    ensures few { IfOk result (λ x. length x.0.items ≤ 255) }
+    ensures gives { Gives (λ x. (map parameter_tree x.0.items, views x.1.now)) result (parameters_at 255 (views lexemes.now)) }
+{
+    let mut parameters = Vec::new(alloc);
+    let mut rest = lexemes;
+    'parameters: while starts_with(Fixed::Mark(Mark::Comma), rest) {
+        if parameters.len() == NAMES {
+            return Err(fault_at(Fault::TooMany, rest));
+        }
+        let (parameter, after) = parameter(alloc, behind(rest))?;
+        parameters.push(parameter)?;
+        rest = after;
+    }
+    Ok((parameters, rest))
+}

@@ -1,0 +1,73 @@
+//! The words of types.
+
+ghost use Rattle.std.specs.Prelude.{◌≡◌};
+ghost use Rattle.std.specs.Option.{option_map};
+ghost use Rattle.syntax.specs.Views.{reference_tree, parameter_type_tree, variable_type_tree};
+ghost use Rattle.parse.specs.Lexemes.{views};
+ghost use Rattle.parse.specs.Reading.{reference_of_word, parameter_of_word, variable_of_word, parameter_type_at, variable_type_at};
+
+use crate::lexemes::{Lexeme, same_word, word_at};
+use crate::words::Word;
+use syntax::{ParameterType, ReferenceType, VariableType};
+
+/// The reference type of a word (JNI Specification, chapter 3, "Reference Types").
+fn reference_of(word: Word) -> Option<ReferenceType>
+    ensures { option_map reference_tree result ≡ reference_of_word word }
+{
+    match word {
+        Word::Jobject => Some(ReferenceType::Object),
+        Word::Jclass => Some(ReferenceType::Class),
+        Word::Jstring => Some(ReferenceType::String),
+        Word::Jarray => Some(ReferenceType::Array),
+        Word::Jthrowable => Some(ReferenceType::Throwable),
+        Word::JintArray => Some(ReferenceType::IntArray),
+        Word::JshortArray => Some(ReferenceType::ShortArray),
+        Word::JbyteArray => Some(ReferenceType::ByteArray),
+        Word::JcharArray => Some(ReferenceType::CharArray),
+        Word::JobjectArray => Some(ReferenceType::ObjectArray),
+        _ => None,
+    }
+}
+
+/// The parameter's type of a word.
+fn parameter_of(word: Word) -> Option<ParameterType>
+    ensures { option_map parameter_type_tree result ≡ parameter_of_word word }
+{
+    if same_word(word, Word::Jint) {
+        return Some(ParameterType::Jint);
+    }
+    match reference_of(word) {
+        Some(reference) => Some(ParameterType::Reference(reference)),
+        None => None,
+    }
+}
+
+/// The variable's type of a word.
+fn variable_of(word: Word) -> Option<VariableType>
+    ensures { option_map variable_type_tree result ≡ variable_of_word word }
+{
+    match word {
+        Word::Jint => Some(VariableType::Jint),
+        _ => None,
+    }
+}
+
+/// The type of a parameter, where one comes next.
+pub(crate) fn parameter_type(lexemes: &[Lexeme]) -> Option<ParameterType>
+    ensures { option_map parameter_type_tree result ≡ parameter_type_at (views lexemes.now) }
+{
+    match word_at(lexemes) {
+        Some(word) => parameter_of(word),
+        None => None,
+    }
+}
+
+/// The type of a variable, where one comes next.
+pub(crate) fn variable_type(lexemes: &[Lexeme]) -> Option<VariableType>
+    ensures { option_map variable_type_tree result ≡ variable_type_at (views lexemes.now) }
+{
+    match word_at(lexemes) {
+        Some(word) => variable_of(word),
+        None => None,
+    }
+}

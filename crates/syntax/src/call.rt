@@ -1,0 +1,25 @@
+//! Calls of JNI functions.
+
+use crate::expr::Expr;
+use crate::name::Name;
+
+/// A call of a JNI function, `(*env)->function(env, arguments)` (JNI Specification, chapter 2, "Interface Function Table").
+#[derive(Debug, Drop)]
+pub struct Call {
+    pub function: Name,
+    /// The arguments behind `env`.
+    pub arguments: Vec<Argument>,
+}
+
+/// An argument of a call.
+#[derive(Debug, Drop)]
+pub enum Argument {
+    Value(Expr),
+}
+
+/// What a variable is set to.
+#[derive(Debug, Drop)]
+pub enum RightSide {
+    Expr(Expr),
+    Call(Call),
+}
