@@ -1,10 +1,10 @@
 -- Names where an argument is wanted: they are numbers and local references.
-use Rattle.std.proofs.Common.{◌≡◌, Bool, true, false, ◌||◌, List, [], ◌∷◌, Option, Some, None, refl, ap, sym, ◌∙◌, map, bytes_eq, if◌then◌else◌, length, ◌<◌, arith}
+use Rattle.std.proofs.Common.{◌≡◌, Bool, true, false, ◌||◌, List, [], ◌∷◌, Option, Some, None, refl, sym, map, bytes_eq, if◌then◌else◌, length, ◌<◌, arith}
 use Rattle.base.specs.Bytes.{Identifier}
 use Rattle.base.specs.Element.{ElementType}
 use Rattle.syntax.specs.declared.call.Argument.{Argument}
 use Rattle.syntax.specs.Views.{argument_tree}
-use Rattle.syntax.specs.Tree.{Expr, Number, Named, Variable, Element, Prefix, Binary, Paren}
+use Rattle.syntax.specs.Tree.{Expr, Variable}
 use Rattle.types.specs.declared.scope.Known.{Known}
 use Rattle.types.specs.declared.sort.Sort.{Sort as SortInMemory}
 use Rattle.types.specs.declared.sort.Sort.TheVariants as sorts
@@ -36,7 +36,6 @@ no-field known e = no_name is_field refl refl refl refl known e
 
 pub no-array : (t : ElementType) (known : List Known) (e : Expr) → is_array_of t (name_sort (scope_of known) e) ≡ false
 no-array t known e = no_name (is_array_of t) refl refl refl refl known e
-
 
 pub no-buffer : (a : Access) (known : List Known) (e : Expr) → is_buffer_for a (name_sort (scope_of known) e) ≡ false
 no-buffer (ElementsCopy t) known e = no_name (is_buffer_for (ElementsCopy t)) refl refl refl refl known e

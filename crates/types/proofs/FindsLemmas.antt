@@ -3,7 +3,7 @@ use Rattle.std.proofs.Common.{◌≡◌, ℕ, [], ◌∷◌, ◌++◌, Option, S
 use Rattle.types.specs.declared.fault.TypeFault.{TypeFault}
 use Rattle.types.specs.declared.fault.TypeFault.TheVariants.{Memory, Broken}
 use Rattle.types.specs.SortRules.{SortRule}
-use Rattle.types.specs.Faults.{Faults, Finds, Refuses, first, fault_of}
+use Rattle.types.specs.Faults.{Faults, Finds, Refuses, first}
 
 -- where the first rules are kept, the later ones decide
 pub Finds-later : {A : Type 0} (r : Result A TypeFault) (earlier later : Faults) → earlier ≡ [] → Finds r later → Finds r (earlier ++ later)
@@ -16,7 +16,6 @@ Refuses-first (Broken f) [] later h = absurd cc
 Refuses-first (Broken f) (g ∷ earlier) later h = h
 
 pub ruleset finds_rules = (Finds-later, Refuses-first)
-
 
 first_none : (xs ys : Faults) → first xs ≡ first ys → ys ≡ [] → xs ≡ []
 first_none [] ys e none = refl

@@ -1,5 +1,5 @@
 -- What is refused at a statement in memory: the list of its form begins alike.
-use Rattle.std.proofs.Common.{◌≡◌, ℕ, suc, Bool, true, false, not, ◌&&◌, ◌||◌, List, [], ◌∷◌, ◌++◌, Option, Some, None, is_some, is_none, refl, sym, ap, ◌∙◌, map, filter, flat_map, append-nil, bytes_eq, if◌then◌else◌, length, ◌==◌}
+use Rattle.std.proofs.Common.{◌≡◌, ℕ, suc, Bool, true, false, not, ◌&&◌, ◌||◌, List, [], ◌∷◌, ◌++◌, Option, Some, None, is_some, is_none, refl, ap, ◌∙◌, map, filter, flat_map, append-nil, bytes_eq, if◌then◌else◌, length, ◌==◌}
 use Rattle.std.proofs.lemmas.List.Folds.{list_any-append}
 use Rattle.std.specs.List.{list_any, list_all}
 use Rattle.std.specs.Option.{option_map}
@@ -17,18 +17,17 @@ use Rattle.syntax.specs.declared.stmt.Form.{Form as FormInMemory}
 use Rattle.syntax.specs.declared.stmt.Form.TheVariants as form
 use Rattle.syntax.specs.declared.unit.ResultType.{ResultType as ResultInMemory}
 use Rattle.syntax.specs.declared.unit.ResultType.TheVariants as results
-use Rattle.syntax.specs.Parts.{names_in, argument_expressions, addresses_in}
+use Rattle.syntax.specs.Parts.{names_in, addresses_in}
 use Rattle.syntax.specs.Tree.{Expr, Argument, AddressOf}
 use Rattle.syntax.specs.Views.{expr_tree, form_tree, result_tree, argument_tree, call_tree}
-use Rattle.types.specs.declared.fault.TypeFault.{TypeFault}
 use Rattle.types.specs.JniFunction.{JniFunction, GetArrayLength}
 use Rattle.types.specs.Prototype.{function_named, prototype}
 use Rattle.types.specs.Sorts.{Sort, Jint, Scope, sort_in, sort_of, is_jint, call_arguments_fit}
-use Rattle.types.specs.SortRules.{SortRule, UnknownName, DeclaredTwice, SortMisfit, UnknownFunction, ArgumentCount, ReferenceCopied, BadMode, ReadOnlyWrite, sort_rules, is_formed, has_name, has_wrong_count, has_wrong_mode, is_mode, modes_fit, call_fits, return_fits, returns_nothing}
+use Rattle.types.specs.SortRules.{SortRule, UnknownName, DeclaredTwice, SortMisfit, UnknownFunction, ArgumentCount, BadMode, sort_rules, is_formed, has_name, has_wrong_count, has_wrong_mode, modes_fit, call_fits, return_fits, returns_nothing}
 use Rattle.types.specs.BuiltCalls.{is_built_function, refuses, refused_at}
-use Rattle.types.specs.Table.{Facts, facts_of}
-use Rattle.types.specs.Faults.{Faults, first, broken_if, has_unknown, argument_values, at_statement, statement_place}
-use Rattle.types.specs.FormFaults.{gives_number, arguments_suit, call_misfits, is_built, miscounts, function_faults, form_faults}
+use Rattle.types.specs.Table.{facts_of}
+use Rattle.types.specs.Faults.{Faults, first, broken_if, has_unknown, argument_values, at_statement}
+use Rattle.types.specs.FormFaults.{call_misfits, miscounts, function_faults, form_faults}
 
 -- ---- the rules one after the other
 
@@ -147,7 +146,7 @@ form-faults returns scope line (form.Declare variable.Jint x (right.Expr e)) =
 form-faults returns scope line (form.Declare variable.Jint x (right.Call c)) =
     ap first (listed (λ rule. refuses rule (at_statement (result_tree returns) scope (form_tree line (form.Declare variable.Jint x (right.Call c))))) line)
     ∙ alike_if _ _ UnknownName line _ _ (unknown_call scope c) (alike_if _ _ DeclaredTwice line _ _ (taken-known scope x)
-        (alike_if _ _ SortMisfit line _ _ (misfits_by scope c (function_named c.function)) (call_rest c line (function_named c.function))))
+    (alike_if _ _ SortMisfit line _ _ (misfits_by scope c (function_named c.function)) (call_rest c line (function_named c.function))))
 form-faults returns scope line (form.PutJint e) =
     ap first (listed (λ rule. refuses rule (at_statement (result_tree returns) scope (form_tree line (form.PutJint e)))) line)
     ∙ alike_if _ _ UnknownName line _ _ (unknown_one scope (expr_tree e)) (last_if _ _ SortMisfit line (jint_misfits scope e))

@@ -1,8 +1,7 @@
 -- What is refused of a unit in memory is what is refused of its tree.
-use Rattle.std.proofs.Common.{◌≡◌, ℕ, Bool, true, false, not, ◌&&◌, ◌||◌, List, [], ◌∷◌, ◌++◌, Option, Some, None, is_some, is_none, refl, sym, ap, ap₂, ◌∙◌, map, filter, flat_map, append_assoc, append-nil, bytes_eq, if◌then◌else◌}
+use Rattle.std.proofs.Common.{◌≡◌, ℕ, Bool, true, false, not, ◌||◌, List, [], ◌∷◌, ◌++◌, Option, Some, None, is_some, is_none, refl, sym, ap, ap₂, ◌∙◌, map, filter, flat_map, append-nil, bytes_eq, if◌then◌else◌}
 use Rattle.std.proofs.lemmas.Grind.{flat_map-append}
 use Rattle.std.proofs.lemmas.List.Folds.{list_any-append}
-use Rattle.std.specs.List.{list_any}
 use Rattle.base.specs.Bytes.{Identifier}
 use Rattle.base.specs.Options.{some_passes}
 use Rattle.syntax.specs.declared.declared_type.VariableType.TheVariants as variable
@@ -14,13 +13,13 @@ use Rattle.syntax.specs.declared.unit.Function.{Function as FunctionInMemory}
 use Rattle.syntax.specs.declared.unit.Item.{Item as ItemInMemory}
 use Rattle.syntax.specs.declared.unit.Item.TheVariants as item
 use Rattle.syntax.specs.Parts.{statements_within, names_declared, parameter_names}
-use Rattle.syntax.specs.Tree.{ResultType, Stmt, AssignElement, Parameter}
+use Rattle.syntax.specs.Tree.{ResultType, Stmt, AssignElement}
 use Rattle.syntax.specs.Views.{form_tree, stmt_tree, statements_tree, result_tree, parameter_tree, parameter_type_tree, function_tree, item_tree, unit_tree}
 use Rattle.classes.specs.Mangling.{unmangle}
 use Rattle.types.specs.Sorts.{Sort, Jint, Ref, Scope, sort_in}
-use Rattle.types.specs.SortRules.{SortRule, UnknownName, DeclaredTwice, SortMisfit, UnknownFunction, ArgumentCount, ReferenceCopied, BadMode, ReadOnlyWrite, sort_rules, HeadForm, breaks_sort_rule, places_within, places_of, item_places, function_places, with_declared, has_name, has_repeated, parameter_sort}
+use Rattle.types.specs.SortRules.{SortRule, UnknownName, DeclaredTwice, SortMisfit, UnknownFunction, ArgumentCount, ReferenceCopied, BadMode, ReadOnlyWrite, sort_rules, breaks_sort_rule, places_within, places_of, item_places, function_places, with_declared, has_name, has_repeated, parameter_sort}
 use Rattle.types.specs.BuiltCalls.{refuses, refused_at, refused}
-use Rattle.types.specs.Faults.{Faults, broken_if, at_statement, statement_place, statement_refused, statements_refused, head_place, head_faults, parameter_scope, entry_scope, function_refused, items_refused}
+use Rattle.types.specs.Faults.{broken_if, at_statement, statement_place, statement_refused, statements_refused, head_place, head_faults, parameter_scope, entry_scope, function_refused, items_refused}
 use Rattle.types.proofs.FormLemmas.{listed, taken-known}
 
 same_rules : (p q : SortRule → Bool) (line : ℕ) → ((rule : SortRule) → p rule ≡ q rule) → (rules : List SortRule) → flat_map (λ r. broken_if (p r) r line) rules ≡ flat_map (λ r. broken_if (q r) r line) rules
@@ -94,7 +93,7 @@ block returns scope taken is_taken [] end_line = refl
 block returns scope taken is_taken (s ∷ rest) end_line =
     flat_map-append refused_at (places_within returns scope taken (stmt_tree s)) _
     ∙ ap₂ ◌++◌ (one_place returns scope taken is_taken s.line s.form)
-        (block returns (with_declared scope (stmt_tree s)) (taken ++ names_declared (statements_within (stmt_tree s))) (further scope taken is_taken s.line s.form) rest end_line)
+    (block returns (with_declared scope (stmt_tree s)) (taken ++ names_declared (statements_within (stmt_tree s))) (further scope taken is_taken s.line s.form) rest end_line)
 
 -- ---- functions
 
@@ -129,7 +128,7 @@ head-faults : (taken : List Identifier) (f : FunctionInMemory) → refused_at (h
 head-faults taken f =
     listed (λ rule. refuses rule (head_place taken f)) f.line
     ∙ ap₂ (λ a b. broken_if a UnknownName f.line ++ (broken_if (has_name taken f.name || has_repeated b) DeclaredTwice f.line ++ [])) (none_is (unmangle f.name))
-        (append-nil (parameter_names (function_tree f)) ∙ ap (λ xs. f.class_name ∷ xs) (names_of f.parameters.items))
+    (append-nil (parameter_names (function_tree f)) ∙ ap (λ xs. f.class_name ∷ xs) (names_of f.parameters.items))
     ∙ ap (λ xs. broken_if (not (is_some (unmangle f.name))) UnknownName f.line ++ xs) (append-nil _)
 
 entry : (f : FunctionInMemory) (x : Identifier) → has_name (parameter_names (function_tree f) ++ []) x ≡ is_some (sort_in (entry_scope f) x)
@@ -144,8 +143,8 @@ entry_sorts f = append-nil _ ∙ ap (λ xs. (f.class_name, Ref) ∷ xs) (scope_s
 function-refused : (taken taken' : List Identifier) → ((x : Identifier) → has_name taken' x ≡ has_name taken x) → (f : FunctionInMemory) → flat_map refused_at (function_places taken' [] (function_tree f)) ≡ function_refused taken f
 function-refused taken taken' same f =
     ap₂ ◌++◌ (same_refused _ _ _ (head_rule taken taken' f same) ∙ head-faults taken f)
-        (ap (λ scope. flat_map refused_at (places_of (result_tree f.result) scope (parameter_names (function_tree f) ++ []) (statements_tree f.body.statements.items f.body.end_line))) (entry_sorts f)
-        ∙ block (result_tree f.result) (entry_scope f) (parameter_names (function_tree f) ++ []) (entry f) f.body.statements.items f.body.end_line)
+    (ap (λ scope. flat_map refused_at (places_of (result_tree f.result) scope (parameter_names (function_tree f) ++ []) (statements_tree f.body.statements.items f.body.end_line))) (entry_sorts f)
+    ∙ block (result_tree f.result) (entry_scope f) (parameter_names (function_tree f) ++ []) (entry f) f.body.statements.items f.body.end_line)
 
 or_swap : (a b : Bool) → (a || b) ≡ (b || (a || false))
 or_swap true true = refl

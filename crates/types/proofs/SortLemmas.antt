@@ -1,22 +1,16 @@
 -- Sorts of the expressions in memory.
-use Rattle.std.proofs.Common.{◌≡◌, Bool, true, false, ◌&&◌, ◌||◌, not, List, [], ◌∷◌, ◌++◌, Option, Some, None, refl, ap, ◌∙◌, sym, is_some, is_none, map, flat_map}
-use Rattle.std.specs.List.{list_any}
+use Rattle.std.proofs.Common.{◌≡◌, ◌||◌, Option, Some, None, refl, is_some, is_none}
 use Rattle.std.specs.Option.{option_map}
 use Rattle.std.proofs.lemmas.List.Folds.{list_any-append}
-use Rattle.base.specs.Bytes.{Identifier}
-use Rattle.syntax.specs.declared.expr.Expr.{Expr as ExprInMemory}
-use Rattle.syntax.specs.declared.expr.Expr.TheVariants as expr
 use Rattle.syntax.specs.declared.expr.PrefixOp.{PrefixOp as PrefixInMemory}
 use Rattle.syntax.specs.declared.expr.PrefixOp.TheVariants as prefix
 use Rattle.syntax.specs.declared.expr.BinaryOp.{BinaryOp as BinaryInMemory}
 use Rattle.syntax.specs.declared.expr.BinaryOp.TheVariants as binary
 use Rattle.syntax.specs.Parts.{names_in}
 use Rattle.syntax.specs.Tree.{Expr, Binary}
-use Rattle.syntax.specs.Views.{expr_tree, prefix_tree, binary_tree}
+use Rattle.syntax.specs.Views.{prefix_tree, binary_tree}
 use Rattle.types.specs.declared.sort.Sort.{Sort as SortInMemory}
-use Rattle.types.specs.declared.sort.Sort.TheVariants as sorts
 use Rattle.types.specs.Sorts.{Sort, Word, Jint, Flag, Truth, Ref, Global, FieldId, Buffer, Array, Scope, sort_in, sort_of, prefix_sort, binary_sort, OnWords, group}
-use Rattle.types.specs.SortRules.{is_formed}
 use Rattle.types.specs.Faults.{sort_value, has_unknown}
 
 -- the operators in memory work on words

@@ -1,5 +1,5 @@
 -- The table in memory is the table of the definitions.
-use Rattle.std.proofs.Common.{◌≡◌, ℕ, Bool, true, false, List, [], ◌∷◌, map, Option, Some, None, refl, ap, ◌∙◌, bytes_eq, if◌then◌else◌, find}
+use Rattle.std.proofs.Common.{◌≡◌, Bool, true, false, List, [], ◌∷◌, map, Option, Some, refl, ap, ◌∙◌, bytes_eq, if◌then◌else◌, find}
 use Rattle.std.specs.Option.{option_map}
 use Rattle.base.specs.Bytes.{Identifier}
 use Rattle.types.specs.declared.prototype.TheConstants.{PROTOTYPES}

@@ -4,8 +4,8 @@ use Rattle.std.specs.Prelude.{IsTrue, filter_map}
 use Rattle.std.specs.List.{list_all, list_any}
 use Rattle.std.proofs.lemmas.List.Folds.{list_all-append}
 use Rattle.base.specs.Bytes.{Identifier}
-use Rattle.syntax.specs.Parts.{functions_of, statements_of, statements_within, names_declared, parameter_names}
-use Rattle.syntax.specs.Tree.{ResultType, Stmt, If, IfElse, While, Block, End, Next, Function, Item, StaticItem, FunctionItem, SourceUnit}
+use Rattle.syntax.specs.Parts.{statements_of, statements_within, names_declared, parameter_names}
+use Rattle.syntax.specs.Tree.{ResultType, Stmt, If, IfElse, While, Block, End, Next, Item, StaticItem, FunctionItem, SourceUnit}
 use Rattle.types.specs.declared.fault.TypeFault.{TypeFault}
 use Rattle.types.specs.declared.fault.TypeFault.TheVariants.{Memory, Broken}
 use Rattle.types.specs.Sorts.{Sort, Ref, Global, Scope}
@@ -105,9 +105,9 @@ mutual
   within returns known taken (If line test then') = ap (λ b. not (calls_unbuilt (If line test then')) && b) (inside returns known taken then')
   within returns known taken (IfElse line test then' else') =
       ap (λ b. not (calls_unbuilt (IfElse line test then' else')) && b)
-          (list_all-append _ (places_of returns known taken then') _
-          ∙ ap₂ ◌&&◌ (inside returns known taken then') (inside returns known (taken ++ names_declared (statements_of then')) else')
-          ∙ sym (list_all-append _ (statements_of then') _))
+      (list_all-append _ (places_of returns known taken then') _
+      ∙ ap₂ ◌&&◌ (inside returns known taken then') (inside returns known (taken ++ names_declared (statements_of then')) else')
+      ∙ sym (list_all-append _ (statements_of then') _))
   within returns known taken (While line test body) = ap (λ b. not (calls_unbuilt (While line test body)) && b) (inside returns known taken body)
   within returns known taken s = refl
 

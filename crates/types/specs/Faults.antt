@@ -1,6 +1,6 @@
 -- What a check of some rules finds: the first that is broken.
-use Rattle.std.specs.Prelude.{◌≡◌, ℕ, Bool, true, false, not, ◌||◌, ◌&&◌, List, [], ◌∷◌, ◌++◌, length, ◌==◌, map, flat_map, Option, Some, None, Result, Ok, Err}
-use Rattle.std.specs.List.{list_any, list_all}
+use Rattle.std.specs.Prelude.{◌≡◌, ℕ, Bool, true, false, not, ◌||◌, List, [], ◌∷◌, ◌++◌, map, flat_map, Option, Some, None, Result, Ok, Err}
+use Rattle.std.specs.List.{list_any}
 use Rattle.std.specs.Option.{is_some, is_none}
 use Rattle.base.specs.Bytes.{Identifier}
 use Rattle.syntax.specs.declared.call.Argument.{Argument as ArgumentInMemory}
@@ -10,7 +10,7 @@ use Rattle.syntax.specs.declared.unit.Function.{Function as FunctionInMemory}
 use Rattle.syntax.specs.declared.unit.Item.{Item as ItemInMemory}
 use Rattle.syntax.specs.declared.unit.Item.TheVariants as item
 use Rattle.syntax.specs.Parts.{line_of, names_in, argument_expressions}
-use Rattle.syntax.specs.Tree.{Expr, Argument, ResultType, Stmt}
+use Rattle.syntax.specs.Tree.{Expr, ResultType, Stmt}
 use Rattle.syntax.specs.Views.{stmt_tree, result_tree, argument_tree, parameter_type_tree, function_tree}
 use Rattle.types.specs.declared.fault.Fault.{Fault}
 use Rattle.types.specs.declared.fault.SortRule.{SortRule as RuleInMemory}
@@ -21,9 +21,9 @@ use Rattle.types.specs.declared.scope.Known.{Known}
 use Rattle.types.specs.declared.sort.Sort.{Sort as SortInMemory}
 use Rattle.types.specs.declared.sort.Sort.TheVariants as sorts
 use Rattle.types.specs.Sorts.{Sort, Word, Jint, Ref, Scope, sort_in}
-use Rattle.types.specs.SortRules.{SortRule, UnknownName, DeclaredTwice, SortMisfit, UnknownFunction, ArgumentCount, sort_rules, Place, HeadForm, StatementForm, is_formed, has_name, has_repeated, parameter_sort, with_declared}
+use Rattle.types.specs.SortRules.{SortRule, UnknownName, DeclaredTwice, SortMisfit, UnknownFunction, ArgumentCount, Place, HeadForm, StatementForm, has_name, has_repeated, parameter_sort, with_declared}
 use Rattle.classes.specs.Mangling.{unmangle}
-use Rattle.types.specs.BuiltCalls.{refuses, refused_at}
+use Rattle.types.specs.BuiltCalls.{refused_at}
 
 -- the rule of the definitions
 abbrev pub rule_of : RuleInMemory → SortRule

@@ -1,5 +1,5 @@
 -- What is refused of a single statement in memory, one rule after the other.
-use Rattle.std.specs.Prelude.{◌≡◌, ℕ, Bool, true, false, not, ◌||◌, ◌&&◌, List, [], ◌∷◌, ◌++◌, length, ◌==◌, Option, Some, None, map}
+use Rattle.std.specs.Prelude.{ℕ, Bool, true, false, not, ◌||◌, ◌&&◌, List, ◌++◌, length, ◌==◌, Option, Some, None, map}
 use Rattle.std.specs.List.{list_any, list_all}
 use Rattle.std.specs.Option.{is_some, option_map}
 use Rattle.base.specs.Bytes.{Identifier}

@@ -57,7 +57,8 @@ fn arguments_fit(known: &[Known], kinds: &[ParameterKind], arguments: &[Argument
         [] => true,
         [Argument::Value(e), arguments @ ..] => match kinds {
             [] => true,
-            [kind, kinds @ ..] => value_fits(known, *kind, e) && arguments_fit(known, kinds, arguments),
+            [kind, kinds @ ..] => value_fits(known, *kind, e)
+                && arguments_fit(known, kinds, arguments),
         },
     }
 }
@@ -140,22 +141,47 @@ fn miscounts(prototype: Option<Prototype>, arguments: &[Argument]) -> bool
 
 /// The function of a call, and the number of its arguments.
 #[tactic(auto, using(crate::proofs::FindsLemmas::finds_rules))]
-fn check_function(prototype: Option<Prototype>, arguments: &[Argument], line: usize) -> Result<(), TypeFault>
+fn check_function(
+    prototype: Option<Prototype>,
+    arguments: &[Argument],
+    line: usize,
+) -> Result<(), TypeFault>
     ensures { Finds result (function_faults (option_map facts prototype.entry) arguments.now line) }
 {
     refuse_if(!is_built(prototype), SortRule::UnknownFunction, line)?;
-    refuse_if(miscounts(prototype, arguments), SortRule::ArgumentCount, line)
+    refuse_if(
+        miscounts(prototype, arguments),
+        SortRule::ArgumentCount,
+        line,
+    )
 }
 
 /// A number that is set to a call.
 #[tactic(auto, using(crate::proofs::FindsLemmas::finds_rules))]
-pub(crate) fn check_call(known: &[Known], name: &Name, call: &Call, line: usize) -> Result<(), TypeFault>
+pub(crate) fn check_call(
+    known: &[Known],
+    name: &Name,
+    call: &Call,
+    line: usize,
+) -> Result<(), TypeFault>
     ensures { Finds result (call_faults (scope_of known.now) name.now call.now line) }
 {
     let arguments = call.arguments.as_slice();
-    refuse_if(arguments_unknown(known, arguments), SortRule::UnknownName, line)?;
-    refuse_if(sort_in(known, name).is_some(), SortRule::DeclaredTwice, line)?;
+    refuse_if(
+        arguments_unknown(known, arguments),
+        SortRule::UnknownName,
+        line,
+    )?;
+    refuse_if(
+        sort_in(known, name).is_some(),
+        SortRule::DeclaredTwice,
+        line,
+    )?;
     let prototype = prototype_named(call.function.as_bytes());
-    refuse_if(call_misfits(known, prototype, arguments), SortRule::SortMisfit, line)?;
+    refuse_if(
+        call_misfits(known, prototype, arguments),
+        SortRule::SortMisfit,
+        line,
+    )?;
     check_function(prototype, arguments, line)
 }

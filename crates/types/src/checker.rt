@@ -38,13 +38,22 @@ fn check_number(known: &[Known], name: &Name, e: &Expr, line: usize) -> Result<(
     ensures { Finds result (number_faults (scope_of known.now) name.now (expr_tree e.now) line) }
 {
     refuse_if(has_unknown(known, e), SortRule::UnknownName, line)?;
-    refuse_if(sort_in(known, name).is_some(), SortRule::DeclaredTwice, line)?;
+    refuse_if(
+        sort_in(known, name).is_some(),
+        SortRule::DeclaredTwice,
+        line,
+    )?;
     refuse_if(!is_jint(known, e), SortRule::SortMisfit, line)
 }
 
 /// A return of a function with this result.
 #[tactic(auto, using(crate::proofs::FindsLemmas::finds_rules))]
-fn check_return(returns: ResultType, known: &[Known], value: &Option<Expr>, line: usize) -> Result<(), TypeFault>
+fn check_return(
+    returns: ResultType,
+    known: &[Known],
+    value: &Option<Expr>,
+    line: usize,
+) -> Result<(), TypeFault>
     ensures { Finds result (return_faults (result_tree returns) (scope_of known.now) (option_map expr_tree value.now) line) }
 {
     match (returns, value) {
@@ -58,12 +67,21 @@ fn check_return(returns: ResultType, known: &[Known], value: &Option<Expr>, line
     }
 }
 
-fn check_form(returns: ResultType, known: &[Known], form: &Form, line: usize) -> Result<(), TypeFault>
+fn check_form(
+    returns: ResultType,
+    known: &[Known],
+    form: &Form,
+    line: usize,
+) -> Result<(), TypeFault>
     ensures { Finds result (form_faults (result_tree returns) (scope_of known.now) form.now line) }
 {
     match form {
-        Form::Declare(VariableType::Jint, name, RightSide::Expr(e)) => check_number(known, name, e, line),
-        Form::Declare(VariableType::Jint, name, RightSide::Call(call)) => check_call(known, name, call, line),
+        Form::Declare(VariableType::Jint, name, RightSide::Expr(e)) => check_number(
+            known, name, e, line,
+        ),
+        Form::Declare(VariableType::Jint, name, RightSide::Call(call)) => check_call(
+            known, name, call, line,
+        ),
         Form::PutJint(e) => check_jint(known, e, line),
         Form::Return(value) => check_return(returns, known, value, line),
     }
@@ -77,7 +95,12 @@ fn check_statement(returns: ResultType, known: &[Known], stmt: &Stmt) -> Result<
 
 /// The statements of a function in which these names are known. A name is known after its own declaration.
 #[tactic(auto, using(crate::proofs::FindsLemmas::finds_rules))]
-fn check_statements(alloc: Global, returns: ResultType, mut known: Vec<Known>, statements: &[Stmt]) -> Result<(), TypeFault>
+fn check_statements(
+    alloc: Global,
+    returns: ResultType,
+    mut known: Vec<Known>,
+    statements: &[Stmt],
+) -> Result<(), TypeFault>
     ensures { Finds result (statements_refused (result_tree returns) (scope_of known.items) statements.now) }
 {
     for stmt in statements {
