@@ -1,3 +1,7 @@
 pub mod FindsLemmas
 pub mod SortLemmas
-mod BrokenLemmas
+pub mod CallLemmas
+pub mod UnitLemmas
+mod FormLemmas
+mod RefusedLemmas
+mod TableLemmas
