@@ -1,5 +1,5 @@
 -- The fault of a pass is one that the text earns.
-use Rattle.std.proofs.Common.{◌≡◌, List, ℕ, Some}
+use Rattle.std.proofs.Common.{◌≡◌, List, ℕ, Some, IsTrue}
 use Rattle.syntax.specs.Tree.{SourceUnit}
 use Rattle.scan.specs.declared.token.Token.{Token}
 use Rattle.scan.specs.declared.fault.ScanFault.{ScanFault}
@@ -15,7 +15,8 @@ use Rattle.parse.specs.Spelling.{SpellsUnit}
 use Rattle.types.specs.declared.fault.TypeFault.{TypeFault}
 use Rattle.types.specs.declared.fault.TypeFault.TheVariants as sorting
 use Rattle.types.specs.Faults.{IfBroken, fault_of, rule_of}
-use Rattle.types.specs.SortRules.{IsSorted, first_fault}
+use Rattle.types.specs.BuiltCalls.{calls_are_built, first_refused}
+use Rattle.types.specs.SortRules.{IsSorted}
 use Rattle.regions.specs.declared.fault.RegionFault.{RegionFault}
 use Rattle.regions.specs.FirstFaults.{IsFirstRegionFault}
 use Rattle.regions.specs.OpenEnds as open_ends
@@ -31,9 +32,9 @@ pub parse_refusal : (text : List ℕ) (tokens : List Token) (f : ParseFault) →
 parse_refusal text tokens parsing.Memory s h = tt
 parse_refusal text tokens (parsing.Found fault line) s h = by_parse tokens fault line s h
 
-pub types_refusal : (text : List ℕ) (unit : SourceUnit) (f : TypeFault) → SpellsUnit text unit → IfBroken f (λ g. first_fault unit ≡ Some (fault_of g)) → IsRefusal text (of_types f)
+pub types_refusal : (text : List ℕ) (unit : SourceUnit) (f : TypeFault) → SpellsUnit text unit → IfBroken f (λ g. first_refused unit ≡ Some (fault_of g)) → IsRefusal text (of_types f)
 types_refusal text unit sorting.Memory s h = tt
 types_refusal text unit (sorting.Broken fault) s h = by_sorts unit (rule_of fault.rule) fault.line s h
 
-pub regions_refusal : (text : List ℕ) (unit : SourceUnit) (f : RegionFault) → SpellsUnit text unit → IsSorted unit → IsFirstRegionFault (open_ends.rule_of f.rule) f.line unit → IsRefusal text (of_regions f)
-regions_refusal text unit f s t h = by_regions unit (open_ends.rule_of f.rule) f.line s t h
+pub regions_refusal : (text : List ℕ) (unit : SourceUnit) (f : RegionFault) → SpellsUnit text unit → IsSorted unit → IsTrue (calls_are_built unit) → IsFirstRegionFault (open_ends.rule_of f.rule) f.line unit → IsRefusal text (of_regions f)
+regions_refusal text unit f s t b h = by_regions unit (open_ends.rule_of f.rule) f.line s t b h

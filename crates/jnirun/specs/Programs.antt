@@ -14,16 +14,19 @@ use Rattle.parse.specs.Faults as parse_faults
 use Rattle.parse.specs.Lexemes.{lexemes}
 use Rattle.parse.specs.Reading.{unit_at}
 use Rattle.parse.specs.Spelling.{SpellsUnit}
-use Rattle.types.specs.SortRules.{SortRule, sort_rule_number, IsSorted, first_fault}
+use Rattle.types.specs.BuiltCalls.{calls_are_built, first_refused}
+use Rattle.types.specs.SortRules.{SortRule, sort_rule_number, IsSorted}
 use Rattle.regions.specs.RegionRules.{RegionRule, region_rule_number}
 use Rattle.regions.specs.Regions.{HasRegions}
 use Rattle.regions.specs.FirstFaults.{IsFirstRegionFault}
 
--- the unit is the tree that the text spells, of forms that are built, and it keeps the rules of sorts and regions
+-- the unit is the tree that the text spells, of forms that are built, it keeps the rules of sorts and regions, and it
+-- calls functions that are built
 pub record IsProgram (text : List ℕ) (unit : SourceUnit) : Type 0 where
   pub spelled : SpellsUnit text unit
   pub built : IsTrue (is_built unit)
   pub sorted : IsSorted unit
+  pub calls : IsTrue (calls_are_built unit)
   pub regions : HasRegions unit
 
 -- The text is refused with this number at this line, by the first pass that finds a fault.
@@ -32,7 +35,7 @@ pub data IsRefusedProgram (text : List ℕ) : (number line : ℕ) → Type 0 whe
   by_scan : (fault : BadToken) (line : ℕ) → IsFirstFault text (scanning.Found fault line) → IsRefusedProgram text (scan_faults.number_of_kind fault) line
   -- its tokens form no tree
   by_parse : (tokens : List Token) (fault : BadForm) (line : ℕ) → Spells text tokens → unit_at (lexemes text 0 1 tokens) ≡ Err (parsing.Found fault line) → IsRefusedProgram text (parse_faults.number_of_kind fault) line
-  -- a rule of sorts is broken
-  by_sorts : (unit : SourceUnit) (rule : SortRule) (line : ℕ) → SpellsUnit text unit → first_fault unit ≡ Some (line, rule) → IsRefusedProgram text (sort_rule_number rule) line
+  -- a rule of sorts is broken, or a function is called that is not built
+  by_sorts : (unit : SourceUnit) (rule : SortRule) (line : ℕ) → SpellsUnit text unit → first_refused unit ≡ Some (line, rule) → IsRefusedProgram text (sort_rule_number rule) line
   -- a rule of regions is broken
-  by_regions : (unit : SourceUnit) (rule : RegionRule) (line : ℕ) → SpellsUnit text unit → IsSorted unit → IsFirstRegionFault rule line unit → IsRefusedProgram text (region_rule_number rule) line
+  by_regions : (unit : SourceUnit) (rule : RegionRule) (line : ℕ) → SpellsUnit text unit → IsSorted unit → IsTrue (calls_are_built unit) → IsFirstRegionFault rule line unit → IsRefusedProgram text (region_rule_number rule) line

@@ -15,5 +15,5 @@ returns-in-Err-type_unit-clause-fault c =
 
 pub returns-clause-fault : goal.returns-clause-fault
 returns-clause-fault c =
-    rw c.of_regions.ensures (regions_refusal c.args.text.now (unit_tree c.in-Ok-parse.unit) c.in-Err-check.fault c.in-Ok-parse.ensures.found c.in-Ok-type_unit.ensures.sorted
+    rw c.of_regions.ensures (regions_refusal c.args.text.now (unit_tree c.in-Ok-parse.unit) c.in-Err-check.fault c.in-Ok-parse.ensures.found c.in-Ok-type_unit.ensures.sorted c.in-Ok-type_unit.ensures.calls
     (rw c.in-Ok-type_unit.ensures.same at c.in-Err-check.ensures.first))
