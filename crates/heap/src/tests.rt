@@ -1,0 +1,4 @@
+use super::addr::Addr;
+use super::heap::{Heap, NoRoom};
+use std::test::Fail;
+
