@@ -1,0 +1,5 @@
+pub mod WordLaws
+pub mod Layouts
+pub mod Changes
+pub mod Lookups
+pub mod Writes

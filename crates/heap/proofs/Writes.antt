@@ -1,0 +1,76 @@
+-- What a write at a block's address does to the blocks.
+use Rattle.std.proofs.Common.{◌≡◌, ℕ, zero, suc, ◌+◌, ◌<◌, ◌≤◌, Bool, true, false, cond, eqb, List, [], ◌∷◌, length, map, get_or, set, Option, Some, None, refl, sym, ap, ◌∙◌, subst, arith, ⊎_elim}
+use Rattle.std.specs.Prelude.{find, IsSome}
+use Rattle.std.proofs.lemmas.List.{get_or-set_same, get_or-set_other, length-set}
+use Rattle.std.proofs.lemmas.Bool.Decides.{eqb_tells}
+use Rattle.heap.specs.Heap.{Block, Space, block_end, end_from, LieFrom, IsLaidOut, IsAddress, with_value, with_pins}
+use Rattle.heap.specs.Cells.{words_from, block_in, space_in, IsStored}
+use Rattle.heap.proofs.WordLaws.{length-words_from, same_block, words_from-set}
+use Rattle.heap.proofs.Layouts.{begins_within}
+use Rattle.heap.proofs.Changes.{changed, changed_here, changed_elsewhere, changed_above, same_above, LeavesPlace, LieFrom-changed, end_from-changed}
+use Rattle.heap.proofs.Lookups.{found, Stored, stored}
+
+-- ---- a value
+
+abbrev pub value_changed : ℕ → ℕ → Block → Block
+value_changed place w b = record b { values = set b.values place w }
+
+pub value_leaves : (place w : ℕ) → LeavesPlace (value_changed place w)
+value_leaves place w = record { address = λ b. refl; count = λ b. length-set b.values place w }
+
+block_in-set : (cs ps : List ℕ) (a place w : ℕ) → place < get_or cs (a + 2) 0 → a + 3 + get_or cs (a + 2) 0 ≤ length cs → block_in (set cs (a + 3 + place) w) ps a ≡ value_changed place w (block_in cs ps a)
+block_in-set cs ps a place w h room =
+    let class : get_or (set cs (a + 3 + place) w) a 0 ≡ get_or cs a 0 = get_or-set_other cs (a + 3 + place) a w 0 (λ e. omega arith) in
+    let birth : get_or (set cs (a + 3 + place) w) (a + 1) 0 ≡ get_or cs (a + 1) 0 = get_or-set_other cs (a + 3 + place) (a + 1) w 0 (λ e. omega arith) in
+    let count : get_or (set cs (a + 3 + place) w) (a + 2) 0 ≡ get_or cs (a + 2) 0 = get_or-set_other cs (a + 3 + place) (a + 2) w 0 (λ e. omega arith) in
+    let values : words_from (set cs (a + 3 + place) w) (a + 3) (get_or cs (a + 2) 0) ≡ set (words_from cs (a + 3) (get_or cs (a + 2) 0)) place w = words_from-set cs (a + 3) (get_or cs (a + 2) 0) place w h room in
+    cc
+
+pub blocks-set : (cs ps : List ℕ) (from a place w : ℕ) (starts : List ℕ) (cells : ℕ) → LieFrom from (map (block_in cs ps) starts) cells → IsSome (find (λ (b : Block). eqb b.address a) (map (block_in cs ps) starts)) → place < get_or cs (a + 2) 0 → cells ≤ length cs → map (block_in (set cs (a + 3 + place) w) ps) starts ≡ map (changed a (value_changed place w)) (map (block_in cs ps) starts)
+blocks-set cs ps from a place w [] cells h some inside room = refl
+blocks-set cs ps from a place w (s ∷ starts) cells h some inside room =
+    let count = length-words_from cs (s + 3) (get_or cs (s + 2) 0) in
+    let fits = begins_within (block_end (block_in cs ps s)) (map (block_in cs ps) starts) cells h.1 in
+    ⊎_elim
+      (λ (t : (eqb s a ≡ true) × (s ≡ a)).
+        let inside' : place < get_or cs (s + 2) 0 = subst (λ n. place < get_or cs (n + 2) 0) (sym t.1) inside in
+        let here : block_in (set cs (s + 3 + place) w) ps s ≡ value_changed place w (block_in cs ps s) = block_in-set cs ps s place w inside' (omega arith) in
+        let here' : block_in (set cs (a + 3 + place) w) ps s ≡ value_changed place w (block_in cs ps s) = subst (λ n. block_in (set cs (n + 3 + place) w) ps s ≡ value_changed place w (block_in cs ps s)) t.1 here in
+        let now = changed_here a (value_changed place w) (block_in cs ps s) t.1 in
+        let rest = same_above cs (set cs (a + 3 + place) w) ps (block_end (block_in cs ps s)) starts cells h.1 (λ i l. sym (get_or-set_other cs (a + 3 + place) i w 0 (λ e. omega arith))) in
+        let kept = changed_above a (value_changed place w) (block_end (block_in cs ps s)) (map (block_in cs ps) starts) cells h.1 (omega arith) in
+        cc)
+      (λ (t : (eqb s a ≡ false) × (s ≡ a → ⊥)).
+        let skip : find (λ (b : Block). eqb b.address a) (map (block_in cs ps) (s ∷ starts)) ≡ find (λ (b : Block). eqb b.address a) (map (block_in cs ps) starts) = ap (λ (c : Bool). cond c (Some (block_in cs ps s)) (find (λ (b : Block). eqb b.address a) (map (block_in cs ps) starts))) t.0 in
+        let some' : IsSome (find (λ (b : Block). eqb b.address a) (map (block_in cs ps) starts)) = subst (λ (o : Option Block). IsSome o) skip some in
+        let later = found cs ps (block_end (block_in cs ps s)) a starts cells h.1 some' in
+        let above : block_end (block_in cs ps s) ≤ a = later.above in
+        let here = same_block cs (set cs (a + 3 + place) w) ps ps s (λ i l u. sym (get_or-set_other cs (a + 3 + place) i w 0 (λ e. omega arith))) refl in
+        let now = changed_elsewhere a (value_changed place w) (block_in cs ps s) t.1 in
+        let rest = blocks-set cs ps (block_end (block_in cs ps s)) a place w starts cells h.1 some' inside room in
+        cc)
+      (eqb_tells s a)
+
+-- ---- pins
+
+abbrev pub pins_changed : ℕ → Block → Block
+pins_changed n b = record b { pins = n }
+
+pub pins_leave : (n : ℕ) → LeavesPlace (pins_changed n)
+pins_leave n = record { address = λ b. refl; count = λ b. refl }
+
+pub blocks-pins : (cs ps : List ℕ) (a n : ℕ) (starts : List ℕ) → a < length ps → map (block_in cs (set ps a n)) starts ≡ map (changed a (pins_changed n)) (map (block_in cs ps) starts)
+blocks-pins cs ps a n [] room = refl
+blocks-pins cs ps a n (s ∷ starts) room =
+    let rest = blocks-pins cs ps a n starts room in
+    ⊎_elim
+      (λ (t : (eqb s a ≡ true) × (s ≡ a)).
+        let here : get_or (set ps s n) s 0 ≡ n = get_or-set_same ps s n 0 (omega arith) in
+        let here' : get_or (set ps a n) s 0 ≡ n = subst (λ m. get_or (set ps m n) s 0 ≡ n) t.1 here in
+        let now = changed_here a (pins_changed n) (block_in cs ps s) t.1 in
+        cc)
+      (λ (t : (eqb s a ≡ false) × (s ≡ a → ⊥)).
+        let here : get_or (set ps a n) s 0 ≡ get_or ps s 0 = get_or-set_other ps a s n 0 t.1 in
+        let now = changed_elsewhere a (pins_changed n) (block_in cs ps s) t.1 in
+        cc)
+      (eqb_tells s a)
