@@ -1,10 +1,10 @@
 -- The block at an address.
 use Rattle.std.proofs.Common.{◌≡◌, ℕ, zero, suc, ◌+◌, ◌<◌, ◌≤◌, Bool, true, false, cond, eqb, List, [], ◌∷◌, length, map, get_or, set, Option, Some, None, refl, sym, ap, ◌∙◌, subst, arith, ⊎_elim}
 use Rattle.std.specs.Prelude.{find, slice_get, IsSome}
-use Rattle.std.specs.Option.{option_map_or}
+use Rattle.std.specs.Option.{option_map, option_map_or}
 use Rattle.std.proofs.lemmas.List.{length-map}
 use Rattle.std.proofs.lemmas.Bool.Decides.{eqb_tells}
-use Rattle.heap.specs.Heap.{Block, Space, block_end, end_from, LieFrom, IsLaidOut, IsAddress, block_at, values_at, pins_at, addresses}
+use Rattle.heap.specs.Heap.{Block, Space, block_end, end_from, LieFrom, IsLaidOut, IsAddress, block_at, class_at, name_at, values_at, pins_at, addresses}
 use Rattle.heap.specs.Cells.{words_from, block_in, space_in}
 use Rattle.heap.proofs.WordLaws.{length-words_from}
 use Rattle.heap.proofs.Layouts.{begins_within}
@@ -38,17 +38,25 @@ found cs ps from a (s ∷ starts) cells h some =
 
 -- what is known of the heap at a block's address
 pub record Stored (cs ps : List ℕ) (s : Space) (a : ℕ) : Type 0 where
-  pub at : block_at s a ≡ Some (block_in cs ps a)
   pub fits : a + 3 + get_or cs (a + 2) 0 ≤ length cs
-  pub count : length (words_from cs (a + 3) (get_or cs (a + 2) 0)) ≡ get_or cs (a + 2) 0
+  pub class : class_at s a ≡ Some (get_or cs a 0)
+  pub name : name_at s a ≡ Some (get_or cs (a + 1) 0)
+  pub values : values_at s a ≡ words_from cs (a + 3) (get_or cs (a + 2) 0)
+  pub count : length (values_at s a) ≡ get_or cs (a + 2) 0
+  pub pins : pins_at s a ≡ get_or ps a 0
 
 pub stored : (cs ps starts : List ℕ) (s : Space) (a : ℕ) → space_in cs ps starts ≡ s → IsLaidOut (space_in cs ps starts) → IsAddress s a → Stored cs ps s a
 stored cs ps starts s a e h some =
     let here = found cs ps 0 a starts (length cs) h (subst (λ (t : Space). IsAddress t a) (sym e) some) in
+    let at = subst (λ (t : Space). block_at t a ≡ Some (block_in cs ps a)) e here.at in
+    let values : values_at s a ≡ words_from cs (a + 3) (get_or cs (a + 2) 0) = ap (λ (o : Option Block). option_map_or (λ (b : Block). b.values) o []) at in
     record {
-      at = subst (λ (t : Space). block_at t a ≡ Some (block_in cs ps a)) e here.at;
       fits = here.fits;
-      count = length-words_from cs (a + 3) (get_or cs (a + 2) 0);
+      class = ap (λ (o : Option Block). option_map (λ (b : Block). b.class) o) at;
+      name = ap (λ (o : Option Block). option_map (λ (b : Block). b.birth) o) at;
+      values = values;
+      count = ap length values ∙ length-words_from cs (a + 3) (get_or cs (a + 2) 0);
+      pins = ap (λ (o : Option Block). option_map_or (λ (b : Block). b.pins) o 0) at;
     }
 
 has_values : (o : Option Block) (place : ℕ) → place < length (option_map_or (λ (b : Block). b.values) o []) → IsSome o

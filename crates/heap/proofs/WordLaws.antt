@@ -1,7 +1,8 @@
 -- The words from a cell on.
-use Rattle.std.proofs.Common.{◌≡◌, ℕ, zero, suc, ◌+◌, ◌<◌, ◌≤◌, List, [], ◌∷◌, length, get_or, replicate, set, take, refl, sym, ap, ◌∙◌, subst, arith, inl, inr, ⊎_elim}
+use Rattle.std.proofs.Common.{◌≡◌, ℕ, zero, suc, ◌+◌, ◌<◌, ◌≤◌, List, [], ◌∷◌, length, get_or, replicate, set, take, Some, refl, sym, ap, ◌∙◌, subst, arith, inl, inr, ⊎_elim}
 use Rattle.std.proofs.lemmas.List.{get_or-set_same, get_or-set_other, length-set, ext_get_or, get_or-take, get_or-replicate, length-replicate}
 use Rattle.std.proofs.lemmas.Bool.{cases_eq}
+use Rattle.std.specs.Prelude.{slice_get}
 use Rattle.heap.specs.Heap.{Block}
 use Rattle.heap.specs.Cells.{words_from, block_in}
 
@@ -15,6 +16,13 @@ get_or-words_from cells from (suc n) zero h = let e : from ≡ from + 0 = omega 
 get_or-words_from cells from (suc n) (suc k) h =
     let e : from + 1 + k ≡ from + suc k = omega arith in
     get_or-words_from cells (from + 1) n k (omega arith) ∙ ap (λ i. get_or cells i 0) e
+
+pub slice_get-words_from : (cells : List ℕ) (from n k : ℕ) → k < n → slice_get (words_from cells from n) k ≡ Some (get_or cells (from + k) 0)
+slice_get-words_from cells from zero k h = absurd (omega arith)
+slice_get-words_from cells from (suc n) zero h = let e : from ≡ from + 0 = omega arith in ap (λ i. Some (get_or cells i 0)) e
+slice_get-words_from cells from (suc n) (suc k) h =
+    let e : from + 1 + k ≡ from + suc k = omega arith in
+    slice_get-words_from cells (from + 1) n k (omega arith) ∙ ap (λ i. Some (get_or cells i 0)) e
 
 -- cells that agree there have the same words
 pub same_words : (cs ds : List ℕ) (from n : ℕ) → ((i : ℕ) → from ≤ i → i < from + n → get_or cs i 0 ≡ get_or ds i 0) → words_from cs from n ≡ words_from ds from n

@@ -1,14 +1,14 @@
 -- What a write at a block's address does to the blocks.
-use Rattle.std.proofs.Common.{◌≡◌, ℕ, zero, suc, ◌+◌, ◌<◌, ◌≤◌, Bool, true, false, cond, eqb, List, [], ◌∷◌, length, map, get_or, set, Option, Some, None, refl, sym, ap, ◌∙◌, subst, arith, ⊎_elim}
+use Rattle.std.proofs.Common.{◌≡◌, ℕ, zero, suc, ◌+◌, ◌/◌, ◌<◌, ◌≤◌, Bool, true, false, cond, eqb, List, [], ◌∷◌, length, map, get_or, set, Option, Some, None, refl, sym, ap, ◌∙◌, subst, arith, ⊎_elim}
 use Rattle.std.specs.Prelude.{find, IsSome}
 use Rattle.std.proofs.lemmas.List.{get_or-set_same, get_or-set_other, length-set}
 use Rattle.std.proofs.lemmas.Bool.Decides.{eqb_tells}
-use Rattle.heap.specs.Heap.{Block, Space, block_end, end_from, LieFrom, IsLaidOut, IsAddress, with_value, with_pins}
+use Rattle.heap.specs.Heap.{Block, Space, block_end, end_from, LieFrom, IsLaidOut, IsAddress, values_at, with_value, with_pins}
 use Rattle.heap.specs.Cells.{words_from, block_in, space_in, IsStored}
 use Rattle.heap.proofs.WordLaws.{length-words_from, same_block, words_from-set}
 use Rattle.heap.proofs.Layouts.{begins_within}
 use Rattle.heap.proofs.Changes.{changed, changed_here, changed_elsewhere, changed_above, same_above, LeavesPlace, LieFrom-changed, end_from-changed}
-use Rattle.heap.proofs.Lookups.{found, Stored, stored}
+use Rattle.heap.proofs.Lookups.{found, Stored, stored, IsAddress-from_value}
 
 -- ---- a value
 
@@ -74,3 +74,54 @@ blocks-pins cs ps a n (s ∷ starts) room =
         let now = changed_elsewhere a (pins_changed n) (block_in cs ps s) t.1 in
         cc)
       (eqb_tells s a)
+
+-- ---- the heap after a write
+
+-- cells that hold blocks at the same places
+kept : (cs ps ds qs starts : List ℕ) (end capacity a : ℕ) (change : Block → Block) → LeavesPlace change → IsStored cs ps starts end capacity → map (block_in ds qs) starts ≡ map (changed a change) (map (block_in cs ps) starts) → length ds ≡ length cs → length qs ≡ length ps → IsStored ds qs starts end capacity
+kept cs ps ds qs starts end capacity a change leaves h same lengths pins =
+    record {
+      laid_out = subst (λ (bs : List Block). LieFrom 0 bs (length ds)) (sym same) (subst (λ n. LieFrom 0 (map (changed a change) (map (block_in cs ps) starts)) n) (sym lengths) (LieFrom-changed a change leaves 0 (map (block_in cs ps) starts) (length cs) h.laid_out));
+      behind = h.behind ∙ sym (ap (end_from 0) same ∙ end_from-changed a change leaves 0 (map (block_in cs ps) starts));
+      counted = pins ∙ h.counted ∙ sym lengths;
+      limit = subst (λ n. n ≤ 1048576) (sym lengths) h.limit;
+      room = subst (λ n. n / 3 ≤ capacity) (sym lengths) h.room;
+    }
+
+abbrev space : ℕ → List Block → Space
+space cells blocks = record { cells = cells; blocks = blocks }
+
+same_space : (s t : Space) → s.cells ≡ t.cells → s.blocks ≡ t.blocks → s ≡ t
+same_space s t cells blocks = ap (λ n. space n s.blocks) cells ∙ ap (space t.cells) blocks
+
+-- what cells hold after a write
+pub record Written (starts : List ℕ) (end capacity : ℕ) (ds qs : List ℕ) (t : Space) : Type 0 where
+  pub stored : IsStored ds qs starts end capacity
+  pub space : space_in ds qs starts ≡ t
+
+-- after a write of a value
+pub value_written : (cs ps starts : List ℕ) (end capacity : ℕ) (s : Space) (a place w : ℕ) → IsStored cs ps starts end capacity → space_in cs ps starts ≡ s → place < length (values_at s a) → Written starts end capacity (set cs (a + 3 + place) w) ps (with_value s a place w)
+value_written cs ps starts end capacity s a place w h e inside =
+    let some = IsAddress-from_value s a place inside in
+    let here = stored cs ps starts s a e h.laid_out some in
+    let within : place < get_or cs (a + 2) 0 = omega (arith, here.count) in
+    let some' = subst (λ (t : Space). IsAddress t a) (sym e) some in
+    let same = blocks-set cs ps 0 a place w starts (length cs) h.laid_out some' within (omega arith) in
+    let count = length-set cs (a + 3 + place) w in
+    let now : space_in (set cs (a + 3 + place) w) ps starts ≡ with_value (space_in cs ps starts) a place w = same_space (space_in (set cs (a + 3 + place) w) ps starts) (with_value (space_in cs ps starts) a place w) count same in
+    record {
+      stored = kept cs ps (set cs (a + 3 + place) w) ps starts end capacity a (value_changed place w) (value_leaves place w) h same count refl;
+      space = now ∙ ap (λ (t : Space). with_value t a place w) e;
+    }
+
+-- after a change of a block's pins
+pub pins_written : (cs ps starts : List ℕ) (end capacity : ℕ) (s : Space) (a n : ℕ) → IsStored cs ps starts end capacity → space_in cs ps starts ≡ s → IsAddress s a → Written starts end capacity cs (set ps a n) (with_pins s a n)
+pins_written cs ps starts end capacity s a n h e some =
+    let here = stored cs ps starts s a e h.laid_out some in
+    let counted : length ps ≡ length cs = h.counted in
+    let same = blocks-pins cs ps a n starts (omega arith) in
+    let now : space_in cs (set ps a n) starts ≡ with_pins (space_in cs ps starts) a n = same_space (space_in cs (set ps a n) starts) (with_pins (space_in cs ps starts) a n) refl same in
+    record {
+      stored = kept cs ps cs (set ps a n) starts end capacity a (pins_changed n) (pins_leave n) h same refl (length-set ps a n);
+      space = now ∙ ap (λ (t : Space). with_pins t a n) e;
+    }
