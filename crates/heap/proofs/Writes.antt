@@ -1,13 +1,13 @@
 -- What a write at a block's address does to the blocks.
-use Rattle.std.proofs.Common.{◌≡◌, ℕ, zero, suc, ◌+◌, ◌/◌, ◌<◌, ◌≤◌, Bool, true, false, cond, eqb, List, [], ◌∷◌, length, map, get_or, set, Option, Some, None, refl, sym, ap, ◌∙◌, subst, arith, ⊎_elim}
+use Rattle.std.proofs.Common.{◌≡◌, ℕ, zero, suc, ◌+◌, ◌/◌, ◌<◌, ◌≤◌, Bool, true, false, cond, eqb, List, [], ◌∷◌, ◌++◌, length, map, get_or, set, take, replicate, Option, Some, None, refl, sym, ap, ◌∙◌, subst, arith, ⊎_elim}
 use Rattle.std.specs.Prelude.{find, IsSome}
-use Rattle.std.proofs.lemmas.List.{get_or-set_same, get_or-set_other, length-set}
+use Rattle.std.proofs.lemmas.List.{get_or-set_same, get_or-set_other, get_or-take, length-set, length-map, length-replicate, map-append}
 use Rattle.std.proofs.lemmas.Bool.Decides.{eqb_tells}
-use Rattle.heap.specs.Heap.{Block, Space, block_end, end_from, LieFrom, IsLaidOut, IsAddress, values_at, with_value, with_pins}
+use Rattle.heap.specs.Heap.{Block, Space, block_end, end_from, LieFrom, IsLaidOut, IsAddress, values_at, fresh_block, with_block, with_value, with_pins}
 use Rattle.heap.specs.Cells.{words_from, block_in, space_in, IsStored}
 use Rattle.heap.proofs.WordLaws.{length-words_from, same_block, words_from-set}
-use Rattle.heap.proofs.Layouts.{begins_within}
-use Rattle.heap.proofs.Changes.{changed, changed_here, changed_elsewhere, changed_above, same_above, LeavesPlace, LieFrom-changed, end_from-changed}
+use Rattle.heap.proofs.Layouts.{begins_within, from_below_end, end_from-push, LieFrom-push}
+use Rattle.heap.proofs.Changes.{changed, changed_here, changed_elsewhere, changed_above, same_above, same_below, LeavesPlace, LieFrom-changed, end_from-changed}
 use Rattle.heap.proofs.Lookups.{found, Stored, stored, IsAddress-from_value}
 
 -- ---- a value
@@ -124,4 +124,57 @@ pins_written cs ps starts end capacity s a n h e some =
     record {
       stored = kept cs ps cs (set ps a n) starts end capacity a (pins_changed n) (pins_leave n) h same refl (length-set ps a n);
       space = now ∙ ap (λ (t : Space). with_pins t a n) e;
+    }
+
+-- ---- a further block
+
+-- there is room for the address of a further block
+pub room_for_start : (cs ps starts : List ℕ) (end capacity : ℕ) → IsStored cs ps starts end capacity → end + 3 ≤ length cs → length starts < capacity
+room_for_start cs ps starts end capacity h fits =
+    let most = from_below_end 0 (map (block_in cs ps) starts) (length cs) h.laid_out in
+    let count = length-map starts (block_in cs ps) in
+    let behind : end ≡ end_from 0 (map (block_in cs ps) starts) = h.behind in
+    let room : length cs / 3 ≤ capacity = h.room in
+    omega arith
+
+-- a block as it is written
+pub record IsFresh (ds : List ℕ) (at class birth len : ℕ) : Type 0 where
+  pub class_cell : get_or ds at 0 ≡ class
+  pub birth_cell : get_or ds (at + 1) 0 ≡ birth
+  pub length_cell : get_or ds (at + 2) 0 ≡ len
+  pub value_cells : words_from ds (at + 3) len ≡ replicate len 0
+
+fresh_is : (ds qs : List ℕ) (at class birth len : ℕ) → IsFresh ds at class birth len → get_or qs at 0 ≡ 0 → block_in ds qs at ≡ fresh_block at class birth len
+fresh_is ds qs at class birth len h pins =
+    let class_cell = h.class_cell in
+    let birth_cell = h.birth_cell in
+    let length_cell = h.length_cell in
+    let value_cells = h.value_cells in
+    cc
+
+pub block_written : (cs ps starts : List ℕ) (end capacity capacity' : ℕ) (s : Space) (class birth len : ℕ) (ds : List ℕ) → IsStored cs ps starts end capacity → space_in cs ps starts ≡ s → end + 3 + len ≤ length cs → length ds ≡ length cs → take end ds ≡ take end cs → IsFresh ds end class birth len → capacity ≤ capacity' → Written (starts ++ end ∷ []) (end + 3 + len) capacity' ds (set ps end 0) (with_block s (fresh_block end class birth len))
+block_written cs ps starts end capacity capacity' s class birth len ds h e fits lengths below fresh grows =
+    let behind : end ≡ end_from 0 (map (block_in cs ps) starts) = h.behind in
+    let counted : length ps ≡ length cs = h.counted in
+    let block = fresh_is ds (set ps end 0) end class birth len fresh (get_or-set_same ps end 0 0 (omega arith)) in
+    let old : map (block_in ds (set ps end 0)) starts ≡ map (block_in cs ps) starts = same_below cs ds ps (set ps end 0) 0 starts (length cs) end h.laid_out (omega arith)
+      (λ i l. sym (get_or-take end cs i 0 l) ∙ ap (λ xs. get_or xs i 0) (sym below) ∙ get_or-take end ds i 0 l)
+      (λ i l. sym (get_or-set_other ps end i 0 0 (λ e. omega arith))) in
+    let all : map (block_in ds (set ps end 0)) (starts ++ end ∷ []) ≡ map (block_in cs ps) starts ++ fresh_block end class birth len ∷ [] = map-append (block_in ds (set ps end 0)) starts (end ∷ []) ∙ cc in
+    let zeros : length (fresh_block end class birth len).values ≡ len = length-replicate {A = ℕ} len 0 in
+    let lies = LieFrom-push 0 (map (block_in cs ps) starts) (fresh_block end class birth len) (length cs) h.laid_out (omega arith) (omega arith) in
+    let ends : end_from 0 (map (block_in cs ps) starts ++ fresh_block end class birth len ∷ []) ≡ block_end (fresh_block end class birth len) = end_from-push 0 (map (block_in cs ps) starts) (fresh_block end class birth len) in
+    let ends' : end_from 0 (map (block_in ds (set ps end 0)) (starts ++ end ∷ [])) ≡ block_end (fresh_block end class birth len) = ap (end_from 0) all ∙ ends in
+    let room : length cs / 3 ≤ capacity = h.room in
+    let limit : length cs ≤ 1048576 = h.limit in
+    let now : space_in ds (set ps end 0) (starts ++ end ∷ []) ≡ with_block (space_in cs ps starts) (fresh_block end class birth len) = same_space (space_in ds (set ps end 0) (starts ++ end ∷ [])) (with_block (space_in cs ps starts) (fresh_block end class birth len)) lengths all in
+    record {
+      stored = record {
+        laid_out = subst (λ (bs : List Block). LieFrom 0 bs (length ds)) (sym all) (subst (λ n. LieFrom 0 (map (block_in cs ps) starts ++ fresh_block end class birth len ∷ []) n) (sym lengths) lies);
+        behind = omega arith;
+        counted = length-set ps end 0 ∙ counted ∙ sym lengths;
+        limit = omega arith;
+        room = subst (λ n. n / 3 ≤ capacity') (sym lengths) (omega arith);
+      };
+      space = now ∙ ap (λ (t : Space). with_block t (fresh_block end class birth len)) e;
     }

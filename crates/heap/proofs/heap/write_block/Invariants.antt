@@ -8,5 +8,5 @@ invariant-loop-place l = record {
     class : get_or l.cells l.address 0 ≡ l.class;
     birth : get_or l.cells (l.address + 1) 0 ≡ l.birth;
     length : get_or l.cells (l.address + 2) 0 ≡ l.len;
-    zeros : (k : ℕ) → k < l.place-index → get_or l.cells (l.address + 3 + k) 0 ≡ 0;
+    zeros : (k : ℕ) → k < l.place → get_or l.cells (l.address + 3 + k) 0 ≡ 0;
   }
