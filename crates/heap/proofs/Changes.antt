@@ -31,7 +31,7 @@ pub record LeavesPlace (change : Block → Block) : Type 0 where
   pub address : (b : Block) → (change b).address ≡ b.address
   pub count : (b : Block) → length (change b).values ≡ length b.values
 
-changed_place : (a : ℕ) (change : Block → Block) → LeavesPlace change → (b : Block) → ((changed a change b).address ≡ b.address) × (block_end (changed a change b) ≡ block_end b)
+pub changed_place : (a : ℕ) (change : Block → Block) → LeavesPlace change → (b : Block) → ((changed a change b).address ≡ b.address) × (block_end (changed a change b) ≡ block_end b)
 changed_place a change leaves b =
     ⊎_elim
       (λ (h : (eqb b.address a ≡ true) × (b.address ≡ a)).

@@ -3,3 +3,4 @@ pub mod Layouts
 pub mod Changes
 pub mod Lookups
 pub mod Writes
+pub mod Spaces

@@ -3,6 +3,7 @@ use Rattle.std.proofs.Common.{◌≡◌, ℕ, zero, suc, ◌+◌, ◌/◌, ◌<�
 use Rattle.std.specs.Prelude.{find, IsSome}
 use Rattle.std.proofs.lemmas.List.{get_or-set_same, get_or-set_other, get_or-take, length-set, length-map, length-replicate, map-append}
 use Rattle.std.proofs.lemmas.Bool.Decides.{eqb_tells}
+use Rattle.heap.specs.declared.heap.TheConstants.{MOST_CELLS}
 use Rattle.heap.specs.Heap.{Block, Space, block_end, end_from, LieFrom, IsLaidOut, IsAddress, values_at, fresh_block, with_block, with_value, with_pins}
 use Rattle.heap.specs.Cells.{words_from, block_in, space_in, IsStored}
 use Rattle.heap.proofs.WordLaws.{length-words_from, same_block, words_from-set}
@@ -84,7 +85,7 @@ kept cs ps ds qs starts end capacity a change leaves h same lengths pins =
       laid_out = subst (λ (bs : List Block). LieFrom 0 bs (length ds)) (sym same) (subst (λ n. LieFrom 0 (map (changed a change) (map (block_in cs ps) starts)) n) (sym lengths) (LieFrom-changed a change leaves 0 (map (block_in cs ps) starts) (length cs) h.laid_out));
       behind = h.behind ∙ sym (ap (end_from 0) same ∙ end_from-changed a change leaves 0 (map (block_in cs ps) starts));
       counted = pins ∙ h.counted ∙ sym lengths;
-      limit = subst (λ n. n ≤ 1048576) (sym lengths) h.limit;
+      limit = subst (λ n. n ≤ MOST_CELLS) (sym lengths) h.limit;
       room = subst (λ n. n / 3 ≤ capacity) (sym lengths) h.room;
     }
 
@@ -166,7 +167,7 @@ block_written cs ps starts end capacity capacity' s class birth len ds h e fits 
     let ends : end_from 0 (map (block_in cs ps) starts ++ fresh_block end class birth len ∷ []) ≡ block_end (fresh_block end class birth len) = end_from-push 0 (map (block_in cs ps) starts) (fresh_block end class birth len) in
     let ends' : end_from 0 (map (block_in ds (set ps end 0)) (starts ++ end ∷ [])) ≡ block_end (fresh_block end class birth len) = ap (end_from 0) all ∙ ends in
     let room : length cs / 3 ≤ capacity = h.room in
-    let limit : length cs ≤ 1048576 = h.limit in
+    let limit : length cs ≤ MOST_CELLS = h.limit in
     let now : space_in ds (set ps end 0) (starts ++ end ∷ []) ≡ with_block (space_in cs ps starts) (fresh_block end class birth len) = same_space (space_in ds (set ps end 0) (starts ++ end ∷ [])) (with_block (space_in cs ps starts) (fresh_block end class birth len)) lengths all in
     record {
       stored = record {

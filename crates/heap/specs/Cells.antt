@@ -1,5 +1,6 @@
 -- How cells hold blocks: the class, the birth number and the length, and then the values.
 use Rattle.std.specs.Prelude.{◌≡◌, ℕ, zero, suc, ◌+◌, ◌/◌, ◌≤◌, List, [], ◌∷◌, length, map, slice_index}
+use Rattle.heap.specs.declared.heap.TheConstants.{MOST_CELLS}
 use Rattle.heap.specs.Heap.{Block, Space, end_of, IsLaidOut}
 
 -- so many words from a cell on
@@ -26,5 +27,5 @@ pub record IsStored (cells pins starts : List ℕ) (end capacity : ℕ) : Type 0
   pub laid_out : IsLaidOut (space_in cells pins starts)
   pub behind : end ≡ end_of (space_in cells pins starts)
   pub counted : length pins ≡ length cells
-  pub limit : length cells ≤ 1048576
+  pub limit : length cells ≤ MOST_CELLS
   pub room : length cells / 3 ≤ capacity

@@ -77,7 +77,7 @@ impl Heap {
     pub fn left(&self) -> usize
         ensures { result ≡ left_of self.now }
     {
-        self.cells.len() - self.end
+        self.cells() - self.end
     }
 
     /// The number of blocks.
@@ -106,7 +106,7 @@ impl Heap {
         ensures no_room { OnErr result (left_of self.old < 3 + len) }
         ensures err { OnErr result (self.new ≡ self.old) }
     {
-        let left = self.cells.len() - self.end;
+        let left = self.left();
         if left < HEADER || left - HEADER < len {
             return Err(NoRoom);
         }
@@ -155,7 +155,8 @@ impl Heap {
         requires { place < length (values_at self.old addr) }
         ensures { self.new ≡ with_value self.old addr place word }
     {
-        self.cells[addr.cell() as usize + HEADER + place] = word;
+        let index = addr.cell() as usize;
+        self.cells[index + HEADER + place] = word;
     }
 
     /// The number of a block's pins.
@@ -172,7 +173,8 @@ impl Heap {
         requires limit { pins_at self.old addr < MOST_PINS }
         ensures { self.new ≡ with_pins self.old addr (pins_at self.old addr + 1) }
     {
-        self.pins[addr.cell() as usize] += 1;
+        let index = addr.cell() as usize;
+        self.pins[index] += 1;
     }
 
     /// Takes a pin from a block.
@@ -180,7 +182,8 @@ impl Heap {
         requires { 0 < pins_at self.old addr }
         ensures { self.new ≡ with_pins self.old addr (pins_at self.old addr - 1) }
     {
-        self.pins[addr.cell() as usize] -= 1;
+        let index = addr.cell() as usize;
+        self.pins[index] -= 1;
     }
 }
 

@@ -14,19 +14,19 @@ index_mut-requires c =
 pub overflow_sub-index_mut : goal.overflow_sub-index_mut
 overflow_sub-index_mut c =
     let here = stored c.self.inside.cells.items c.self.inside.pins.items c.self.inside.starts.items c.args.self.now c.args.addr c.self.view_is c.self.invariant.laid_out (IsAddress-from_pins c.args.self.now c.args.addr c.requires) in
-    let read = get_or_read c.self.inside.pins.items c.cell.result c.index_mut.result.now (omega (arith, here.fits, c.self.invariant.counted)) c.index_mut.ensures.value 0 in
+    let read = get_or_read c.self.inside.pins.items c.cell-index.result c.index_mut.result.now (omega (arith, here.fits, c.self.invariant.counted)) c.index_mut.ensures.value 0 in
     let count : c.index_mut.result.now ≡ pins_at c.args.self.now c.args.addr = cc (here.pins) in
     omega (arith, c.requires)
 
 pub invariant_of-self : goal.invariant_of-self
 invariant_of-self c =
     let after = pins_written c.self.inside.cells.items c.self.inside.pins.items c.self.inside.starts.items c.self.inside.end c.self.inside.starts.cap c.args.self.now c.args.addr (c.index_mut.result.now - 1) c.self.invariant c.self.view_is (IsAddress-from_pins c.args.self.now c.args.addr c.requires) in
-    rw c.cell.ensures after.stored
+    rw c.cell-index.ensures after.stored
 
 pub returns : goal.returns
 returns c =
     let here = stored c.self.inside.cells.items c.self.inside.pins.items c.self.inside.starts.items c.args.self.now c.args.addr c.self.view_is c.self.invariant.laid_out (IsAddress-from_pins c.args.self.now c.args.addr c.requires) in
-    let read = get_or_read c.self.inside.pins.items c.cell.result c.index_mut.result.now (omega (arith, here.fits, c.self.invariant.counted)) c.index_mut.ensures.value 0 in
+    let read = get_or_read c.self.inside.pins.items c.cell-index.result c.index_mut.result.now (omega (arith, here.fits, c.self.invariant.counted)) c.index_mut.ensures.value 0 in
     let count : c.index_mut.result.now ≡ pins_at c.args.self.now c.args.addr = cc (here.pins) in
     let after = pins_written c.self.inside.cells.items c.self.inside.pins.items c.self.inside.starts.items c.self.inside.end c.self.inside.starts.cap c.args.self.now c.args.addr (c.index_mut.result.now - 1) c.self.invariant c.self.view_is (IsAddress-from_pins c.args.self.now c.args.addr c.requires) in
-    rw (c.cell.ensures, ← count) after.space
+    rw (c.cell-index.ensures, ← count) after.space
