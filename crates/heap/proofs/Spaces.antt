@@ -1,5 +1,5 @@
 -- What is at an address after a change: for the crates above.
-use Rattle.std.proofs.Common.{◌≡◌, ◌≢◌, ℕ, zero, suc, ◌+◌, ◌-◌, ◌<◌, ◌≤◌, Bool, true, false, cond, eqb, List, [], ◌∷◌, ◌++◌, length, map, replicate, Option, Some, None, refl, sym, ap, ◌∙◌, subst, arith, ⊎_elim}
+use Rattle.std.proofs.Common.{◌≡◌, ◌≢◌, ℕ, ◌+◌, ◌-◌, ◌≤◌, Bool, true, false, cond, eqb, List, [], ◌∷◌, ◌++◌, length, map, Option, Some, None, refl, sym, ap, ◌∙◌, arith, ⊎_elim}
 use Rattle.std.specs.Prelude.{find}
 use Rattle.std.specs.Option.{option_map}
 use Rattle.std.proofs.lemmas.Bool.Decides.{eqb_tells}
@@ -43,21 +43,21 @@ none_behind from (b ∷ bs) cells a h end =
     let later = from_below_end (block_end b) bs cells h.1 in
     let rest = none_behind (block_end b) bs cells a h.1 end in
     ⊎_elim
-      (λ (t : (eqb b.address a ≡ true) × (b.address ≡ a)). let e : b.address ≡ a = t.1 in absurd (omega arith))
-      (λ (t : (eqb b.address a ≡ false) × (b.address ≡ a → ⊥)). ap (λ (k : Bool). cond k (Some b) (find (λ (c : Block). eqb c.address a) bs)) t.0 ∙ rest)
-      (eqb_tells b.address a)
+    (λ (t : (eqb b.address a ≡ true) × (b.address ≡ a)). let e : b.address ≡ a = t.1 in absurd (omega arith))
+    (λ (t : (eqb b.address a ≡ false) × (b.address ≡ a → ⊥)). ap (λ (k : Bool). cond k (Some b) (find (λ (c : Block). eqb c.address a) bs)) t.0 ∙ rest)
+    (eqb_tells b.address a)
 
 found_there : (bs : List Block) (a : ℕ) (b : Block) → find (λ (c : Block). eqb c.address a) bs ≡ Some b → b.address ≡ a
 found_there [] a b h = absurd (cc)
 found_there (c ∷ bs) a b h =
     ⊎_elim
-      (λ (t : (eqb c.address a ≡ true) × (c.address ≡ a)).
-        let first : Some c ≡ Some b = sym (ap (λ (k : Bool). cond k (Some c) (find (λ (d : Block). eqb d.address a) bs)) t.0) ∙ h in
-        let same : c ≡ b = cc in
-        ap (λ (x : Block). x.address) (sym same) ∙ t.1)
-      (λ (t : (eqb c.address a ≡ false) × (c.address ≡ a → ⊥)).
-        found_there bs a b (sym (ap (λ (k : Bool). cond k (Some c) (find (λ (d : Block). eqb d.address a) bs)) t.0) ∙ h))
-      (eqb_tells c.address a)
+    (λ (t : (eqb c.address a ≡ true) × (c.address ≡ a)).
+    let first : Some c ≡ Some b = sym (ap (λ (k : Bool). cond k (Some c) (find (λ (d : Block). eqb d.address a) bs)) t.0) ∙ h in
+    let same : c ≡ b = cc in
+    ap (λ (x : Block). x.address) (sym same) ∙ t.1)
+    (λ (t : (eqb c.address a ≡ false) × (c.address ≡ a → ⊥)).
+    found_there bs a b (sym (ap (λ (k : Bool). cond k (Some c) (find (λ (d : Block). eqb d.address a) bs)) t.0) ∙ h))
+    (eqb_tells c.address a)
 
 -- ---- a further block
 
@@ -71,9 +71,9 @@ block_at-fresh s b h at =
     let none = none_behind 0 s.blocks s.cells b.address h (omega arith) in
     find-append_none (λ (c : Block). eqb c.address b.address) s.blocks (b ∷ []) none ∙
     ⊎_elim
-      (λ (t : (eqb b.address b.address ≡ true) × (b.address ≡ b.address)). ap (λ (k : Bool). cond k (Some b) None) t.0)
-      (λ (t : (eqb b.address b.address ≡ false) × (b.address ≡ b.address → ⊥)). absurd (t.1 refl))
-      (eqb_tells b.address b.address)
+    (λ (t : (eqb b.address b.address ≡ true) × (b.address ≡ b.address)). ap (λ (k : Bool). cond k (Some b) None) t.0)
+    (λ (t : (eqb b.address b.address ≡ false) × (b.address ≡ b.address → ⊥)). absurd (t.1 refl))
+    (eqb_tells b.address b.address)
 
 pub IsLaidOut-with_block : (s : Space) (class birth len : ℕ) → IsLaidOut s → 3 + len ≤ left_of s → IsLaidOut (with_block s (fresh_block (end_of s) class birth len))
 IsLaidOut-with_block s class birth len h room =
@@ -111,9 +111,9 @@ pub part-changed : {X : Type 0} (part : Block → X) (s : Space) (a : ℕ) (chan
 part-changed {X = X} part s a change x leaves same =
     let now = block_at-changed s a change x leaves in
     let each : (b : Block) → part (changed a change b) ≡ part b = λ (b : Block). ⊎_elim
-      (λ (t : (eqb b.address a ≡ true) × (b.address ≡ a)). ap part (changed_here a change b t.1) ∙ same b)
-      (λ (t : (eqb b.address a ≡ false) × (b.address ≡ a → ⊥)). ap part (changed_elsewhere a change b t.1))
-      (eqb_tells b.address a) in
+    (λ (t : (eqb b.address a ≡ true) × (b.address ≡ a)). ap part (changed_here a change b t.1) ∙ same b)
+    (λ (t : (eqb b.address a ≡ false) × (b.address ≡ a → ⊥)). ap part (changed_elsewhere a change b t.1))
+    (eqb_tells b.address a) in
     ap (option_map part) now ∙ elim (block_at s x) as (λ o. option_map part (option_map (changed a change) o) ≡ option_map part o) [
       | None ↦ refl
       | Some b ↦ ap (λ (y : X). Some y) (each b)

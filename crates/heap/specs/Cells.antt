@@ -11,12 +11,12 @@ words_from cells from (suc n) = slice_index cells from ∷ words_from cells (fro
 -- the block that begins in a cell
 abbrev pub block_in : List ℕ → List ℕ → ℕ → Block
 block_in cells pins a = record {
-    address = a;
-    class = slice_index cells a;
-    birth = slice_index cells (a + 1);
-    values = words_from cells (a + 3) (slice_index cells (a + 2));
-    pins = slice_index pins a;
-  }
+  address = a;
+  class = slice_index cells a;
+  birth = slice_index cells (a + 1);
+  values = words_from cells (a + 3) (slice_index cells (a + 2));
+  pins = slice_index pins a;
+}
 
 -- the blocks that begin in these cells
 abbrev pub space_in : List ℕ → List ℕ → List ℕ → Space

@@ -1,5 +1,5 @@
 -- The heap: blocks at addresses in a fixed number of cells.
-use Rattle.std.specs.Prelude.{◌≡◌, ◌≢◌, ℕ, ◌+◌, ◌-◌, ◌≤◌, ◌==◌, List, [], ◌∷◌, ◌++◌, length, map, find, replicate, slice_set, Option, Some, None, IsSome, AllPairs, if◌then◌else◌}
+use Rattle.std.specs.Prelude.{◌≢◌, ℕ, ◌+◌, ◌-◌, ◌≤◌, ◌==◌, List, [], ◌∷◌, ◌++◌, length, map, find, replicate, slice_set, Option, IsSome, AllPairs, if◌then◌else◌}
 use Rattle.std.specs.Option.{option_map, option_map_or}
 
 -- a block: where it begins, its class, its birth number, its values as words, and how often it is pinned

@@ -1,7 +1,7 @@
 //! The heap.
 
 ghost use Rattle.std.specs.Prelude.{◌≡◌, ℕ, ◌+◌, ◌-◌, ◌<◌, ◌≤◌, [], Some, length, take, replicate, slice_get, slice_index, IfOk, OnOk, OnErr};
-ghost use Rattle.heap.specs.Heap.{IsAddress, IsLaidOut, class_at, name_at, values_at, pins_at, addresses, left_of, end_of, fresh_block, with_block, with_value, with_pins};
+ghost use Rattle.heap.specs.Heap.{IsAddress, IsLaidOut, block_at, class_at, name_at, values_at, pins_at, addresses, left_of, end_of, fresh_block, with_block, with_value, with_pins};
 ghost use Rattle.heap.specs.Cells.{words_from};
 
 use crate::addr::Addr;
@@ -91,7 +91,8 @@ impl Heap {
     /// The address of a block, by its place in the order of addresses, counted from 0.
     pub fn address(&self, place: usize) -> Addr
         requires { place < length self.now.blocks }
-        ensures { slice_get (addresses self.now) place ≡ Some result }
+        ensures address { slice_get (addresses self.now) place ≡ Some result }
+        ensures block { block_at self.now result ≡ slice_get self.now.blocks place }
     {
         Addr::new(self.starts[place])
     }

@@ -1,9 +1,7 @@
-use Rattle.std.proofs.Common.{◌≡◌, ◌<◌, ◌≤◌, ◌+◌, ◌++◌, ◌∷◌, [], cond, take, List, ℕ, Ok, refl, sym, ap, ◌∙◌, subst, arith}
-use Rattle.std.specs.Prelude.{is_ok}
+use Rattle.std.proofs.Common.{◌≡◌, ◌++◌, ◌∷◌, [], take, ap, ◌∙◌, arith}
 use Rattle.std.proofs.lemmas.List.{with_items_is}
-use Rattle.heap.specs.Heap.{with_block, fresh_block, left_of, end_of}
-use Rattle.heap.specs.Cells.{IsStored, space_in}
-use Rattle.heap.proofs.Layouts.{ends_within}
+use Rattle.heap.specs.Heap.{left_of, end_of}
+use Rattle.heap.specs.Cells.{space_in}
 use Rattle.heap.proofs.Writes.{room_for_start, block_written}
 use Rattle.heap.proofs.heap.Heap.alloc.Goals as goal
 

@@ -1,7 +1,4 @@
-use Rattle.std.proofs.Common.{◌≡◌, ◌<◌, ◌+◌, Some, sym, ap, ◌∙◌, subst, arith, get_or}
-use Rattle.std.specs.Prelude.{slice_set}
-use Rattle.heap.specs.Heap.{with_value}
-use Rattle.heap.specs.Cells.{IsStored, space_in}
+use Rattle.std.proofs.Common.{arith}
 use Rattle.heap.proofs.Lookups.{stored, IsAddress-from_value}
 use Rattle.heap.proofs.Writes.{value_written}
 use Rattle.heap.proofs.heap.Heap.set.Goals as goal
