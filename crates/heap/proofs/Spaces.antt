@@ -47,7 +47,7 @@ none_behind from (b ∷ bs) cells a h end =
     (λ (t : (eqb b.address a ≡ false) × (b.address ≡ a → ⊥)). ap (λ (k : Bool). cond k (Some b) (find (λ (c : Block). eqb c.address a) bs)) t.0 ∙ rest)
     (eqb_tells b.address a)
 
-found_there : (bs : List Block) (a : ℕ) (b : Block) → find (λ (c : Block). eqb c.address a) bs ≡ Some b → b.address ≡ a
+pub found_there : (bs : List Block) (a : ℕ) (b : Block) → find (λ (c : Block). eqb c.address a) bs ≡ Some b → b.address ≡ a
 found_there [] a b h = absurd (cc)
 found_there (c ∷ bs) a b h =
     ⊎_elim
