@@ -1,5 +1,5 @@
-use super::addr::Addr;
-use super::heap::{Heap, NoRoom};
+use crate::addr::Addr;
+use crate::heap::{Heap, NoRoom};
 use std::test::Fail;
 
 #[test]
