@@ -1,9 +1,10 @@
 //! Units that are accepted.
 
-ghost use Rattle.std.specs.Prelude.{◌≡◌, IfOk, IfErr, IsOk};
+ghost use Rattle.std.specs.Prelude.{◌≡◌, IfOk, IfErr, IsOk, IsTrue};
 ghost use Rattle.syntax.specs.Limits.{IsTree};
 ghost use Rattle.syntax.specs.Views.{unit_tree};
 ghost use Rattle.types.specs.SortRules.{IsSorted};
+ghost use Rattle.types.specs.BuiltCalls.{calls_are_built};
 ghost use Rattle.regions.specs.Regions.{HasRegions};
 ghost use Rattle.regions.specs.WellSorted.{AreWellSorted};
 ghost use Rattle.regions.specs.FirstFaults.{IsFirstRegionFault};
@@ -22,7 +23,7 @@ pub struct Checked {
 }
 
 impl Model for Checked {
-    ghost use Rattle.std.specs.Prelude.{List, ◌≡◌};
+    ghost use Rattle.std.specs.Prelude.{List, ◌≡◌, IsTrue};
     ghost use Rattle.std.specs.Coded.{codes};
     ghost use Rattle.syntax.specs.declared.unit.Item.{Item};
     ghost use Rattle.syntax.specs.contracts.unit.Item as item;
@@ -52,8 +53,9 @@ impl Checked {
         ensures same { result.now ≡ self.now }
         ensures tree { IsTree (unit_tree result.now) }
         ensures sorted { IsSorted (unit_tree result.now) }
+        ensures calls { IsTrue (calls_are_built (unit_tree result.now)) }
         ensures regions { HasRegions (unit_tree result.now) }
-        // For now, its functions print and return numbers, and do nothing else.
+        // For now, its functions declare, print and return numbers, and do nothing else.
         ensures forms { AreWellSorted (unit_tree result.now) }
     {
         self.typed.items()

@@ -2,6 +2,6 @@ pub mod FindsLemmas
 pub mod SortLemmas
 pub mod CallLemmas
 pub mod UnitLemmas
-mod FormLemmas
-mod RefusedLemmas
+pub mod FormLemmas
+pub mod RefusedLemmas
 mod TableLemmas

@@ -78,7 +78,7 @@ one_more t false s o e = or_none t ∙ e
     or_none false = refl
 
 -- a declared name is taken from then on
-further : (scope : Scope) (taken : List Identifier) → ((x : Identifier) → has_name taken x ≡ is_some (sort_in scope x)) → (line : ℕ) (f : FormInMemory) (x : Identifier)
+pub further : (scope : Scope) (taken : List Identifier) → ((x : Identifier) → has_name taken x ≡ is_some (sort_in scope x)) → (line : ℕ) (f : FormInMemory) (x : Identifier)
     → has_name (taken ++ names_declared (statements_within (form_tree line f))) x ≡ is_some (sort_in (with_declared scope (form_tree line f)) x)
 further scope taken is_taken line (form.Declare variable.Jint y r) x =
     list_any-append (bytes_eq x) taken (y ∷ []) ∙ one_more (has_name taken x) (bytes_eq x y) Jint (sort_in scope x) (is_taken x)
