@@ -3,3 +3,4 @@ mod SayLemmas
 mod FileLemmas
 mod RunLemmas
 mod ReplayLemmas
+mod ReplayLaws

@@ -4,5 +4,6 @@ pub mod Passes
 pub mod Texts
 pub mod Runs
 pub mod Replays
+pub mod ReplayLaws
 pub mod Files
 pub mod Serve

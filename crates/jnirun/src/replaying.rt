@@ -4,11 +4,13 @@ ghost use Rattle.std.specs.Prelude.{◌≡◌};
 ghost use Rattle.world.specs.Sink.{CanFail};
 ghost use Rattle.jnirun.specs.Errors.{of_replay};
 ghost use Rattle.jnirun.specs.Runs.{RunsTexts};
+ghost use Rattle.jnirun.specs.ReplayLaws.{RunsAreReplayed};
 ghost use Rattle.jnirun.specs.Replays.{IsReplay, AreRefusedReplays, IsPossible, IsReplayOrFails};
 
 use crate::fault::{Place, RunError};
 use crate::program::program;
 use crate::run::of_reading;
+use parse::one_unit;
 use replay::{ReplayFault, replay};
 use std::alloc::Global;
 use world::{Sink, read_journal, read_world};
@@ -60,4 +62,11 @@ pub fn replay_text<W: Sink>(
         Ok(()) => Ok(()),
         Err(fault) => Err(of_replay(fault)),
     }
+}
+
+/// The journal that a run wrote can be replayed, and its replay writes what the run wrote: a law, which computes nothing.
+pub fn runs_are_replayed()
+    ensures { RunsAreReplayed }
+{
+    one_unit();
 }
