@@ -42,6 +42,7 @@ fn one_instruction_for_each_step(rt: HostRuntime) -> Result<(), Fail> {
         result: ResultType::Void,
         name: Name::new(alloc, b"Java_A_f")?,
         class_name: Name::new(alloc, b"cls")?,
+        parameters: Vec::new(alloc),
         body: Block {
             statements: vec![in alloc; put, back]?,
             end_line: 1,
