@@ -32,6 +32,7 @@ behind_return (s ∷ rest) = Some (s.line, NoReturn)
 
 -- behind a form stand these statements, of which this is the first fault
 abbrev pub open_behind : FormInMemory → List StmtInMemory → Option Fault → Option Fault
+open_behind (form.Declare t x r) rest further = further
 open_behind (form.PutJint e) rest further = further
 open_behind (form.Return e) rest further = behind_return rest
 

@@ -1,9 +1,10 @@
 //! Units that are accepted.
 
-ghost use Rattle.std.specs.Prelude.{◌≡◌, IfOk, IfErr, IsOk};
+ghost use Rattle.std.specs.Prelude.{◌≡◌, IfOk, IfErr, IsOk, IsTrue};
 ghost use Rattle.syntax.specs.Limits.{IsTree};
 ghost use Rattle.syntax.specs.Views.{unit_tree};
 ghost use Rattle.types.specs.SortRules.{IsSorted};
+ghost use Rattle.types.specs.BuiltCalls.{calls_are_built};
 ghost use Rattle.regions.specs.Regions.{HasRegions};
 ghost use Rattle.regions.specs.WellSorted.{AreWellSorted};
 ghost use Rattle.regions.specs.FirstFaults.{IsFirstRegionFault};
@@ -22,12 +23,13 @@ pub struct Checked {
 }
 
 impl Model for Checked {
-    ghost use Rattle.std.specs.Prelude.{List, ◌≡◌};
+    ghost use Rattle.std.specs.Prelude.{List, ◌≡◌, IsTrue};
     ghost use Rattle.std.specs.Coded.{codes};
     ghost use Rattle.syntax.specs.declared.unit.Item.{Item};
     ghost use Rattle.syntax.specs.contracts.unit.Item as item;
     ghost use Rattle.syntax.specs.Views.{unit_tree};
     ghost use Rattle.types.specs.SortRules.{IsSorted};
+    ghost use Rattle.types.specs.BuiltCalls.{calls_are_built};
     ghost use Rattle.regions.specs.Regions.{HasRegions};
 
     ghost Value = { List Item };
@@ -36,13 +38,14 @@ impl Model for Checked {
 
     ghost view = { λ c. c.unit };
 
-    ghost invariant = { λ c. IsSorted (unit_tree c.unit) × HasRegions (unit_tree c.unit) };
+    ghost invariant = { λ c. IsSorted (unit_tree c.unit) × IsTrue (calls_are_built (unit_tree c.unit)) × HasRegions (unit_tree c.unit) };
 }
 
 impl Checked {
     /// A unit that is known to keep the rules.
     pub(crate) fn of(unit: Unit) -> Checked
         requires sorted { IsSorted (unit_tree unit) }
+        requires calls { IsTrue (calls_are_built (unit_tree unit)) }
         requires regions { HasRegions (unit_tree unit) }
         ensures { result ≡ unit }
     {
@@ -52,8 +55,9 @@ impl Checked {
     pub fn unit(&self) -> &Unit
         ensures same { result.now ≡ self.now }
         ensures sorted { IsSorted (unit_tree result.now) }
+        ensures calls { IsTrue (calls_are_built (unit_tree result.now)) }
         ensures regions { HasRegions (unit_tree result.now) }
-        // For now, its functions print and return numbers, and do nothing else.
+        // For now, its functions declare, print and return numbers, and do nothing else.
         ensures forms { AreWellSorted (unit_tree result.now) }
     {
         // The proof reads the limits of the tree off this call.

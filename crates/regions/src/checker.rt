@@ -25,6 +25,7 @@ fn check_statements(statements: &[Stmt], end_line: usize) -> Result<(), RegionFa
 {
     for (i, stmt) in statements.iter().enumerate() {
         match &stmt.form {
+            Form::Declare(..) => {}
             Form::PutJint(_) => {}
             Form::Return(_) => return check_end(&statements[i + 1..]),
         }

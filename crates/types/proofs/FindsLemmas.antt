@@ -1,10 +1,9 @@
 -- Rules that are checked one after another.
-use Rattle.std.proofs.Common.{◌≡◌, ℕ, [], ◌∷◌, ◌++◌, Option, Some, None, Result, refl, sym, subst, slice_get}
+use Rattle.std.proofs.Common.{◌≡◌, ℕ, [], ◌∷◌, ◌++◌, Option, Some, None, Result, refl, sym, subst, ◌∙◌, Ok, Err}
 use Rattle.types.specs.declared.fault.TypeFault.{TypeFault}
 use Rattle.types.specs.declared.fault.TypeFault.TheVariants.{Memory, Broken}
-use Rattle.syntax.specs.Tree.{SourceUnit}
-use Rattle.types.specs.SortRules.{SortRule, IsSorted, broken, first_fault}
-use Rattle.types.specs.Faults.{Faults, Finds, Refuses, IfBroken, first, fault_of}
+use Rattle.types.specs.SortRules.{SortRule}
+use Rattle.types.specs.Faults.{Faults, Finds, Refuses, first}
 
 -- where the first rules are kept, the later ones decide
 pub Finds-later : {A : Type 0} (r : Result A TypeFault) (earlier later : Faults) → earlier ≡ [] → Finds r later → Finds r (earlier ++ later)
@@ -18,16 +17,12 @@ Refuses-first (Broken f) (g ∷ earlier) later h = h
 
 pub ruleset finds_rules = (Finds-later, Refuses-first)
 
-pub sorted-memory : (unit : SourceUnit) (e : TypeFault) → Refuses e (broken unit) → IsSorted unit → e ≡ Memory
-sorted-memory unit Memory h none = refl
-sorted-memory unit (Broken f) h none = absurd (let k : ◌≡◌ {A = Option (ℕ × SortRule)} None (Some (fault_of f)) = subst (λ xs. first xs ≡ Some (fault_of f)) none h in cc)
+first_none : (xs ys : Faults) → first xs ≡ first ys → ys ≡ [] → xs ≡ []
+first_none [] ys e none = refl
+first_none (f ∷ xs) ys e none = absurd (let k : ◌≡◌ {A = Option (ℕ × SortRule)} (Some f) None = e ∙ subst (λ zs. first ys ≡ first zs) none refl in cc)
 
-pub refused-first : (unit : SourceUnit) (e : TypeFault) → Refuses e (broken unit) → IfBroken e (λ f. first_fault unit ≡ Some (fault_of f))
-refused-first unit Memory h = tt
-refused-first unit (Broken f) h = at_start (broken unit) h
-  where
-    at_start : (xs : Faults) → first xs ≡ Some (fault_of f) → slice_get xs 0 ≡ Some (fault_of f)
-    at_start [] k = absurd cc
-    at_start (g ∷ xs) k = k
-
-pub ruleset unit_rules = (sorted-memory, refused-first)
+-- a check that finds the first of a list finds the first of one that begins alike
+pub Finds-alike : {A : Type 0} (r : Result A TypeFault) (xs ys : Faults) → first xs ≡ first ys → Finds r ys → Finds r xs
+Finds-alike (Ok x) xs ys e h = first_none xs ys e h
+Finds-alike (Err Memory) xs ys e h = tt
+Finds-alike (Err (Broken f)) xs ys e h = e ∙ h

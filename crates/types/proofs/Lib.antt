@@ -1,3 +1,7 @@
 pub mod FindsLemmas
 pub mod SortLemmas
-mod BrokenLemmas
+pub mod CallLemmas
+pub mod UnitLemmas
+pub mod FormLemmas
+pub mod RefusedLemmas
+mod TableLemmas

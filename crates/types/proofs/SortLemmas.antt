@@ -1,16 +1,17 @@
 -- Sorts of the expressions in memory.
-use Rattle.std.proofs.Common.{◌≡◌, [], ◌++◌, Option, Some, None, refl, ap, ◌∙◌, sym, is_some}
-use Rattle.syntax.specs.declared.expr.Expr.{Expr as ExprInMemory}
-use Rattle.syntax.specs.declared.expr.Expr.TheVariants as expr
+use Rattle.std.proofs.Common.{◌≡◌, ◌||◌, Option, Some, None, refl, is_some, is_none}
+use Rattle.std.specs.Option.{option_map}
+use Rattle.std.proofs.lemmas.List.Folds.{list_any-append}
 use Rattle.syntax.specs.declared.expr.PrefixOp.{PrefixOp as PrefixInMemory}
 use Rattle.syntax.specs.declared.expr.PrefixOp.TheVariants as prefix
 use Rattle.syntax.specs.declared.expr.BinaryOp.{BinaryOp as BinaryInMemory}
 use Rattle.syntax.specs.declared.expr.BinaryOp.TheVariants as binary
 use Rattle.syntax.specs.Parts.{names_in}
 use Rattle.syntax.specs.Tree.{Expr, Binary}
-use Rattle.syntax.specs.Views.{expr_tree, prefix_tree, binary_tree}
-use Rattle.types.specs.Sorts.{Sort, Word, Jint, Flag, Truth, Ref, Global, FieldId, Buffer, Array, Scope, sort_of, prefix_sort, binary_sort, OnWords, group}
-use Rattle.types.specs.SortRules.{is_formed}
+use Rattle.syntax.specs.Views.{prefix_tree, binary_tree}
+use Rattle.types.specs.declared.sort.Sort.{Sort as SortInMemory}
+use Rattle.types.specs.Sorts.{Sort, Word, Jint, Flag, Truth, Ref, Global, FieldId, Buffer, Array, Scope, sort_in, sort_of, prefix_sort, binary_sort, OnWords, group}
+use Rattle.types.specs.Faults.{sort_value, has_unknown}
 
 -- the operators in memory work on words
 pub on_words : (op : BinaryInMemory) → group (binary_tree op) ≡ OnWords
@@ -51,26 +52,19 @@ words-none (Some (Array t n)) = refl
 
 pub ruleset sort_rules = (binary-words, prefix-none, words-none)
 
--- the names that are known do not matter to an expression without names
-pub sort-any : (scope : Scope) (e : ExprInMemory) → sort_of scope (expr_tree e) ≡ sort_of [] (expr_tree e)
-sort-any scope (expr.Number value unsigned) = refl
-sort-any scope (expr.Prefix' op p a) = ap (prefix_sort (prefix_tree op)) (sort-any scope a)
-sort-any scope (expr.Binary' op p a q b) =
-    binary-words scope op (expr_tree a) (expr_tree b)
-    ∙ ap (λ s. binary_sort OnWords s (sort_of scope (expr_tree b))) (sort-any scope a)
-    ∙ ap (binary_sort OnWords (sort_of [] (expr_tree a))) (sort-any scope b)
-    ∙ sym (binary-words [] op (expr_tree a) (expr_tree b))
-sort-any scope (expr.Paren' p a) = sort-any scope a
+-- a sort is there where it is there in memory
+pub some-sort : (s : Option SortInMemory) → is_some (option_map sort_value s) ≡ is_some s
+some-sort None = refl
+some-sort (Some s) = refl
 
-pub no_names : (e : ExprInMemory) → names_in (expr_tree e) ≡ []
-no_names (expr.Number value unsigned) = refl
-no_names (expr.Prefix' op p a) = no_names a
-no_names (expr.Binary' op p a q b) = ap (λ xs. xs ++ names_in (expr_tree b)) (no_names a) ∙ no_names b
-no_names (expr.Paren' p a) = no_names a
+pub none-sort : (s : Option SortInMemory) → is_none (option_map sort_value s) ≡ is_none s
+none-sort None = refl
+none-sort (Some s) = refl
 
--- it is formed where it has a sort
-pub formed : (scope : Scope) (e : ExprInMemory) → is_formed scope (expr_tree e) ≡ is_some (sort_of scope (expr_tree e))
-formed scope (expr.Number value unsigned) = refl
-formed scope (expr.Prefix' op p a) = refl
-formed scope (expr.Binary' op p a q b) = refl
-formed scope (expr.Paren' p a) = refl
+pub ruleset test_rules = (binary-words, some-sort)
+
+-- the unknown names of two operands
+pub unknown-both : (scope : Scope) (op : BinaryInMemory) (a b : Expr) → has_unknown scope (Binary (binary_tree op) a b) ≡ (has_unknown scope a || has_unknown scope b)
+unknown-both scope op a b = list_any-append (λ x. is_none (sort_in scope x)) (names_in a) (names_in b)
+
+pub ruleset name_rules = (unknown-both, none-sort, some-sort)

@@ -3,7 +3,7 @@
 ghost use Rattle.std.specs.Prelude.{◌≡◌};
 ghost use Rattle.types.specs.declared.fault.TypeFault.TheVariants.{Memory};
 ghost use Rattle.types.specs.SortRules.{sort_rule_number};
-ghost use Rattle.types.specs.Faults.{rule_of};
+ghost use Rattle.types.specs.Faults.{rule_of, Finds, broken_if};
 
 use std::alloc::{AllocError, AllocFailed};
 use thiserror::Error;
@@ -11,12 +11,17 @@ use thiserror::Error;
 /// A rule on names and sorts.
 #[derive(Clone, Copy, Debug, PartialEq, Eq)]
 pub enum SortRule {
-    /// A function's name is that of no native method (JNI Specification, chapter 2, "Resolving Native Method Names").
+    /// A function's name is that of no native method (JNI Specification, chapter 2, "Resolving Native Method Names"), or
+    /// a name in an expression is not known.
     UnknownName,
-    /// Two functions have one name.
+    /// Two functions, two parameters, or a parameter and a variable have one name.
     DeclaredTwice,
     /// A sort does not fit.
     SortMisfit,
+    /// A call is of no function of the JNI (JNI Specification, chapter 4), or of one that can't be called today.
+    UnknownFunction,
+    /// A call has another number of arguments than its function has parameters.
+    ArgumentCount,
 }
 
 impl SortRule {
@@ -28,6 +33,8 @@ impl SortRule {
             SortRule::UnknownName => 21,
             SortRule::DeclaredTwice => 22,
             SortRule::SortMisfit => 23,
+            SortRule::UnknownFunction => 24,
+            SortRule::ArgumentCount => 25,
         }
     }
 }
@@ -62,4 +69,14 @@ impl<T: Drop> From<AllocFailed<T>> for TypeFault {
     fn from(_e: AllocFailed<T>) -> TypeFault {
         TypeFault::Memory
     }
+}
+
+/// The fault of a rule where it is broken.
+pub(crate) fn refuse_if(broken: bool, rule: SortRule, line: usize) -> Result<(), TypeFault>
+    ensures { Finds result (broken_if broken (rule_of rule) line) }
+{
+    if broken {
+        return Err(TypeFault::Broken(Fault { rule, line }));
+    }
+    Ok(())
 }

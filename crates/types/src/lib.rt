@@ -1,8 +1,11 @@
 //! The sorts of a program's expressions, and the functions of the JNI.
 #![tactic(auto)]
 
+mod calls;
 mod checker;
 mod fault;
+mod prototype;
+mod scope;
 mod sort;
 #[cfg(test)]
 mod tests;

@@ -1,9 +1,10 @@
 //! Units whose names and sorts keep the rules.
 
-ghost use Rattle.std.specs.Prelude.{◌≡◌, IfOk, IfErr, IsOkUnless, Some};
+ghost use Rattle.std.specs.Prelude.{◌≡◌, IfOk, IfErr, IsOkUnless, IsTrue, Some};
 ghost use Rattle.syntax.specs.Limits.{IsTree};
 ghost use Rattle.syntax.specs.Views.{unit_tree};
-ghost use Rattle.types.specs.SortRules.{IsSorted, first_fault, broken};
+ghost use Rattle.types.specs.SortRules.{IsSorted};
+ghost use Rattle.types.specs.BuiltCalls.{calls_are_built, refused, first_refused};
 ghost use Rattle.types.specs.Faults.{Finds, IfBroken, fault_of};
 
 use crate::checker::check_items;
@@ -19,13 +20,14 @@ pub struct Typed {
 }
 
 impl Model for Typed {
-    ghost use Rattle.std.specs.Prelude.{List};
+    ghost use Rattle.std.specs.Prelude.{List, IsTrue};
     ghost use Rattle.std.specs.Coded.{codes};
     ghost use Rattle.syntax.specs.declared.unit.Item.{Item};
     ghost use Rattle.syntax.specs.contracts.unit.Item as item;
     ghost use Rattle.syntax.specs.Limits.{IsTree};
     ghost use Rattle.syntax.specs.Views.{unit_tree};
     ghost use Rattle.types.specs.SortRules.{IsSorted};
+    ghost use Rattle.types.specs.BuiltCalls.{calls_are_built};
 
     ghost Value = { List Item };
 
@@ -33,13 +35,14 @@ impl Model for Typed {
 
     ghost view = { λ t. t.unit };
 
-    ghost invariant = { λ t. IsSorted (unit_tree t.unit) };
+    ghost invariant = { λ t. IsSorted (unit_tree t.unit) × IsTrue (calls_are_built (unit_tree t.unit)) };
 }
 
 impl Typed {
     /// A unit that is known to be sorted.
     pub(crate) fn of(unit: Unit) -> Typed
-        requires { IsSorted (unit_tree unit) }
+        requires sorted { IsSorted (unit_tree unit) }
+        requires calls { IsTrue (calls_are_built (unit_tree unit)) }
         ensures { result ≡ unit }
     {
         Typed { unit }
@@ -48,6 +51,7 @@ impl Typed {
     pub fn unit(&self) -> &Unit
         ensures same { result.now ≡ self.now }
         ensures sorted { IsSorted (unit_tree result.now) }
+        ensures calls { IsTrue (calls_are_built (unit_tree result.now)) }
     {
         &self.unit
     }
@@ -55,6 +59,7 @@ impl Typed {
     pub fn into_unit(self) -> Unit
         ensures same { result ≡ self }
         ensures sorted { IsSorted (unit_tree result) }
+        ensures calls { IsTrue (calls_are_built (unit_tree result)) }
     {
         let Typed { unit } = self;
         unit
@@ -62,22 +67,25 @@ impl Typed {
 }
 
 fn check_unit(alloc: Global, unit: &Unit) -> Result<(), TypeFault>
-    ensures { Finds result (broken (unit_tree unit.now)) }
+    ensures { Finds result (refused (unit_tree unit.now)) }
 {
     check_items(alloc, unit.items())
 }
 
-/// The unit, where it keeps the rules on names and sorts. A statement's expressions are read once; beside that it
-/// compares each function's name with those of the functions before it.
-#[tactic(auto, using(crate::proofs::FindsLemmas::unit_rules))]
+/// The unit, where it keeps the rules on names and sorts, and calls functions that can be called today. A statement's
+/// expressions are read once for each rule; each name is compared with those that are known, which are 256 at most, and
+/// each function's name with those of the functions before it.
+#[tactic(auto, using(crate::proofs::UnitLemmas::unit_rules))]
 pub fn type_unit(alloc: Global, unit: Unit) -> Result<Typed, TypeFault>
-    // A unit that is answered is the one given, and it is sorted.
+    // A unit that is answered is the one given, it is sorted, and each of its calls is of a function that is built.
     ensures same { IfOk result (λ t. t ≡ unit) }
     ensures sorted { IfOk result (λ _. IsSorted (unit_tree unit)) }
-    // A sorted unit is answered, unless memory runs out.
-    ensures only { IsSorted (unit_tree unit) → IsOkUnless result TypeFault.Memory }
-    // The fault is the first broken rule in text order, and at one statement the one of the least number.
-    ensures first { IfErr result (λ e. IfBroken e (λ f. first_fault (unit_tree unit) ≡ Some (fault_of f))) }
+    ensures calls { IfOk result (λ _. IsTrue (calls_are_built (unit_tree unit))) }
+    // Such a unit is answered, unless memory runs out.
+    ensures only { IsSorted (unit_tree unit) → IsTrue (calls_are_built (unit_tree unit)) → IsOkUnless result TypeFault.Memory }
+    // The fault is the first in text order, and at one statement the one of the least number: a broken rule, or 24 for a
+    // call of a function that is not built.
+    ensures first { IfErr result (λ e. IfBroken e (λ f. first_refused (unit_tree unit) ≡ Some (fault_of f))) }
 {
     check_unit(alloc, &unit)?;
     Ok(Typed::of(unit))

@@ -1,4 +1,7 @@
-use Rattle.std.proofs.Common.{sym, ap, ◌∙◌}
+use Rattle.std.proofs.Common.{sym, ap, ◌∙◌, subst}
+use Rattle.std.specs.Prelude.{IsTrue}
+use Rattle.syntax.specs.Views.{unit_tree}
+use Rattle.types.specs.BuiltCalls.{calls_are_built}
 use Rattle.std.proofs.lemmas.Result.{err_from_is_err_and}
 use Rattle.regions.specs.OpenEnds.{open_items}
 use Rattle.regions.proofs.OpenLemmas.{accepted-unit, faulty-unit, accepted-none}
@@ -7,13 +10,13 @@ use Rattle.regions.proofs.checked.check.Goals as goal
 pub returns-in_err-check_items-clause-only : goal.returns-in_err-check_items-clause-only
 returns-in_err-check_items-clause-only c =
     let same = c.items.ensures.same ∙ c.into_unit-unit.ensures.same in
-    λ accepted. absurd (accepted-none c.args.typed _ (sym (ap open_items same) ∙ c.in_err-check_items.ensures) accepted)
+    λ accepted. absurd (accepted-none c.args.typed _ (subst (λ items. IsTrue (calls_are_built (unit_tree items))) c.into_unit-unit.ensures.same c.into_unit-unit.ensures.calls) (sym (ap open_items same) ∙ c.in_err-check_items.ensures) accepted)
 
 pub returns-in_err-check_items-clause-first : goal.returns-in_err-check_items-clause-first
 returns-in_err-check_items-clause-first c =
     let same = c.items.ensures.same ∙ c.into_unit-unit.ensures.same in
     let p = err_from_is_err_and c.from_residual.result c.from_residual.ensures.1 in
-    rw (p.1, p.2) (faulty-unit c.args.typed _ (sym (ap open_items same) ∙ c.in_err-check_items.ensures))
+    rw (p.1, p.2) (faulty-unit c.args.typed _ (subst (λ items. IsTrue (calls_are_built (unit_tree items))) c.into_unit-unit.ensures.same c.into_unit-unit.ensures.calls) (sym (ap open_items same) ∙ c.in_err-check_items.ensures))
 
 pub of-requires-clause-regions : goal.of-requires-clause-regions
-of-requires-clause-regions c = accepted-unit c.into_unit-unit.result (sym (ap open_items c.items.ensures.same) ∙ c.in_ok-check_items.ensures)
+of-requires-clause-regions c = accepted-unit c.into_unit-unit.result c.into_unit-unit.ensures.calls (sym (ap open_items c.items.ensures.same) ∙ c.in_ok-check_items.ensures)

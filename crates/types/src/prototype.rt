@@ -1,0 +1,406 @@
+//! The table of the JNI functions (JNI Specification, chapter 4).
+
+ghost use Rattle.std.specs.Prelude.{◌≡◌, map};
+ghost use Rattle.std.specs.Option.{option_map};
+ghost use Rattle.types.specs.Prototype.{function_named};
+ghost use Rattle.types.specs.Table.{facts, facts_of, row_value, row_named};
+
+use Access::{ArrayView, CharsCopy, CharsView, ElementsCopy};
+use ElementType::{Byte, Char, Int, Short};
+use ParameterKind::{
+    ArrayVariable, BufferVariable, ClassObject, FieldID, IntNumber, IsCopy, LocalVariable, Mode,
+    NonNull, Nullable, NumberArray, ObjectArray, StaticVariable, StringObject, TextBytes,
+};
+use ResultKind::{
+    GivesBuffer, GivesField, GivesFlag, GivesFrameStatus, GivesInt, GivesNothing, NewGlobal,
+    NewLocal,
+};
+
+/// The types of numbers in arrays, buffers and fields.
+#[derive(Clone, Copy, Debug, PartialEq, Eq)]
+pub(crate) enum ElementType {
+    Int,
+    Short,
+    Byte,
+    Char,
+}
+
+/// How a buffer comes to an array's elements or a string's units.
+#[derive(Clone, Copy, Debug, PartialEq, Eq)]
+pub(crate) enum Access {
+    ElementsCopy(ElementType),
+    ArrayView,
+    CharsCopy,
+    CharsView,
+}
+
+/// What an argument after `env` is.
+#[derive(Clone, Copy, Debug, PartialEq, Eq)]
+pub(crate) enum ParameterKind {
+    Nullable,
+    NonNull,
+    ClassObject,
+    ObjectArray,
+    StringObject,
+    NumberArray(ElementType),
+    LocalVariable,
+    StaticVariable,
+    FieldID,
+    IntNumber,
+    TextBytes,
+    ArrayVariable(ElementType),
+    BufferVariable(Access),
+    Mode,
+    IsCopy,
+}
+
+/// What a call gives.
+#[derive(Clone, Copy, Debug, PartialEq, Eq)]
+pub(crate) enum ResultKind {
+    NewLocal,
+    NewGlobal,
+    GivesFlag,
+    GivesInt,
+    /// The number of `PushLocalFrame`, which a test for 0 alone may take.
+    GivesFrameStatus,
+    GivesField,
+    GivesNothing,
+    GivesBuffer(Access),
+}
+
+/// A function's name, parameters and result, and whether it can be called today.
+pub(crate) type Prototype = (&'static [u8], &'static [ParameterKind], ResultKind, bool);
+
+const PROTOTYPES: [Prototype; 77] = [
+    (b"FindClass", &[TextBytes], NewLocal, false),
+    (b"GetSuperclass", &[ClassObject], NewLocal, false),
+    (b"GetObjectClass", &[NonNull], NewLocal, false),
+    (b"IsInstanceOf", &[Nullable, ClassObject], GivesFlag, false),
+    (
+        b"IsAssignableFrom",
+        &[ClassObject, ClassObject],
+        GivesFlag,
+        false,
+    ),
+    (b"AllocObject", &[ClassObject], NewLocal, false),
+    (b"NewLocalRef", &[Nullable], NewLocal, false),
+    (b"NewGlobalRef", &[Nullable], NewGlobal, false),
+    (b"DeleteLocalRef", &[LocalVariable], GivesNothing, false),
+    (b"DeleteGlobalRef", &[StaticVariable], GivesNothing, false),
+    (b"IsSameObject", &[Nullable, Nullable], GivesFlag, false),
+    (b"EnsureLocalCapacity", &[IntNumber], GivesInt, false),
+    (b"PushLocalFrame", &[IntNumber], GivesFrameStatus, false),
+    (b"PopLocalFrame", &[Nullable], NewLocal, false),
+    (
+        b"GetFieldID",
+        &[ClassObject, TextBytes, TextBytes],
+        GivesField,
+        false,
+    ),
+    (
+        b"GetStaticFieldID",
+        &[ClassObject, TextBytes, TextBytes],
+        GivesField,
+        false,
+    ),
+    (b"GetObjectField", &[NonNull, FieldID], NewLocal, false),
+    (
+        b"SetObjectField",
+        &[NonNull, FieldID, Nullable],
+        GivesNothing,
+        false,
+    ),
+    (
+        b"GetStaticObjectField",
+        &[ClassObject, FieldID],
+        NewLocal,
+        false,
+    ),
+    (
+        b"SetStaticObjectField",
+        &[ClassObject, FieldID, Nullable],
+        GivesNothing,
+        false,
+    ),
+    (b"GetArrayLength", &[NonNull], GivesInt, true),
+    (
+        b"NewObjectArray",
+        &[IntNumber, ClassObject, Nullable],
+        NewLocal,
+        false,
+    ),
+    (
+        b"GetObjectArrayElement",
+        &[ObjectArray, IntNumber],
+        NewLocal,
+        false,
+    ),
+    (
+        b"SetObjectArrayElement",
+        &[ObjectArray, IntNumber, Nullable],
+        GivesNothing,
+        false,
+    ),
+    (b"NewStringUTF", &[TextBytes], NewLocal, false),
+    (b"GetStringLength", &[StringObject], GivesInt, false),
+    (
+        b"GetStringRegion",
+        &[StringObject, IntNumber, IntNumber, ArrayVariable(Char)],
+        GivesNothing,
+        false,
+    ),
+    (b"Throw", &[NonNull], GivesInt, false),
+    (b"ThrowNew", &[ClassObject, TextBytes], GivesInt, false),
+    (b"ExceptionOccurred", &[], NewLocal, false),
+    (b"ExceptionCheck", &[], GivesFlag, false),
+    (b"ExceptionClear", &[], GivesNothing, false),
+    (b"FatalError", &[TextBytes], GivesNothing, false),
+    (b"MonitorEnter", &[NonNull], GivesInt, false),
+    (b"MonitorExit", &[NonNull], GivesInt, false),
+    (b"GetIntField", &[NonNull, FieldID], GivesInt, false),
+    (
+        b"SetIntField",
+        &[NonNull, FieldID, IntNumber],
+        GivesNothing,
+        false,
+    ),
+    (
+        b"GetStaticIntField",
+        &[ClassObject, FieldID],
+        GivesInt,
+        false,
+    ),
+    (
+        b"SetStaticIntField",
+        &[ClassObject, FieldID, IntNumber],
+        GivesNothing,
+        false,
+    ),
+    (b"NewIntArray", &[IntNumber], NewLocal, false),
+    (
+        b"GetIntArrayRegion",
+        &[NumberArray(Int), IntNumber, IntNumber, ArrayVariable(Int)],
+        GivesNothing,
+        false,
+    ),
+    (
+        b"SetIntArrayRegion",
+        &[NumberArray(Int), IntNumber, IntNumber, ArrayVariable(Int)],
+        GivesNothing,
+        false,
+    ),
+    (
+        b"GetIntArrayElements",
+        &[NumberArray(Int), IsCopy],
+        GivesBuffer(ElementsCopy(Int)),
+        false,
+    ),
+    (
+        b"ReleaseIntArrayElements",
+        &[NumberArray(Int), BufferVariable(ElementsCopy(Int)), Mode],
+        GivesNothing,
+        false,
+    ),
+    (b"GetShortField", &[NonNull, FieldID], GivesInt, false),
+    (
+        b"SetShortField",
+        &[NonNull, FieldID, IntNumber],
+        GivesNothing,
+        false,
+    ),
+    (
+        b"GetStaticShortField",
+        &[ClassObject, FieldID],
+        GivesInt,
+        false,
+    ),
+    (
+        b"SetStaticShortField",
+        &[ClassObject, FieldID, IntNumber],
+        GivesNothing,
+        false,
+    ),
+    (b"NewShortArray", &[IntNumber], NewLocal, false),
+    (
+        b"GetShortArrayRegion",
+        &[
+            NumberArray(Short),
+            IntNumber,
+            IntNumber,
+            ArrayVariable(Short),
+        ],
+        GivesNothing,
+        false,
+    ),
+    (
+        b"SetShortArrayRegion",
+        &[
+            NumberArray(Short),
+            IntNumber,
+            IntNumber,
+            ArrayVariable(Short),
+        ],
+        GivesNothing,
+        false,
+    ),
+    (
+        b"GetShortArrayElements",
+        &[NumberArray(Short), IsCopy],
+        GivesBuffer(ElementsCopy(Short)),
+        false,
+    ),
+    (
+        b"ReleaseShortArrayElements",
+        &[
+            NumberArray(Short),
+            BufferVariable(ElementsCopy(Short)),
+            Mode,
+        ],
+        GivesNothing,
+        false,
+    ),
+    (b"GetByteField", &[NonNull, FieldID], GivesInt, false),
+    (
+        b"SetByteField",
+        &[NonNull, FieldID, IntNumber],
+        GivesNothing,
+        false,
+    ),
+    (
+        b"GetStaticByteField",
+        &[ClassObject, FieldID],
+        GivesInt,
+        false,
+    ),
+    (
+        b"SetStaticByteField",
+        &[ClassObject, FieldID, IntNumber],
+        GivesNothing,
+        false,
+    ),
+    (b"NewByteArray", &[IntNumber], NewLocal, false),
+    (
+        b"GetByteArrayRegion",
+        &[NumberArray(Byte), IntNumber, IntNumber, ArrayVariable(Byte)],
+        GivesNothing,
+        false,
+    ),
+    (
+        b"SetByteArrayRegion",
+        &[NumberArray(Byte), IntNumber, IntNumber, ArrayVariable(Byte)],
+        GivesNothing,
+        false,
+    ),
+    (
+        b"GetByteArrayElements",
+        &[NumberArray(Byte), IsCopy],
+        GivesBuffer(ElementsCopy(Byte)),
+        false,
+    ),
+    (
+        b"ReleaseByteArrayElements",
+        &[NumberArray(Byte), BufferVariable(ElementsCopy(Byte)), Mode],
+        GivesNothing,
+        false,
+    ),
+    (b"GetCharField", &[NonNull, FieldID], GivesInt, false),
+    (
+        b"SetCharField",
+        &[NonNull, FieldID, IntNumber],
+        GivesNothing,
+        false,
+    ),
+    (
+        b"GetStaticCharField",
+        &[ClassObject, FieldID],
+        GivesInt,
+        false,
+    ),
+    (
+        b"SetStaticCharField",
+        &[ClassObject, FieldID, IntNumber],
+        GivesNothing,
+        false,
+    ),
+    (b"NewCharArray", &[IntNumber], NewLocal, false),
+    (
+        b"GetCharArrayRegion",
+        &[NumberArray(Char), IntNumber, IntNumber, ArrayVariable(Char)],
+        GivesNothing,
+        false,
+    ),
+    (
+        b"SetCharArrayRegion",
+        &[NumberArray(Char), IntNumber, IntNumber, ArrayVariable(Char)],
+        GivesNothing,
+        false,
+    ),
+    (
+        b"GetCharArrayElements",
+        &[NumberArray(Char), IsCopy],
+        GivesBuffer(ElementsCopy(Char)),
+        false,
+    ),
+    (
+        b"ReleaseCharArrayElements",
+        &[NumberArray(Char), BufferVariable(ElementsCopy(Char)), Mode],
+        GivesNothing,
+        false,
+    ),
+    (
+        b"GetPrimitiveArrayCritical",
+        &[NonNull, IsCopy],
+        GivesBuffer(ArrayView),
+        false,
+    ),
+    (
+        b"ReleasePrimitiveArrayCritical",
+        &[NonNull, BufferVariable(ArrayView), Mode],
+        GivesNothing,
+        false,
+    ),
+    (
+        b"GetStringChars",
+        &[StringObject, IsCopy],
+        GivesBuffer(CharsCopy),
+        false,
+    ),
+    (
+        b"ReleaseStringChars",
+        &[StringObject, BufferVariable(CharsCopy)],
+        GivesNothing,
+        false,
+    ),
+    (
+        b"GetStringCritical",
+        &[StringObject, IsCopy],
+        GivesBuffer(CharsView),
+        false,
+    ),
+    (
+        b"ReleaseStringCritical",
+        &[StringObject, BufferVariable(CharsView)],
+        GivesNothing,
+        false,
+    ),
+];
+
+/// The first line for a name.
+fn row_named(mut rows: &[Prototype], name: &[u8]) -> Option<Prototype>
+    ensures { option_map facts result ≡ row_named (map row_value rows.entry.now) name.now }
+{
+    while let [row, rest @ ..] = rows {
+        if row.0 == name {
+            return Some(*row);
+        }
+        rows = rest;
+    }
+    None
+}
+
+/// The line of the table for a name.
+pub(crate) fn prototype_named(name: &[u8]) -> Option<Prototype>
+    ensures { option_map facts result ≡ option_map facts_of (function_named name.now) }
+{
+    row_named(&PROTOTYPES, name)
+}
