@@ -14,11 +14,11 @@ use Rattle.syntax.specs.declared.expr.BinaryOp.TheVariants as binary
 use Rattle.syntax.specs.declared.stmt.Stmt.{Stmt}
 use Rattle.syntax.specs.declared.stmt.Form.{Form}
 use Rattle.syntax.specs.declared.stmt.Form.TheVariants as form
-use Rattle.syntax.specs.Tree.{Next, ResultType}
+use Rattle.syntax.specs.Tree.{Value, Next, ResultType}
 use Rattle.syntax.specs.Views.{prefix_tree, expr_tree, argument_tree, form_tree, statements_tree}
 use Rattle.types.specs.JniFunction.{GetArrayLength}
 use Rattle.types.specs.Prototype.{function_named}
-use Rattle.types.specs.Sorts.{Sort, Jint, Flag, Truth, Ref, Global, FieldId, Buffer, Array, Scope}
+use Rattle.types.specs.Sorts.{Sort, Jint, Flag, Truth, Ref, Global, FieldId, Buffer, Array, Scope, is_castable}
 use Rattle.types.specs.Sorts as sort
 use Rattle.code.specs.declared.instr.Callee.TheVariants as callee
 use Rattle.code.specs.declared.instr.ReferenceOperand.TheVariants.{Null, Local}
@@ -29,7 +29,7 @@ use Rattle.code.specs.Depth.{Listing}
 use Rattle.regions.specs.Term.{term_of}
 use Rattle.regions.specs.Task.{Task, Target, Declared, ScalarKind, SetScalar, set_task, invocation, call_task, tasks_of}
 use Rattle.regions.specs.WellSorted as accepted
-use Rattle.regions.specs.WellSorted.{HasSort, AreReferences, BlockFits, EndsByReturn, entry_scope}
+use Rattle.regions.specs.WellSorted.{HasSort, IsReference, IsOneReference, BlockFits, EndsByReturn}
 use Rattle.lower.specs.Layout.{Slot, Known, Layout, prefix_code, expr_code, slot_operand, call_code, block_code, with_number, layout_behind, block_layout}
 use Rattle.lower.specs.Slots.{IsNumberSort}
 use Rattle.lower.specs.Stands.{term_code, TermHasSort, IsUntouched, IsNumber, HasAt, IsSlotOf, with_slot, NumberStands, StandsFor}
@@ -130,25 +130,37 @@ same_code known (expr.Binary' binary.Subtract p a q b) = rw (same_code known a, 
 same_code known (expr.Binary' binary.Multiply p a q b) = rw (same_code known a, same_code known b) refl
 same_code known (expr.Paren' p e) = same_code known e
 
-term_sort : (known : Known) (e : Expr) (s : Sort) → HasSort (scope_of known) (expr_tree e) s → TermHasSort known (term_of (expr_tree e)) s
-term_sort known (expr.Number n true) s h = h
-term_sort known (expr.Number n false) s h = h
-term_sort known (expr.Named c) s h = absurd h
-term_sort known (expr.Variable x) s h = let slot = slot_of_name x known Jint h.0 in (slot.0, slot.1, h.1)
-term_sort known (expr.Prefix' prefix.Complement p e) s h = (term_sort known e sort.Word h.0, h.1)
-term_sort known (expr.Prefix' prefix.ToWord p e) s h = (h.0, term_sort known e h.0 h.1, h.2)
-term_sort known (expr.Prefix' prefix.ToInt p e) s h = (h.0, term_sort known e h.0 h.1, h.2)
-term_sort known (expr.Binary' binary.BitOr p a q b) s h = (tt, term_sort known a sort.Word h.1, term_sort known b sort.Word h.2, h.3)
-term_sort known (expr.Binary' binary.BitXor p a q b) s h = (tt, term_sort known a sort.Word h.1, term_sort known b sort.Word h.2, h.3)
-term_sort known (expr.Binary' binary.BitAnd p a q b) s h = (tt, term_sort known a sort.Word h.1, term_sort known b sort.Word h.2, h.3)
-term_sort known (expr.Binary' binary.Add p a q b) s h = (tt, term_sort known a sort.Word h.1, term_sort known b sort.Word h.2, h.3)
-term_sort known (expr.Binary' binary.Subtract p a q b) s h = (tt, term_sort known a sort.Word h.1, term_sort known b sort.Word h.2, h.3)
-term_sort known (expr.Binary' binary.Multiply p a q b) s h = (tt, term_sort known a sort.Word h.1, term_sort known b sort.Word h.2, h.3)
-term_sort known (expr.Paren' p e) s h = term_sort known e s h
+-- what a cast takes is in a number slot
+pub number_castable : (s : Sort) → is_castable (Some s) ≡ true → IsNumberSort s
+number_castable sort.Word h = tt
+number_castable Jint h = tt
+number_castable Flag h = tt
+number_castable Truth h = absurd cc
+number_castable Ref h = absurd cc
+number_castable Global h = absurd cc
+number_castable FieldId h = absurd cc
+number_castable (Buffer t w) h = absurd cc
+number_castable (Array t n) h = absurd cc
+
+term_sort : (known : Known) (e : Expr) (s : Sort) → IsNumberSort s → HasSort (scope_of known) (expr_tree e) s → TermHasSort known (term_of (expr_tree e)) s
+term_sort known (expr.Number n true) s kind h = h
+term_sort known (expr.Number n false) s kind h = h
+term_sort known (expr.Named c) s kind h = absurd h
+term_sort known (expr.Variable x) s kind h = let slot = slot_of_name x known s h in (slot.0, slot.1, kind)
+term_sort known (expr.Prefix' prefix.Complement p e) s kind h = (term_sort known e sort.Word tt h.0, h.1)
+term_sort known (expr.Prefix' prefix.ToWord p e) s kind h = (h.0, term_sort known e h.0 (number_castable h.0 h.2) h.1, h.3)
+term_sort known (expr.Prefix' prefix.ToInt p e) s kind h = (h.0, term_sort known e h.0 (number_castable h.0 h.2) h.1, h.3)
+term_sort known (expr.Binary' binary.BitOr p a q b) s kind h = (tt, term_sort known a sort.Word tt h.1, term_sort known b sort.Word tt h.2, h.3)
+term_sort known (expr.Binary' binary.BitXor p a q b) s kind h = (tt, term_sort known a sort.Word tt h.1, term_sort known b sort.Word tt h.2, h.3)
+term_sort known (expr.Binary' binary.BitAnd p a q b) s kind h = (tt, term_sort known a sort.Word tt h.1, term_sort known b sort.Word tt h.2, h.3)
+term_sort known (expr.Binary' binary.Add p a q b) s kind h = (tt, term_sort known a sort.Word tt h.1, term_sort known b sort.Word tt h.2, h.3)
+term_sort known (expr.Binary' binary.Subtract p a q b) s kind h = (tt, term_sort known a sort.Word tt h.1, term_sort known b sort.Word tt h.2, h.3)
+term_sort known (expr.Binary' binary.Multiply p a q b) s kind h = (tt, term_sort known a sort.Word tt h.1, term_sort known b sort.Word tt h.2, h.3)
+term_sort known (expr.Paren' p e) s kind h = term_sort known e s kind h
 
 number_begins : (known : Known) (e : Expr) → accepted.IsNumber (scope_of known) (expr_tree e) → IsNumber known Jint (term_of (expr_tree e)) []
 number_begins known e h = record {
-  sort = term_sort known e Jint h.0;
+  sort = term_sort known e Jint tt h.0;
   begun = untouched_begun (term_of (expr_tree e)) (untouched e);
   operands = sym (untouched_held (term_of (expr_tree e)) (untouched e));
 }
@@ -173,33 +185,40 @@ set_is line target x known (expr.Binary' op p a q b) s h = refl
 set_is line target x known (expr.Paren' p e) s h = refl
 
 -- the call's instruction stands at the place, and what comes behind it
-call_stands : (code : Listing) (l : Layout) (line : ℕ) (x function : Identifier) (arguments : List ArgumentInMemory) (place : ℕ) (rest : List Task) → function_named function ≡ Some GetArrayLength → AreReferences (scope_of l.known) (map argument_tree arguments)
-    → HasAt code.instrs place (call_code l.known line (destination.Number l.numbers) (map argument_tree arguments)) → IsSlotOf code l.known x l.numbers → StandsFor code (with_slot x Jint l.numbers l.known) (place + 1) [] rest
-    → StandsFor code l.known place [] (call_task line (Declared ScalarKind x) (record { function = function; arguments = map argument_tree arguments }) ∷ rest)
-call_stands code l line x function (argument.Value (expr.Named constant.Null) ∷ []) place rest built references h own further =
-    subst (λ o. StandsFor code l.known place [] (invocation line (Declared ScalarKind x) (record { function = function; arguments = map argument_tree (argument.Value (expr.Named constant.Null) ∷ []) }) o ∷ rest)) (sym built) (record {
+reference_stands : (code : Listing) (l : Layout) (line : ℕ) (x function : Identifier) (e : Expr) (place : ℕ) (rest : List Task) → function_named function ≡ Some GetArrayLength → IsReference (scope_of l.known) (expr_tree e)
+    → HasAt code.instrs place (call_code l.known line (destination.Number l.numbers) (Value (expr_tree e) ∷ [])) → IsSlotOf code l.known x l.numbers → StandsFor code (with_slot x Jint l.numbers l.known) (place + 1) [] rest
+    → StandsFor code l.known place [] (call_task line (Declared ScalarKind x) (record { function = function; arguments = Value (expr_tree e) ∷ [] }) ∷ rest)
+reference_stands code l line x function (expr.Named constant.Null) place rest built reference h own further =
+    subst (λ o. StandsFor code l.known place [] (invocation line (Declared ScalarKind x) (record { function = function; arguments = Value (expr_tree (expr.Named constant.Null)) ∷ [] }) o ∷ rest)) (sym built) (record {
       call = record { line = line; target = destination.Number l.numbers; function = callee.GetArrayLength Null };
       at = h.0;
       same_line = refl;
       function = (refl, refl, refl);
       goes = (own, further);
     })
-call_stands code l line x function (argument.Value (expr.Variable y) ∷ []) place rest built references h own further =
-    let slot = slot_of_name y l.known Ref references in
-    subst (λ o. StandsFor code l.known place [] (invocation line (Declared ScalarKind x) (record { function = function; arguments = map argument_tree (argument.Value (expr.Variable y) ∷ []) }) o ∷ rest)) (sym built) (record {
+reference_stands code l line x function (expr.Variable y) place rest built reference h own further =
+    let slot = slot_of_name y l.known Ref reference in
+    subst (λ o. StandsFor code l.known place [] (invocation line (Declared ScalarKind x) (record { function = function; arguments = Value (expr_tree (expr.Variable y)) ∷ [] }) o ∷ rest)) (sym built) (record {
       call = record { line = line; target = destination.Number l.numbers; function = callee.GetArrayLength (Local slot.0) };
       at = rw (ap slot_operand slot.1) at h.0;
       same_line = refl;
       function = (refl, refl, (y, refl, slot.1));
       goes = (own, further);
     })
-call_stands code l line x function arguments place rest built references h own further = absurd references
+reference_stands code l line x function e place rest built reference h own further = absurd reference
+
+call_stands : (code : Listing) (l : Layout) (line : ℕ) (x function : Identifier) (arguments : List ArgumentInMemory) (place : ℕ) (rest : List Task) → function_named function ≡ Some GetArrayLength → IsOneReference (scope_of l.known) (map argument_tree arguments)
+    → HasAt code.instrs place (call_code l.known line (destination.Number l.numbers) (map argument_tree arguments)) → IsSlotOf code l.known x l.numbers → StandsFor code (with_slot x Jint l.numbers l.known) (place + 1) [] rest
+    → StandsFor code l.known place [] (call_task line (Declared ScalarKind x) (record { function = function; arguments = map argument_tree arguments }) ∷ rest)
+call_stands code l line x function [] place rest built references h own further = absurd references
+call_stands code l line x function (argument.Value e ∷ []) place rest built references h own further = reference_stands code l line x function e place rest built references h own further
+call_stands code l line x function (argument.Value e ∷ b ∷ more) place rest built references h own further = absurd references
 
 -- how many instructions a call with fitting arguments is
-call_length : (l : Layout) (line : ℕ) (arguments : List ArgumentInMemory) → AreReferences (scope_of l.known) (map argument_tree arguments) → length (call_code l.known line (destination.Number l.numbers) (map argument_tree arguments)) ≡ 1
-call_length l line (argument.Value (expr.Named constant.Null) ∷ []) references = refl
-call_length l line (argument.Value (expr.Variable y) ∷ []) references = refl
-call_length l line arguments references = absurd references
+call_length : (l : Layout) (line : ℕ) (arguments : List ArgumentInMemory) → IsOneReference (scope_of l.known) (map argument_tree arguments) → length (call_code l.known line (destination.Number l.numbers) (map argument_tree arguments)) ≡ 1
+call_length l line [] references = absurd references
+call_length l line (argument.Value e ∷ []) references = refl
+call_length l line (argument.Value e ∷ b ∷ more) references = absurd references
 
 -- slots that are taken stay taken
 pub form_layout : (f : Form) (line : ℕ) (l : Layout) → (l.numbers ≤ (layout_behind l (form_tree line f)).numbers) × (l.references ≤ (layout_behind l (form_tree line f)).references)
@@ -220,7 +239,7 @@ layout_grows (s ∷ rest) end_line l =
 abbrev pub RestBegins : Listing → ResultType → List Stmt → ℕ → Type 0
 RestBegins code result statements end_line =
     (l : Layout) (place : ℕ) → AreWithin l.known l.numbers l.references → (block_layout l (statements_tree statements end_line)).numbers ≤ code.numbers
-    → BlockFits (scope_of l.known) result (statements_tree statements end_line) → EndsByReturn (statements_tree statements end_line) → HasAt code.instrs place (block_code l (statements_tree statements end_line))
+    → BlockFits result (scope_of l.known) (statements_tree statements end_line) → EndsByReturn (statements_tree statements end_line) → HasAt code.instrs place (block_code l (statements_tree statements end_line))
     → StandsFor code l.known place [] (tasks_of (statements_tree statements end_line))
 
 -- the number slot of the next declaration
@@ -232,19 +251,19 @@ own_slot code x l rest end_line within few =
 
 form_begins : (code : Listing) (result : ResultType) (f : Form) (line : ℕ) (rest : List Stmt) (end_line : ℕ) → RestBegins code result rest end_line
     → (l : Layout) (place : ℕ) → AreWithin l.known l.numbers l.references → (block_layout l (Next (form_tree line f) (statements_tree rest end_line))).numbers ≤ code.numbers
-    → BlockFits (scope_of l.known) result (Next (form_tree line f) (statements_tree rest end_line)) → EndsByReturn (Next (form_tree line f) (statements_tree rest end_line)) → HasAt code.instrs place (block_code l (Next (form_tree line f) (statements_tree rest end_line)))
+    → BlockFits result (scope_of l.known) (Next (form_tree line f) (statements_tree rest end_line)) → EndsByReturn (Next (form_tree line f) (statements_tree rest end_line)) → HasAt code.instrs place (block_code l (Next (form_tree line f) (statements_tree rest end_line)))
     → StandsFor code l.known place [] (tasks_of (Next (form_tree line f) (statements_tree rest end_line)))
 form_begins code result (form.Declare variable.Jint x (right.Expr e)) line rest end_line further l place within few fits ends h =
     let next = with_number x l in
-    let both = number_stands code l.known e (instr.Store l.numbers) place (block_code next (statements_tree rest end_line)) fits.1 h in
+    let both = number_stands code l.known e (instr.Store l.numbers) place (block_code next (statements_tree rest end_line)) fits.0 h in
     let behind = further next _ (number_declared x l within) few fits.2 ends both.1 in
-    subst (λ task. StandsFor code l.known place [] (task ∷ tasks_of (statements_tree rest end_line))) (sym (set_is line (Declared ScalarKind x) x (scope_of l.known) e Jint fits.1.0))
+    subst (λ task. StandsFor code l.known place [] (task ∷ tasks_of (statements_tree rest end_line))) (sym (set_is line (Declared ScalarKind x) x (scope_of l.known) e Jint fits.0.0))
     (l.numbers, both.0, own_slot code x l rest end_line within few, behind)
 form_begins code result (form.Declare variable.Jint x (right.Call c)) line rest end_line further l place within few fits ends h =
     let next = with_number x l in
     let own = call_code l.known line (destination.Number l.numbers) (map argument_tree c.arguments.items) in
-    let at = subst (λ n. HasAt code.instrs (place + n) (block_code next (statements_tree rest end_line))) (call_length l line c.arguments.items fits.1.1) (has_back code.instrs place own (block_code next (statements_tree rest end_line)) h) in
-    call_stands code l line x c.function c.arguments.items place (tasks_of (statements_tree rest end_line)) fits.1.0 fits.1.1 (has_front code.instrs place own (block_code next (statements_tree rest end_line)) h)
+    let at = subst (λ n. HasAt code.instrs (place + n) (block_code next (statements_tree rest end_line))) (call_length l line c.arguments.items fits.0.1) (has_back code.instrs place own (block_code next (statements_tree rest end_line)) h) in
+    call_stands code l line x c.function c.arguments.items place (tasks_of (statements_tree rest end_line)) fits.0.0 fits.0.1 (has_front code.instrs place own (block_code next (statements_tree rest end_line)) h)
     (own_slot code x l rest end_line within few) (further next (place + 1) (number_declared x l within) few fits.2 ends at)
 form_begins code result (form.PutJint e) line rest end_line further l place within few fits ends h =
     let both = number_stands code l.known e instr.PutJint place (block_code l (statements_tree rest end_line)) fits.0 h in

@@ -6,12 +6,14 @@ use Rattle.syntax.specs.Views.{function_tree}
 use Rattle.types.specs.Sorts.{Ref, Scope}
 use Rattle.types.specs.SortRules.{parameter_sort}
 use Rattle.code.specs.Depth.{Listing, IsValid}
-use Rattle.regions.specs.WellSorted.{BlockFits, IsWellSorted, entry_scope}
+use Rattle.regions.specs.WellSorted.{BlockFits, IsWellSorted, scope_at_entry}
 use Rattle.lower.specs.Layout.{parameter_slot, parameter_slots, numbers_behind, references_behind, numbers_of, references_of, entry_layout, block_layout, function_code, instruction_limit}
 use Rattle.lower.specs.Lowered.{IsCodeOf}
-use Rattle.lower.proofs.Bodies.{scope_of, IndexWithin, AreWithin, one_within, begins}
+use Rattle.lower.specs.Slots.{ArgumentsFit, HasRoom}
+use Rattle.world.specs.Object.{ObjectValue}
+use Rattle.lower.proofs.Bodies.{scope_of, IndexWithin, AreWithin, one_within, layout_grows, begins}
 use Rattle.lower.proofs.Places.{steps, has_all}
-use Rattle.lower.proofs.SlotLaws.{entry_shows}
+use Rattle.lower.proofs.SlotLaws.{entry_shows, counts}
 use Rattle.lower.proofs.Validity.{body_moves, block_within}
 
 -- ---- the parameters
@@ -47,7 +49,7 @@ parameters_within (p ∷ ps) n r =
     (slot_within p.type n r (numbers_of (p ∷ ps) n) (references_of (p ∷ ps) r) further.0 further.1)
     (parameters_within ps (numbers_behind p.type n) (references_behind p.type r))
 
-entry_sorts : (f : Function) → scope_of (entry_layout f).known ≡ entry_scope f
+entry_sorts : (f : Function) → scope_of (entry_layout f).known ≡ scope_at_entry f
 entry_sorts f = ap (λ (rest : Scope). (f.class_name, Ref) ∷ rest) (parameter_sorts f.parameters 0 1)
 
 entry_within : (f : Function) → AreWithin (entry_layout f).known (entry_layout f).numbers (entry_layout f).references
@@ -61,8 +63,8 @@ entry_within f =
 abbrev pub listing_of : Function → Listing
 listing_of f = record { instrs = function_code f; numbers = (block_layout (entry_layout f) f.body).numbers; references = (block_layout (entry_layout f) f.body).references }
 
-entry_fits : (f : Function) → IsWellSorted f → BlockFits (scope_of (entry_layout f).known) f.result f.body
-entry_fits f h = subst (λ scope. BlockFits scope f.result f.body) (sym (entry_sorts f)) h.fits
+entry_fits : (f : Function) → IsWellSorted f → BlockFits f.result (scope_of (entry_layout f).known) f.body
+entry_fits f h = subst (λ scope. BlockFits f.result scope f.body) (sym (entry_sorts f)) h.fits
 
 pub function_valid : (f : FunctionInMemory) → IsWellSorted (function_tree f) → IsValid (listing_of (function_tree f))
 function_valid f h =
@@ -73,6 +75,13 @@ function_valid f h =
       slots = block_within listing.numbers listing.references f.body.statements.items f.body.end_line (entry_layout function) (entry_within function) (omega arith) (omega arith);
     }
 
+function_room : (f : FunctionInMemory) (arguments : List ObjectValue) → ArgumentsFit (function_tree f).parameters arguments → HasRoom (listing_of (function_tree f)) arguments
+function_room f arguments fit =
+    let function = function_tree f in
+    let own = counts function.parameters arguments 0 1 fit in
+    let further = layout_grows f.body.statements.items f.body.end_line (entry_layout function) in
+    record { numbers = omega arith; references = omega arith }
+
 pub is_code_of : (f : FunctionInMemory) → IsWellSorted (function_tree f) → length (function_code (function_tree f)) ≤ instruction_limit → IsCodeOf (function_tree f) (listing_of (function_tree f))
 is_code_of f h short =
     let function = function_tree f in
@@ -81,6 +90,7 @@ is_code_of f h short =
       valid = function_valid f h;
       short = short;
       begins = begins listing function.result f.body.statements.items f.body.end_line (entry_layout function) 0 (entry_within function) (omega arith) (entry_fits function h) h.ends (has_all (function_code function) []);
+      room = function_room f;
       shows = entry_shows function listing;
       steps = λ sight known slots place stack task rest shows. steps listing known place stack slots sight shows task rest;
     }

@@ -7,7 +7,7 @@ use Rattle.std.proofs.lemmas.List.{append-nil}
 use Rattle.std.proofs.lemmas.Bool.{lt-ltb}
 use Rattle.base.specs.Bytes.{Identifier}
 use Rattle.types.specs.JniFunction.{JniFunction}
-use Rattle.types.specs.Sorts.{Jint}
+use Rattle.types.specs.Sorts.{Sort, Jint, Flag}
 use Rattle.types.specs.Sorts as sort
 use Rattle.code.specs.declared.instr.Callee.{Callee}
 use Rattle.code.specs.declared.instr.Callee.TheVariants as callee
@@ -20,12 +20,13 @@ use Rattle.code.specs.declared.instr.Plain.TheVariants as plain
 use Rattle.code.specs.Depth.{Listing}
 use Rattle.code.specs.Effect.{plain_of}
 use Rattle.regions.specs.Sight.{Sight}
-use Rattle.regions.specs.Value.{Value, Word, Int}
+use Rattle.regions.specs.Value.{Value, Word, Int, Outcome, Gives}
+use Rattle.regions.specs.Variable.{StaticReference}
 use Rattle.regions.specs.Term.{Term, Done, Named, Read, reduce}
 use Rattle.regions.specs.Task.{Task, SetScalar, Invoke, Print, Return, ReturnValue, Target, Declared, ScalarKind, Operand}
 use Rattle.regions.specs.Effect.{Effect, Returns, goes_on, with_value, return_effect, call_effect_of, effect_of}
-use Rattle.lower.specs.Layout.{Known}
-use Rattle.lower.specs.Slots.{Slots, Shows}
+use Rattle.lower.specs.Layout.{Slot, Known}
+use Rattle.lower.specs.Slots.{word_of, IsNumberSort, Slots, ShowsNumber, ShowsSlot, Shows}
 use Rattle.lower.specs.Stands.{held, term_code, TermHasSort, HasAt, with_slot, CalleeStands, TargetStands, InvokeStands, NumberStands, StandsFor, TakesResult, DoesEffect}
 use Rattle.lower.proofs.SlotLaws.{shows_set}
 use Rattle.lower.proofs.Terms.{IsOpen, StepsTerm, Reads, steps_term}
@@ -35,9 +36,16 @@ into_task : (sight : Sight) (line : ℕ) (f : Value → Effect) (task : Term →
 into_task sight line f task (Done v) o = absurd o
 into_task sight line f task t o = refl
 
--- each known variable of `jint` is in its slot
+-- a slot of a number sort shows a number
+shows_number : (number : Outcome Value) (reference : StaticReference) (slots : Slots) (s : Slot) (kind : Sort) → IsNumberSort kind → ShowsSlot number reference slots s kind → ShowsNumber number slots.numbers s
+shows_number number reference slots s sort.Word kind h = h
+shows_number number reference slots s Jint kind h = h
+shows_number number reference slots s Flag kind h = h
+shows_number number reference slots s other kind h = absurd kind
+
+-- each known number variable is in its slot
 reads_of : (code : Listing) (known : Known) (slots : Slots) (sight : Sight) → Shows code known sight slots → Reads known slots.numbers sight
-reads_of code known slots sight shows x i at = shows.each x (record { sort = Jint; index = i }) at
+reads_of code known slots sight shows x s at kind = shows_number (sight.number x) (sight.reference x) slots s s.sort kind (shows.each x s at)
 
 -- The place, with these names known, these operands and these slots, which show what can be seen.
 module _ (code : Listing) (known : Known) (place : ℕ) (stack : List ℕ) (slots : Slots) (sight : Sight) (shows : Shows code known sight slots) where
@@ -90,7 +98,7 @@ module _ (code : Listing) (known : Known) (place : ℕ) (stack : List ℕ) (slot
 
   set_step : (line : ℕ) (x : Identifier) (t : Term) (rest : List Task) → StandsFor code known place stack (SetScalar line x t ∷ rest) → DoesEffect code known place stack slots sight rest (effect_of sight (SetScalar line x t))
   set_step line x (Done (Int z)) rest h =
-      let below : h.0 < length slots.numbers = omega (arith, h.2.within, shows.room) in
+      let below : h.0 < length slots.numbers = omega (arith, h.2.within, shows.numbers) in
       record {
         slot = h.0;
         numbers = slice_set slots.numbers h.0 (cast_unsigned w32 z);
@@ -110,7 +118,7 @@ module _ (code : Listing) (known : Known) (place : ℕ) (stack : List ℕ) (slot
 
   takes_result : (goes : Destination) (target : Target) (rest : List Task) → TargetStands code known (λ p names. StandsFor code names p [] rest) (place + 1) goes target → TakesResult code known place stack slots sight goes target rest
   takes_result (destination.Number i) (Declared ScalarKind x) rest h = record {
-    within = omega (arith, h.0.within, shows.room);
+    within = omega (arith, h.0.within, shows.numbers);
     names = with_slot x Jint i known;
     shows = λ z new fits set. shows_set code known sight new slots x i z shows h.0 fits set;
     stands = h.1;
@@ -146,7 +154,7 @@ module _ (code : Listing) (known : Known) (place : ℕ) (stack : List ℕ) (slot
   -- a `jint` is worked out before it is returned
   returned_number : (line : ℕ) (t : Term) → TermHasSort known t Jint → return_effect sight line t ≡ with_value sight line (λ v. Returns) (ReturnValue line) t
   returned_number line (Named c) h = absurd h
-  returned_number line (Read x) h = let shown = reads_of code known slots sight shows x h.0 h.1 in rw shown.is refl
+  returned_number line (Read x) h = let shown = reads_of code known slots sight shows x (record { sort = Jint; index = h.0 }) h.1 tt in rw shown.is refl
   returned_number line t h = refl
 
   -- each instruction is one step of the source

@@ -18,7 +18,7 @@ use Rattle.regions.specs.Thread.{Shared, Thread, sight_of}
 use Rattle.regions.specs.Value.{Value, Int, Outcome, Gives}
 use Rattle.regions.specs.Variable.{Variable, Scalar, LocalRef, StaticReference}
 use Rattle.code.specs.Depth.{Listing}
-use Rattle.lower.specs.Layout.{Slot, Known, parameter_slot, parameter_slots, numbers_behind, references_behind, entry_layout}
+use Rattle.lower.specs.Layout.{Slot, Known, parameter_slot, parameter_slots, numbers_behind, references_behind, entry_layout, numbers_of, references_of}
 use Rattle.lower.specs.Slots.{IsNumberSort, Slots, ShowsNumber, ShowsSlot, Shows, IsSet, ArgumentFits, ArgumentsFit, argument_word, argument_reference, EntrySlots}
 use Rattle.lower.specs.Stands.{IsSlotOf, with_slot}
 
@@ -58,7 +58,7 @@ module _ (code : Listing) (known : Known) (old new : Sight) (slots : Slots) (x :
 
   set_shows : (y : Identifier) (s : Slot) → y ≡ x → record { sort = Jint; index = i } ≡ s → ShowsSlot (new.number y) (new.reference y) (record slots { numbers = slice_set slots.numbers i (cast_unsigned w32 z) }) s s.sort
   set_shows y s same is =
-      let below : i < length slots.numbers = omega (arith, own.within, shows.room) in
+      let below : i < length slots.numbers = omega (arith, own.within, shows.numbers) in
       let shown : ShowsNumber (new.number y) (slice_set slots.numbers i (cast_unsigned w32 z)) (record { sort = Jint; index = i }) =
       record { value = Int z; is = ap (λ n. new.number n) same ∙ set.is; sort = (fits, refl); word = get-set_same slots.numbers i (cast_unsigned w32 z) below } in
       subst (λ (r : Slot). ShowsSlot (new.number y) (new.reference y) (record slots { numbers = slice_set slots.numbers i (cast_unsigned w32 z) }) r r.sort) is shown
@@ -71,7 +71,8 @@ module _ (code : Listing) (known : Known) (old new : Sight) (slots : Slots) (x :
   -- once the word is in its slot, the slots show the variable
   pub shows_set : Shows code (with_slot x Jint i known) new (record slots { numbers = slice_set slots.numbers i (cast_unsigned w32 z) })
   shows_set = record {
-    room = length-set slots.numbers i (cast_unsigned w32 z) ∙ shows.room;
+    numbers = length-set slots.numbers i (cast_unsigned w32 z) ∙ shows.numbers;
+    references = shows.references;
     each = λ y s at.
         elim (bytes_eq y x) as (λ b. bytes_eq y x ≡ b → (if b then Some (record { sort = Jint; index = i }) else lookup y known) ≡ Some s → ShowsSlot (new.number y) (new.reference y) (record slots { numbers = slice_set slots.numbers i (cast_unsigned w32 z) }) s s.sort) [
           | true ↦ λ e h. set_shows y s ((bytes_eq-Decides y x).0 e) cc
@@ -171,18 +172,43 @@ parameters_show slots global x s (p ∷ ps) (Refers q ∷ vs) n r fit h at =
 pub entry_shows : (f : Function) (code : Listing) (shared : Shared) (thread : Thread) (calls : List Invocation) (class : ℕ) (arguments : List ObjectValue) (slots : Slots) → ArgumentsFit f.parameters arguments → EntrySlots code class arguments slots
     → Shows code (entry_layout f).known (sight_of shared (entered thread calls f class arguments)) slots
 entry_shows f code shared thread calls class arguments slots fit entry = record {
-  room = entry.room;
+  numbers = entry.numbers;
+  references = entry.references;
   each = λ x s at.
       at_name slots (lookup x shared.statics) (bytes_eq x f.class_name) (record { sort = Ref; index = 0 }) s (LocalRef 1 (Some class)) (lookup x (parameter_slots f.parameters 0 1)) (lookup x (parameter_variables (zip f.parameters arguments)))
-      (record { reference = Some class; is = refl; there = ap (λ (q : List Reference). slice_get q 0) entry.references })
+      (record { reference = Some class; is = refl; there = ap (λ (q : List Reference). slice_get q 0) entry.given })
       (parameters_show slots (lookup x shared.statics) x s f.parameters arguments 0 1 fit (record {
         numbers_front = [];
         numbers_back = entry.more_numbers;
-        numbers = entry.numbers;
+        numbers = entry.words;
         numbers_count = refl;
         references_front = Some class ∷ [];
         references_back = entry.more_references;
-        held = entry.references;
+        held = entry.given;
         references_count = refl;
       })) at;
 }
+
+-- ---- room for the arguments
+
+number_counts : (type : ParameterType) (z : ℤ) (n r : ℕ) → ArgumentFits type (Number z) → (numbers_behind type n ≡ n + 1) × (references_behind type r ≡ r)
+number_counts IntParameter z n r fits = (refl, refl)
+number_counts (ReferenceParameter t) z n r fits = absurd fits
+
+reference_counts : (type : ParameterType) (q : Reference) (n r : ℕ) → ArgumentFits type (Refers q) → (numbers_behind type n ≡ n) × (references_behind type r ≡ r + 1)
+reference_counts IntParameter q n r fits = absurd fits
+reference_counts (ReferenceParameter t) q n r fits = (refl, refl)
+
+-- parameters take as many slots of each kind as there are arguments of it
+pub counts : (ps : List Parameter) (vs : List ObjectValue) (n r : ℕ) → ArgumentsFit ps vs → (numbers_of ps n ≡ n + length (filter_map argument_word vs)) × (references_of ps r ≡ r + length (filter_map argument_reference vs))
+counts [] [] n r fit = (omega arith, omega arith)
+counts [] (v ∷ vs) n r fit = absurd fit
+counts (p ∷ ps) [] n r fit = absurd fit
+counts (p ∷ ps) (Number z ∷ vs) n r fit =
+    let own = number_counts p.type z n r fit.0 in
+    let further = counts ps vs (numbers_behind p.type n) (references_behind p.type r) fit.1 in
+    (omega arith, omega arith)
+counts (p ∷ ps) (Refers q ∷ vs) n r fit =
+    let own = reference_counts p.type q n r fit.0 in
+    let further = counts ps vs (numbers_behind p.type n) (references_behind p.type r) fit.1 in
+    (omega arith, omega arith)

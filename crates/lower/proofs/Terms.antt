@@ -8,7 +8,7 @@ use Rattle.syntax.specs.Tree.{PrefixOp, LogicalNot, Complement, ToWord, ToInt, B
 use Rattle.base.specs.Bytes.{Identifier, lookup}
 use Rattle.base.specs.Element.{JInt}
 use Rattle.std.specs.Option.{option_map}
-use Rattle.types.specs.Sorts.{Sort, Jint}
+use Rattle.types.specs.Sorts.{Sort, Jint, Flag}
 use Rattle.types.specs.Sorts as sort
 use Rattle.code.specs.declared.instr.Operator.{Operator}
 use Rattle.code.specs.declared.instr.Operator.TheVariants as operator
@@ -19,8 +19,8 @@ use Rattle.code.specs.Effect.{plain_of, operate}
 use Rattle.regions.specs.Sight.{Sight}
 use Rattle.regions.specs.Value.{Value, Word, Int, Gives, outcome_map, binary_value, convert}
 use Rattle.regions.specs.Term.{Term, Done, Number, Read, Prefix, Binary, Reduction, done, with_part, reduce}
-use Rattle.lower.specs.Layout.{Known, prefix_code, operator_code, load_code}
-use Rattle.lower.specs.Slots.{word_of, ValueHasSort, ShowsNumber}
+use Rattle.lower.specs.Layout.{Slot, Known, prefix_code, operator_code, load_of, load_code}
+use Rattle.lower.specs.Slots.{word_of, ValueHasSort, IsNumberSort, ShowsNumber}
 use Rattle.lower.specs.Stands.{held, term_code, HasInstruction, TermHasSort, IsUntouched, IsBegun}
 
 -- some part has no value yet
@@ -147,16 +147,22 @@ int_fits n h = rw (in_range n h) (sfits_to_z (Fits-of_lt h))
 
 -- each known number variable has its value in its slot
 abbrev pub Reads : Known → List ℕ → Sight → Type 0
-Reads known numbers sight = (x : Identifier) (i : ℕ) → lookup x known ≡ Some (record { sort = Jint; index = i }) → ShowsNumber (sight.number x) numbers (record { sort = Jint; index = i })
+Reads known numbers sight = (x : Identifier) (s : Slot) → lookup x known ≡ Some s → IsNumberSort s.sort → ShowsNumber (sight.number x) numbers s
 
-read : (known : Known) (numbers : List ℕ) (sight : Sight) (x : Identifier) (s : Sort) (i : ℕ) → lookup x known ≡ Some (record { sort = Jint; index = i }) → s ≡ Jint → ShowsNumber (sight.number x) numbers (record { sort = Jint; index = i }) → StepsTerm known numbers sight (Read x) s
-read known numbers sight x s i at same shows = record {
+pub one_load : (s : Sort) (i : ℕ) → IsNumberSort s → load_of s i ≡ instr.Load i ∷ []
+one_load sort.Word i kind = refl
+one_load Jint i kind = refl
+one_load Flag i kind = refl
+one_load s i kind = absurd kind
+
+read : (known : Known) (numbers : List ℕ) (sight : Sight) (x : Identifier) (s : Slot) → lookup x known ≡ Some s → IsNumberSort s.sort → ShowsNumber (sight.number x) numbers s → StepsTerm known numbers sight (Read x) s.sort
+read known numbers sight x s at kind shows = record {
   next = Done shows.value;
-  here = instr.Load i;
+  here = instr.Load s.index;
   is = ap done shows.is;
-  code = ap load_code at;
+  code = ap load_code at ∙ one_load s.sort s.index kind;
   plain = λ stack. ap (option_map (λ (n : ℕ). (plain.Next, n ∷ stack, numbers))) shows.word;
-  sort = rw same shows.sort;
+  sort = shows.sort;
   begun = tt;
 }
 
@@ -164,7 +170,7 @@ pub steps_term : (known : Known) (numbers : List ℕ) (sight : Sight) → Reads 
 steps_term known numbers sight reads (Done v) s o h b = absurd o
 steps_term known numbers sight reads (Number n true) s o h b = record { next = Done (Word n); here = instr.Push n; is = refl; code = refl; plain = λ stack. refl; sort = h; begun = tt }
 steps_term known numbers sight reads (Number n false) s o h b = record { next = Done (Int (pos n)); here = instr.Push n; is = refl; code = refl; plain = λ stack. refl; sort = (record { sfits = h.0 }, h.1); begun = tt }
-steps_term known numbers sight reads (Read x) s o h b = read known numbers sight x s h.0 h.1 h.2 (reads x h.0 h.1)
+steps_term known numbers sight reads (Read x) s o h b = read known numbers sight x (record { sort = s; index = h.0 }) h.1 h.2 (reads x (record { sort = s; index = h.0 }) h.1 h.2)
 steps_term known numbers sight reads (Prefix Complement (Done (Word n))) s o h b = record { next = Done (Word (4294967295 - n)); here = instr.Complement; is = refl; code = refl; plain = λ stack. refl; sort = (omega arith, h.1); begun = tt }
 steps_term known numbers sight reads (Prefix Complement (Done (Int z))) s o h b = absurd (let e : sort.Word ≡ Jint = h.0.1 in cc)
 steps_term known numbers sight reads (Prefix Complement (Done v)) s o h b = absurd h.0

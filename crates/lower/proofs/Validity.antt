@@ -29,9 +29,11 @@ use Rattle.code.specs.declared.instr.Instr.TheVariants as instr
 use Rattle.code.specs.Depth.{depth_after, depths, Leaves, Moves, operand_within, within_slots}
 use Rattle.regions.specs.Regions.{IsEnd}
 use Rattle.regions.specs.WellSorted as accepted
-use Rattle.regions.specs.WellSorted.{HasSort, AreReferences, BlockFits, EndsByReturn}
+use Rattle.regions.specs.WellSorted.{HasSort, BlockFits, EndsByReturn}
 use Rattle.lower.specs.Layout.{Slot, Known, Layout, prefix_code, operator_code, load_of, load_code, expr_code, operand_of, slot_operand, operand_code, call_code, stmt_code, block_code, with_number, layout_behind, block_layout}
-use Rattle.lower.proofs.Bodies.{scope_of, slot_of_name, IndexWithin, AreWithin, are_within_more, number_declared, form_layout, layout_grows}
+use Rattle.lower.proofs.Terms.{one_load}
+use Rattle.lower.specs.Slots.{IsNumberSort}
+use Rattle.lower.proofs.Bodies.{number_castable, scope_of, slot_of_name, IndexWithin, AreWithin, are_within_more, number_declared, form_layout, layout_grows}
 use Rattle.lower.proofs.Places.{get-append_seam}
 
 -- ---- the depths of the stack
@@ -68,26 +70,26 @@ after_operator binary.Multiply d = refl
 prefixed : (op : PrefixOp) (code : List Instr) (d : ℕ) → depths code d ≡ Some (suc d) → depths (code ++ prefix_code (prefix_tree op)) d ≡ Some (suc d)
 prefixed op code d h = depths-append code (prefix_code (prefix_tree op)) d (suc d) h ∙ after_prefix op d
 
-expr_depth : (known : Known) (e : Expr) (s : Sort) (d : ℕ) → HasSort (scope_of known) (expr_tree e) s → d + height (expr_tree e) < 64 → depths (expr_code known (expr_tree e)) d ≡ Some (suc d)
-expr_depth known (expr.Number n u) s d sorted h = rw (pushed n d (omega arith)) refl
-expr_depth known (expr.Named c) s d sorted h = absurd sorted
-expr_depth known (expr.Variable x) s d sorted h =
-    let slot = slot_of_name x known Jint sorted.0 in
-    ap (λ (o : Option Slot). depths (load_code o) d) slot.1 ∙ ap (option_and_then (depths [])) (loaded slot.0 d (omega arith))
-expr_depth known (expr.Prefix' prefix.Complement p e) s d sorted h = prefixed prefix.Complement (expr_code known (expr_tree e)) d (expr_depth known e Word d sorted.0 (omega arith))
-expr_depth known (expr.Prefix' prefix.ToWord p e) s d sorted h = prefixed prefix.ToWord (expr_code known (expr_tree e)) d (expr_depth known e sorted.0 d sorted.1 (omega arith))
-expr_depth known (expr.Prefix' prefix.ToInt p e) s d sorted h = prefixed prefix.ToInt (expr_code known (expr_tree e)) d (expr_depth known e sorted.0 d sorted.1 (omega arith))
-expr_depth known (expr.Binary' op p a q b) s d sorted h =
-    depths-append (expr_code known (expr_tree a)) (expr_code known (expr_tree b) ++ operator_code (binary_tree op)) d (suc d) (expr_depth known a Word d sorted.1 (omega arith))
-    ∙ depths-append (expr_code known (expr_tree b)) (operator_code (binary_tree op)) (suc d) (suc (suc d)) (expr_depth known b Word (suc d) sorted.2 (omega arith))
+expr_depth : (known : Known) (e : Expr) (s : Sort) (d : ℕ) → IsNumberSort s → HasSort (scope_of known) (expr_tree e) s → d + height (expr_tree e) < 64 → depths (expr_code known (expr_tree e)) d ≡ Some (suc d)
+expr_depth known (expr.Number n u) s d kind sorted h = rw (pushed n d (omega arith)) refl
+expr_depth known (expr.Named c) s d kind sorted h = absurd sorted
+expr_depth known (expr.Variable x) s d kind sorted h =
+    let slot = slot_of_name x known s sorted in
+    ap (λ (o : Option Slot). depths (load_code o) d) slot.1 ∙ ap (λ code. depths code d) (one_load s slot.0 kind) ∙ ap (option_and_then (depths [])) (loaded slot.0 d (omega arith))
+expr_depth known (expr.Prefix' prefix.Complement p e) s d kind sorted h = prefixed prefix.Complement (expr_code known (expr_tree e)) d (expr_depth known e Word d tt sorted.0 (omega arith))
+expr_depth known (expr.Prefix' prefix.ToWord p e) s d kind sorted h = prefixed prefix.ToWord (expr_code known (expr_tree e)) d (expr_depth known e sorted.0 d (number_castable sorted.0 sorted.2) sorted.1 (omega arith))
+expr_depth known (expr.Prefix' prefix.ToInt p e) s d kind sorted h = prefixed prefix.ToInt (expr_code known (expr_tree e)) d (expr_depth known e sorted.0 d (number_castable sorted.0 sorted.2) sorted.1 (omega arith))
+expr_depth known (expr.Binary' op p a q b) s d kind sorted h =
+    depths-append (expr_code known (expr_tree a)) (expr_code known (expr_tree b) ++ operator_code (binary_tree op)) d (suc d) (expr_depth known a Word d tt sorted.1 (omega arith))
+    ∙ depths-append (expr_code known (expr_tree b)) (operator_code (binary_tree op)) (suc d) (suc (suc d)) (expr_depth known b Word (suc d) tt sorted.2 (omega arith))
     ∙ after_operator op d
-expr_depth known (expr.Paren' p e) s d sorted h = expr_depth known e s d sorted (omega arith)
+expr_depth known (expr.Paren' p e) s d kind sorted h = expr_depth known e s d kind sorted (omega arith)
 
 -- a number's code and an instruction that takes it leave the stack empty
 number_depth : (known : Known) (e : Expr) (last : Instr) (rest : List Instr) → accepted.IsNumber (scope_of known) (expr_tree e) → depth_after last 1 ≡ Some 0 → depths ((expr_code known (expr_tree e) ++ last ∷ []) ++ rest) 0 ≡ depths rest 0
 number_depth known e last rest h k =
     depths-append (expr_code known (expr_tree e) ++ last ∷ []) rest 0 0
-    (depths-append (expr_code known (expr_tree e)) (last ∷ []) 0 1 (expr_depth known e Jint 0 h.0 (omega (arith, h.1))) ∙ ap (option_and_then (depths [])) k)
+    (depths-append (expr_code known (expr_tree e)) (last ∷ []) 0 1 (expr_depth known e Jint 0 tt h.0 (omega (arith, h.1))) ∙ ap (option_and_then (depths [])) k)
 
 call_depth : (known : Known) (line i : ℕ) (arguments : List ArgumentInMemory) → depths (call_code known line (destination.Number i) (map argument_tree arguments)) 0 ≡ Some 0
 call_depth known line i [] = refl
@@ -95,10 +97,10 @@ call_depth known line i (argument.Value e ∷ []) = refl
 call_depth known line i (argument.Value e ∷ b ∷ rest) = refl
 
 -- what comes behind a form, whose code leaves the stack empty
-form_depth : (result : ResultType) (f : Form) (line : ℕ) (rest : List Stmt) (end_line : ℕ) (l : Layout) → ((m : Layout) → BlockFits (scope_of m.known) result (statements_tree rest end_line) → depths (block_code m (statements_tree rest end_line)) 0 ≡ Some 0)
-    → BlockFits (scope_of l.known) result (Next (form_tree line f) (statements_tree rest end_line)) → depths (block_code l (Next (form_tree line f) (statements_tree rest end_line))) 0 ≡ Some 0
+form_depth : (result : ResultType) (f : Form) (line : ℕ) (rest : List Stmt) (end_line : ℕ) (l : Layout) → ((m : Layout) → BlockFits result (scope_of m.known) (statements_tree rest end_line) → depths (block_code m (statements_tree rest end_line)) 0 ≡ Some 0)
+    → BlockFits result (scope_of l.known) (Next (form_tree line f) (statements_tree rest end_line)) → depths (block_code l (Next (form_tree line f) (statements_tree rest end_line))) 0 ≡ Some 0
 form_depth result (form.Declare variable.Jint x (right.Expr e)) line rest end_line l further fits =
-    number_depth l.known e (instr.Store l.numbers) (block_code (with_number x l) (statements_tree rest end_line)) fits.1 refl ∙ further (with_number x l) fits.2
+    number_depth l.known e (instr.Store l.numbers) (block_code (with_number x l) (statements_tree rest end_line)) fits.0 refl ∙ further (with_number x l) fits.2
 form_depth result (form.Declare variable.Jint x (right.Call c)) line rest end_line l further fits =
     depths-append (call_code l.known line (destination.Number l.numbers) (map argument_tree c.arguments.items)) (block_code (with_number x l) (statements_tree rest end_line)) 0 0 (call_depth l.known line l.numbers c.arguments.items)
     ∙ further (with_number x l) fits.2
@@ -106,7 +108,7 @@ form_depth result (form.PutJint e) line rest end_line l further fits = number_de
 form_depth result (form.Return None) line rest end_line l further fits = further l fits.1
 form_depth result (form.Return (Some e)) line rest end_line l further fits = number_depth l.known e instr.ReturnJint (block_code l (statements_tree rest end_line)) fits.1 refl ∙ further l fits.2
 
-block_depth : (result : ResultType) (statements : List Stmt) (end_line : ℕ) (l : Layout) → BlockFits (scope_of l.known) result (statements_tree statements end_line) → depths (block_code l (statements_tree statements end_line)) 0 ≡ Some 0
+block_depth : (result : ResultType) (statements : List Stmt) (end_line : ℕ) (l : Layout) → BlockFits result (scope_of l.known) (statements_tree statements end_line) → depths (block_code l (statements_tree statements end_line)) 0 ≡ Some 0
 block_depth result [] end_line l fits = refl
 block_depth result (s ∷ rest) end_line l fits = form_depth result s.form s.line rest end_line l (block_depth result rest end_line) fits
 
@@ -140,7 +142,7 @@ block_leaves : (statements : List Stmt) (end_line : ℕ) (l : Layout) → EndsBy
 block_leaves [] end_line l ends = absurd ends
 block_leaves (s ∷ rest) end_line l ends = form_leaves s.form s.line (statements_tree rest end_line) l (block_leaves rest end_line) ends
 
-pub body_moves : (result : ResultType) (statements : List Stmt) (end_line : ℕ) (l : Layout) → BlockFits (scope_of l.known) result (statements_tree statements end_line) → EndsByReturn (statements_tree statements end_line) → Moves (block_code l (statements_tree statements end_line))
+pub body_moves : (result : ResultType) (statements : List Stmt) (end_line : ℕ) (l : Layout) → BlockFits result (scope_of l.known) (statements_tree statements end_line) → EndsByReturn (statements_tree statements end_line) → Moves (block_code l (statements_tree statements end_line))
 body_moves result statements end_line l fits ends =
     let last = block_leaves statements end_line l ends in
     let n : length (last.front ++ last.last ∷ []) - 1 ≡ length last.front = omega (arith, length-append last.front (last.last ∷ [])) in
@@ -162,9 +164,9 @@ module _ (numbers references : ℕ) where
   both_within a b h k = list_all-append (within_slots numbers references) a b ∙ rw (h, k) refl
 
   load_within : (i : ℕ) (s : Sort) → IndexWithin numbers references i s → AllWithin (load_of s i)
-  load_within i Word h = refl
+  load_within i Word h = rw (lt-ltb i numbers h) refl
   load_within i Jint h = rw (lt-ltb i numbers h) refl
-  load_within i Flag h = refl
+  load_within i Flag h = rw (lt-ltb i numbers h) refl
   load_within i Truth h = refl
   load_within i Ref h = refl
   load_within i Global h = refl

@@ -6,7 +6,7 @@ use Rattle.base.specs.Bytes.{Identifier, ByName, lookup}
 use Rattle.syntax.specs.Parts.{functions_of}
 use Rattle.syntax.specs.Tree as tree
 use Rattle.syntax.specs.Tree.{PrefixOp, Complement, ToWord, ToInt, BinaryOp, BitOr, BitXor, BitAnd, Add, Subtract, Multiply, Expr, Paren, Argument, JIntVariable, FromExpr, FromCall, Stmt, Block, End, Next, Parameter, ParameterType, IntParameter, ReferenceParameter, Function, SourceUnit}
-use Rattle.types.specs.Sorts.{Sort, Jint, Ref}
+use Rattle.types.specs.Sorts.{Sort, Word, Jint, Flag, Ref}
 use Rattle.code.specs.declared.instr.Operator.TheVariants as operator
 use Rattle.code.specs.declared.instr.Callee.TheVariants as callee
 use Rattle.code.specs.declared.instr.ReferenceOperand.{ReferenceOperand}
@@ -107,7 +107,9 @@ operator_code op = []
 
 -- the value of a number variable of this sort
 abbrev pub load_of : Sort → ℕ → List Instr
+load_of Word i = Load i ∷ []
 load_of Jint i = Load i ∷ []
+load_of Flag i = Load i ∷ []
 load_of s i = []
 
 -- the value of a name

@@ -13,7 +13,7 @@ use Rattle.regions.specs.Task.{Task, tasks_of}
 use Rattle.regions.specs.Thread.{Shared, Thread, sight_of}
 use Rattle.code.specs.Depth.{Listing, IsValid}
 use Rattle.lower.specs.Layout.{Known, entry_layout, instruction_limit}
-use Rattle.lower.specs.Slots.{Slots, Shows, ArgumentsFit, EntrySlots}
+use Rattle.lower.specs.Slots.{Slots, Shows, ArgumentsFit, EntrySlots, HasRoom}
 use Rattle.lower.specs.Stands.{StandsFor, DoesEffect}
 
 -- a program's items and the code of its functions
@@ -21,12 +21,13 @@ pub record Lowered : Type 0 where
   pub unit : List Item
   pub codes : List Listing
 
--- The code begins at the function's first statement, where the slots show the arguments. Each instruction is one step of
+-- The code begins at the function's first statement, where the slots, of which there are enough, show the arguments. Each instruction is one step of
 -- the source, whatever can be seen that the slots show.
 pub record IsCodeOf (f : Function) (code : Listing) : Type 0 where
   pub valid : IsValid code
   pub short : length code.instrs ≤ instruction_limit
   pub begins : StandsFor code (entry_layout f).known 0 [] (tasks_of f.body)
+  pub room : (arguments : List ObjectValue) → ArgumentsFit f.parameters arguments → HasRoom code arguments
   pub shows : (shared : Shared) (thread : Thread) (calls : List Invocation) (class : ℕ) (arguments : List ObjectValue) (slots : Slots)
       → ArgumentsFit f.parameters arguments → EntrySlots code class arguments slots
       → Shows code (entry_layout f).known (sight_of shared (entered thread calls f class arguments)) slots

@@ -1,5 +1,5 @@
 -- What the slots of an activation hold of what can be seen.
-use Rattle.std.specs.Prelude.{◌≡◌, ◌≢◌, ℕ, ◌^◌, ◌<◌, List, [], ◌∷◌, ◌++◌, length, filter_map, slice_get, Option, Some, None, FitsSigned}
+use Rattle.std.specs.Prelude.{◌≡◌, ◌≢◌, ℕ, ◌^◌, ◌<◌, ◌≤◌, List, [], ◌∷◌, ◌++◌, length, filter_map, slice_get, Option, Some, None, FitsSigned}
 use Rattle.std.specs.Int.{w32, cast_unsigned}
 use Rattle.base.specs.Bytes.{Identifier, lookup}
 use Rattle.syntax.specs.Tree.{ParameterType, IntParameter, ReferenceParameter, Parameter}
@@ -61,9 +61,10 @@ ShowsSlot number reference slots s Flag = ShowsNumber number slots.numbers s
 ShowsSlot number reference slots s Ref = ShowsReference reference slots.references s
 ShowsSlot number reference slots s other = Unit {0}
 
--- each known name has its value or its reference in its slot, and there are as many number slots as the code wants
+-- each known name has its value or its reference in its slot, and there are as many slots of each kind as the code wants
 pub record Shows (code : Listing) (known : Known) (sight : Sight) (slots : Slots) : Type 0 where
-  pub room : length slots.numbers ≡ code.numbers
+  pub numbers : length slots.numbers ≡ code.numbers
+  pub references : length slots.references ≡ code.references
   pub each : (x : Identifier) (s : Slot) → lookup x known ≡ Some s → ShowsSlot (sight.number x) (sight.reference x) slots s s.sort
 
 -- a number variable has this value, and other names show what they did
@@ -100,8 +101,14 @@ argument_reference (Refers r) = Some r
 -- The slots at the entry: the words of the numbers, and the class and then the references, each kind in order. Behind them
 -- stands anything.
 pub record EntrySlots (code : Listing) (class : ℕ) (arguments : List ObjectValue) (slots : Slots) : Type 0 where
-  pub room : length slots.numbers ≡ code.numbers
+  pub numbers : length slots.numbers ≡ code.numbers
   pub more_numbers : List ℕ
-  pub numbers : slots.numbers ≡ filter_map argument_word arguments ++ more_numbers
+  pub words : slots.numbers ≡ filter_map argument_word arguments ++ more_numbers
+  pub references : length slots.references ≡ code.references
   pub more_references : List Reference
-  pub references : slots.references ≡ Some class ∷ filter_map argument_reference arguments ++ more_references
+  pub given : slots.references ≡ Some class ∷ filter_map argument_reference arguments ++ more_references
+
+-- the code has slots for the class and these arguments
+pub record HasRoom (code : Listing) (arguments : List ObjectValue) : Type 0 where
+  pub numbers : length (filter_map argument_word arguments) ≤ code.numbers
+  pub references : length (filter_map argument_reference arguments) < code.references

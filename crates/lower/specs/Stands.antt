@@ -56,9 +56,9 @@ HasInstruction Subtract = Unit {0}
 HasInstruction Multiply = Unit {0}
 HasInstruction op = ⊥
 
--- a name that is known as a number variable of this sort; only those of `jint` have an instruction yet
+-- a name that is known as a number variable of this sort
 abbrev pub IsVariable : Known → Identifier → Sort → Type 0
-IsVariable known x s = (i : ℕ) × (lookup x known ≡ Some (record { sort = Jint; index = i })) × (s ≡ Jint)
+IsVariable known x s = (i : ℕ) × (lookup x known ≡ Some (record { sort = s; index = i })) × IsNumberSort s
 
 -- a term whose parts have the sorts that their operators ask for, and an instruction each
 abbrev pub TermHasSort : Known → Term → Sort → Type 0
