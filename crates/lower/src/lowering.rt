@@ -66,7 +66,7 @@ fn lower_function(alloc: Global, function: &Function) -> Result<Code, LowerFault
 }
 
 /// A statement, with the names that are known behind it.
-fn emit_stmt<'a>(
+pub(crate) fn emit_stmt<'a>(
     code: &mut Vec<Instr>,
     names: &mut Names<'a>,
     stmt: &'a Stmt,

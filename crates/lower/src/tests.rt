@@ -1,7 +1,8 @@
 //! The code of a small program.
 
 use crate::fault::LowerFault;
-use crate::lowering::lower;
+use crate::lowering::{emit_stmt, lower};
+use crate::names::Names;
 use code::instr;
 use code::instr::{Callee, Instr, Operator, ReferenceOperand, Target};
 use regions::check;
@@ -74,26 +75,6 @@ fn one_instruction_for_each_step(rt: HostRuntime) -> Result<(), Fail> {
 #[test]
 fn a_call_and_its_result(rt: HostRuntime) -> Result<(), Fail> {
     let alloc = rt.alloc();
-    let length = Call {
-        function: Name::new(alloc, b"GetArrayLength")?,
-        arguments: vec![in alloc; Argument::Value(Expr::Variable(Name::new(alloc, b"a")?))]?,
-    };
-    let declare = Stmt {
-        line: 2,
-        form: Form::Declare(
-            VariableType::Jint,
-            Name::new(alloc, b"n")?,
-            RightSide::Call(length),
-        ),
-    };
-    let put = Stmt {
-        line: 3,
-        form: Form::PutJint(Expr::Variable(Name::new(alloc, b"n")?)),
-    };
-    let back = Stmt {
-        line: 4,
-        form: Form::Return(None),
-    };
     let parameter = Parameter {
         kind: ParameterType::Reference(ReferenceType::Object),
         name: Name::new(alloc, b"a")?,
@@ -105,28 +86,38 @@ fn a_call_and_its_result(rt: HostRuntime) -> Result<(), Fail> {
         class_name: Name::new(alloc, b"cls")?,
         parameters: vec![in alloc; parameter]?,
         body: Block {
-            statements: vec![in alloc; declare, put, back]?,
+            statements: Vec::new(alloc),
             end_line: 5,
         },
     };
-    let unit = Unit::new(vec![in alloc; Item::Function(function)]?);
-    let checked = check(type_unit(alloc, unit)?)?;
-    let program = lower(alloc, &checked)?;
-    let Some(code) = program.code(0) else {
-        return Err(Fail::new("no code"));
+    let length = Call {
+        function: Name::new(alloc, b"GetArrayLength")?,
+        arguments: vec![in alloc; Argument::Value(Expr::Variable(Name::new(alloc, b"a")?))]?,
     };
-    assert_eq!(rt; code.len(), 4);
-    assert_eq!(rt; code.numbers(), 1);
-    assert_eq!(rt; code.references(), 2);
+    let right = RightSide::Call(length);
+    let declare = Stmt {
+        line: 2,
+        form: Form::Declare(VariableType::Jint, Name::new(alloc, b"n")?, right),
+    };
+    let put = Stmt {
+        line: 3,
+        form: Form::PutJint(Expr::Variable(Name::new(alloc, b"n")?)),
+    };
+    let mut names = Names::of(alloc, &function)?;
+    let mut code = Vec::new(alloc);
+    emit_stmt(&mut code, &mut names, &declare)?;
+    emit_stmt(&mut code, &mut names, &put)?;
+    assert_eq!(rt; names.numbers(), 1);
+    assert_eq!(rt; names.references(), 2);
     let call = instr::Call {
         line: 2,
         target: Target::Number(0),
         function: Callee::GetArrayLength(ReferenceOperand::Local(1)),
     };
-    assert!(rt; code.get(0) == Some(&Instr::Call(call)));
-    assert!(rt; matches!(code.get(1), Some(Instr::Load(0))));
-    assert!(rt; matches!(code.get(2), Some(Instr::PutJint)));
-    assert!(rt; matches!(code.get(3), Some(Instr::Return)));
+    match code.as_slice() {
+        [Instr::Call(c), Instr::Load(0), Instr::PutJint] => assert!(rt; *c == call),
+        _ => assert!(rt; false),
+    }
     Ok(())
 }
 
