@@ -20,13 +20,13 @@ use Rattle.code.specs.declared.instr.Plain.TheVariants as plain
 use Rattle.code.specs.Depth.{Listing}
 use Rattle.code.specs.Effect.{plain_of}
 use Rattle.regions.specs.Sight.{Sight}
-use Rattle.regions.specs.Value.{Value, Word, Int, Outcome, Gives}
+use Rattle.regions.specs.Value.{Value, Word, Int, Outcome}
 use Rattle.regions.specs.Variable.{StaticReference}
 use Rattle.regions.specs.Term.{Term, Done, Named, Read, reduce}
 use Rattle.regions.specs.Task.{Task, SetScalar, Invoke, Print, Return, ReturnValue, Target, Declared, ScalarKind, Operand}
 use Rattle.regions.specs.Effect.{Effect, Returns, goes_on, with_value, return_effect, call_effect_of, effect_of}
 use Rattle.lower.specs.Layout.{Slot, Known}
-use Rattle.lower.specs.Slots.{word_of, IsNumberSort, Slots, ShowsNumber, ShowsSlot, Shows}
+use Rattle.lower.specs.Slots.{IsNumberSort, Slots, ShowsNumber, ShowsSlot, Shows}
 use Rattle.lower.specs.Stands.{held, term_code, TermHasSort, HasAt, with_slot, CalleeStands, TargetStands, InvokeStands, NumberStands, StandsFor, TakesResult, DoesEffect}
 use Rattle.lower.proofs.SlotLaws.{shows_set}
 use Rattle.lower.proofs.Terms.{IsOpen, StepsTerm, Reads, steps_term}
