@@ -1,6 +1,7 @@
 pub mod Puts
 pub mod PartLemmas
 pub mod WordLemmas
+pub mod ValueLemmas
 pub mod LineLemmas
 pub mod JournalLemmas
 pub mod ReportLemmas

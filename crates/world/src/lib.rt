@@ -1,6 +1,8 @@
 //! The texts of a run: worlds, schedules and journals are read, reports and journals are written.
 #![tactic(auto)]
 
+mod argument;
+mod array;
 mod builder;
 mod fault;
 mod journal;
@@ -12,11 +14,14 @@ mod schedule;
 mod sink;
 mod std_sink;
 mod text;
+mod value;
 mod words;
 mod world;
 mod world_text;
 mod writing;
 
+pub use argument::Argument;
+pub use array::{Array, Element};
 pub use fault::{ReadError, Rule, TextFault};
 pub use journal::{Entry, entries_are_read_again, journals_are_read, read_journal};
 pub use report::{Printed, Standing};
