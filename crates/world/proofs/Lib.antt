@@ -14,5 +14,8 @@ pub mod MeantSchedules
 pub mod MeantJournals
 pub mod ClassTables
 pub mod WorldLaws
+pub mod WrittenValues
 pub mod KeptLines
+pub mod ArrayLines
+pub mod KeptArrays
 pub mod LineForms
