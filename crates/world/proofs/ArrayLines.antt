@@ -116,7 +116,7 @@ module _ (cs : Named) (bs : Arrays) where
 
   -- ---- cells
 
-  array_sizes : (xs : List ArrayScene) → sizes (map array_object xs) ≡ sum_by array_size xs
+  pub array_sizes : (xs : List ArrayScene) → sizes (map array_object xs) ≡ sum_by array_size xs
   array_sizes [] = refl
   array_sizes (a ∷ xs) =
       omega (arith, sum_by-cons size (array_object a) (map array_object xs), sum_by-cons array_size a xs, array_sizes xs, length-map a.values Number)

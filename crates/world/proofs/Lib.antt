@@ -19,3 +19,4 @@ pub mod KeptLines
 pub mod ArrayLines
 pub mod KeptArrays
 pub mod LineForms
+pub mod FitLemmas

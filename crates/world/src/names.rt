@@ -56,6 +56,14 @@ const BUILT_INS: [&[u8]; 42] = [
     b"[Ljava/lang/IllegalMonitorStateException;",
 ];
 
+/// The name of a class.
+#[derive(Clone, Copy, Debug, PartialEq, Eq)]
+pub enum ClassName<'a> {
+    Plain(&'a [u8]),
+    /// That of the class of arrays with elements of the class of this name.
+    Array(&'a [u8]),
+}
+
 fn is_letter(byte: u8) -> bool
     ensures { result ≡ is_letter byte }
 {
