@@ -1,6 +1,7 @@
 pub mod Puts
 pub mod PartLemmas
 pub mod WordLemmas
+pub mod ValueLemmas
 pub mod LineLemmas
 pub mod JournalLemmas
 pub mod ReportLemmas
@@ -13,8 +14,15 @@ pub mod MeantSchedules
 pub mod MeantJournals
 pub mod ClassTables
 pub mod WorldLaws
+pub mod WrittenValues
 pub mod KeptLines
+pub mod ArrayLines
+pub mod KeptArrays
 pub mod LineForms
+pub mod FitLemmas
+pub mod FreeWords
+pub mod ReadValues
 pub mod MeantLines
 pub mod MeantRules
+pub mod BuiltForms
 pub mod MeantWorlds
