@@ -6,6 +6,7 @@ pub mod LineLemmas
 pub mod JournalLemmas
 pub mod ReportLemmas
 pub mod NameLemmas
+pub mod ClassNames
 pub mod BuilderLemmas
 pub mod WordLaws
 pub mod ScheduleLaws

@@ -1,12 +1,13 @@
 //! Names of classes.
 
-ghost use Rattle.std.specs.Prelude.{◌≡◌, ◌+◌, ◌*◌, ◌≤◌, ◌++◌, ◌∷◌, [], length, position, map, is_some, IfSome};
+ghost use Rattle.std.specs.Prelude.{◌≡◌, ◌+◌, ◌*◌, ◌<◌, ◌≤◌, slice_index_or, ◌++◌, ◌∷◌, [], length, position, map, is_some, IfSome};
 ghost use Rattle.std.specs.List.{list_all};
 ghost use Rattle.std.specs.Str.{bytes_eq};
 ghost use Rattle.base.specs.Bytes.{is_letter, is_name_part};
-ghost use Rattle.classes.specs.Class.{class_named, array_name};
+ghost use Rattle.classes.specs.Class.{class_named, class_name, array_name};
 ghost use Rattle.classes.specs.Mangling.{is_simple_name, is_class_name};
 ghost use Rattle.world.specs.SceneWorld.{is_of, classes_named};
+ghost use Rattle.world.specs.Shown.{name_view};
 
 use crate::parts::Parts;
 
@@ -165,6 +166,44 @@ pub fn class_number(classes: &[Vec<u8>], name: &[u8]) -> Option<usize>
             }
         }
         None => None,
+    }
+}
+
+/// The name at this place.
+fn name_among<'a>(names: &[&'a [u8]], place: usize) -> &'a [u8]
+    requires { place < length names.now }
+    ensures { result.now ≡ slice_index_or (map (λ n. n.now) names.now) place [] }
+{
+    names[place]
+}
+
+/// The name of the built-in class at this place.
+fn built_in_name(place: usize) -> &'static [u8]
+    requires { place < 42 }
+    ensures { result.now ≡ slice_index_or (map (λ n. n.now) BUILT_INS) place [] }
+{
+    name_among(&BUILT_INS, place)
+}
+
+/// The name of the class of this number, and no bytes where there is none.
+pub fn class_name(classes: &[Vec<u8>], number: usize) -> ClassName<'_>
+    ensures { name_view result ≡ class_name (classes_named (map (λ class. class.items) classes.now)) number }
+{
+    if number == 0 {
+        return ClassName::Plain(b"");
+    }
+    if number <= 42 {
+        return ClassName::Plain(built_in_name(number - 1));
+    }
+    let place = (number - 43) / 2;
+    if place >= classes.len() {
+        return ClassName::Plain(b"");
+    }
+    let class = classes[place].as_slice();
+    if (number - 43) % 2 == 0 {
+        ClassName::Plain(class)
+    } else {
+        ClassName::Array(class)
     }
 }
 
