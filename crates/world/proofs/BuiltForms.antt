@@ -1,5 +1,5 @@
 -- Lines of the forms that are read today.
-use Rattle.std.proofs.Common.{◌≡◌, ℕ, ◌+◌, ◌≤◌, Bool, true, false, List, [], ◌∷◌, ◌++◌, length, map, fold, Some, None, refl, sym, ap, ◌∙◌, subst, arith, inl, inr}
+use Rattle.std.proofs.Common.{◌≡◌, ℕ, ◌≤◌, Bool, true, false, List, [], ◌∷◌, ◌++◌, length, fold, Some, None, refl, sym, ap, ◌∙◌, subst, arith, inl, inr}
 use Rattle.std.specs.Prelude.{nat_le}
 use Rattle.std.specs.List.{list_all}
 use Rattle.std.proofs.lemmas.List.{length-append}
@@ -9,7 +9,7 @@ use Rattle.world.specs.BuiltLines.{is_built_line}
 use Rattle.world.specs.World.{Invocation}
 use Rattle.world.specs.WorldLines.{WorldValue, WorldLine, ClassLine, FieldLine, StaticLine, ObjectLine, ObjectsLine, ArrayLine, StringLine, ThreadLine, CallLine, Lines, line_text, IsBareString, IsLineText}
 use Rattle.world.specs.WorldMeaning.{threads_with, invocation_of_line}
-use Rattle.world.specs.WorldRules.{part_of, broken_behind, broken_by_line}
+use Rattle.world.specs.WorldRules.{part_of, broken_behind}
 use Rattle.world.proofs.MeantRules.{kept_line, behind_one, each_keeps}
 use Rattle.world.proofs.WordLaws.{both_true}
 

@@ -1,28 +1,24 @@
 -- A line of a world that may be taken is read.
 use Rattle.std.proofs.Common.{◌≡◌, ℕ, ◌+◌, ◌-◌, ◌^◌, ◌<◌, ◌≤◌, Bool, true, false, cond, List, [], ◌∷◌, ◌++◌, length, map, get_or, min, Some, None, Ok, refl, sym, ap, ◌∙◌, arith}
-use Rattle.std.specs.Prelude.{codes, decimal, not, ◌&&◌, ◌==◌, nat_lt, nat_le, is_some, is_none, ℤ}
+use Rattle.std.specs.Prelude.{codes, decimal, not, ◌&&◌, ◌==◌, nat_lt, is_some, ℤ}
 use Rattle.std.specs.Option.{option_map}
-use Rattle.std.specs.Char.{is_ascii_digit}
 use Rattle.std.specs.List.{list_all, slice_split, onto_first}
-use Rattle.std.specs.Str.{all_ascii_digits}
 use Rattle.std.proofs.lemmas.Bool.{and_from}
 use Rattle.std.proofs.lemmas.Bool.Decides.{nat_tests}
-use Rattle.std.proofs.lemmas.Fmt.{digits_decimal, first_decimal}
-use Rattle.std.proofs.lemmas.Str.Parse.{numerals_by_value, tells_all_ascii_digits}
+use Rattle.std.proofs.lemmas.Fmt.{first_decimal}
 use Rattle.base.specs.Bytes.{Identifier, is_some_byte}
 use Rattle.base.specs.Element.{ElementType, JInt}
 use Rattle.classes.specs.Class.{class_named}
 use Rattle.classes.specs.Mangling.{is_simple_name, is_class_name}
 use Rattle.world.specs.Natural.{natural_of}
 use Rattle.world.specs.Parts.{parts_of}
-use Rattle.world.specs.ReadingValues.{object_named, values_named, element_named}
-use Rattle.world.specs.ReadingWorlds.{below_zero, heap_of, heap_rule, class_rule, place_of, is_number, array_rule, is_there, thread_rule, ruled, with_cells, number_of, argument_of, heap_scene, class_scene, array_scene, thread_scene, words_scene, line_scene}
-use Rattle.world.specs.Scene.{ArrayScene, Scene, cells_used}
+use Rattle.world.specs.ReadingValues.{values_named, element_named}
+use Rattle.world.specs.ReadingWorlds.{below_zero, heap_of, heap_rule, class_rule, array_rule, is_there, thread_rule, ruled, with_cells, number_of, argument_of, heap_scene, class_scene, array_scene, thread_scene, words_scene, line_scene}
+use Rattle.world.specs.Scene.{ArrayScene, Scene}
 use Rattle.world.specs.SceneWorld.{classes_named}
 use Rattle.world.specs.WorldLines.{WorldValue, NumberValue, ArrayLine, ThreadLine, spaced, at_name, value_text, element_letter, line_text}
 use Rattle.world.specs.WorldRules.{is_line_word, is_formed_value, value_in_range}
 use Rattle.world.proofs.FreeWords.{class_name_free, simple_name_free, decimal_free}
-use Rattle.world.proofs.KeptArrays.{least_kept}
 use Rattle.world.proofs.KeptLines.{class_asked}
 use Rattle.world.proofs.LineForms.{is_free, Taken, TookHeap, TookClass, TookArray, TookThread}
 use Rattle.world.proofs.MeantSchedules.{natural_of-decimal}

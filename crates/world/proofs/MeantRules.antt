@@ -1,5 +1,5 @@
 -- What lines were asked that keep the rules of worlds.
-use Rattle.std.proofs.Common.{◌≡◌, ℕ, ◌+◌, ◌*◌, ◌<◌, ◌≤◌, Bool, true, false, cond, List, [], ◌∷◌, ◌++◌, length, map, Option, Some, None, refl, sym, ap, ◌∙◌, subst, arith, append-nil}
+use Rattle.std.proofs.Common.{◌≡◌, ℕ, ◌+◌, ◌*◌, ◌≤◌, Bool, true, false, cond, List, [], ◌∷◌, ◌++◌, length, map, Option, Some, None, refl, sym, ap, ◌∙◌, arith, append-nil}
 use Rattle.std.specs.Prelude.{not, ◌&&◌, ◌||◌, ◌==◌, nat_lt, nat_le, filter, is_some, is_none, ℤ}
 use Rattle.std.specs.List.{list_all, list_any}
 use Rattle.std.proofs.lemmas.Bool.{and_from}
@@ -193,9 +193,9 @@ array_is_asked cells cs bs a full h =
     let room : nat_le (cells_used (length (names cs)) (arrays bs) + 3 + length vs) cells ≡ true = grind (arith, nat_tests, enough) in (
       named,
       least_is (not (cells == 0) && true) (is_none (place_of scene a.1.name) && list_all is_number vs) (list_all (value_in_range a.1.element) vs && nat_lt (length (arrays bs)) 65536)
-      (nat_le (cells_used (length (names cs)) (arrays bs) + 3 + length vs) cells) (ap (λ b. not b && true) full)
-      (and_from (is_none (place_of scene a.1.name)) (list_all is_number vs) free (numbers_are a.1.values))
-      (and_from (list_all (value_in_range a.1.element) vs) (nat_lt (length (arrays bs)) 65536) range few) room,
+          (nat_le (cells_used (length (names cs)) (arrays bs) + 3 + length vs) cells) (ap (λ b. not b && true) full)
+          (and_from (is_none (place_of scene a.1.name)) (list_all is_number vs) free (numbers_are a.1.values))
+          (and_from (list_all (value_in_range a.1.element) vs) (nat_lt (length (arrays bs)) 65536) range few) room,
     )
 
 -- ---- the line of the thread

@@ -1,5 +1,5 @@
 -- The world that a text means by lines that are read is the one that is read.
-use Rattle.std.proofs.Common.{◌≡◌, ℕ, ◌+◌, ◌≤◌, Bool, true, false, cond, List, [], ◌∷◌, ◌++◌, length, map, fold, None, Ok, refl, sym, ap, ◌∙◌, subst, arith, append_assoc, append-nil}
+use Rattle.std.proofs.Common.{◌≡◌, ℕ, ◌+◌, ◌≤◌, true, false, cond, List, [], ◌∷◌, ◌++◌, length, map, fold, None, Ok, refl, sym, ap, ◌∙◌, subst, arith, append_assoc, append-nil}
 use Rattle.std.specs.Prelude.{codes, decimal, ◌&&◌, ◌||◌, ◌==◌, nat_le}
 use Rattle.std.specs.List.{list_all, list_any, AllZip}
 use Rattle.std.proofs.lemmas.Bool.{and_from}
@@ -13,7 +13,7 @@ use Rattle.world.specs.declared.fault.Rule.TheVariants.{Form}
 use Rattle.world.specs.BuiltLines.{is_built_line}
 use Rattle.world.specs.Parts.{parts_of}
 use Rattle.world.specs.Reading.{◌>>=◌, refused}
-use Rattle.world.specs.ReadingWorlds.{number_of, line_scene, finished_scene, lines_scene, scene_of_text}
+use Rattle.world.specs.ReadingWorlds.{number_of, line_scene, finished_scene, lines_scene}
 use Rattle.world.specs.Scene.{ArrayScene, Scene}
 use Rattle.world.specs.SceneWorld.{world_of_scene}
 use Rattle.world.specs.TextLaws.{world_of_text, IsBuiltWorldText}
@@ -21,7 +21,7 @@ use Rattle.world.specs.World.{World}
 use Rattle.world.specs.WorldLines.{WorldValue, NumberValue, WorldLine, ClassLine, ArrayLine, ThreadLine, Lines, spaced, line_text}
 use Rattle.world.specs.WorldMeaning.{threads_with, threads_of, invocation_of_line, world_of}
 use Rattle.world.specs.WorldRules.{is_thread_line, broken_by_line, broken_behind, IsNumberedLine}
-use Rattle.world.proofs.ArrayLines.{Arrays, arrays, array_line, lines_before, all_lines}
+use Rattle.world.proofs.ArrayLines.{Arrays, arrays, lines_before, all_lines}
 use Rattle.world.proofs.BuiltForms.{Built, BuiltClass, BuiltArray, BuiltThread, built, all_built, built_text, no_line_behind}
 use Rattle.world.proofs.KeptArrays.{before_threads, lines_more}
 use Rattle.world.proofs.KeptLines.{Named, names, class_lines}
@@ -63,7 +63,7 @@ record IsReadRest (cells : ℕ) (earlier rest : Lines) (scene : Scene) (number l
 -- one line, and the rest behind it
 module _ (cells : ℕ) (full : (cells == 0) ≡ false) (L : Lines) (cs : Named) (bs : Arrays) (named : list_all is_class_name (names cs) ≡ true) (number last c : ℕ) (ds : List ℕ) (texts : List (List ℕ)) (n : ℕ) (rest : Lines)
     (further : (es : Named) (fs : Arrays) → list_all is_class_name (names es) ≡ true → broken_behind cells (lines_before es fs) rest ≡ [] → length (fold (threads_with L) [] rest) ≤ 1
-        → list_any (λ (l : ℕ × WorldLine). is_thread_line l.1) rest ≡ true → IsReadRest cells (lines_before es fs) rest (before_threads cells es fs) (number + 1) number texts) where
+    → list_any (λ (l : ℕ × WorldLine). is_thread_line l.1) rest ≡ true → IsReadRest cells (lines_before es fs) rest (before_threads cells es fs) (number + 1) number texts) where
   step : (es : Named) (fs : Arrays) (line : WorldLine) → lines_before cs bs ++ (n, line) ∷ [] ≡ lines_before es fs → line_scene (before_threads cells cs bs) number (c ∷ ds) ≡ Ok (before_threads cells es fs)
       → IsReadRest cells (lines_before es fs) rest (before_threads cells es fs) (number + 1) number texts → IsReadRest cells (lines_before cs bs) ((n, line) ∷ rest) (before_threads cells cs bs) number last ((c ∷ ds) ∷ texts)
   unfolding lines_scene
@@ -125,10 +125,10 @@ module _ (cells : ℕ) (full : (cells == 0) ≡ false) (L : Lines) (cs : Named) 
         values = vs;
         are = ap (λ (ls : Lines). lines_before cs bs ++ (n, ThreadLine f vs) ∷ ls) none;
         read =
-          ap (λ r. r >>= λ s. lines_scene s (number + 1) number texts) line
-          ∙ no_lines next (number + 1) number texts empty
-          ∙ is_finished cells cs bs number number f vs full
-          ∙ ap (λ m. Ok (whole_scene cells cs bs m f vs)) same;
+            ap (λ r. r >>= λ s. lines_scene s (number + 1) number texts) line
+            ∙ no_lines next (number + 1) number texts empty
+            ∙ is_finished cells cs bs number number f vs full
+            ∙ ap (λ m. Ok (whole_scene cells cs bs m f vs)) same;
       }
 
   by_form : (line : WorldLine) → Built line → all_built rest ≡ true → number ≡ n → c ∷ ds ≡ line_text line → broken_behind cells (lines_before cs bs) ((n, line) ∷ rest) ≡ [] → AllZip IsNumberedLine (written (number + 1) texts) rest

@@ -1,27 +1,25 @@
 -- The texts of values are read as these values.
-use Rattle.std.proofs.Common.{◌≡◌, ℕ, zero, suc, ◌+◌, ◌-◌, ◌^◌, ◌<◌, ◌≤◌, Bool, true, false, cond, List, [], ◌∷◌, ◌++◌, length, get_or, map, take, drop, min, Option, Some, None, refl, sym, ap, ◌∙◌, subst, arith}
-use Rattle.std.specs.Prelude.{codes, decimal, not, ◌&&◌, ◌==◌, nat_lt, nat_le, ℤ, pos, negsuc}
+use Rattle.std.proofs.Common.{◌≡◌, ℕ, zero, suc, ◌-◌, ◌^◌, ◌<◌, ◌≤◌, true, false, cond, List, [], ◌∷◌, ◌++◌, length, map, min, Some, None, refl, sym, ap, ◌∙◌, arith}
+use Rattle.std.specs.Prelude.{codes, decimal, ◌==◌, nat_le, ℤ, pos, negsuc}
 use Rattle.std.specs.Fmt.{signed_decimal}
 use Rattle.std.specs.Option.{option_map}
 use Rattle.std.specs.Char.{is_ascii_digit}
 use Rattle.std.specs.List.{list_all}
-use Rattle.std.specs.Str.{all_ascii_digits, bytes_eq}
+use Rattle.std.specs.Str.{all_ascii_digits}
 use Rattle.std.proofs.lemmas.Bool.{and_from}
 use Rattle.std.proofs.lemmas.Bool.Decides.{nat_tests}
 use Rattle.std.proofs.lemmas.Fmt.{decimal_nonempty, digits_decimal}
 use Rattle.std.proofs.lemmas.Str.Parse.{numerals_by_value, tells_all_ascii_digits}
 use Rattle.base.specs.Bytes.{Identifier}
 use Rattle.base.specs.Element.{ElementType, JInt, JShort, JByte, JChar}
-use Rattle.classes.specs.Class.{class_named}
 use Rattle.classes.specs.Mangling.{is_simple_name, is_class_name}
 use Rattle.world.specs.Natural.{natural_of}
-use Rattle.world.specs.ReadingValues.{negated, number_named, object_named, plain_value, value_named, values_named, element_named}
+use Rattle.world.specs.ReadingValues.{object_named, value_named, values_named, element_named}
 use Rattle.world.specs.ReadingWords.{with_word}
 use Rattle.world.specs.ReadingWorlds.{is_there}
 use Rattle.world.specs.Scene.{Scene}
-use Rattle.world.specs.SceneWorld.{classes_named}
 use Rattle.world.specs.WorldLines.{WorldValue, NumberValue, NullValue, NamedObject, NamedClass, at_name, value_text, element_letter}
-use Rattle.world.specs.WorldRules.{is_formed_value, is_between, is_in_range, value_in_range}
+use Rattle.world.specs.WorldRules.{is_formed_value, is_in_range, value_in_range}
 use Rattle.world.proofs.FreeWords.{decimal_free, simple_name_free, known_class_free}
 use Rattle.world.proofs.LineForms.{is_free}
 use Rattle.world.proofs.MeantSchedules.{natural_of-decimal}
