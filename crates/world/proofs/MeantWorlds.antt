@@ -1,28 +1,36 @@
 -- The world that a text means by lines that are read is the one that is read.
-use Rattle.std.proofs.Common.{◌≡◌, ℕ, ◌+◌, ◌≤◌, false, cond, List, [], ◌∷◌, ◌++◌, length, None, Ok, refl, sym, ap, ◌∙◌, subst, arith, append_assoc, append-nil, inl, inr}
-use Rattle.std.specs.Prelude.{codes, decimal, ◌==◌, nat_le}
-use Rattle.std.specs.List.{list_all, AllZip}
+use Rattle.std.proofs.Common.{◌≡◌, ℕ, ◌+◌, ◌≤◌, true, false, cond, List, [], ◌∷◌, ◌++◌, length, map, fold, None, Ok, refl, sym, ap, ◌∙◌, subst, arith, append_assoc, append-nil}
+use Rattle.std.specs.Prelude.{codes, decimal, ◌&&◌, ◌||◌, ◌==◌, nat_le}
+use Rattle.std.specs.List.{list_all, list_any, AllZip}
+use Rattle.std.proofs.lemmas.Bool.{and_from}
 use Rattle.std.proofs.lemmas.Bool.Decides.{nat_tests}
+use Rattle.std.proofs.lemmas.List.{map-append}
+use Rattle.std.proofs.lemmas.List.Folds.{list_all-append}
 use Rattle.base.specs.Bytes.{Identifier}
+use Rattle.base.specs.Element.{ElementType}
+use Rattle.classes.specs.Mangling.{is_class_name}
 use Rattle.world.specs.declared.fault.Rule.TheVariants.{Form}
 use Rattle.world.specs.BuiltLines.{is_built_line}
 use Rattle.world.specs.Parts.{parts_of}
 use Rattle.world.specs.Reading.{◌>>=◌, refused}
-use Rattle.world.specs.ReadingWorlds.{finished_scene, lines_scene, scene_of_text}
-use Rattle.world.specs.Scene.{Scene}
+use Rattle.world.specs.ReadingWorlds.{number_of, line_scene, finished_scene, lines_scene}
+use Rattle.world.specs.Scene.{ArrayScene, Scene}
 use Rattle.world.specs.SceneWorld.{world_of_scene}
 use Rattle.world.specs.TextLaws.{world_of_text, IsBuiltWorldText}
 use Rattle.world.specs.World.{World}
-use Rattle.world.specs.WorldLines.{WorldLine, ClassLine, ThreadLine, Lines, spaced, line_text, IsLineText}
-use Rattle.world.specs.WorldMeaning.{threads_of, world_of}
-use Rattle.world.specs.WorldRules.{broken_behind, IsNumberedLine}
-use Rattle.world.proofs.KeptLines.{Named, names, class_lines, all_lines}
-use Rattle.world.proofs.LineForms.{TookHeap, TookClass, TookThread}
+use Rattle.world.specs.WorldLines.{WorldValue, NumberValue, WorldLine, ClassLine, ArrayLine, ThreadLine, Lines, spaced, line_text}
+use Rattle.world.specs.WorldMeaning.{threads_with, threads_of, invocation_of_line, world_of}
+use Rattle.world.specs.WorldRules.{is_thread_line, broken_by_line, broken_behind, IsNumberedLine}
+use Rattle.world.proofs.ArrayLines.{Arrays, arrays, lines_before, all_lines}
+use Rattle.world.proofs.BuiltForms.{Built, BuiltClass, BuiltArray, BuiltThread, built, all_built, built_text, no_line_behind}
+use Rattle.world.proofs.KeptArrays.{before_threads, lines_more}
+use Rattle.world.proofs.KeptLines.{Named, names, class_lines}
+use Rattle.world.proofs.LineForms.{TookHeap, TookClass, TookArray, TookThread}
 use Rattle.world.proofs.MeantLines.{taken_is_read}
-use Rattle.world.proofs.MeantRules.{class_is_asked, thread_is_asked, each_keeps, plain_lines}
+use Rattle.world.proofs.MeantRules.{class_is_asked, array_numbers, array_is_asked, thread_is_asked, each_keeps}
 use Rattle.world.proofs.PartLemmas.{slice_split-split_at}
 use Rattle.world.proofs.WordLaws.{both_true}
-use Rattle.world.proofs.WorldLaws.{written, before_threads, whole_scene, nothing, names-append, lines-append, scene_world}
+use Rattle.world.proofs.WorldLaws.{written, whole_scene, nothing, names-append, lines-append, scene_world}
 
 -- ---- the lines behind the thread
 
@@ -36,44 +44,126 @@ none_written : (ws : List (ℕ × List ℕ)) → AllZip IsNumberedLine ws [] →
 none_written [] h = refl
 none_written (w ∷ ws) h = absurd h
 
-is_finished : (cells : ℕ) (cs : Named) (n last : ℕ) (f : Identifier) → (cells == 0) ≡ false → finished_scene (whole_scene cells cs n f) last ≡ Ok (whole_scene cells cs n f)
+is_finished : (cells : ℕ) (cs : Named) (bs : Arrays) (n last : ℕ) (f : Identifier) (vs : List WorldValue) → (cells == 0) ≡ false → finished_scene (whole_scene cells cs bs n f vs) last ≡ Ok (whole_scene cells cs bs n f vs)
 unfolding finished_scene
-is_finished cells cs n last f full = ap (λ b. cond b (refused Form 1) (Ok (whole_scene cells cs n f))) full
+is_finished cells cs bs n last f vs full = ap (λ b. cond b (refused Form 1) (Ok (whole_scene cells cs bs n f vs))) full
 
 -- ---- the lines behind the heap's
 
-class_text : (bytes : List ℕ) (name : Identifier) → IsLineText bytes (ClassLine name None) → bytes ≡ line_text (ClassLine name None)
-class_text bytes name (inl e) = e
-class_text bytes name (inr e) = absurd e
+-- lines behind earlier ones are read as the rest of a world
+record IsReadRest (cells : ℕ) (earlier rest : Lines) (scene : Scene) (number last : ℕ) (texts : List (List ℕ)) : Type 0 where
+  cs : Named
+  bs : Arrays
+  at : ℕ
+  function : Identifier
+  values : List WorldValue
+  are : earlier ++ rest ≡ all_lines cs bs at function values
+  read : lines_scene scene number last texts ≡ Ok (whole_scene cells cs bs at function values)
 
-thread_text : (bytes : List ℕ) (f : Identifier) → IsLineText bytes (ThreadLine f []) → bytes ≡ line_text (ThreadLine f [])
-thread_text bytes f (inl e) = e
-thread_text bytes f (inr e) = absurd e
+-- one line, and the rest behind it
+module _ (cells : ℕ) (full : (cells == 0) ≡ false) (L : Lines) (cs : Named) (bs : Arrays) (named : list_all is_class_name (names cs) ≡ true) (number last c : ℕ) (ds : List ℕ) (texts : List (List ℕ)) (n : ℕ) (rest : Lines)
+    (further : (es : Named) (fs : Arrays) → list_all is_class_name (names es) ≡ true → broken_behind cells (lines_before es fs) rest ≡ [] → length (fold (threads_with L) [] rest) ≤ 1
+    → list_any (λ (l : ℕ × WorldLine). is_thread_line l.1) rest ≡ true → IsReadRest cells (lines_before es fs) rest (before_threads cells es fs) (number + 1) number texts) where
+  step : (es : Named) (fs : Arrays) (line : WorldLine) → lines_before cs bs ++ (n, line) ∷ [] ≡ lines_before es fs → line_scene (before_threads cells cs bs) number (c ∷ ds) ≡ Ok (before_threads cells es fs)
+      → IsReadRest cells (lines_before es fs) rest (before_threads cells es fs) (number + 1) number texts → IsReadRest cells (lines_before cs bs) ((n, line) ∷ rest) (before_threads cells cs bs) number last ((c ∷ ds) ∷ texts)
+  unfolding lines_scene
+  step es fs line e taken r = record {
+    cs = r.cs;
+    bs = r.bs;
+    at = r.at;
+    function = r.function;
+    values = r.values;
+    are = sym (append_assoc (lines_before cs bs) ((n, line) ∷ []) rest) ∙ ap (λ (E : Lines). E ++ rest) e ∙ r.are;
+    read = ap (λ x. x >>= λ s. lines_scene s (number + 1) number texts) taken ∙ r.read;
+  }
 
-rest_is_read : (cells : ℕ) (cs : Named) (number last : ℕ) (texts : List (List ℕ)) (more : Named) (at : ℕ) (f : Identifier) → (cells == 0) ≡ false → AllZip IsNumberedLine (written number texts) (all_lines more at f)
-    → broken_behind cells (class_lines cs) (all_lines more at f) ≡ [] → lines_scene (before_threads cells cs) number last texts ≡ Ok (whole_scene cells (cs ++ more) at f)
+  class_step : (name : Identifier) → c ∷ ds ≡ line_text (ClassLine name None) → broken_by_line cells (lines_before cs bs) (n, ClassLine name None) ≡ [] → broken_behind cells (lines_before cs bs ++ (n, ClassLine name None) ∷ []) rest ≡ []
+      → length (fold (threads_with L) [] rest) ≤ 1 → list_any (λ (l : ℕ × WorldLine). is_thread_line l.1) rest ≡ true → IsReadRest cells (lines_before cs bs) ((n, ClassLine name None) ∷ rest) (before_threads cells cs bs) number last ((c ∷ ds) ∷ texts)
+  class_step name text kept behind one some =
+      let d : ℕ × Identifier = (n, name) in
+      let line : WorldLine = ClassLine name None in
+      let asked = class_is_asked cells cs bs d full kept in
+      let after : lines_before cs bs ++ (n, line) ∷ [] ≡ lines_before (cs ++ d ∷ []) [] =
+      ap (λ (E : Lines). E ++ (n, line) ∷ []) (ap (lines_before cs) asked.none ∙ append-nil (class_lines cs)) ∙ sym (lines-append cs (d ∷ [])) ∙ sym (append-nil (class_lines (cs ++ d ∷ []))) in
+      let next : Scene = before_threads cells (cs ++ d ∷ []) [] in
+      let scene : ◌≡◌ {A = Scene} next (record (before_threads cells cs bs) { classes = names cs ++ name ∷ [] }) =
+      ap (λ (ns : List Identifier). let t : Scene = record { heap = cells; classes = ns; objects = []; threads = [] } in t) (names-append cs (d ∷ []))
+      ∙ ap (λ (fs : Arrays). let t : Scene = record { heap = cells; classes = names cs ++ name ∷ []; objects = arrays fs; threads = [] } in t) (sym asked.none) in
+      let all_named : list_all is_class_name (names (cs ++ d ∷ [])) ≡ true =
+      ap (list_all is_class_name) (names-append cs (d ∷ [])) ∙ list_all-append is_class_name (names cs) (name ∷ []) ∙ and_from (list_all is_class_name (names cs)) (is_class_name name && true) named (and_from (is_class_name name) true asked.formed refl) in
+      step (cs ++ d ∷ []) [] line after (taken_is_read (before_threads cells cs bs) number (c ∷ ds) next named (TookClass name text asked.rule scene))
+      (further (cs ++ d ∷ []) [] all_named (ap (λ (E : Lines). broken_behind cells E rest) (sym after) ∙ behind) one some)
+
+  array_step : (x : Identifier) (t : ElementType) (vs : List WorldValue) → c ∷ ds ≡ line_text (ArrayLine x t vs) → broken_by_line cells (lines_before cs bs) (n, ArrayLine x t vs) ≡ [] → broken_behind cells (lines_before cs bs ++ (n, ArrayLine x t vs) ∷ []) rest ≡ []
+      → length (fold (threads_with L) [] rest) ≤ 1 → list_any (λ (l : ℕ × WorldLine). is_thread_line l.1) rest ≡ true → IsReadRest cells (lines_before cs bs) ((n, ArrayLine x t vs) ∷ rest) (before_threads cells cs bs) number last ((c ∷ ds) ∷ texts)
+  array_step x t vs text kept behind one some =
+      let a : ArrayScene = record { name = x; element = t; values = map number_of vs } in
+      let b : ℕ × ArrayScene = (n, a) in
+      let numbers : ArrayLine x t vs ≡ ArrayLine x t (map NumberValue (map number_of vs)) = ap (ArrayLine x t) (array_numbers cells (lines_before cs bs) n x t vs kept) in
+      let asked = array_is_asked cells cs bs b full (ap (λ (l : WorldLine). broken_by_line cells (lines_before cs bs) (n, l)) (sym numbers) ∙ kept) in
+      let after : lines_before cs bs ++ (n, ArrayLine x t vs) ∷ [] ≡ lines_before cs (bs ++ b ∷ []) = ap (λ (l : WorldLine). lines_before cs bs ++ (n, l) ∷ []) numbers ∙ lines_more cs bs b in
+      let next : Scene = before_threads cells cs (bs ++ b ∷ []) in
+      let scene : ◌≡◌ {A = Scene} next (record (before_threads cells cs bs) { objects = arrays bs ++ a ∷ [] }) =
+      ap (λ (xs : List ArrayScene). let t : Scene = record { heap = cells; classes = names cs; objects = xs; threads = [] } in t) (map-append (λ (y : ℕ × ArrayScene). y.1) bs (b ∷ [])) in
+      step cs (bs ++ b ∷ []) (ArrayLine x t vs) after
+      (taken_is_read (before_threads cells cs bs) number (c ∷ ds) next named (TookArray a (text ∙ ap line_text numbers) asked.0 asked.1 scene))
+      (further cs (bs ++ b ∷ []) named (ap (λ (E : Lines). broken_behind cells E rest) (sym after) ∙ behind) one some)
+
+  thread_step : (f : Identifier) (vs : List WorldValue) → number ≡ n → c ∷ ds ≡ line_text (ThreadLine f vs) → broken_by_line cells (lines_before cs bs) (n, ThreadLine f vs) ≡ [] → rest ≡ [] → AllZip IsNumberedLine (written (number + 1) texts) rest
+      → IsReadRest cells (lines_before cs bs) ((n, ThreadLine f vs) ∷ rest) (before_threads cells cs bs) number last ((c ∷ ds) ∷ texts)
+  unfolding lines_scene
+  thread_step f vs same text kept none zip =
+      let asked = thread_is_asked cells cs bs n f vs full kept in
+      let next : Scene = whole_scene cells cs bs number f vs in
+      let line = taken_is_read (before_threads cells cs bs) number (c ∷ ds) next named (TookThread f vs text asked.word asked.formed asked.rule refl) in
+      let empty = none_written (written (number + 1) texts) (subst (λ (ls : Lines). AllZip IsNumberedLine (written (number + 1) texts) ls) none zip) in
+      record {
+        cs = cs;
+        bs = bs;
+        at = n;
+        function = f;
+        values = vs;
+        are = ap (λ (ls : Lines). lines_before cs bs ++ (n, ThreadLine f vs) ∷ ls) none;
+        read =
+            ap (λ r. r >>= λ s. lines_scene s (number + 1) number texts) line
+            ∙ no_lines next (number + 1) number texts empty
+            ∙ is_finished cells cs bs number number f vs full
+            ∙ ap (λ m. Ok (whole_scene cells cs bs m f vs)) same;
+      }
+
+  by_form : (line : WorldLine) → Built line → all_built rest ≡ true → number ≡ n → c ∷ ds ≡ line_text line → broken_behind cells (lines_before cs bs) ((n, line) ∷ rest) ≡ [] → AllZip IsNumberedLine (written (number + 1) texts) rest
+      → length (fold (threads_with L) [] ((n, line) ∷ rest)) ≤ 1 → list_any (λ (l : ℕ × WorldLine). is_thread_line l.1) ((n, line) ∷ rest) ≡ true
+      → IsReadRest cells (lines_before cs bs) ((n, line) ∷ rest) (before_threads cells cs bs) number last ((c ∷ ds) ∷ texts)
+  by_form line (BuiltClass name is) b same text rules zip one some =
+      let e = each_keeps cells (lines_before cs bs) rest (n, ClassLine name None) (subst (λ (l : WorldLine). broken_behind cells (lines_before cs bs) ((n, l) ∷ rest) ≡ []) is rules) in
+      subst (λ (l : WorldLine). IsReadRest cells (lines_before cs bs) ((n, l) ∷ rest) (before_threads cells cs bs) number last ((c ∷ ds) ∷ texts)) (sym is)
+      (class_step name (text ∙ ap line_text is) e.0 e.1 (subst (λ (l : WorldLine). length (fold (threads_with L) (threads_with L [] (n, l)) rest) ≤ 1) is one)
+      (subst (λ (l : WorldLine). (is_thread_line l || list_any (λ (k : ℕ × WorldLine). is_thread_line k.1) rest) ≡ true) is some))
+  by_form line (BuiltArray x t vs is) b same text rules zip one some =
+      let e = each_keeps cells (lines_before cs bs) rest (n, ArrayLine x t vs) (subst (λ (l : WorldLine). broken_behind cells (lines_before cs bs) ((n, l) ∷ rest) ≡ []) is rules) in
+      subst (λ (l : WorldLine). IsReadRest cells (lines_before cs bs) ((n, l) ∷ rest) (before_threads cells cs bs) number last ((c ∷ ds) ∷ texts)) (sym is)
+      (array_step x t vs (text ∙ ap line_text is) e.0 e.1 (subst (λ (l : WorldLine). length (fold (threads_with L) (threads_with L [] (n, l)) rest) ≤ 1) is one)
+      (subst (λ (l : WorldLine). (is_thread_line l || list_any (λ (k : ℕ × WorldLine). is_thread_line k.1) rest) ≡ true) is some))
+  by_form line (BuiltThread f vs is) b same text rules zip one some =
+      let e = each_keeps cells (lines_before cs bs) rest (n, ThreadLine f vs) (subst (λ (l : WorldLine). broken_behind cells (lines_before cs bs) ((n, l) ∷ rest) ≡ []) is rules) in
+      let none = no_line_behind cells L (lines_before cs bs) n f vs (invocation_of_line L n f vs) rest b e.1 (subst (λ (l : WorldLine). length (fold (threads_with L) (threads_with L [] (n, l)) rest) ≤ 1) is one) in
+      subst (λ (l : WorldLine). IsReadRest cells (lines_before cs bs) ((n, l) ∷ rest) (before_threads cells cs bs) number last ((c ∷ ds) ∷ texts)) (sym is)
+      (thread_step f vs same (text ∙ ap line_text is) e.0 none zip)
+
+rest_is_read : (cells : ℕ) (full : (cells == 0) ≡ false) (L : Lines) (cs : Named) (bs : Arrays) (number last : ℕ) (texts : List (List ℕ)) (rest : Lines) → list_all is_class_name (names cs) ≡ true → AllZip IsNumberedLine (written number texts) rest
+    → all_built rest ≡ true → broken_behind cells (lines_before cs bs) rest ≡ [] → length (fold (threads_with L) [] rest) ≤ 1 → list_any (λ (l : ℕ × WorldLine). is_thread_line l.1) rest ≡ true
+    → IsReadRest cells (lines_before cs bs) rest (before_threads cells cs bs) number last texts
 unfolding lines_scene
-rest_is_read cells cs number last [] [] at f full zip rules = absurd zip
-rest_is_read cells cs number last [] (d ∷ more) at f full zip rules = absurd zip
-rest_is_read cells cs number last ([] ∷ texts) more at f full zip rules = rest_is_read cells cs (number + 1) last texts more at f full zip rules
-rest_is_read cells cs number last ((c ∷ ds) ∷ texts) [] at f full zip rules =
-    let word = thread_is_asked cells (class_lines cs) at f ((each_keeps cells (class_lines cs) [] (at, ThreadLine f []) rules).0) in
-    let next : Scene = whole_scene cells cs number f in
-    let line = taken_is_read (before_threads cells cs) number (c ∷ ds) next (TookThread f (thread_text (c ∷ ds) f (zip.0).1) word full refl refl) in
-    ap (λ r. r >>= λ s. lines_scene s (number + 1) number texts) line
-    ∙ no_lines next (number + 1) number texts (none_written (written (number + 1) texts) zip.1)
-    ∙ is_finished cells cs number number f full
-    ∙ ap (λ n. Ok (whole_scene cells cs n f)) ((zip.0).0)
-    ∙ ap (λ (es : Named). Ok (whole_scene cells es at f)) (sym (append-nil cs))
-rest_is_read cells cs number last ((c ∷ ds) ∷ texts) (d ∷ more) at f full zip rules =
-    let kept = each_keeps cells (class_lines cs) (all_lines more at f) (d.0, ClassLine d.1 None) rules in
-    let next : Scene = before_threads cells (cs ++ d ∷ []) in
-    let is : ◌≡◌ {A = Scene} next (record { heap = cells; classes = names cs ++ d.1 ∷ []; threads = [] }) = ap (λ (ns : List Identifier). let t : Scene = record { heap = cells; classes = ns; threads = [] } in t) (names-append cs (d ∷ [])) in
-    let line = taken_is_read (before_threads cells cs) number (c ∷ ds) next (TookClass d.1 (class_text (c ∷ ds) d.1 (zip.0).1) (class_is_asked cells cs d full kept.0) is) in
-    let behind : broken_behind cells (class_lines (cs ++ d ∷ [])) (all_lines more at f) ≡ [] = ap (λ (E : Lines). broken_behind cells E (all_lines more at f)) (lines-append cs (d ∷ [])) ∙ kept.1 in
-    ap (λ r. r >>= λ s. lines_scene s (number + 1) number texts) line
-    ∙ rest_is_read cells (cs ++ d ∷ []) (number + 1) number texts more at f full zip.1 behind
-    ∙ ap (λ (es : Named). Ok (whole_scene cells es at f)) (append_assoc cs (d ∷ []) more)
+rest_is_read cells full L cs bs number last [] [] named zip b rules one some = absurd (cc)
+rest_is_read cells full L cs bs number last [] (l ∷ rest) named zip b rules one some = absurd zip
+rest_is_read cells full L cs bs number last ([] ∷ texts) rest named zip b rules one some =
+    let r = rest_is_read cells full L cs bs (number + 1) last texts rest named zip b rules one some in
+    record { cs = r.cs; bs = r.bs; at = r.at; function = r.function; values = r.values; are = r.are; read = r.read }
+rest_is_read cells full L cs bs number last ((c ∷ ds) ∷ texts) [] named zip b rules one some = absurd (cc)
+rest_is_read cells full L cs bs number last ((c ∷ ds) ∷ texts) ((n, line) ∷ rest) named zip b rules one some =
+    let a = both_true (is_built_line line) (all_built rest) b in
+    let form = built line a.0 in
+    by_form cells full L cs bs named number last c ds texts n rest (λ es fs k r o s. rest_is_read cells full L es fs (number + 1) number texts rest k zip.1 a.1 r o s) line form a.1 (zip.0).0 (built_text (c ∷ ds) line form (zip.0).1) rules zip.1 one some
 
 -- ---- the whole text
 
@@ -85,17 +175,28 @@ others_of : List (ℕ × List ℕ) → List (ℕ × List ℕ)
 others_of [] = []
 others_of (w ∷ ws) = ws
 
-module _ (cells : ℕ) (low : 512 ≤ cells) (high : cells ≤ 1048576) (cs : Named) (at : ℕ) (f : Identifier) (rules : broken_behind cells [] (all_lines cs at f) ≡ []) where
-  whole_is_read : (number last : ℕ) (texts : List (List ℕ)) (heap_line : ℕ) (ws : List (ℕ × List ℕ)) → written number texts ≡ (heap_line, spaced (codes "heap" ∷ decimal cells ∷ [])) ∷ ws → AllZip IsNumberedLine ws (all_lines cs at f)
-      → lines_scene nothing number last texts ≡ Ok (whole_scene cells cs at f)
+module _ (cells : ℕ) (low : 512 ≤ cells) (high : cells ≤ 1048576) (rest : Lines) (b : all_built rest ≡ true) (rules : broken_behind cells [] rest ≡ []) (one : length (threads_of rest) ≤ 1)
+    (some : list_any (λ (l : ℕ × WorldLine). is_thread_line l.1) rest ≡ true) where
+  whole_is_read : (number last : ℕ) (texts : List (List ℕ)) (heap_line : ℕ) (ws : List (ℕ × List ℕ)) → written number texts ≡ (heap_line, spaced (codes "heap" ∷ decimal cells ∷ [])) ∷ ws → AllZip IsNumberedLine ws rest
+      → IsReadRest cells [] rest nothing number last texts
   unfolding lines_scene first_of others_of
   whole_is_read number last [] heap_line ws begins zip = absurd (cc)
-  whole_is_read number last ([] ∷ texts) heap_line ws begins zip = whole_is_read (number + 1) last texts heap_line ws begins zip
+  whole_is_read number last ([] ∷ texts) heap_line ws begins zip =
+      let r = whole_is_read (number + 1) last texts heap_line ws begins zip in
+      record { cs = r.cs; bs = r.bs; at = r.at; function = r.function; values = r.values; are = r.are; read = r.read }
   whole_is_read number last ((c ∷ ds) ∷ texts) heap_line ws begins zip =
-      let line = taken_is_read nothing number (c ∷ ds) (before_threads cells []) (TookHeap cells refl (ap first_of begins) low high refl) in
+      let line = taken_is_read nothing number (c ∷ ds) (before_threads cells [] []) refl (TookHeap cells refl (ap first_of begins) low high refl) in
       let full : (cells == 0) ≡ false = grind (arith, nat_tests, low) in
-      ap (λ r. r >>= λ s. lines_scene s (number + 1) number texts) line
-      ∙ rest_is_read cells [] (number + 1) number texts cs at f full (subst (λ (vs : List (ℕ × List ℕ)). AllZip IsNumberedLine vs (all_lines cs at f)) (sym (ap others_of begins)) zip) rules
+      let r = rest_is_read cells full rest [] [] (number + 1) number texts rest refl (subst (λ (vs : List (ℕ × List ℕ)). AllZip IsNumberedLine vs rest) (sym (ap others_of begins)) zip) b rules one some in
+      record {
+        cs = r.cs;
+        bs = r.bs;
+        at = r.at;
+        function = r.function;
+        values = r.values;
+        are = r.are;
+        read = ap (λ x. x >>= λ s. lines_scene s (number + 1) number texts) line ∙ r.read;
+      }
 
 -- what is meant by lines that are read is read
 pub meant_world : (text : List ℕ) (world : World) → IsBuiltWorldText text world → world_of_text text ≡ Ok world
@@ -103,10 +204,7 @@ meant_world text world h =
     let m = h.means in
     let b = both_true (list_all (λ (l : ℕ × WorldLine). is_built_line l.1) m.lines) (nat_le (length (threads_of m.lines)) 1) h.built in
     let one : length (threads_of m.lines) ≤ 1 = grind (arith, nat_tests, b.1) in
-    let p = plain_lines world.cells m.lines [] m.lines b.0 m.rules one m.threads in
-    let rules : broken_behind world.cells [] (all_lines p.cs p.at p.function) ≡ [] = ap (broken_behind world.cells []) (sym p.are) ∙ m.rules in
-    let zip : AllZip IsNumberedLine m.written (all_lines p.cs p.at p.function) = subst (AllZip IsNumberedLine m.written) p.are m.lines_spelled in
-    let scene : scene_of_text text ≡ Ok (whole_scene world.cells p.cs p.at p.function) =
-    whole_is_read world.cells m.size.0 m.size.1 p.cs p.at p.function rules 1 1 (parts_of 10 text) m.heap_line m.written (ap (written 1) (slice_split-split_at (λ b. b == 10) text) ∙ m.spelled) zip in
-    let is : world_of_scene (whole_scene world.cells p.cs p.at p.function) ≡ world = scene_world world.cells p.cs p.at p.function ∙ ap (world_of world.cells) (sym p.are) ∙ sym m.meant in
-    ap (λ r. r >>= λ s. Ok (world_of_scene s)) scene ∙ ap (λ (w : World). Ok w) is
+    let r =
+    whole_is_read world.cells m.size.0 m.size.1 m.lines b.0 m.rules one m.threads 1 1 (parts_of 10 text) m.heap_line m.written (ap (written 1) (slice_split-split_at (λ b. b == 10) text) ∙ m.spelled) m.lines_spelled in
+    let is : world_of_scene (whole_scene world.cells r.cs r.bs r.at r.function r.values) ≡ world = scene_world world.cells r.cs r.bs r.at r.function r.values ∙ ap (world_of world.cells) (sym r.are) ∙ sym m.meant in
+    ap (λ r. r >>= λ s. Ok (world_of_scene s)) r.read ∙ ap (λ (w : World). Ok w) is
