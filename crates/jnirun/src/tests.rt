@@ -73,6 +73,15 @@ const ZERO: &[u8] = b"JNIEXPORT jint JNICALL Java_A_f(JNIEnv *env, jclass cls) {
 const WRAPS: &[u8] =
     b"JNIEXPORT void JNICALL Java_A_f(JNIEnv *env, jclass cls) { put_jint((jint)(4294967295u + 1u)); put_jint((jint)2147483648u); return; }";
 
+const LENGTH: &[u8] =
+    b"JNIEXPORT void JNICALL Java_A_f(JNIEnv *env, jclass cls, jobject a) {\n    jint n = (*env)->GetArrayLength(env, a);\n    put_jint(n);\n    return;\n}";
+
+const PRODUCT: &[u8] =
+    b"JNIEXPORT void JNICALL Java_A_f(JNIEnv *env, jclass cls, jintArray a, jint times)\n{\n    jint n = (*env)->GetArrayLength(env, a);\n    put_jint(n);\n    jint product = (jint)((uint32_t)n * (uint32_t)times);\n    put_jint(product);\n    return;\n}\n";
+
+const UNUSED: &[u8] =
+    b"JNIEXPORT void JNICALL Java_A_f(JNIEnv *env, jclass cls, jintArray a) { return; }";
+
 /// A worked example: its texts, and what its run writes.
 struct Worked {
     program: &'static [u8],
@@ -82,7 +91,7 @@ struct Worked {
 }
 
 /// All worked examples; the first is that of `examples/`.
-const WORKED: [Worked; 5] = [
+const WORKED: [Worked; 10] = [
     Worked {
         program: FIRST,
         world: WORLD,
@@ -112,6 +121,36 @@ const WORKED: [Worked; 5] = [
         world: WORLD,
         schedule: b"",
         written: b"T1 running\njournal\n",
+    },
+    Worked {
+        program: LENGTH,
+        world: b"heap 512\nclass A\narray @a I 7 8 9\nthread Java_A_f @a\n",
+        schedule: b"1*9",
+        written: b"T1 3\nT1 ended\n#46 [I 7 8 9\njournal 1 1 1 1 1\n",
+    },
+    Worked {
+        program: LENGTH,
+        world: b"heap 512\nclass A\narray @a I 7 8 9\nthread Java_A_f null\n",
+        schedule: b"1*9",
+        written: b"T1 trap 4 line 2\n#46 [I 7 8 9\njournal 1 1\n",
+    },
+    Worked {
+        program: LENGTH,
+        world: b"heap 512\nclass A\narray @a I 7 8 9\nthread Java_A_f class:A\n",
+        schedule: b"1*9",
+        written: b"T1 trap 6 line 2\n#46 [I 7 8 9\njournal 1 1\n",
+    },
+    Worked {
+        program: UNUSED,
+        world: b"heap 512\nclass A\narray @a I 7 8\nthread Java_A_f @a\n",
+        schedule: b"",
+        written: b"T1 running\n#46 [I 7 8\njournal\n",
+    },
+    Worked {
+        program: PRODUCT,
+        world: b"heap 512\nclass A\narray @a I 7 8 9\nthread Java_A_f @a 14\n",
+        schedule: b"1*40",
+        written: b"T1 3\nT1 42\nT1 ended\n#46 [I 7 8 9\njournal 1 1 1 1 1 1 1 1 1 1 1 1 1 1\n",
     },
 ];
 
@@ -256,6 +295,11 @@ fn refused_worlds_and_schedules(rt: HostRuntime) {
     assert_eq!(rt;
         run(&rt, ZERO, WORLD, b"9").1.as_slice(),
         b"fault 81 line 1\n".as_slice()
+    );
+    let number = b"heap 512\nclass A\narray @a I 7 8 9\nthread Java_A_f 5\n";
+    assert_eq!(rt;
+        run(&rt, LENGTH, number, b"1").1.as_slice(),
+        b"fault 82 line 4\n".as_slice()
     );
     let small = b"heap 511\nclass A\nthread Java_A_f\n";
     let (status, out) = run(&rt, ZERO, small, b"1");
