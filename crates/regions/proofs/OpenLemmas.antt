@@ -114,17 +114,17 @@ unbroken_rule names s h UntestedBuffer =
     ap₂ (λ xs r. list_any (λ x. is_untested (state_of (entry names) x)) xs || some_passes (λ release. some_passes (λ x. is_untested (state_of (entry names) x)) release.buffer) r) h.elements h.releases
 unbroken_rule names s h WrongBuffer =
     ap₂ (λ b r. b || some_passes (λ release. (release.commits && is_critical release.access) || some_passes (λ x. is_mismatched release (state_of (entry names) x)) release.buffer) r)
-        (none_of (λ x. is_free (state_of (entry names) x)) (λ x. no_name is_free refl refl names x) (used_names s)) h.releases
+    (none_of (λ x. is_free (state_of (entry names) x)) (λ x. no_name is_free refl refl names x) (used_names s)) h.releases
 unbroken_rule names s h ReturnInFrame = and_false (is_return s)
 unbroken_rule names s h PopLastFrame = ap (λ b. b && nat_le 1 1) h.pops_none
 unbroken_rule names s h DeadReference = none_of (λ x. is_dead (state_of (entry names) x)) (λ x. no_name is_dead refl refl names x) (used_names s)
 unbroken_rule names s h ArrayInUse =
     four (some_passes (is_array_in_use (entry names)) (assigned_name s)) (some_passes (is_array_in_use (entry names)) (deleted_name (function_called s)))
-        (pops (function_called s) && list_any (λ held. is_level 1 (state_of (entry names) held.1)) (held_buffers (entry names)))
-        (some_passes (λ get. not (some_passes (λ x. is_reference_now (state_of (entry names) x)) get.1)) (get_of (function_called s)))
-        (ap (some_passes (is_array_in_use (entry names))) h.assigns) (ap (some_passes (is_array_in_use (entry names))) h.deletes)
-        (ap (λ b. b && list_any (λ held. is_level 1 (state_of (entry names) held.1)) (held_buffers (entry names))) h.pops_none)
-        (ap (some_passes (λ get. not (some_passes (λ x. is_reference_now (state_of (entry names) x)) get.1))) h.gets)
+    (pops (function_called s) && list_any (λ held. is_level 1 (state_of (entry names) held.1)) (held_buffers (entry names)))
+    (some_passes (λ get. not (some_passes (λ x. is_reference_now (state_of (entry names) x)) get.1)) (get_of (function_called s)))
+    (ap (some_passes (is_array_in_use (entry names))) h.assigns) (ap (some_passes (is_array_in_use (entry names))) h.deletes)
+    (ap (λ b. b && list_any (λ held. is_level 1 (state_of (entry names) held.1)) (held_buffers (entry names))) h.pops_none)
+    (ap (some_passes (λ get. not (some_passes (λ x. is_reference_now (state_of (entry names) x)) get.1))) h.gets)
 unbroken_rule names s h WrongLevel = ap (some_passes (λ x. is_reference_now (state_of (entry names) x) && not (is_level (frame_count_after (entry names) s) (state_of (entry names) x)))) h.assigns
 unbroken_rule names s h WaysDiffer = refl
 unbroken_rule names s h NoReturn = refl
@@ -170,8 +170,12 @@ harmless line (form.Declare t x (right.Expr e)) built = record { elements = no_e
 harmless line (form.Declare t x (right.Call c)) built =
     let is = built-function c built in
     record {
-      elements = none_in c.arguments.items; assigns = refl; gets = ap (λ o. get_of (called c o)) is; releases = ap (λ o. release_of (called c o)) is;
-      pops_none = ap (λ o. pops (called c o)) is; deletes = ap (λ o. deleted_name (called c o)) is;
+      elements = none_in c.arguments.items;
+      assigns = refl;
+      gets = ap (λ o. get_of (called c o)) is;
+      releases = ap (λ o. release_of (called c o)) is;
+      pops_none = ap (λ o. pops (called c o)) is;
+      deletes = ap (λ o. deleted_name (called c o)) is;
     }
 harmless line (form.PutJint e) built = record { elements = no_element e; assigns = refl; gets = refl; releases = refl; pops_none = refl; deletes = refl }
 harmless line (form.Return None) built = record { elements = refl; assigns = refl; gets = refl; releases = refl; pops_none = refl; deletes = refl }
@@ -314,7 +318,7 @@ at_entry f = ap (λ vs. record { variables = (f.class_name, ReferenceAt 1 true) 
 accepted-function : (f : FunctionInMemory) → built_in f.body.statements.items f.body.end_line → open_end f.body.statements.items f.body.end_line ≡ None → AcceptedFunction (function_tree f)
 accepted-function f built h =
     subst (λ state. KeepsBlock state state (statements_tree f.body.statements.items f.body.end_line) Returned) (at_entry f)
-        (keeps_block (entry (names_at f)) (entry (names_at f)) (statements_tree f.body.statements.items f.body.end_line) Returned (walk-none (names_at f) f.body.statements.items f.body.end_line built h))
+    (keeps_block (entry (names_at f)) (entry (names_at f)) (statements_tree f.body.statements.items f.body.end_line) Returned (walk-none (names_at f) f.body.statements.items f.body.end_line built h))
 
 -- a function's first fault, from the state in which it begins
 abbrev FirstFrom : RegionState → RegionRule → ℕ → Block → Type 0
@@ -325,10 +329,10 @@ faulty-function f e built h =
     let state = entry (names_at f) in
     let body = statements_tree f.body.statements.items f.body.end_line in
     subst (λ state. FirstFrom state e.1 e.0 body) (at_entry f) (
-      elim (walk-some (names_at f) f.body.statements.items f.body.end_line e built h) [
-        | inl fault ↦ inl (firsts_block state state body e fault)
-        | inr open' ↦ inr (ap (λ g. g.1) open'.1, subst (EndLine body) (sym (ap (λ g. g.0) open'.1)) (end-line f.body.statements.items f.body.end_line), (end (names_at f), keeps_block state state body (On (end (names_at f))) open'.0))
-      ]
+    elim (walk-some (names_at f) f.body.statements.items f.body.end_line e built h) [
+      | inl fault ↦ inl (firsts_block state state body e fault)
+      | inr open' ↦ inr (ap (λ g. g.1) open'.1, subst (EndLine body) (sym (ap (λ g. g.0) open'.1)) (end-line f.body.statements.items f.body.end_line), (end (names_at f), keeps_block state state body (On (end (names_at f))) open'.0))
+    ]
     )
 
 or_none : (a b : Option Fault) → option_or a b ≡ None → (a ≡ None) × (b ≡ None)
