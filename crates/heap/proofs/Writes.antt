@@ -1,0 +1,180 @@
+-- What a write at a block's address does to the blocks.
+use Rattle.std.proofs.Common.{◌≡◌, ℕ, zero, suc, ◌+◌, ◌/◌, ◌<◌, ◌≤◌, Bool, true, false, cond, eqb, List, [], ◌∷◌, ◌++◌, length, map, get_or, set, take, replicate, Option, Some, None, refl, sym, ap, ◌∙◌, subst, arith, ⊎_elim}
+use Rattle.std.specs.Prelude.{find, IsSome}
+use Rattle.std.proofs.lemmas.List.{get_or-set_same, get_or-set_other, get_or-take, length-set, length-map, length-replicate, map-append}
+use Rattle.std.proofs.lemmas.Bool.Decides.{eqb_tells}
+use Rattle.heap.specs.Heap.{Block, Space, block_end, end_from, LieFrom, IsLaidOut, IsAddress, values_at, fresh_block, with_block, with_value, with_pins}
+use Rattle.heap.specs.Cells.{words_from, block_in, space_in, IsStored}
+use Rattle.heap.proofs.WordLaws.{length-words_from, same_block, words_from-set}
+use Rattle.heap.proofs.Layouts.{begins_within, from_below_end, end_from-push, LieFrom-push}
+use Rattle.heap.proofs.Changes.{changed, changed_here, changed_elsewhere, changed_above, same_above, same_below, LeavesPlace, LieFrom-changed, end_from-changed}
+use Rattle.heap.proofs.Lookups.{found, Stored, stored, IsAddress-from_value}
+
+-- ---- a value
+
+abbrev pub value_changed : ℕ → ℕ → Block → Block
+value_changed place w b = record b { values = set b.values place w }
+
+pub value_leaves : (place w : ℕ) → LeavesPlace (value_changed place w)
+value_leaves place w = record { address = λ b. refl; count = λ b. length-set b.values place w }
+
+block_in-set : (cs ps : List ℕ) (a place w : ℕ) → place < get_or cs (a + 2) 0 → a + 3 + get_or cs (a + 2) 0 ≤ length cs → block_in (set cs (a + 3 + place) w) ps a ≡ value_changed place w (block_in cs ps a)
+block_in-set cs ps a place w h room =
+    let class : get_or (set cs (a + 3 + place) w) a 0 ≡ get_or cs a 0 = get_or-set_other cs (a + 3 + place) a w 0 (λ e. omega arith) in
+    let birth : get_or (set cs (a + 3 + place) w) (a + 1) 0 ≡ get_or cs (a + 1) 0 = get_or-set_other cs (a + 3 + place) (a + 1) w 0 (λ e. omega arith) in
+    let count : get_or (set cs (a + 3 + place) w) (a + 2) 0 ≡ get_or cs (a + 2) 0 = get_or-set_other cs (a + 3 + place) (a + 2) w 0 (λ e. omega arith) in
+    let values : words_from (set cs (a + 3 + place) w) (a + 3) (get_or cs (a + 2) 0) ≡ set (words_from cs (a + 3) (get_or cs (a + 2) 0)) place w = words_from-set cs (a + 3) (get_or cs (a + 2) 0) place w h room in
+    cc
+
+pub blocks-set : (cs ps : List ℕ) (from a place w : ℕ) (starts : List ℕ) (cells : ℕ) → LieFrom from (map (block_in cs ps) starts) cells → IsSome (find (λ (b : Block). eqb b.address a) (map (block_in cs ps) starts)) → place < get_or cs (a + 2) 0 → cells ≤ length cs → map (block_in (set cs (a + 3 + place) w) ps) starts ≡ map (changed a (value_changed place w)) (map (block_in cs ps) starts)
+blocks-set cs ps from a place w [] cells h some inside room = refl
+blocks-set cs ps from a place w (s ∷ starts) cells h some inside room =
+    let count = length-words_from cs (s + 3) (get_or cs (s + 2) 0) in
+    let fits = begins_within (block_end (block_in cs ps s)) (map (block_in cs ps) starts) cells h.1 in
+    ⊎_elim
+      (λ (t : (eqb s a ≡ true) × (s ≡ a)).
+        let inside' : place < get_or cs (s + 2) 0 = subst (λ n. place < get_or cs (n + 2) 0) (sym t.1) inside in
+        let here : block_in (set cs (s + 3 + place) w) ps s ≡ value_changed place w (block_in cs ps s) = block_in-set cs ps s place w inside' (omega arith) in
+        let here' : block_in (set cs (a + 3 + place) w) ps s ≡ value_changed place w (block_in cs ps s) = subst (λ n. block_in (set cs (n + 3 + place) w) ps s ≡ value_changed place w (block_in cs ps s)) t.1 here in
+        let now = changed_here a (value_changed place w) (block_in cs ps s) t.1 in
+        let rest = same_above cs (set cs (a + 3 + place) w) ps (block_end (block_in cs ps s)) starts cells h.1 (λ i l. sym (get_or-set_other cs (a + 3 + place) i w 0 (λ e. omega arith))) in
+        let kept = changed_above a (value_changed place w) (block_end (block_in cs ps s)) (map (block_in cs ps) starts) cells h.1 (omega arith) in
+        cc)
+      (λ (t : (eqb s a ≡ false) × (s ≡ a → ⊥)).
+        let skip : find (λ (b : Block). eqb b.address a) (map (block_in cs ps) (s ∷ starts)) ≡ find (λ (b : Block). eqb b.address a) (map (block_in cs ps) starts) = ap (λ (c : Bool). cond c (Some (block_in cs ps s)) (find (λ (b : Block). eqb b.address a) (map (block_in cs ps) starts))) t.0 in
+        let some' : IsSome (find (λ (b : Block). eqb b.address a) (map (block_in cs ps) starts)) = subst (λ (o : Option Block). IsSome o) skip some in
+        let later = found cs ps (block_end (block_in cs ps s)) a starts cells h.1 some' in
+        let above : block_end (block_in cs ps s) ≤ a = later.above in
+        let here = same_block cs (set cs (a + 3 + place) w) ps ps s (λ i l u. sym (get_or-set_other cs (a + 3 + place) i w 0 (λ e. omega arith))) refl in
+        let now = changed_elsewhere a (value_changed place w) (block_in cs ps s) t.1 in
+        let rest = blocks-set cs ps (block_end (block_in cs ps s)) a place w starts cells h.1 some' inside room in
+        cc)
+      (eqb_tells s a)
+
+-- ---- pins
+
+abbrev pub pins_changed : ℕ → Block → Block
+pins_changed n b = record b { pins = n }
+
+pub pins_leave : (n : ℕ) → LeavesPlace (pins_changed n)
+pins_leave n = record { address = λ b. refl; count = λ b. refl }
+
+pub blocks-pins : (cs ps : List ℕ) (a n : ℕ) (starts : List ℕ) → a < length ps → map (block_in cs (set ps a n)) starts ≡ map (changed a (pins_changed n)) (map (block_in cs ps) starts)
+blocks-pins cs ps a n [] room = refl
+blocks-pins cs ps a n (s ∷ starts) room =
+    let rest = blocks-pins cs ps a n starts room in
+    ⊎_elim
+      (λ (t : (eqb s a ≡ true) × (s ≡ a)).
+        let here : get_or (set ps s n) s 0 ≡ n = get_or-set_same ps s n 0 (omega arith) in
+        let here' : get_or (set ps a n) s 0 ≡ n = subst (λ m. get_or (set ps m n) s 0 ≡ n) t.1 here in
+        let now = changed_here a (pins_changed n) (block_in cs ps s) t.1 in
+        cc)
+      (λ (t : (eqb s a ≡ false) × (s ≡ a → ⊥)).
+        let here : get_or (set ps a n) s 0 ≡ get_or ps s 0 = get_or-set_other ps a s n 0 t.1 in
+        let now = changed_elsewhere a (pins_changed n) (block_in cs ps s) t.1 in
+        cc)
+      (eqb_tells s a)
+
+-- ---- the heap after a write
+
+-- cells that hold blocks at the same places
+kept : (cs ps ds qs starts : List ℕ) (end capacity a : ℕ) (change : Block → Block) → LeavesPlace change → IsStored cs ps starts end capacity → map (block_in ds qs) starts ≡ map (changed a change) (map (block_in cs ps) starts) → length ds ≡ length cs → length qs ≡ length ps → IsStored ds qs starts end capacity
+kept cs ps ds qs starts end capacity a change leaves h same lengths pins =
+    record {
+      laid_out = subst (λ (bs : List Block). LieFrom 0 bs (length ds)) (sym same) (subst (λ n. LieFrom 0 (map (changed a change) (map (block_in cs ps) starts)) n) (sym lengths) (LieFrom-changed a change leaves 0 (map (block_in cs ps) starts) (length cs) h.laid_out));
+      behind = h.behind ∙ sym (ap (end_from 0) same ∙ end_from-changed a change leaves 0 (map (block_in cs ps) starts));
+      counted = pins ∙ h.counted ∙ sym lengths;
+      limit = subst (λ n. n ≤ 1048576) (sym lengths) h.limit;
+      room = subst (λ n. n / 3 ≤ capacity) (sym lengths) h.room;
+    }
+
+abbrev space : ℕ → List Block → Space
+space cells blocks = record { cells = cells; blocks = blocks }
+
+same_space : (s t : Space) → s.cells ≡ t.cells → s.blocks ≡ t.blocks → s ≡ t
+same_space s t cells blocks = ap (λ n. space n s.blocks) cells ∙ ap (space t.cells) blocks
+
+-- what cells hold after a write
+pub record Written (starts : List ℕ) (end capacity : ℕ) (ds qs : List ℕ) (t : Space) : Type 0 where
+  pub stored : IsStored ds qs starts end capacity
+  pub space : space_in ds qs starts ≡ t
+
+-- after a write of a value
+pub value_written : (cs ps starts : List ℕ) (end capacity : ℕ) (s : Space) (a place w : ℕ) → IsStored cs ps starts end capacity → space_in cs ps starts ≡ s → place < length (values_at s a) → Written starts end capacity (set cs (a + 3 + place) w) ps (with_value s a place w)
+value_written cs ps starts end capacity s a place w h e inside =
+    let some = IsAddress-from_value s a place inside in
+    let here = stored cs ps starts s a e h.laid_out some in
+    let within : place < get_or cs (a + 2) 0 = omega (arith, here.count) in
+    let some' = subst (λ (t : Space). IsAddress t a) (sym e) some in
+    let same = blocks-set cs ps 0 a place w starts (length cs) h.laid_out some' within (omega arith) in
+    let count = length-set cs (a + 3 + place) w in
+    let now : space_in (set cs (a + 3 + place) w) ps starts ≡ with_value (space_in cs ps starts) a place w = same_space (space_in (set cs (a + 3 + place) w) ps starts) (with_value (space_in cs ps starts) a place w) count same in
+    record {
+      stored = kept cs ps (set cs (a + 3 + place) w) ps starts end capacity a (value_changed place w) (value_leaves place w) h same count refl;
+      space = now ∙ ap (λ (t : Space). with_value t a place w) e;
+    }
+
+-- after a change of a block's pins
+pub pins_written : (cs ps starts : List ℕ) (end capacity : ℕ) (s : Space) (a n : ℕ) → IsStored cs ps starts end capacity → space_in cs ps starts ≡ s → IsAddress s a → Written starts end capacity cs (set ps a n) (with_pins s a n)
+pins_written cs ps starts end capacity s a n h e some =
+    let here = stored cs ps starts s a e h.laid_out some in
+    let counted : length ps ≡ length cs = h.counted in
+    let same = blocks-pins cs ps a n starts (omega arith) in
+    let now : space_in cs (set ps a n) starts ≡ with_pins (space_in cs ps starts) a n = same_space (space_in cs (set ps a n) starts) (with_pins (space_in cs ps starts) a n) refl same in
+    record {
+      stored = kept cs ps cs (set ps a n) starts end capacity a (pins_changed n) (pins_leave n) h same refl (length-set ps a n);
+      space = now ∙ ap (λ (t : Space). with_pins t a n) e;
+    }
+
+-- ---- a further block
+
+-- there is room for the address of a further block
+pub room_for_start : (cs ps starts : List ℕ) (end capacity : ℕ) → IsStored cs ps starts end capacity → end + 3 ≤ length cs → length starts < capacity
+room_for_start cs ps starts end capacity h fits =
+    let most = from_below_end 0 (map (block_in cs ps) starts) (length cs) h.laid_out in
+    let count = length-map starts (block_in cs ps) in
+    let behind : end ≡ end_from 0 (map (block_in cs ps) starts) = h.behind in
+    let room : length cs / 3 ≤ capacity = h.room in
+    omega arith
+
+-- a block as it is written
+pub record IsFresh (ds : List ℕ) (at class birth len : ℕ) : Type 0 where
+  pub class_cell : get_or ds at 0 ≡ class
+  pub birth_cell : get_or ds (at + 1) 0 ≡ birth
+  pub length_cell : get_or ds (at + 2) 0 ≡ len
+  pub value_cells : words_from ds (at + 3) len ≡ replicate len 0
+
+fresh_is : (ds qs : List ℕ) (at class birth len : ℕ) → IsFresh ds at class birth len → get_or qs at 0 ≡ 0 → block_in ds qs at ≡ fresh_block at class birth len
+fresh_is ds qs at class birth len h pins =
+    let class_cell = h.class_cell in
+    let birth_cell = h.birth_cell in
+    let length_cell = h.length_cell in
+    let value_cells = h.value_cells in
+    cc
+
+pub block_written : (cs ps starts : List ℕ) (end capacity capacity' : ℕ) (s : Space) (class birth len : ℕ) (ds : List ℕ) → IsStored cs ps starts end capacity → space_in cs ps starts ≡ s → end + 3 + len ≤ length cs → length ds ≡ length cs → take end ds ≡ take end cs → IsFresh ds end class birth len → capacity ≤ capacity' → Written (starts ++ end ∷ []) (end + 3 + len) capacity' ds (set ps end 0) (with_block s (fresh_block end class birth len))
+block_written cs ps starts end capacity capacity' s class birth len ds h e fits lengths below fresh grows =
+    let behind : end ≡ end_from 0 (map (block_in cs ps) starts) = h.behind in
+    let counted : length ps ≡ length cs = h.counted in
+    let block = fresh_is ds (set ps end 0) end class birth len fresh (get_or-set_same ps end 0 0 (omega arith)) in
+    let old : map (block_in ds (set ps end 0)) starts ≡ map (block_in cs ps) starts = same_below cs ds ps (set ps end 0) 0 starts (length cs) end h.laid_out (omega arith)
+      (λ i l. sym (get_or-take end cs i 0 l) ∙ ap (λ xs. get_or xs i 0) (sym below) ∙ get_or-take end ds i 0 l)
+      (λ i l. sym (get_or-set_other ps end i 0 0 (λ e. omega arith))) in
+    let all : map (block_in ds (set ps end 0)) (starts ++ end ∷ []) ≡ map (block_in cs ps) starts ++ fresh_block end class birth len ∷ [] = map-append (block_in ds (set ps end 0)) starts (end ∷ []) ∙ cc in
+    let zeros : length (fresh_block end class birth len).values ≡ len = length-replicate {A = ℕ} len 0 in
+    let lies = LieFrom-push 0 (map (block_in cs ps) starts) (fresh_block end class birth len) (length cs) h.laid_out (omega arith) (omega arith) in
+    let ends : end_from 0 (map (block_in cs ps) starts ++ fresh_block end class birth len ∷ []) ≡ block_end (fresh_block end class birth len) = end_from-push 0 (map (block_in cs ps) starts) (fresh_block end class birth len) in
+    let ends' : end_from 0 (map (block_in ds (set ps end 0)) (starts ++ end ∷ [])) ≡ block_end (fresh_block end class birth len) = ap (end_from 0) all ∙ ends in
+    let room : length cs / 3 ≤ capacity = h.room in
+    let limit : length cs ≤ 1048576 = h.limit in
+    let now : space_in ds (set ps end 0) (starts ++ end ∷ []) ≡ with_block (space_in cs ps starts) (fresh_block end class birth len) = same_space (space_in ds (set ps end 0) (starts ++ end ∷ [])) (with_block (space_in cs ps starts) (fresh_block end class birth len)) lengths all in
+    record {
+      stored = record {
+        laid_out = subst (λ (bs : List Block). LieFrom 0 bs (length ds)) (sym all) (subst (λ n. LieFrom 0 (map (block_in cs ps) starts ++ fresh_block end class birth len ∷ []) n) (sym lengths) lies);
+        behind = omega arith;
+        counted = length-set ps end 0 ∙ counted ∙ sym lengths;
+        limit = omega arith;
+        room = subst (λ n. n / 3 ≤ capacity') (sym lengths) (omega arith);
+      };
+      space = now ∙ ap (λ (t : Space). with_block t (fresh_block end class birth len)) e;
+    }

@@ -1,0 +1,203 @@
+//! The heap.
+
+ghost use Rattle.std.specs.Prelude.{◌≡◌, ℕ, ◌+◌, ◌-◌, ◌<◌, ◌≤◌, [], Some, length, take, replicate, slice_get, slice_index, IfOk, OnOk, OnErr};
+ghost use Rattle.heap.specs.Heap.{IsAddress, IsLaidOut, class_at, name_at, values_at, pins_at, addresses, left_of, end_of, fresh_block, with_block, with_value, with_pins};
+ghost use Rattle.heap.specs.Cells.{words_from};
+
+use crate::addr::Addr;
+use std::alloc::{AllocError, Global};
+use std::marker::Model;
+use thiserror::Error;
+
+/// How many cells a heap has at most.
+pub const MOST_CELLS: u32 = 1_048_576;
+
+/// How many pins a block has at most.
+pub const MOST_PINS: u8 = 255;
+
+/// How many cells of a block are not values: its class, its birth number and its length.
+const HEADER: usize = 3;
+
+/// Too few cells are left behind the highest block.
+#[derive(Clone, Copy, Debug, PartialEq, Eq, Error)]
+#[error("no room in the heap")]
+pub struct NoRoom;
+
+/// Blocks in a fixed number of cells, seen as the list of them in the order of their addresses.
+///
+/// A block takes three cells and one a value. `new` takes all of the host's memory that the heap ever needs: no
+/// other call allocates.
+#[derive(Drop)]
+pub struct Heap {
+    cells: Vec<u32>,
+    /// The addresses of the blocks, rising.
+    starts: Vec<u32>,
+    /// Behind the highest block.
+    end: usize,
+    /// At a block's address the number of its pins.
+    pins: Vec<u8>,
+}
+
+impl Model for Heap {
+    ghost use Rattle.heap.specs.Heap.{Space};
+
+    ghost Value = { Space };
+
+    ghost use Rattle.heap.specs.Cells.{space_in, IsStored};
+
+    ghost view = { λ h. space_in h.cells.items h.pins.items h.starts.items };
+
+    ghost invariant = { λ h. IsStored h.cells.items h.pins.items h.starts.items h.end h.starts.cap };
+}
+
+impl Heap {
+    /// A heap of so many cells, with no block. Fails where the host has too little memory.
+    pub fn new(alloc: Global, cells: u32) -> Result<Heap, AllocError>
+        requires { cells ≤ MOST_CELLS }
+        ensures { IfOk result (λ h. h ≡ record { cells = cells; blocks = [] }) }
+    {
+        let cells = cells as usize;
+        Ok(Heap {
+            cells: vec![in alloc; 0; cells]?,
+            starts: Vec::with_capacity(alloc, cells / HEADER)?,
+            end: 0,
+            pins: vec![in alloc; 0; cells]?,
+        })
+    }
+
+    /// The number of cells.
+    pub fn cells(&self) -> usize
+        ensures cells { result ≡ self.now.cells }
+        ensures limit { result ≤ MOST_CELLS }
+    {
+        self.cells.len()
+    }
+
+    /// The number of cells behind the highest block.
+    pub fn left(&self) -> usize
+        ensures { result ≡ left_of self.now }
+    {
+        self.cells.len() - self.end
+    }
+
+    /// The number of blocks.
+    pub fn count(&self) -> usize
+        ensures count { result ≡ length self.now.blocks }
+        ensures laid_out { IsLaidOut self.now }
+    {
+        self.starts.len()
+    }
+
+    /// The address of a block, by its place in the order of addresses, counted from 0.
+    pub fn address(&self, place: usize) -> Addr
+        requires { place < length self.now.blocks }
+        ensures { slice_get (addresses self.now) place ≡ Some result }
+    {
+        Addr::new(self.starts[place])
+    }
+
+    /// Makes a block of `len` values behind the highest one, each 0.
+    ///
+    /// `NoRoom` exactly where too few cells are left there.
+    pub fn alloc(&mut self, class: u32, birth: u32, len: usize) -> Result<Addr, NoRoom>
+        ensures address { IfOk result (λ a. a ≡ end_of self.old) }
+        ensures block { IfOk result (λ a. self.new ≡ with_block self.old (fresh_block a class birth len)) }
+        ensures room { OnOk result (3 + len ≤ left_of self.old) }
+        ensures no_room { OnErr result (left_of self.old < 3 + len) }
+        ensures err { OnErr result (self.new ≡ self.old) }
+    {
+        let left = self.cells.len() - self.end;
+        if left < HEADER || left - HEADER < len {
+            return Err(NoRoom);
+        }
+        let address = self.end;
+        write_block(&mut self.cells, address, class, birth, len);
+        self.pins[address] = 0;
+        self.starts.push(address as u32).unwrap();
+        self.end = address + HEADER + len;
+        Ok(Addr::new(address as u32))
+    }
+
+    /// The class of a block.
+    pub fn class_of(&self, addr: Addr) -> u32
+        requires { IsAddress self.now addr }
+        ensures { class_at self.now addr ≡ Some result }
+    {
+        self.cells[addr.cell() as usize]
+    }
+
+    /// The birth number of a block.
+    pub fn birth_of(&self, addr: Addr) -> u32
+        requires { IsAddress self.now addr }
+        ensures { name_at self.now addr ≡ Some result }
+    {
+        self.cells[addr.cell() as usize + 1]
+    }
+
+    /// The number of a block's values.
+    pub fn len_of(&self, addr: Addr) -> usize
+        requires { IsAddress self.now addr }
+        ensures { result ≡ length (values_at self.now addr) }
+    {
+        self.cells[addr.cell() as usize + 2] as usize
+    }
+
+    /// A value of a block, by its place, counted from 0.
+    pub fn get(&self, addr: Addr, place: usize) -> u32
+        requires { place < length (values_at self.now addr) }
+        ensures { slice_get (values_at self.now addr) place ≡ Some result }
+    {
+        self.cells[addr.cell() as usize + HEADER + place]
+    }
+
+    /// Changes a value of a block.
+    pub fn set(&mut self, addr: Addr, place: usize, word: u32)
+        requires { place < length (values_at self.old addr) }
+        ensures { self.new ≡ with_value self.old addr place word }
+    {
+        self.cells[addr.cell() as usize + HEADER + place] = word;
+    }
+
+    /// The number of a block's pins.
+    pub fn pins(&self, addr: Addr) -> u8
+        requires { IsAddress self.now addr }
+        ensures { result ≡ pins_at self.now addr }
+    {
+        self.pins[addr.cell() as usize]
+    }
+
+    /// Pins a block once more.
+    pub fn pin(&mut self, addr: Addr)
+        requires block { IsAddress self.old addr }
+        requires limit { pins_at self.old addr < MOST_PINS }
+        ensures { self.new ≡ with_pins self.old addr (pins_at self.old addr + 1) }
+    {
+        self.pins[addr.cell() as usize] += 1;
+    }
+
+    /// Takes a pin from a block.
+    pub fn unpin(&mut self, addr: Addr)
+        requires { 0 < pins_at self.old addr }
+        ensures { self.new ≡ with_pins self.old addr (pins_at self.old addr - 1) }
+    {
+        self.pins[addr.cell() as usize] -= 1;
+    }
+}
+
+/// Writes a block whose values are 0.
+fn write_block(cells: &mut [u32], address: usize, class: u32, birth: u32, len: usize)
+    requires room { address + 3 + len ≤ length cells.old }
+    requires limit { length cells.old ≤ MOST_CELLS }
+    ensures below { take address cells.new ≡ take address cells.old }
+    ensures class { slice_index cells.new address ≡ class }
+    ensures birth { slice_index cells.new (address + 1) ≡ birth }
+    ensures length { slice_index cells.new (address + 2) ≡ len }
+    ensures values { words_from cells.new (address + 3) len ≡ replicate len 0 }
+{
+    cells[address] = class;
+    cells[address + 1] = birth;
+    cells[address + 2] = len as u32;
+    for place in 0..len {
+        cells[address + HEADER + place] = 0;
+    }
+}
