@@ -6,3 +6,4 @@ pub mod LoadLemmas
 pub mod ThreadLoads
 pub mod Runs
 pub mod Reports
+pub mod HeapLaws

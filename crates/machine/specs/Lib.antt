@@ -1,3 +1,4 @@
 pub mod Agrees
+pub mod HeapAgrees
 pub mod Loading
 pub mod Run
