@@ -8,7 +8,7 @@ use Rattle.std.proofs.lemmas.List.{get_or_push, get_or_append_left}
 use Rattle.std.proofs.lemmas.List.Elements.{Contains-append_cases, Contains-append_left, Contains-push}
 use Rattle.std.proofs.lemmas.List.Folds.{find-append}
 use Rattle.std.proofs.lemmas.Option.{slice_get_within}
-use Rattle.heap.specs.Heap.{Block, Space, block_end, end_from, end_of, LieFrom, IsLaidOut, name_at, with_block, with_changed}
+use Rattle.heap.specs.Heap.{Block, Space, block_end, end_from, end_of, LieFrom, IsLaidOut, block_at, name_at, with_block}
 use Rattle.heap.proofs.Layouts.{from_below_end}
 use Rattle.world.specs.Object.{Object, ObjectValue, Number, Refers}
 use Rattle.regions.specs.Heap.{Heap, object_at}
@@ -41,11 +41,14 @@ name_kept s b a n h =
     ∙ keeps a n (find (λ (b : Block). eqb b.address a) s.blocks) (find (λ (b : Block). eqb b.address a) (b ∷ [])) h
 
 -- the further block is at its address
+pub block_new : (s : Space) (b : Block) → IsLaidOut s → b.address ≡ end_of s → block_at (with_block s b) b.address ≡ Some b
+block_new s b laid at =
+    find-append (λ (c : Block). eqb c.address b.address) s.blocks (b ∷ [])
+    ∙ ap (λ (o : Option Block). option_or o (find (λ (c : Block). eqb c.address b.address) (b ∷ []))) (none_behind 0 b.address s.blocks s.cells laid (omega arith))
+    ∙ ap (λ (t : Bool). cond t (Some b) None) (eqb_same b.address)
+
 pub name_new : (s : Space) (b : Block) → IsLaidOut s → b.address ≡ end_of s → name_at (with_block s b) b.address ≡ Some b.birth
-name_new s b laid at =
-    ap (option_map (λ (b : Block). b.birth)) (find-append (λ (c : Block). eqb c.address b.address) s.blocks (b ∷ []))
-    ∙ ap (λ (o : Option Block). option_map (λ (b : Block). b.birth) (option_or o (find (λ (c : Block). eqb c.address b.address) (b ∷ [])))) (none_behind 0 b.address s.blocks s.cells laid (omega arith))
-    ∙ ap (λ (t : Bool). option_map (λ (b : Block). b.birth) (cond t (Some b) None)) (eqb_same b.address)
+name_new s b laid at = ap (option_map (λ (b : Block). b.birth)) (block_new s b laid at)
 
 -- ---- what agreed agrees
 

@@ -7,3 +7,5 @@ pub mod ThreadLoads
 pub mod Runs
 pub mod Reports
 pub mod HeapLaws
+pub mod LoadedObjects
+pub mod Loaded

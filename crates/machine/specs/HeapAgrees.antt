@@ -1,9 +1,10 @@
 -- How a heap of blocks stands for a heap of the source. A block's birth number is the name of its object, wherever it lies.
 use Rattle.std.specs.Prelude.{◌≡◌, ℕ, ◌+◌, List, [], ◌∷◌, length, slice_get, Option, Some, None, FitsSigned}
 use Rattle.std.specs.Int.{w32, cast_unsigned}
-use Rattle.heap.specs.Heap.{Block, Space, name_at, AreNamesUnique}
-use Rattle.world.specs.Object.{Object, ObjectValue, Number, Refers, Reference}
+use Rattle.heap.specs.Heap.{Block, Space, IsLaidOut, end_of, name_at, AreNamesUnique}
+use Rattle.world.specs.Object.{Object, ObjectValue, Number, Refers, Reference, sizes}
 use Rattle.regions.specs.Heap.{Heap, object_at}
+use Rattle.regions.specs.Reachable.{IsName}
 
 -- ---- references and words
 
@@ -62,3 +63,10 @@ pub record HeapAgrees (space : Space) (heap : Heap) (IsNeeded : ℕ → Type 0) 
 pub record IsTable (space : Space) (addresses : List ℕ) (count : ℕ) : Type 0 where
   pub counted : length addresses ≡ count
   pub named : (i a : ℕ) → slice_get addresses i ≡ Some a → name_at space a ≡ Some (i + 1)
+
+-- These objects have been made, one behind another from the lowest cell on, and nothing else.
+pub record AreMade (space : Space) (addresses : List ℕ) (objects : Heap) : Type 0 where
+  pub agree : HeapAgrees space objects (IsName objects)
+  pub table : IsTable space addresses (length objects)
+  pub laid_out : IsLaidOut space
+  pub filled : end_of space ≡ sizes objects

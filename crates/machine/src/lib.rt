@@ -4,6 +4,7 @@
 mod fault;
 mod load;
 mod machine;
+mod objects;
 mod thread;
 mod turn;
 
