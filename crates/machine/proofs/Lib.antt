@@ -9,3 +9,4 @@ pub mod Reports
 pub mod HeapLaws
 pub mod LoadedObjects
 pub mod Loaded
+pub mod Arrays

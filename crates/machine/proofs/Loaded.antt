@@ -76,7 +76,7 @@ changed_new s b change laid behind =
 
 -- ---- the objects made at load
 
-values_new : (s : Space) (b : Block) → IsLaidOut s → b.address ≡ end_of s → values_at (with_block s b) b.address ≡ b.values
+pub values_new : (s : Space) (b : Block) → IsLaidOut s → b.address ≡ end_of s → values_at (with_block s b) b.address ≡ b.values
 values_new s b laid behind = ap (λ (o : Option Block). option_map_or (λ (b : Block). b.values) o []) (block_new s b laid behind)
 
 -- a further class object

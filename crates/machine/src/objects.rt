@@ -1,9 +1,11 @@
 //! The objects that are there when a run begins.
 
-ghost use Rattle.std.specs.Prelude.{◌≡◌, ◌+◌, ◌<◌, ◌≤◌, [], ◌∷◌, ◌++◌, length, IfOk, OnOk, IsTrue};
-ghost use Rattle.heap.specs.Heap.{left_of, end_of, fresh_block, with_block};
+ghost use Rattle.std.specs.Prelude.{◌≡◌, ◌+◌, ◌<◌, ◌≤◌, [], ◌∷◌, ◌++◌, length, map, IfOk, OnOk, IsTrue};
+ghost use Rattle.heap.specs.Heap.{IsLaidOut, left_of, end_of, fresh_block, with_block};
 ghost use Rattle.world.specs.SceneWorld.{world_of_scene};
 ghost use Rattle.world.specs.World.{loaded_objects, fits_cells};
+ghost use Rattle.world.specs.Object.{Number};
+ghost use Rattle.regions.specs.Heap.{Heap as Objects};
 ghost use Rattle.machine.specs.HeapAgrees.{AreMade};
 
 use heap::{Addr, Heap, MOST_CELLS};
@@ -64,4 +66,26 @@ fn make(
     let addr = heap.alloc(class, birth, len).unwrap();
     loaded.push(addr)?;
     Ok(addr)
+}
+
+/// Makes the next object, an array of these numbers.
+fn make_array(
+    heap: &mut Heap,
+    loaded: &mut Vec<Addr>,
+    class: u32,
+    numbers: &[i32],
+) -> Result<(), AllocError>
+    requires room { 3 + length numbers.now ≤ left_of heap.old }
+    requires few { length loaded.old.items < MOST_CELLS }
+    requires laid_out { IsLaidOut heap.old }
+    ensures made { (objects : Objects) → AreMade heap.old loaded.old.items objects
+        → OnOk result (AreMade heap.new loaded.new.items (objects ++ record { class = class; values = map Number numbers.now } ∷ [])) }
+    ensures cells { OnOk result (heap.new.cells ≡ heap.old.cells) }
+{
+    let addr = make(heap, loaded, class, numbers.len())?;
+    for place in 0..numbers.len() {
+        let number = numbers.get(place).copied().unwrap();
+        heap.set(addr, place, number.cast_unsigned());
+    }
+    Ok(())
 }
