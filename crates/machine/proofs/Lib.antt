@@ -10,3 +10,4 @@ pub mod HeapLaws
 pub mod LoadedObjects
 pub mod Loaded
 pub mod Arrays
+pub mod LengthCalls
