@@ -1,12 +1,10 @@
 -- What a write to a cell does to the blocks.
-use Rattle.std.proofs.Common.{◌≡◌, ℕ, zero, suc, ◌+◌, ◌<◌, ◌≤◌, Bool, true, false, cond, eqb, List, [], ◌∷◌, ◌++◌, length, map, get_or, set, take, Option, Some, None, refl, sym, ap, ◌∙◌, subst, arith, ⊎_elim}
-use Rattle.std.specs.Prelude.{find}
-use Rattle.std.proofs.lemmas.List.{get_or-set_same, get_or-set_other, get_or-take, length-set}
+use Rattle.std.proofs.Common.{◌≡◌, ℕ, ◌+◌, ◌<◌, ◌≤◌, Bool, true, false, cond, eqb, List, [], ◌∷◌, length, map, get_or, refl, sym, ap, ◌∙◌, subst, arith, ⊎_elim}
 use Rattle.std.proofs.lemmas.Bool.Decides.{eqb_tells}
 use Rattle.heap.specs.Heap.{Block, block_end, end_from, LieFrom}
-use Rattle.heap.specs.Cells.{words_from, block_in}
-use Rattle.heap.proofs.WordLaws.{length-words_from, same_block, words_from-set}
-use Rattle.heap.proofs.Layouts.{begins_within, from_below_end}
+use Rattle.heap.specs.Cells.{block_in}
+use Rattle.heap.proofs.WordLaws.{length-words_from, same_block}
+use Rattle.heap.proofs.Layouts.{from_below_end}
 
 -- a block, changed where it is the one at an address
 abbrev pub changed : ℕ → (Block → Block) → Block → Block
@@ -15,35 +13,35 @@ changed a change b = cond (eqb b.address a) (change b) b
 pub changed_here : (a : ℕ) (change : Block → Block) (b : Block) → b.address ≡ a → changed a change b ≡ change b
 changed_here a change b e =
     ⊎_elim
-      (λ (h : (eqb b.address a ≡ true) × (b.address ≡ a)). ap (λ (t : Bool). cond t (change b) b) h.0)
-      (λ (h : (eqb b.address a ≡ false) × (b.address ≡ a → ⊥)). absurd (h.1 e))
-      (eqb_tells b.address a)
+    (λ (h : (eqb b.address a ≡ true) × (b.address ≡ a)). ap (λ (t : Bool). cond t (change b) b) h.0)
+    (λ (h : (eqb b.address a ≡ false) × (b.address ≡ a → ⊥)). absurd (h.1 e))
+    (eqb_tells b.address a)
 
 pub changed_elsewhere : (a : ℕ) (change : Block → Block) (b : Block) → (b.address ≡ a → ⊥) → changed a change b ≡ b
 changed_elsewhere a change b ne =
     ⊎_elim
-      (λ (h : (eqb b.address a ≡ true) × (b.address ≡ a)). absurd (ne h.1))
-      (λ (h : (eqb b.address a ≡ false) × (b.address ≡ a → ⊥)). ap (λ (t : Bool). cond t (change b) b) h.0)
-      (eqb_tells b.address a)
+    (λ (h : (eqb b.address a ≡ true) × (b.address ≡ a)). absurd (ne h.1))
+    (λ (h : (eqb b.address a ≡ false) × (b.address ≡ a → ⊥)). ap (λ (t : Bool). cond t (change b) b) h.0)
+    (eqb_tells b.address a)
 
 -- a change that leaves address and length
 pub record LeavesPlace (change : Block → Block) : Type 0 where
   pub address : (b : Block) → (change b).address ≡ b.address
   pub count : (b : Block) → length (change b).values ≡ length b.values
 
-changed_place : (a : ℕ) (change : Block → Block) → LeavesPlace change → (b : Block) → ((changed a change b).address ≡ b.address) × (block_end (changed a change b) ≡ block_end b)
+pub changed_place : (a : ℕ) (change : Block → Block) → LeavesPlace change → (b : Block) → ((changed a change b).address ≡ b.address) × (block_end (changed a change b) ≡ block_end b)
 changed_place a change leaves b =
     ⊎_elim
-      (λ (h : (eqb b.address a ≡ true) × (b.address ≡ a)).
-        let e = changed_here a change b h.1 in
-        let address : (change b).address ≡ b.address = leaves.address b in
-        let count : length (change b).values ≡ length b.values = leaves.count b in
-        let end : block_end (change b) ≡ block_end b = omega arith in
-        (ap (λ (x : Block). x.address) e ∙ address, ap block_end e ∙ end))
-      (λ (h : (eqb b.address a ≡ false) × (b.address ≡ a → ⊥)).
-        let e = changed_elsewhere a change b h.1 in
-        (ap (λ (x : Block). x.address) e, ap block_end e))
-      (eqb_tells b.address a)
+    (λ (h : (eqb b.address a ≡ true) × (b.address ≡ a)).
+    let e = changed_here a change b h.1 in
+    let address : (change b).address ≡ b.address = leaves.address b in
+    let count : length (change b).values ≡ length b.values = leaves.count b in
+    let end : block_end (change b) ≡ block_end b = omega arith in
+    (ap (λ (x : Block). x.address) e ∙ address, ap block_end e ∙ end))
+    (λ (h : (eqb b.address a ≡ false) × (b.address ≡ a → ⊥)).
+    let e = changed_elsewhere a change b h.1 in
+    (ap (λ (x : Block). x.address) e, ap block_end e))
+    (eqb_tells b.address a)
 
 -- blocks stay where they are
 pub LieFrom-changed : (a : ℕ) (change : Block → Block) → LeavesPlace change → (from : ℕ) (bs : List Block) (cells : ℕ) → LieFrom from bs cells → LieFrom from (map (changed a change) bs) cells

@@ -1,10 +1,10 @@
 -- The block at an address.
-use Rattle.std.proofs.Common.{◌≡◌, ℕ, zero, suc, ◌+◌, ◌<◌, ◌≤◌, Bool, true, false, cond, eqb, List, [], ◌∷◌, length, map, get_or, set, Option, Some, None, refl, sym, ap, ◌∙◌, subst, arith, ⊎_elim}
+use Rattle.std.proofs.Common.{◌≡◌, ℕ, zero, suc, ◌+◌, ◌<◌, ◌≤◌, Bool, true, false, cond, eqb, List, [], ◌∷◌, length, map, get_or, Option, Some, None, refl, sym, ap, ◌∙◌, subst, arith, ⊎_elim}
 use Rattle.std.specs.Prelude.{find, slice_get, IsSome}
 use Rattle.std.specs.Option.{option_map, option_map_or}
 use Rattle.std.proofs.lemmas.List.{length-map}
 use Rattle.std.proofs.lemmas.Bool.Decides.{eqb_tells}
-use Rattle.heap.specs.Heap.{Block, Space, block_end, end_from, LieFrom, IsLaidOut, IsAddress, block_at, class_at, name_at, values_at, pins_at, addresses}
+use Rattle.heap.specs.Heap.{Block, Space, block_end, LieFrom, IsLaidOut, IsAddress, block_at, class_at, name_at, values_at, pins_at, addresses}
 use Rattle.heap.specs.Cells.{words_from, block_in, space_in}
 use Rattle.heap.proofs.WordLaws.{length-words_from}
 use Rattle.heap.proofs.Layouts.{begins_within}
@@ -15,7 +15,6 @@ pub record Found (cs ps : List ℕ) (from cells a : ℕ) (block : Option Block) 
   pub fits : a + 3 + get_or cs (a + 2) 0 ≤ cells
   pub above : from ≤ a
 
-
 pub found : (cs ps : List ℕ) (from a : ℕ) (starts : List ℕ) (cells : ℕ) → LieFrom from (map (block_in cs ps) starts) cells → IsSome (find (λ (b : Block). eqb b.address a) (map (block_in cs ps) starts)) → Found cs ps from cells a (find (λ (b : Block). eqb b.address a) (map (block_in cs ps) starts))
 found cs ps from a [] cells h some = absurd (cc)
 found cs ps from a (s ∷ starts) cells h some =
@@ -23,18 +22,18 @@ found cs ps from a (s ∷ starts) cells h some =
     let count = length-words_from cs (s + 3) (get_or cs (s + 2) 0) in
     let fits = begins_within (block_end (block_in cs ps s)) (map (block_in cs ps) starts) cells h.1 in
     ⊎_elim
-      (λ (t : (eqb s a ≡ true) × (s ≡ a)).
-        record {
-          at = ap (λ (c : Bool). cond c (Some (block_in cs ps s)) (find (λ (b : Block). eqb b.address a) (map (block_in cs ps) starts))) t.0 ∙ ap (λ n. Some (block_in cs ps n)) t.1;
-          fits = subst (λ n. n + 3 + get_or cs (n + 2) 0 ≤ cells) t.1 (omega arith);
-          above = subst (λ n. from ≤ n) t.1 first;
-        })
-      (λ (t : (eqb s a ≡ false) × (s ≡ a → ⊥)).
-        let skip : find (λ (b : Block). eqb b.address a) (map (block_in cs ps) (s ∷ starts)) ≡ find (λ (b : Block). eqb b.address a) (map (block_in cs ps) starts) = ap (λ (c : Bool). cond c (Some (block_in cs ps s)) (find (λ (b : Block). eqb b.address a) (map (block_in cs ps) starts))) t.0 in
-        let later = found cs ps (block_end (block_in cs ps s)) a starts cells h.1 (subst (λ (o : Option Block). IsSome o) skip some) in
-        let above : block_end (block_in cs ps s) ≤ a = later.above in
-        record { at = skip ∙ later.at; fits = later.fits; above = omega arith })
-      (eqb_tells s a)
+    (λ (t : (eqb s a ≡ true) × (s ≡ a)).
+    record {
+      at = ap (λ (c : Bool). cond c (Some (block_in cs ps s)) (find (λ (b : Block). eqb b.address a) (map (block_in cs ps) starts))) t.0 ∙ ap (λ n. Some (block_in cs ps n)) t.1;
+      fits = subst (λ n. n + 3 + get_or cs (n + 2) 0 ≤ cells) t.1 (omega arith);
+      above = subst (λ n. from ≤ n) t.1 first;
+    })
+    (λ (t : (eqb s a ≡ false) × (s ≡ a → ⊥)).
+    let skip : find (λ (b : Block). eqb b.address a) (map (block_in cs ps) (s ∷ starts)) ≡ find (λ (b : Block). eqb b.address a) (map (block_in cs ps) starts) = ap (λ (c : Bool). cond c (Some (block_in cs ps s)) (find (λ (b : Block). eqb b.address a) (map (block_in cs ps) starts))) t.0 in
+    let later = found cs ps (block_end (block_in cs ps s)) a starts cells h.1 (subst (λ (o : Option Block). IsSome o) skip some) in
+    let above : block_end (block_in cs ps s) ≤ a = later.above in
+    record { at = skip ∙ later.at; fits = later.fits; above = omega arith })
+    (eqb_tells s a)
 
 -- what is known of the heap at a block's address
 pub record Stored (cs ps : List ℕ) (s : Space) (a : ℕ) : Type 0 where
@@ -84,3 +83,34 @@ pub address_at : (cs ps starts : List ℕ) (s : Space) (i : ℕ) → space_in cs
 address_at cs ps starts s i e h =
     let within : i < length starts = subst (λ n. i < n) (length-map starts (block_in cs ps)) (subst (λ (t : Space). i < length t.blocks) (sym e) h) in
     (within, subst (λ (t : Space). slice_get (addresses t) i ≡ Some (get_or starts i 0)) e (slice_get-map cs ps starts i within))
+
+address_above : (from : ℕ) (bs : List Block) (cells i a : ℕ) → LieFrom from bs cells → slice_get (map (λ (b : Block). b.address) bs) i ≡ Some a → from ≤ a
+address_above from [] cells i a h e = absurd (cc)
+address_above from (b ∷ bs) cells zero a h e =
+    let first : from ≤ b.address = h.0 in
+    let same : b.address ≡ a = cc in
+    omega arith
+address_above from (b ∷ bs) cells (suc i) a h e =
+    let first : from ≤ b.address = h.0 in
+    let later : block_end b ≤ a = address_above (block_end b) bs cells i a h.1 e in
+    omega arith
+
+-- at the address of a place stands the block of that place, since no two have one address
+pub found_at_place : (from : ℕ) (bs : List Block) (cells i a : ℕ) → LieFrom from bs cells → slice_get (map (λ (b : Block). b.address) bs) i ≡ Some a → find (λ (b : Block). eqb b.address a) bs ≡ slice_get bs i
+found_at_place from [] cells i a h e = absurd (cc)
+found_at_place from (b ∷ bs) cells zero a h e =
+    let same : b.address ≡ a = cc in
+    ⊎_elim
+    (λ (t : (eqb b.address a ≡ true) × (b.address ≡ a)). ap (λ (c : Bool). cond c (Some b) (find (λ (x : Block). eqb x.address a) bs)) t.0)
+    (λ (t : (eqb b.address a ≡ false) × (b.address ≡ a → ⊥)). absurd (t.1 same))
+    (eqb_tells b.address a)
+found_at_place from (b ∷ bs) cells (suc i) a h e =
+    let above : block_end b ≤ a = address_above (block_end b) bs cells i a h.1 e in
+    let later = found_at_place (block_end b) bs cells i a h.1 e in
+    ⊎_elim
+    (λ (t : (eqb b.address a ≡ true) × (b.address ≡ a)). let same : b.address ≡ a = t.1 in absurd (omega arith))
+    (λ (t : (eqb b.address a ≡ false) × (b.address ≡ a → ⊥)). ap (λ (c : Bool). cond c (Some b) (find (λ (x : Block). eqb x.address a) bs)) t.0 ∙ later)
+    (eqb_tells b.address a)
+
+pub block_at-place : (s : Space) (i a : ℕ) → IsLaidOut s → slice_get (addresses s) i ≡ Some a → block_at s a ≡ slice_get s.blocks i
+block_at-place s i a h e = found_at_place 0 s.blocks s.cells i a h e

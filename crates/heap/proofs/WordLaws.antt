@@ -1,9 +1,8 @@
 -- The words from a cell on.
-use Rattle.std.proofs.Common.{◌≡◌, ℕ, zero, suc, ◌+◌, ◌<◌, ◌≤◌, List, [], ◌∷◌, length, get_or, replicate, set, take, Some, refl, sym, ap, ◌∙◌, subst, arith, inl, inr, ⊎_elim}
-use Rattle.std.proofs.lemmas.List.{get_or-set_same, get_or-set_other, length-set, ext_get_or, get_or-take, get_or-replicate, length-replicate}
+use Rattle.std.proofs.Common.{◌≡◌, ℕ, zero, suc, ◌+◌, ◌<◌, ◌≤◌, List, length, get_or, replicate, set, Some, refl, sym, ap, ◌∙◌, subst, arith, ⊎_elim}
+use Rattle.std.proofs.lemmas.List.{get_or-set_same, get_or-set_other, length-set, ext_get_or}
 use Rattle.std.proofs.lemmas.Bool.{cases_eq}
 use Rattle.std.specs.Prelude.{slice_get}
-use Rattle.heap.specs.Heap.{Block}
 use Rattle.heap.specs.Cells.{words_from, block_in}
 
 pub length-words_from : (cells : List ℕ) (from n : ℕ) → length (words_from cells from n) ≡ n
@@ -39,19 +38,19 @@ words_from-set cs from n k w h room =
     let count = length-words_from (set cs (from + k) w) from n in
     let old_count = length-words_from cs from n in
     ext_get_or 0 (words_from (set cs (from + k) w) from n) (set (words_from cs from n) k w) lengths (λ i l.
-      let inside : i < n = omega arith in
-      let read = get_or-words_from (set cs (from + k) w) from n i inside in
-      ⊎_elim
-        (λ (e : i ≡ k).
-          let here : get_or (set cs (from + k) w) (from + k) 0 ≡ w = get_or-set_same cs (from + k) w 0 (omega arith) in
-          let there : get_or (set (words_from cs from n) k w) k 0 ≡ w = get_or-set_same (words_from cs from n) k w 0 (omega arith) in
-          cc)
-        (λ (ne : i ≡ k → ⊥).
-          let here : get_or (set cs (from + k) w) (from + i) 0 ≡ get_or cs (from + i) 0 = get_or-set_other cs (from + k) (from + i) w 0 (λ e. ne (omega arith)) in
-          let there : get_or (set (words_from cs from n) k w) i 0 ≡ get_or (words_from cs from n) i 0 = get_or-set_other (words_from cs from n) k i w 0 ne in
-          let before = get_or-words_from cs from n i inside in
-          cc)
-        (cases_eq i k))
+    let inside : i < n = omega arith in
+    let read = get_or-words_from (set cs (from + k) w) from n i inside in
+    ⊎_elim
+    (λ (e : i ≡ k).
+    let here : get_or (set cs (from + k) w) (from + k) 0 ≡ w = get_or-set_same cs (from + k) w 0 (omega arith) in
+    let there : get_or (set (words_from cs from n) k w) k 0 ≡ w = get_or-set_same (words_from cs from n) k w 0 (omega arith) in
+    cc)
+    (λ (ne : i ≡ k → ⊥).
+    let here : get_or (set cs (from + k) w) (from + i) 0 ≡ get_or cs (from + i) 0 = get_or-set_other cs (from + k) (from + i) w 0 (λ e. ne (omega arith)) in
+    let there : get_or (set (words_from cs from n) k w) i 0 ≡ get_or (words_from cs from n) i 0 = get_or-set_other (words_from cs from n) k i w 0 ne in
+    let before = get_or-words_from cs from n i inside in
+    cc)
+    (cases_eq i k))
 
 -- words that are all 0
 pub words_from-zero : (cs : List ℕ) (from n : ℕ) → ((k : ℕ) → k < n → get_or cs (from + k) 0 ≡ 0) → words_from cs from n ≡ replicate n 0

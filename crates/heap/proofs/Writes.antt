@@ -1,14 +1,15 @@
 -- What a write at a block's address does to the blocks.
-use Rattle.std.proofs.Common.{◌≡◌, ℕ, zero, suc, ◌+◌, ◌/◌, ◌<◌, ◌≤◌, Bool, true, false, cond, eqb, List, [], ◌∷◌, ◌++◌, length, map, get_or, set, take, replicate, Option, Some, None, refl, sym, ap, ◌∙◌, subst, arith, ⊎_elim}
+use Rattle.std.proofs.Common.{◌≡◌, ℕ, ◌+◌, ◌/◌, ◌<◌, ◌≤◌, Bool, true, false, cond, eqb, List, [], ◌∷◌, ◌++◌, length, map, get_or, set, take, replicate, Option, Some, refl, sym, ap, ◌∙◌, subst, arith, ⊎_elim}
 use Rattle.std.specs.Prelude.{find, IsSome}
 use Rattle.std.proofs.lemmas.List.{get_or-set_same, get_or-set_other, get_or-take, length-set, length-map, length-replicate, map-append}
 use Rattle.std.proofs.lemmas.Bool.Decides.{eqb_tells}
-use Rattle.heap.specs.Heap.{Block, Space, block_end, end_from, LieFrom, IsLaidOut, IsAddress, values_at, fresh_block, with_block, with_value, with_pins}
+use Rattle.heap.specs.declared.heap.TheConstants.{MOST_CELLS}
+use Rattle.heap.specs.Heap.{Block, Space, block_end, end_from, LieFrom, IsAddress, values_at, fresh_block, with_block, with_value, with_pins}
 use Rattle.heap.specs.Cells.{words_from, block_in, space_in, IsStored}
 use Rattle.heap.proofs.WordLaws.{length-words_from, same_block, words_from-set}
 use Rattle.heap.proofs.Layouts.{begins_within, from_below_end, end_from-push, LieFrom-push}
 use Rattle.heap.proofs.Changes.{changed, changed_here, changed_elsewhere, changed_above, same_above, same_below, LeavesPlace, LieFrom-changed, end_from-changed}
-use Rattle.heap.proofs.Lookups.{found, Stored, stored, IsAddress-from_value}
+use Rattle.heap.proofs.Lookups.{found, stored, IsAddress-from_value}
 
 -- ---- a value
 
@@ -32,24 +33,24 @@ blocks-set cs ps from a place w (s ∷ starts) cells h some inside room =
     let count = length-words_from cs (s + 3) (get_or cs (s + 2) 0) in
     let fits = begins_within (block_end (block_in cs ps s)) (map (block_in cs ps) starts) cells h.1 in
     ⊎_elim
-      (λ (t : (eqb s a ≡ true) × (s ≡ a)).
-        let inside' : place < get_or cs (s + 2) 0 = subst (λ n. place < get_or cs (n + 2) 0) (sym t.1) inside in
-        let here : block_in (set cs (s + 3 + place) w) ps s ≡ value_changed place w (block_in cs ps s) = block_in-set cs ps s place w inside' (omega arith) in
-        let here' : block_in (set cs (a + 3 + place) w) ps s ≡ value_changed place w (block_in cs ps s) = subst (λ n. block_in (set cs (n + 3 + place) w) ps s ≡ value_changed place w (block_in cs ps s)) t.1 here in
-        let now = changed_here a (value_changed place w) (block_in cs ps s) t.1 in
-        let rest = same_above cs (set cs (a + 3 + place) w) ps (block_end (block_in cs ps s)) starts cells h.1 (λ i l. sym (get_or-set_other cs (a + 3 + place) i w 0 (λ e. omega arith))) in
-        let kept = changed_above a (value_changed place w) (block_end (block_in cs ps s)) (map (block_in cs ps) starts) cells h.1 (omega arith) in
-        cc)
-      (λ (t : (eqb s a ≡ false) × (s ≡ a → ⊥)).
-        let skip : find (λ (b : Block). eqb b.address a) (map (block_in cs ps) (s ∷ starts)) ≡ find (λ (b : Block). eqb b.address a) (map (block_in cs ps) starts) = ap (λ (c : Bool). cond c (Some (block_in cs ps s)) (find (λ (b : Block). eqb b.address a) (map (block_in cs ps) starts))) t.0 in
-        let some' : IsSome (find (λ (b : Block). eqb b.address a) (map (block_in cs ps) starts)) = subst (λ (o : Option Block). IsSome o) skip some in
-        let later = found cs ps (block_end (block_in cs ps s)) a starts cells h.1 some' in
-        let above : block_end (block_in cs ps s) ≤ a = later.above in
-        let here = same_block cs (set cs (a + 3 + place) w) ps ps s (λ i l u. sym (get_or-set_other cs (a + 3 + place) i w 0 (λ e. omega arith))) refl in
-        let now = changed_elsewhere a (value_changed place w) (block_in cs ps s) t.1 in
-        let rest = blocks-set cs ps (block_end (block_in cs ps s)) a place w starts cells h.1 some' inside room in
-        cc)
-      (eqb_tells s a)
+    (λ (t : (eqb s a ≡ true) × (s ≡ a)).
+    let inside' : place < get_or cs (s + 2) 0 = subst (λ n. place < get_or cs (n + 2) 0) (sym t.1) inside in
+    let here : block_in (set cs (s + 3 + place) w) ps s ≡ value_changed place w (block_in cs ps s) = block_in-set cs ps s place w inside' (omega arith) in
+    let here' : block_in (set cs (a + 3 + place) w) ps s ≡ value_changed place w (block_in cs ps s) = subst (λ n. block_in (set cs (n + 3 + place) w) ps s ≡ value_changed place w (block_in cs ps s)) t.1 here in
+    let now = changed_here a (value_changed place w) (block_in cs ps s) t.1 in
+    let rest = same_above cs (set cs (a + 3 + place) w) ps (block_end (block_in cs ps s)) starts cells h.1 (λ i l. sym (get_or-set_other cs (a + 3 + place) i w 0 (λ e. omega arith))) in
+    let kept = changed_above a (value_changed place w) (block_end (block_in cs ps s)) (map (block_in cs ps) starts) cells h.1 (omega arith) in
+    cc)
+    (λ (t : (eqb s a ≡ false) × (s ≡ a → ⊥)).
+    let skip : find (λ (b : Block). eqb b.address a) (map (block_in cs ps) (s ∷ starts)) ≡ find (λ (b : Block). eqb b.address a) (map (block_in cs ps) starts) = ap (λ (c : Bool). cond c (Some (block_in cs ps s)) (find (λ (b : Block). eqb b.address a) (map (block_in cs ps) starts))) t.0 in
+    let some' : IsSome (find (λ (b : Block). eqb b.address a) (map (block_in cs ps) starts)) = subst (λ (o : Option Block). IsSome o) skip some in
+    let later = found cs ps (block_end (block_in cs ps s)) a starts cells h.1 some' in
+    let above : block_end (block_in cs ps s) ≤ a = later.above in
+    let here = same_block cs (set cs (a + 3 + place) w) ps ps s (λ i l u. sym (get_or-set_other cs (a + 3 + place) i w 0 (λ e. omega arith))) refl in
+    let now = changed_elsewhere a (value_changed place w) (block_in cs ps s) t.1 in
+    let rest = blocks-set cs ps (block_end (block_in cs ps s)) a place w starts cells h.1 some' inside room in
+    cc)
+    (eqb_tells s a)
 
 -- ---- pins
 
@@ -64,16 +65,16 @@ blocks-pins cs ps a n [] room = refl
 blocks-pins cs ps a n (s ∷ starts) room =
     let rest = blocks-pins cs ps a n starts room in
     ⊎_elim
-      (λ (t : (eqb s a ≡ true) × (s ≡ a)).
-        let here : get_or (set ps s n) s 0 ≡ n = get_or-set_same ps s n 0 (omega arith) in
-        let here' : get_or (set ps a n) s 0 ≡ n = subst (λ m. get_or (set ps m n) s 0 ≡ n) t.1 here in
-        let now = changed_here a (pins_changed n) (block_in cs ps s) t.1 in
-        cc)
-      (λ (t : (eqb s a ≡ false) × (s ≡ a → ⊥)).
-        let here : get_or (set ps a n) s 0 ≡ get_or ps s 0 = get_or-set_other ps a s n 0 t.1 in
-        let now = changed_elsewhere a (pins_changed n) (block_in cs ps s) t.1 in
-        cc)
-      (eqb_tells s a)
+    (λ (t : (eqb s a ≡ true) × (s ≡ a)).
+    let here : get_or (set ps s n) s 0 ≡ n = get_or-set_same ps s n 0 (omega arith) in
+    let here' : get_or (set ps a n) s 0 ≡ n = subst (λ m. get_or (set ps m n) s 0 ≡ n) t.1 here in
+    let now = changed_here a (pins_changed n) (block_in cs ps s) t.1 in
+    cc)
+    (λ (t : (eqb s a ≡ false) × (s ≡ a → ⊥)).
+    let here : get_or (set ps a n) s 0 ≡ get_or ps s 0 = get_or-set_other ps a s n 0 t.1 in
+    let now = changed_elsewhere a (pins_changed n) (block_in cs ps s) t.1 in
+    cc)
+    (eqb_tells s a)
 
 -- ---- the heap after a write
 
@@ -84,7 +85,7 @@ kept cs ps ds qs starts end capacity a change leaves h same lengths pins =
       laid_out = subst (λ (bs : List Block). LieFrom 0 bs (length ds)) (sym same) (subst (λ n. LieFrom 0 (map (changed a change) (map (block_in cs ps) starts)) n) (sym lengths) (LieFrom-changed a change leaves 0 (map (block_in cs ps) starts) (length cs) h.laid_out));
       behind = h.behind ∙ sym (ap (end_from 0) same ∙ end_from-changed a change leaves 0 (map (block_in cs ps) starts));
       counted = pins ∙ h.counted ∙ sym lengths;
-      limit = subst (λ n. n ≤ 1048576) (sym lengths) h.limit;
+      limit = subst (λ n. n ≤ MOST_CELLS) (sym lengths) h.limit;
       room = subst (λ n. n / 3 ≤ capacity) (sym lengths) h.room;
     }
 
@@ -158,15 +159,15 @@ block_written cs ps starts end capacity capacity' s class birth len ds h e fits 
     let counted : length ps ≡ length cs = h.counted in
     let block = fresh_is ds (set ps end 0) end class birth len fresh (get_or-set_same ps end 0 0 (omega arith)) in
     let old : map (block_in ds (set ps end 0)) starts ≡ map (block_in cs ps) starts = same_below cs ds ps (set ps end 0) 0 starts (length cs) end h.laid_out (omega arith)
-      (λ i l. sym (get_or-take end cs i 0 l) ∙ ap (λ xs. get_or xs i 0) (sym below) ∙ get_or-take end ds i 0 l)
-      (λ i l. sym (get_or-set_other ps end i 0 0 (λ e. omega arith))) in
+    (λ i l. sym (get_or-take end cs i 0 l) ∙ ap (λ xs. get_or xs i 0) (sym below) ∙ get_or-take end ds i 0 l)
+    (λ i l. sym (get_or-set_other ps end i 0 0 (λ e. omega arith))) in
     let all : map (block_in ds (set ps end 0)) (starts ++ end ∷ []) ≡ map (block_in cs ps) starts ++ fresh_block end class birth len ∷ [] = map-append (block_in ds (set ps end 0)) starts (end ∷ []) ∙ cc in
     let zeros : length (fresh_block end class birth len).values ≡ len = length-replicate {A = ℕ} len 0 in
     let lies = LieFrom-push 0 (map (block_in cs ps) starts) (fresh_block end class birth len) (length cs) h.laid_out (omega arith) (omega arith) in
     let ends : end_from 0 (map (block_in cs ps) starts ++ fresh_block end class birth len ∷ []) ≡ block_end (fresh_block end class birth len) = end_from-push 0 (map (block_in cs ps) starts) (fresh_block end class birth len) in
     let ends' : end_from 0 (map (block_in ds (set ps end 0)) (starts ++ end ∷ [])) ≡ block_end (fresh_block end class birth len) = ap (end_from 0) all ∙ ends in
     let room : length cs / 3 ≤ capacity = h.room in
-    let limit : length cs ≤ 1048576 = h.limit in
+    let limit : length cs ≤ MOST_CELLS = h.limit in
     let now : space_in ds (set ps end 0) (starts ++ end ∷ []) ≡ with_block (space_in cs ps starts) (fresh_block end class birth len) = same_space (space_in ds (set ps end 0) (starts ++ end ∷ [])) (with_block (space_in cs ps starts) (fresh_block end class birth len)) lengths all in
     record {
       stored = record {

@@ -1,5 +1,6 @@
 -- How cells hold blocks: the class, the birth number and the length, and then the values.
 use Rattle.std.specs.Prelude.{◌≡◌, ℕ, zero, suc, ◌+◌, ◌/◌, ◌≤◌, List, [], ◌∷◌, length, map, slice_index}
+use Rattle.heap.specs.declared.heap.TheConstants.{MOST_CELLS}
 use Rattle.heap.specs.Heap.{Block, Space, end_of, IsLaidOut}
 
 -- so many words from a cell on
@@ -10,12 +11,12 @@ words_from cells from (suc n) = slice_index cells from ∷ words_from cells (fro
 -- the block that begins in a cell
 abbrev pub block_in : List ℕ → List ℕ → ℕ → Block
 block_in cells pins a = record {
-    address = a;
-    class = slice_index cells a;
-    birth = slice_index cells (a + 1);
-    values = words_from cells (a + 3) (slice_index cells (a + 2));
-    pins = slice_index pins a;
-  }
+  address = a;
+  class = slice_index cells a;
+  birth = slice_index cells (a + 1);
+  values = words_from cells (a + 3) (slice_index cells (a + 2));
+  pins = slice_index pins a;
+}
 
 -- the blocks that begin in these cells
 abbrev pub space_in : List ℕ → List ℕ → List ℕ → Space
@@ -26,5 +27,5 @@ pub record IsStored (cells pins starts : List ℕ) (end capacity : ℕ) : Type 0
   pub laid_out : IsLaidOut (space_in cells pins starts)
   pub behind : end ≡ end_of (space_in cells pins starts)
   pub counted : length pins ≡ length cells
-  pub limit : length cells ≤ 1048576
+  pub limit : length cells ≤ MOST_CELLS
   pub room : length cells / 3 ≤ capacity

@@ -1,5 +1,5 @@
 -- The heap: blocks at addresses in a fixed number of cells.
-use Rattle.std.specs.Prelude.{◌≡◌, ◌≢◌, ℕ, ◌+◌, ◌-◌, ◌≤◌, ◌==◌, List, [], ◌∷◌, ◌++◌, length, map, find, replicate, slice_set, Option, Some, None, IsSome, AllPairs, if◌then◌else◌}
+use Rattle.std.specs.Prelude.{◌≢◌, ℕ, ◌+◌, ◌-◌, ◌≤◌, ◌==◌, List, [], ◌∷◌, ◌++◌, length, map, find, replicate, slice_set, Option, IsSome, AllPairs, if◌then◌else◌}
 use Rattle.std.specs.Option.{option_map, option_map_or}
 
 -- a block: where it begins, its class, its birth number, its values as words, and how often it is pinned
@@ -25,11 +25,12 @@ block_size b = 3 + length b.values
 abbrev pub block_end : Block → ℕ
 block_end b = b.address + block_size b
 
--- the first cell behind the highest block
+-- the first cell behind the last of the blocks, and `from` where there is none
 abbrev pub end_from : ℕ → List Block → ℕ
 end_from from [] = from
 end_from from (b ∷ rest) = end_from (block_end b) rest
 
+-- the first cell behind the highest block
 abbrev pub end_of : Space → ℕ
 end_of s = end_from 0 s.blocks
 
@@ -48,7 +49,7 @@ IsLaidOut s = LieFrom 0 s.blocks s.cells
 
 -- ---- what is at an address
 
--- the block at an address
+-- the block at an address; none where no block begins
 abbrev pub block_at : Space → ℕ → Option Block
 block_at s a = find (λ (b : Block). b.address == a) s.blocks
 
@@ -68,7 +69,7 @@ name_at s a = option_map (λ (b : Block). b.birth) (block_at s a)
 abbrev pub values_at : Space → ℕ → List ℕ
 values_at s a = option_map_or (λ (b : Block). b.values) (block_at s a) []
 
--- its pins; none where no block begins
+-- how often it is pinned; 0 where no block begins
 abbrev pub pins_at : Space → ℕ → ℕ
 pins_at s a = option_map_or (λ (b : Block). b.pins) (block_at s a) 0
 
@@ -94,10 +95,10 @@ with_block s b = record s { blocks = s.blocks ++ b ∷ [] }
 abbrev pub with_changed : Space → ℕ → (Block → Block) → Space
 with_changed s a change = record s { blocks = map (λ (b : Block). if b.address == a then change b else b) s.blocks }
 
--- the heap with a value changed
+-- the heap with another word at a place of the block at an address
 abbrev pub with_value : Space → ℕ → ℕ → ℕ → Space
 with_value s a place word = with_changed s a (λ b. record b { values = slice_set b.values place word })
 
--- the heap with a block pinned so often
+-- the heap with the block at an address pinned so often
 abbrev pub with_pins : Space → ℕ → ℕ → Space
 with_pins s a count = with_changed s a (λ b. record b { pins = count })

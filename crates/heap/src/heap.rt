@@ -1,7 +1,7 @@
 //! The heap.
 
 ghost use Rattle.std.specs.Prelude.{◌≡◌, ℕ, ◌+◌, ◌-◌, ◌<◌, ◌≤◌, [], Some, length, take, replicate, slice_get, slice_index, IfOk, OnOk, OnErr};
-ghost use Rattle.heap.specs.Heap.{IsAddress, IsLaidOut, class_at, name_at, values_at, pins_at, addresses, left_of, end_of, fresh_block, with_block, with_value, with_pins};
+ghost use Rattle.heap.specs.Heap.{IsAddress, IsLaidOut, block_at, class_at, name_at, values_at, pins_at, addresses, left_of, end_of, fresh_block, with_block, with_value, with_pins};
 ghost use Rattle.heap.specs.Cells.{words_from};
 
 use crate::addr::Addr;
@@ -77,7 +77,7 @@ impl Heap {
     pub fn left(&self) -> usize
         ensures { result ≡ left_of self.now }
     {
-        self.cells.len() - self.end
+        self.cells() - self.end
     }
 
     /// The number of blocks.
@@ -91,7 +91,8 @@ impl Heap {
     /// The address of a block, by its place in the order of addresses, counted from 0.
     pub fn address(&self, place: usize) -> Addr
         requires { place < length self.now.blocks }
-        ensures { slice_get (addresses self.now) place ≡ Some result }
+        ensures address { slice_get (addresses self.now) place ≡ Some result }
+        ensures block { block_at self.now result ≡ slice_get self.now.blocks place }
     {
         Addr::new(self.starts[place])
     }
@@ -106,7 +107,7 @@ impl Heap {
         ensures no_room { OnErr result (left_of self.old < 3 + len) }
         ensures err { OnErr result (self.new ≡ self.old) }
     {
-        let left = self.cells.len() - self.end;
+        let left = self.left();
         if left < HEADER || left - HEADER < len {
             return Err(NoRoom);
         }
@@ -155,7 +156,8 @@ impl Heap {
         requires { place < length (values_at self.old addr) }
         ensures { self.new ≡ with_value self.old addr place word }
     {
-        self.cells[addr.cell() as usize + HEADER + place] = word;
+        let index = addr.cell() as usize;
+        self.cells[index + HEADER + place] = word;
     }
 
     /// The number of a block's pins.
@@ -172,7 +174,8 @@ impl Heap {
         requires limit { pins_at self.old addr < MOST_PINS }
         ensures { self.new ≡ with_pins self.old addr (pins_at self.old addr + 1) }
     {
-        self.pins[addr.cell() as usize] += 1;
+        let index = addr.cell() as usize;
+        self.pins[index] += 1;
     }
 
     /// Takes a pin from a block.
@@ -180,7 +183,8 @@ impl Heap {
         requires { 0 < pins_at self.old addr }
         ensures { self.new ≡ with_pins self.old addr (pins_at self.old addr - 1) }
     {
-        self.pins[addr.cell() as usize] -= 1;
+        let index = addr.cell() as usize;
+        self.pins[index] -= 1;
     }
 }
 

@@ -1,11 +1,11 @@
 //! The heap of the running machine: blocks at addresses in a fixed number of cells.
-
 #![tactic(auto)]
 
-pub mod addr;
-pub mod heap;
-#[cfg(test)]
-mod tests;
+mod addr;
+mod heap;
 
 pub use addr::Addr;
 pub use heap::{Heap, MOST_CELLS, MOST_PINS, NoRoom};
+
+#[cfg(test)]
+mod tests;

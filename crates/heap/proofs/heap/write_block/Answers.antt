@@ -1,4 +1,4 @@
-use Rattle.std.proofs.Common.{◌≡◌, ◌<◌, ◌≤◌, ◌+◌, ℕ, List, get_or, set, take, length, refl, sym, ap, ◌∙◌, subst, arith, inl, inr, ⊎_elim}
+use Rattle.std.proofs.Common.{◌≡◌, ◌+◌, ℕ, List, get_or, set, length, sym, ◌∙◌, subst, arith, ⊎_elim}
 use Rattle.std.proofs.lemmas.List.{get_or-set_same, get_or-set_other, length-set, take-set-le}
 use Rattle.std.proofs.lemmas.Bool.{cases_eq}
 use Rattle.heap.proofs.WordLaws.{words_from-zero}
@@ -32,9 +32,9 @@ loop-place-preserved c =
       birth = get_or-set_other c.loop-place.cells at (c.args.address + 1) 0 0 (λ e. omega arith) ∙ before.birth;
       length = get_or-set_other c.loop-place.cells at (c.args.address + 2) 0 0 (λ e. omega arith) ∙ before.length;
       zeros = λ k h. ⊎_elim
-        (λ (e : k ≡ c.loop-place.place). subst (λ n. get_or (set c.loop-place.cells at 0) (c.args.address + 3 + n) 0 ≡ 0) (sym e) (get_or-set_same c.loop-place.cells at 0 0 (omega arith)))
-        (λ (ne : k ≡ c.loop-place.place → ⊥). get_or-set_other c.loop-place.cells at (c.args.address + 3 + k) 0 0 (λ e. ne (omega arith)) ∙ before.zeros k (omega arith))
-        (cases_eq k c.loop-place.place);
+          (λ (e : k ≡ c.loop-place.place). subst (λ n. get_or (set c.loop-place.cells at 0) (c.args.address + 3 + n) 0 ≡ 0) (sym e) (get_or-set_same c.loop-place.cells at 0 0 (omega arith)))
+          (λ (ne : k ≡ c.loop-place.place → ⊥). get_or-set_other c.loop-place.cells at (c.args.address + 3 + k) 0 0 (λ e. ne (omega arith)) ∙ before.zeros k (omega arith))
+          (cases_eq k c.loop-place.place);
     }
 
 pub returns-clause-values : goal.returns-clause-values

@@ -1,4 +1,4 @@
-use Rattle.std.proofs.Common.{◌≡◌, ◌<◌, ◌+◌, Some, sym, ap, ◌∙◌, subst, arith, get_or}
+use Rattle.std.proofs.Common.{◌+◌, arith}
 use Rattle.std.proofs.lemmas.List.{get_or_read}
 use Rattle.heap.proofs.Lookups.{stored}
 use Rattle.heap.proofs.heap.Heap.len_of.Goals as goal
