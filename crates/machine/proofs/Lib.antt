@@ -5,6 +5,7 @@ pub mod Names
 pub mod LoadLemmas
 pub mod ThreadLoads
 pub mod Runs
+pub mod Standings
 pub mod Reports
 pub mod HeapLaws
 pub mod LoadedObjects
