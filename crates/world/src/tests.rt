@@ -174,18 +174,32 @@ fn names_of_classes(rt: HostRuntime) -> Result<(), Fail> {
     Ok(())
 }
 
-fn put_row<W: Write>(sink: &mut StdSink<W>) -> Result<(), SinkFailed> {
-    put_row_head(sink, 46, ClassName::Array(b"A"))?;
-    for value in [
-        Shown::Number(-8),
-        Shown::Null,
-        Shown::Class(ClassName::Plain(b"A")),
-        Shown::Class(ClassName::Array(b"A")),
-        Shown::Object(47),
-    ] {
-        put_value(sink, value)?;
+fn put_head<W: Write>(sink: &mut StdSink<W>) -> Result<(), SinkFailed> {
+    if sink.failures() > 0 {
+        return Err(SinkFailed);
+    }
+    put_row_head(sink, 46, ClassName::Array(b"A"))
+}
+
+fn put_one<W: Write>(sink: &mut StdSink<W>, value: Shown) -> Result<(), SinkFailed> {
+    if sink.failures() > 0 {
+        return Err(SinkFailed);
+    }
+    put_value(sink, value)
+}
+
+fn put_end<W: Write>(sink: &mut StdSink<W>) -> Result<(), SinkFailed> {
+    if sink.failures() > 0 {
+        return Err(SinkFailed);
     }
     put_row_end(sink)
+}
+
+fn flush<W: Write>(sink: &mut StdSink<W>) -> Result<(), SinkFailed> {
+    if sink.failures() > 0 {
+        return Err(SinkFailed);
+    }
+    sink.flush()
 }
 
 #[test]
@@ -196,8 +210,14 @@ fn a_row(rt: HostRuntime) -> Result<(), Fail> {
         step: 7,
         room: 1000,
     });
-    put_row(&mut sink)?;
-    sink.flush()?;
+    put_head(&mut sink)?;
+    put_one(&mut sink, Shown::Number(-8))?;
+    put_one(&mut sink, Shown::Null)?;
+    put_one(&mut sink, Shown::Class(ClassName::Plain(b"A")))?;
+    put_one(&mut sink, Shown::Class(ClassName::Array(b"A")))?;
+    put_one(&mut sink, Shown::Object(47))?;
+    put_end(&mut sink)?;
+    flush(&mut sink)?;
     assert_eq!(rt;
         sink.into_inner().taken.as_slice(),
         b"#46 [LA; -8 null class:A class:[LA; #47\n".as_slice()
