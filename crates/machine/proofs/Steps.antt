@@ -18,6 +18,7 @@ use Rattle.regions.proofs.RunLaws.{replay_more, has_room-more}
 use Rattle.regions.specs.Run.{HasRoom, made_between}
 use Rattle.regions.specs.Start.{start}
 use Rattle.regions.proofs.StepLaws.{Steps, steps, step-thread}
+use Rattle.heap.specs.Heap.{Space}
 use Rattle.lower.specs.Lowered.{Lowered}
 use Rattle.machine.specs.declared.thread.Ending.TheVariants.{Unfinished, Ended}
 use Rattle.machine.specs.declared.thread.Event.{Event}
@@ -77,7 +78,7 @@ threads_next s k t (event.Trapped trap line) = refl
 
 -- ---- thread k of the state that the journal leads to, which is the machine's at i
 
-module _ (p : Lowered) (scene : Scene) (ts : List Thread) (printed : List Printed) (stop : Option Stop) (journal : List Entry) (c : Corresponds p scene ts printed stop journal) (k i : ℕ) (t : Thread) (counted : k ≡ suc i) (at : slice_get ts i ≡ Some t) where
+module _ (p : Lowered) (scene : Scene) (space : Space) (addresses : List ℕ) (ts : List Thread) (printed : List Printed) (stop : Option Stop) (journal : List Entry) (c : Corresponds p scene space addresses ts printed stop journal) (k i : ℕ) (t : Thread) (counted : k ≡ suc i) (at : slice_get ts i ≡ Some t) where
   abbrev pub classes : Classes
   classes = (world_of_scene scene).classes
 
@@ -107,7 +108,7 @@ module _ (p : Lowered) (scene : Scene) (ts : List Thread) (printed : List Printe
   -- the machine after the step
   pub steps_on : (after : Thread) (e : Event) → stop ≡ None → t.ending ≡ Unfinished
       → ((classes : Classes) (lent : Lent) (k : ℕ) (shared : Shared) (s : source.Thread) → shared.monitors ≡ [] → ThreadAgrees p classes t s → t.ending ≡ Unfinished → Advances p classes lent k shared s after e)
-      → Corresponds p scene (slice_set ts i after) (printed_after printed k e) (stop_after stop k e) (journal ++ entry_of k ∷ [])
+      → Corresponds p scene space addresses (slice_set ts i after) (printed_after printed k e) (stop_after stop k e) (journal ++ entry_of k ∷ [])
   steps_on after e goes live advances =
       let f = the_thread in
       let a = advances classes (lent c.state) k c.state.shared f.source c.monitors f.agrees live in
@@ -122,6 +123,7 @@ module _ (p : Lowered) (scene : Scene) (ts : List Thread) (printed : List Printe
         same_printed = printed_next c.state k a.next e ∙ ap (λ l. printed_after l k e) c.same_printed;
         same_stop = stop_next c.state k a.next e stop c.same_stop;
         heap = ap (λ (x : Shared). x.heap) (shared_next c.state k a.next e) ∙ c.heap;
+        blocks = c.blocks;
         monitors = ap (λ (x : Shared). x.monitors) (shared_next c.state k a.next e) ∙ c.monitors;
         has_room = has_room-more (unit_tree p.unit) (world_of_scene scene) (Some (start (unit_tree p.unit) (world_of_scene scene))) journal (entry_of k) c.has_room
             (λ s there. let same : c.state ≡ s = cc (sym c.replays, there) in subst (λ (x : State). HasRoom (unit_tree p.unit) (world_of_scene scene) x k false) same (makes_nothing c.state next step (ap (λ (x : Shared). x.heap) (shared_next c.state k a.next e))));

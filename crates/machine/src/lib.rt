@@ -5,6 +5,7 @@ mod fault;
 mod load;
 mod machine;
 mod objects;
+mod rows;
 mod stop;
 mod thread;
 mod turn;

@@ -18,6 +18,7 @@ invariant_of-result c =
       same_printed = sym c.new.ensures.items;
       same_stop = refl;
       heap = refl;
+      blocks = at_load _ _ _ c.in-Ok-2.ensures.made;
       monitors = refl;
       has_room = rw c.new-in-Ok.ensures.items tt;
       count = count;
