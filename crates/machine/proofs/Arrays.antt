@@ -112,7 +112,7 @@ room_for s addresses first arrays i a h at fits =
     omega arith
 
 -- an object has at least three cells
-few_objects : (objects : Heap) → 3 * length objects ≤ sizes objects
+pub few_objects : (objects : Heap) → 3 * length objects ≤ sizes objects
 few_objects [] = omega arith
 few_objects (o ∷ objects) = omega (arith, few_objects objects, sum_by-cons size o objects)
 

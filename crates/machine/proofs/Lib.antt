@@ -13,3 +13,6 @@ pub mod LoadedObjects
 pub mod Loaded
 pub mod Arrays
 pub mod LengthCalls
+pub mod RowTexts
+pub mod BlockRows
+pub mod LoadedRows

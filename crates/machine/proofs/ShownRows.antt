@@ -58,7 +58,7 @@ all_dropped p (suc k) h =
     ∙ ap (λ (l : List ℕ). l ++ filter p (suc k ∷ [])) (all_dropped p k (λ n high. h n (omega arith)))
     ∙ dropped_one p (suc k) (h (suc k) (omega arith))
 
-length-before : (classes : Classes) → length (made_before classes) ≡ length classes + 1
+pub length-before : (classes : Classes) → length (made_before classes) ≡ length classes + 1
 length-before classes =
     let objects = length-map (enumerate_from 1 classes) (λ (c : ℕ × Class). class_object classes c.0) ∙ length-enumerate_from 1 classes in
     omega (arith, length-append (class_objects classes) (fresh_object classes out_of_memory_error ∷ []))

@@ -41,9 +41,11 @@ impl<'a> Rows for LoadedRows<'a> {
     ghost rows = { λ r. loaded_rows (world_of_scene r) };
 
     fn put<S: Sink>(&self, sink: &mut S) -> Result<(), SinkFailed> {
-        let before = self.world.class_count() + 1;
+        let _ = self.world.heap();
+        let before = self.loaded.len() - self.world.objects().len();
         for place in before..self.loaded.len() {
-            put_row(sink, self.world, self.heap, place as u32 + 1, self.loaded[place])?;
+            let name = place as u32 + 1;
+            put_row(sink, self.world, self.heap, name, self.loaded[place])?;
         }
         Ok(())
     }
