@@ -5,4 +5,14 @@ pub mod Names
 pub mod LoadLemmas
 pub mod ThreadLoads
 pub mod Runs
+pub mod Standings
+pub mod ShownRows
 pub mod Reports
+pub mod HeapLaws
+pub mod LoadedObjects
+pub mod Loaded
+pub mod Arrays
+pub mod LengthCalls
+pub mod RowTexts
+pub mod BlockRows
+pub mod LoadedRows

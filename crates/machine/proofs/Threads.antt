@@ -22,6 +22,7 @@ use Rattle.machine.specs.declared.thread.Ending.{Ending}
 use Rattle.machine.specs.declared.thread.Ending.TheVariants.{Unfinished}
 use Rattle.machine.specs.declared.thread.Event.{Event}
 use Rattle.machine.specs.declared.thread.Event.TheVariants as event
+use Rattle.machine.specs.declared.thread.CallToCome.{CallToCome}
 use Rattle.machine.specs.declared.thread.Thread.{Thread}
 use Rattle.machine.specs.declared.thread.Activation.{Activation}
 use Rattle.machine.specs.declared.thread.Executed.{Executed}
@@ -144,14 +145,14 @@ returns_by k shared s none pending =
     (record { calls = calls_after ending s.calls; tasks = None; variables = []; frames = []; pending = None; ending = ending }) source.Quiet) pending
     ∙ leaves k shared s.calls none
 
-ending_agrees : (p : Lowered) (classes : Classes) (numbers : List ℕ) (calls : List Invocation) (ending : Ending) → CallsAgree p classes numbers calls → ending ≡ Unfinished → ending_of calls ≡ ending_view (ending_after numbers ending)
+ending_agrees : (p : Lowered) (classes : Classes) (numbers : List CallToCome) (calls : List Invocation) (ending : Ending) → CallsAgree p classes numbers calls → ending ≡ Unfinished → ending_of calls ≡ ending_view (ending_after numbers ending)
 unfolding ending_of
 ending_agrees p classes [] [] ending h o = refl
 ending_agrees p classes [] (c ∷ calls) ending h o = absurd h
 ending_agrees p classes (n ∷ numbers) [] ending h o = absurd h
 ending_agrees p classes (n ∷ numbers) (c ∷ calls) ending h o = ap ending_view (sym o)
 
-something_to_do : (p : Lowered) (classes : Classes) (numbers : List ℕ) (calls : List Invocation) (ending : Ending) → CallsAgree p classes numbers calls → ending_after numbers ending ≡ Unfinished → calls ≡ [] → ⊥
+something_to_do : (p : Lowered) (classes : Classes) (numbers : List CallToCome) (calls : List Invocation) (ending : Ending) → CallsAgree p classes numbers calls → ending_after numbers ending ≡ Unfinished → calls ≡ [] → ⊥
 something_to_do p classes [] calls ending h o e = cc
 something_to_do p classes (n ∷ numbers) [] ending h o e = h
 something_to_do p classes (n ∷ numbers) (c ∷ calls) ending h o e = cc
@@ -187,14 +188,14 @@ code_of (g ∷ functions) (c ∷ codes) zero f h e = (c, refl, let s : g ≡ f =
 code_of (g ∷ functions) (c ∷ codes) (suc n) f h e = code_of functions codes n f h.1 e
 
 -- the next call to come
-record Coming (p : Lowered) (classes : Classes) (n : ℕ) (numbers : List ℕ) (calls : List Invocation) : Type 0 where
+record Coming (p : Lowered) (classes : Classes) (n : CallToCome) (numbers : List CallToCome) (calls : List Invocation) : Type 0 where
   call : Invocation
   rest : List Invocation
   is : calls ≡ call ∷ rest
   function : CallAgrees p classes n call
   agrees : CallsAgree p classes numbers rest
 
-coming : (p : Lowered) (classes : Classes) (n : ℕ) (all numbers : List ℕ) (calls : List Invocation) → CallsAgree p classes all calls → all ≡ n ∷ numbers → Coming p classes n numbers calls
+coming : (p : Lowered) (classes : Classes) (n : CallToCome) (all numbers : List CallToCome) (calls : List Invocation) → CallsAgree p classes all calls → all ≡ n ∷ numbers → Coming p classes n numbers calls
 coming p classes n [] numbers calls h e = absurd (cc)
 coming p classes n (x ∷ xs) numbers [] h e = absurd h
 coming p classes n (x ∷ xs) numbers (c ∷ calls) h e =
@@ -202,18 +203,18 @@ coming p classes n (x ∷ xs) numbers (c ∷ calls) h e =
     let tail : xs ≡ numbers = cc in
     record { call = c; rest = calls; is = refl; function = subst (λ m. CallAgrees p classes m c) head h.0; agrees = subst (λ l. CallsAgree p classes l calls) tail h.1 }
 
-pub enters : (p : Lowered) (classes : Classes) (lent : Lent) (k : ℕ) (shared : Shared) (t after : Thread) (s : source.Thread) (n : ℕ) → IsLowered p → ThreadAgrees p classes t s → t.call ≡ None → t.calls.items ≡ n ∷ after.calls.items
-    → after.call ≡ Some (record { function = n; place = 0; stack = [] }) → after.ending ≡ t.ending → Advances p classes lent k shared s after event.Quiet
+pub enters : (p : Lowered) (classes : Classes) (lent : Lent) (k : ℕ) (shared : Shared) (t after : Thread) (s : source.Thread) (n : CallToCome) → IsLowered p → ThreadAgrees p classes t s → t.call ≡ None → t.calls.items ≡ n ∷ after.calls.items
+    → after.call ≡ Some (record { function = n.function; place = 0; stack = [] }) → after.ending ≡ t.ending → Advances p classes lent k shared s after event.Quiet
 enters p classes lent k shared t after s n lowered h none calls call ending =
     let c = coming p classes n t.calls.items after.calls.items s.calls h.calls calls in
     let f = c.function in
-    let code = code_of (functions_of (unit_tree p.unit)) p.codes n f.function lowered f.numbered in
+    let code = code_of (functions_of (unit_tree p.unit)) p.codes n.function f.function lowered f.numbered in
     let next : source.Thread = entered s c.rest f.function f.class c.call.arguments in
     let found : enter (unit_tree p.unit) classes s s.calls ≡ Some next =
     ap (enter (unit_tree p.unit) classes s) c.is
     ∙ ap (entered_function classes s c.call c.rest) f.named
     ∙ ap (option_map (λ d. entered s c.rest f.function d c.call.arguments)) f.of_class in
-    let stands : CallStands p (record { function = n; place = 0; stack = [] }) (tasks_of f.function.body) = record { code = code.0; of_function = code.1; stands = code.2.begins; depth = refl } in
+    let stands : CallStands p (record { function = n.function; place = 0; stack = [] }) (tasks_of f.function.body) = record { code = code.0; of_function = code.1; stands = code.2.begins; depth = refl } in
     record {
       next = next;
       steps = ap (step_within (unit_tree p.unit) classes lent k shared s false) (resting p t.call s.tasks h.work none) ∙ ap (entry_advance shared) found;

@@ -1,9 +1,10 @@
 -- How the machine stands for a state of the source. Nothing is asked of variables and frames yet: no instruction reads them.
-use Rattle.std.specs.Prelude.{◌≡◌, ℕ, List, [], ◌∷◌, ◌++◌, length, take, Option, Some, None, slice_get, false}
+use Rattle.std.specs.Prelude.{◌≡◌, ℕ, List, [], ◌∷◌, ◌++◌, length, map, take, Option, Some, None, slice_get, false}
 use Rattle.syntax.specs.Parts.{functions_of}
 use Rattle.syntax.specs.Tree.{Function}
 use Rattle.syntax.specs.Views.{unit_tree}
 use Rattle.classes.specs.Class.{Classes}
+use Rattle.world.specs.Views.{argument_view}
 use Rattle.world.specs.World.{Invocation}
 use Rattle.code.specs.declared.instr.Instr.{Instr}
 use Rattle.code.specs.Depth.{depths}
@@ -18,11 +19,13 @@ use Rattle.lower.specs.Lowered.{Lowered}
 use Rattle.machine.specs.declared.thread.Ending.{Ending}
 use Rattle.machine.specs.declared.thread.Ending.TheVariants.{Unfinished, Ended}
 use Rattle.machine.specs.declared.thread.Event.{Event}
-use Rattle.machine.specs.declared.thread.Event.TheVariants.{Quiet, Printed}
+use Rattle.machine.specs.declared.thread.Event.TheVariants.{Quiet, Printed, Trapped}
+use Rattle.machine.specs.declared.thread.CallToCome.{CallToCome}
 use Rattle.machine.specs.declared.thread.Thread.{Thread}
 use Rattle.machine.specs.declared.thread.Activation.{Activation}
 use Rattle.machine.specs.declared.thread.Executed.{Executed}
 use Rattle.machine.specs.declared.thread.Executed.TheVariants.{Did, Returned}
+use Rattle.machine.specs.Stops.{trap_view}
 
 -- how a thread has ended, if it has
 abbrev pub ending_view : Ending → source.Ending
@@ -33,23 +36,25 @@ ending_view Ended = source.Ended
 abbrev pub event_view : Event → source.Event
 event_view Quiet = source.Quiet
 event_view (Printed z) = source.PrintedNumber z
+event_view (Trapped trap line) = source.Trapped (trap_view trap) line
 
 -- ---- calls
 
--- a function's number is its place among the unit's functions
-pub record CallAgrees (p : Lowered) (classes : Classes) (number : ℕ) (call : Invocation) : Type 0 where
+-- a function's number is its place among the unit's functions, and an object goes by its name
+pub record CallAgrees (p : Lowered) (classes : Classes) (next : CallToCome) (call : Invocation) : Type 0 where
   pub function : Function
   pub named : function_at (unit_tree p.unit) call.function ≡ Some function
-  pub numbered : slice_get (functions_of (unit_tree p.unit)) number ≡ Some function
+  pub numbered : slice_get (functions_of (unit_tree p.unit)) next.function ≡ Some function
   pub class : ℕ
   pub of_class : class_of_function classes function ≡ Some class
+  pub given : map argument_view next.arguments.items ≡ call.arguments
 
 -- call by call
-abbrev pub CallsAgree : Lowered → Classes → List ℕ → List Invocation → Type 0
+abbrev pub CallsAgree : Lowered → Classes → List CallToCome → List Invocation → Type 0
 CallsAgree p classes [] [] = Unit {0}
 CallsAgree p classes [] (c ∷ calls) = ⊥
-CallsAgree p classes (n ∷ numbers) [] = ⊥
-CallsAgree p classes (n ∷ numbers) (c ∷ calls) = CallAgrees p classes n c × CallsAgree p classes numbers calls
+CallsAgree p classes (n ∷ coming) [] = ⊥
+CallsAgree p classes (n ∷ coming) (c ∷ calls) = CallAgrees p classes n c × CallsAgree p classes coming calls
 
 -- ---- threads
 
@@ -99,6 +104,6 @@ pub record Advances (p : Lowered) (classes : Classes) (lent : Lent) (k : ℕ) (s
   pub agrees : ThreadAgrees p classes t next
 
 -- how a thread with these calls to come stands after a call
-abbrev pub ending_after : List ℕ → Ending → Ending
+abbrev pub ending_after : List CallToCome → Ending → Ending
 ending_after [] ending = Ended
 ending_after (n ∷ rest) ending = ending

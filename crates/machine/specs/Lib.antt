@@ -1,3 +1,6 @@
 pub mod Agrees
+pub mod HeapAgrees
+pub mod Stops
+pub mod Rows
 pub mod Loading
 pub mod Run

@@ -10,6 +10,7 @@ use Rattle.regions.specs.Load.{call_loads, first_load_fault}
 use Rattle.lower.specs.Lowered.{Lowered}
 use Rattle.machine.specs.declared.fault.LoadFault.{LoadFault}
 use Rattle.machine.specs.declared.fault.LoadFault.TheVariants.{DoesNotFit, Memory}
+use Rattle.machine.specs.declared.thread.CallToCome.{CallToCome}
 use Rattle.machine.specs.Agrees.{CallAgrees}
 
 -- the place of the function of a name
@@ -20,10 +21,10 @@ pub record IsNumberOf (p : Lowered) (name : List ℕ) (number : ℕ) : Type 0 wh
   pub has_name : function.name ≡ name
   pub no_parameters : function.parameters ≡ []
 
--- a call's function by its number, or none where the call doesn't load
-abbrev pub IsCallOf : Lowered → Classes → Invocation → Option ℕ → Type 0
+-- a call by its function's number, or none where it doesn't load
+abbrev pub IsCallOf : Lowered → Classes → Invocation → Option CallToCome → Type 0
 IsCallOf p classes call None = call_loads (unit_tree p.unit) classes call ≡ false
-IsCallOf p classes call (Some number) = CallAgrees p classes number call × (call_loads (unit_tree p.unit) classes call ≡ true)
+IsCallOf p classes call (Some next) = CallAgrees p classes next call × (call_loads (unit_tree p.unit) classes call ≡ true)
 
 -- the calls that don't load
 abbrev pub refused_calls : SourceUnit → Classes → List Invocation → List Invocation

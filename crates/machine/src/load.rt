@@ -14,7 +14,7 @@ ghost use Rattle.machine.specs.Agrees.{ThreadAgrees, ThreadsAgree};
 ghost use Rattle.machine.specs.Loading.{IsNumberOf, IsCallOf, IsFirstOf, refused_calls};
 
 use crate::fault::LoadFault;
-use crate::thread::{Ending, Thread};
+use crate::thread::{CallToCome, Ending, Thread};
 use classes::mangling::unmangle;
 use lower::Program;
 use std::alloc::{AllocError, Global};
@@ -56,37 +56,42 @@ fn load_thread(
     ensures all { OnOk result (refused_calls (unit_tree program.now.unit) (world_of_scene world.now).classes (map invocation_of calls.now) ≡ []) }
     ensures refused { IfErr result (IsFirstOf (refused_calls (unit_tree program.now.unit) (world_of_scene world.now).classes (map invocation_of calls.now))) }
 {
-    let mut numbers = VecDeque::new(alloc);
+    let mut coming = VecDeque::new(alloc);
     for call in calls {
         match load_call(alloc, program, world, call)? {
-            Some(number) => numbers.push_back(number)?,
+            Some(next) => coming.push_back(next)?,
             None => return Err(LoadFault::DoesNotFit(call.line())),
         }
     }
     Ok(Thread {
-        calls: numbers,
+        calls: coming,
         call: None,
         ending: Ending::Unfinished,
     })
 }
 
-/// The number of a call's function, if the call fits it.
+/// The call by its function's number, if it fits the function. No function has parameters yet.
 fn load_call(
     alloc: Global,
     program: &Program<'_>,
     world: &World,
     call: &Call,
-) -> Result<Option<usize>, AllocError>
+) -> Result<Option<CallToCome>, AllocError>
     ensures { IfOk result (IsCallOf program.now (world_of_scene world.now).classes (invocation_of call.now)) }
 {
     let Some(number) = function_number(program, call.function()) else {
         return Ok(None);
     };
-    if has_native_class(alloc, world, call.function())? {
-        Ok(Some(number))
-    } else {
-        Ok(None)
+    if !call.arguments().is_empty() {
+        return Ok(None);
     }
+    if !has_native_class(alloc, world, call.function())? {
+        return Ok(None);
+    }
+    Ok(Some(CallToCome {
+        function: number,
+        arguments: Vec::from_slice(alloc, call.arguments())?,
+    }))
 }
 
 /// Whether the class is there whose native method has a function of this name.

@@ -8,13 +8,16 @@ ghost use Rattle.regions.specs.Sight.{Sight};
 ghost use Rattle.regions.specs.Task.{Task};
 ghost use Rattle.regions.specs.Thread.{Lent, Shared, Thread as SourceThread};
 ghost use Rattle.lower.specs.Lowered.{IsLowered};
+ghost use Rattle.machine.specs.declared.thread.CallToCome.{CallToCome};
 ghost use Rattle.machine.specs.Agrees.{ThreadAgrees, CallStands, Executes, Advances, ending_after};
 
+use crate::stop::Trap;
 use code::instr::{Instr, Plain};
 use code::plain::plain;
 use code::stack::Stack;
 use lower::Program;
 use std::collections::VecDeque;
+use world::Argument;
 
 /// Whether a thread has ended.
 #[derive(Clone, Copy, Debug, PartialEq, Eq)]
@@ -29,12 +32,23 @@ pub enum Event {
     Quiet,
     /// The thread printed a number.
     Printed(i32),
+    /// A statement of this line stopped the machine.
+    Trapped(Trap, usize),
 }
 
-/// A thread: the functions that it has still to call, by their numbers, and the call in progress.
+/// A call that a thread has still to make.
+#[derive(Drop, Debug)]
+pub struct CallToCome {
+    /// The function, by its place among the unit's functions.
+    pub function: usize,
+    /// What it is given behind the class. References go by the names of objects made at load.
+    pub arguments: Vec<Argument>,
+}
+
+/// A thread: its calls to come, and the call in progress.
 #[derive(Drop, Debug)]
 pub struct Thread {
-    pub calls: VecDeque<usize>,
+    pub calls: VecDeque<CallToCome>,
     pub call: Option<Activation>,
     pub ending: Ending,
 }
@@ -80,13 +94,13 @@ pub fn advance(program: &Program<'_>, thread: &mut Thread) -> Event
 /// The entry into the next call.
 fn enter(thread: &mut Thread)
     requires { 0 < deque_len thread.old.calls }
-    ensures calls { (function : ℕ) × (thread.old.calls.items ≡ function ∷ thread.new.calls.items)
-        × (thread.new.call ≡ Some (record { function = function; place = 0; stack = [] })) }
+    ensures calls { (next : CallToCome) × (thread.old.calls.items ≡ next ∷ thread.new.calls.items)
+        × (thread.new.call ≡ Some (record { function = next.function; place = 0; stack = [] })) }
     ensures ending { thread.new.ending ≡ thread.old.ending }
 {
-    let function = thread.calls.pop_front().unwrap();
+    let next = thread.calls.pop_front().unwrap();
     thread.call = Some(Activation {
-        function,
+        function: next.function,
         place: 0,
         stack: Stack::new(),
     });
