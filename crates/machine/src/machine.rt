@@ -67,12 +67,9 @@ impl<'a> Machine<'a> {
     {
         let _ = program.items();
         let _ = world.threads();
-        let threads = match load_threads(alloc, &program, &world) {
-            Ok(threads) => threads,
-            Err(fault) => return Err(fault),
-        };
-        match load_heap(alloc, &world) {
-            Ok((heap, loaded)) => Ok(Machine {
+        let (heap, loaded) = load_heap(alloc, &world)?;
+        match load_threads(alloc, &program, &world) {
+            Ok(threads) => Ok(Machine {
                 program,
                 world,
                 heap,
@@ -82,7 +79,7 @@ impl<'a> Machine<'a> {
                 stop: None,
                 journal: Vec::new(alloc),
             }),
-            Err(_) => Err(LoadFault::Memory),
+            Err(fault) => Err(fault),
         }
     }
 

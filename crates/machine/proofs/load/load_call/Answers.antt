@@ -1,6 +1,7 @@
-use Rattle.std.proofs.Common.{◌≡◌, ℕ, zero, Bool, true, List, [], ◌∷◌, map, length, Some, refl, sym, ap, ◌∙◌, subst, arith}
+use Rattle.std.proofs.Common.{◌≡◌, ℕ, zero, suc, eqb, ⊎_elim, Bool, true, false, List, [], ◌∷◌, map, length, Some, refl, sym, ap, ◌∙◌, subst, arith}
 use Rattle.std.specs.Prelude.{is_some, ◌==◌}
 use Rattle.std.specs.Option.{option_and_then}
+use Rattle.std.proofs.lemmas.Bool.Decides.{eqb_tells}
 use Rattle.classes.specs.Class.{class_named}
 use Rattle.classes.specs.Mangling.{native_class}
 use Rattle.world.specs.declared.argument.Argument.{Argument}
@@ -14,7 +15,10 @@ use Rattle.machine.proofs.load.load_call.Goals as goal
 -- no arguments in memory are none
 is_nothing : (xs : List Argument) (vs : List ObjectValue) → map argument_view xs ≡ vs → (length xs == 0) ≡ true → vs ≡ []
 is_nothing [] vs same h = sym same
-is_nothing (x ∷ xs) vs same h = absurd (cc)
+is_nothing (x ∷ xs) vs same h = absurd (some (length xs) h)
+  where
+    some : (n : ℕ) → (suc n == 0) ≡ true → ⊥
+    some n h = ⊎_elim (λ (t : (eqb (suc n) 0 ≡ true) × (suc n ≡ 0)). let e : suc n ≡ 0 = t.1 in omega arith) (λ (t : (eqb (suc n) 0 ≡ false) × (suc n ≡ 0 → ⊥)). let e : false ≡ true = sym t.0 ∙ h in cc) (eqb_tells (suc n) 0)
 
 pub returns : goal.returns
 returns c =

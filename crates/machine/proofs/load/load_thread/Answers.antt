@@ -8,5 +8,5 @@ use Rattle.machine.proofs.load.load_thread.Goals as goal
 pub returns-clause-agrees : goal.returns-clause-agrees
 returns-clause-agrees c =
     before_agrees c.args.program.now (classes_named c.args.world.now.classes) _ (map invocation_of c.args.calls.now)
-    (all_agree c.args.program.now (classes_named c.args.world.now.classes) c.args.calls.now c.loop-call.call-index c.loop-call.numbers.items c.loop-call-test.false c.loop-call.invariant.agree)
+    (all_agree c.args.program.now (classes_named c.args.world.now.classes) c.args.calls.now c.loop-call.call-index c.loop-call.coming.items c.loop-call-test.false c.loop-call.invariant.agree)
     (some_call c.args.calls.now c.requires) refl refl

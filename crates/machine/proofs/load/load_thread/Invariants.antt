@@ -7,6 +7,6 @@ use Rattle.machine.proofs.load.load_thread.Given as goal
 
 abbrev pub invariant-loop-call : goal.invariant-loop-call
 invariant-loop-call l = record {
-  agree : AgreeSoFar l.program (world_of_scene l.world).classes l.calls l.call-index l.numbers.items;
+  agree : AgreeSoFar l.program (world_of_scene l.world).classes l.calls l.call-index l.coming.items;
   all : refused_calls (unit_tree l.program.unit) (world_of_scene l.world).classes (map invocation_of l.calls) ≡ refused_calls (unit_tree l.program.unit) (world_of_scene l.world).classes (map invocation_of (drop l.call-index l.calls));
 }
