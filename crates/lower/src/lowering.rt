@@ -25,7 +25,7 @@ pub fn lower<'a>(alloc: Global, checked: &'a Checked) -> Result<Program<'a>, Low
     ensures too_long { result ≡ Err LowerFault.TooLong → IsTooLong (unit_tree checked.now) }
 {
     let mut codes = Vec::new(alloc);
-    for item in checked.unit().items() {
+    for item in checked.items() {
         match lower_function(alloc, function_of(item)) {
             Ok(code) => codes.push(code)?,
             Err(fault) => return Err(fault),

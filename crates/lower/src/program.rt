@@ -3,7 +3,7 @@
 use code::code::Code;
 use regions::Checked;
 use std::marker::Model;
-use syntax::Unit;
+use syntax::Item;
 
 /// A checked program, and the code of its functions in their order.
 #[derive(Drop, Debug)]
@@ -39,12 +39,12 @@ impl<'a> Program<'a> {
         Program { checked, codes }
     }
 
-    /// The unit that was lowered.
-    pub fn unit(&self) -> &Unit
-        ensures unit { result.now ≡ self.now.unit }
+    /// The items of the unit that was lowered, in the order of the text.
+    pub fn items(&self) -> &[Item]
+        ensures items { result.now ≡ self.now.unit }
         ensures lowered { IsLowered self.now }
     {
-        self.checked.unit()
+        self.checked.items()
     }
 
     /// The code of a function, by its place among the unit's functions, counted from 0.

@@ -50,7 +50,7 @@ fn one_instruction_for_each_step(rt: HostRuntime) -> Result<(), Fail> {
     let unit = Unit::new(vec![in alloc; Item::Function(function)]?);
     let checked = check(type_unit(alloc, unit)?)?;
     let program = lower(alloc, &checked)?;
-    assert_eq!(rt; program.unit().items().len(), 1);
+    assert_eq!(rt; program.items().len(), 1);
     assert!(rt; program.code(1).is_none());
     let Some(code) = program.code(0) else {
         return Err(Fail::new("no code"));

@@ -104,7 +104,7 @@ fn function_number(program: &Program<'_>, name: &[u8]) -> Option<usize>
     ensures found { IfSome result (IsNumberOf program.now name.now) }
     ensures unknown { IfNone result (function_at (unit_tree program.now.unit) name.now ≡ None) }
 {
-    for (number, item) in program.unit().items().iter().enumerate() {
+    for (number, item) in program.items().iter().enumerate() {
         if function_of(item).name.as_bytes() == name {
             return Some(number);
         }

@@ -56,7 +56,7 @@ impl<'a> Machine<'a> {
         ensures fits { OnOk result (first_load_fault (unit_tree program.entry.unit) (world_of_scene world) ≡ None) }
         ensures fault { IfErr result (IsLoadFault (unit_tree program.entry.unit) (world_of_scene world)) }
     {
-        let _ = program.unit();
+        let _ = program.items();
         let _ = world.threads();
         match load_threads(alloc, &program, &world) {
             Ok(threads) => Ok(Machine {

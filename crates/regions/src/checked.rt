@@ -12,13 +12,13 @@ ghost use Rattle.regions.specs.OpenEnds.{rule_of};
 use crate::checker::check_items;
 use crate::fault::RegionFault;
 use std::marker::Model;
-use syntax::Unit;
+use syntax::Item;
 use types::Typed;
 
 /// A unit that keeps the rules of sorts and regions.
 #[derive(Debug, Drop)]
 pub struct Checked {
-    unit: Unit,
+    typed: Typed,
 }
 
 impl Model for Checked {
@@ -27,38 +27,36 @@ impl Model for Checked {
     ghost use Rattle.syntax.specs.declared.unit.Item.{Item};
     ghost use Rattle.syntax.specs.contracts.unit.Item as item;
     ghost use Rattle.syntax.specs.Views.{unit_tree};
-    ghost use Rattle.types.specs.SortRules.{IsSorted};
     ghost use Rattle.regions.specs.Regions.{HasRegions};
 
     ghost Value = { List Item };
 
     ghost coded = { Prim.hlevel (codes, item.the_row.coded) };
 
-    ghost view = { λ c. c.unit };
+    ghost view = { λ c. c.typed };
 
-    ghost invariant = { λ c. IsSorted (unit_tree c.unit) × HasRegions (unit_tree c.unit) };
+    ghost invariant = { λ c. HasRegions (unit_tree c.typed) };
 }
 
 impl Checked {
     /// A unit that is known to keep the rules.
-    pub(crate) fn of(unit: Unit) -> Checked
-        requires sorted { IsSorted (unit_tree unit) }
-        requires regions { HasRegions (unit_tree unit) }
-        ensures { result ≡ unit }
+    pub(crate) fn of(typed: Typed) -> Checked
+        requires { HasRegions (unit_tree typed) }
+        ensures { result ≡ typed }
     {
-        Checked { unit }
+        Checked { typed }
     }
 
-    pub fn unit(&self) -> &Unit
+    /// The items of the unit, in the order of the text.
+    pub fn items(&self) -> &[Item]
         ensures same { result.now ≡ self.now }
+        ensures tree { IsTree (unit_tree result.now) }
         ensures sorted { IsSorted (unit_tree result.now) }
         ensures regions { HasRegions (unit_tree result.now) }
         // For now, its functions print and return numbers, and do nothing else.
         ensures forms { AreWellSorted (unit_tree result.now) }
     {
-        // The proof reads the limits of the tree off this call.
-        let _ = self.unit.items();
-        &self.unit
+        self.typed.items()
     }
 }
 
@@ -72,7 +70,6 @@ pub fn check(typed: Typed) -> Result<Checked, RegionFault>
     // The fault is the first in text order, and at one place the one of the least number.
     ensures first { IfErr result (λ e. IsFirstRegionFault (rule_of e.rule) e.line (unit_tree typed)) }
 {
-    let unit = typed.into_unit();
-    check_items(unit.items())?;
-    Ok(Checked::of(unit))
+    check_items(typed.items())?;
+    Ok(Checked::of(typed))
 }

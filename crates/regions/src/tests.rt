@@ -32,7 +32,7 @@ fn function(alloc: Global, line: usize, returns: bool) -> Result<Item, AllocErro
 fn an_empty_unit(rt: HostRuntime) -> Result<(), Fail> {
     let typed = type_unit(rt.alloc(), Unit::new(Vec::new(rt.alloc())))?;
     let checked = check(typed)?;
-    assert_eq!(rt; checked.unit().items().len(), 0);
+    assert_eq!(rt; checked.items().len(), 0);
     Ok(())
 }
 

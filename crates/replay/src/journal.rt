@@ -57,7 +57,7 @@ pub fn replay<W: Sink>(
     // Faults 82 and 91 are answered only where they must be.
     ensures only { IsReplayable (unit_tree checked.now) (world_of_scene world.now) journal.now → IfErr result IsFromOutside }
 {
-    let items = checked.unit().items();
+    let items = checked.items();
     let state = match run(alloc, items, world, journal) {
         Ok(state) => state,
         Err(fault) => return Err(fault),

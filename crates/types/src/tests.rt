@@ -26,7 +26,7 @@ fn function(alloc: Global, line: usize, name: &[u8]) -> Result<Item, AllocError>
 #[test]
 fn an_empty_unit(rt: HostRuntime) -> Result<(), Fail> {
     let typed = type_unit(rt.alloc(), Unit::new(Vec::new(rt.alloc())))?;
-    assert_eq!(rt; typed.into_unit().items().len(), 0);
+    assert_eq!(rt; typed.items().len(), 0);
     Ok(())
 }
 

@@ -10,7 +10,7 @@ use crate::checker::check_items;
 use crate::fault::TypeFault;
 use std::alloc::Global;
 use std::marker::Model;
-use syntax::Unit;
+use syntax::{Item, Unit};
 
 /// A unit that is sorted.
 #[derive(Debug, Drop)]
@@ -45,19 +45,13 @@ impl Typed {
         Typed { unit }
     }
 
-    pub fn unit(&self) -> &Unit
+    /// The items of the unit, in the order of the text.
+    pub fn items(&self) -> &[Item]
         ensures same { result.now ≡ self.now }
+        ensures tree { IsTree (unit_tree result.now) }
         ensures sorted { IsSorted (unit_tree result.now) }
     {
-        &self.unit
-    }
-
-    pub fn into_unit(self) -> Unit
-        ensures same { result ≡ self }
-        ensures sorted { IsSorted (unit_tree result) }
-    {
-        let Typed { unit } = self;
-        unit
+        self.unit.items()
     }
 }
 

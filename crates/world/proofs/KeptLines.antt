@@ -43,7 +43,7 @@ fold_classes : (cs : Named) (T : Classes) → fold (λ (classes : Classes) (l : 
 fold_classes [] T = refl
 fold_classes (c ∷ cs) T = fold_classes cs (with_named_class T c.1)
 
-table_classes : (cs : Named) → table_of (class_lines cs) ≡ classes_named (names cs)
+pub table_classes : (cs : Named) → table_of (class_lines cs) ≡ classes_named (names cs)
 table_classes cs = fold_classes cs built_ins
 
 pub table_all : (cs : Named) (n : ℕ) (f : Identifier) → table_of (all_lines cs n f) ≡ classes_named (names cs)
@@ -87,7 +87,7 @@ threads_all cs n f =
     fold-append (threads_with L) [] (class_lines cs) ((n, ThreadLine f []) ∷ []) ∙ ap (λ (ts : List (List Invocation)). ts ++ (plain_call n f ∷ []) ∷ []) (no_threads_in L cs [])
 
 -- the cells that the classes take
-cells_classes : (cs : Named) (d : ℕ × Identifier) → cells_of (class_lines cs ++ (d.0, ClassLine d.1 None) ∷ []) ≡ 136 + 6 * length cs
+pub cells_classes : (cs : Named) (d : ℕ × Identifier) → cells_of (class_lines cs ++ (d.0, ClassLine d.1 None) ∷ []) ≡ 136 + 6 * length cs
 cells_classes cs d =
     let L = class_lines cs ++ (d.0, ClassLine d.1 None) ∷ [] in
     let ns = names cs ++ d.1 ∷ [] in

@@ -15,3 +15,6 @@ pub mod ClassTables
 pub mod WorldLaws
 pub mod KeptLines
 pub mod LineForms
+pub mod MeantLines
+pub mod MeantRules
+pub mod MeantWorlds

@@ -25,7 +25,7 @@ use Rattle.world.proofs.KeptLines.{passes, either_false, not_false}
 -- ---- the forms of lines
 
 -- no byte of a part is a separator
-abbrev is_free : (ℕ → Bool) → List ℕ → Bool
+abbrev pub is_free : (ℕ → Bool) → List ℕ → Bool
 is_free p part = list_all (λ c. not (p c)) part
 
 free_first : (p : ℕ → Bool) (x : ℕ) (parts : List (List ℕ)) → p x ≡ false → list_all (is_free p) parts ≡ true → list_all (is_free p) (onto_first x parts) ≡ true

@@ -1,7 +1,8 @@
 -- The world that is read is the one that the text means.
 use Rattle.std.proofs.Common.{◌≡◌, ℕ, ◌+◌, ◌≤◌, Bool, true, false, cond, List, [], ◌∷◌, ◌++◌, length, map, None, Result, Ok, Err, refl, sym, ap, ◌∙◌, subst, arith, append_assoc, append-nil, inl}
-use Rattle.std.specs.Prelude.{codes, decimal, ◌==◌, filter, filter_map, is_some, IfOk}
-use Rattle.std.specs.List.{list_any, enumerate_from, AllZip}
+use Rattle.std.specs.Prelude.{codes, decimal, ◌==◌, filter, filter_map, is_some, nat_le, IfOk}
+use Rattle.std.specs.List.{list_all, list_any, enumerate_from, AllZip}
+use Rattle.std.proofs.lemmas.Bool.{and_from}
 use Rattle.std.proofs.lemmas.Bool.Decides.{nat_tests}
 use Rattle.std.proofs.lemmas.List.Elements.{filter_map-append}
 use Rattle.base.specs.Bytes.{Identifier, is_some_byte}
@@ -9,15 +10,17 @@ use Rattle.classes.specs.Class.{Classes, class_named}
 use Rattle.classes.specs.Mangling.{is_class_name}
 use Rattle.world.specs.declared.fault.Rule.TheVariants.{Form, Limit}
 use Rattle.world.specs.declared.fault.ReadError.{ReadError}
+use Rattle.world.specs.BuiltLines.{is_built_line, are_built}
 use Rattle.world.specs.Object.{Object}
 use Rattle.world.specs.Parts.{parts_of}
 use Rattle.world.specs.Reading.{refused, Gives}
 use Rattle.world.specs.ReadingWorlds.{class_rule, line_scene, finished_scene, lines_scene, scene_of_text}
 use Rattle.world.specs.Scene.{Scene}
 use Rattle.world.specs.SceneWorld.{classes_named, world_of_scene}
+use Rattle.world.specs.TextLaws.{world_of_text, IsBuiltWorldText}
 use Rattle.world.specs.World.{Invocation, World}
 use Rattle.world.specs.WorldLines.{WorldLine, ClassLine, ThreadLine, Lines, spaced}
-use Rattle.world.specs.WorldMeaning.{table_of, object_of, world_of}
+use Rattle.world.specs.WorldMeaning.{table_of, object_of, threads_of, world_of}
 use Rattle.world.specs.WorldRules.{is_thread_line, WorldRule, broken_by_line, broken_behind, IsNumberedLine, IsWorldText}
 use Rattle.world.proofs.PartLemmas.{slice_split-split_at}
 use Rattle.world.proofs.WordLaws.{and_then_ok}
@@ -81,11 +84,11 @@ record IsRest (cells : ℕ) (cs : Named) (number : ℕ) (lines : List (List ℕ)
   rules : broken_behind cells (class_lines cs) (all_lines more at function) ≡ []
   is : final ≡ whole_scene cells (cs ++ more) at function
 
-names-append : (cs ds : Named) → names (cs ++ ds) ≡ names cs ++ names ds
+pub names-append : (cs ds : Named) → names (cs ++ ds) ≡ names cs ++ names ds
 names-append [] ds = refl
 names-append (c ∷ cs) ds = ap (λ (ns : List Identifier). c.1 ∷ ns) (names-append cs ds)
 
-lines-append : (cs ds : Named) → class_lines (cs ++ ds) ≡ class_lines cs ++ class_lines ds
+pub lines-append : (cs ds : Named) → class_lines (cs ++ ds) ≡ class_lines cs ++ class_lines ds
 lines-append [] ds = refl
 lines-append (c ∷ cs) ds = ap (λ (ls : Lines). (c.0, ClassLine c.1 None) ∷ ls) (lines-append cs ds)
 
@@ -148,7 +151,7 @@ record IsWhole (number : ℕ) (lines : List (List ℕ)) (final : Scene) : Type 0
   rules : broken_behind cells [] (all_lines cs at function) ≡ []
   is : final ≡ whole_scene cells cs at function
 
-abbrev nothing : Scene
+abbrev pub nothing : Scene
 nothing = record { heap = 0; classes = []; threads = [] }
 
 from_heap : (number last : ℕ) (lines : List (List ℕ)) (final : Scene) → lines_scene nothing number last lines ≡ Ok final → IsWhole number lines final
@@ -192,29 +195,48 @@ no_objects_all : (L : Lines) (cs : Named) (n : ℕ) (f : Identifier) → filter_
 no_objects_all L cs n f = filter_map-append (λ (l : ℕ × WorldLine). object_of L l.1) (class_lines cs) ((n, ThreadLine f []) ∷ []) ∙ ap (λ xs. xs ++ []) (no_object_of L cs)
 
 -- the world of a scene is that of its lines
-scene_world : (cells : ℕ) (cs : Named) (n : ℕ) (f : Identifier) → world_of_scene (whole_scene cells cs n f) ≡ world_of cells (all_lines cs n f)
+pub scene_world : (cells : ℕ) (cs : Named) (n : ℕ) (f : Identifier) → world_of_scene (whole_scene cells cs n f) ≡ world_of cells (all_lines cs n f)
 scene_world cells cs n f =
     let L = all_lines cs n f in
     ap (λ (T : Classes). let w : World = record { cells = cells; classes = T; objects = []; threads = (plain_call n f ∷ []) ∷ [] } in w) (sym (table_all cs n f))
     ∙ ap (λ (os : List Object). let w : World = record { cells = cells; classes = table_of L; objects = os; threads = (plain_call n f ∷ []) ∷ [] } in w) (sym (no_objects_all L cs n f))
     ∙ ap (λ (ts : List (List Invocation)). let w : World = record { cells = cells; classes = table_of L; objects = filter_map (λ (l : ℕ × WorldLine). object_of L l.1) L; threads = ts } in w) (sym (threads_all cs n f))
 
--- what is read is meant
-pub world_is_meant : (text : List ℕ) (scene : Scene) → scene_of_text text ≡ Ok scene → IsWorldText text (world_of_scene scene)
-world_is_meant text scene h =
+-- class lines and a thread line are read today
+built_lines : (cs : Named) (n : ℕ) (f : Identifier) → list_all (λ (l : ℕ × WorldLine). is_built_line l.1) (all_lines cs n f) ≡ true
+built_lines [] n f = refl
+built_lines (c ∷ cs) n f = built_lines cs n f
+
+all_are_built : (cs : Named) (n : ℕ) (f : Identifier) → are_built (all_lines cs n f) ≡ true
+all_are_built cs n f =
+    and_from (list_all (λ (l : ℕ × WorldLine). is_built_line l.1) (all_lines cs n f)) (nat_le (length (threads_of (all_lines cs n f))) 1) (built_lines cs n f)
+    (ap (λ (ts : List (List Invocation)). nat_le (length ts) 1) (threads_all cs n f))
+
+-- what is read is meant by lines that are read
+pub world_is_built : (text : List ℕ) (scene : Scene) → scene_of_text text ≡ Ok scene → IsBuiltWorldText text (world_of_scene scene)
+world_is_built text scene h =
     let r = from_heap 1 1 (parts_of 10 text) scene h in
-    subst (λ (s : Scene). IsWorldText text (world_of_scene s)) (sym r.is) (record {
-      heap_line = r.heap_line;
-      written = r.texts;
-      lines = all_lines r.cs r.at r.function;
-      spelled = ap (written 1) (sym (slice_split-split_at (λ b. b == 10) text)) ∙ r.begins;
-      lines_spelled = r.spelled;
-      size = (r.low, r.high);
-      rules = r.rules;
-      threads = some_thread r.cs r.at r.function;
-      meant = scene_world r.cells r.cs r.at r.function;
+    subst (λ (s : Scene). IsBuiltWorldText text (world_of_scene s)) (sym r.is) (record {
+      means = record {
+        heap_line = r.heap_line;
+        written = r.texts;
+        lines = all_lines r.cs r.at r.function;
+        spelled = ap (written 1) (sym (slice_split-split_at (λ b. b == 10) text)) ∙ r.begins;
+        lines_spelled = r.spelled;
+        size = (r.low, r.high);
+        rules = r.rules;
+        threads = some_thread r.cs r.at r.function;
+        meant = scene_world r.cells r.cs r.at r.function;
+      };
+      built = all_are_built r.cs r.at r.function;
     })
 
+pub read_is_built : (text : List ℕ) (world : World) → world_of_text text ≡ Ok world → IsBuiltWorldText text world
+read_is_built text world h =
+    let a = and_then_ok (scene_of_text text) (λ scene. Ok (world_of_scene scene)) world h in
+    let same : world_of_scene a.0 ≡ world = cc (a.2) in
+    subst (IsBuiltWorldText text) same (world_is_built text a.0 a.1)
+
 pub world_means : (text : List ℕ) (r : Result Scene ReadError) → Gives (λ (s : Scene). s) r (scene_of_text text) → IfOk r (λ (s : Scene). IsWorldText text (world_of_scene s))
-world_means text (Ok s) h = world_is_meant text s h
+world_means text (Ok s) h = (world_is_built text s h).means
 world_means text (Err e) h = tt

@@ -25,7 +25,7 @@ pub use sink::{Sink, SinkFailed, put_all, put_pieces};
 pub use std_sink::StdSink;
 pub use words::MOST_WORDS;
 pub use world::{Call, World};
-pub use world_text::read_world;
+pub use world_text::{read_world, worlds_are_read};
 pub use writing::write_run;
 
 #[cfg(test)]

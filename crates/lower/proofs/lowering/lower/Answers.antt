@@ -1,4 +1,4 @@
-use Rattle.std.proofs.Common.{ℕ, ◌≤◌, List, [], ◌++◌, length, drop, ◌∙◌, subst}
+use Rattle.std.proofs.Common.{ℕ, ◌≤◌, List, [], ◌++◌, length, drop, subst}
 use Rattle.std.proofs.lemmas.List.{append-nil}
 use Rattle.std.proofs.Math.ListN.{drop_of_length-le}
 use Rattle.syntax.specs.declared.unit.Item.{Item}
@@ -16,5 +16,5 @@ all items index codes past h =
 
 pub of-requires : goal.of-requires
 of-requires c =
-    subst (λ items. AreCodesOf (functions_of (unit_tree items)) c.loop-item.codes.items) (c.items-item-items.ensures.same ∙ c.unit.ensures.same)
+    subst (λ items. AreCodesOf (functions_of (unit_tree items)) c.loop-item.codes.items) (c.items-item-items.ensures.same)
     (all _ c.loop-item.item-index _ c.loop-item-test.false c.loop-item.invariant.so_far)

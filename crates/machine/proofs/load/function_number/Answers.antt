@@ -12,7 +12,7 @@ returns-then-eq-clause-found c =
     let items = c.items-item-items.result.now in
     let f = c.function_of.result.now in
     let at = item_there items c.loop-number.number c.item-item.result f c.loop-number-test.true c.item-item.is c.function_of.ensures in
-    let whole = c.items-item-items.ensures.same ∙ c.unit.ensures.unit in
+    let whole = c.items-item-items.ensures.items in
     let same = ap (λ n. bytes_eq n c.args.name.now) (sym c.as_bytes.ensures) ∙ sym c.eq.ensures ∙ c.if-eq.true in
     record {
       function = function_tree f;

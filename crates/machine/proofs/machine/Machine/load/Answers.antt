@@ -11,7 +11,7 @@ invariant_of-result c =
     let count : length c.in-Ok.threads.items ≡ length c.args.world.threads = agree_length _ _ _ _ c.in-Ok.ensures.agree ∙ waiting_length c.args.world.threads in
     let long : length c.args.world.threads ≡ length c.threads.result.now = sym (ap length c.threads.ensures.calls) ∙ items_length c.threads.result.now in
     record {
-      lowered = c.unit.ensures.lowered;
+      lowered = c.items.ensures.lowered;
       state = start (unit_tree c.args.program.unit) w;
       replays = rw c.new-in-Ok.ensures.items refl;
       threads_agree = c.in-Ok.ensures.agree;
