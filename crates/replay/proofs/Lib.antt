@@ -1,7 +1,9 @@
+mod LoadedObjects
+mod HeapLemmas
+mod VariableLemmas
 mod TaskLemmas
-mod ThreadLemmas
+mod CallLemmas
+mod ActivationLemmas
 mod RangeLemmas
 mod PlainTasks
-mod StateLemmas
-mod LoadLemmas
-mod RunLemmas
+mod ThreadLemmas
