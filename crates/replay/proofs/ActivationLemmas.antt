@@ -1,7 +1,7 @@
 -- A call in progress takes the step of its first task.
 use Rattle.std.proofs.Common.{◌≡◌, ℕ, true, false, List, [], ◌∷◌, Option, Some, None, refl, sym, ap, ◌∙◌}
 use Rattle.std.specs.Borrow.{Bor}
-use Rattle.std.specs.Prelude.{Vec}
+use Rattle.std.specs.Global.{Vec}
 use Rattle.syntax.specs.declared.stmt.Stmt.{Stmt}
 use Rattle.syntax.specs.Tree.{SourceUnit}
 use Rattle.base.specs.Bytes.{Identifier}

@@ -112,6 +112,9 @@ module _ (scene : Scene) where
   loaded : loaded_objects w ≡ made_first (length w.classes) (map array_object scene.objects)
   loaded = loaded_is scene.classes w refl
 
+  pub before_is : (names : List Identifier) → names ≡ scene.classes → 42 + 2 * length names + 1 ≡ length w.classes + 1
+  before_is names is = let same : length names ≡ length scene.classes = ap (λ (l : List Identifier). length l) is in omega (arith, classes_count scene.classes, same)
+
   pub no_length : (n before : ℕ) → before ≡ length w.classes + 1 → n ≤ before → array_length w.classes (loaded_objects w) n ≡ None
   no_length n before is low =
       ap (λ (h : Heap). array_length w.classes h n) loaded ∙ lower scene.classes scene.objects (length w.classes) n (omega arith)

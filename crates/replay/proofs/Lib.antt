@@ -7,3 +7,9 @@ mod ActivationLemmas
 mod RangeLemmas
 mod PlainTasks
 mod ThreadLemmas
+mod RowLemmas
+mod ShownRows
+mod StateLemmas
+mod LoadLemmas
+mod RunLemmas
+mod StandingLemmas

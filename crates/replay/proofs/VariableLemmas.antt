@@ -1,5 +1,5 @@
 -- A variable is assigned at the first place of its name.
-use Rattle.std.proofs.Common.{◌≡◌, ℕ, zero, suc, ◌+◌, ◌<◌, ◌≤◌, Bool, true, false, cond, List, [], ◌∷◌, ◌++◌, length, map, Option, Some, None, refl, sym, ap, ◌∙◌, arith}
+use Rattle.std.proofs.Common.{◌≡◌, ℕ, zero, suc, ◌+◌, ◌<◌, ◌≤◌, Bool, true, false, cond, List, [], ◌∷◌, ◌++◌, length, map, Option, Some, None, refl, sym, ap, ◌∙◌, arith, append_assoc}
 use Rattle.std.specs.Prelude.{position, slice_set, nat_lt, not}
 use Rattle.std.specs.List.{position_or_len}
 use Rattle.std.specs.Str.{bytes_eq}
@@ -63,3 +63,10 @@ module _ (x : Identifier) (content : Content) where
       map-append variable_view vs (v ∷ []) ∙ ap (λ (y : Identifier × Content). variables_view vs ++ y ∷ []) is ∙ sym (assign_new vs (grind (arith, nat_tests, past)))
 
 pub ruleset assigned_rules = (assigned_there, assigned_new)
+
+-- one variable, and then those behind it
+pub added : (old new : List Variable) (v : Variable) (rest : Variables) → variables_view new ≡ variables_view (old ++ v ∷ []) ++ rest → variables_view new ≡ variables_view old ++ variable_view v ∷ rest
+added old new v rest is =
+    is ∙ ap (λ (l : Variables). l ++ rest) (map-append variable_view old (v ∷ [])) ∙ append_assoc (variables_view old) (variable_view v ∷ []) rest
+
+pub ruleset added_rules = (added)

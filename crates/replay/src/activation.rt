@@ -2,7 +2,7 @@
 
 ghost use Rattle.std.specs.Prelude.{◌≡◌, IfOk, Some, None, []};
 ghost use Rattle.world.specs.SceneWorld.{world_of_scene};
-ghost use Rattle.replay.specs.Activations.{tasks_left, StatementsInRange, IsInRange, Advances};
+ghost use Rattle.replay.specs.Activations.{tasks_left, StatementsInRange, IsInRange, IsApplied, Advances};
 ghost use Rattle.replay.specs.Tasks.{task_view, tasks_of_statements, TaskInRange, Does};
 
 use crate::task::{Outcome, Task, step, task_of};
@@ -42,7 +42,7 @@ fn begin<'a>(alloc: Global, activation: &mut Activation<'a>) -> Result<(), Alloc
 
 /// Does what a step did to the task that is begun and to the variables.
 fn apply<'a>(activation: &mut Activation<'a>, outcome: Outcome<'a>) -> Result<(), AllocError>
-    ensures { IfOk result (λ _. IsApplied activation.old outcome activation.new) }
+    ensures { IfOk result (λ _. IsApplied activation.old outcome.entry activation.new) }
 {
     match outcome {
         Outcome::Printed(_) => activation.task = None,

@@ -7,11 +7,15 @@ ghost use Rattle.replay.specs.Objects.{array_length};
 
 use world::World;
 
-/// How many objects are made before the world's own: a class object for each class, and the OutOfMemoryError object.
+/// How many classes there are in each world.
+const BUILT_IN_CLASSES: usize = 42;
+
+/// How many objects are made before the world's own: a class object for each class, of which each of the world's
+/// brings the class of its arrays, and the OutOfMemoryError object.
 pub(crate) fn made_before(world: &World) -> usize
     ensures { result ≡ length (world_of_scene world.now).classes + 1 }
 {
-    world.class_count() + 1
+    BUILT_IN_CLASSES + 2 * world.classes().len() + 1
 }
 
 /// The number of elements of this object; none where it is no array.

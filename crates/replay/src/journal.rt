@@ -66,7 +66,7 @@ pub fn replay<W: Sink>(
         Err(fault) => return Err(fault),
     };
     let standings = standings_of(alloc, &state)?;
-    let objects = Objects { world };
+    let objects = Objects { world: state.world };
     match write_run(out, &state.printed, &standings, &objects, journal) {
         Ok(()) => Ok(()),
         Err(_) => Err(ReplayFault::Writer),

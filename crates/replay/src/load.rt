@@ -30,12 +30,16 @@ fn fits_parameter(parameter: &Parameter, argument: &Argument) -> bool
 
 /// Whether there are as many arguments as parameters, and each fits.
 fn fit_parameters(parameters: &[Parameter], arguments: &[Argument]) -> bool
-    ensures { result ≡ fit_parameters (map parameter_tree parameters.now) (map argument_view arguments.now) }
+    ensures { result ≡ fit_parameters (map parameter_tree parameters.entry.now) (map argument_view arguments.entry.now) }
 {
-    match (parameters, arguments) {
-        ([], []) => true,
-        ([p, parameters @ ..], [a, arguments @ ..]) => fits_parameter(p, a) && fit_parameters(parameters, arguments),
-        _ => false,
+    match parameters {
+        [] => arguments.is_empty(),
+        [parameter, parameters @ ..] => match arguments {
+            [] => false,
+            [argument, arguments @ ..] => {
+                fits_parameter(parameter, argument) && fit_parameters(parameters, arguments)
+            }
+        },
     }
 }
 

@@ -1,16 +1,16 @@
 //! The rows of a report: the world's objects, each of which can still be reached.
 
-ghost use Rattle.std.specs.Prelude.{◌≡◌, ◌+◌, ◌<◌, ◌^◌, length};
+ghost use Rattle.std.specs.Prelude.{◌≡◌};
 ghost use Rattle.std.specs.List.{flat_map};
 ghost use Rattle.classes.specs.BuiltIns.{number_array};
 ghost use Rattle.world.specs.Report.{object_line};
-ghost use Rattle.world.specs.SceneWorld.{world_of_scene};
+ghost use Rattle.world.specs.Shown.{name_view};
 ghost use Rattle.world.specs.Sink.{CanFail, Writes};
 ghost use Rattle.world.specs.Views.{element_view};
-ghost use Rattle.replay.specs.Rows.{number_text, array_row, rows_of, rows_text};
+ghost use Rattle.replay.specs.Rows.{number_text, number_row, rows_text};
 
 use crate::heap::made_before;
-use world::{Array, Element, Rows, Shown, Sink, SinkFailed, World, put_row_end, put_row_head, put_value};
+use world::{ClassName, Element, Rows, Shown, Sink, SinkFailed, World, put_row_end, put_row_head, put_value};
 
 /// The world's own objects. They are made at load, and so stay reachable.
 #[derive(Clone, Copy)]
@@ -41,18 +41,18 @@ fn put_numbers<S: Sink>(sink: &mut S, numbers: &[i32]) -> Result<(), SinkFailed>
     Ok(())
 }
 
-/// Puts the row of an array of this name.
+/// Puts the row of an object of this name and class.
 fn put_row<S: Sink>(
     sink: &mut S,
-    world: &World,
     name: u32,
-    array: &Array,
+    class: ClassName<'_>,
+    numbers: &[i32],
 ) -> Result<(), SinkFailed>
     requires { CanFail (S.written sink.old) }
-    ensures { Writes (S.written sink.old) (S.written sink.new) result (object_line (array_row (world_of_scene world.now).classes (name, array.now))) }
+    ensures { Writes (S.written sink.old) (S.written sink.new) result (object_line (number_row name (name_view class.entry) numbers.now)) }
 {
-    put_row_head(sink, name, world.class_name(array_class(array.element())))?;
-    put_numbers(sink, array.values())?;
+    put_row_head(sink, name, class)?;
+    put_numbers(sink, numbers)?;
     put_row_end(sink)
 }
 
@@ -61,9 +61,13 @@ fn put_rows<S: Sink>(sink: &mut S, world: &World) -> Result<(), SinkFailed>
     requires { CanFail (S.written sink.old) }
     ensures { Writes (S.written sink.old) (S.written sink.new) result (rows_text world.now) }
 {
-    let before = made_before(world);
-    for (i, array) in world.objects().iter().enumerate() {
-        put_row(sink, world, (before + 1 + i) as u32, array)?;
+    // The proof reads off this call that names are below 2 to the 32.
+    let _cells = world.heap();
+    let mut name = made_before(world);
+    for array in world.objects() {
+        name += 1;
+        let class = world.class_name(array_class(array.element()));
+        put_row(sink, name as u32, class, array.values())?;
     }
     Ok(())
 }

@@ -123,9 +123,13 @@ fn standing_of(stop: Option<Stop>, k: usize, thread: &Thread<'_>) -> Standing
 pub(crate) fn standings_of(alloc: Global, state: &State<'_>) -> Result<Vec<Standing>, AllocError>
     ensures { IfOk result (λ standings. standings.items ≡ standings_of state.now) }
 {
+    let stop = state.stop;
+    let threads = state.threads.as_slice();
     let mut standings = Vec::new(alloc);
-    for (i, thread) in state.threads.iter().enumerate() {
-        standings.push(standing_of(state.stop, i + 1, thread))?;
+    let mut k = 0;
+    for thread in threads {
+        k += 1;
+        standings.push(standing_of(stop, k, thread))?;
     }
     Ok(standings)
 }

@@ -73,22 +73,29 @@ fn content_of(argument: Argument) -> Content
     }
 }
 
-/// The variables of parameters, each with its argument.
+/// Adds the variables of parameters, each with its argument.
+#[tactic(auto, using(crate::proofs::VariableLemmas::added_rules))]
 fn add_parameters<'a>(
     variables: &mut Vec<Variable<'a>>,
     parameters: &'a [Parameter],
     arguments: &[Argument],
 ) -> Result<(), AllocError>
     ensures { IfOk result (λ _. variables_view variables.new.items ≡ variables_view variables.old.items
-        ++ parameter_variables (zip (map parameter_tree parameters.entry.now) (map argument_view arguments.now))) }
+        ++ parameter_variables (zip (map parameter_tree parameters.entry.now) (map argument_view arguments.entry.now))) }
 {
-    for (parameter, argument) in parameters.iter().zip(arguments) {
-        variables.push(Variable {
-            name: &parameter.name,
-            content: content_of(*argument),
-        })?;
+    match parameters {
+        [] => Ok(()),
+        [parameter, parameters @ ..] => match arguments {
+            [] => Ok(()),
+            [argument, arguments @ ..] => {
+                variables.push(Variable {
+                    name: &parameter.name,
+                    content: content_of(*argument),
+                })?;
+                add_parameters(variables, parameters, arguments)
+            }
+        },
     }
-    Ok(())
 }
 
 /// The number of the class whose native method a function is.
@@ -154,7 +161,7 @@ fn enter<'a>(
 
 /// What others see of what a call in progress did.
 fn step_of(outcome: Outcome<'_>) -> Step
-    ensures { result ≡ step_of outcome }
+    ensures { result ≡ step_of outcome.entry }
 {
     match outcome {
         Outcome::Stays | Outcome::Sets(_, _) | Outcome::Returned => Step::Quiet,

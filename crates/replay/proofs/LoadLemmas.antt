@@ -1,0 +1,103 @@
+-- The first call that doesn't fit, and the threads before their first calls.
+use Rattle.std.proofs.Common.{◌≡◌, ℕ, zero, suc, ◌+◌, Bool, true, false, cond, ◌&&◌, is_some, drop, take, List, [], ◌∷◌, ◌++◌, map, Option, Some, None, refl, sym, ap, ◌∙◌, subst, arith, IsTrue}
+use Rattle.std.specs.Prelude.{slice_get, not, filter}
+use Rattle.std.specs.List.{flat_map, list_all}
+use Rattle.std.specs.Global.{Vec}
+use Rattle.syntax.specs.Tree.{SourceUnit}
+use Rattle.classes.specs.Class.{Classes}
+use Rattle.world.specs.Scene.{CallScene}
+use Rattle.world.specs.SceneWorld.{invocation_of}
+use Rattle.world.specs.World.{Invocation}
+use Rattle.regions.specs.Load.{call_loads}
+use Rattle.regions.specs.Start.{waiting_thread}
+use Rattle.replay.specs.declared.thread.Thread.{Thread as ThreadInMemory}
+use Rattle.replay.specs.Loading.{refused_calls, first_line, IsWaiting, AreWaiting}
+use Rattle.replay.specs.States.{ThreadsStand}
+use Rattle.replay.specs.Threads.{ThreadStands, VariablesIn, tasks_in, ending_in}
+use Rattle.replay.specs.declared.activation.Activation.{Activation}
+
+-- the calls of each thread
+abbrev pub calls_of : List (Vec CallScene) → List (List Invocation)
+calls_of threads = map (λ calls. map invocation_of calls) (map (λ (t : Vec CallScene). t.items) threads)
+
+-- ---- lists
+
+-- the elements from a place on
+pub drop_more : {A : Type 0} (xs : List A) (i : ℕ) (x : A) → slice_get xs i ≡ Some x → drop i xs ≡ x ∷ drop (i + 1) xs
+drop_more [] i x h = absurd (cc)
+drop_more {A} (y ∷ xs) zero x h = let same : y ≡ x = cc in ap (λ (z : A). z ∷ xs) same
+drop_more (y ∷ xs) (suc i) x h = let e : suc i + 1 ≡ suc (i + 1) = omega arith in rw e (drop_more xs i x h)
+
+-- one element more
+pub take_more : {A : Type 0} (xs : List A) (i : ℕ) (x : A) → slice_get xs i ≡ Some x → take (i + 1) xs ≡ take i xs ++ x ∷ []
+take_more [] i x h = absurd (cc)
+take_more {A} (y ∷ xs) zero x h = let same : y ≡ x = cc in ap (λ (z : A). z ∷ []) same
+take_more {A} (y ∷ xs) (suc i) x h = let e : suc i + 1 ≡ suc (i + 1) = omega arith in rw e (ap (λ (l : List A). y ∷ l) (take_more xs i x h))
+
+none_of_both : {A : Type 0} (xs ys : List A) → xs ++ ys ≡ [] → (xs ≡ []) × (ys ≡ [])
+none_of_both [] ys e = (refl, e)
+none_of_both (x ∷ xs) ys e = absurd (cc)
+
+all_pass : (p : Invocation → Bool) (xs : List Invocation) → filter (λ c. not (p c)) xs ≡ [] → list_all p xs ≡ true
+all_pass p [] e = refl
+all_pass p (x ∷ xs) e = by_test (p x) e (all_pass p xs)
+  where
+    by_test : (b : Bool) → cond (not b) (x ∷ filter (λ c. not (p c)) xs) (filter (λ c. not (p c)) xs) ≡ [] → (filter (λ c. not (p c)) xs ≡ [] → list_all p xs ≡ true) → (b && list_all p xs) ≡ true
+    by_test true e further = further e
+    by_test false e further = absurd (cc)
+
+-- ---- the first line
+
+first_of_both : (xs ys : List Invocation) (line : Option ℕ) → line ≡ first_line xs → is_some line ≡ true → line ≡ first_line (xs ++ ys)
+first_of_both [] ys line e h = let bad : false ≡ true = subst (λ (o : Option ℕ). is_some o ≡ true) e h in absurd (cc)
+first_of_both (x ∷ xs) ys line e h = e
+
+-- no line, so no call
+pub no_call : (xs : List Invocation) (line : Option ℕ) → line ≡ first_line xs → is_some line ≡ false → xs ≡ []
+no_call [] line e h = refl
+no_call (x ∷ xs) line e h = let bad : true ≡ false = subst (λ (o : Option ℕ). is_some o ≡ false) e h in absurd (cc)
+
+pub not_some : {A : Type 0} (o : Option A) → ((x : A) → o ≡ Some x → ⊥) → is_some o ≡ false
+not_some None h = refl
+not_some (Some x) h = absurd (h x refl)
+
+module _ (unit : SourceUnit) (classes : Classes) where
+  abbrev pub refused : List (List Invocation) → List Invocation
+  refused threads = flat_map (refused_calls unit classes) threads
+
+  module _ (items : List (Vec CallScene)) (i : ℕ) (v : Vec CallScene) (line : Option ℕ) (at : slice_get items i ≡ Some v) (is : line ≡ first_line (refused_calls unit classes (map invocation_of v.items))) (so_far : refused (calls_of items) ≡ refused (calls_of (drop i items))) where
+    behind : refused (calls_of (drop i items)) ≡ refused_calls unit classes (map invocation_of v.items) ++ refused (calls_of (drop (i + 1) items))
+    behind = ap (λ (vs : List (Vec CallScene)). refused (calls_of vs)) (drop_more items i v at)
+
+    -- the first refused call is in this thread
+    pub line_here : is_some line ≡ true → line ≡ first_line (refused (calls_of items))
+    line_here some =
+        first_of_both (refused_calls unit classes (map invocation_of v.items)) (refused (calls_of (drop (i + 1) items))) line is some
+        ∙ ap first_line (sym (so_far ∙ behind))
+
+    -- or it is behind this thread
+    pub line_later : is_some line ≡ false → refused (calls_of items) ≡ refused (calls_of (drop (i + 1) items))
+    line_later none =
+        so_far ∙ behind
+        ∙ ap (λ (cs : List Invocation). cs ++ refused (calls_of (drop (i + 1) items))) (no_call (refused_calls unit classes (map invocation_of v.items)) line is none)
+
+  -- a thread whose calls all fit
+  stands_waiting : (t : ThreadInMemory) (calls : List CallScene) → IsWaiting t calls → refused_calls unit classes (map invocation_of calls) ≡ [] → ThreadStands unit classes t (waiting_thread (map invocation_of calls))
+  stands_waiting t calls h none = record {
+    calls = ap (map invocation_of) (sym h.same);
+    loads = subst (λ (cs : List CallScene). IsTrue (list_all (call_loads unit classes) (map invocation_of cs))) (sym h.same) (all_pass (call_loads unit classes) (map invocation_of calls) none);
+    tasks = ap tasks_in (sym h.idle);
+    variables = subst (λ (o : Option Activation). VariablesIn o []) (sym h.idle) tt;
+    pending = refl;
+    ending = ap ending_in (sym h.unended);
+  }
+
+  -- all of them
+  pub stand_waiting : (ts : List ThreadInMemory) (threads : List (List CallScene)) → AreWaiting ts threads → refused (map (λ calls. map invocation_of calls) threads) ≡ []
+      → ThreadsStand unit classes ts (map waiting_thread (map (λ calls. map invocation_of calls) threads))
+  stand_waiting [] [] h none = tt
+  stand_waiting [] (c ∷ cs) h none = absurd h
+  stand_waiting (t ∷ ts) [] h none = absurd h
+  stand_waiting (t ∷ ts) (c ∷ cs) h none =
+      let parts = none_of_both (refused_calls unit classes (map invocation_of c)) (refused (map (λ calls. map invocation_of calls) cs)) none in
+      (stands_waiting t c h.0 parts.0, stand_waiting ts cs h.1 parts.1)

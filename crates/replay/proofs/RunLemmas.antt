@@ -1,0 +1,100 @@
+-- A journal's replay goes on by an entry, or stops before it.
+use Rattle.std.proofs.Common.{◌≡◌, ℕ, ◌+◌, ◌<◌, ◌≤◌, true, false, [], ◌∷◌, ◌++◌, length, drop, take, map, Option, Some, None, refl, sym, ap, ◌∙◌, subst, arith}
+use Rattle.std.specs.Prelude.{slice_get, is_some}
+use Rattle.std.specs.Option.{option_and_then}
+use Rattle.std.proofs.lemmas.List.{take-append-drop, length-take-le, take_all}
+use Rattle.syntax.specs.Tree.{SourceUnit}
+use Rattle.world.specs.declared.journal.Entry.{Entry}
+use Rattle.world.specs.Journal.{Journal, journal_line}
+use Rattle.world.specs.Report.{Report, report_text}
+use Rattle.world.specs.Sink.{Written}
+use Rattle.world.specs.Shown.{report_with}
+use Rattle.world.specs.World.{World}
+use Rattle.regions.specs.Load.{first_load_fault}
+use Rattle.regions.specs.Run.{Writes, replay, replay_from}
+use Rattle.regions.specs.Start.{start}
+use Rattle.regions.specs.State.{State}
+use Rattle.regions.proofs.RunLaws.{replay_from-append, replay_more}
+use Rattle.replay.specs.declared.fault.ReplayFault.{ReplayFault}
+use Rattle.replay.specs.declared.fault.ReplayFault.TheVariants.{DoesNotFit, Impossible, Memory, Writer}
+use Rattle.replay.specs.declared.state.State.{State as StateInMemory}
+use Rattle.replay.specs.States.{TakesEntry, AreInRange, standings_of}
+use Rattle.replay.specs.Rows.{rows_of}
+use Rattle.replay.specs.Replays.{IsFirstImpossible, Replayed, IsRefused, IsLoadFault, IsStoppedBy, IsReplayable, IsFromOutside}
+use Rattle.replay.proofs.LoadLemmas.{drop_more, take_more}
+use Rattle.replay.proofs.StateLemmas.{report_same}
+
+module _ (unit : SourceUnit) (w : World) (journal : Journal) (i : ℕ) (e : Entry) (old new : StateInMemory) (at : slice_get journal i ≡ Some e) (h : Replayed unit w (take i journal) old) where
+  -- the entry isn't possible
+  pub stops : i < length journal → TakesEntry unit old e false new → (first_load_fault unit w ≡ None) × IsFirstImpossible unit w journal (i + 1)
+  stops low step = (
+    h.fits,
+    record {
+      done = take i journal;
+      entry = e;
+      rest = drop (i + 1) journal;
+      whole = sym (take-append-drop i journal) ∙ ap (λ (l : Journal). take i journal ++ l) (drop_more journal i e at);
+      number = omega (arith, length-take-le i journal (omega arith));
+      before = h.end;
+      replays = h.replays;
+      impossible = step w h.end h.stands;
+    },
+  )
+
+  -- it is possible
+  pub goes_on : TakesEntry unit old e true new → AreInRange new.threads.items → Replayed unit w (take (i + 1) journal) new
+  goes_on step range =
+      let next = step w h.end h.stands in
+      record {
+        fits = h.fits;
+        end = next.0;
+        replays = ap (replay unit w) (take_more journal i e at) ∙ replay_more unit w (take i journal) e h.end next.0 h.replays next.1;
+        stands = next.2;
+        range = range;
+      }
+
+pub at_end : (unit : SourceUnit) (w : World) (journal : Journal) (i : ℕ) (m : StateInMemory) → length journal ≤ i → Replayed unit w (take i journal) m → Replayed unit w journal m
+at_end unit w journal i m past h = subst (λ j. Replayed unit w j m) (take_all i journal past) h
+
+-- ---- faults
+
+-- a replay that didn't begin
+pub not_begun : (unit : SourceUnit) (w : World) (journal : Journal) (f : ReplayFault) → IsLoadFault unit w f → IsRefused unit w journal f
+not_begun unit w journal (DoesNotFit line) h = h
+not_begun unit w journal (Impossible i) h = absurd h
+not_begun unit w journal Memory h = tt
+not_begun unit w journal Writer h = absurd h
+
+-- nothing was written
+pub unwritten : (unit : SourceUnit) (w : World) (journal : Journal) (old : Written) (f : ReplayFault) → IsRefused unit w journal f → IsStoppedBy unit w journal old old f
+unwritten unit w journal old (DoesNotFit line) h = (h, refl)
+unwritten unit w journal old (Impossible i) h = (h.0, h.1, refl)
+unwritten unit w journal old Memory h = refl
+unwritten unit w journal old Writer h = absurd h
+
+-- a journal with an impossible entry has no replay
+no_replay : (unit : SourceUnit) (w : World) (journal : Journal) (i : ℕ) → IsFirstImpossible unit w journal i → replay unit w journal ≡ None
+no_replay unit w journal i h =
+    ap (replay unit w) h.whole
+    ∙ replay_from-append unit w (start unit w) h.done (h.entry ∷ h.rest)
+    ∙ ap (option_and_then (λ s. replay_from unit w s (h.entry ∷ h.rest))) h.replays
+    ∙ ap (option_and_then (λ s. replay_from unit w s h.rest)) h.impossible
+
+-- a journal that can be replayed is refused for lack of memory alone
+pub from_outside : (unit : SourceUnit) (w : World) (journal : Journal) (f : ReplayFault) → IsRefused unit w journal f → IsReplayable unit w journal → IsFromOutside f
+from_outside unit w journal (DoesNotFit line) h r = let bad : None ≡ Some line = sym r.fits ∙ h in absurd (cc)
+from_outside unit w journal (Impossible i) h r =
+    let bad : false ≡ true = subst (λ (o : Option State). is_some o ≡ true) (no_replay unit w journal i h.1) r.defined in absurd (cc)
+from_outside unit w journal Memory h r = tt
+from_outside unit w journal Writer h r = absurd h
+
+-- ---- the text
+
+-- what is written from the state in memory is what the run writes
+pub writes : (unit : SourceUnit) (w : World) (journal : Journal) (m : StateInMemory) → Replayed unit w journal m
+    → Writes unit w journal (report_text (report_with m.printed.items (standings_of m) (rows_of m.world.now)) ++ journal_line journal)
+writes unit w journal m h = record {
+  end = h.end;
+  replays = h.replays;
+  same = ap (λ (r : Report). report_text r ++ journal_line journal) (sym (report_same unit w m h.end h.stands h.range));
+}
