@@ -1,5 +1,5 @@
 -- The text of a row, and the rows of a world.
-use Rattle.std.proofs.Common.{◌≡◌, ℕ, ℤ, ◌+◌, ◌*◌, ◌<◌, ◌≤◌, List, [], ◌∷◌, ◌++◌, length, map, drop, get_or, replicate, refl, sym, ap, ◌∙◌, append_assoc, arith, length-append}
+use Rattle.std.proofs.Common.{◌≡◌, ℕ, ℤ, ◌+◌, ◌*◌, ◌<◌, ◌≤◌, List, [], ◌∷◌, ◌++◌, length, map, drop, get_or, replicate, refl, sym, ap, ◌∙◌, arith, length-append}
 use Rattle.std.specs.Prelude.{decimal, codes, IsTrue}
 use Rattle.std.specs.List.{flat_map, enumerate_from}
 use Rattle.std.proofs.lemmas.List.{get_or-map, length-map, length-replicate}
@@ -8,7 +8,8 @@ use Rattle.std.proofs.lemmas.List.Sums.{sum_by-cons}
 use Rattle.std.proofs.lemmas.Bool.Decides.{nat_tests}
 use Rattle.base.specs.Bytes.{Identifier}
 use Rattle.base.specs.Element.{ElementType}
-use Rattle.classes.specs.Class.{Classes}
+use Rattle.classes.specs.BuiltIns.{number_array}
+use Rattle.classes.specs.Class.{Classes, class_name}
 use Rattle.world.specs.Object.{Object, size, sizes}
 use Rattle.world.specs.Report.{ShownNumber, ShownRow, ShownValue, shown_text, text_line, object_line}
 use Rattle.world.specs.Scene.{ArrayScene, Scene}
@@ -25,9 +26,7 @@ numbers_are (z ∷ values) = ap (λ (l : List ℕ). number_text z ++ l) (numbers
 
 -- the head of a row, its numbers and its end
 pub row_is : (n : ℕ) (class : Identifier) (values : List ℤ) → object_line (number_row n class values) ≡ (row_head n class ++ flat_map number_text values) ++ text_line []
-row_is n class values =
-    ap (λ (l : List ℕ). text_line (codes "#" ++ decimal n ++ codes " " ++ class ++ l)) (numbers_are values)
-    ∙ ap (λ (l : List ℕ). (35 ∷ l) ++ 10 ∷ []) (sym (append_assoc (decimal n) (32 ∷ class) (flat_map number_text values)))
+row_is n class values = ap (λ (l : List ℕ). text_line (row_head n class ++ l)) (numbers_are values)
 
 -- ---- the rows of all objects
 
@@ -42,16 +41,19 @@ module _ (scene : Scene) where
   length-rows = length-map (enumerate_from first scene.objects) (array_row w.classes) ∙ length-enumerate_from first scene.objects
 
   -- the line of an object, and those behind it
-  pub row_at : (i n : ℕ) (a : ArrayScene) (class : Identifier) (numbers : List ℤ) → i < length scene.objects → n ≡ first + i
-      → array_row w.classes (n, get_or scene.objects i a) ≡ number_row n class numbers
+  pub row_at : (i n : ℕ) (a : ArrayScene) (class : Identifier) (numbers : List ℤ) → i < length scene.objects → n ≡ length w.classes + 1 + i + 1 → get_or scene.objects i a ≡ a
+      → class ≡ class_name w.classes (number_array a.element) → numbers ≡ a.values
       → flat_map object_line (drop i (rows_of scene)) ≡ object_line (number_row n class numbers) ++ flat_map object_line (drop (i + 1) (rows_of scene))
-  row_at i n a class numbers low counted is =
+  row_at i n a class numbers low counted is named valued =
       let long : i < length (enumerate_from first scene.objects) = omega (arith, low, length-enumerate_from first scene.objects) in
+      let number : first + i ≡ n = omega (arith, counted) in
       let row : get_or (rows_of scene) i (array_row w.classes (first, a)) ≡ number_row n class numbers =
       get_or-map (array_row w.classes) (enumerate_from first scene.objects) i (first, a) (array_row w.classes (first, a)) long
       ∙ ap (array_row w.classes) (get_or-enumerate_from first scene.objects i (first, a) low)
-      ∙ ap (λ (m : ℕ). array_row w.classes (m, get_or scene.objects i a)) (sym counted)
-      ∙ is in
+      ∙ ap (λ (m : ℕ). array_row w.classes (m, get_or scene.objects i a)) number
+      ∙ ap (λ (b : ArrayScene). array_row w.classes (n, b)) is
+      ∙ ap (λ (c : Identifier). number_row n c a.values) (sym named)
+      ∙ ap (number_row n class) (sym valued) in
       flat_map-at object_line (rows_of scene) i (array_row w.classes (first, a)) (omega (arith, low, length-rows))
       ∙ ap (λ (r : ShownRow). object_line r ++ flat_map object_line (drop (i + 1) (rows_of scene))) row
 

@@ -30,13 +30,21 @@ fn array_class(element: Element) -> usize
     }
 }
 
+/// Puts a number of a row.
+fn put_number<S: Sink>(sink: &mut S, number: i32) -> Result<(), SinkFailed>
+    requires { CanFail (S.written sink.old) }
+    ensures { Writes (S.written sink.old) (S.written sink.new) result (number_text number) }
+{
+    put_value(sink, Shown::Number(number))
+}
+
 /// Puts the numbers of a row.
 fn put_numbers<S: Sink>(sink: &mut S, numbers: &[i32]) -> Result<(), SinkFailed>
     requires { CanFail (S.written sink.old) }
     ensures { Writes (S.written sink.old) (S.written sink.new) result (flat_map number_text numbers.now) }
 {
     for number in numbers {
-        put_value(sink, Shown::Number(*number))?;
+        put_number(sink, *number)?;
     }
     Ok(())
 }
@@ -64,7 +72,8 @@ fn put_rows<S: Sink>(sink: &mut S, world: &World) -> Result<(), SinkFailed>
     // The proof reads off this call that names are below 2 to the 32.
     let _cells = world.heap();
     let mut name = made_before(world);
-    for array in world.objects() {
+    let objects = world.objects();
+    for array in objects {
         name += 1;
         let class = world.class_name(array_class(array.element()));
         put_row(sink, name as u32, class, array.values())?;
