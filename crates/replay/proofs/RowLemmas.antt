@@ -1,5 +1,5 @@
 -- The text of a row, and the rows of a world.
-use Rattle.std.proofs.Common.{◌≡◌, ℕ, ℤ, ◌+◌, ◌*◌, ◌<◌, ◌≤◌, List, [], ◌∷◌, ◌++◌, length, map, drop, get_or, replicate, refl, sym, ap, ◌∙◌, arith, length-append}
+use Rattle.std.proofs.Common.{◌≡◌, ℕ, ℤ, ◌+◌, ◌*◌, ◌<◌, ◌≤◌, ◌^◌, List, [], ◌∷◌, ◌++◌, length, map, drop, get_or, replicate, refl, sym, ap, ◌∙◌, arith, length-append}
 use Rattle.std.specs.Prelude.{decimal, codes, IsTrue}
 use Rattle.std.specs.List.{flat_map, enumerate_from}
 use Rattle.std.proofs.lemmas.List.{get_or-map, length-map, length-replicate}
@@ -73,3 +73,9 @@ module _ (scene : Scene) where
       ∙ length-append (replicate (length w.classes) plain_class_object) (error_object ∷ map array_object scene.objects)
       ∙ (let one = length-replicate (length w.classes) plain_class_object in let two = length-map scene.objects array_object in omega (arith, one, two)) in
       omega (arith, at_least (loaded_objects w), within, counted)
+
+  -- each name is below 2 to the 32
+  pub name_low : (objects : List ArrayScene) (cells n i : ℕ) → IsTrue (fits_cells w) → objects ≡ scene.objects → cells ≡ scene.heap → cells < 2 ^ 32 → n ≡ length w.classes + 1 + i → i < length objects → n + 1 < 2 ^ 32
+  name_low objects cells n i fits same counted few named low =
+      let long : length objects ≡ length scene.objects = ap (λ (l : List ArrayScene). length l) same in
+      omega (arith, names_fit fits, long, counted, few, named, low)

@@ -13,15 +13,20 @@ module _ (stop : Option Stop) (ts : List Thread) where
   numbered = enumerate_from 1 ts
 
   -- one thread more
-  pub standing_more : (acc : List Standing) (i k : ℕ) (d : Thread) → i < length ts → k ≡ i → map (standing_of stop) numbered ≡ acc ++ map (standing_of stop) (drop i numbered)
-      → map (standing_of stop) numbered ≡ (acc ++ standing_of stop (k + 1, get_or ts i d) ∷ []) ++ map (standing_of stop) (drop (i + 1) numbered)
-  standing_more acc i k d low counted h =
+  pub standing_more : (acc : List Standing) (i k : ℕ) (x : Thread) (out : Standing) → i < length ts → k ≡ i → x ≡ get_or ts i x → out ≡ standing_of stop (k + 1, x) → map (standing_of stop) numbered ≡ acc ++ map (standing_of stop) (drop i numbered)
+      → map (standing_of stop) numbered ≡ (acc ++ out ∷ []) ++ map (standing_of stop) (drop (i + 1) numbered)
+  standing_more acc i k x out low counted is gives h =
       let long : i < length numbered = omega (arith, low, length-enumerate_from 1 ts) in
-      let item : get_or numbered i (1, d) ≡ (k + 1, get_or ts i d) = get_or-enumerate_from 1 ts i (1, d) low ∙ ap (λ n. (n, get_or ts i d)) (let e : 1 + i ≡ k + 1 = omega (arith, counted) in e) in
+      let number : 1 + i ≡ k + 1 = omega (arith, counted) in
+      let item : get_or numbered i (1, x) ≡ (k + 1, x) =
+      get_or-enumerate_from 1 ts i (1, x) low
+      ∙ ap (λ (n : ℕ). (n, get_or ts i x)) number
+      ∙ ap (λ (t : Thread). (k + 1, t)) (sym is) in
       h
-      ∙ ap (λ (l : List Standing). acc ++ l) (at_drop_more (map (standing_of stop)) numbered i (1, d) long)
+      ∙ ap (λ (l : List Standing). acc ++ l) (at_drop_more (map (standing_of stop)) numbered i (1, x) long)
       ∙ ap (λ (v : ℕ × Thread). acc ++ standing_of stop v ∷ map (standing_of stop) (drop (i + 1) numbered)) item
-      ∙ sym (append_assoc acc (standing_of stop (k + 1, get_or ts i d) ∷ []) (map (standing_of stop) (drop (i + 1) numbered)))
+      ∙ ap (λ (o : Standing). acc ++ o ∷ map (standing_of stop) (drop (i + 1) numbered)) (sym gives)
+      ∙ sym (append_assoc acc (out ∷ []) (map (standing_of stop) (drop (i + 1) numbered)))
 
   -- all of them
   pub standings_all : (acc : List Standing) (i : ℕ) → length ts ≤ i → map (standing_of stop) numbered ≡ acc ++ map (standing_of stop) (drop i numbered) → acc ≡ map (standing_of stop) numbered
