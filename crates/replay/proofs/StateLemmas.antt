@@ -120,9 +120,9 @@ module _ (unit : SourceUnit) (w : World) (m : StateInMemory) (s : State) (h : St
   stop_is None e = absurd (cc)
   stop_is (Some stop) e = refl
 
-  first_fails : (a b : Bool) → a ≡ false → (a && b) ≡ false
-  first_fails true b e = absurd (cc)
-  first_fails false b e = refl
+  first_fails : (a b c : Bool) → a ≡ false → (a && b && c) ≡ false
+  first_fails true b c e = absurd (cc)
+  first_fails false b c e = refl
 
   -- a machine that has stopped takes no step
   pub stopped : (e : Entry) → is_some m.stop ≡ true → world_step unit w.classes s e ≡ None
@@ -130,7 +130,7 @@ module _ (unit : SourceUnit) (w : World) (m : StateInMemory) (s : State) (h : St
   stopped e is =
       let over : is_none s.stop ≡ false = ap is_none h.stop ∙ stop_is m.stop is in
       none_else (can_step w.classes s e.thread) (step_of unit w.classes s e.thread e.refused (thread_at s e.thread))
-      (first_fails (is_none s.stop) (is_live (thread_at s e.thread) && not (is_blocked w.classes s e.thread)) over)
+      (first_fails (is_none s.stop) (is_live (thread_at s e.thread)) (not (is_blocked w.classes s e.thread)) over)
 
   not_stopped : (o : Option StopInMemory) → is_some o ≡ false → option_map stop_view o ≡ None
   not_stopped None e = refl
