@@ -153,7 +153,7 @@ module _ (unit : SourceUnit) (w : World) (m : StateInMemory) (s : State) (h : St
   refused_thread zero (Some x) there = absurd (cc)
   refused_thread (suc i) (Some x) there =
       let t = stood_for unit w.classes m.threads.items s.threads i x h.threads range there in
-      ap (advanced s (suc i)) (refused_none unit w.classes s.shared (lent s) (suc i) t.0 x t.1.0 t.1.1)
+      ap (advanced s (suc i)) (refused_none unit w.classes s.shared (lent s) (suc i) t.0 x t.1 t.2)
 
   -- no allocation can be refused
   pub refused : (e : Entry) → e.refused ≡ true → world_step unit w.classes s e ≡ None
@@ -176,7 +176,7 @@ module _ (unit : SourceUnit) (w : World) (m : StateInMemory) (s : State) (h : St
   waiting_none zero (Some x) there = absurd (cc)
   waiting_none (suc i) (Some x) there =
       let t = stood_for unit w.classes m.threads.items s.threads i x h.threads range there in
-      waits_none unit w.classes s.shared (suc i) t.0 x t.1.0 t.1.1
+      waits_none unit w.classes s.shared (suc i) t.0 x t.1 t.2
 
   blocked_none : (k : ℕ) → is_blocked w.classes s k ≡ false
   blocked_none k = waiting_none k (thread_at s k) refl

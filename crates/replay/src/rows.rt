@@ -70,7 +70,7 @@ fn put_rows<S: Sink>(sink: &mut S, world: &World) -> Result<(), SinkFailed>
     ensures { Writes (S.written sink.old) (S.written sink.new) result (rows_text world.now) }
 {
     // The proof reads off this call that names are below 2 to the 32.
-    let _ = world.heap();
+    let _cells = world.heap();
     let mut name = made_before(world);
     let objects = world.objects();
     for array in objects {
