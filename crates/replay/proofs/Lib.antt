@@ -1,7 +1,15 @@
+mod LoadedObjects
+mod HeapLemmas
+mod VariableLemmas
 mod TaskLemmas
-mod ThreadLemmas
+mod CallLemmas
+mod ActivationLemmas
 mod RangeLemmas
 mod PlainTasks
+mod ThreadLemmas
+mod RowLemmas
+mod ShownRows
 mod StateLemmas
 mod LoadLemmas
 mod RunLemmas
+mod StandingLemmas

@@ -8,7 +8,7 @@ use Rattle.world.specs.declared.journal.Entry.{Entry}
 use Rattle.world.specs.Journal.{Journal, journal_line}
 use Rattle.world.specs.Report.{Report, report_text}
 use Rattle.world.specs.Sink.{Written}
-use Rattle.world.specs.Standing.{report_without_objects}
+use Rattle.world.specs.Shown.{report_with}
 use Rattle.world.specs.World.{World}
 use Rattle.regions.specs.Load.{first_load_fault}
 use Rattle.regions.specs.Run.{Writes, replay, replay_from}
@@ -18,7 +18,8 @@ use Rattle.regions.proofs.RunLaws.{replay_from-append, replay_more}
 use Rattle.replay.specs.declared.fault.ReplayFault.{ReplayFault}
 use Rattle.replay.specs.declared.fault.ReplayFault.TheVariants.{DoesNotFit, Impossible, Memory, Writer}
 use Rattle.replay.specs.declared.state.State.{State as StateInMemory}
-use Rattle.replay.specs.States.{TakesEntry, standing_of}
+use Rattle.replay.specs.States.{TakesEntry, AreInRange, standings_of}
+use Rattle.replay.specs.Rows.{rows_of}
 use Rattle.replay.specs.Replays.{IsFirstImpossible, Replayed, IsRefused, IsLoadFault, IsStoppedBy, IsReplayable, IsFromOutside}
 use Rattle.replay.proofs.LoadLemmas.{drop_more, take_more}
 use Rattle.replay.proofs.StateLemmas.{report_same}
@@ -41,14 +42,15 @@ module _ (unit : SourceUnit) (w : World) (journal : Journal) (i : ℕ) (e : Entr
   )
 
   -- it is possible
-  pub goes_on : TakesEntry unit old e true new → Replayed unit w (take (i + 1) journal) new
-  goes_on step =
+  pub goes_on : TakesEntry unit old e true new → AreInRange new.threads.items → Replayed unit w (take (i + 1) journal) new
+  goes_on step range =
       let next = step w h.end h.stands in
       record {
         fits = h.fits;
         end = next.0;
         replays = ap (replay unit w) (take_more journal i e at) ∙ replay_more unit w (take i journal) e h.end next.0 h.replays next.1;
         stands = next.2;
+        range = range;
       }
 
 pub at_end : (unit : SourceUnit) (w : World) (journal : Journal) (i : ℕ) (m : StateInMemory) → length journal ≤ i → Replayed unit w (take i journal) m → Replayed unit w journal m
@@ -89,10 +91,10 @@ from_outside unit w journal Writer h r = absurd h
 -- ---- the text
 
 -- what is written from the state in memory is what the run writes
-pub writes : (unit : SourceUnit) (w : World) (journal : Journal) (m : StateInMemory) → w.objects ≡ [] → Replayed unit w journal m
-    → Writes unit w journal (report_text (report_without_objects m.printed.items (map standing_of m.threads.items)) ++ journal_line journal)
-writes unit w journal m none h = record {
+pub writes : (unit : SourceUnit) (w : World) (journal : Journal) (m : StateInMemory) → Replayed unit w journal m
+    → Writes unit w journal (report_text (report_with m.printed.items (standings_of m) (rows_of m.world.now)) ++ journal_line journal)
+writes unit w journal m h = record {
   end = h.end;
   replays = h.replays;
-  same = ap (λ (r : Report). report_text r ++ journal_line journal) (sym (report_same unit w m h.end h.stands none));
+  same = ap (λ (r : Report). report_text r ++ journal_line journal) (sym (report_same unit w m h.end h.stands h.range));
 }

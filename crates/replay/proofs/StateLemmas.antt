@@ -1,29 +1,45 @@
 -- What an entry does to the state that a state in memory stands for.
 use Rattle.std.proofs.Common.{◌≡◌, ℕ, zero, suc, ◌+◌, ◌<◌, ◌≤◌, Bool, true, false, cond, List, [], ◌∷◌, ◌++◌, length, map, Option, Some, None, refl, sym, ap, ◌∙◌, subst, arith}
-use Rattle.std.specs.Prelude.{slice_get, slice_set, ◌&&◌, not, is_none}
+use Rattle.std.specs.Prelude.{slice_get, slice_set, ◌&&◌, not, is_none, ◌==◌}
 use Rattle.std.specs.List.{enumerate_from}
-use Rattle.syntax.specs.Tree.{SourceUnit}
+use Rattle.std.specs.Borrow.{Bor}
+use Rattle.std.specs.Option.{option_map, is_some}
+use Rattle.syntax.specs.Parts.{statics_of}
+use Rattle.syntax.specs.Tree.{Static, SourceUnit}
+use Rattle.syntax.specs.declared.unit.Item.{Item}
+use Rattle.syntax.specs.declared.unit.Item.TheVariants as item
+use Rattle.syntax.specs.Views.{unit_tree}
 use Rattle.classes.specs.Class.{Classes}
 use Rattle.world.specs.declared.journal.Entry.{Entry}
 use Rattle.world.specs.declared.report.Printed.{Printed}
-use Rattle.world.specs.Report.{ThreadStanding}
-use Rattle.world.specs.Standing.{standing_view, report_without_objects}
-use Rattle.world.specs.World.{World}
+use Rattle.world.specs.Report.{ThreadStanding, HasTrapped}
+use Rattle.world.specs.Shown.{report_with}
+use Rattle.world.specs.Standing.{standing_view}
+use Rattle.world.specs.Scene.{Scene}
+use Rattle.world.specs.SceneWorld.{world_of_scene}
+use Rattle.world.specs.World.{World, loaded_objects}
+use Rattle.regions.specs.Value.{trap_number}
+use Rattle.world.specs.declared.report.Standing.TheVariants as standing
 use Rattle.regions.specs.ReportOf.{report, shown, shown_row}
 use Rattle.regions.specs.ReportOf as language
-use Rattle.regions.specs.State.{State, thread_at, set_thread, lent, with_event, advanced}
+use Rattle.regions.specs.State.{State, Stop, thread_at, set_thread, lent, with_event, advanced}
 use Rattle.regions.specs.Step.{world_step, can_step, step_of, is_blocked, is_live, is_unfinished, is_waiting}
-use Rattle.regions.specs.Thread.{Thread, Shared, Unfinished, Quiet, PrintedNumber, Advance}
+use Rattle.regions.specs.Thread.{Thread, Shared, Unfinished, Quiet, PrintedNumber, Trapped, Advance}
 use Rattle.regions.specs.ThreadStep.{thread_step}
-use Rattle.regions.proofs.NoObjects.{shown_none}
+use Rattle.regions.specs.Start.{null_static}
+use Rattle.regions.specs.Variable.{Statics}
 use Rattle.regions.proofs.StepLaws.{Steps, steps, step-thread}
 use Rattle.replay.specs.declared.state.State.{State as StateInMemory}
 use Rattle.replay.specs.declared.thread.Thread.{Thread as ThreadInMemory}
 use Rattle.replay.specs.declared.thread.Step.{Step}
 use Rattle.replay.specs.declared.thread.Step.TheVariants as step
-use Rattle.replay.specs.States.{ThreadsStand, AreInRange, Stands, printed_after, is_possible, Leads, standing_by, standing_of}
-use Rattle.replay.specs.Threads.{ThreadStands, WorkInRange, ending_in, StepIs, TakesStep}
+use Rattle.replay.specs.declared.state.Stop.{Stop as StopInMemory}
+use Rattle.replay.specs.Rows.{rows_of}
+use Rattle.replay.specs.Tasks.{trap_view}
+use Rattle.replay.specs.States.{ThreadsStand, AreInRange, Stands, stop_view, printed_after, stop_after, is_possible, Leads, standing_by, standing_of, standings_of}
+use Rattle.replay.specs.Threads.{ThreadStands, WorkInRange, IsAsLoaded, ending_in, StepIs, TakesStep}
 use Rattle.replay.proofs.PlainTasks.{refused_none, waits_none}
+use Rattle.replay.proofs.ShownRows.{shown_arrays}
 
 -- ---- one thread of several
 
@@ -41,12 +57,12 @@ module _ (unit : SourceUnit) (classes : Classes) where
   found (x ∷ ts) (s ∷ ss) (suc i) t h e = let f = found ts ss i t h.1 e in record { source = f.source; is = f.is; stands = f.stands }
 
   -- a thread of the language has one in memory
-  pub stood_for : (ts : List ThreadInMemory) (ss : List Thread) (i : ℕ) (s : Thread) → ThreadsStand unit classes ts ss → slice_get ss i ≡ Some s → (t : ThreadInMemory) × ThreadStands unit classes t s
-  stood_for [] [] i s h e = absurd (cc)
-  stood_for [] (x ∷ ss) i s h e = absurd h
-  stood_for (t ∷ ts) [] i s h e = absurd h
-  stood_for (t ∷ ts) (x ∷ ss) zero s h e = (t, let same : x ≡ s = cc in subst (λ y. ThreadStands unit classes t y) same h.0)
-  stood_for (t ∷ ts) (x ∷ ss) (suc i) s h e = stood_for ts ss i s h.1 e
+  pub stood_for : (ts : List ThreadInMemory) (ss : List Thread) (i : ℕ) (s : Thread) → ThreadsStand unit classes ts ss → AreInRange ts → slice_get ss i ≡ Some s → (t : ThreadInMemory) × ThreadStands unit classes t s × WorkInRange t.activation
+  stood_for [] [] i s h r e = absurd (cc)
+  stood_for [] (x ∷ ss) i s h r e = absurd h
+  stood_for (t ∷ ts) [] i s h r e = absurd h
+  stood_for (t ∷ ts) (x ∷ ss) zero s h r e = (t, let same : x ≡ s = cc in subst (λ y. ThreadStands unit classes t y) same h.0, r.0)
+  stood_for (t ∷ ts) (x ∷ ss) (suc i) s h r e = stood_for ts ss i s h.1 r.1 e
 
   pub missing : (ts : List ThreadInMemory) (ss : List Thread) (i : ℕ) → ThreadsStand unit classes ts ss → length ts ≤ i → slice_get ss i ≡ None
   missing [] [] i h p = refl
@@ -91,10 +107,34 @@ middle_fails false b c e = refl
 pub entry_is : (e : Entry) (k : ℕ) → e.thread ≡ k → e.refused ≡ false → e ≡ record { thread = k; refused = false }
 entry_is e k same possible = ap (λ (r : Bool). record { thread = e.thread; refused = r }) possible ∙ ap (λ (n : ℕ). record { thread = n; refused = false }) same
 
-module _ (unit : SourceUnit) (w : World) (m : StateInMemory) (s : State) (h : Stands unit w m s) where
-  -- nobody owns a monitor
-  none_owned : s.shared.monitors ≡ []
-  none_owned = ap (λ (x : Shared). x.monitors) h.shared
+module _ (unit : SourceUnit) (w : World) (m : StateInMemory) (s : State) (h : Stands unit w m s) (range : AreInRange m.threads.items) where
+  -- what all threads share is as at the start
+  as_loaded : statics_of unit ≡ [] → IsAsLoaded w s.shared
+  as_loaded none = record {
+    heap = ap (λ (x : Shared). x.heap) h.shared;
+    statics = ap (λ (x : Shared). x.statics) h.shared ∙ ap (λ (gs : List Static). let ss : Statics = map null_static gs in ss) none;
+    monitors = ap (λ (x : Shared). x.monitors) h.shared;
+  }
+
+  stop_is : (o : Option StopInMemory) → is_some o ≡ true → is_none (option_map stop_view o) ≡ false
+  stop_is None e = absurd (cc)
+  stop_is (Some stop) e = refl
+
+  first_fails : (a b c : Bool) → a ≡ false → (a && b && c) ≡ false
+  first_fails true b c e = absurd (cc)
+  first_fails false b c e = refl
+
+  -- a machine that has stopped takes no step
+  pub stopped : (e : Entry) → is_some m.stop ≡ true → world_step unit w.classes s e ≡ None
+  unfolding world_step
+  stopped e is =
+      let over : is_none s.stop ≡ false = ap is_none h.stop ∙ stop_is m.stop is in
+      none_else (can_step w.classes s e.thread) (step_of unit w.classes s e.thread e.refused (thread_at s e.thread))
+      (first_fails (is_none s.stop) (is_live (thread_at s e.thread)) (not (is_blocked w.classes s e.thread)) over)
+
+  not_stopped : (o : Option StopInMemory) → is_some o ≡ false → option_map stop_view o ≡ None
+  not_stopped None e = refl
+  not_stopped (Some stop) e = absurd (cc)
 
   -- a thread that isn't there
   pub not_there : (e : Entry) → thread_at s e.thread ≡ None → world_step unit w.classes s e ≡ None
@@ -112,8 +152,8 @@ module _ (unit : SourceUnit) (w : World) (m : StateInMemory) (s : State) (h : St
   refused_thread k None there = refl
   refused_thread zero (Some x) there = absurd (cc)
   refused_thread (suc i) (Some x) there =
-      let t = stood_for unit w.classes m.threads.items s.threads i x h.threads there in
-      ap (advanced s (suc i)) (refused_none unit w.classes s.shared (lent s) (suc i) t.0 x t.1)
+      let t = stood_for unit w.classes m.threads.items s.threads i x h.threads range there in
+      ap (advanced s (suc i)) (refused_none unit w.classes s.shared (lent s) (suc i) t.0 x t.1 t.2)
 
   -- no allocation can be refused
   pub refused : (e : Entry) → e.refused ≡ true → world_step unit w.classes s e ≡ None
@@ -135,13 +175,14 @@ module _ (unit : SourceUnit) (w : World) (m : StateInMemory) (s : State) (h : St
   waiting_none k None there = refl
   waiting_none zero (Some x) there = absurd (cc)
   waiting_none (suc i) (Some x) there =
-      let t = stood_for unit w.classes m.threads.items s.threads i x h.threads there in
-      waits_none unit w.classes s.shared (suc i) t.0 x t.1
+      let t = stood_for unit w.classes m.threads.items s.threads i x h.threads range there in
+      waits_none unit w.classes s.shared (suc i) t.0 x t.1 t.2
 
   blocked_none : (k : ℕ) → is_blocked w.classes s k ≡ false
   blocked_none k = waiting_none k (thread_at s k) refl
 
-  module _ (i : ℕ) (t after : ThreadInMemory) (at : slice_get m.threads.items i ≡ Some t) (live : t.ended ≡ false) (new : StateInMemory) (threads : new.threads.items ≡ slice_set m.threads.items i after) where
+  module _ (i : ℕ) (t after : ThreadInMemory) (at : slice_get m.threads.items i ≡ Some t) (live : t.ended ≡ false) (none : statics_of unit ≡ []) (runs : is_some m.stop ≡ false)
+      (new : StateInMemory) (world : new.world ≡ m.world) (threads : new.threads.items ≡ slice_set m.threads.items i after) where
     the_thread : Found unit w.classes t s.threads i
     the_thread = found unit w.classes m.threads.items s.threads i t h.threads at
 
@@ -149,7 +190,7 @@ module _ (unit : SourceUnit) (w : World) (m : StateInMemory) (s : State) (h : St
     unended = the_thread.stands.ending ∙ ap ending_in live
 
     steps_here : Steps w.classes s (suc i) the_thread.source
-    steps_here = steps w.classes s (suc i) the_thread.source h.running the_thread.is unended (waits_none unit w.classes s.shared (suc i) t the_thread.source the_thread.stands)
+    steps_here = steps w.classes s (suc i) the_thread.source (h.stop ∙ not_stopped m.stop runs) the_thread.is unended (waits_none unit w.classes s.shared (suc i) t the_thread.source the_thread.stands (range_at m.threads.items i t range at))
 
     the_step : Advance
     the_step = thread_step unit w.classes (lent s) (suc i) s.shared the_thread.source false
@@ -160,37 +201,55 @@ module _ (unit : SourceUnit) (w : World) (m : StateInMemory) (s : State) (h : St
     all_stand : (next : Thread) → ThreadStands unit w.classes after next → ThreadsStand unit w.classes new.threads.items (slice_set s.threads i next)
     all_stand next stands = rw threads (changed unit w.classes m.threads.items s.threads i after next h.threads stands)
 
+    same_world : w ≡ world_of_scene new.world.now
+    same_world = h.world ∙ ap (λ (b : Bor Scene). world_of_scene b.now) (sym world)
+
+    same_stop : (o : Option StopInMemory) → new.stop ≡ o → o ≡ m.stop → s.stop ≡ option_map stop_view new.stop
+    same_stop o is same = h.stop ∙ ap (option_map stop_view) (sym (is ∙ same))
+
     by_step : (took : Step) → StepIs unit w.classes s.shared after took (thread_step unit w.classes (lent s) (suc i) s.shared the_thread.source false) → new.printed.items ≡ printed_after m.printed.items (suc i) took
-        → Leads unit w s (record { thread = suc i; refused = false }) new (is_possible took)
-    by_step step.Quiet l printed = (
+        → new.stop ≡ stop_after m.stop (suc i) took → Leads unit w s (record { thread = suc i; refused = false }) new (is_possible took)
+    by_step step.Quiet l printed stop = (
       with_event (record s { threads = set_thread s.threads (suc i) l.next }) (suc i) Quiet,
       step_is ∙ ap (advanced s (suc i)) l.advances,
-      record { shared = h.shared; threads = all_stand l.next l.stands; printed = h.printed ∙ sym printed; running = h.running },
+      record { world = same_world; shared = h.shared; threads = all_stand l.next l.stands; printed = h.printed ∙ sym printed; stop = same_stop m.stop stop refl },
     )
-    by_step (step.Printed z) l printed = (
+    by_step (step.Printed z) l printed stop = (
       with_event (record s { threads = set_thread s.threads (suc i) l.next }) (suc i) (PrintedNumber z),
       step_is ∙ ap (advanced s (suc i)) l.advances,
-      record { shared = h.shared; threads = all_stand l.next l.stands; printed = ap (λ (ps : List Printed). ps ++ record { thread = suc i; number = z } ∷ []) h.printed ∙ sym printed; running = h.running },
+      record {
+        world = same_world;
+        shared = h.shared;
+        threads = all_stand l.next l.stands;
+        printed = ap (λ (ps : List Printed). ps ++ record { thread = suc i; number = z } ∷ []) h.printed ∙ sym printed;
+        stop = same_stop m.stop stop refl;
+      },
     )
-    by_step step.Nothing l printed = step_is ∙ ap (advanced s (suc i)) l
+    by_step (step.Trapped trap line) l printed stop = (
+      with_event (record s { threads = set_thread s.threads (suc i) l.next }) (suc i) (Trapped (trap_view trap) line),
+      step_is ∙ ap (advanced s (suc i)) l.advances,
+      record { world = same_world; shared = h.shared; threads = all_stand l.next l.stands; printed = h.printed ∙ sym printed; stop = ap (option_map stop_view) (sym stop) },
+    )
+    by_step step.Nothing l printed stop = step_is ∙ ap (advanced s (suc i)) l
 
-    takes_at : (took : Step) → TakesStep unit w.classes t took after → new.printed.items ≡ printed_after m.printed.items (suc i) took → Leads unit w s (record { thread = suc i; refused = false }) new (is_possible took)
-    takes_at took step printed = by_step took (step the_thread.source s.shared (lent s) (suc i) the_thread.stands unended none_owned) printed
+    takes_at : (took : Step) → TakesStep unit w t took after → new.printed.items ≡ printed_after m.printed.items (suc i) took → new.stop ≡ stop_after m.stop (suc i) took
+        → Leads unit w s (record { thread = suc i; refused = false }) new (is_possible took)
+    takes_at took step printed stop = by_step took (step the_thread.source s.shared (lent s) (suc i) the_thread.stands unended (as_loaded none)) printed stop
 
   -- an entry is possible as far as its thread's step is
   pub takes : (e : Entry) (i : ℕ) (t after : ThreadInMemory) (took : Step) (new : StateInMemory) → e.thread ≡ suc i → e.refused ≡ false → slice_get m.threads.items i ≡ Some t → t.ended ≡ false
-      → TakesStep unit w.classes t took after → new.threads.items ≡ slice_set m.threads.items i after → new.printed.items ≡ printed_after m.printed.items e.thread took
+      → statics_of unit ≡ [] → is_some m.stop ≡ false → TakesStep unit w t took after → new.world ≡ m.world → new.threads.items ≡ slice_set m.threads.items i after
+      → new.printed.items ≡ printed_after m.printed.items e.thread took → new.stop ≡ stop_after m.stop e.thread took
       → Leads unit w s e new (is_possible took)
-  takes e i t after took new counted possible at live step threads printed =
+  takes e i t after took new counted possible at live none runs step world threads printed stop =
       subst (λ x. Leads unit w s x new (is_possible took)) (sym (entry_is e (suc i) counted possible))
-      (takes_at i t after at live new threads took step (printed ∙ ap (λ k. printed_after m.printed.items k took) counted))
+      (takes_at i t after at live none runs new world threads took step (printed ∙ ap (λ k. printed_after m.printed.items k took) counted) (stop ∙ ap (λ k. stop_after m.stop k took) counted))
 
   -- ---- the report
 
-  standing_same : (k : ℕ) (t : ThreadInMemory) (x : Thread) → ThreadStands unit w.classes t x → language.standing_of w.classes s k x s.stop ≡ standing_view (standing_of t)
-  standing_same k t x stands =
-      ap (language.standing_of w.classes s k x) h.running
-      ∙ ap (λ b. language.standing_by_ending w.classes b x.ending) (blocked_none k)
+  ending_same : (k : ℕ) (t : ThreadInMemory) (x : Thread) → ThreadStands unit w.classes t x → language.standing_by_ending w.classes (is_blocked w.classes s k) x.ending ≡ standing_view (standing_by t.ended)
+  ending_same k t x stands =
+      ap (λ b. language.standing_by_ending w.classes b x.ending) (blocked_none k)
       ∙ ap (language.standing_by_ending w.classes false) stands.ending
       ∙ by_end t.ended
     where
@@ -198,21 +257,44 @@ module _ (unit : SourceUnit) (w : World) (m : StateInMemory) (s : State) (h : St
       by_end true = refl
       by_end false = refl
 
+  standing_same : (k : ℕ) (t : ThreadInMemory) (x : Thread) → ThreadStands unit w.classes t x → language.standing_of w.classes s k x s.stop ≡ standing_view (standing_of m.stop (k, t))
+  standing_same k t x stands = ap (language.standing_of w.classes s k x) h.stop ∙ by_stop m.stop
+    where
+      by_thread : (stop : StopInMemory) (b : Bool)
+          → cond b (HasTrapped (trap_number (trap_view stop.trap)) stop.line) (language.standing_by_ending w.classes (is_blocked w.classes s k) x.ending)
+          ≡ standing_view (cond b (standing.Trapped (trap_number (trap_view stop.trap)) stop.line) (standing_by t.ended))
+      by_thread stop true = refl
+      by_thread stop false = ending_same k t x stands
+
+      by_stop : (o : Option StopInMemory) → language.standing_of w.classes s k x (option_map stop_view o) ≡ standing_view (standing_of o (k, t))
+      by_stop None = ending_same k t x stands
+      by_stop (Some stop) = by_thread stop (stop.thread == k)
+
   standings_same : (n : ℕ) (ts : List ThreadInMemory) (ss : List Thread) → ThreadsStand unit w.classes ts ss
-      → map (λ (t : ℕ × Thread). language.standing_of w.classes s t.0 t.1 s.stop) (enumerate_from n ss) ≡ map standing_view (map standing_of ts)
+      → map (λ (t : ℕ × Thread). language.standing_of w.classes s t.0 t.1 s.stop) (enumerate_from n ss) ≡ map standing_view (map (standing_of m.stop) (enumerate_from n ts))
   standings_same n [] [] stands = refl
   standings_same n [] (x ∷ ss) stands = absurd stands
   standings_same n (t ∷ ts) [] stands = absurd stands
   standings_same n (t ∷ ts) (x ∷ ss) stands =
-      let first : language.standing_of w.classes s n x s.stop ≡ standing_view (standing_of t) = standing_same n t x stands.0 in
+      let first : language.standing_of w.classes s n x s.stop ≡ standing_view (standing_of m.stop (n, t)) = standing_same n t x stands.0 in
       let rest = standings_same (n + 1) ts ss stands.1 in
       ap (λ (y : ThreadStanding). y ∷ map (λ (t : ℕ × Thread). language.standing_of w.classes s t.0 t.1 s.stop) (enumerate_from (n + 1) ss)) first
-      ∙ ap (λ (ys : List ThreadStanding). standing_view (standing_of t) ∷ ys) rest
+      ∙ ap (λ (ys : List ThreadStanding). standing_view (standing_of m.stop (n, t)) ∷ ys) rest
+
+  rows_same : (v : World) → v ≡ world_of_scene m.world.now → s.shared.heap ≡ loaded_objects v → map (shown_row v.classes s.shared.heap) (shown v s) ≡ rows_of m.world.now
+  rows_same v is heap =
+      ap (λ (u : World). map (shown_row u.classes s.shared.heap) (shown u s)) is
+      ∙ shown_arrays m.world.now s (heap ∙ ap loaded_objects is)
 
   -- the report of the state is written from the state in memory
-  pub report_same : w.objects ≡ [] → report w s ≡ report_without_objects m.printed.items (map standing_of m.threads.items)
+  pub report_same : report w s ≡ report_with m.printed.items (standings_of m) (rows_of m.world.now)
   unfolding report
-  report_same none =
-      let objects = ap (map (shown_row w.classes s.shared.heap)) (shown_none w s none (ap (λ (x : Shared). x.heap) h.shared)) in
+  report_same =
+      let objects = rows_same w h.world (ap (λ (x : Shared). x.heap) h.shared) in
       let standings = standings_same 1 m.threads.items s.threads h.threads in
       rw (objects, standings, h.printed) refl
+
+-- a unit in memory has no statics
+pub no_statics : (items : List Item) → statics_of (unit_tree items) ≡ []
+no_statics [] = refl
+no_statics (item.Function f ∷ items) = no_statics items

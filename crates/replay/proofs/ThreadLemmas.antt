@@ -3,7 +3,7 @@ use Rattle.std.proofs.Common.{◌≡◌, ℕ, ℤ, true, false, List, [], ◌∷
 use Rattle.std.specs.List.{list_all}
 use Rattle.std.specs.Option.{option_map, is_some}
 use Rattle.base.specs.Options.{some_passes}
-use Rattle.world.specs.World.{Invocation}
+use Rattle.world.specs.World.{Invocation, World}
 use Rattle.regions.specs.Load.{call_loads, is_callable, fit_parameters}
 use Rattle.std.proofs.Common.{subst, arith, ne_eqb}
 use Rattle.std.proofs.lemmas.Bool.{and_parts}
@@ -19,54 +19,29 @@ use Rattle.world.specs.SceneWorld.{invocation_of}
 use Rattle.regions.specs.Sight.{Sight}
 use Rattle.regions.specs.Task.{Task}
 use Rattle.regions.specs.Effect.{Effect, effect_of, Becomes, Prints, Returns, NoEffect}
-use Rattle.regions.specs.Thread.{Thread, Shared, Lent, Quiet, PrintedNumber, Advances as AdvancesTo, NoAdvance, Unfinished, Ended, sight_of}
+use Rattle.regions.specs.Thread.{Thread, Shared, Lent, Event, Quiet, PrintedNumber, Trapped, Advances as AdvancesTo, NoAdvance, Unfinished, Ended, sight_of}
 use Rattle.regions.specs.Activation.{return_step, enter, entered, entry_advance, entered_function, class_of_function, function_at}
 use Rattle.regions.specs.ThreadStep.{thread_step, step_within, after_effect, with_tasks}
 use Rattle.replay.specs.declared.activation.Activation.{Activation}
 use Rattle.replay.specs.declared.thread.Thread.{Thread as ThreadInMemory}
 use Rattle.replay.specs.declared.task.Outcome.TheVariants as outcome
-use Rattle.replay.specs.Activations.{tasks_left, Advances}
+use Rattle.replay.specs.Activations.{tasks_left, thread_in, advance_by, Advances}
+use Rattle.replay.specs.Tasks.{Sees, trap_view}
+use Rattle.replay.specs.Views.{variables_view}
+use Rattle.regions.specs.Activation.{parameter_variables}
+use Rattle.regions.specs.Variable.{LocalRef}
+use Rattle.std.specs.Prelude.{zip}
 use Rattle.replay.specs.declared.task.Outcome.{Outcome}
-use Rattle.replay.specs.Threads.{ThreadStands, Leaves, StepIs, step_of, tasks_in, ending_in}
+use Rattle.replay.specs.Threads.{ThreadStands, VariablesIn, IsAsLoaded, Leaves, StepIs, step_of, tasks_in, ending_in}
 
 -- the tasks of statements, by their tree
 pub tasks_of-statements : (statements : List Stmt) (end_line : ℕ) → tasks_of_statements statements ≡ tasks_of (statements_tree statements end_line)
 tasks_of-statements [] end_line = refl
 tasks_of-statements (s ∷ rest) end_line = ap (λ (ts : List Task). task_of (stmt_tree s) ∷ ts) (tasks_of-statements rest end_line)
 
-module _ (unit : SourceUnit) (classes : Classes) (shared : Shared) (lent : Lent) (k : ℕ) where
-  -- the step of a thread with a first task is that task's effect
-  steps_by : (s : Thread) (task : Task) (rest : List Task) (e : Effect) → s.tasks ≡ Some (task ∷ rest) → ((sight : Sight) → effect_of sight task ≡ e) → thread_step unit classes lent k shared s false ≡ after_effect classes lent k shared s rest e
-  steps_by s task rest e is does =
-      ap (step_within unit classes lent k shared s false) is ∙ ap (after_effect classes lent k shared s rest) (does (sight_of shared s))
-
-  stays_so : (t : ThreadInMemory) (a : Activation) (s : Thread) (tasks : List Task) → ThreadStands unit classes t s → s.tasks ≡ Some tasks → Advances tasks outcome.Stays (tasks_left a)
-      → Leaves unit classes shared (record t { activation = Some a }) Quiet (thread_step unit classes lent k shared s false)
-  stays_so t a s [] h is does = absurd (cc)
-  stays_so t a s (task ∷ rest) h is does = record {
-    next = with_tasks s (does.0 ∷ rest);
-    advances = steps_by s task rest (Becomes (does.0 ∷ [])) is does.1;
-    stands = record { calls = h.calls; loads = h.loads; tasks = ap Some (sym does.2); pending = h.pending; ending = h.ending };
-  }
-
-  -- a part of the first task was worked out
-  pub stays : (t : ThreadInMemory) (a new : Activation) (s : Thread) → t.activation ≡ Some a → ThreadStands unit classes t s → Advances (tasks_left a) outcome.Stays (tasks_left new)
-      → Leaves unit classes shared (record t { activation = Some new }) Quiet (thread_step unit classes lent k shared s false)
-  stays t a new s is h does = stays_so t new s (tasks_left a) h (h.tasks ∙ ap tasks_in is) does
-
-  prints_so : (t : ThreadInMemory) (a : Activation) (z : ℤ) (s : Thread) (tasks : List Task) → ThreadStands unit classes t s → s.tasks ≡ Some tasks → Advances tasks (outcome.Printed z) (tasks_left a)
-      → Leaves unit classes shared (record t { activation = Some a }) (PrintedNumber z) (thread_step unit classes lent k shared s false)
-  prints_so t a z s [] h is does = absurd (cc)
-  prints_so t a z s (task ∷ rest) h is does = record {
-    next = with_tasks s rest;
-    advances = steps_by s task rest (Prints z) is does.0;
-    stands = record { calls = h.calls; loads = h.loads; tasks = ap Some (sym does.1); pending = h.pending; ending = h.ending };
-  }
-
-  -- the first task printed a number
-  pub prints : (t : ThreadInMemory) (a new : Activation) (z : ℤ) (s : Thread) → t.activation ≡ Some a → ThreadStands unit classes t s → Advances (tasks_left a) (outcome.Printed z) (tasks_left new)
-      → Leaves unit classes shared (record t { activation = Some new }) (PrintedNumber z) (thread_step unit classes lent k shared s false)
-  prints t a new z s is h does = prints_so t new z s (tasks_left a) h (h.tasks ∙ ap tasks_in is) does
+module _ (unit : SourceUnit) (w : World) (shared : Shared) (lent : Lent) (k : ℕ) where
+  abbrev classes : Classes
+  classes = w.classes
 
   -- the thread after its call, with these calls to come
   thread_after : List CallScene → Thread
@@ -85,41 +60,73 @@ module _ (unit : SourceUnit) (classes : Classes) (shared : Shared) (lent : Lent)
   stands_after : (t : ThreadInMemory) (calls : List CallScene) → t.calls.now ≡ calls → IsTrue (list_all (call_loads unit classes) (map invocation_of calls))
       → ThreadStands unit classes (record t { activation = None; ended = length calls == 0 }) (thread_after calls)
   unfolding thread_after
-  stands_after t [] is loads = record { calls = ap (map invocation_of) (sym is); loads = rw is loads; tasks = refl; pending = refl; ending = refl }
-  stands_after t (c ∷ calls) is loads = record { calls = ap (map invocation_of) (sym is); loads = rw is loads; tasks = refl; pending = refl; ending = ap ending_in (sym (some_are c calls)) }
+  stands_after t [] is loads = record { calls = ap (map invocation_of) (sym is); loads = rw is loads; tasks = refl; variables = tt; pending = refl; ending = refl }
+  stands_after t (c ∷ calls) is loads = record { calls = ap (map invocation_of) (sym is); loads = rw is loads; tasks = refl; variables = tt; pending = refl; ending = ap ending_in (sym (some_are c calls)) }
 
-  returns_so : (t : ThreadInMemory) (a : Activation) (s : Thread) (tasks : List Task) → ThreadStands unit classes t s → s.tasks ≡ Some tasks → Advances tasks outcome.Returned (tasks_left a) → shared.monitors ≡ []
-      → Leaves unit classes shared (record t { activation = None; ended = length t.calls.now == 0 }) Quiet (thread_step unit classes lent k shared s false)
-  returns_so t a s [] h is does none = absurd (cc)
-  returns_so t a s (task ∷ rest) h is does none = record {
-    next = thread_after t.calls.now;
-    advances = steps_by s task rest Returns is does ∙ left_by s t.calls.now h.calls h.pending none;
-    stands = stands_after t t.calls.now refl h.loads;
-  }
+  module _ (t : ThreadInMemory) (a new : Activation) (s : Thread) (is : t.activation ≡ Some a) (h : ThreadStands unit classes t s) (loaded : IsAsLoaded w shared) where
+    has_tasks : s.tasks ≡ Some (tasks_left a)
+    has_tasks = h.tasks ∙ ap tasks_in is
 
-  -- the call is over
-  pub returns : (t : ThreadInMemory) (a new : Activation) (s : Thread) → t.activation ≡ Some a → ThreadStands unit classes t s → Advances (tasks_left a) outcome.Returned (tasks_left new) → shared.monitors ≡ []
-      → Leaves unit classes shared (record t { activation = None; ended = length t.calls.now == 0 }) Quiet (thread_step unit classes lent k shared s false)
-  returns t a new s is h does none = returns_so t new s (tasks_left a) h (h.tasks ∙ ap tasks_in is) does none
+    sees : Sees w (variables_view a.variables.items) shared s
+    sees = record {
+      variables = subst (λ (o : Option Activation). VariablesIn o s.variables) is h.variables;
+      pending = h.pending;
+      heap = loaded.heap;
+      statics = loaded.statics;
+    }
 
-  nothing_so : (a : Activation) (s : Thread) (tasks : List Task) → s.tasks ≡ Some tasks → Advances tasks outcome.Nothing (tasks_left a) → thread_step unit classes lent k shared s false ≡ NoAdvance
-  nothing_so a s [] is does = ap (step_within unit classes lent k shared s false) is
-  nothing_so a s (task ∷ rest) is does = steps_by s task rest NoEffect is does
+    advances_so : (o : Outcome) → Advances w a o new → thread_step unit classes lent k shared s false ≡ advance_by k shared s new o
+    advances_so o does = ap (step_within unit classes lent k shared s false) has_tasks ∙ does unit lent k shared s sees has_tasks
 
-  -- the call goes on
-  pub goes : (t : ThreadInMemory) (a new : Activation) (o : Outcome) (s : Thread) → t.activation ≡ Some a → ThreadStands unit classes t s → (o ≡ outcome.Returned → ⊥) → Advances (tasks_left a) o (tasks_left new)
-      → StepIs unit classes shared (record t { activation = Some new }) (step_of o) (thread_step unit classes lent k shared s false)
-  goes t a new outcome.Stays s is h other does = stays t a new s is h does
-  goes t a new (outcome.Printed z) s is h other does = prints t a new z s is h does
-  goes t a new outcome.Returned s is h other does = absurd (other refl)
-  goes t a new outcome.Nothing s is h other does = nothing_so new s (tasks_left a) (h.tasks ∙ ap tasks_in is) does
+    -- the call goes on
+    on : (event : Event) → thread_step unit classes lent k shared s false ≡ AdvancesTo shared (thread_in s new) event
+        → Leaves unit classes shared (record t { activation = Some new }) event (thread_step unit classes lent k shared s false)
+    on event does = record {
+      next = thread_in s new;
+      advances = does;
+      stands = record { calls = h.calls; loads = h.loads; tasks = refl; variables = refl; pending = h.pending; ending = h.ending };
+    }
+
+    pub goes : (o : Outcome) → (o ≡ outcome.Returned → ⊥) → Advances w a o new
+        → StepIs unit classes shared (record t { activation = Some new }) (step_of o) (thread_step unit classes lent k shared s false)
+    goes outcome.Stays other does = on Quiet (advances_so outcome.Stays does)
+    goes (outcome.Printed z) other does = on (PrintedNumber z) (advances_so (outcome.Printed z) does)
+    goes (outcome.Sets x v) other does = on Quiet (advances_so (outcome.Sets x v) does)
+    goes outcome.Returned other does = absurd (other refl)
+    goes (outcome.Trapped trap line) other does = on (Trapped (trap_view trap) line) (advances_so (outcome.Trapped trap line) does)
+    goes outcome.Nothing other does = advances_so outcome.Nothing does
+
+    -- the call is over
+    pub returns : Advances w a outcome.Returned new
+        → Leaves unit classes shared (record t { activation = None; ended = length t.calls.now == 0 }) Quiet (thread_step unit classes lent k shared s false)
+    returns does = record {
+      next = thread_after t.calls.now;
+      advances = advances_so outcome.Returned does ∙ left_by s t.calls.now h.calls h.pending loaded.monitors;
+      stands = stands_after t t.calls.now refl h.loads;
+    }
 
   -- the entry into the next call
-  pub enters : (t : ThreadInMemory) (call : CallScene) (rest : List CallScene) (f : Function) (a : Activation) (s : Thread)
-      → t.activation ≡ None → t.calls.now ≡ call ∷ rest → function_at unit call.function ≡ Some f → tasks_left a ≡ tasks_of f.body → ThreadStands unit classes t s
+  pub enters : (t : ThreadInMemory) (call : CallScene) (rest : List CallScene) (f : Function) (class : ℕ) (a : Activation) (s : Thread)
+      → t.activation ≡ None → t.calls.now ≡ call ∷ rest → function_at unit call.function ≡ Some f → class_of_function classes f ≡ Some class
+      → tasks_left a ≡ tasks_of f.body → variables_view a.variables.items ≡ (f.class_name, LocalRef 1 (Some class)) ∷ parameter_variables (zip f.parameters call.arguments) → ThreadStands unit classes t s
       → (after : Bor (List CallScene)) → after.now ≡ rest
       → Leaves unit classes shared (record t { calls = after; activation = Some a }) Quiet (thread_step unit classes lent k shared s false)
-  enters t call rest f a s idle calls found tasks h after is = by_class (class_of_function classes f) refl
+  enters t call rest f class a s idle calls found its_class tasks variables h after is = record {
+    next = entered s (map invocation_of rest) f class call.arguments;
+    advances =
+        ap (step_within unit classes lent k shared s false) (h.tasks ∙ ap tasks_in idle)
+        ∙ ap (λ (cs : List Invocation). entry_advance shared (enter unit classes s cs)) (h.calls ∙ ap (map invocation_of) calls)
+        ∙ ap (λ (o : Option Function). entry_advance shared (entered_function classes s (invocation_of call) (map invocation_of rest) o)) found
+        ∙ ap (λ (o : Option ℕ). entry_advance shared (option_map (λ d. entered s (map invocation_of rest) f d call.arguments) o)) its_class;
+    stands = record {
+      calls = ap (map invocation_of) (sym is);
+      loads = subst (λ (cs : List CallScene). IsTrue (list_all (call_loads unit classes) (map invocation_of cs))) (sym is) parts.1;
+      tasks = ap Some (sym tasks);
+      variables = sym variables;
+      pending = h.pending;
+      ending = h.ending;
+    };
+  }
     where
       loads : IsTrue (list_all (call_loads unit classes) (map invocation_of (call ∷ rest)))
       loads = subst (λ (cs : List CallScene). IsTrue (list_all (call_loads unit classes) (map invocation_of cs))) calls h.loads
@@ -127,26 +134,25 @@ module _ (unit : SourceUnit) (classes : Classes) (shared : Shared) (lent : Lent)
       parts : (call_loads unit classes (invocation_of call) ≡ true) × (list_all (call_loads unit classes) (map invocation_of rest) ≡ true)
       parts = and_parts (call_loads unit classes (invocation_of call)) (list_all (call_loads unit classes) (map invocation_of rest)) loads
 
-      callable : is_callable classes [] f ≡ true
-      callable = subst (λ (o : Option Function). some_passes (is_callable classes []) o ≡ true) found parts.0
+  -- no call is to come
+  pub no_entry : (t : ThreadInMemory) (s : Thread) → t.activation ≡ None → t.calls.now ≡ [] → ThreadStands unit classes t s → thread_step unit classes lent k shared s false ≡ NoAdvance
+  no_entry t s idle none h =
+      ap (step_within unit classes lent k shared s false) (h.tasks ∙ ap tasks_in idle)
+      ∙ ap (λ (cs : List Invocation). entry_advance shared (enter unit classes s cs)) (h.calls ∙ ap (map invocation_of) none)
 
-      has_class : is_some (class_of_function classes f) ≡ true
-      has_class = (and_parts (is_some (class_of_function classes f)) (fit_parameters f.parameters []) callable).0
+  -- the next call's function isn't there
+  pub no_function : (t : ThreadInMemory) (call : CallScene) (rest : List CallScene) (s : Thread) → t.activation ≡ None → t.calls.now ≡ call ∷ rest → function_at unit call.function ≡ None → ThreadStands unit classes t s
+      → thread_step unit classes lent k shared s false ≡ NoAdvance
+  no_function t call rest s idle calls none h =
+      ap (step_within unit classes lent k shared s false) (h.tasks ∙ ap tasks_in idle)
+      ∙ ap (λ (cs : List Invocation). entry_advance shared (enter unit classes s cs)) (h.calls ∙ ap (map invocation_of) calls)
+      ∙ ap (λ (o : Option Function). entry_advance shared (entered_function classes s (invocation_of call) (map invocation_of rest) o)) none
 
-      by_class : (c : Option ℕ) → class_of_function classes f ≡ c → Leaves unit classes shared (record t { calls = after; activation = Some a }) Quiet (thread_step unit classes lent k shared s false)
-      by_class None none = let bad : false ≡ true = subst (λ (o : Option ℕ). is_some o ≡ true) none has_class in absurd (cc)
-      by_class (Some c) some = record {
-        next = entered s (map invocation_of rest) f c [];
-        advances =
-            ap (step_within unit classes lent k shared s false) (h.tasks ∙ ap tasks_in idle)
-            ∙ ap (λ (cs : List Invocation). entry_advance shared (enter unit classes s cs)) (h.calls ∙ ap (map invocation_of) calls)
-            ∙ ap (λ (o : Option Function). entry_advance shared (entered_function classes s (invocation_of call) (map invocation_of rest) o)) found
-            ∙ ap (λ (o : Option ℕ). entry_advance shared (option_map (λ d. entered s (map invocation_of rest) f d []) o)) some;
-        stands = record {
-          calls = ap (map invocation_of) (sym is);
-          loads = subst (λ (cs : List CallScene). IsTrue (list_all (call_loads unit classes) (map invocation_of cs))) (sym is) parts.1;
-          tasks = ap Some (sym tasks);
-          pending = h.pending;
-          ending = h.ending;
-        };
-      }
+  -- nor its class
+  pub no_class : (t : ThreadInMemory) (call : CallScene) (rest : List CallScene) (f : Function) (s : Thread) → t.activation ≡ None → t.calls.now ≡ call ∷ rest → function_at unit call.function ≡ Some f → class_of_function classes f ≡ None → ThreadStands unit classes t s
+      → thread_step unit classes lent k shared s false ≡ NoAdvance
+  no_class t call rest f s idle calls found none h =
+      ap (step_within unit classes lent k shared s false) (h.tasks ∙ ap tasks_in idle)
+      ∙ ap (λ (cs : List Invocation). entry_advance shared (enter unit classes s cs)) (h.calls ∙ ap (map invocation_of) calls)
+      ∙ ap (λ (o : Option Function). entry_advance shared (entered_function classes s (invocation_of call) (map invocation_of rest) o)) found
+      ∙ ap (λ (o : Option ℕ). entry_advance shared (option_map (λ d. entered s (map invocation_of rest) f d call.arguments) o)) none

@@ -1,4 +1,6 @@
 pub mod Views
+pub mod Objects
+pub mod Rows
 pub mod Tasks
 pub mod Activations
 pub mod Threads

@@ -12,7 +12,7 @@ use Rattle.regions.specs.Step.{world_step}
 use Rattle.replay.specs.declared.fault.ReplayFault.{ReplayFault}
 use Rattle.replay.specs.declared.fault.ReplayFault.TheVariants.{DoesNotFit, Impossible, Memory, Writer}
 use Rattle.replay.specs.declared.state.State.{State as StateInMemory}
-use Rattle.replay.specs.States.{Stands}
+use Rattle.replay.specs.States.{Stands, AreInRange}
 
 -- entry i, counted from 1, is the first that isn't possible
 pub record IsFirstImpossible (unit : SourceUnit) (w : World) (journal : Journal) (i : ℕ) : Type 0 where
@@ -66,6 +66,7 @@ pub record Replayed (unit : SourceUnit) (w : World) (journal : Journal) (m : Sta
   pub end : State
   pub replays : replay unit w journal ≡ Some end
   pub stands : Stands unit w m end
+  pub range : AreInRange m.threads.items
 
 -- why a replay didn't begin
 abbrev pub IsLoadFault : SourceUnit → World → ReplayFault → Type 0

@@ -1,20 +1,26 @@
 -- States that lie in memory, as those of the language, and what an entry does to one.
-use Rattle.std.specs.Prelude.{◌≡◌, ℕ, Bool, true, false, List, [], ◌∷◌, ◌++◌, Some, None}
+use Rattle.std.specs.Prelude.{◌≡◌, ℕ, ◌+◌, ◌==◌, Bool, true, false, if◌then◌else◌, List, [], ◌∷◌, ◌++◌, map, Option, Some, None}
+use Rattle.std.specs.List.{enumerate_from}
+use Rattle.std.specs.Option.{option_map}
 use Rattle.syntax.specs.Tree.{SourceUnit}
 use Rattle.classes.specs.Class.{Classes}
 use Rattle.world.specs.declared.journal.Entry.{Entry}
 use Rattle.world.specs.declared.report.Printed.{Printed}
 use Rattle.world.specs.declared.report.Standing.{Standing}
 use Rattle.world.specs.declared.report.Standing.TheVariants as standing
+use Rattle.world.specs.SceneWorld.{world_of_scene}
 use Rattle.world.specs.World.{World}
 use Rattle.regions.specs.Thread.{Thread}
 use Rattle.regions.specs.Start.{start}
-use Rattle.regions.specs.State.{State}
+use Rattle.regions.specs.State.{State, Stop}
 use Rattle.regions.specs.Step.{world_step}
+use Rattle.regions.specs.Value.{trap_number}
 use Rattle.replay.specs.declared.thread.Thread.{Thread as ThreadInMemory}
 use Rattle.replay.specs.declared.thread.Step.{Step}
 use Rattle.replay.specs.declared.thread.Step.TheVariants as step
 use Rattle.replay.specs.declared.state.State.{State as StateInMemory}
+use Rattle.replay.specs.declared.state.Stop.{Stop as StopInMemory}
+use Rattle.replay.specs.Tasks.{trap_view}
 use Rattle.replay.specs.Threads.{ThreadStands, WorkInRange}
 
 -- each thread in memory stands for the one of the same number
@@ -23,19 +29,22 @@ ThreadsStand unit classes [] [] = Unit {0}
 ThreadsStand unit classes (t ∷ ts) (s ∷ ss) = ThreadStands unit classes t s × ThreadsStand unit classes ts ss
 ThreadsStand unit classes ts ss = ⊥
 
--- each number of the calls in progress is in the range of its type
+-- what is known of the calls in progress, as they stand in an accepted program
 abbrev pub AreInRange : List ThreadInMemory → Type 0
 AreInRange [] = Unit {0}
 AreInRange (t ∷ ts) = WorkInRange t.activation × AreInRange ts
 
--- a state in memory stands for one of the language
+abbrev pub stop_view : StopInMemory → Stop
+stop_view stop = record { thread = stop.thread; trap = trap_view stop.trap; line = stop.line }
+
+-- a state in memory stands for one of the language, in the world that it began in
 pub record Stands (unit : SourceUnit) (w : World) (m : StateInMemory) (s : State) : Type 0 where
+  pub world : w ≡ world_of_scene m.world.now
   -- no step changes yet what all threads share
   pub shared : s.shared ≡ (start unit w).shared
   pub threads : ThreadsStand unit w.classes m.threads.items s.threads
   pub printed : s.printed ≡ m.printed.items
-  -- no step traps yet
-  pub running : s.stop ≡ None
+  pub stop : s.stop ≡ option_map stop_view m.stop
 
 -- ---- entries
 
@@ -43,6 +52,18 @@ pub record Stands (unit : SourceUnit) (w : World) (m : StateInMemory) (s : State
 abbrev pub printed_after : List Printed → ℕ → Step → List Printed
 printed_after printed k (step.Printed z) = printed ++ record { thread = k; number = z } ∷ []
 printed_after printed k took = printed
+
+-- the trap that stopped the machine, after it
+abbrev pub stop_after : Option StopInMemory → ℕ → Step → Option StopInMemory
+stop_after stop k (step.Trapped trap line) = Some (record { thread = k; trap = trap; line = line })
+stop_after stop k took = stop
+
+-- what a step of thread k did is written down, and nothing else
+pub record IsNoted (old : StateInMemory) (k : ℕ) (took : Step) (new : StateInMemory) : Type 0 where
+  pub world : new.world ≡ old.world
+  pub threads : new.threads ≡ old.threads
+  pub printed : new.printed.items ≡ printed_after old.printed.items k took
+  pub stop : new.stop ≡ stop_after old.stop k took
 
 -- the step was possible
 abbrev pub is_possible : Step → Bool
@@ -60,10 +81,16 @@ TakesEntry unit old e possible new = (w : World) (s : State) → Stands unit w o
 
 -- ---- the report
 
--- how a thread in memory stands
+-- how a thread that didn't trap stands
 abbrev pub standing_by : (ended : Bool) → Standing
 standing_by true = standing.Ended
 standing_by false = standing.Running
 
-abbrev pub standing_of : ThreadInMemory → Standing
-standing_of t = standing_by t.ended
+-- how thread k stands
+abbrev pub standing_of : Option StopInMemory → ℕ × ThreadInMemory → Standing
+standing_of None (k, t) = standing_by t.ended
+standing_of (Some stop) (k, t) = if stop.thread == k then standing.Trapped (trap_number (trap_view stop.trap)) stop.line else standing_by t.ended
+
+-- how all threads stand
+abbrev pub standings_of : StateInMemory → List Standing
+standings_of m = map (standing_of m.stop) (enumerate_from 1 m.threads.items)

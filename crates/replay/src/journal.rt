@@ -1,14 +1,16 @@
 //! Replays of journals.
 
-ghost use Rattle.std.specs.Prelude.{◌≡◌, IfOk, IfErr, OnOk, map};
+ghost use Rattle.std.specs.Prelude.{◌≡◌, IfOk, IfErr, OnOk, IsTrue};
 ghost use Rattle.syntax.specs.Limits.{IsTree};
 ghost use Rattle.syntax.specs.Views.{unit_tree};
+ghost use Rattle.types.specs.BuiltCalls.{calls_are_built};
 ghost use Rattle.world.specs.SceneWorld.{world_of_scene};
 ghost use Rattle.world.specs.Sink.{CanFail};
 ghost use Rattle.replay.specs.Replays.{Replayed, IsRefused, WritesRun, IsStoppedBy, IsReplayable, IsFromOutside};
 
 use crate::fault::ReplayFault;
 use crate::load::start;
+use crate::rows::Objects;
 use crate::state::{State, standings_of, take_entry};
 use regions::Checked;
 use std::alloc::Global;
@@ -22,7 +24,8 @@ fn run<'a>(
     world: &'a World,
     journal: &[Entry],
 ) -> Result<State<'a>, ReplayFault>
-    requires { IsTree (unit_tree items.now) }
+    requires tree { IsTree (unit_tree items.now) }
+    requires calls { IsTrue (calls_are_built (unit_tree items.now)) }
     ensures end { IfOk result (Replayed (unit_tree items.now) (world_of_scene world.now) journal.now) }
     ensures refused { IfErr result (IsRefused (unit_tree items.now) (world_of_scene world.now) journal.now) }
 {
@@ -62,8 +65,9 @@ pub fn replay<W: Sink>(
         Ok(state) => state,
         Err(fault) => return Err(fault),
     };
-    let standings = standings_of(alloc, &state.threads)?;
-    match write_run(out, &state.printed, &standings, journal) {
+    let standings = standings_of(alloc, &state)?;
+    let objects = Objects { world: state.world };
+    match write_run(out, &state.printed, &standings, &objects, journal) {
         Ok(()) => Ok(()),
         Err(_) => Err(ReplayFault::Writer),
     }

@@ -3,12 +3,15 @@
 
 mod activation;
 mod fault;
+mod heap;
 mod journal;
 mod load;
+mod rows;
 mod state;
 mod task;
 mod term;
 mod thread;
+mod variable;
 
 pub use fault::ReplayFault;
 pub use journal::replay;

@@ -1,9 +1,10 @@
 //! The state in which a replay begins.
 
 ghost use Rattle.std.specs.Prelude.{◌≡◌, IfOk, IfErr, map, [], None};
-ghost use Rattle.syntax.specs.Views.{unit_tree, function_tree};
+ghost use Rattle.syntax.specs.Views.{unit_tree, function_tree, parameter_tree};
 ghost use Rattle.world.specs.SceneWorld.{world_of_scene, invocation_of};
-ghost use Rattle.regions.specs.Load.{call_loads, is_callable, first_load_fault};
+ghost use Rattle.world.specs.Views.{argument_view};
+ghost use Rattle.regions.specs.Load.{call_loads, fits_parameter, fit_parameters, is_callable, first_load_fault};
 ghost use Rattle.regions.specs.Start.{start};
 ghost use Rattle.replay.specs.States.{AreInRange, Stands};
 ghost use Rattle.replay.specs.Loading.{refused_calls, first_line, AreWaiting};
@@ -11,20 +12,48 @@ ghost use Rattle.replay.specs.Replays.{IsLoadFault};
 
 use crate::fault::ReplayFault;
 use crate::state::State;
-use crate::thread::{Thread, function_at};
-use classes::mangling::unmangle;
+use crate::thread::{Thread, class_of, function_at};
 use std::alloc::{AllocError, Global};
-use syntax::{Function, Item};
-use world::{Call, World};
+use syntax::{Function, Item, Parameter, ParameterType};
+use world::{Argument, Call, World};
 
-/// Whether the function can be called without arguments: its class is there.
-fn is_callable(alloc: Global, world: &World, function: &Function) -> Result<bool, AllocError>
-    ensures { IfOk result (λ fits. fits ≡ is_callable (world_of_scene world.now).classes [] (function_tree function.now)) }
+/// Whether a parameter can have this argument.
+fn fits_parameter(parameter: &Parameter, argument: &Argument) -> bool
+    ensures { result ≡ fits_parameter (parameter_tree parameter.now).type (argument_view argument.now) }
 {
-    match unmangle(alloc, function.name.as_bytes())? {
-        Some(native) => Ok(world.has_class(&native.class)),
-        None => Ok(false),
+    match (parameter.kind, *argument) {
+        (ParameterType::Jint, Argument::Number(_)) => true,
+        (ParameterType::Reference(_), Argument::Reference(_)) => true,
+        _ => false,
     }
+}
+
+/// Whether there are as many arguments as parameters, and each fits.
+fn fit_parameters(parameters: &[Parameter], arguments: &[Argument]) -> bool
+    ensures { result ≡ fit_parameters (map parameter_tree parameters.entry.now) (map argument_view arguments.entry.now) }
+{
+    match parameters {
+        [] => arguments.is_empty(),
+        [parameter, parameters @ ..] => match arguments {
+            [] => false,
+            [argument, arguments @ ..] => {
+                fits_parameter(parameter, argument) && fit_parameters(parameters, arguments)
+            }
+        },
+    }
+}
+
+/// Whether the function can be called with these arguments: its class is there, and they fit.
+fn is_callable(
+    alloc: Global,
+    world: &World,
+    function: &Function,
+    arguments: &[Argument],
+) -> Result<bool, AllocError>
+    ensures { IfOk result (λ fits. fits ≡ is_callable (world_of_scene world.now).classes (map argument_view arguments.now) (function_tree function.now)) }
+{
+    let class = class_of(alloc, world, function)?;
+    Ok(class.is_some() && fit_parameters(&function.parameters, arguments))
 }
 
 /// Whether a call's function is there, and can be called.
@@ -32,7 +61,7 @@ fn fits(alloc: Global, items: &[Item], world: &World, call: &Call) -> Result<boo
     ensures { IfOk result (λ fits. fits ≡ call_loads (unit_tree items.now) (world_of_scene world.now).classes (invocation_of call.now)) }
 {
     match function_at(items, call.function()) {
-        Some(function) => is_callable(alloc, world, function),
+        Some(function) => is_callable(alloc, world, function, call.arguments()),
         None => Ok(false),
     }
 }
@@ -99,6 +128,8 @@ pub(crate) fn start<'a>(
     }
     Ok(State {
         threads: waiting_threads(alloc, world)?,
+        world,
         printed: Vec::new(alloc),
+        stop: None,
     })
 }

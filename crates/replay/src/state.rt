@@ -1,31 +1,56 @@
 //! The state of a replay, and what an entry does to it.
 
-ghost use Rattle.std.specs.Prelude.{◌≡◌, IfOk, map};
+ghost use Rattle.std.specs.Prelude.{◌≡◌, IfOk, IsTrue};
 ghost use Rattle.syntax.specs.Limits.{IsTree};
 ghost use Rattle.syntax.specs.Views.{unit_tree};
-ghost use Rattle.replay.specs.States.{AreInRange, TakesEntry, printed_after, is_possible, standing_of};
+ghost use Rattle.types.specs.BuiltCalls.{calls_are_built};
+ghost use Rattle.regions.specs.Value.{trap_number};
+ghost use Rattle.replay.specs.States.{AreInRange, TakesEntry, IsNoted, is_possible, standing_of, standings_of};
+ghost use Rattle.replay.specs.Tasks.{trap_view};
 
+use crate::task::Trap;
 use crate::thread::{Step, Thread, take_step};
 use std::alloc::{AllocError, Global};
 use syntax::Item;
-use world::{Entry, Printed, Standing};
+use world::{Entry, Printed, Standing, World};
 
-/// The threads, and what they printed. What all threads share never changes yet, so it isn't here.
+/// The trap that stopped the machine.
+#[derive(Clone, Copy, Debug, PartialEq, Eq)]
+pub(crate) struct Stop {
+    /// The thread's number, from 1.
+    pub thread: u8,
+    pub trap: Trap,
+    /// The line of the statement.
+    pub line: usize,
+}
+
+/// The threads, the world that they began in, what they printed, and the trap that stopped them. Of what all threads
+/// share nothing changes yet, so that the objects are the world's.
 #[derive(Drop)]
 pub(crate) struct State<'a> {
+    pub world: &'a World,
     pub threads: Vec<Thread<'a>>,
     pub printed: Vec<Printed>,
+    pub stop: Option<Stop>,
 }
 
 /// Writes down what thread `k` did; false where it could do nothing.
-fn note(printed: &mut Vec<Printed>, k: u8, step: Step) -> Result<bool, AllocError>
+fn note(state: &mut State<'_>, k: u8, step: Step) -> Result<bool, AllocError>
     ensures possible { IfOk result (λ possible. possible ≡ is_possible step) }
-    ensures printed { IfOk result (λ _. printed.new.items ≡ printed_after printed.old.items k step) }
+    ensures noted { IfOk result (λ _. IsNoted state.old k step state.new) }
 {
     match step {
         Step::Quiet => Ok(true),
         Step::Printed(number) => {
-            printed.push(Printed { thread: k, number })?;
+            state.printed.push(Printed { thread: k, number })?;
+            Ok(true)
+        }
+        Step::Trapped(trap, line) => {
+            state.stop = Some(Stop {
+                thread: k,
+                trap,
+                line,
+            });
             Ok(true)
         }
         Step::Nothing => Ok(false),
@@ -40,11 +65,15 @@ pub(crate) fn take_entry<'a>(
     entry: Entry,
 ) -> Result<bool, AllocError>
     requires tree { IsTree (unit_tree items.now) }
+    requires calls { IsTrue (calls_are_built (unit_tree items.now)) }
     requires range { AreInRange state.old.threads.items }
     ensures step { IfOk result (λ possible. TakesEntry (unit_tree items.now) state.old entry possible state.new) }
     ensures range { IfOk result (λ _. AreInRange state.new.threads.items) }
 {
-    // No statement allocates yet, so there is nothing to refuse.
+    if state.stop.is_some() {
+        return Ok(false);
+    }
+    // No call allocates yet, so there is nothing to refuse.
     if entry.refused {
         return Ok(false);
     }
@@ -59,15 +88,30 @@ pub(crate) fn take_entry<'a>(
     if thread.ended {
         return Ok(false);
     }
-    let step = take_step(alloc, items, thread)?;
-    let possible = note(&mut state.printed, entry.thread, step)?;
+    let step = take_step(alloc, items, state.world, thread)?;
+    let possible = note(state, entry.thread, step)?;
     Ok(possible)
 }
 
-/// How a thread stands.
-fn standing_of(thread: &Thread<'_>) -> Standing
-    ensures { result ≡ standing_of thread.now }
+/// The number under which a trap is reported.
+fn trap_number(trap: Trap) -> u8
+    ensures { result ≡ trap_number (trap_view trap) }
 {
+    match trap {
+        Trap::NullReference => 4,
+        Trap::WrongObject => 6,
+    }
+}
+
+/// How thread `k` stands.
+fn standing_of(stop: Option<Stop>, k: usize, thread: &Thread<'_>) -> Standing
+    ensures { result ≡ standing_of stop (k, thread.now) }
+{
+    if let Some(stop) = stop {
+        if usize::from(stop.thread) == k {
+            return Standing::Trapped(trap_number(stop.trap), stop.line);
+        }
+    }
     if thread.ended {
         Standing::Ended
     } else {
@@ -76,15 +120,16 @@ fn standing_of(thread: &Thread<'_>) -> Standing
 }
 
 /// How the threads stand.
-pub(crate) fn standings_of(
-    alloc: Global,
-    threads: &[Thread<'_>],
-) -> Result<Vec<Standing>, AllocError>
-    ensures { IfOk result (λ standings. standings.items ≡ map standing_of threads.now) }
+pub(crate) fn standings_of(alloc: Global, state: &State<'_>) -> Result<Vec<Standing>, AllocError>
+    ensures { IfOk result (λ standings. standings.items ≡ standings_of state.now) }
 {
+    let stop = state.stop;
+    let threads = state.threads.as_slice();
     let mut standings = Vec::new(alloc);
+    let mut k = 0;
     for thread in threads {
-        standings.push(standing_of(thread))?;
+        k += 1;
+        standings.push(standing_of(stop, k, thread))?;
     }
     Ok(standings)
 }

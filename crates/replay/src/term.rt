@@ -5,10 +5,13 @@ ghost use Rattle.syntax.specs.Limits.{numbers_in_range, number_limit};
 ghost use Rattle.syntax.specs.Views.{expr_tree, prefix_tree, binary_tree};
 ghost use Rattle.regions.specs.Value.{Gives, Stuck, prefix_value, binary_value};
 ghost use Rattle.regions.specs.Term.{term_of, literal};
-ghost use Rattle.replay.specs.Views.{value_view, term_view, NumbersInRange, Reduces};
+ghost use Rattle.regions.specs.Sight.{scalar};
+ghost use Rattle.base.specs.Bytes.{lookup};
+ghost use Rattle.replay.specs.Views.{value_view, term_view, variables_view, NumbersInRange, Reduces};
 
+use crate::variable::{Content, Variable, content_of};
 use std::alloc::{AllocError, Global};
-use syntax::{BinaryOp, Expr, PrefixOp};
+use syntax::{BinaryOp, Constant, Expr, Name, PrefixOp};
 
 /// The value of an expression.
 #[derive(Clone, Copy, Debug, PartialEq, Eq)]
@@ -24,6 +27,9 @@ pub(crate) enum Value {
 pub(crate) enum Term {
     Done(Value),
     Number { value: u32, unsigned: bool },
+    Named(Constant),
+    /// A number variable.
+    Read(Name),
     Prefix(PrefixOp, Box<Term>),
     Binary(BinaryOp, Box<Term>, Box<Term>),
 }
@@ -39,6 +45,8 @@ pub(crate) fn term_of(alloc: Global, e: &Expr) -> Result<Term, AllocError>
             value: *value,
             unsigned: *unsigned,
         },
+        Expr::Named(c) => Term::Named(*c),
+        Expr::Variable(name) => Term::Read(Name::new(alloc, name.as_bytes())?),
         Expr::Prefix(op, a) => Term::Prefix(*op, Box::new(alloc, term_of(alloc, a)?)?),
         Expr::Binary(op, a, b) => {
             let left = Box::new(alloc, term_of(alloc, a)?)?;
@@ -102,26 +110,39 @@ fn binary_value(op: BinaryOp, a: Value, b: Value) -> Option<Value>
     }
 }
 
+/// The value of a number variable.
+pub(crate) fn number_in(variables: &[Variable<'_>], name: &Name) -> Option<Value>
+    ensures some { IfSome result (λ v. scalar (lookup name.now (variables_view variables.now)) ≡ Gives (value_view v)) }
+    ensures none { IfNone result (scalar (lookup name.now (variables_view variables.now)) ≡ Stuck) }
+{
+    match content_of(variables, name) {
+        Some(Content::Number(value)) => Some(value),
+        _ => None,
+    }
+}
+
 /// Replaces the leftmost part that can be reduced by its value; false where there is none.
 /// It walks to that part, through at most as many terms as the tree is high.
-pub(crate) fn reduce(term: &mut Term) -> bool
+pub(crate) fn reduce(variables: &[Variable<'_>], term: &mut Term) -> bool
     requires { NumbersInRange term.old }
-    ensures step { Reduces term.old result term.new }
+    ensures step { Reduces (variables_view variables.now) term.old result term.new }
     ensures numbers { NumbersInRange term.new }
 {
     let value = match term {
         Term::Done(_) => None,
         Term::Number { value, unsigned } => Some(literal(*value, *unsigned)),
+        Term::Named(_) => None,
+        Term::Read(name) => number_in(variables, name),
         Term::Prefix(op, a) => match &mut **a {
             Term::Done(v) => prefix_value(*op, *v),
-            a => return reduce(a),
+            a => return reduce(variables, a),
         },
         Term::Binary(op, a, b) => match &mut **a {
             Term::Done(v) => match &mut **b {
                 Term::Done(w) => binary_value(*op, *v, *w),
-                b => return reduce(b),
+                b => return reduce(variables, b),
             },
-            a => return reduce(a),
+            a => return reduce(variables, a),
         },
     };
     match value {

@@ -3,8 +3,13 @@
 use crate::fault::ReplayFault;
 use crate::journal::replay;
 use regions::check;
+use std::alloc::{AllocError, Global};
+use std::process::Abort;
 use std::test::Fail;
-use syntax::{Block, Expr, Form, Function, Item, Name, ResultType, Stmt, Unit};
+use syntax::{
+    Argument, Block, Call, Expr, Form, Function, Item, Name, Parameter, ParameterType, ReferenceType,
+    ResultType, RightSide, Stmt, Unit, VariableType,
+};
 use types::type_unit;
 use world::{Entry, StdSink, read_world};
 
@@ -32,6 +37,7 @@ fn a_whole_call(rt: HostRuntime) -> Result<(), Fail> {
         result: ResultType::Void,
         name: Name::new(alloc, b"Java_A_f")?,
         class_name: Name::new(alloc, b"cls")?,
+        parameters: Vec::new(alloc),
         body: Block {
             statements: vec![in alloc; put, back]?,
             end_line: 4,
@@ -52,6 +58,111 @@ fn a_whole_call(rt: HostRuntime) -> Result<(), Fail> {
     let answer = replay(alloc, &checked, &world, &journal, &mut sink);
     assert!(rt; answer == Err(ReplayFault::Impossible(5)));
     assert!(rt; sink.into_inner().is_empty());
+    Ok(())
+}
+
+/// A function with a parameter `jobject a` and these statements from line 2 on:
+/// `jint n = (*env)->GetArrayLength(env, a);`, `put_jint(n);` and `return;`.
+fn length_unit(alloc: Global) -> Result<Unit, AllocError> {
+    let argument = Argument::Value(Expr::Variable(Name::new(alloc, b"a")?));
+    let call = Call {
+        function: Name::new(alloc, b"GetArrayLength")?,
+        arguments: vec![in alloc; argument]?,
+    };
+    let declare = Stmt {
+        line: 2,
+        form: Form::Declare(
+            VariableType::Jint,
+            Name::new(alloc, b"n")?,
+            RightSide::Call(call),
+        ),
+    };
+    let put = Stmt {
+        line: 3,
+        form: Form::PutJint(Expr::Variable(Name::new(alloc, b"n")?)),
+    };
+    let back = Stmt {
+        line: 4,
+        form: Form::Return(None),
+    };
+    let parameter = Parameter {
+        kind: ParameterType::Reference(ReferenceType::Object),
+        name: Name::new(alloc, b"a")?,
+    };
+    let function = Function {
+        line: 1,
+        result: ResultType::Void,
+        name: Name::new(alloc, b"Java_A_f")?,
+        class_name: Name::new(alloc, b"cls")?,
+        parameters: vec![in alloc; parameter]?,
+        body: Block {
+            statements: vec![in alloc; declare, put, back]?,
+            end_line: 5,
+        },
+    };
+    Ok(Unit::new(vec![in alloc; Item::Function(function)]?))
+}
+
+/// Replays so many entries of that function's thread in a world.
+fn replayed(
+    rt: &impl Abort,
+    alloc: Global,
+    world: &[u8],
+    entries: usize,
+    text: &[u8],
+) -> Result<(), Fail> {
+    let checked = check(type_unit(alloc, length_unit(alloc)?)?)?;
+    let world = read_world(alloc, world)?;
+    let mut journal = Vec::new(alloc);
+    for _ in 0..entries {
+        journal.push(Entry {
+            thread: 1,
+            refused: false,
+        })?;
+    }
+    let mut sink = StdSink::new(Vec::new(alloc));
+    replay(alloc, &checked, &world, &journal, &mut sink)?;
+    assert_eq!(rt; sink.into_inner().as_slice(), text);
+    // No further entry is possible.
+    journal.push(Entry {
+        thread: 1,
+        refused: false,
+    })?;
+    let mut sink = StdSink::new(Vec::new(alloc));
+    let answer = replay(alloc, &checked, &world, &journal, &mut sink);
+    assert!(rt; answer == Err(ReplayFault::Impossible(journal.len())));
+    Ok(())
+}
+
+#[test]
+fn the_length_of_an_array(rt: HostRuntime) -> Result<(), Fail> {
+    let world = b"heap 512\nclass A\narray @a I 7 8 9\nthread Java_A_f @a\n";
+    let text = b"T1 3\nT1 ended\n#46 [I 7 8 9\njournal 1 1 1 1 1\n";
+    replayed(&rt, rt.alloc(), world, 5, text)
+}
+
+#[test]
+fn the_length_of_null(rt: HostRuntime) -> Result<(), Fail> {
+    let world = b"heap 512\nclass A\narray @a I 7 8 9\nthread Java_A_f null\n";
+    let text = b"T1 trap 4 line 2\n#46 [I 7 8 9\njournal 1 1\n";
+    replayed(&rt, rt.alloc(), world, 2, text)
+}
+
+#[test]
+fn the_length_of_a_class(rt: HostRuntime) -> Result<(), Fail> {
+    let world = b"heap 512\nclass A\narray @a I 7 8 9\nthread Java_A_f class:A\n";
+    let text = b"T1 trap 6 line 2\n#46 [I 7 8 9\njournal 1 1\n";
+    replayed(&rt, rt.alloc(), world, 2, text)
+}
+
+#[test]
+fn a_number_for_a_reference(rt: HostRuntime) -> Result<(), Fail> {
+    let alloc = rt.alloc();
+    let checked = check(type_unit(alloc, length_unit(alloc)?)?)?;
+    let world = read_world(alloc, b"heap 512\nclass A\narray @a I 7 8 9\nthread Java_A_f 5\n")?;
+    let mut sink = StdSink::new(Vec::new(alloc));
+    let answer = replay(alloc, &checked, &world, &[], &mut sink);
+    assert!(rt; answer == Err(ReplayFault::DoesNotFit(4)));
     Ok(())
 }
 

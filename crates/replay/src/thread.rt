@@ -1,19 +1,26 @@
 //! Threads: calls in progress and to come.
 
-ghost use Rattle.std.specs.Prelude.{◌≡◌, ℕ, List, IfOk, Some, None, map, length, ◌==◌};
+ghost use Rattle.std.specs.Prelude.{◌≡◌, ◌++◌, ◌∷◌, IfOk, IsTrue, Some, None, map, zip, length, ◌==◌};
 ghost use Rattle.std.specs.Option.{option_map};
 ghost use Rattle.syntax.specs.declared.unit.Item.TheVariants as form;
 ghost use Rattle.syntax.specs.Limits.{IsTree};
-ghost use Rattle.syntax.specs.Views.{function_tree, unit_tree};
-ghost use Rattle.classes.specs.Class.{Classes};
-ghost use Rattle.regions.specs.Activation.{function_at};
-ghost use Rattle.replay.specs.Threads.{TakesStep, WorkInRange, step_of};
+ghost use Rattle.syntax.specs.Views.{function_tree, parameter_tree, unit_tree};
+ghost use Rattle.types.specs.BuiltCalls.{calls_are_built};
+ghost use Rattle.world.specs.SceneWorld.{world_of_scene};
+ghost use Rattle.world.specs.Views.{argument_view};
+ghost use Rattle.regions.specs.Activation.{function_at, parameter_variables, class_of_function};
+ghost use Rattle.regions.specs.Variable.{LocalRef};
+ghost use Rattle.replay.specs.Threads.{argument_content, TakesStep, WorkInRange, step_of};
+ghost use Rattle.replay.specs.Views.{content_view, variables_view};
 
 use crate::activation::{Activation, advance};
-use crate::task::Outcome;
+use crate::task::{Outcome, Trap};
+use crate::term::Value;
+use crate::variable::{Content, Variable};
+use classes::mangling::unmangle;
 use std::alloc::{AllocError, Global};
-use syntax::{Function, Item};
-use world::Call;
+use syntax::{Function, Item, Parameter};
+use world::{Argument, Call, World};
 
 /// A thread: the calls to come, the one in progress, and whether all are done.
 #[derive(Drop)]
@@ -28,6 +35,8 @@ pub(crate) struct Thread<'a> {
 pub(crate) enum Step {
     Quiet,
     Printed(i32),
+    /// The machine stops, by a statement of this line.
+    Trapped(Trap, usize),
     /// It is not possible.
     Nothing,
 }
@@ -53,34 +62,111 @@ pub(crate) fn function_at<'a>(items: &'a [Item], name: &[u8]) -> Option<&'a Func
     None
 }
 
+/// What a parameter holds at first.
+fn content_of(argument: Argument) -> Content
+    ensures { content_view result ≡ argument_content (argument_view argument) }
+{
+    match argument {
+        Argument::Number(z) => Content::Number(Value::Int(z)),
+        Argument::Reference(None) => Content::Reference(None),
+        Argument::Reference(Some(object)) => Content::Reference(Some(object as usize)),
+    }
+}
+
+/// Adds the variables of parameters, each with its argument.
+#[tactic(auto, using(crate::proofs::VariableLemmas::added_rules))]
+fn add_parameters<'a>(
+    variables: &mut Vec<Variable<'a>>,
+    parameters: &'a [Parameter],
+    arguments: &[Argument],
+) -> Result<(), AllocError>
+    ensures { IfOk result (λ _. variables_view variables.new.items ≡ variables_view variables.old.items
+        ++ parameter_variables (zip (map parameter_tree parameters.entry.now) (map argument_view arguments.entry.now))) }
+{
+    match parameters {
+        [] => Ok(()),
+        [parameter, parameters @ ..] => match arguments {
+            [] => Ok(()),
+            [argument, arguments @ ..] => {
+                variables.push(Variable {
+                    name: &parameter.name,
+                    content: content_of(*argument),
+                })?;
+                add_parameters(variables, parameters, arguments)
+            }
+        },
+    }
+}
+
+/// The number of the class whose native method a function is.
+pub(crate) fn class_of(alloc: Global, world: &World, function: &Function) -> Result<Option<usize>, AllocError>
+    ensures { IfOk result (λ class. class ≡ class_of_function (world_of_scene world.now).classes (function_tree function.now)) }
+{
+    match unmangle(alloc, function.name.as_bytes())? {
+        Some(native) => Ok(world.class_number(&native.class)),
+        None => Ok(None),
+    }
+}
+
+/// The variables with which a call begins: the class, and the parameters.
+fn entry_variables<'a>(
+    alloc: Global,
+    function: &'a Function,
+    class: usize,
+    arguments: &[Argument],
+) -> Result<Vec<Variable<'a>>, AllocError>
+    ensures { IfOk result (λ variables. variables_view variables.items
+        ≡ (function.entry.now.class_name, LocalRef 1 (Some class)) ∷ parameter_variables (zip (function_tree function.entry.now).parameters (map argument_view arguments.now))) }
+{
+    let mut variables = Vec::new(alloc);
+    variables.push(Variable {
+        name: &function.class_name,
+        content: Content::Reference(Some(class)),
+    })?;
+    add_parameters(&mut variables, &function.parameters, arguments)?;
+    Ok(variables)
+}
+
 /// Enters the next call.
-fn enter<'a>(items: &'a [Item], thread: &mut Thread<'a>) -> Step
+fn enter<'a>(
+    alloc: Global,
+    items: &'a [Item],
+    world: &World,
+    thread: &mut Thread<'a>,
+) -> Result<Step, AllocError>
     requires tree { IsTree (unit_tree items.now) }
+    requires calls { IsTrue (calls_are_built (unit_tree items.now)) }
     requires idle { thread.old.activation ≡ None }
-    ensures step { (classes : Classes) → TakesStep (unit_tree items.now) classes thread.old result thread.new }
-    ensures range { WorkInRange thread.new.activation }
+    ensures step { IfOk result (λ took. TakesStep (unit_tree items.now) (world_of_scene world.now) thread.old took thread.new) }
+    ensures range { IfOk result (λ _. WorkInRange thread.new.activation) }
 {
     let Some((call, rest)) = thread.calls.split_first() else {
-        return Step::Nothing;
+        return Ok(Step::Nothing);
     };
     let Some(function) = function_at(items, call.function()) else {
-        return Step::Nothing;
+        return Ok(Step::Nothing);
     };
+    let Some(class) = class_of(alloc, world, function)? else {
+        return Ok(Step::Nothing);
+    };
+    let variables = entry_variables(alloc, function, class, call.arguments())?;
     thread.calls = rest;
     thread.activation = Some(Activation {
         task: None,
         rest: &function.body.statements,
+        variables,
     });
-    Step::Quiet
+    Ok(Step::Quiet)
 }
 
 /// What others see of what a call in progress did.
-fn step_of(outcome: Outcome) -> Step
-    ensures { result ≡ step_of outcome }
+fn step_of(outcome: Outcome<'_>) -> Step
+    ensures { result ≡ step_of outcome.entry }
 {
     match outcome {
-        Outcome::Stays | Outcome::Returned => Step::Quiet,
+        Outcome::Stays | Outcome::Sets(_, _) | Outcome::Returned => Step::Quiet,
         Outcome::Printed(z) => Step::Printed(z),
+        Outcome::Trapped(trap, line) => Step::Trapped(trap, line),
         Outcome::Nothing => Step::Nothing,
     }
 }
@@ -97,17 +183,19 @@ fn leave(thread: &mut Thread<'_>)
 pub(crate) fn take_step<'a>(
     alloc: Global,
     items: &'a [Item],
+    world: &World,
     thread: &mut Thread<'a>,
 ) -> Result<Step, AllocError>
     requires tree { IsTree (unit_tree items.now) }
+    requires calls { IsTrue (calls_are_built (unit_tree items.now)) }
     requires range { WorkInRange thread.old.activation }
-    ensures step { IfOk result (λ took. (classes : Classes) → TakesStep (unit_tree items.now) classes thread.old took thread.new) }
+    ensures step { IfOk result (λ took. TakesStep (unit_tree items.now) (world_of_scene world.now) thread.old took thread.new) }
     ensures range { IfOk result (λ _. WorkInRange thread.new.activation) }
 {
     let Some(activation) = &mut thread.activation else {
-        return Ok(enter(items, thread));
+        return enter(alloc, items, world, thread);
     };
-    match advance(alloc, activation)? {
+    match advance(alloc, world, activation)? {
         Outcome::Returned => {
             leave(thread);
             Ok(Step::Quiet)

@@ -23,8 +23,8 @@ returns-in-Ok-write_run-clause-ok g c =
     record {
       fits = replayed.fits;
       text = _;
-      is = writes (unit_tree c.args.checked.now) (world_of_scene c.args.world.now) c.args.journal.now c.in-Ok.state refl replayed;
-      written = rw (c.deref-2.ensures.value, c.deref-3.ensures.value, c.in_ok-standings.ensures, c.deref.ensures.value) at c.in-Ok-write_run.ensures.text;
+      is = writes (unit_tree c.args.checked.now) (world_of_scene c.args.world.now) c.args.journal.now c.in-Ok.state replayed;
+      written = rw (c.deref-2.ensures.value, c.in_ok-standings.ensures, c.deref.ensures.value) at c.in-Ok-write_run.ensures.text;
     }
 
 pub returns-clause-err : goal.returns-clause-err
@@ -34,6 +34,6 @@ returns-clause-err g c =
     record {
       fits = replayed.fits;
       text = _;
-      is = writes (unit_tree c.args.checked.now) (world_of_scene c.args.world.now) c.args.journal.now c.in-Ok.state refl replayed;
-      stopped = rw (c.deref-2.ensures.value, c.deref-3.ensures.value, c.in_ok-standings.ensures, c.deref.ensures.value) at c.in-Err-write_run.ensures.text;
+      is = writes (unit_tree c.args.checked.now) (world_of_scene c.args.world.now) c.args.journal.now c.in-Ok.state replayed;
+      stopped = rw (c.deref-2.ensures.value, c.in_ok-standings.ensures, c.deref.ensures.value) at c.in-Err-write_run.ensures.text;
     }

@@ -22,6 +22,7 @@ loop-done-preserved c =
     let at = slice_get-get_or journal c.loop-done.done (record { thread = 0; refused = false }) c.loop-done-test.true in
     record {
       replayed = goes_on (unit_tree c.args.items.now) (world_of_scene c.args.world.now) journal c.loop-done.done entry c.loop-done.state c.take_entry.new.state at c.loop-done.invariant.replayed
-          (subst (λ b. TakesEntry (unit_tree c.args.items.now) c.loop-done.state entry b c.take_entry.new.state) c.if-not-branch.false c.in_ok-take_entry.ensures.step);
+          (subst (λ b. TakesEntry (unit_tree c.args.items.now) c.loop-done.state entry b c.take_entry.new.state) c.if-not-branch.false c.in_ok-take_entry.ensures.step)
+          c.in_ok-take_entry.ensures.range;
       range = c.in_ok-take_entry.ensures.range;
     }

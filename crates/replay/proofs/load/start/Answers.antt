@@ -10,8 +10,9 @@ returns-clause-stands c =
     let w = world_of_scene c.args.world.now in
     let none = no_call (refused unit w.classes w.threads) c.in_ok-line.field-0 c.in_ok-line.ensures (not_some c.in_ok-line.field-0 c.in_default.not-Some) in
     record {
+      world = refl;
       shared = refl;
       threads = stand_waiting unit w.classes c.in_ok-waiting_threads.field-0.items c.args.world.now.threads c.in_ok-waiting_threads.ensures.waiting none;
       printed = sym c.new.ensures.items;
-      running = refl;
+      stop = refl;
     }

@@ -1,32 +1,36 @@
-use Rattle.std.proofs.Common.{◌≡◌, ℕ, ◌-◌, ◌≤◌, length, get_or, Some, refl, ap, arith}
-use Rattle.std.specs.Prelude.{Vec, slice_get, vec_len}
+use Rattle.std.proofs.Common.{◌≡◌, ℕ, ◌-◌, ◌≤◌, length, get_or, Some, refl, sym, ap, ◌∙◌, subst, arith}
+use Rattle.std.specs.Prelude.{Vec as RawVec, slice_get, vec_len}
+use Rattle.std.specs.Global.{Vec}
+use Rattle.world.specs.World.{World}
 use Rattle.std.proofs.lemmas.Option.{slice_get_read}
 use Rattle.syntax.specs.Views.{unit_tree}
 use Rattle.regions.specs.State.{thread_at}
 use Rattle.replay.specs.declared.thread.Thread.{Thread}
-use Rattle.replay.proofs.StateLemmas.{refused, not_there, past_the_end, ended, takes, range_at, range_set}
+use Rattle.replay.specs.States.{AreInRange}
+use Rattle.replay.specs.Threads.{TakesStep}
+use Rattle.replay.proofs.StateLemmas.{stopped, no_statics, refused, not_there, past_the_end, ended, takes, range_at, range_set}
 use Rattle.replay.proofs.state.take_entry.Goals as goal
 
 pub returns-then-entry-clause-step : goal.returns-then-entry-clause-step
-returns-then-entry-clause-step c = λ w s h. refused (unit_tree c.args.items.now) w c.args.state.now s h c.args.entry c.if-entry.true
+returns-then-entry-clause-step c = λ w s h. refused (unit_tree c.args.items.now) w c.args.state.now s h c.requires.range c.args.entry c.if-entry.true
 
 pub returns-then-k-eq0-clause-step : goal.returns-then-k-eq0-clause-step
 returns-then-k-eq0-clause-step c = λ w s h.
     let none : c.args.entry.thread ≡ 0 = omega arith in
-    not_there (unit_tree c.args.items.now) w c.args.state.now s h c.args.entry (ap (thread_at s) none)
+    not_there (unit_tree c.args.items.now) w c.args.state.now s h c.requires.range c.args.entry (ap (thread_at s) none)
 
 pub returns-then-len-k-clause-step : goal.returns-then-len-k-clause-step
 returns-then-len-k-clause-step c = λ w s h.
-    past_the_end (unit_tree c.args.items.now) w c.args.state.now s h c.args.entry (omega arith)
+    past_the_end (unit_tree c.args.items.now) w c.args.state.now s h c.requires.range c.args.entry (omega arith)
 
 -- the thread of the entry
-thread_there : {A : Type 0} (v : Vec Thread A) (n k : ℕ) (t : Thread) → (n ≡ 0 → ⊥) → n ≤ k → k ≡ vec_len v → t ≡ get_or v.items (n - 1) t → slice_get v.items (n - 1) ≡ Some t
+thread_there : {A : Type 0} (v : RawVec Thread A) (n k : ℕ) (t : Thread) → (n ≡ 0 → ⊥) → n ≤ k → k ≡ vec_len v → t ≡ get_or v.items (n - 1) t → slice_get v.items (n - 1) ≡ Some t
 thread_there v n k t low high all h = slice_get_read v.items (length v.items) (n - 1) t refl (omega arith) h
 
 pub returns-then-thread-clause-step : goal.returns-then-thread-clause-step
 returns-then-thread-clause-step c = λ w s h.
     let at = thread_there c.args.state.now.threads c.from-k.result c.len.result c.index_mut-thread.result.now c.if-k-eq0.false c.if-len-k.false c.len.ensures c.index_mut-thread.ensures.value in
-    ended (unit_tree c.args.items.now) w c.args.state.now s h c.args.entry (c.from-k.result - 1) c.index_mut-thread.result.now (omega arith) at c.if-thread.true
+    ended (unit_tree c.args.items.now) w c.args.state.now s h c.requires.range c.args.entry (c.from-k.result - 1) c.index_mut-thread.result.now (omega arith) at c.if-thread.true
 
 pub take_step-requires-clause-range : goal.take_step-requires-clause-range
 take_step-requires-clause-range c =
@@ -36,9 +40,15 @@ take_step-requires-clause-range c =
 pub returns-clause-step : goal.returns-clause-step
 returns-clause-step c = λ w s h.
     let at = thread_there c.args.state.now.threads c.from-k.result c.len.result c.index_mut-thread.result.now c.if-k-eq0.false c.if-len-k.false c.len.ensures c.index_mut-thread.ensures.value in
-    rw c.in_ok-possible.ensures.possible (takes (unit_tree c.args.items.now) w c.args.state.now s h c.args.entry (c.from-k.result - 1) c.index_mut-thread.result.now c.take_step.new.thread c.in_ok-step.step _
-    (omega arith) c.if-entry.false at c.if-thread.false (c.in_ok-step.ensures.step w.classes) refl c.in_ok-possible.ensures.printed)
+    let step = subst (λ (v : World). TakesStep (unit_tree c.args.items.now) v c.index_mut-thread.result.now c.in_ok-step.step c.take_step.new.thread) (sym h.world) c.in_ok-step.ensures.step in
+    rw c.in_ok-possible.ensures.possible (takes (unit_tree c.args.items.now) w c.args.state.now s h c.requires.range c.args.entry (c.from-k.result - 1) c.index_mut-thread.result.now c.take_step.new.thread c.in_ok-step.step c.note.new.state
+    (omega arith) c.if-entry.false at c.if-thread.false (no_statics c.args.items.now) (sym c.is_some.ensures ∙ c.if-is_some.false) step
+    c.in_ok-possible.ensures.noted.world (ap (λ (v : Vec Thread). v.items) c.in_ok-possible.ensures.noted.threads) c.in_ok-possible.ensures.noted.printed c.in_ok-possible.ensures.noted.stop)
 
 pub returns-clause-range : goal.returns-clause-range
 returns-clause-range c =
-    range_set c.args.state.now.threads.items (c.from-k.result - 1) c.take_step.new.thread c.requires.range c.in_ok-step.ensures.range
+    subst (λ (v : Vec Thread). AreInRange v.items) (sym c.in_ok-possible.ensures.noted.threads)
+    (range_set c.args.state.now.threads.items (c.from-k.result - 1) c.take_step.new.thread c.requires.range c.in_ok-step.ensures.range)
+
+pub returns-then-is_some-clause-step : goal.returns-then-is_some-clause-step
+returns-then-is_some-clause-step c = λ w s h. stopped (unit_tree c.args.items.now) w c.args.state.now s h c.requires.range c.args.entry (sym c.is_some.ensures ∙ c.if-is_some.true)

@@ -1,0 +1,34 @@
+-- How threads stand, one after the other.
+use Rattle.std.proofs.Common.{◌≡◌, ℕ, ◌+◌, ◌<◌, ◌≤◌, List, [], ◌∷◌, ◌++◌, length, map, drop, get_or, Option, refl, sym, ap, ◌∙◌, append_assoc, append-nil, arith}
+use Rattle.std.specs.List.{enumerate_from}
+use Rattle.std.proofs.lemmas.List.{at_drop_more, drop_all}
+use Rattle.std.proofs.lemmas.List.FromFn.{length-enumerate_from, get_or-enumerate_from}
+use Rattle.world.specs.declared.report.Standing.{Standing}
+use Rattle.replay.specs.declared.thread.Thread.{Thread}
+use Rattle.replay.specs.declared.state.Stop.{Stop}
+use Rattle.replay.specs.States.{standing_of}
+
+module _ (stop : Option Stop) (ts : List Thread) where
+  abbrev numbered : List (ℕ × Thread)
+  numbered = enumerate_from 1 ts
+
+  -- one thread more
+  pub standing_more : (acc : List Standing) (i k : ℕ) (x : Thread) (out : Standing) → i < length ts → k ≡ i → x ≡ get_or ts i x → out ≡ standing_of stop (k + 1, x) → map (standing_of stop) numbered ≡ acc ++ map (standing_of stop) (drop i numbered)
+      → map (standing_of stop) numbered ≡ (acc ++ out ∷ []) ++ map (standing_of stop) (drop (i + 1) numbered)
+  standing_more acc i k x out low counted is gives h =
+      let long : i < length numbered = omega (arith, low, length-enumerate_from 1 ts) in
+      let number : 1 + i ≡ k + 1 = omega (arith, counted) in
+      let item : get_or numbered i (1, x) ≡ (k + 1, x) =
+      get_or-enumerate_from 1 ts i (1, x) low
+      ∙ ap (λ (n : ℕ). (n, get_or ts i x)) number
+      ∙ ap (λ (t : Thread). (k + 1, t)) (sym is) in
+      h
+      ∙ ap (λ (l : List Standing). acc ++ l) (at_drop_more (map (standing_of stop)) numbered i (1, x) long)
+      ∙ ap (λ (v : ℕ × Thread). acc ++ standing_of stop v ∷ map (standing_of stop) (drop (i + 1) numbered)) item
+      ∙ ap (λ (o : Standing). acc ++ o ∷ map (standing_of stop) (drop (i + 1) numbered)) (sym gives)
+      ∙ sym (append_assoc acc (out ∷ []) (map (standing_of stop) (drop (i + 1) numbered)))
+
+  -- all of them
+  pub standings_all : (acc : List Standing) (i : ℕ) → length ts ≤ i → map (standing_of stop) numbered ≡ acc ++ map (standing_of stop) (drop i numbered) → acc ≡ map (standing_of stop) numbered
+  standings_all acc i past h =
+      sym (h ∙ ap (λ (l : List (ℕ × Thread)). acc ++ map (standing_of stop) l) (drop_all i numbered (omega (arith, past, length-enumerate_from 1 ts))) ∙ append-nil acc)
