@@ -11,11 +11,47 @@ pub enum Operator {
     Or,
 }
 
-/// One instruction, which is one step of the source.
+/// Where an instruction finds a reference. Slots of references are counted from 0.
+#[derive(Clone, Copy, Debug, PartialEq, Eq)]
+pub enum ReferenceOperand {
+    /// `NULL`
+    Null,
+    /// The local reference in this slot.
+    Local(usize),
+}
+
+/// A function of the JNI with its arguments (JNI Specification, chapter 4).
+#[derive(Clone, Copy, Debug, PartialEq, Eq)]
+pub enum Callee {
+    /// The number of elements of an array ("GetArrayLength").
+    GetArrayLength(ReferenceOperand),
+}
+
+/// Where a call's result goes.
+#[derive(Clone, Copy, Debug, PartialEq, Eq)]
+pub enum Target {
+    /// Into this number slot.
+    Number(usize),
+}
+
+/// A call of a function of the JNI, in a statement on this line.
+#[derive(Clone, Copy, Debug, PartialEq, Eq)]
+pub struct Call {
+    /// Counted from 1; a trap of the call is reported there.
+    pub line: usize,
+    pub target: Target,
+    pub function: Callee,
+}
+
+/// One instruction, which is one step of the source. Slots of numbers are counted from 0.
 #[derive(Clone, Copy, Debug, PartialEq, Eq)]
 pub enum Instr {
     /// Puts a constant onto the stack.
     Push(u32),
+    /// Puts the word of a number slot onto the stack.
+    Load(usize),
+    /// Takes a word into a number slot.
+    Store(usize),
     /// The bitwise complement of the topmost word (6.5.3.3).
     Complement,
     /// A conversion between `jint` and `uint32_t`, which keeps the word (6.3.1.3, in two's complement).
@@ -24,6 +60,8 @@ pub enum Instr {
     Operate(Operator),
     /// Takes a word and prints it as a `jint`.
     PutJint,
+    /// Calls a function of the JNI.
+    Call(Call),
     /// Leaves the function without a result.
     Return,
     /// Takes a word and leaves the function with it.

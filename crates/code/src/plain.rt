@@ -1,4 +1,4 @@
-//! Instructions that work on the operand stack alone.
+//! Instructions that work on the operand stack and the number slots alone.
 
 ghost use Rattle.std.specs.Prelude.{◌≡◌, IsSome, Some, length};
 ghost use Rattle.code.specs.Depth.{depth_after};
@@ -7,14 +7,16 @@ ghost use Rattle.code.specs.Effect.{operate, plain_of};
 use crate::instr::{Instr, Operator, Plain};
 use crate::stack::Stack;
 
-/// Does an instruction that works on the stack alone, and answers where it leads.
-pub fn plain(instr: &Instr, stack: &mut Stack) -> Plain
-    requires operands { IsSome (plain_of instr.now stack.old) }
+/// Does an instruction that works on the stack and the number slots alone, and answers where it leads.
+pub fn plain(instr: &Instr, stack: &mut Stack, numbers: &mut [u32]) -> Plain
+    requires operands { IsSome (plain_of instr.now stack.old numbers.old) }
     requires room { IsSome (depth_after instr.now (length stack.old)) }
-    ensures { plain_of instr.now stack.old ≡ Some (result, stack.new) }
+    ensures { plain_of instr.now stack.old numbers.old ≡ Some (result, stack.new, numbers.new) }
 {
     match instr {
         Instr::Push(word) => stack.push(*word),
+        Instr::Load(slot) => stack.push(numbers[*slot]),
+        Instr::Store(slot) => numbers[*slot] = stack.pop(),
         Instr::Complement => {
             let word = stack.pop();
             stack.push(!word);
@@ -25,7 +27,7 @@ pub fn plain(instr: &Instr, stack: &mut Stack) -> Plain
             let left = stack.pop();
             stack.push(result_of(*operator, left, right));
         }
-        Instr::PutJint | Instr::Return | Instr::ReturnJint => unreachable!(),
+        Instr::PutJint | Instr::Call(_) | Instr::Return | Instr::ReturnJint => unreachable!(),
     }
     Plain::Next
 }

@@ -5,8 +5,10 @@ use Rattle.std.proofs.Math.Nat.{mod-lt}
 use Rattle.std.proofs.Math.Facts.{Fits-and, Fits-or, Fits-xor, Fits-of_lt, Fits-lt-pow, Fits-of_z, of_z-to_z, sfits_to_z}
 use Rattle.std.specs.Int.{w32, cast_unsigned}
 use Rattle.syntax.specs.Tree.{PrefixOp, LogicalNot, Complement, ToWord, ToInt, BinaryOp, BitOr, BitXor, BitAnd, Add, Subtract, Multiply}
+use Rattle.base.specs.Bytes.{Identifier, lookup}
 use Rattle.base.specs.Element.{JInt}
-use Rattle.types.specs.Sorts.{Sort, Jint}
+use Rattle.std.specs.Option.{option_map}
+use Rattle.types.specs.Sorts.{Sort, Jint, Flag}
 use Rattle.types.specs.Sorts as sort
 use Rattle.code.specs.declared.instr.Operator.{Operator}
 use Rattle.code.specs.declared.instr.Operator.TheVariants as operator
@@ -16,9 +18,10 @@ use Rattle.code.specs.declared.instr.Plain.TheVariants as plain
 use Rattle.code.specs.Effect.{plain_of, operate}
 use Rattle.regions.specs.Sight.{Sight}
 use Rattle.regions.specs.Value.{Value, Word, Int, Gives, outcome_map, binary_value, convert}
-use Rattle.regions.specs.Term.{Term, Done, Number, Prefix, Binary, Reduction, done, with_part, reduce}
-use Rattle.lower.specs.Layout.{prefix_code, operator_code}
-use Rattle.lower.specs.Stands.{word_of, held, term_code, HasInstruction, ValueHasSort, TermHasSort, IsUntouched, IsBegun}
+use Rattle.regions.specs.Term.{Term, Done, Number, Read, Prefix, Binary, Reduction, done, with_part, reduce}
+use Rattle.lower.specs.Layout.{Slot, Known, prefix_code, operator_code, load_of, load_code}
+use Rattle.lower.specs.Slots.{word_of, ValueHasSort, IsNumberSort, ShowsNumber}
+use Rattle.lower.specs.Stands.{held, term_code, HasInstruction, TermHasSort, IsUntouched, IsBegun}
 
 -- some part has no value yet
 abbrev pub IsOpen : Term → Type 0
@@ -26,13 +29,13 @@ IsOpen (Done v) = ⊥
 IsOpen t = Unit {0}
 
 -- a term's step, and what the instruction for it does to the stack
-pub record StepsTerm (sight : Sight) (t : Term) (s : Sort) : Type 0 where
+pub record StepsTerm (known : Known) (numbers : List ℕ) (sight : Sight) (t : Term) (s : Sort) : Type 0 where
   pub next : Term
   pub here : Instr
   pub is : reduce sight t ≡ Gives next
-  pub code : term_code t ≡ here ∷ term_code next
-  pub plain : (stack : List ℕ) → plain_of here (held t ++ stack) ≡ Some (plain.Next, held next ++ stack)
-  pub sort : TermHasSort next s
+  pub code : term_code known t ≡ here ∷ term_code known next
+  pub plain : (stack : List ℕ) → plain_of here (held t ++ stack) numbers ≡ Some (plain.Next, held next ++ stack, numbers)
+  pub sort : TermHasSort known next s
   pub begun : IsBegun next
 
 -- an operator whose left side has no value is begun there
@@ -67,8 +70,8 @@ into_part : (use_value : Value → Reduction) (whole : Term → Term) (part : Te
 into_part f whole (Done v) step o = absurd o
 into_part f whole t step o = refl
 
-in_prefix : (sight : Sight) (op : PrefixOp) (t : Term) (s r : Sort) → IsOpen t → StepsTerm sight t r → ((u : Term) → TermHasSort u r → TermHasSort (Prefix op u) s) → StepsTerm sight (Prefix op t) s
-in_prefix sight op t s r o st sorts = record {
+in_prefix : (known : Known) (numbers : List ℕ) (sight : Sight) (op : PrefixOp) (t : Term) (s r : Sort) → IsOpen t → StepsTerm known numbers sight t r → ((u : Term) → TermHasSort known u r → TermHasSort known (Prefix op u) s) → StepsTerm known numbers sight (Prefix op t) s
+in_prefix known numbers sight op t s r o st sorts = record {
   next = Prefix op st.next;
   here = st.here;
   is = into_part _ (Prefix op) t _ o ∙ ap (outcome_map (Prefix op)) st.is;
@@ -78,19 +81,19 @@ in_prefix sight op t s r o st sorts = record {
   begun = st.begun;
 }
 
-in_left : (sight : Sight) (op : BinaryOp) (a b : Term) (s : Sort) → IsOpen a → HasInstruction op → StepsTerm sight a sort.Word → IsUntouched b → TermHasSort b sort.Word → s ≡ sort.Word → StepsTerm sight (Binary op a b) s
-in_left sight op a b s o i st u h k = record {
+in_left : (known : Known) (numbers : List ℕ) (sight : Sight) (op : BinaryOp) (a b : Term) (s : Sort) → IsOpen a → HasInstruction op → StepsTerm known numbers sight a sort.Word → IsUntouched b → TermHasSort known b sort.Word → s ≡ sort.Word → StepsTerm known numbers sight (Binary op a b) s
+in_left known numbers sight op a b s o i st u h k = record {
   next = Binary op st.next b;
   here = st.here;
   is = into_part _ (λ t. Binary op t b) a _ o ∙ ap (outcome_map (λ t. Binary op t b)) st.is;
-  code = ap (λ c. c ++ (term_code b ++ operator_code op)) st.code;
+  code = ap (λ c. c ++ (term_code known b ++ operator_code op)) st.code;
   plain = λ stack. rw (untouched_held b u) (st.plain stack);
   sort = (i, st.sort, h, k);
   begun = begun_left op st.next b st.begun u;
 }
 
-in_right : (sight : Sight) (op : BinaryOp) (v : Value) (b : Term) (s : Sort) → IsOpen b → HasInstruction op → StepsTerm sight b sort.Word → ValueHasSort v sort.Word → s ≡ sort.Word → StepsTerm sight (Binary op (Done v) b) s
-in_right sight op v b s o i st h k = record {
+in_right : (known : Known) (numbers : List ℕ) (sight : Sight) (op : BinaryOp) (v : Value) (b : Term) (s : Sort) → IsOpen b → HasInstruction op → StepsTerm known numbers sight b sort.Word → ValueHasSort v sort.Word → s ≡ sort.Word → StepsTerm known numbers sight (Binary op (Done v) b) s
+in_right known numbers sight op v b s o i st h k = record {
   next = Binary op (Done v) st.next;
   here = st.here;
   is = into_part _ (Binary op (Done v)) b _ o ∙ ap (outcome_map (Binary op (Done v))) st.is;
@@ -116,8 +119,8 @@ operates BitXor a b i h k = record { here = operator.Xor; code = refl; is = refl
 operates BitOr a b i h k = record { here = operator.Or; code = refl; is = refl; fits = Fits-lt-pow (Fits-or {w = w32} (Fits-of_lt h) (Fits-of_lt k)) }
 operates op a b i h k = absurd i
 
-on_words : (sight : Sight) (op : BinaryOp) (a b : ℕ) (s : Sort) → Operates op a b → s ≡ sort.Word → StepsTerm sight (Binary op (Done (Word a)) (Done (Word b))) s
-on_words sight op a b s e k = record {
+on_words : (known : Known) (numbers : List ℕ) (sight : Sight) (op : BinaryOp) (a b : ℕ) (s : Sort) → Operates op a b → s ≡ sort.Word → StepsTerm known numbers sight (Binary op (Done (Word a)) (Done (Word b))) s
+on_words known numbers sight op a b s e k = record {
   next = Done (Word (operate e.here a b));
   here = instr.Operate e.here;
   is = ap done e.is;
@@ -142,28 +145,50 @@ same_word n h = rw (in_range n h) (of_z-to_z {w = w32} (Fits-of_lt h))
 int_fits : (n : ℕ) → n < 2 ^ 32 → FitsSigned w32 (convert_int n)
 int_fits n h = rw (in_range n h) (sfits_to_z (Fits-of_lt h))
 
-pub steps_term : (sight : Sight) (t : Term) (s : Sort) → IsOpen t → TermHasSort t s → IsBegun t → StepsTerm sight t s
-steps_term sight (Done v) s o h b = absurd o
-steps_term sight (Number n true) s o h b = record { next = Done (Word n); here = instr.Push n; is = refl; code = refl; plain = λ stack. refl; sort = h; begun = tt }
-steps_term sight (Number n false) s o h b = record { next = Done (Int (pos n)); here = instr.Push n; is = refl; code = refl; plain = λ stack. refl; sort = (record { sfits = h.0 }, h.1); begun = tt }
-steps_term sight (Prefix Complement (Done (Word n))) s o h b = record { next = Done (Word (4294967295 - n)); here = instr.Complement; is = refl; code = refl; plain = λ stack. refl; sort = (omega arith, h.1); begun = tt }
-steps_term sight (Prefix Complement (Done (Int z))) s o h b = absurd (let e : sort.Word ≡ Jint = h.0.1 in cc)
-steps_term sight (Prefix Complement (Done v)) s o h b = absurd h.0
-steps_term sight (Prefix ToWord (Done (Word n))) s o h b = record { next = Done (Word n); here = instr.Convert; is = refl; code = refl; plain = λ stack. refl; sort = (h.1.0, h.2); begun = tt }
-steps_term sight (Prefix ToWord (Done (Int z))) s o h b = record { next = Done (Word (cast_unsigned w32 z)); here = instr.Convert; is = refl; code = refl; plain = λ stack. refl; sort = (Fits-lt-pow (Fits-of_z h.1.0), h.2); begun = tt }
-steps_term sight (Prefix ToWord (Done v)) s o h b = absurd h.1
-steps_term sight (Prefix ToInt (Done (Word n))) s o h b = record { next = Done (Int (convert_int n)); here = instr.Convert; is = refl; code = refl; plain = λ stack. ap (λ (w : ℕ). Some (plain.Next, w ∷ stack)) (sym (same_word n h.1.0)); sort = (int_fits n h.1.0, h.2); begun = tt }
-steps_term sight (Prefix ToInt (Done (Int z))) s o h b = record { next = Done (Int z); here = instr.Convert; is = refl; code = refl; plain = λ stack. refl; sort = (h.1.0, h.2); begun = tt }
-steps_term sight (Prefix ToInt (Done v)) s o h b = absurd h.1
-steps_term sight (Prefix LogicalNot t) s o h b = absurd h
-steps_term sight (Prefix Complement t) s o h b = in_prefix sight Complement t s sort.Word tt (steps_term sight t sort.Word tt h.0 b) (λ u k. (k, h.1))
-steps_term sight (Prefix ToWord t) s o h b = in_prefix sight ToWord t s h.0 tt (steps_term sight t h.0 tt h.1 b) (λ u k. (h.0, k, h.2))
-steps_term sight (Prefix ToInt t) s o h b = in_prefix sight ToInt t s h.0 tt (steps_term sight t h.0 tt h.1 b) (λ u k. (h.0, k, h.2))
-steps_term sight (Binary op (Done (Word x)) (Done (Word y))) s o h b = on_words sight op x y s (operates op x y h.0 h.1.0 h.2.0) h.3
-steps_term sight (Binary op (Done (Int z)) t) s o h b = absurd (let e : sort.Word ≡ Jint = h.1.1 in cc)
-steps_term sight (Binary op (Done (Word x)) (Done (Int z))) s o h b = absurd (let e : sort.Word ≡ Jint = h.2.1 in cc)
-steps_term sight (Binary op (Done (Word x)) (Done v)) s o h b = absurd h.2
-steps_term sight (Binary op (Done (Word x)) t) s o h b = in_right sight op (Word x) t s tt h.0 (steps_term sight t sort.Word tt h.2 b) h.1 h.3
-steps_term sight (Binary op (Done v) t) s o h b = absurd h.1
-steps_term sight (Binary op a t) s o h b = in_left sight op a t s tt h.0 (steps_term sight a sort.Word tt h.1 b.0) b.1 h.2 h.3
-steps_term sight t s o h b = absurd h
+-- each known number variable has its value in its slot
+abbrev pub Reads : Known → List ℕ → Sight → Type 0
+Reads known numbers sight = (x : Identifier) (s : Slot) → lookup x known ≡ Some s → IsNumberSort s.sort → ShowsNumber (sight.number x) numbers s
+
+pub one_load : (s : Sort) (i : ℕ) → IsNumberSort s → load_of s i ≡ instr.Load i ∷ []
+one_load sort.Word i kind = refl
+one_load Jint i kind = refl
+one_load Flag i kind = refl
+one_load s i kind = absurd kind
+
+read : (known : Known) (numbers : List ℕ) (sight : Sight) (x : Identifier) (s : Slot) → lookup x known ≡ Some s → IsNumberSort s.sort → ShowsNumber (sight.number x) numbers s → StepsTerm known numbers sight (Read x) s.sort
+read known numbers sight x s at kind shows = record {
+  next = Done shows.value;
+  here = instr.Load s.index;
+  is = ap done shows.is;
+  code = ap load_code at ∙ one_load s.sort s.index kind;
+  plain = λ stack. ap (option_map (λ (n : ℕ). (plain.Next, n ∷ stack, numbers))) shows.word;
+  sort = shows.sort;
+  begun = tt;
+}
+
+pub steps_term : (known : Known) (numbers : List ℕ) (sight : Sight) → Reads known numbers sight → (t : Term) (s : Sort) → IsOpen t → TermHasSort known t s → IsBegun t → StepsTerm known numbers sight t s
+steps_term known numbers sight reads (Done v) s o h b = absurd o
+steps_term known numbers sight reads (Number n true) s o h b = record { next = Done (Word n); here = instr.Push n; is = refl; code = refl; plain = λ stack. refl; sort = h; begun = tt }
+steps_term known numbers sight reads (Number n false) s o h b = record { next = Done (Int (pos n)); here = instr.Push n; is = refl; code = refl; plain = λ stack. refl; sort = (record { sfits = h.0 }, h.1); begun = tt }
+steps_term known numbers sight reads (Read x) s o h b = read known numbers sight x (record { sort = s; index = h.0 }) h.1 h.2 (reads x (record { sort = s; index = h.0 }) h.1 h.2)
+steps_term known numbers sight reads (Prefix Complement (Done (Word n))) s o h b = record { next = Done (Word (4294967295 - n)); here = instr.Complement; is = refl; code = refl; plain = λ stack. refl; sort = (omega arith, h.1); begun = tt }
+steps_term known numbers sight reads (Prefix Complement (Done (Int z))) s o h b = absurd (let e : sort.Word ≡ Jint = h.0.1 in cc)
+steps_term known numbers sight reads (Prefix Complement (Done v)) s o h b = absurd h.0
+steps_term known numbers sight reads (Prefix ToWord (Done (Word n))) s o h b = record { next = Done (Word n); here = instr.Convert; is = refl; code = refl; plain = λ stack. refl; sort = (h.1.0, h.2); begun = tt }
+steps_term known numbers sight reads (Prefix ToWord (Done (Int z))) s o h b = record { next = Done (Word (cast_unsigned w32 z)); here = instr.Convert; is = refl; code = refl; plain = λ stack. refl; sort = (Fits-lt-pow (Fits-of_z h.1.0), h.2); begun = tt }
+steps_term known numbers sight reads (Prefix ToWord (Done v)) s o h b = absurd h.1
+steps_term known numbers sight reads (Prefix ToInt (Done (Word n))) s o h b = record { next = Done (Int (convert_int n)); here = instr.Convert; is = refl; code = refl; plain = λ stack. ap (λ (w : ℕ). Some (plain.Next, w ∷ stack, numbers)) (sym (same_word n h.1.0)); sort = (int_fits n h.1.0, h.2); begun = tt }
+steps_term known numbers sight reads (Prefix ToInt (Done (Int z))) s o h b = record { next = Done (Int z); here = instr.Convert; is = refl; code = refl; plain = λ stack. refl; sort = (h.1.0, h.2); begun = tt }
+steps_term known numbers sight reads (Prefix ToInt (Done v)) s o h b = absurd h.1
+steps_term known numbers sight reads (Prefix LogicalNot t) s o h b = absurd h
+steps_term known numbers sight reads (Prefix Complement t) s o h b = in_prefix known numbers sight Complement t s sort.Word tt (steps_term known numbers sight reads t sort.Word tt h.0 b) (λ u k. (k, h.1))
+steps_term known numbers sight reads (Prefix ToWord t) s o h b = in_prefix known numbers sight ToWord t s h.0 tt (steps_term known numbers sight reads t h.0 tt h.1 b) (λ u k. (h.0, k, h.2))
+steps_term known numbers sight reads (Prefix ToInt t) s o h b = in_prefix known numbers sight ToInt t s h.0 tt (steps_term known numbers sight reads t h.0 tt h.1 b) (λ u k. (h.0, k, h.2))
+steps_term known numbers sight reads (Binary op (Done (Word x)) (Done (Word y))) s o h b = on_words known numbers sight op x y s (operates op x y h.0 h.1.0 h.2.0) h.3
+steps_term known numbers sight reads (Binary op (Done (Int z)) t) s o h b = absurd (let e : sort.Word ≡ Jint = h.1.1 in cc)
+steps_term known numbers sight reads (Binary op (Done (Word x)) (Done (Int z))) s o h b = absurd (let e : sort.Word ≡ Jint = h.2.1 in cc)
+steps_term known numbers sight reads (Binary op (Done (Word x)) (Done v)) s o h b = absurd h.2
+steps_term known numbers sight reads (Binary op (Done (Word x)) t) s o h b = in_right known numbers sight op (Word x) t s tt h.0 (steps_term known numbers sight reads t sort.Word tt h.2 b) h.1 h.3
+steps_term known numbers sight reads (Binary op (Done v) t) s o h b = absurd h.1
+steps_term known numbers sight reads (Binary op a t) s o h b = in_left known numbers sight op a t s tt h.0 (steps_term known numbers sight reads a sort.Word tt h.1 b.0) b.1 h.2 h.3
+steps_term known numbers sight reads t s o h b = absurd h

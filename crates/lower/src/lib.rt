@@ -3,6 +3,7 @@
 
 mod fault;
 mod lowering;
+mod names;
 mod program;
 #[cfg(test)]
 mod tests;

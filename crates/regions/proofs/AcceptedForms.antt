@@ -86,10 +86,11 @@ complement_sort (Some FieldId) s h = absurd cc
 complement_sort (Some (Buffer t w)) s h = absurd cc
 complement_sort (Some (Array t n)) s h = absurd cc
 
-cast_sort : (o : Option Sort) (to s : Sort) → (cond (is_castable o) (Some to) None) ≡ Some s → (r : Sort) × (o ≡ Some r) × (s ≡ to)
+cast_sort : (o : Option Sort) (to s : Sort) → (cond (is_castable o) (Some to) None) ≡ Some s → (r : Sort) × (o ≡ Some r) × (is_castable (Some r) ≡ true) × (s ≡ to)
 cast_sort None to s h = absurd cc
 cast_sort (Some r) to s h =
-    (r, refl, elim (is_castable (Some r)) as (λ b. cond b (Some to) None ≡ Some s → s ≡ to) [ true ↦ λ k. cc | false ↦ λ k. absurd cc ] h)
+    let parts = elim (is_castable (Some r)) as (λ b. cond b (Some to) None ≡ Some s → (b ≡ true) × (s ≡ to)) [ true ↦ λ k. (refl, cc) | false ↦ λ k. absurd cc ] h in
+    (r, refl, parts.0, parts.1)
 
 words_sort : (a b : Option Sort) (s : Sort) → binary_sort OnWords a b ≡ Some s → (a ≡ Some Word) × (b ≡ Some Word) × (s ≡ Word)
 words_sort None b s h = absurd cc
@@ -138,9 +139,9 @@ has_sort scope (expr.Number value false) s h r = (below value (2 ^ 31) r, cc)
 has_sort scope (expr.Prefix' prefix.Complement p a) s h r =
     let parts = complement_sort (sort_of scope (expr_tree a)) s h in (has_sort scope a Word parts.0 r, parts.1)
 has_sort scope (expr.Prefix' prefix.ToWord p a) s h r =
-    let parts = cast_sort (sort_of scope (expr_tree a)) Word s h in (parts.0, has_sort scope a parts.0 parts.1 r, parts.2)
+    let parts = cast_sort (sort_of scope (expr_tree a)) Word s h in (parts.0, has_sort scope a parts.0 parts.1 r, parts.2, parts.3)
 has_sort scope (expr.Prefix' prefix.ToInt p a) s h r =
-    let parts = cast_sort (sort_of scope (expr_tree a)) Jint s h in (parts.0, has_sort scope a parts.0 parts.1 r, parts.2)
+    let parts = cast_sort (sort_of scope (expr_tree a)) Jint s h in (parts.0, has_sort scope a parts.0 parts.1 r, parts.2, parts.3)
 has_sort scope (expr.Binary' op p a q b) s h r =
     let parts = words_sort (sort_of scope (expr_tree a)) (sort_of scope (expr_tree b)) s (sym (binary-words scope op (expr_tree a) (expr_tree b)) ∙ h) in
     (on_words op, has_sort scope a Word parts.0 (and-left _ _ r), has_sort scope b Word parts.1 (and-right (numbers_in_range (expr_tree a)) _ r), parts.2)

@@ -1,12 +1,12 @@
 -- What compiling knows of a function whose statements declare, print and return numbers, once it keeps the rules of sorts and regions.
-use Rattle.std.specs.Prelude.{◌≡◌, ◌^◌, ◌<◌, ◌≤◌, true, false, List, [], ◌∷◌, map, Some, None}
+use Rattle.std.specs.Prelude.{◌≡◌, ◌^◌, ◌<◌, ◌≤◌, true, false, List, [], ◌∷◌, map, Some, None, IsTrue}
 use Rattle.std.specs.List.{AllByRecursion}
 use Rattle.syntax.specs.Limits.{height}
 use Rattle.syntax.specs.Parts.{functions_of, parameter_names}
 use Rattle.syntax.specs.Tree.{Null, Complement, ToWord, ToInt, Expr, Number, Named, Variable, Prefix, Binary, Paren, Argument, Value, Call, RightSide, FromExpr, FromCall, JIntVariable, Declare, PutJint, Return, ReturnValue, Block, End, Next, ResultType, Void, IntResult, Function, SourceUnit}
 use Rattle.types.specs.JniFunction.{GetArrayLength}
 use Rattle.types.specs.Prototype.{function_named}
-use Rattle.types.specs.Sorts.{Sort, Word, Jint, Ref, Scope, sort_in, OnWords, group}
+use Rattle.types.specs.Sorts.{Sort, Word, Jint, Ref, Scope, sort_in, is_castable, OnWords, group}
 use Rattle.types.specs.SortRules.{parameter_sort, has_repeated}
 use Rattle.regions.specs.Regions.{IsEnd}
 
@@ -18,8 +18,8 @@ HasSort scope (Number value true) s = (value < 2 ^ 32) × (s ≡ Word)
 HasSort scope (Number value false) s = (value < 2 ^ 31) × (s ≡ Jint)
 HasSort scope (Variable x) s = sort_in scope x ≡ Some s
 HasSort scope (Prefix Complement e) s = HasSort scope e Word × (s ≡ Word)
-HasSort scope (Prefix ToWord e) s = (r : Sort) × HasSort scope e r × (s ≡ Word)
-HasSort scope (Prefix ToInt e) s = (r : Sort) × HasSort scope e r × (s ≡ Jint)
+HasSort scope (Prefix ToWord e) s = (r : Sort) × HasSort scope e r × IsTrue (is_castable (Some r)) × (s ≡ Word)
+HasSort scope (Prefix ToInt e) s = (r : Sort) × HasSort scope e r × IsTrue (is_castable (Some r)) × (s ≡ Jint)
 HasSort scope (Binary op a b) s = (group op ≡ OnWords) × HasSort scope a Word × HasSort scope b Word × (s ≡ Word)
 HasSort scope (Paren e) s = HasSort scope e s
 HasSort scope e s = ⊥

@@ -4,12 +4,12 @@ use Rattle.std.proofs.Math.ListN.{drop_of_length-le}
 use Rattle.syntax.specs.declared.unit.Item.{Item}
 use Rattle.syntax.specs.Parts.{functions_of}
 use Rattle.syntax.specs.Views.{unit_tree}
-use Rattle.code.specs.declared.instr.Instr.{Instr}
+use Rattle.code.specs.Depth.{Listing}
 use Rattle.lower.specs.Lowered.{AreCodesOf}
 use Rattle.lower.proofs.lowering.lower.Goals as goal
 
 -- behind the last function all are lowered
-all : (items : List Item) (index : ℕ) (codes : List (List Instr)) → length items ≤ index → ((rest : List (List Instr)) → AreCodesOf (functions_of (unit_tree (drop index items))) rest → AreCodesOf (functions_of (unit_tree items)) (codes ++ rest)) → AreCodesOf (functions_of (unit_tree items)) codes
+all : (items : List Item) (index : ℕ) (codes : List Listing) → length items ≤ index → ((rest : List Listing) → AreCodesOf (functions_of (unit_tree (drop index items))) rest → AreCodesOf (functions_of (unit_tree items)) (codes ++ rest)) → AreCodesOf (functions_of (unit_tree items)) codes
 all items index codes past h =
     let none : AreCodesOf (functions_of (unit_tree (drop index items))) [] = rw (drop_of_length-le items past) tt in
     subst (AreCodesOf (functions_of (unit_tree items))) (append-nil codes) (h [] none)
