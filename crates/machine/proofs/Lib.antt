@@ -5,4 +5,10 @@ pub mod Names
 pub mod LoadLemmas
 pub mod ThreadLoads
 pub mod Runs
+pub mod Standings
 pub mod Reports
+pub mod HeapLaws
+pub mod LoadedObjects
+pub mod Loaded
+pub mod Arrays
+pub mod LengthCalls

@@ -1,7 +1,8 @@
 -- The report of the state that a machine's journal leads to.
-use Rattle.std.proofs.Common.{◌≡◌, ℕ, zero, suc, ◌+◌, ◌≤◌, Bool, true, false, cond, List, [], ◌∷◌, ◌++◌, length, map, Option, None, Result, refl, sym, ap, ◌∙◌, subst, arith}
+use Rattle.std.proofs.Common.{◌≡◌, ℕ, zero, suc, ◌+◌, ◌≤◌, Bool, true, false, cond, List, [], ◌∷◌, ◌++◌, length, map, Option, Some, None, Result, refl, sym, ap, ◌∙◌, subst, arith}
 use Rattle.std.specs.Prelude.{slice_get, filter, nat_lt, ◌==◌, is_some, not, ◌||◌, ◌&&◌}
 use Rattle.std.specs.List.{list_all, enumerate_from}
+use Rattle.std.specs.Option.{option_map}
 use Rattle.std.proofs.lemmas.Bool.Decides.{nat_tests}
 use Rattle.std.proofs.lemmas.List.{length-map, length-append}
 use Rattle.std.proofs.lemmas.List.FromFn.{length-enumerate_from}
@@ -10,8 +11,9 @@ use Rattle.classes.specs.Class.{Class, Classes}
 use Rattle.world.specs.declared.journal.Entry.{Entry}
 use Rattle.world.specs.declared.report.Printed.{Printed}
 use Rattle.world.specs.declared.report.Standing.{Standing}
+use Rattle.world.specs.declared.report.Standing.TheVariants as held
 use Rattle.world.specs.Journal.{journal_line}
-use Rattle.world.specs.Report.{ThreadStanding, ShownRow, Report, report_text}
+use Rattle.world.specs.Report.{ThreadStanding, HasTrapped, ShownRow, Report, report_text}
 use Rattle.world.specs.Sink as sink
 use Rattle.world.specs.Sink.{Written}
 use Rattle.world.specs.Scene.{Scene}
@@ -23,7 +25,9 @@ use Rattle.regions.specs.Heap.{Heap}
 use Rattle.regions.specs.Reachable.{from_one, roots, is_in, rising, grown, closed}
 use Rattle.regions.specs.ReportOf.{standing_by_ending, standing_of, shown, shown_row, report}
 use Rattle.regions.specs.Run as source_run
-use Rattle.regions.specs.State.{Stop, State}
+use Rattle.regions.specs.State as state
+use Rattle.regions.specs.State.{State}
+use Rattle.regions.specs.Value.{trap_number}
 use Rattle.regions.specs.Step.{is_waiting, is_blocked, is_unfinished}
 use Rattle.regions.specs.Thread as source
 use Rattle.regions.specs.Thread.{Shared}
@@ -31,10 +35,14 @@ use Rattle.lower.specs.Lowered.{Lowered, IsLowered}
 use Rattle.machine.specs.declared.thread.Ending.{Ending}
 use Rattle.machine.specs.declared.thread.Ending.TheVariants as ending
 use Rattle.machine.specs.declared.thread.Thread.{Thread}
+use Rattle.machine.specs.declared.stop.Stop.{Stop}
 use Rattle.machine.specs.Agrees.{ThreadsAgree, ending_view}
+use Rattle.machine.specs.Stops as machine
+use Rattle.machine.specs.Stops.{stop_view, trap_view}
 use Rattle.machine.specs.Run as run
 use Rattle.regions.specs.Run.{JournalHasRoom}
 use Rattle.machine.specs.Run.{Run, Corresponds, WritesRun, IsFinished}
+use Rattle.machine.proofs.Standings.{standings}
 use Rattle.machine.proofs.Threads.{unblocked}
 
 -- ---- no object is shown
@@ -107,33 +115,42 @@ never_blocked : (p : Lowered) (classes : Classes) (s : State) (ts : List Thread)
 never_blocked p classes s ts l h zero = refl
 never_blocked p classes s ts l h (suc i) = free_at p classes (suc i) s.shared ts s.threads i l h
 
-stands : (classes : Classes) (blocked : Bool) (e : Ending) (f : source.Ending) → blocked ≡ false → f ≡ ending_view e → standing_by_ending classes blocked f ≡ standing_view (run.standing_by_ending e)
+stands : (classes : Classes) (blocked : Bool) (e : Ending) (f : source.Ending) → blocked ≡ false → f ≡ ending_view e → standing_by_ending classes blocked f ≡ standing_view (machine.standing_by_ending e)
 stands classes blocked ending.Unfinished f b e = rw (b, e) refl
 stands classes blocked ending.Ended f b e = rw (b, e) refl
 
-each_stands : (p : Lowered) (classes : Classes) (s : State) (n : ℕ) (ts : List Thread) (ss : List source.Thread) → ((k : ℕ) → is_blocked classes s k ≡ false) → ThreadsAgree p classes ts ss
-    → map (λ (t : ℕ × source.Thread). standing_of classes s t.0 t.1 None) (enumerate_from n ss) ≡ map standing_view (map (λ (t : Thread). run.standing_by_ending t.ending) ts)
-each_stands p classes s n [] [] free h = refl
-each_stands p classes s n [] (x ∷ ss) free h = absurd h
-each_stands p classes s n (t ∷ ts) [] free h = absurd h
-each_stands p classes s n (t ∷ ts) (x ∷ ss) free h =
-    ap (λ v. v ∷ map (λ (t : ℕ × source.Thread). standing_of classes s t.0 t.1 None) (enumerate_from (n + 1) ss)) (stands classes (is_blocked classes s n) t.ending x.ending (free n) h.0.ending)
-    ∙ ap (λ vs. standing_view (run.standing_by_ending t.ending) ∷ vs) (each_stands p classes s (n + 1) ts ss free h.1)
+trapped_or : (b : Bool) (trap : ThreadStanding) (held : Standing) (other : ThreadStanding) (kept : Standing) → trap ≡ standing_view held → other ≡ standing_view kept → cond b trap other ≡ standing_view (cond b held kept)
+trapped_or true trap held other kept h k = h
+trapped_or false trap held other kept h k = k
+
+one_stands : (classes : Classes) (s : State) (stop : Option Stop) (k : ℕ) (e : Ending) (x : source.Thread) → is_blocked classes s k ≡ false → x.ending ≡ ending_view e → standing_of classes s k x (option_map stop_view stop) ≡ standing_view (machine.standing_of stop k e)
+one_stands classes s None k e x free same = stands classes (is_blocked classes s k) e x.ending free same
+one_stands classes s (Some stop) k e x free same =
+    trapped_or (stop.thread == k) (HasTrapped (trap_number (trap_view stop.trap)) stop.line) (held.Trapped (trap_number (trap_view stop.trap)) stop.line) (standing_by_ending classes (is_blocked classes s k) x.ending) (machine.standing_by_ending e) refl (stands classes (is_blocked classes s k) e x.ending free same)
+
+each_stands : (p : Lowered) (classes : Classes) (s : State) (stop : Option Stop) (n : ℕ) (ts : List Thread) (ss : List source.Thread) → ((k : ℕ) → is_blocked classes s k ≡ false) → ThreadsAgree p classes ts ss
+    → map (λ (t : ℕ × source.Thread). standing_of classes s t.0 t.1 (option_map stop_view stop)) (enumerate_from n ss) ≡ map standing_view (standings stop n ts)
+each_stands p classes s stop n [] [] free h = refl
+each_stands p classes s stop n [] (x ∷ ss) free h = absurd h
+each_stands p classes s stop n (t ∷ ts) [] free h = absurd h
+each_stands p classes s stop n (t ∷ ts) (x ∷ ss) free h =
+    ap (λ v. v ∷ map (λ (t : ℕ × source.Thread). standing_of classes s t.0 t.1 (option_map stop_view stop)) (enumerate_from (n + 1) ss)) (one_stands classes s stop n t.ending x (free n) h.0.ending)
+    ∙ ap (λ vs. standing_view (machine.standing_of stop n t.ending) ∷ vs) (each_stands p classes s stop (n + 1) ts ss free h.1)
 
 -- ---- the report
 
-pub report_is : (p : Lowered) (scene : Scene) (ts : List Thread) (printed : List Printed) (journal : List Entry) (c : Corresponds p scene ts printed journal)
-    → report (world_of_scene scene) c.state ≡ report_without_objects printed (map (λ (t : Thread). run.standing_by_ending t.ending) ts)
+pub report_is : (p : Lowered) (scene : Scene) (ts : List Thread) (printed : List Printed) (stop : Option Stop) (journal : List Entry) (c : Corresponds p scene ts printed stop journal)
+    → report (world_of_scene scene) c.state ≡ report_without_objects printed (standings stop 1 ts)
 unfolding report
-report_is p scene ts printed journal c =
+report_is p scene ts printed stop journal c =
     let w = world_of_scene scene in
-    let standings = map (λ (t : ℕ × source.Thread). standing_of w.classes c.state t.0 t.1 c.state.stop) (enumerate_from 1 c.state.threads) in
-    let threads = map standing_view (map (λ (t : Thread). run.standing_by_ending t.ending) ts) in
-    let same : standings ≡ threads =
-    ap (λ (o : Option Stop). map (λ (t : ℕ × source.Thread). standing_of w.classes c.state t.0 t.1 o) (enumerate_from 1 c.state.threads)) c.running
-    ∙ each_stands p w.classes c.state 1 ts c.state.threads (never_blocked p w.classes c.state ts c.lowered c.threads_agree) c.threads_agree in
+    let before = map (λ (t : ℕ × source.Thread). standing_of w.classes c.state t.0 t.1 c.state.stop) (enumerate_from 1 c.state.threads) in
+    let threads = map standing_view (standings stop 1 ts) in
+    let same : before ≡ threads =
+    ap (λ (o : Option state.Stop). map (λ (t : ℕ × source.Thread). standing_of w.classes c.state t.0 t.1 o) (enumerate_from 1 c.state.threads)) c.same_stop
+    ∙ each_stands p w.classes c.state stop 1 ts c.state.threads (never_blocked p w.classes c.state ts c.lowered c.threads_agree) c.threads_agree in
     let none = ap (map (shown_row w.classes c.state.shared.heap)) (nothing_shown w c.state refl c.heap) in
-    ap (λ (l : List Printed). let r : Report = record { printed = l; standings = standings; objects = map (shown_row w.classes c.state.shared.heap) (shown w c.state) } in r) c.same_printed
+    ap (λ (l : List Printed). let r : Report = record { printed = l; standings = before; objects = map (shown_row w.classes c.state.shared.heap) (shown w c.state) } in r) c.same_printed
     ∙ ap (λ (l : List ThreadStanding). let r : Report = record { printed = printed; standings = l; objects = map (shown_row w.classes c.state.shared.heap) (shown w c.state) } in r) same
     ∙ ap (λ (l : List ShownRow). let r : Report = record { printed = printed; standings = threads; objects = l } in r) none
 
@@ -152,35 +169,39 @@ each_ended p classes s n (t ∷ ts) (x ∷ ss) free h =
     ap (λ b. b && list_all (λ (t : Thread). run.has_ended t.ending) ts) (one_ended t.ending x.ending (is_blocked classes s n) (free n) h.0.ending)
     ∙ ap (λ b. (not (is_unfinished x.ending) || is_blocked classes s n) && b) (each_ended p classes s (n + 1) ts ss free h.1)
 
-pub is_finished : (p : Lowered) (scene : Scene) (ts : List Thread) (printed : List Printed) (journal : List Entry) (c : Corresponds p scene ts printed journal) (now : Run)
+pub is_finished : (p : Lowered) (scene : Scene) (ts : List Thread) (printed : List Printed) (stop : Option Stop) (journal : List Entry) (c : Corresponds p scene ts printed stop journal) (now : Run)
     → ◌≡◌ {A = Run} (record { unit = p.unit; world = scene; journal = journal }) now
-    → (answer : Bool) → answer ≡ list_all (λ (t : Thread). run.has_ended t.ending) ts → IsFinished now answer
-is_finished p scene ts printed journal c now view answer h =
+    → (answer : Bool) → answer ≡ (is_some stop || list_all (λ (t : Thread). run.has_ended t.ending) ts) → IsFinished now answer
+is_finished p scene ts printed stop journal c now view answer h =
     let w = world_of_scene scene in
     let free = never_blocked p w.classes c.state ts c.lowered c.threads_agree in
     let same : answer ≡ run.is_finished w.classes c.state =
-    h ∙ each_ended p w.classes c.state 1 ts c.state.threads free c.threads_agree
-    ∙ ap (λ (o : Option Stop). is_some o || list_all (λ (t : ℕ × source.Thread). not (is_unfinished t.1.ending) || is_blocked w.classes c.state t.0) (enumerate_from 1 c.state.threads)) (sym c.running) in
+    h ∙ ap (λ b. is_some stop || b) (each_ended p w.classes c.state 1 ts c.state.threads free c.threads_agree)
+    ∙ ap (λ b. b || list_all (λ (t : ℕ × source.Thread). not (is_unfinished t.1.ending) || is_blocked w.classes c.state t.0) (enumerate_from 1 c.state.threads)) (has_stopped stop ∙ ap (λ (o : Option state.Stop). is_some o) (sym c.same_stop)) in
     subst (λ (r : Run). IsFinished r answer) view (c.state, c.replays, same)
+  where
+    has_stopped : (o : Option Stop) → is_some o ≡ is_some (option_map stop_view o)
+    has_stopped None = refl
+    has_stopped (Some x) = refl
 
 -- what is written of these parts is what the run writes
-pub writes_run : {T E : Type 0} (p : Lowered) (scene : Scene) (ts : List Thread) (printed : List Printed) (journal : List Entry) (c : Corresponds p scene ts printed journal) (now : Run)
+pub writes_run : {T E : Type 0} (p : Lowered) (scene : Scene) (ts : List Thread) (printed : List Printed) (stop : Option Stop) (journal : List Entry) (c : Corresponds p scene ts printed stop journal) (now : Run)
     → ◌≡◌ {A = Run} (record { unit = p.unit; world = scene; journal = journal }) now
-    → (old new : Written) (result : Result T E) (numbers : List Printed) (standings : List Standing) (entries : List Entry)
-    → numbers ≡ printed → standings ≡ map (λ (t : Thread). run.standing_by_ending t.ending) ts → entries ≡ journal
-    → sink.Writes old new result (report_text (report_without_objects numbers standings) ++ journal_line entries)
+    → (old new : Written) (result : Result T E) (numbers : List Printed) (shown : List Standing) (entries : List Entry)
+    → numbers ≡ printed → shown ≡ standings stop 1 ts → entries ≡ journal
+    → sink.Writes old new result (report_text (report_without_objects numbers shown) ++ journal_line entries)
     → WritesRun now old new result
-writes_run p scene ts printed journal c now view old new result numbers standings entries n s e h =
-    let threads = map (λ (t : Thread). run.standing_by_ending t.ending) ts in
-    let same : report_text (report_without_objects numbers standings) ++ journal_line entries ≡ report_text (report (world_of_scene scene) c.state) ++ journal_line journal =
-    ap (λ (l : List Printed). report_text (report_without_objects l standings) ++ journal_line entries) n
+writes_run p scene ts printed stop journal c now view old new result numbers shown entries n s e h =
+    let threads = standings stop 1 ts in
+    let same : report_text (report_without_objects numbers shown) ++ journal_line entries ≡ report_text (report (world_of_scene scene) c.state) ++ journal_line journal =
+    ap (λ (l : List Printed). report_text (report_without_objects l shown) ++ journal_line entries) n
     ∙ ap (λ (l : List Standing). report_text (report_without_objects printed l) ++ journal_line entries) s
     ∙ ap (λ (l : List Entry). report_text (report_without_objects printed threads) ++ journal_line l) e
-    ∙ ap (λ (r : Report). report_text r ++ journal_line journal) (sym (report_is p scene ts printed journal c)) in
-    let written : source_run.Writes (unit_tree p.unit) (world_of_scene scene) journal (report_text (report_without_objects numbers standings) ++ journal_line entries) = record { end = c.state; replays = c.replays; same = same } in
+    ∙ ap (λ (r : Report). report_text r ++ journal_line journal) (sym (report_is p scene ts printed stop journal c)) in
+    let written : source_run.Writes (unit_tree p.unit) (world_of_scene scene) journal (report_text (report_without_objects numbers shown) ++ journal_line entries) = record { end = c.state; replays = c.replays; same = same } in
     record {
-      text = report_text (report_without_objects numbers standings) ++ journal_line entries;
-      is = subst (λ (r : Run). source_run.Writes (unit_tree r.unit) (world_of_scene r.world) r.journal (report_text (report_without_objects numbers standings) ++ journal_line entries)) view written;
+      text = report_text (report_without_objects numbers shown) ++ journal_line entries;
+      is = subst (λ (r : Run). source_run.Writes (unit_tree r.unit) (world_of_scene r.world) r.journal (report_text (report_without_objects numbers shown) ++ journal_line entries)) view written;
       has_room = subst (λ (r : Run). JournalHasRoom (unit_tree r.unit) (world_of_scene r.world) r.journal) view c.has_room;
       written = h;
     }

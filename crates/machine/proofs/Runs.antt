@@ -20,7 +20,7 @@ use Rattle.world.specs.SceneWorld.{world_of_scene}
 use Rattle.world.specs.Schedule.{Schedule}
 use Rattle.regions.specs.Run.{replay, replay_from, Follows, Over, Collects, Waits, Steps}
 use Rattle.regions.specs.Start.{start}
-use Rattle.regions.specs.State.{State, thread_at}
+use Rattle.regions.specs.State.{State, Stop, thread_at}
 use Rattle.regions.specs.Step.{can_step, is_live, is_waiting, world_step}
 use Rattle.regions.proofs.RunLaws.{replay_from-append, follows-replay, follows-append}
 use Rattle.machine.specs.declared.turn.Turn.{Turn as Answer}
@@ -119,6 +119,16 @@ ended_waits classes s k h =
     and_left (is_none s.stop && is_live (thread_at s k)) (not (is_waiting classes k s.shared (thread_at s k)))
     (and_right (is_none s.stop) (is_live (thread_at s k)) (ap is_live h.is ∙ h.ended))
 
+-- no thread can step where the machine has stopped
+none_goes : (o : Option Stop) → IsSome o → is_none o ≡ false
+none_goes None h = absurd (cc)
+none_goes (Some x) h = refl
+
+pub stopped_waits : (classes : Classes) (s : State) (k : ℕ) → IsSome s.stop → can_step classes s k ≡ false
+stopped_waits classes s k h =
+    and_left (is_none s.stop && is_live (thread_at s k)) (not (is_waiting classes k s.shared (thread_at s k)))
+    (and_left (is_none s.stop) (is_live (thread_at s k)) (none_goes s.stop h))
+
 -- the step of a journal with one more entry
 step_of : (r new : Run) (e : Entry) (s : State) → new ≡ record r { journal = r.journal ++ e ∷ [] } → replay_of r ≡ Some s → IsSome (replay_of new) → (n : State) × (world_step (unit_tree r.unit) (world_of_scene r.world).classes s e ≡ Some n)
 step_of r new e s is h defined = there (world_step (unit_tree r.unit) (world_of_scene r.world).classes s e) (subst IsSome (ap replay_of is ∙ replay_with r (e ∷ []) s h) defined)
@@ -143,6 +153,8 @@ stepped_once r new k s is h can defined =
 
 -- a turn, but where the journal is full
 pub turned : (r new : Run) (k : ℕ) (t : Answer) → TurnHolds r k new t → IsSome (replay_of new) → (t ≡ turn.Full → ⊥) → RunsAlong r new (Turn k ∷ [])
+turned r new k turn.Stopped h defined full =
+    subst (λ x. RunsAlong r x (Turn k ∷ [])) (sym h.0) (no_step r (Turn k) (h.1.0, h.1.1, stopped_waits (world_of_scene r.world).classes h.1.0 k h.1.2))
 turned r new k turn.Ended h defined full =
     subst (λ x. RunsAlong r x (Turn k ∷ [])) (sym h.0) (no_step r (Turn k) (h.1.0, h.1.1, ended_waits (world_of_scene r.world).classes h.1.0 k h.1.2))
 turned r new k turn.Full h defined full = absurd (full refl)

@@ -1,6 +1,7 @@
 -- A step of the machine is a step of the state that its journal leads to.
-use Rattle.std.proofs.Common.{◌≡◌, ℕ, zero, suc, ◌≤◌, true, false, List, [], ◌∷◌, ◌++◌, length, drop, Some, refl, sym, ap, ◌∙◌, subst}
+use Rattle.std.proofs.Common.{◌≡◌, ℕ, zero, suc, ◌≤◌, true, false, List, [], ◌∷◌, ◌++◌, length, drop, Option, Some, None, refl, sym, ap, ◌∙◌, subst}
 use Rattle.std.specs.Prelude.{slice_get, slice_set}
+use Rattle.std.specs.Option.{option_map}
 use Rattle.std.proofs.Math.ListN.{length-set}
 use Rattle.std.proofs.Math.Seq.{drop-length}
 use Rattle.syntax.specs.Views.{unit_tree}
@@ -22,6 +23,8 @@ use Rattle.machine.specs.declared.thread.Ending.TheVariants.{Unfinished, Ended}
 use Rattle.machine.specs.declared.thread.Event.{Event}
 use Rattle.machine.specs.declared.thread.Event.TheVariants as event
 use Rattle.machine.specs.declared.thread.Thread.{Thread}
+use Rattle.machine.specs.declared.stop.Stop.{Stop}
+use Rattle.machine.specs.Stops.{stop_view, stop_after}
 use Rattle.machine.specs.Agrees.{ThreadAgrees, ThreadsAgree, Advances, ending_view, event_view}
 use Rattle.machine.specs.Run.{Corresponds, printed_after, entry_of, HasEnded}
 use Rattle.machine.proofs.Threads.{unblocked}
@@ -55,22 +58,26 @@ next_state s k t e = with_event (record s { threads = set_thread s.threads k t }
 printed_next : (s : State) (k : ℕ) (t : source.Thread) (e : Event) → (next_state s k t e).printed ≡ printed_after s.printed k e
 printed_next s k t event.Quiet = refl
 printed_next s k t (event.Printed z) = refl
+printed_next s k t (event.Trapped trap line) = refl
 
-stop_next : (s : State) (k : ℕ) (t : source.Thread) (e : Event) → (next_state s k t e).stop ≡ s.stop
-stop_next s k t event.Quiet = refl
-stop_next s k t (event.Printed z) = refl
+stop_next : (s : State) (k : ℕ) (t : source.Thread) (e : Event) (stop : Option Stop) → s.stop ≡ option_map stop_view stop → (next_state s k t e).stop ≡ option_map stop_view (stop_after stop k e)
+stop_next s k t event.Quiet stop h = h
+stop_next s k t (event.Printed z) stop h = h
+stop_next s k t (event.Trapped trap line) stop h = refl
 
 shared_next : (s : State) (k : ℕ) (t : source.Thread) (e : Event) → (next_state s k t e).shared ≡ s.shared
 shared_next s k t event.Quiet = refl
 shared_next s k t (event.Printed z) = refl
+shared_next s k t (event.Trapped trap line) = refl
 
 threads_next : (s : State) (k : ℕ) (t : source.Thread) (e : Event) → (next_state s k t e).threads ≡ set_thread s.threads k t
 threads_next s k t event.Quiet = refl
 threads_next s k t (event.Printed z) = refl
+threads_next s k t (event.Trapped trap line) = refl
 
 -- ---- thread k of the state that the journal leads to, which is the machine's at i
 
-module _ (p : Lowered) (scene : Scene) (ts : List Thread) (printed : List Printed) (journal : List Entry) (c : Corresponds p scene ts printed journal) (k i : ℕ) (t : Thread) (counted : k ≡ suc i) (at : slice_get ts i ≡ Some t) where
+module _ (p : Lowered) (scene : Scene) (ts : List Thread) (printed : List Printed) (stop : Option Stop) (journal : List Entry) (c : Corresponds p scene ts printed stop journal) (k i : ℕ) (t : Thread) (counted : k ≡ suc i) (at : slice_get ts i ≡ Some t) where
   abbrev pub classes : Classes
   classes = (world_of_scene scene).classes
 
@@ -80,36 +87,40 @@ module _ (p : Lowered) (scene : Scene) (ts : List Thread) (printed : List Printe
   there : thread_at c.state k ≡ Some the_thread.source
   there = ap (thread_at c.state) counted ∙ the_thread.is
 
-  steps_here : t.ending ≡ Unfinished → Steps classes c.state k the_thread.source
-  steps_here live = steps classes c.state k the_thread.source c.running there (the_thread.agrees.ending ∙ ap ending_view live) (unblocked p classes k c.state.shared t the_thread.source c.lowered the_thread.agrees)
+  -- the machine hasn't stopped
+  running : stop ≡ None → c.state.stop ≡ None
+  running goes = c.same_stop ∙ ap (option_map stop_view) goes
 
-  pub can_turn_here : t.ending ≡ Unfinished → can_step classes c.state k ≡ true
-  can_turn_here live = (steps_here live).can
+  steps_here : stop ≡ None → t.ending ≡ Unfinished → Steps classes c.state k the_thread.source
+  steps_here goes live = steps classes c.state k the_thread.source (running goes) there (the_thread.agrees.ending ∙ ap ending_view live) (unblocked p classes k c.state.shared t the_thread.source c.lowered the_thread.agrees)
 
-  pub has_ended : t.ending ≡ Ended → HasEnded c.state k
-  has_ended ended = record { running = c.running; thread = the_thread.source; is = there; ended = ap is_unfinished (the_thread.agrees.ending ∙ ap ending_view ended) }
+  pub can_turn_here : stop ≡ None → t.ending ≡ Unfinished → can_step classes c.state k ≡ true
+  can_turn_here goes live = (steps_here goes live).can
+
+  pub has_ended : stop ≡ None → t.ending ≡ Ended → HasEnded c.state k
+  has_ended goes ended = record { running = running goes; thread = the_thread.source; is = there; ended = ap is_unfinished (the_thread.agrees.ending ∙ ap ending_view ended) }
 
   -- a step that leaves the heap as it was has room
   makes_nothing : (s next : State) → world_step (unit_tree p.unit) classes s (entry_of k) ≡ Some next → next.shared.heap ≡ s.shared.heap → HasRoom (unit_tree p.unit) (world_of_scene scene) s k false
   makes_nothing s next step same = λ some. absurd (some (ap (made_between s) step ∙ ap (drop (length s.shared.heap)) same ∙ drop-length s.shared.heap))
 
   -- the machine after the step
-  pub steps_on : (after : Thread) (e : Event) → t.ending ≡ Unfinished
+  pub steps_on : (after : Thread) (e : Event) → stop ≡ None → t.ending ≡ Unfinished
       → ((classes : Classes) (lent : Lent) (k : ℕ) (shared : Shared) (s : source.Thread) → shared.monitors ≡ [] → ThreadAgrees p classes t s → t.ending ≡ Unfinished → Advances p classes lent k shared s after e)
-      → Corresponds p scene (slice_set ts i after) (printed_after printed k e) (journal ++ entry_of k ∷ [])
-  steps_on after e live advances =
+      → Corresponds p scene (slice_set ts i after) (printed_after printed k e) (stop_after stop k e) (journal ++ entry_of k ∷ [])
+  steps_on after e goes live advances =
       let f = the_thread in
       let a = advances classes (lent c.state) k c.state.shared f.source c.monitors f.agrees live in
       let next = next_state c.state k a.next e in
       let step : world_step (unit_tree p.unit) classes c.state (entry_of k) ≡ Some next =
-      step-thread (unit_tree p.unit) classes c.state k f.source false (steps_here live) ∙ ap (advanced c.state k) a.steps in
+      step-thread (unit_tree p.unit) classes c.state k f.source false (steps_here goes live) ∙ ap (advanced c.state k) a.steps in
       record {
         lowered = c.lowered;
         state = next;
         replays = replay_more (unit_tree p.unit) (world_of_scene scene) journal (entry_of k) c.state next c.replays step;
         threads_agree = subst (ThreadsAgree p classes (slice_set ts i after)) (sym (threads_next c.state k a.next e ∙ ap (λ n. set_thread c.state.threads n a.next) counted)) (changed p classes ts c.state.threads i after a.next c.threads_agree a.agrees);
         same_printed = printed_next c.state k a.next e ∙ ap (λ l. printed_after l k e) c.same_printed;
-        running = stop_next c.state k a.next e ∙ c.running;
+        same_stop = stop_next c.state k a.next e stop c.same_stop;
         heap = ap (λ (x : Shared). x.heap) (shared_next c.state k a.next e) ∙ c.heap;
         monitors = ap (λ (x : Shared). x.monitors) (shared_next c.state k a.next e) ∙ c.monitors;
         has_room = has_room-more (unit_tree p.unit) (world_of_scene scene) (Some (start (unit_tree p.unit) (world_of_scene scene))) journal (entry_of k) c.has_room

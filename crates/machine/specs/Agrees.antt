@@ -18,11 +18,12 @@ use Rattle.lower.specs.Lowered.{Lowered}
 use Rattle.machine.specs.declared.thread.Ending.{Ending}
 use Rattle.machine.specs.declared.thread.Ending.TheVariants.{Unfinished, Ended}
 use Rattle.machine.specs.declared.thread.Event.{Event}
-use Rattle.machine.specs.declared.thread.Event.TheVariants.{Quiet, Printed}
+use Rattle.machine.specs.declared.thread.Event.TheVariants.{Quiet, Printed, Trapped}
 use Rattle.machine.specs.declared.thread.Thread.{Thread}
 use Rattle.machine.specs.declared.thread.Activation.{Activation}
 use Rattle.machine.specs.declared.thread.Executed.{Executed}
 use Rattle.machine.specs.declared.thread.Executed.TheVariants.{Did, Returned}
+use Rattle.machine.specs.Stops.{trap_view}
 
 -- how a thread has ended, if it has
 abbrev pub ending_view : Ending → source.Ending
@@ -33,6 +34,7 @@ ending_view Ended = source.Ended
 abbrev pub event_view : Event → source.Event
 event_view Quiet = source.Quiet
 event_view (Printed z) = source.PrintedNumber z
+event_view (Trapped trap line) = source.Trapped (trap_view trap) line
 
 -- ---- calls
 

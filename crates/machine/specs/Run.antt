@@ -1,13 +1,12 @@
 -- A run, as its program, its world and the steps taken.
-use Rattle.std.specs.Prelude.{◌≡◌, ℕ, ◌<◌, ◌≤◌, Bool, true, false, List, [], ◌∷◌, ◌++◌, length, Option, Some, None, Result, is_some, not, ◌||◌}
+use Rattle.std.specs.Prelude.{◌≡◌, ℕ, ◌<◌, ◌≤◌, Bool, true, false, List, [], ◌∷◌, ◌++◌, length, Option, Some, None, Result, IsSome, is_some, not, ◌||◌}
+use Rattle.std.specs.Option.{option_map}
 use Rattle.std.specs.List.{list_all, enumerate_from}
 use Rattle.syntax.specs.declared.unit.Item.{Item}
 use Rattle.classes.specs.Class.{Classes}
 use Rattle.syntax.specs.Views.{unit_tree}
 use Rattle.world.specs.declared.journal.Entry.{Entry}
 use Rattle.world.specs.declared.report.Printed.{Printed}
-use Rattle.world.specs.declared.report.Standing.{Standing}
-use Rattle.world.specs.declared.report.Standing.TheVariants as standing
 use Rattle.world.specs.declared.schedule.ScheduleWord.{ScheduleWord}
 use Rattle.world.specs.declared.schedule.ScheduleWord.TheVariants.{Turn, Collect}
 use Rattle.world.specs.Scene.{Scene}
@@ -29,7 +28,9 @@ use Rattle.machine.specs.declared.thread.Event.{Event}
 use Rattle.machine.specs.declared.thread.Event.TheVariants as event
 use Rattle.machine.specs.declared.turn.Turn.{Turn as Answer}
 use Rattle.machine.specs.declared.turn.Turn.TheVariants as turn
+use Rattle.machine.specs.declared.stop.Stop.{Stop}
 use Rattle.machine.specs.Agrees.{ThreadsAgree}
+use Rattle.machine.specs.Stops.{stop_view}
 
 -- a program's items, the world in memory and the steps taken
 pub record Run : Type 0 where
@@ -48,14 +49,14 @@ pub record IsUnstarted (unit : List Item) (scene : Scene) (r : Run) : Type 0 whe
   pub unstarted : r.journal ≡ []
 
 -- The machine stands for the state that its journal leads to.
-pub record Corresponds (p : Lowered) (scene : Scene) (threads : List Thread) (printed : List Printed) (journal : List Entry) : Type 0 where
+pub record Corresponds (p : Lowered) (scene : Scene) (threads : List Thread) (printed : List Printed) (stop : Option Stop) (journal : List Entry) : Type 0 where
   pub lowered : IsLowered p
   pub state : State
   pub replays : replay (unit_tree p.unit) (world_of_scene scene) journal ≡ Some state
   pub threads_agree : ThreadsAgree p (world_of_scene scene).classes threads state.threads
   pub same_printed : state.printed ≡ printed
-  -- no instruction traps, allocates or enters a monitor yet
-  pub running : state.stop ≡ None
+  pub same_stop : state.stop ≡ option_map stop_view stop
+  -- no instruction allocates or enters a monitor yet
   pub heap : state.shared.heap ≡ loaded_objects (world_of_scene scene)
   pub monitors : state.shared.monitors ≡ []
   -- no step was refused an allocation, and those that made objects had room
@@ -67,6 +68,7 @@ pub record Corresponds (p : Lowered) (scene : Scene) (threads : List Thread) (pr
 abbrev pub printed_after : List Printed → ℕ → Event → List Printed
 printed_after printed k event.Quiet = printed
 printed_after printed k (event.Printed z) = printed ++ record { thread = k; number = z } ∷ []
+printed_after printed k (event.Trapped trap line) = printed
 
 -- ---- turns
 
@@ -95,6 +97,7 @@ stepped r k = record r { journal = r.journal ++ entry_of k ∷ [] }
 
 -- what a turn of thread k was
 abbrev pub TurnHolds : Run → ℕ → Run → Answer → Type 0
+TurnHolds old k new turn.Stopped = (new ≡ old) × InState old (λ s. IsSome s.stop)
 TurnHolds old k new turn.Ended = (new ≡ old) × InState old (λ s. HasEnded s k)
 TurnHolds old k new turn.Full = (new ≡ old) × (1000000 ≤ length old.journal) × InState old (λ s. can_turn old s k ≡ true)
 TurnHolds old k new turn.Stepped = (new ≡ stepped old k) × (length old.journal < 1000000) × InState old (λ s. can_turn old s k ≡ true)
@@ -146,11 +149,6 @@ abbrev pub IsFinished : Run → Bool → Type 0
 IsFinished r answer = InState r (λ s. answer ≡ is_finished (world_of_scene r.world).classes s)
 
 -- ---- reports
-
--- how a thread stands
-abbrev pub standing_by_ending : Ending → Standing
-standing_by_ending Unfinished = standing.Running
-standing_by_ending Ended = standing.Ended
 
 -- what a run writes in all was written, or a beginning of it
 pub record WritesRun {T E : Type 0} (r : Run) (old new : Written) (result : Result T E) : Type 0 where

@@ -4,11 +4,14 @@
 mod fault;
 mod load;
 mod machine;
+mod objects;
+mod stop;
 mod thread;
 mod turn;
 
 pub use fault::{LoadFault, RunFault};
 pub use machine::{MOST_ENTRIES, Machine};
+pub use stop::{Stop, Trap};
 pub use turn::Turn;
 
 #[cfg(test)]

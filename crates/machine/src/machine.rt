@@ -1,16 +1,18 @@
 //! The machine.
 
 ghost use Rattle.std.specs.Prelude.{◌≡◌, ℕ, ◌+◌, ◌<◌, ◌≤◌, [], ◌∷◌, ◌++◌, length, map, replicate, take, IfOk, IfErr, OnOk, OnErr, IfSome, IfNone, IsSome, Err, None, vec_len, vec_capacity};
-ghost use Rattle.std.specs.List.{list_all};
+ghost use Rattle.std.specs.List.{list_all, enumerate_from};
 ghost use Rattle.syntax.specs.Views.{unit_tree};
 ghost use Rattle.world.specs.SceneWorld.{world_of_scene};
 ghost use Rattle.world.specs.Sink.{CanFail};
 ghost use Rattle.regions.specs.Load.{first_load_fault};
 ghost use Rattle.machine.specs.Loading.{IsLoadFault};
-ghost use Rattle.machine.specs.Run.{replay_of, IsUnstarted, TurnHolds, RunsAlong, RunsInto, PrintedBy, IsFinished, has_ended, WritesRun, GivesNoStep, printed_after, standing_by_ending};
+ghost use Rattle.machine.specs.Run.{replay_of, IsUnstarted, TurnHolds, RunsAlong, RunsInto, PrintedBy, IsFinished, has_ended, WritesRun, GivesNoStep, printed_after};
+ghost use Rattle.machine.specs.Stops.{stop_after, standing_of, standing_by_ending};
 
 use crate::fault::{LoadFault, RunFault};
 use crate::load::load_threads;
+use crate::stop::Stop;
 use crate::thread::{Ending, Event, Thread, advance};
 use crate::turn::Turn;
 use arrayvec::ArrayVec;
@@ -29,6 +31,7 @@ pub struct Machine<'a> {
     world: World,
     threads: Vec<Thread>,
     printed: Vec<Printed>,
+    stop: Option<Stop>,
     journal: Vec<Entry>,
 }
 
@@ -43,7 +46,7 @@ impl<'a> Model for Machine<'a> {
 
     ghost view = { λ m. record { unit = m.program.unit; world = m.world; journal = m.journal.items } };
 
-    ghost invariant = { λ m. Corresponds m.program m.world m.threads.items m.printed.items m.journal.items };
+    ghost invariant = { λ m. Corresponds m.program m.world m.threads.items m.printed.items m.stop m.journal.items };
 }
 
 impl<'a> Machine<'a> {
@@ -64,6 +67,7 @@ impl<'a> Machine<'a> {
                 world,
                 threads,
                 printed: Vec::new(alloc),
+                stop: None,
                 journal: Vec::new(alloc),
             }),
             Err(fault) => Err(fault),
@@ -94,6 +98,9 @@ impl<'a> Machine<'a> {
         ensures err { OnErr result (self.new ≡ self.old) }
         ensures runs { IsSome (replay_of self.new) }
     {
+        if self.stop.is_some() {
+            return Ok(Turn::Stopped);
+        }
         let index = usize::from(k) - 1;
         if self.threads[index].ending == Ending::Ended {
             return Ok(Turn::Ended);
@@ -104,7 +111,7 @@ impl<'a> Machine<'a> {
         self.journal.reserve(1)?;
         self.printed.reserve(1)?;
         let event = advance(&self.program, &mut self.threads[index]);
-        note(&mut self.printed, k, event);
+        note(&mut self.printed, &mut self.stop, k, event);
         self.journal
             .push(Entry {
                 thread: k,
@@ -185,7 +192,7 @@ impl<'a> Machine<'a> {
     pub fn finished(&self) -> bool
         ensures { IsFinished self.now result }
     {
-        all_ended(&self.threads)
+        self.stop.is_some() || all_ended(&self.threads)
     }
 
     /// Writes the report of the run and the line of its journal, and flushes the sink. It takes no host memory.
@@ -194,7 +201,7 @@ impl<'a> Machine<'a> {
         ensures run { WritesRun self.now (S.written sink.old) (S.written sink.new) result }
         ensures none_waits { OnOk result ((S.written sink.new).waiting ≡ 0) }
     {
-        let standings = standings_of(&self.threads);
+        let standings = standings_of(&self.threads, self.stop);
         write_run(
             sink,
             self.printed.as_slice(),
@@ -205,13 +212,21 @@ impl<'a> Machine<'a> {
 }
 
 /// Writes down what a step lets others see.
-fn note(printed: &mut Vec<Printed>, k: u8, event: Event)
+fn note(printed: &mut Vec<Printed>, stop: &mut Option<Stop>, k: u8, event: Event)
     requires { vec_len printed.old < vec_capacity printed.old }
-    ensures { printed.new.items ≡ printed_after printed.old.items k event }
+    ensures printed { printed.new.items ≡ printed_after printed.old.items k event }
+    ensures stop { stop.new ≡ stop_after stop.old k event }
 {
     match event {
         Event::Quiet => {}
         Event::Printed(number) => printed.push(Printed { thread: k, number }).unwrap(),
+        Event::Trapped(trap, line) => {
+            *stop = Some(Stop {
+                thread: k,
+                trap,
+                line,
+            });
+        }
     }
 }
 
@@ -231,18 +246,31 @@ fn has_ended(thread: &Thread) -> bool
 }
 
 /// How each thread stands.
-fn standings_of(threads: &[Thread]) -> ArrayVec<Standing, 8>
+fn standings_of(threads: &[Thread], stop: Option<Stop>) -> ArrayVec<Standing, 8>
     requires { length threads.now ≤ 8 }
-    ensures { result.items ≡ map (λ thread. standing_by_ending thread.ending) threads.now }
+    ensures { result.items ≡ map (λ thread. standing_of stop thread.0 thread.1.ending) (enumerate_from 1 threads.now) }
 {
     let mut standings = ArrayVec::new();
+    let mut k = 0;
     for thread in threads {
-        standings.push(standing_of(thread.ending));
+        k += 1;
+        standings.push(standing_of(stop, k, thread.ending));
     }
     standings
 }
 
-fn standing_of(ending: Ending) -> Standing
+/// How thread `k` stands.
+fn standing_of(stop: Option<Stop>, k: u8, ending: Ending) -> Standing
+    ensures { result ≡ standing_of stop k ending }
+{
+    match stop {
+        Some(stop) if stop.thread == k => Standing::Trapped(stop.trap.number(), stop.line),
+        _ => standing_by_ending(ending),
+    }
+}
+
+/// How a thread stands that didn't trap.
+fn standing_by_ending(ending: Ending) -> Standing
     ensures { result ≡ standing_by_ending ending }
 {
     match ending {

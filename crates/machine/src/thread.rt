@@ -10,6 +10,7 @@ ghost use Rattle.regions.specs.Thread.{Lent, Shared, Thread as SourceThread};
 ghost use Rattle.lower.specs.Lowered.{IsLowered};
 ghost use Rattle.machine.specs.Agrees.{ThreadAgrees, CallStands, Executes, Advances, ending_after};
 
+use crate::stop::Trap;
 use code::instr::{Instr, Plain};
 use code::plain::plain;
 use code::stack::Stack;
@@ -29,6 +30,8 @@ pub enum Event {
     Quiet,
     /// The thread printed a number.
     Printed(i32),
+    /// A statement of this line stopped the machine.
+    Trapped(Trap, usize),
 }
 
 /// A thread: the functions that it has still to call, by their numbers, and the call in progress.

@@ -1,12 +1,12 @@
 -- Lines of a world that are read one after the other.
-use Rattle.std.proofs.Common.{◌≡◌, ℕ, suc, ◌+◌, ◌<◌, List, [], ◌∷◌, length, map, Result, Ok, refl, sym, ap, ◌∙◌, arith}
+use Rattle.std.proofs.Common.{◌≡◌, ℕ, suc, ◌+◌, ◌<◌, Bool, List, [], ◌∷◌, length, map, Result, Ok, refl, sym, ap, ◌∙◌, arith}
 use Rattle.std.specs.Global.{Vec}
 use Rattle.world.specs.declared.fault.TextFault.{TextFault}
 use Rattle.world.specs.declared.fault.ReadError.{ReadError}
 use Rattle.world.specs.declared.fault.ReadError.TheVariants as errors
 use Rattle.world.specs.Scene.{CallScene, Scene}
 use Rattle.world.specs.Reading.{◌>>=◌, Fails}
-use Rattle.world.specs.ReadingWorlds.{line_scene, finished_scene, lines_scene}
+use Rattle.world.specs.ReadingWorlds.{least_rule, line_scene, finished_scene, lines_scene}
 
 pub count_items : (cs : List (Vec ℕ)) → length (map (λ c. c.items) cs) ≡ length cs
 count_items [] = refl
@@ -48,3 +48,8 @@ module _ (scene : Scene) (number last : ℕ) (line : List ℕ) (left rest : List
 pub ends : (scene : Scene) (number last : ℕ) (left : List (List ℕ)) (all : Result Scene TextFault) → left ≡ [] → lines_scene scene number last left ≡ all → finished_scene scene last ≡ all
 unfolding lines_scene
 ends scene number last left all e so_far = ap (lines_scene scene number last) (sym e) ∙ so_far
+
+-- ---- the least rule
+
+pub least_same : (a b c d e f g h : Bool) → a ≡ e → b ≡ f → c ≡ g → d ≡ h → least_rule a b c d ≡ least_rule e f g h
+least_same a b c d e f g h p q r s = rw (p, q, r, s) refl

@@ -93,18 +93,18 @@ error_size : (X : Classes) → size (fresh_object (built_ins ++ X) out_of_memory
 unfolding built_ins
 error_size X = refl
 
--- the cells of the objects that a world without objects makes at load
-pub loaded_size : (names : List Identifier) (w : World) → w.classes ≡ classes_named names → w.objects ≡ [] → sizes (loaded_objects w) ≡ 130 + 6 * length names
-loaded_size names w is none =
+-- the cells of the objects that are made at load
+pub loaded_size : (names : List Identifier) (w : World) → w.classes ≡ classes_named names → sizes (loaded_objects w) ≡ 130 + 6 * length names + sizes w.objects
+loaded_size names w is =
     let T = classes_named names in
     let statics : list_all no_statics T ≡ true = fold_statics names built_ins built_ins_statics in
     let g = grown names built_ins in
     let error : size (fresh_object T out_of_memory_error) ≡ 4 = ap (λ (x : Classes). size (fresh_object x out_of_memory_error)) g.1 ∙ error_size g.0 in
     let objects = objects_size T T 1 statics in
-    let whole : sizes (loaded_objects w) ≡ sum_by size (class_objects T ++ fresh_object T out_of_memory_error ∷ []) =
-    ap (λ (x : Classes). sum_by size (class_objects x ++ fresh_object x out_of_memory_error ∷ w.objects)) is ∙ ap (λ (os : List Object). sum_by size (class_objects T ++ fresh_object T out_of_memory_error ∷ os)) none in
-    let parts = sum_by-append size (class_objects T) (fresh_object T out_of_memory_error ∷ []) in
-    let last = sum_by-cons size (fresh_object T out_of_memory_error) [] in
+    let whole : sizes (loaded_objects w) ≡ sum_by size (class_objects T ++ fresh_object T out_of_memory_error ∷ w.objects) =
+    ap (λ (x : Classes). sum_by size (class_objects x ++ fresh_object x out_of_memory_error ∷ w.objects)) is in
+    let parts = sum_by-append size (class_objects T) (fresh_object T out_of_memory_error ∷ w.objects) in
+    let last = sum_by-cons size (fresh_object T out_of_memory_error) w.objects in
     omega (arith, whole, parts, last, error, objects, classes_length names)
 
 -- ---- java/lang/Object

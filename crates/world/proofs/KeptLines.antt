@@ -17,6 +17,7 @@ use Rattle.world.specs.ReadingWorlds.{least_class_rule}
 use Rattle.world.specs.SceneWorld.{with_named_class, classes_named}
 use Rattle.world.specs.World.{Invocation}
 use Rattle.world.specs.WorldLines.{WorldLine, ClassLine, ThreadLine, Lines}
+use Rattle.world.specs.Object.{sizes}
 use Rattle.world.specs.WorldMeaning.{table_with, table_of, object_defined, objects_defined, object_of, threads_with, threads_of, world_of, cells_of}
 use Rattle.world.specs.WorldRules.{part_of, is_in_order, is_line_word, OfClass, LineForm, WrongName, OutOfLimit, HeapFull, line_breaks, broken_by_line}
 use Rattle.world.proofs.ClassTables.{classes_length, loaded_size, superclass_holds}
@@ -33,10 +34,6 @@ names cs = map (λ (c : ℕ × Identifier). c.1) cs
 abbrev pub class_lines : Named → Lines
 class_lines cs = map (λ (c : ℕ × Identifier). (c.0, ClassLine c.1 None)) cs
 
--- a world's lines: classes, and the one thread
-abbrev pub all_lines : Named → ℕ → Identifier → Lines
-all_lines cs n function = class_lines cs ++ (n, ThreadLine function []) ∷ []
-
 -- ---- what lines define
 
 fold_classes : (cs : Named) (T : Classes) → fold (λ (classes : Classes) (l : ℕ × WorldLine). table_with classes l.1) T (class_lines cs) ≡ fold with_named_class T (names cs)
@@ -46,11 +43,8 @@ fold_classes (c ∷ cs) T = fold_classes cs (with_named_class T c.1)
 pub table_classes : (cs : Named) → table_of (class_lines cs) ≡ classes_named (names cs)
 table_classes cs = fold_classes cs built_ins
 
-pub table_all : (cs : Named) (n : ℕ) (f : Identifier) → table_of (all_lines cs n f) ≡ classes_named (names cs)
-table_all cs n f = fold-append (λ (classes : Classes) (l : ℕ × WorldLine). table_with classes l.1) built_ins (class_lines cs) ((n, ThreadLine f []) ∷ []) ∙ table_classes cs
-
 -- class lines define no object
-no_objects_in : (T : Classes) (cs : Named) → filter_map (λ (l : ℕ × WorldLine). object_defined T l.1) (class_lines cs) ≡ []
+pub no_objects_in : (T : Classes) (cs : Named) → filter_map (λ (l : ℕ × WorldLine). object_defined T l.1) (class_lines cs) ≡ []
 no_objects_in T [] = refl
 no_objects_in T (c ∷ cs) = no_objects_in T cs
 
@@ -63,12 +57,7 @@ objects_classes cs d =
     let T = table_of (class_lines cs ++ (d.0, ClassLine d.1 None) ∷ []) in
     filter_map-append (λ (l : ℕ × WorldLine). object_defined T l.1) (class_lines cs) ((d.0, ClassLine d.1 None) ∷ []) ∙ ap (λ xs. xs ++ []) (no_objects_in T cs)
 
-objects_all : (cs : Named) (n : ℕ) (f : Identifier) → objects_defined (all_lines cs n f) ≡ []
-objects_all cs n f =
-    let T = table_of (all_lines cs n f) in
-    filter_map-append (λ (l : ℕ × WorldLine). object_defined T l.1) (class_lines cs) ((n, ThreadLine f []) ∷ []) ∙ ap (λ xs. xs ++ []) (no_objects_in T cs)
-
-no_threads_in : (L : Lines) (cs : Named) (ts : List (List Invocation)) → fold (threads_with L) ts (class_lines cs) ≡ ts
+pub no_threads_in : (L : Lines) (cs : Named) (ts : List (List Invocation)) → fold (threads_with L) ts (class_lines cs) ≡ ts
 no_threads_in L [] ts = refl
 no_threads_in L (c ∷ cs) ts = no_threads_in L cs ts
 
@@ -76,15 +65,6 @@ threads_classes : (cs : Named) (d : ℕ × Identifier) → threads_of (class_lin
 threads_classes cs d =
     let L = class_lines cs ++ (d.0, ClassLine d.1 None) ∷ [] in
     fold-append (threads_with L) [] (class_lines cs) ((d.0, ClassLine d.1 None) ∷ []) ∙ no_threads_in L cs []
-
--- the call of a thread line without arguments
-abbrev pub plain_call : ℕ → Identifier → Invocation
-plain_call n f = record { line = n; function = f; arguments = [] }
-
-pub threads_all : (cs : Named) (n : ℕ) (f : Identifier) → threads_of (all_lines cs n f) ≡ (plain_call n f ∷ []) ∷ []
-threads_all cs n f =
-    let L = all_lines cs n f in
-    fold-append (threads_with L) [] (class_lines cs) ((n, ThreadLine f []) ∷ []) ∙ ap (λ (ts : List (List Invocation)). ts ++ (plain_call n f ∷ []) ∷ []) (no_threads_in L cs [])
 
 -- the cells that the classes take
 pub cells_classes : (cs : Named) (d : ℕ × Identifier) → cells_of (class_lines cs ++ (d.0, ClassLine d.1 None) ∷ []) ≡ 136 + 6 * length cs
@@ -98,11 +78,11 @@ cells_classes cs d =
     let objects : filter_map (λ (l : ℕ × WorldLine). object_of L l.1) L ≡ [] =
     filter_map-append (λ (l : ℕ × WorldLine). object_of L l.1) (class_lines cs) ((d.0, ClassLine d.1 None) ∷ []) ∙ ap (λ xs. xs ++ []) (no_object_of L cs) in
     let long : length ns ≡ length cs + 1 = omega (arith, length-append (names cs) (d.1 ∷ []), length-map cs (λ (c : ℕ × Identifier). c.1)) in
-    omega (arith, loaded_size ns (world_of 0 L) table objects, long)
+    omega (arith, loaded_size ns (world_of 0 L) table, ap sizes objects, long)
 
 -- ---- lines that keep the rules
 
-none_broken : (cells : ℕ) (L : Lines) (line : ℕ × WorldLine)
+pub none_broken : (cells : ℕ) (L : Lines) (line : ℕ × WorldLine)
     → line_breaks (OfClass NameTaken) cells L line ≡ false → line_breaks (OfClass BadSuperclass) cells L line ≡ false → line_breaks (OfClass BadSignature) cells L line ≡ false → line_breaks (OfClass TooMany) cells L line ≡ false
     → line_breaks LineForm cells L line ≡ false → line_breaks WrongName cells L line ≡ false → line_breaks OutOfLimit cells L line ≡ false → line_breaks HeapFull cells L line ≡ false
     → is_in_order L line.1 ≡ true → broken_by_line cells L line ≡ []
@@ -128,27 +108,24 @@ pub not_false : (a : Bool) → not a ≡ false → a ≡ true
 not_false true h = refl
 not_false false h = cc
 
-pub class_asked : (taken formed : Bool) (classes threads cells : ℕ) → least_class_rule taken formed classes threads cells ≡ None → IsClass taken formed classes cells × ((threads == 0) ≡ true)
-class_asked taken formed classes threads cells h =
-    let a = passes (cells == 0 || not (threads == 0)) _ _ h in
+pub class_asked : (taken formed : Bool) (classes behind cells : ℕ) → least_class_rule taken formed classes behind cells ≡ None → IsClass taken formed classes cells × ((behind == 0) ≡ true)
+class_asked taken formed classes behind cells h =
+    let a = passes (cells == 0 || not (behind == 0)) _ _ h in
     let b = passes taken _ _ a.1 in
     let c = passes (nat_le 107 classes) _ _ b.1 in
     let d = passes (not formed) _ _ c.1 in
     let e = passes (nat_lt cells (136 + 6 * classes)) _ _ d.1 in
-    let first = either_false (cells == 0) (not (threads == 0)) a.0 in
+    let first = either_false (cells == 0) (not (behind == 0)) a.0 in
     let few : classes ≤ 106 = grind (arith, nat_tests, c.0) in
     let room : 136 + 6 * classes ≤ cells = grind (arith, nat_tests, e.0) in
-    (record { heap = first.0; free = b.0; few = few; named = not_false formed d.0; room = room }, not_false (threads == 0) first.1)
+    (record { heap = first.0; free = b.0; few = few; named = not_false formed d.0; room = room }, not_false (behind == 0) first.1)
 
-in_part : (p : ℕ) (cs : Named) → nat_le 0 p ≡ true → list_all (λ (l : ℕ × WorldLine). nat_le (part_of l.1) p) (class_lines cs) ≡ true
+pub in_part : (p : ℕ) (cs : Named) → nat_le 0 p ≡ true → list_all (λ (l : ℕ × WorldLine). nat_le (part_of l.1) p) (class_lines cs) ≡ true
 in_part p [] h = refl
 in_part p (c ∷ cs) h = and_from (nat_le 0 p) (list_all (λ (l : ℕ × WorldLine). nat_le (part_of l.1) p) (class_lines cs)) h (in_part p cs h)
 
 few_defined : (os : List (Identifier × ℕ)) (ts : List (List Invocation)) → os ≡ [] → ts ≡ [] → (nat_le (length os) 65536 && nat_le (length ts) 8 && list_all (λ calls. nat_le (length calls) 256) ts) ≡ true
 few_defined os ts o t = rw (o, t) refl
-
-one_defined : (os : List (Identifier × ℕ)) (ts : List (List Invocation)) (call : Invocation) → os ≡ [] → ts ≡ (call ∷ []) ∷ [] → (nat_le (length os) 65536 && nat_le (length ts) 8 && list_all (λ calls. nat_le (length calls) 256) ts) ≡ true
-one_defined os ts call o t = rw (o, t) refl
 
 pub class_keeps : (cells : ℕ) (cs : Named) (d : ℕ × Identifier) → IsClass (is_some (class_named (classes_named (names cs)) d.1)) (is_class_name d.1) (length (names cs)) cells → broken_by_line cells (class_lines cs) (d.0, ClassLine d.1 None) ≡ []
 class_keeps cells cs d h =
@@ -166,12 +143,3 @@ class_keeps cells cs d h =
     (ap (λ b. not true || not b) (few_defined (objects_defined (class_lines cs ++ (d.0, ClassLine d.1 None) ∷ [])) (threads_of (class_lines cs ++ (d.0, ClassLine d.1 None) ∷ [])) (objects_classes cs d) (threads_classes cs d)))
     (ap (λ n. nat_lt cells n) (cells_classes cs d) ∙ room)
     (and_from (list_all (λ (l : ℕ × WorldLine). nat_le (part_of l.1) 0) (class_lines cs)) true (in_part 0 cs refl) refl)
-
-pub thread_keeps : (cells : ℕ) (cs : Named) (n : ℕ) (f : Identifier) → is_line_word f ≡ true → broken_by_line cells (class_lines cs) (n, ThreadLine f []) ≡ []
-thread_keeps cells cs n f h =
-    none_broken cells (class_lines cs) (n, ThreadLine f []) refl refl refl refl
-    (ap (λ b. not b || not true) h)
-    refl
-    (ap (λ b. not true || not b) (one_defined (objects_defined (all_lines cs n f)) (threads_of (all_lines cs n f)) (plain_call n f) (objects_all cs n f) (threads_all cs n f)))
-    refl
-    (and_from (list_all (λ (l : ℕ × WorldLine). nat_le (part_of l.1) 2) (class_lines cs)) true (in_part 2 cs refl) refl)

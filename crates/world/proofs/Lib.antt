@@ -1,10 +1,12 @@
 pub mod Puts
 pub mod PartLemmas
 pub mod WordLemmas
+pub mod ValueLemmas
 pub mod LineLemmas
 pub mod JournalLemmas
 pub mod ReportLemmas
 pub mod NameLemmas
+pub mod ClassNames
 pub mod BuilderLemmas
 pub mod WordLaws
 pub mod ScheduleLaws
@@ -13,8 +15,9 @@ pub mod MeantSchedules
 pub mod MeantJournals
 pub mod ClassTables
 pub mod WorldLaws
+pub mod WrittenValues
 pub mod KeptLines
+pub mod ArrayLines
+pub mod KeptArrays
 pub mod LineForms
-pub mod MeantLines
-pub mod MeantRules
-pub mod MeantWorlds
+pub mod FitLemmas

@@ -37,8 +37,9 @@ natural_is (d ∷ e ∷ ds) n a some first v =
     ap (λ b. cond b None (digits_number (d ∷ e ∷ ds))) z ∙ ap (λ b. cond b (Some (digits_value 10 (d ∷ e ∷ ds))) None) t ∙ ap (λ m. Some m) v
 
 -- a number is read as it is written
-pub natural_of-decimal : (n : ℕ) → 1 ≤ n → n < 2 ^ 64 → natural_of (decimal n) ≡ Some n
-natural_of-decimal n low small =
+natural_of-decimal : (n : ℕ) → 1 ≤ n → n ≤ 1000000 → natural_of (decimal n) ≡ Some n
+natural_of-decimal n low high =
+    let small : n < 2 ^ 64 = omega (arith, high) in
     let own = numerals_by_value (λ ds. all_ascii_digits ds ≡ true) tells_all_ascii_digits in
     natural_is (decimal n) n (digits_decimal own n small) (decimal_nonempty n small) (first_decimal n low small) (digits_value-decimal own n small)
 
@@ -65,7 +66,7 @@ often_read k n low high c =
     let one : 1 ≤ n = grind (arith, nat_tests, t.0) in
     let most : n ≤ 1000000 = grind (arith, nat_tests, t.1) in
     ap (option_and_then (λ word. option_and_then (λ times. repetition times word) (natural_of (decimal n)))) (named k low high)
-    ∙ ap (option_and_then (λ times. repetition times (Turn k))) (natural_of-decimal n one (omega (arith, most)))
+    ∙ ap (option_and_then (λ times. repetition times (Turn k))) (natural_of-decimal n one most)
     ∙ ap (λ b. cond b (Some (record { word = Turn k; times = n })) None) c
 
 -- a word that is read alone or among others

@@ -1,25 +1,17 @@
--- Names of classes, and the names that are taken.
-use Rattle.std.proofs.Common.{◌≡◌, ℕ, suc, ◌+◌, Bool, true, false, cond, List, [], ◌∷◌, ◌++◌, length, map, Some, None, refl, sym, ap, ◌∙◌, fold, arith}
-use Rattle.std.specs.Prelude.{◌||◌, ◌&&◌, ◌==◌, is_some, not, nat_lt}
+-- Names of classes, and the numbers of classes.
+use Rattle.std.proofs.Common.{◌≡◌, ℕ, suc, ◌+◌, ◌*◌, ◌<◌, Bool, true, false, cond, List, [], ◌∷◌, ◌++◌, length, map, Option, Some, None, refl, sym, ap, ◌∙◌, fold, arith, get_or, length-append}
+use Rattle.std.specs.Prelude.{◌||◌, ◌&&◌, ◌==◌, not, nat_lt, position}
 use Rattle.std.specs.Option.{option_map}
 use Rattle.std.specs.Global.{Vec}
-use Rattle.std.specs.List.{list_any, enumerate_from, position_or_len}
+use Rattle.std.specs.List.{position_or_len}
 use Rattle.std.proofs.lemmas.Bool.Decides.{nat_tests}
+use Rattle.std.proofs.lemmas.List.{get_or-map, length-map}
 use Rattle.std.specs.Str.{bytes_eq}
-use Rattle.std.proofs.lemmas.List.Folds.{list_any-append}
 use Rattle.base.specs.Bytes.{Identifier}
 use Rattle.classes.specs.Class.{Class, Classes, class_named, array_name}
-use Rattle.classes.specs.BuiltIns.{built_ins, lang_classes, number_array_classes, object_array_class}
-use Rattle.world.specs.SceneWorld.{with_named_class, classes_named}
-use Rattle.world.specs.declared.names.TheConstants.{PLAIN_CLASSES, NUMBER_ARRAYS}
-
-or_assoc : (a b c : Bool) → (a || (b || c)) ≡ ((a || b) || c)
-or_assoc true b c = refl
-or_assoc false b c = refl
-
-or_false : (a : Bool) → (a || false) ≡ a
-or_false true = refl
-or_false false = refl
+use Rattle.classes.specs.BuiltIns.{built_ins}
+use Rattle.world.specs.SceneWorld.{with_named_class, classes_named, is_of}
+use Rattle.world.specs.declared.names.TheConstants.{BUILT_INS}
 
 and_true : (a : Bool) → (a && true) ≡ a
 and_true true = refl
@@ -57,15 +49,12 @@ bytes_eq-no_last (x ∷ xs) a = refl
 same_test : (n : ℕ) → (59 == n) ≡ (n == 59)
 same_test n = grind (arith, nat_tests)
 
--- ---- names in a table
+-- ---- places
 
--- whether a class has this name
-abbrev pub is_named : Identifier → Class → Bool
-is_named name c = bytes_eq c.name name
-
-some_if : (b : Bool) (n : ℕ) → is_some (option_map (λ (i : ℕ). i + 1) (cond b (Some n) None)) ≡ b
-some_if true n = refl
-some_if false n = refl
+-- the first place at which a test passes
+abbrev pub found : {X : Type 0} → (X → Bool) → List X → Option ℕ
+found p [] = None
+found p (x ∷ xs) = cond (p x) (Some 0) (option_map (λ (i : ℕ). suc i) (found p xs))
 
 less_suc : (k n : ℕ) → nat_lt (1 + k) (suc n) ≡ nat_lt k n
 less_suc k n = grind (arith, nat_tests)
@@ -73,88 +62,159 @@ less_suc k n = grind (arith, nat_tests)
 zero_less : (n : ℕ) → nat_lt 0 (suc n) ≡ true
 zero_less n = grind (arith, nat_tests)
 
-first_or_later : (b : Bool) (k n : ℕ) (later : Bool) → nat_lt k n ≡ later → nat_lt (cond (not b) (1 + k) 0) (suc n) ≡ (b || later)
-first_or_later true k n later h = zero_less n
-first_or_later false k n later h = less_suc k n ∙ h
+within : (k n : ℕ) → Option ℕ
+within k n = cond (nat_lt k n) (Some k) None
 
-before_end : {X : Type 0} (p : X → Bool) (xs : List X) → nat_lt (position_or_len p xs) (length xs) ≡ list_any p xs
-before_end p [] = refl
-before_end p (x ∷ xs) = first_or_later (p x) (position_or_len p xs) (length xs) (list_any p xs) (before_end p xs)
+one_later : (b : Bool) (k : ℕ) → cond b (Some (1 + k)) None ≡ option_map (λ (i : ℕ). suc i) (cond b (Some k) None)
+one_later true k = ap Some (omega arith)
+one_later false k = refl
 
--- a name is found exactly where a class has it
-pub is_some-class_named : (name : Identifier) (classes : Classes) → is_some (class_named classes name) ≡ list_any (is_named name) classes
-is_some-class_named name classes = some_if (nat_lt (position_or_len (is_named name) classes) (length classes)) (position_or_len (is_named name) classes) ∙ before_end (is_named name) classes
+placed : (b : Bool) (k n : ℕ) (o : Option ℕ) → cond (nat_lt k n) (Some k) None ≡ o → cond (nat_lt (cond (not b) (1 + k) 0) (suc n)) (Some (cond (not b) (1 + k) 0)) None ≡ cond b (Some 0) (option_map (λ (i : ℕ). suc i) o)
+placed true k n o h = ap (λ b. cond b (Some 0) None) (zero_less n)
+placed false k n o h = ap (λ b. cond b (Some (1 + k)) None) (less_suc k n) ∙ one_later (nat_lt k n) k ∙ ap (option_map (λ (i : ℕ). suc i)) h
 
--- whether a name is that of a class or of the class of its arrays
-abbrev pub is_of : Identifier → Identifier → Bool
-is_of name class = bytes_eq class name || bytes_eq (array_name class) name
+pub position-found : {X : Type 0} (p : X → Bool) (xs : List X) → position p xs ≡ found p xs
+position-found p [] = refl
+position-found p (x ∷ xs) = placed (p x) (position_or_len p xs) (length xs) (found p xs) (position-found p xs)
 
-more_named : (name : Identifier) (names : List Identifier) (classes : Classes) → list_any (is_named name) (fold with_named_class classes names) ≡ (list_any (is_named name) classes || list_any (is_of name) names)
-more_named name [] classes = sym (or_false (list_any (is_named name) classes))
-more_named name (n ∷ names) classes =
-    more_named name names (with_named_class classes n)
-    ∙ ap (λ t. t || list_any (is_of name) names) (list_any-append (is_named name) classes _)
-    ∙ ap (λ t. (list_any (is_named name) classes || t) || list_any (is_of name) names) (ap (λ t. bytes_eq n name || t) (or_false (bytes_eq (array_name n) name)))
-    ∙ sym (or_assoc (list_any (is_named name) classes) (is_of name n) (list_any (is_of name) names))
+pub found-map : {X Y : Type 0} (p : Y → Bool) (f : X → Y) (xs : List X) → found p (map f xs) ≡ found (λ x. p (f x)) xs
+found-map p f [] = refl
+found-map p f (x ∷ xs) = ap (λ o. cond (p (f x)) (Some 0) (option_map (λ (i : ℕ). suc i) o)) (found-map p f xs)
 
-pub taken_names : (name : Identifier) (names : List Identifier) → is_some (class_named (classes_named names) name) ≡ (is_some (class_named built_ins name) || list_any (is_of name) names)
-taken_names name names =
-    is_some-class_named name (classes_named names)
-    ∙ more_named name names built_ins
-    ∙ ap (λ t. t || list_any (is_of name) names) (sym (is_some-class_named name built_ins))
+pub found_below : {X : Type 0} (p : X → Bool) (xs : List X) (i : ℕ) → found p xs ≡ Some i → i < length xs
+found_below p [] i h = absurd (cc)
+found_below p (x ∷ xs) i h = by_test (p x) (found p xs) (found_below p xs) h
+  where
+    by_test : (b : Bool) (o : Option ℕ) → ((j : ℕ) → o ≡ Some j → j < length xs) → cond b (Some 0) (option_map (λ (i : ℕ). suc i) o) ≡ Some i → i < suc (length xs)
+    by_test true o below h = let z : 0 ≡ i = cc in omega arith
+    by_test false None below h = absurd (cc)
+    by_test false (Some j) below h = let z : suc j ≡ i = cc in omega (arith, below j refl)
 
-pub among_items : (name : Identifier) (classes : List (Vec ℕ)) → list_any (is_of name) (map (λ c. c.items) classes) ≡ list_any (λ c. is_of name c.items) classes
-among_items name [] = refl
-among_items name (c ∷ classes) = ap (λ t. is_of name c.items || t) (among_items name classes)
+pub place_below : {X : Type 0} (p : X → Bool) (xs : List X) (i : ℕ) → Some i ≡ position p xs → i < length xs
+place_below p xs i h = found_below p xs i (sym (h ∙ position-found p xs))
 
--- ---- the built-in names
+kept_place : {X : Type 0} (p : X → Bool) (xs ys : List X) (i : ℕ) → found p xs ≡ Some i → found p (xs ++ ys) ≡ Some i
+kept_place p [] ys i h = absurd (cc)
+kept_place p (x ∷ xs) ys i h = by_test (p x) (found p xs) (found p (xs ++ ys)) (λ j e. kept_place p xs ys j e) h
+  where
+    by_test : (b : Bool) (o o2 : Option ℕ) → ((j : ℕ) → o ≡ Some j → o2 ≡ Some j) → cond b (Some 0) (option_map (λ (i : ℕ). suc i) o) ≡ Some i → cond b (Some 0) (option_map (λ (i : ℕ). suc i) o2) ≡ Some i
+    by_test true o o2 k h = h
+    by_test false None o2 k h = absurd (cc)
+    by_test false (Some j) o2 k h = ap (option_map (λ (i : ℕ). suc i)) (k j refl) ∙ h
 
-arrays_named : (name : Identifier) (n : ℕ) (classes : Classes) → list_any (is_named name) (map object_array_class (enumerate_from n classes)) ≡ list_any (λ (c : Class). bytes_eq (array_name c.name) name) classes
-arrays_named name n [] = refl
-arrays_named name n (c ∷ classes) = ap (λ t. bytes_eq (array_name c.name) name || t) (arrays_named name (n + 1) classes)
+none_later : (o : Option ℕ) → option_map (λ (i : ℕ). suc i) o ≡ None → o ≡ None
+none_later None h = refl
+none_later (Some i) h = cc
 
-pub plain_named : (name : Identifier) → list_any (λ class. bytes_eq class.now name) PLAIN_CLASSES ≡ list_any (is_named name) lang_classes
-plain_named name = refl
+passes_not : (b : Bool) (o : Option ℕ) → cond b (Some 0) (option_map (λ (i : ℕ). suc i) o) ≡ None → (b ≡ false) × (o ≡ None)
+passes_not true o h = absurd (cc)
+passes_not false o h = (refl, none_later o h)
 
-pub plain_arrays : (name : Identifier) → list_any (λ class. bytes_eq (array_name class.now) name) PLAIN_CLASSES ≡ list_any (λ (c : Class). bytes_eq (array_name c.name) name) lang_classes
-plain_arrays name = refl
+more_map : (n : ℕ) (o : Option ℕ) → option_map (λ (i : ℕ). suc i) (option_map (λ (i : ℕ). n + i) o) ≡ option_map (λ (i : ℕ). suc n + i) o
+more_map n None = refl
+more_map n (Some i) = ap Some (omega arith)
 
-pub number_arrays : (name : Identifier) → list_any (λ class. bytes_eq class.now name) NUMBER_ARRAYS ≡ list_any (is_named name) number_array_classes
-number_arrays name = refl
+none_map : (o : Option ℕ) → o ≡ option_map (λ (i : ℕ). 0 + i) o
+none_map None = refl
+none_map (Some i) = ap Some (omega arith)
 
-pub built_in_names : (name : Identifier) → is_some (class_named built_ins name)
-    ≡ ((list_any (λ class. bytes_eq class.now name) PLAIN_CLASSES || list_any (λ class. bytes_eq class.now name) NUMBER_ARRAYS) || list_any (λ class. bytes_eq (array_name class.now) name) PLAIN_CLASSES)
+later_place : {X : Type 0} (p : X → Bool) (xs ys : List X) → found p xs ≡ None → found p (xs ++ ys) ≡ option_map (λ (i : ℕ). length xs + i) (found p ys)
+later_place p [] ys h = none_map (found p ys)
+later_place p (x ∷ xs) ys h =
+    let t = passes_not (p x) (found p xs) h in
+    ap (λ b. cond b (Some 0) (option_map (λ (i : ℕ). suc i) (found p (xs ++ ys)))) t.0
+    ∙ ap (option_map (λ (i : ℕ). suc i)) (later_place p xs ys t.1)
+    ∙ more_map (length xs) (found p ys)
+
+-- ---- the numbers of classes
+
+-- whether a class has this name
+abbrev pub is_named : Identifier → Class → Bool
+is_named name c = bytes_eq c.name name
+
+-- the class itself, or the class of its arrays behind it
+abbrev pub or_array : Identifier → List Identifier → ℕ → ℕ
+or_array name names i = cond (bytes_eq (get_or names i []) name) 0 1
+
+abbrev number_in : Identifier → List Identifier → ℕ → ℕ → ℕ
+number_in name names front i = front + (2 * i + or_array name names i)
+
+length_with : (T : Classes) (n : Identifier) → length (with_named_class T n) ≡ length T + 2
+length_with T n = length-append T _
+
+kept_in_fold : (name : Identifier) (names : List Identifier) (T : Classes) (i : ℕ) → found (is_named name) T ≡ Some i → found (is_named name) (fold with_named_class T names) ≡ Some i
+kept_in_fold name [] T i h = h
+kept_in_fold name (n ∷ names) T i h = kept_in_fold name names (with_named_class T n) i (kept_place (is_named name) T _ i h)
+
+one_class_on : (name n : Identifier) (names : List Identifier) (front next : ℕ) (o : Option ℕ) → next ≡ front + 2 → option_map (number_in name names next) o ≡ option_map (number_in name (n ∷ names) front) (option_map (λ (i : ℕ). suc i) o)
+one_class_on name n names front next None e = refl
+one_class_on name n names front next (Some i) e = ap Some (omega (arith, e))
+
+found_in_fold : (name : Identifier) (names : List Identifier) (T : Classes) → found (is_named name) T ≡ None
+    → found (is_named name) (fold with_named_class T names) ≡ option_map (number_in name names (length T)) (found (is_of name) names)
+found_in_fold name [] T h = h
+found_in_fold name (n ∷ names) T h =
+    by_test (bytes_eq n name) (bytes_eq (array_name n) name) refl refl (later_place (is_named name) T _ h) (found_in_fold name names (with_named_class T n))
+  where
+    by_test : (a b : Bool) → bytes_eq n name ≡ a → bytes_eq (array_name n) name ≡ b
+        → found (is_named name) (with_named_class T n) ≡ option_map (λ (i : ℕ). length T + i) (cond (bytes_eq n name) (Some 0) (option_map (λ (i : ℕ). suc i) (cond (bytes_eq (array_name n) name) (Some 0) None)))
+        → (found (is_named name) (with_named_class T n) ≡ None → found (is_named name) (fold with_named_class (with_named_class T n) names) ≡ option_map (number_in name names (length (with_named_class T n))) (found (is_of name) names))
+        → found (is_named name) (fold with_named_class (with_named_class T n) names) ≡ option_map (number_in name (n ∷ names) (length T)) (cond (bytes_eq n name || bytes_eq (array_name n) name) (Some 0) (option_map (λ (i : ℕ). suc i) (found (is_of name) names)))
+    by_test true b p q here ih = let e : or_array name (n ∷ names) 0 ≡ 0 = ap (λ b. cond b 0 1) p in rw p (kept_in_fold name names (with_named_class T n) (length T + 0) (here ∙ rw p refl) ∙ ap Some (omega (arith, e)))
+    by_test false true p q here ih = let e : or_array name (n ∷ names) 0 ≡ 1 = ap (λ b. cond b 0 1) p in rw (p, q) (kept_in_fold name names (with_named_class T n) (length T + 1) (here ∙ rw (p, q) refl) ∙ ap Some (omega (arith, e)))
+    by_test false false p q here ih = rw (p, q) (ih (here ∙ rw (p, q) refl) ∙ one_class_on name n names (length T) (length (with_named_class T n)) (found (is_of name) names) (length_with T n))
+
+built_in_count : length built_ins ≡ 42
 unfolding built_ins
-built_in_names name =
-    is_some-class_named name built_ins
-    ∙ list_any-append (is_named name) (lang_classes ++ number_array_classes) (map object_array_class (enumerate_from 1 lang_classes))
-    ∙ ap (λ t. t || list_any (is_named name) (map object_array_class (enumerate_from 1 lang_classes))) (list_any-append (is_named name) lang_classes number_array_classes)
-    ∙ ap (λ t. (list_any (is_named name) lang_classes || list_any (is_named name) number_array_classes) || t) (arrays_named name 1 lang_classes)
+built_in_count = refl
 
--- ---- an alternative that is not looked at
+-- the names of the built-in classes
+names_built_in : (name : Identifier) → found (λ class. bytes_eq class.now name) BUILT_INS ≡ found (is_named name) built_ins
+unfolding built_ins
+names_built_in name = refl
 
-pub or_first : (a b r : Bool) → a ≡ true → r ≡ a → r ≡ (a || b)
-or_first true b r h e = e
-or_first false b r h e = cc
+numbered : (name : Identifier) (T : Classes) → class_named T name ≡ option_map (λ (i : ℕ). i + 1) (found (is_named name) T)
+numbered name T = ap (option_map (λ (i : ℕ). i + 1)) (position-found (is_named name) T)
 
-pub or_second : (a b r : Bool) → a ≡ false → r ≡ b → r ≡ (a || b)
-or_second false b r h e = e
-or_second true b r h e = cc
+module _ (name : Identifier) (classes : List (Vec ℕ)) where
+  abbrev own : List Identifier
+  own = map (λ (c : Vec ℕ). c.items) classes
+
+  built : position (λ class. bytes_eq class.now name) BUILT_INS ≡ found (is_named name) built_ins
+  built = position-found (λ class. bytes_eq class.now name) BUILT_INS ∙ names_built_in name
+
+  world : position (λ (c : Vec ℕ). is_of name c.items) classes ≡ found (is_of name) own
+  world = position-found (λ (c : Vec ℕ). is_of name c.items) classes ∙ sym (found-map (is_of name) (λ (c : Vec ℕ). c.items) classes)
+
+  -- a built-in class
+  pub in_built_ins : (i : ℕ) → Some i ≡ position (λ class. bytes_eq class.now name) BUILT_INS → class_named (classes_named own) name ≡ Some (i + 1)
+  in_built_ins i h = numbered name (classes_named own) ∙ ap (option_map (λ (i : ℕ). i + 1)) (kept_in_fold name own built_ins i (sym (h ∙ built)))
+
+  pub built_in_below : (i : ℕ) → Some i ≡ position (λ class. bytes_eq class.now name) BUILT_INS → i < 42
+  built_in_below i h = omega (arith, found_below (is_named name) built_ins i (sym (h ∙ built)), built_in_count)
+
+  behind : None ≡ position (λ class. bytes_eq class.now name) BUILT_INS → class_named (classes_named own) name ≡ option_map (λ (i : ℕ). i + 1) (option_map (number_in name own (length built_ins)) (found (is_of name) own))
+  behind h = numbered name (classes_named own) ∙ ap (option_map (λ (i : ℕ). i + 1)) (found_in_fold name own built_ins (sym (h ∙ built)))
+
+  -- one of the world's, or the class of its arrays
+  pub in_world : (i : ℕ) → None ≡ position (λ class. bytes_eq class.now name) BUILT_INS → Some i ≡ position (λ (c : Vec ℕ). is_of name c.items) classes
+      → class_named (classes_named own) name ≡ Some (43 + 2 * i + or_array name own i)
+  in_world i h k = behind h ∙ ap (λ o. option_map (λ (i : ℕ). i + 1) (option_map (number_in name own (length built_ins)) o)) (sym (k ∙ world)) ∙ ap Some (omega (arith, built_in_count))
+
+  pub in_world_below : (i : ℕ) → Some i ≡ position (λ (c : Vec ℕ). is_of name c.items) classes → i < length classes
+  in_world_below i k = omega (arith, found_below (is_of name) own i (sym (k ∙ world)), length-map classes (λ (c : Vec ℕ). c.items))
+
+  -- in neither
+  pub nowhere : None ≡ position (λ class. bytes_eq class.now name) BUILT_INS → None ≡ position (λ (c : Vec ℕ). is_of name c.items) classes → class_named (classes_named own) name ≡ None
+  nowhere h k = behind h ∙ ap (λ o. option_map (λ (i : ℕ). i + 1) (option_map (number_in name own (length built_ins)) o)) (sym (k ∙ world))
+
+  -- which of the two
+  pub is_itself : (i : ℕ) (d : Vec ℕ) → i < length classes → bytes_eq (get_or classes i d).items name ≡ true → or_array name own i ≡ 0
+  is_itself i d h e = ap (λ (n : Identifier). cond (bytes_eq n name) 0 1) (get_or-map (λ (c : Vec ℕ). c.items) classes i d [] h) ∙ ap (λ b. cond b 0 1) e
+
+  pub is_array : (i : ℕ) (d : Vec ℕ) → i < length classes → bytes_eq (get_or classes i d).items name ≡ false → or_array name own i ≡ 1
+  is_array i d h e = ap (λ (n : Identifier). cond (bytes_eq n name) 0 1) (get_or-map (λ (c : Vec ℕ). c.items) classes i d [] h) ∙ ap (λ b. cond b 0 1) e
 
 -- the last byte and what stands before it
 pub is_element : (element bytes front : List ℕ) (last : ℕ) → bytes ≡ front ++ last ∷ [] → bytes_eq (element ++ 59 ∷ []) bytes ≡ (bytes_eq element front && (last == 59))
 is_element element bytes front last e = ap (bytes_eq (element ++ 59 ∷ [])) e ∙ bytes_eq-last element front 59 last ∙ ap (λ t. bytes_eq element front && t) (same_test last)
-
-pub first_of_three : (p n a : Bool) → p ≡ true → true ≡ ((p || n) || a)
-first_of_three true n a h = refl
-first_of_three false n a h = cc
-
-pub second_of_three : (p n a : Bool) → n ≡ true → true ≡ ((p || n) || a)
-second_of_three true n a h = refl
-second_of_three false true a h = refl
-second_of_three false false a h = cc
-
-pub third_of_three : (p n a r : Bool) → p ≡ false → n ≡ false → r ≡ a → r ≡ ((p || n) || a)
-third_of_three false false a r h k e = e
-third_of_three true n a r h k e = cc
-third_of_three false true a r h k e = cc

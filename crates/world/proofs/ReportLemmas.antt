@@ -1,5 +1,5 @@
 -- The parts of a report's text.
-use Rattle.std.proofs.Common.{◌≡◌, ℕ, ◌+◌, ◌<◌, ◌≤◌, List, [], ◌++◌, length, get_or, drop, map, Result, Ok, Err, sym, ap, ◌∙◌, append-nil, arith}
+use Rattle.std.proofs.Common.{◌≡◌, ℕ, ◌+◌, ◌<◌, ◌≤◌, List, [], ◌++◌, length, get_or, drop, map, Result, Ok, Err, refl, sym, ap, ◌∙◌, append-nil, arith}
 use Rattle.std.specs.Prelude.{OnOk, OnErr}
 use Rattle.std.specs.List.{flat_map, enumerate_from}
 use Rattle.std.specs.Io.KnownBytes.{Keeps}
@@ -8,8 +8,9 @@ use Rattle.std.proofs.lemmas.List.{get_or-map, length-map}
 use Rattle.std.proofs.lemmas.List.FromFn.{length-enumerate_from, get_or-enumerate_from}
 use Rattle.world.specs.declared.report.Printed.{Printed}
 use Rattle.world.specs.declared.report.Standing.{Standing}
-use Rattle.world.specs.Report.{thread_line, printed_line, report_text}
-use Rattle.world.specs.Standing.{standing_view, report_without_objects}
+use Rattle.world.specs.Report.{ShownRow, thread_line, printed_line, report_text}
+use Rattle.world.specs.Shown.{row_lines, report_with}
+use Rattle.world.specs.Standing.{standing_view}
 use Rattle.world.specs.Sink.{Written, AppendsText, Writes}
 use Rattle.world.proofs.Puts.{flat_map-at, flat_map-past}
 
@@ -37,11 +38,11 @@ standings_at xs i n d h e =
 pub standings_past : (xs : List Standing) (i : ℕ) → length xs ≤ i → flat_map thread_line (drop i (numbered xs)) ≡ []
 standings_past xs i h = flat_map-past thread_line (numbered xs) i (omega (arith, h, length-numbered xs))
 
--- with no objects, a report is what was printed and the threads
-pub report_text-without_objects : (printed : List Printed) (standings : List Standing)
-    → report_text (report_without_objects printed standings) ≡ flat_map printed_line printed ++ flat_map thread_line (numbered standings)
+-- a report is what was printed, the threads and the rows
+pub report_text-with : (printed : List Printed) (standings : List Standing) (rows : List ShownRow)
+    → report_text (report_with printed standings rows) ≡ (flat_map printed_line printed ++ flat_map thread_line (numbered standings)) ++ row_lines rows
 unfolding report_text
-report_text-without_objects printed standings = append-nil (flat_map printed_line printed ++ flat_map thread_line (numbered standings))
+report_text-with printed standings rows = refl
 
 -- a flush after the whole text
 pub Writes-flushed : {T E : Type 0} (a b c : Written) (r : Result T E) (text : List ℕ) → AppendsText a b text → Keeps b.bytes c.bytes

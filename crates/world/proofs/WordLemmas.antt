@@ -12,11 +12,11 @@ use Rattle.world.specs.ReadingWords.{formed_words, with_word, allowed_words}
 abbrev pub after : {W : Type 0} → List W → Option (List W) → Option (List W)
 after front words = option_map (λ ws. front ++ ws) words
 
-after-nil : {W : Type 0} (words : Option (List W)) → after [] words ≡ words
+pub after-nil : {W : Type 0} (words : Option (List W)) → after [] words ≡ words
 after-nil None = refl
 after-nil (Some ws) = refl
 
-after_one : {W : Type 0} (front : List W) (w : W) (words : Option (List W)) → after front (with_word (Some w) words) ≡ after (front ++ w ∷ []) words
+pub after_one : {W : Type 0} (front : List W) (w : W) (words : Option (List W)) → after front (with_word (Some w) words) ≡ after (front ++ w ∷ []) words
 after_one front w None = refl
 after_one front w (Some ws) = ap Some (sym (append_assoc front (w ∷ []) ws))
 

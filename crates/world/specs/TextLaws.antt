@@ -1,19 +1,12 @@
 -- Laws: what a text means is what is read of it.
-use Rattle.std.specs.Prelude.{◌≡◌, ◌↔◌, ◌≤◌, ℕ, Bool, true, false, List, IsTrue, Result, Ok}
+use Rattle.std.specs.Prelude.{◌≡◌, ◌↔◌, ◌≤◌, ℕ, Bool, true, false, List, IsTrue, Ok}
 use Rattle.std.specs.List.{list_all}
 use Rattle.world.specs.declared.schedule.ScheduleWord.{ScheduleWord}
 use Rattle.world.specs.declared.schedule.ScheduleWord.TheVariants.{Turn, Collect}
-use Rattle.world.specs.declared.fault.TextFault.{TextFault}
-use Rattle.world.specs.BuiltLines.{are_built}
 use Rattle.world.specs.Journal.{Journal, IsJournalText}
-use Rattle.world.specs.Reading.{◌>>=◌}
 use Rattle.world.specs.ReadingJournals.{journal_of}
 use Rattle.world.specs.ReadingSchedules.{schedule_of}
-use Rattle.world.specs.ReadingWorlds.{scene_of_text}
-use Rattle.world.specs.SceneWorld.{world_of_scene}
 use Rattle.world.specs.Schedule.{Schedule, IsScheduleText}
-use Rattle.world.specs.World.{World}
-use Rattle.world.specs.WorldRules.{IsWorldText}
 
 -- a turn, and no collection
 abbrev pub is_turn_word : ScheduleWord → Bool
@@ -28,17 +21,3 @@ SchedulesAreRead = (threads : ℕ) (text : List ℕ) (schedule : Schedule) → t
 -- a journal is read of exactly the texts that mean it
 abbrev pub JournalsAreRead : Type 0
 JournalsAreRead = (threads : ℕ) (text : List ℕ) (journal : Journal) → threads ≤ 8 → (journal_of text threads ≡ Ok journal) ↔ IsJournalText threads text journal
-
--- the world that is read of a text
-abbrev pub world_of_text : List ℕ → Result World TextFault
-world_of_text text = scene_of_text text >>= λ scene. Ok (world_of_scene scene)
-
--- The text means the world by lines that are read today. The lines are asked, since one world may be meant by others too:
--- `class A extends java/lang/Object` defines what `class A` defines.
-pub record IsBuiltWorldText (text : List ℕ) (world : World) : Type 0 where
-  pub means : IsWorldText text world
-  pub built : IsTrue (are_built means.lines)
-
--- a world is read of exactly the texts that mean it by lines that are read today
-abbrev pub WorldsAreRead : Type 0
-WorldsAreRead = (text : List ℕ) (world : World) → (world_of_text text ≡ Ok world) ↔ IsBuiltWorldText text world

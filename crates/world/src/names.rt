@@ -1,18 +1,18 @@
 //! Names of classes.
 
-ghost use Rattle.std.specs.Prelude.{◌≡◌, ◌++◌, ◌∷◌, [], ◌||◌, map, is_some};
-ghost use Rattle.std.specs.List.{list_all, list_any};
+ghost use Rattle.std.specs.Prelude.{◌≡◌, ◌+◌, ◌*◌, ◌<◌, ◌≤◌, slice_index_or, ◌++◌, ◌∷◌, [], length, position, map, is_some, IfSome};
+ghost use Rattle.std.specs.List.{list_all};
 ghost use Rattle.std.specs.Str.{bytes_eq};
 ghost use Rattle.base.specs.Bytes.{is_letter, is_name_part};
-ghost use Rattle.classes.specs.Class.{class_named, array_name};
-ghost use Rattle.classes.specs.BuiltIns.{built_ins};
+ghost use Rattle.classes.specs.Class.{class_named, class_name, array_name};
 ghost use Rattle.classes.specs.Mangling.{is_simple_name, is_class_name};
-ghost use Rattle.world.specs.SceneWorld.{classes_named};
+ghost use Rattle.world.specs.SceneWorld.{is_of, classes_named};
+ghost use Rattle.world.specs.Shown.{name_view};
 
 use crate::parts::Parts;
 
-/// The built-in classes that are no array classes.
-const PLAIN_CLASSES: [&[u8]; 19] = [
+/// The names of the built-in classes, in the order of their numbers.
+const BUILT_INS: [&[u8]; 42] = [
     b"java/lang/Object",
     b"java/lang/Class",
     b"java/lang/String",
@@ -32,10 +32,38 @@ const PLAIN_CLASSES: [&[u8]; 19] = [
     b"java/lang/ArrayStoreException",
     b"java/lang/NegativeArraySizeException",
     b"java/lang/IllegalMonitorStateException",
+    b"[B",
+    b"[C",
+    b"[S",
+    b"[I",
+    b"[Ljava/lang/Object;",
+    b"[Ljava/lang/Class;",
+    b"[Ljava/lang/String;",
+    b"[Ljava/lang/Throwable;",
+    b"[Ljava/lang/Error;",
+    b"[Ljava/lang/LinkageError;",
+    b"[Ljava/lang/IncompatibleClassChangeError;",
+    b"[Ljava/lang/NoSuchFieldError;",
+    b"[Ljava/lang/NoClassDefFoundError;",
+    b"[Ljava/lang/VirtualMachineError;",
+    b"[Ljava/lang/OutOfMemoryError;",
+    b"[Ljava/lang/Exception;",
+    b"[Ljava/lang/RuntimeException;",
+    b"[Ljava/lang/IndexOutOfBoundsException;",
+    b"[Ljava/lang/ArrayIndexOutOfBoundsException;",
+    b"[Ljava/lang/StringIndexOutOfBoundsException;",
+    b"[Ljava/lang/ArrayStoreException;",
+    b"[Ljava/lang/NegativeArraySizeException;",
+    b"[Ljava/lang/IllegalMonitorStateException;",
 ];
 
-/// The classes of arrays of numbers.
-const NUMBER_ARRAYS: [&[u8]; 4] = [b"[B", b"[C", b"[S", b"[I"];
+/// The name of a class.
+#[derive(Clone, Copy, Debug, PartialEq, Eq)]
+pub enum ClassName<'a> {
+    Plain(&'a [u8]),
+    /// That of the class of arrays with elements of the class of this name.
+    Array(&'a [u8]),
+}
 
 fn is_letter(byte: u8) -> bool
     ensures { result ≡ is_letter byte }
@@ -58,7 +86,7 @@ fn are_name_parts(bytes: &[u8]) -> bool
 }
 
 /// Whether the bytes are a letter, and then letters, digits and underscores.
-fn is_simple_name(bytes: &[u8]) -> bool
+pub fn is_simple_name(bytes: &[u8]) -> bool
     ensures { result ≡ is_simple_name bytes.now }
 {
     match bytes {
@@ -99,43 +127,90 @@ fn is_array_name(element: &[u8], name: &[u8]) -> bool
     }
 }
 
-/// Whether one of the classes has this name.
-fn is_one_of(classes: &[&[u8]], name: &[u8]) -> bool
-    ensures { result ≡ list_any (λ class. bytes_eq class.now name.now) classes.now }
+/// The place of this name.
+fn place_among(names: &[&[u8]], name: &[u8]) -> Option<usize>
+    ensures { result ≡ position (λ n. bytes_eq n.now name.now) names.now }
 {
-    classes.iter().any(|class| *class == name)
+    names.iter().position(|n| *n == name)
 }
 
-/// Whether the class of arrays of one of the classes has this name.
-fn is_array_of_one(classes: &[&[u8]], name: &[u8]) -> bool
-    ensures { result ≡ list_any (λ class. bytes_eq (array_name class.now) name.now) classes.now }
+/// The place of the built-in class of this name.
+fn built_in_place(name: &[u8]) -> Option<usize>
+    ensures { result ≡ position (λ n. bytes_eq n.now name.now) BUILT_INS }
 {
-    classes.iter().any(|class| is_array_name(class, name))
+    place_among(&BUILT_INS, name)
 }
 
-/// Whether a built-in class has this name.
-fn is_built_in(name: &[u8]) -> bool
-    ensures { result ≡ is_some (class_named built_ins name.now) }
+/// The place of the class that has this name, or whose arrays' class has it.
+fn place_of(classes: &[Vec<u8>], name: &[u8]) -> Option<usize>
+    ensures { result ≡ position (λ class. is_of name.now class.items) classes.now }
 {
-    if is_one_of(&PLAIN_CLASSES, name) {
-        return true;
+    classes.iter().position(|class| class.as_slice() == name || is_array_name(class, name))
+}
+
+/// The number of the class of this name: a built-in one, one of these, or the class of their arrays.
+pub fn class_number(classes: &[Vec<u8>], name: &[u8]) -> Option<usize>
+    requires { length classes.now ≤ 107 }
+    ensures number { result ≡ class_named (classes_named (map (λ class. class.items) classes.now)) name.now }
+    ensures within { IfSome result (λ n. n ≤ 42 + 2 * length classes.now) }
+{
+    if let Some(place) = built_in_place(name) {
+        return Some(place + 1);
     }
-    if is_one_of(&NUMBER_ARRAYS, name) {
-        return true;
+    match place_of(classes, name) {
+        Some(place) => {
+            if classes[place].as_slice() == name {
+                Some(43 + 2 * place)
+            } else {
+                Some(44 + 2 * place)
+            }
+        }
+        None => None,
     }
-    is_array_of_one(&PLAIN_CLASSES, name)
 }
 
-/// Whether one of the classes, or the class of its arrays, has this name.
-fn is_among(classes: &[Vec<u8>], name: &[u8]) -> bool
-    ensures { result ≡ list_any (λ class. bytes_eq class.items name.now || bytes_eq (array_name class.items) name.now) classes.now }
+/// The name at this place.
+fn name_among<'a>(names: &[&'a [u8]], place: usize) -> &'a [u8]
+    requires { place < length names.now }
+    ensures { result.now ≡ slice_index_or (map (λ n. n.now) names.now) place [] }
 {
-    classes.iter().any(|class| class.as_slice() == name || is_array_name(class, name))
+    names[place]
+}
+
+/// The name of the built-in class at this place.
+fn built_in_name(place: usize) -> &'static [u8]
+    requires { place < 42 }
+    ensures { result.now ≡ slice_index_or (map (λ n. n.now) BUILT_INS) place [] }
+{
+    name_among(&BUILT_INS, place)
+}
+
+/// The name of the class of this number, and no bytes where there is none.
+pub fn class_name(classes: &[Vec<u8>], number: usize) -> ClassName<'_>
+    ensures { name_view result ≡ class_name (classes_named (map (λ class. class.items) classes.now)) number }
+{
+    if number == 0 {
+        return ClassName::Plain(b"");
+    }
+    if number <= 42 {
+        return ClassName::Plain(built_in_name(number - 1));
+    }
+    let place = (number - 43) / 2;
+    if place >= classes.len() {
+        return ClassName::Plain(b"");
+    }
+    let class = classes[place].as_slice();
+    if (number - 43) % 2 == 0 {
+        ClassName::Plain(class)
+    } else {
+        ClassName::Array(class)
+    }
 }
 
 /// Whether a built-in class or one of these has this name.
 pub fn is_taken(classes: &[Vec<u8>], name: &[u8]) -> bool
+    requires { length classes.now ≤ 107 }
     ensures { result ≡ is_some (class_named (classes_named (map (λ class. class.items) classes.now)) name.now) }
 {
-    is_built_in(name) || is_among(classes, name)
+    class_number(classes, name).is_some()
 }

@@ -40,15 +40,20 @@ impl<W: Write> StdSink<W> {
     pub fn into_inner(self) -> W
         ensures { result ≡ self.writer }
     {
-        self.writer
+        let StdSink {
+            writer,
+            buffer: _,
+            sent: _,
+            failures: _,
+        } = self;
+        writer
     }
 
     /// How many writes failed.
     pub fn failures(&self) -> u64
         ensures { result ≡ self.now.failures }
     {
-        let StdSink { failures, .. } = self;
-        *failures
+        self.failures
     }
 
     /// Gives the writer some of the bytes that wait.

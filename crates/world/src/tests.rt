@@ -1,4 +1,5 @@
 use super::*;
+use std::alloc::Global;
 use std::io;
 use std::io::{ErrorKind, Write};
 use std::test::Fail;
@@ -48,7 +49,7 @@ fn write_text<W: Write>(sink: &mut StdSink<W>) -> Result<(), SinkFailed> {
         thread,
         refused,
     });
-    write_run(sink, &printed, &standings, &entries)
+    write_run(sink, &printed, &standings, &NoRows, &entries)
 }
 
 #[test]
@@ -127,6 +128,153 @@ fn a_world(rt: HostRuntime) -> Result<(), Fail> {
     };
     assert_eq!(rt; call.function(), b"Java_A_f".as_slice());
     assert_eq!(rt; call.line(), 6);
+    Ok(())
+}
+
+#[test]
+fn a_world_with_an_array(rt: HostRuntime) -> Result<(), Fail> {
+    let world = read_world(
+        rt.alloc(),
+        b"heap 512\nclass A\narray @a I 7 8 -9\nthread Java_A_f @a -5 null class:A\n",
+    )?;
+    let [array] = world.objects() else {
+        return Err(Fail::new("one array"));
+    };
+    assert_eq!(rt; array.name(), b"a".as_slice());
+    assert_eq!(rt; array.element(), Element::Int);
+    assert_eq!(rt; array.values(), [7, 8, -9].as_slice());
+    let [calls] = world.threads() else {
+        return Err(Fail::new("one thread"));
+    };
+    let [call] = calls.as_slice() else {
+        return Err(Fail::new("one call"));
+    };
+    let arguments = [
+        Argument::Reference(Some(46)),
+        Argument::Number(-5),
+        Argument::Reference(None),
+        Argument::Reference(Some(43)),
+    ];
+    assert_eq!(rt; call.arguments(), arguments.as_slice());
+    Ok(())
+}
+
+#[test]
+fn names_of_classes(rt: HostRuntime) -> Result<(), Fail> {
+    let world = read_world(rt.alloc(), b"heap 512\nclass A\nthread f")?;
+    assert_eq!(rt; world.class_count(), 44);
+    assert_eq!(rt; world.class_name(1), ClassName::Plain(b"java/lang/Object"));
+    assert_eq!(rt; world.class_name(23), ClassName::Plain(b"[I"));
+    assert_eq!(rt; world.class_name(43), ClassName::Plain(b"A"));
+    assert_eq!(rt; world.class_name(44), ClassName::Array(b"A"));
+    assert_eq!(rt; world.class_name(45), ClassName::Plain(b""));
+    assert_eq!(rt; world.class_number(b"[LA;"), Some(44));
+    assert_eq!(rt; world.class_number(b"[B"), Some(20));
+    assert_eq!(rt; world.class_number(b"B"), None);
+    Ok(())
+}
+
+fn put_head<W: Write>(sink: &mut StdSink<W>) -> Result<(), SinkFailed> {
+    if sink.failures() > 0 {
+        return Err(SinkFailed);
+    }
+    put_row_head(sink, 46, ClassName::Array(b"A"))
+}
+
+fn put_one<W: Write>(sink: &mut StdSink<W>, value: Shown) -> Result<(), SinkFailed> {
+    if sink.failures() > 0 {
+        return Err(SinkFailed);
+    }
+    put_value(sink, value)
+}
+
+fn put_end<W: Write>(sink: &mut StdSink<W>) -> Result<(), SinkFailed> {
+    if sink.failures() > 0 {
+        return Err(SinkFailed);
+    }
+    put_row_end(sink)
+}
+
+fn flush<W: Write>(sink: &mut StdSink<W>) -> Result<(), SinkFailed> {
+    if sink.failures() > 0 {
+        return Err(SinkFailed);
+    }
+    sink.flush()
+}
+
+#[test]
+fn a_row(rt: HostRuntime) -> Result<(), Fail> {
+    let taken = Vec::new(rt.alloc());
+    let mut sink = StdSink::new(Narrow {
+        taken,
+        step: 7,
+        room: 1000,
+    });
+    put_head(&mut sink)?;
+    put_one(&mut sink, Shown::Number(-8))?;
+    put_one(&mut sink, Shown::Null)?;
+    put_one(&mut sink, Shown::Class(ClassName::Plain(b"A")))?;
+    put_one(&mut sink, Shown::Class(ClassName::Array(b"A")))?;
+    put_one(&mut sink, Shown::Object(47))?;
+    put_end(&mut sink)?;
+    flush(&mut sink)?;
+    assert_eq!(rt;
+        sink.into_inner().taken.as_slice(),
+        b"#46 [LA; -8 null class:A class:[LA; #47\n".as_slice()
+    );
+    Ok(())
+}
+
+/// A world of a heap of 512 cells, with one class and an array of so many zeros.
+fn world_of_zeros(alloc: Global, zeros: usize) -> Result<World, ReadError> {
+    let mut text = Vec::from_slice(alloc, b"heap 512\nclass A\narray @a I")?;
+    for _ in 0..zeros {
+        text.extend_from_slice(b" 0")?;
+    }
+    text.extend_from_slice(b"\nthread f")?;
+    read_world(alloc, &text)
+}
+
+#[test]
+fn the_largest_array(rt: HostRuntime) -> Result<(), Fail> {
+    let world = world_of_zeros(rt.alloc(), 373)?;
+    assert_eq!(rt; world.objects().len(), 1);
+    let fault = ReadError::Fault(TextFault {
+        rule: Rule::Heap,
+        line: 3,
+    });
+    assert!(rt; matches!(world_of_zeros(rt.alloc(), 374), Err(e) if e == fault));
+    Ok(())
+}
+
+#[test]
+fn refused_values(rt: HostRuntime) -> Result<(), Fail> {
+    for (text, number, line) in [
+        (b"heap 512\narray @a I 1 x".as_slice(), 81, 2),
+        (b"heap 512\narray @a I  1", 81, 2),
+        (b"heap 512\narray @a I -0", 81, 2),
+        (b"heap 512\narray @9 I", 81, 2),
+        (b"heap 512\narray @a Z", 81, 2),
+        (b"heap 512\narray @a I\nclass A", 81, 3),
+        (b"heap 512\nthread f\narray @a I", 81, 3),
+        (b"heap 512\narray @a I\narray @a B", 82, 3),
+        (b"heap 512\narray @a I null", 82, 2),
+        (b"heap 512\narray @a B 128", 83, 2),
+        (b"heap 512\narray @a S -32769", 83, 2),
+        (b"heap 512\narray @a C -1", 83, 2),
+        (b"heap 512\nthread f @a", 82, 2),
+        (b"heap 512\nthread f class:A", 82, 2),
+        (b"heap 512\nthread f @9", 81, 2),
+        (b"heap 512\nthread f -2147483649", 83, 2),
+    ] {
+        match read_world(rt.alloc(), text) {
+            Err(ReadError::Fault(fault)) => {
+                assert_eq!(rt; fault.rule.number(), number, "{text:?}");
+                assert_eq!(rt; fault.line, line, "{text:?}");
+            }
+            _ => return Err(Fail::new("read")),
+        }
+    }
     Ok(())
 }
 

@@ -1,34 +1,27 @@
 //! Reading the text of a world.
 
-ghost use Rattle.std.specs.Prelude.{◌≡◌, [], map, Some, None, IfOk};
-ghost use Rattle.world.specs.SceneWorld.{world_of_scene};
-ghost use Rattle.world.specs.TextLaws.{WorldsAreRead};
-ghost use Rattle.world.specs.WorldRules.{IsWorldText};
+ghost use Rattle.std.specs.Prelude.{◌≡◌, ◌+◌, ◌==◌, ◌&&◌, not, [], length, map, nat_lt, nat_le, is_none, Some, None, IfOk, IsTrue};
+ghost use Rattle.std.specs.List.{list_all};
 ghost use Rattle.std.specs.Option.{option_map};
+ghost use Rattle.base.specs.Element.{JInt};
+ghost use Rattle.classes.specs.Class.{class_named};
+ghost use Rattle.world.specs.SceneWorld.{classes_named, world_of_scene};
+ghost use Rattle.world.specs.WorldRules.{is_in_range, value_in_range, IsWorldText};
+ghost use Rattle.world.specs.Views.{element_view, value_view, argument_view};
 ghost use Rattle.world.specs.Reading.{Gives};
-ghost use Rattle.world.specs.Parts.{parts_of};
-ghost use Rattle.world.specs.ReadingWorlds.{OnScene, two_of, heap_of, scene_of, heap_rule, least_class_rule, class_rule, thread_rule, heap_scene, class_scene, thread_scene, line_scene, finished_scene, scene_of_text};
+ghost use Rattle.world.specs.Parts.{parts_left};
+ghost use Rattle.world.specs.ReadingWorlds.{OnScene, heap_of, scene_of, heap_rule, least_class_rule, class_rule, least_rule, place_of, is_number, array_rule, is_there, thread_rule, number_of, object_at, argument_of, heap_scene, class_scene, array_scene, thread_scene, array_words_scene, pair_scene, line_scene, finished_scene, scene_of_text};
 
+use crate::argument::Argument;
+use crate::array::{Array, Element};
 use crate::builder::WorldBuilder;
 use crate::fault::{ReadError, Rule, TextFault};
-use crate::names::{is_class_name, is_taken};
+use crate::names::{class_number, is_class_name, is_taken};
 use crate::natural::natural;
 use crate::parts::Parts;
+use crate::value::{Value, object_name, read_element, read_values};
 use crate::world::{Call, World};
-use std::alloc::Global;
-
-/// The two words of a line, where it has two.
-fn two_words(line: &[u8]) -> Option<(&[u8], &[u8])>
-    ensures { option_map (λ p. (p.0.now, p.1.now)) result ≡ two_of (parts_of 32 line.now) }
-{
-    let mut words = Parts::new(line, b' ');
-    let first = words.next()?;
-    let second = words.next()?;
-    match words.next() {
-        None => Some((first, second)),
-        Some(_) => None,
-    }
-}
+use std::alloc::{AllocError, Global};
 
 /// The number of a heap's cells, or 0 for a negative number.
 fn cells_of(bytes: &[u8]) -> Option<u64>
@@ -43,17 +36,17 @@ fn cells_of(bytes: &[u8]) -> Option<u64>
     }
 }
 
-/// The least rule that one more class breaks.
+/// The least rule that one more class breaks, where so many lines of objects and threads stand before it.
 fn least_class_rule(
     is_taken: bool,
     is_formed: bool,
     classes: usize,
-    threads: usize,
+    behind: usize,
     cells: u32,
 ) -> Option<Rule>
-    ensures { result ≡ least_class_rule is_taken is_formed classes threads cells }
+    ensures { result ≡ least_class_rule is_taken is_formed classes behind cells }
 {
-    if cells == 0 || threads != 0 {
+    if cells == 0 || behind != 0 {
         return Some(Rule::Form);
     }
     if is_taken {
@@ -71,6 +64,75 @@ fn least_class_rule(
     None
 }
 
+/// Which of these doesn't hold first.
+fn least_rule(is_in_order: bool, is_named: bool, is_within: bool, has_room: bool) -> Option<Rule>
+    ensures { result ≡ least_rule is_in_order is_named is_within has_room }
+{
+    if !is_in_order {
+        return Some(Rule::Form);
+    }
+    if !is_named {
+        return Some(Rule::Name);
+    }
+    if !is_within {
+        return Some(Rule::Limit);
+    }
+    if !has_room {
+        return Some(Rule::Heap);
+    }
+    None
+}
+
+/// Whether a value is a number.
+fn is_number(value: Value) -> bool
+    ensures { result ≡ is_number (value_view value.entry) }
+{
+    matches!(value, Value::Number(_))
+}
+
+/// Whether a number is in a type's range.
+fn is_in_range(element: Element, number: i64) -> bool
+    ensures { result ≡ is_in_range (element_view element) number }
+{
+    match element {
+        Element::Int => number >= -2_147_483_648 && number <= 2_147_483_647,
+        Element::Short => number >= -32_768 && number <= 32_767,
+        Element::Byte => number >= -128 && number <= 127,
+        Element::Char => number >= 0 && number <= 65_535,
+    }
+}
+
+/// The same of a value that is a number.
+fn is_value_in_range(element: Element, value: Value) -> bool
+    ensures { result ≡ value_in_range (element_view element) (value_view value.entry) }
+{
+    match value {
+        Value::Number(number) => is_in_range(element, number),
+        _ => true,
+    }
+}
+
+/// Whether all values are numbers.
+fn are_numbers(values: &[Value]) -> bool
+    ensures { result ≡ list_all (λ value. is_number (value_view value)) values.now }
+{
+    values.iter().all(|value| is_number(*value))
+}
+
+/// Whether all numbers are in a type's range.
+fn are_in_range(element: Element, values: &[Value]) -> bool
+    ensures { result ≡ list_all (λ value. value_in_range (element_view element) (value_view value)) values.now }
+{
+    values.iter().all(|value| is_value_in_range(element, *value))
+}
+
+/// Whether an array of so many numbers fits behind the cells that are used.
+fn has_room(cells: usize, used: usize, numbers: usize) -> bool
+    ensures { result ≡ nat_le (used + 3 + numbers) cells }
+{
+    cells >= 3 && used <= cells - 3 && numbers <= cells - 3 - used
+}
+
 impl WorldBuilder {
     /// The least rule that a line `class NAME` breaks.
     #[tactic(auto, using(crate::proofs::BuilderLemmas::count_items, crate::proofs::BuilderLemmas::count_calls))]
@@ -83,22 +145,139 @@ impl WorldBuilder {
             is_taken,
             is_formed,
             self.classes.len(),
-            self.threads.len(),
+            self.objects.len() + self.threads.len(),
             self.heap,
         )
     }
 
-    /// The least rule that a line `thread FUNCTION` breaks.
-    fn thread_rule(&self, function: &[u8]) -> Option<Rule>
-        ensures { result ≡ thread_rule (scene_of self.now) function.now }
+    /// The place of a named object.
+    fn place_of(&self, name: &[u8]) -> Option<usize>
+        ensures { result ≡ place_of (scene_of self.now) name.now }
     {
-        if self.heap == 0 || function.is_empty() {
-            return Some(Rule::Form);
+        self.objects.iter().position(|object| object.name() == name)
+    }
+
+    /// Whether the heap's line was there and no thread's.
+    fn is_before_threads(&self) -> bool
+        ensures { result ≡ (not (self.now.heap == 0) && (length (scene_of self.now).threads == 0)) }
+    {
+        self.heap != 0 && self.threads.is_empty()
+    }
+
+    /// Whether the name is free for an array of the values, and all of them are numbers.
+    fn is_free(&self, name: &[u8], values: &[Value]) -> bool
+        ensures { result ≡ (is_none (place_of (scene_of self.now) name.now) && list_all (λ value. is_number (value_view value)) values.now) }
+    {
+        self.place_of(name).is_none() && are_numbers(values)
+    }
+
+    /// Whether the values of an array are in its range, and there are few objects before it.
+    fn is_array_within(&self, element: Element, values: &[Value]) -> bool
+        ensures { result ≡ (list_all (λ value. value_in_range (element_view element) (value_view value)) values.now && nat_lt (length (scene_of self.now).objects) 65536) }
+    {
+        are_in_range(element, values) && self.objects.len() < 65_536
+    }
+
+    /// Whether the heap's line was there, and the function has a name.
+    fn is_behind_heap(&self, function: &[u8]) -> bool
+        ensures { result ≡ (not (self.now.heap == 0) && not (length function.now == 0)) }
+    {
+        self.heap != 0 && !function.is_empty()
+    }
+
+    /// Whether what a call is given is in the range of `jint`, and there is no thread before it.
+    fn is_thread_within(&self, values: &[Value]) -> bool
+        ensures { result ≡ (list_all (λ value. value_in_range JInt (value_view value)) values.now && (length (scene_of self.now).threads == 0)) }
+    {
+        are_in_range(Element::Int, values) && self.threads.is_empty()
+    }
+
+    /// The least rule that a line `array @x K V ..` breaks.
+    fn array_rule(&self, name: &[u8], element: Element, values: &[Value]) -> Option<Rule>
+        ensures { result ≡ array_rule (scene_of self.now) name.now (element_view element) (map value_view values.now) }
+    {
+        let has_room = has_room(self.heap as usize, self.used, values.len());
+        least_rule(
+            self.is_before_threads(),
+            self.is_free(name, values),
+            self.is_array_within(element, values),
+            has_room,
+        )
+    }
+
+    /// Whether the object or class of a value is there.
+    fn is_there(&self, value: Value) -> bool
+        ensures { result ≡ is_there (scene_of self.now) (value_view value.entry) }
+    {
+        match value {
+            Value::Object(name) => self.place_of(name).is_some(),
+            Value::Class(name) => is_taken(&self.classes, name),
+            Value::Number(_) | Value::Null => true,
         }
-        if !self.threads.is_empty() {
-            return Some(Rule::Limit);
+    }
+
+    /// Whether the objects and classes of values are there.
+    fn are_there(&self, values: &[Value]) -> bool
+        ensures { result ≡ list_all (λ value. is_there (scene_of self.now) (value_view value)) values.now }
+    {
+        values.iter().all(|value| self.is_there(*value))
+    }
+
+    /// The least rule that a line `thread FUNCTION ARG ..` breaks.
+    fn thread_rule(&self, function: &[u8], values: &[Value]) -> Option<Rule>
+        ensures { result ≡ thread_rule (scene_of self.now) function.now (map value_view values.now) }
+    {
+        least_rule(
+            self.is_behind_heap(function),
+            self.are_there(values),
+            self.is_thread_within(values),
+            true,
+        )
+    }
+
+    /// The object of this name.
+    fn object(&self, name: &[u8]) -> Option<u32>
+        ensures { result ≡ option_map (object_at (scene_of self.now)) (place_of (scene_of self.now) name.now) }
+    {
+        match self.place_of(name) {
+            Some(place) => Some((44 + 2 * self.classes.len() + place) as u32),
+            None => None,
         }
-        None
+    }
+
+    /// The class object of the class of this name.
+    fn class_object(&self, name: &[u8]) -> Option<u32>
+        ensures { result ≡ class_named (classes_named (scene_of self.now).classes) name.now }
+    {
+        match class_number(&self.classes, name) {
+            Some(number) => Some(number as u32),
+            None => None,
+        }
+    }
+
+    /// What a function is given by a value, in the range of `jint`.
+    fn argument(&self, value: Value) -> Argument
+        requires { IsTrue (value_in_range JInt (value_view value)) }
+        ensures { argument_view result ≡ argument_of (scene_of self.now) (value_view value.entry) }
+    {
+        match value {
+            Value::Number(number) => Argument::Number(number as i32),
+            Value::Null => Argument::Reference(None),
+            Value::Object(name) => Argument::Reference(self.object(name)),
+            Value::Class(name) => Argument::Reference(self.class_object(name)),
+        }
+    }
+
+    /// What a function is given by values, in the range of `jint`.
+    fn arguments(&self, alloc: Global, values: &[Value]) -> Result<Vec<Argument>, AllocError>
+        requires { IsTrue (list_all (value_in_range JInt) (map value_view values.now)) }
+        ensures { IfOk result (λ v. map argument_view v.items ≡ map (argument_of (scene_of self.now)) (map value_view values.now)) }
+    {
+        let mut arguments = Vec::new(alloc);
+        for value in values {
+            arguments.push(self.argument(*value))?;
+        }
+        Ok(arguments)
     }
 
     /// The least rule that a line `heap N` breaks.
@@ -147,26 +326,144 @@ fn take_class(
         return Err(ReadError::Fault(TextFault { rule, line: number }));
     }
     builder.classes.push(Vec::from_slice(alloc, name)?)?;
+    builder.used += 6;
     Ok(())
 }
 
-/// Takes a line `thread FUNCTION`.
+/// The number of a value, in the range of a type.
+fn number_of(element: Element, value: Value) -> i32
+    requires { IsTrue (value_in_range (element_view element) (value_view value)) }
+    ensures { result ≡ number_of (value_view value.entry) }
+{
+    match value {
+        Value::Number(number) => number as i32,
+        _ => 0,
+    }
+}
+
+/// The numbers of values, each in the range of a type.
+fn numbers(alloc: Global, element: Element, values: &[Value]) -> Result<Vec<i32>, AllocError>
+    requires { IsTrue (list_all (value_in_range (element_view element)) (map value_view values.now)) }
+    ensures { IfOk result (λ v. v.items ≡ map number_of (map value_view values.now)) }
+{
+    let mut numbers = Vec::new(alloc);
+    for value in values {
+        numbers.push(number_of(element, *value))?;
+    }
+    Ok(numbers)
+}
+
+/// Takes a line `array @x K V ..`, where it has that form.
+#[tactic(auto, unfolding(crate::specs::ReadingWorlds::array_scene))]
+fn take_array(
+    alloc: Global,
+    builder: &mut WorldBuilder,
+    number: usize,
+    name: Option<&[u8]>,
+    element: Option<Element>,
+    values: Option<Vec<Value>>,
+) -> Result<(), ReadError>
+    ensures { OnScene result (scene_of builder.new) (array_scene (scene_of builder.old) number
+        (option_map (λ x. x.now) name.entry) (option_map element_view element) (option_map (λ v. map value_view v.items) values.entry)) }
+{
+    let (Some(name), Some(element), Some(values)) = (name, element, values) else {
+        let rule = Rule::Form;
+        return Err(ReadError::Fault(TextFault { rule, line: number }));
+    };
+    if let Some(rule) = builder.array_rule(name, element, &values) {
+        return Err(ReadError::Fault(TextFault { rule, line: number }));
+    }
+    let values = numbers(alloc, element, &values)?;
+    let size = 3 + values.len();
+    let array = Array::new(Vec::from_slice(alloc, name)?, element, values);
+    builder.objects.push(array)?;
+    builder.used += size;
+    Ok(())
+}
+
+/// Takes the words of a line of an array, behind its name.
+fn take_array_words(
+    alloc: Global,
+    builder: &mut WorldBuilder,
+    number: usize,
+    name: &[u8],
+    words: Parts,
+) -> Result<(), ReadError>
+    ensures { OnScene result (scene_of builder.new) (array_words_scene (scene_of builder.old) number name.now (parts_left words.entry)) }
+{
+    let mut words = words;
+    match words.next() {
+        None => {
+            let rule = Rule::Form;
+            Err(ReadError::Fault(TextFault { rule, line: number }))
+        }
+        Some(kind) => {
+            let values = read_values(alloc, words)?;
+            take_array(
+                alloc,
+                builder,
+                number,
+                object_name(name),
+                read_element(kind),
+                values,
+            )
+        }
+    }
+}
+
+/// Takes a line `thread FUNCTION ARG ..`, where it has that form.
 #[tactic(auto, unfolding(crate::specs::ReadingWorlds::thread_scene))]
 fn take_thread(
     alloc: Global,
     builder: &mut WorldBuilder,
     number: usize,
     function: &[u8],
+    values: Option<Vec<Value>>,
 ) -> Result<(), ReadError>
-    ensures { OnScene result (scene_of builder.new) (thread_scene (scene_of builder.old) number function.now) }
+    ensures { OnScene result (scene_of builder.new) (thread_scene (scene_of builder.old) number function.now
+        (option_map (λ v. map value_view v.items) values.entry)) }
 {
-    if let Some(rule) = builder.thread_rule(function) {
+    let Some(values) = values else {
+        let rule = Rule::Form;
+        return Err(ReadError::Fault(TextFault { rule, line: number }));
+    };
+    if let Some(rule) = builder.thread_rule(function, &values) {
         return Err(ReadError::Fault(TextFault { rule, line: number }));
     }
+    let arguments = builder.arguments(alloc, &values)?;
     let mut calls = Vec::new(alloc);
-    calls.push(Call::new(Vec::from_slice(alloc, function)?, number))?;
+    calls.push(Call::new(
+        Vec::from_slice(alloc, function)?,
+        number,
+        arguments,
+    ))?;
     builder.threads.push(calls)?;
     Ok(())
+}
+
+/// Takes a line of two words.
+fn take_pair(
+    alloc: Global,
+    builder: &mut WorldBuilder,
+    number: usize,
+    word: &[u8],
+    name: &[u8],
+    words: Parts,
+) -> Result<(), ReadError>
+    ensures { OnScene result (scene_of builder.new) (pair_scene (scene_of builder.old) number word.now name.now (parts_left words.entry)) }
+{
+    let mut words = words;
+    let rule = Rule::Form;
+    if words.next().is_some() {
+        return Err(ReadError::Fault(TextFault { rule, line: number }));
+    }
+    if word == b"heap".as_slice() {
+        take_heap(builder, number, name)
+    } else if word == b"class".as_slice() {
+        take_class(alloc, builder, number, name)
+    } else {
+        Err(ReadError::Fault(TextFault { rule, line: number }))
+    }
 }
 
 /// Takes a line that isn't empty.
@@ -180,17 +477,20 @@ fn take_line(
     ensures { OnScene result (scene_of builder.new) (line_scene (scene_of builder.old) number line.now) }
 {
     let rule = Rule::Form;
-    let Some((word, argument)) = two_words(line) else {
+    let mut words = Parts::new(line, b' ');
+    let Some(word) = words.next() else {
         return Err(ReadError::Fault(TextFault { rule, line: number }));
     };
-    if word == b"heap".as_slice() {
-        take_heap(builder, number, argument)
-    } else if word == b"class".as_slice() {
-        take_class(alloc, builder, number, argument)
+    let Some(name) = words.next() else {
+        return Err(ReadError::Fault(TextFault { rule, line: number }));
+    };
+    if word == b"array".as_slice() {
+        take_array_words(alloc, builder, number, name, words)
     } else if word == b"thread".as_slice() {
-        take_thread(alloc, builder, number, argument)
+        let values = read_values(alloc, words)?;
+        take_thread(alloc, builder, number, name, values)
     } else {
-        Err(ReadError::Fault(TextFault { rule, line: number }))
+        take_pair(alloc, builder, number, word, name, words)
     }
 }
 
@@ -207,15 +507,21 @@ fn finish(builder: WorldBuilder, last: usize) -> Result<World, ReadError>
         let rule = Rule::Limit;
         return Err(ReadError::Fault(TextFault { rule, line: last }));
     }
-    Ok(World::new(builder.heap, builder.classes, builder.threads))
+    Ok(World::new(
+        builder.heap,
+        builder.classes,
+        builder.objects,
+        builder.threads,
+    ))
 }
 
 /// The world that the text means.
 ///
 /// Fault 61: the name of a class is taken. 64: more than 256 classes. 81: a line has no form that is built, or stands
-/// out of its order. 83: the heap's cells are not 512 to 1,048,576, or there is not exactly one thread, which is told
-/// at the second thread's line, or at the last line. 84: the class objects don't fit into the heap. Of one line the
-/// least of these, and of several lines that of the first.
+/// out of its order. 82: the name of an object is taken, what a call is given is not there, or a value in an array is no
+/// number. 83: the heap's cells are not 512 to 1,048,576, a number is out of its type's range, there are more than 65,536
+/// objects, or there is not exactly one thread, which is told at the second thread's line, or at the last line. 84: the
+/// objects don't fit into the heap. Of one line the least of these, and of several lines that of the first.
 pub fn read_world(alloc: Global, text: &[u8]) -> Result<World, ReadError>
     ensures read { Gives (λ scene. scene) result (scene_of_text text.now) }
     ensures means { IfOk result (λ scene. IsWorldText text.now (world_of_scene scene)) }
@@ -223,7 +529,9 @@ pub fn read_world(alloc: Global, text: &[u8]) -> Result<World, ReadError>
     let mut builder = WorldBuilder {
         heap: 0,
         classes: Vec::new(alloc),
+        objects: Vec::new(alloc),
         threads: Vec::new(alloc),
+        used: 130,
     };
     let mut number = 0;
     let mut last = 1;
@@ -236,8 +544,3 @@ pub fn read_world(alloc: Global, text: &[u8]) -> Result<World, ReadError>
     }
     finish(builder, last)
 }
-
-/// A world is read of exactly the texts that mean it by lines that are read today: a law, which computes nothing.
-pub fn worlds_are_read()
-    ensures { WorldsAreRead }
-{}

@@ -3,11 +3,12 @@
 ghost use Rattle.std.specs.Prelude.{◌≡◌, ◌++◌, OnOk};
 ghost use Rattle.world.specs.Sink.{CanFail, Writes};
 ghost use Rattle.world.specs.Report.{report_text};
-ghost use Rattle.world.specs.Standing.{report_without_objects};
+ghost use Rattle.world.specs.Shown.{report_with};
 ghost use Rattle.world.specs.Journal.{journal_line};
 
 use crate::journal::Entry;
 use crate::report::{Printed, Standing, put_standings};
+use crate::rows::Rows;
 use crate::sink::{Sink, SinkFailed, put_all, put_pieces};
 use crate::text::{Text, put_each};
 use itoa::Buffer;
@@ -29,18 +30,20 @@ impl Text for Entry {
     }
 }
 
-/// Writes what was printed, and how the threads stand.
-fn write_report<S: Sink>(
+/// Writes what was printed, how the threads stand, and the rows.
+fn write_report<S: Sink, R: Rows>(
     sink: &mut S,
     printed: &[Printed],
     standings: &[Standing],
+    rows: &R,
 ) -> Result<(), SinkFailed>
     requires { CanFail (S.written sink.old) }
     ensures { Writes (S.written sink.old) (S.written sink.new) result
-        (report_text (report_without_objects printed.now standings.now)) }
+        (report_text (report_with printed.now standings.now (R.rows rows.now))) }
 {
     put_each(sink, printed)?;
-    put_standings(sink, standings)
+    put_standings(sink, standings)?;
+    rows.put(sink)
 }
 
 /// Writes the line of the journal.
@@ -53,21 +56,22 @@ fn write_journal<S: Sink>(sink: &mut S, entries: &[Entry]) -> Result<(), SinkFai
     put_all(sink, b"\n")
 }
 
-/// Writes the report of these numbers and threads, and then the line of the journal, and flushes the sink.
+/// Writes the report of these numbers, threads and rows, and then the line of the journal, and flushes the sink.
 ///
 /// On `Ok` every byte has gone on to the sink's writer. It allocates nothing.
-pub fn write_run<S: Sink>(
+pub fn write_run<S: Sink, R: Rows>(
     sink: &mut S,
     printed: &[Printed],
     standings: &[Standing],
+    rows: &R,
     entries: &[Entry],
 ) -> Result<(), SinkFailed>
     requires { CanFail (S.written sink.old) }
     ensures text { Writes (S.written sink.old) (S.written sink.new) result
-        (report_text (report_without_objects printed.now standings.now) ++ journal_line entries.now) }
+        (report_text (report_with printed.now standings.now (R.rows rows.now)) ++ journal_line entries.now) }
     ensures none_waits { OnOk result ((S.written sink.new).waiting ≡ 0) }
 {
-    write_report(sink, printed, standings)?;
+    write_report(sink, printed, standings, rows)?;
     write_journal(sink, entries)?;
     sink.flush()
 }

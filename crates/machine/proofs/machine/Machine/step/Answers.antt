@@ -1,15 +1,21 @@
-use Rattle.std.proofs.Common.{◌≡◌, ℕ, suc, ◌-◌, ◌<◌, ◌≤◌, true, false, Some, [], ◌∷◌, ◌++◌, List, length, get_or, refl, sym, ap, ◌∙◌, subst, arith}
-use Rattle.std.specs.Prelude.{slice_get}
+use Rattle.std.proofs.Common.{◌≡◌, ℕ, suc, ◌-◌, ◌<◌, ◌≤◌, true, false, Option, Some, None, [], ◌∷◌, ◌++◌, List, length, get_or, refl, sym, ap, ◌∙◌, subst, arith}
+use Rattle.std.specs.Prelude.{slice_get, is_some}
 use Rattle.std.proofs.lemmas.Option.{slice_get_read}
 use denote.Enum.Bare.{sameb}
 use Rattle.world.specs.declared.journal.Entry.{Entry}
 use Rattle.machine.specs.declared.thread.Ending.{Ending}
 use Rattle.machine.specs.declared.thread.Ending.TheVariants.{Unfinished, Ended}
 use Rattle.machine.specs.contracts.thread.Ending.{the_type}
+use Rattle.machine.specs.declared.stop.Stop.{Stop}
 use Rattle.machine.specs.declared.thread.Thread.{Thread}
 use Rattle.machine.specs.Run.{Run, replay_of, entry_of, printed_after, can_turn, stepped}
 use Rattle.machine.proofs.Steps.{the_thread, can_turn_here, has_ended, steps_on}
 use Rattle.machine.proofs.machine.Machine.step.Goals as goal
+
+-- the machine hasn't stopped
+goes_on : (o : Option Stop) → is_some o ≡ false → o ≡ None
+goes_on None h = refl
+goes_on (Some x) h = absurd (cc)
 
 is_live : (e : Ending) → false ≡ sameb the_type e Ended → e ≡ Unfinished
 is_live Unfinished h = refl
@@ -38,7 +44,7 @@ returns-then-eq-clause-turn c =
       (
         c.self.invariant.state,
         subst (λ (r : Run). replay_of r ≡ Some c.self.invariant.state) c.self.view_is c.self.invariant.replays,
-        has_ended _ _ _ _ _ c.self.invariant c.args.k (c.from-index.result - 1) c.index.result.now (counted c.args.k c.from-index.result c.from-index.ensures c.requires.counted) at (is_ended _ c.if-eq.ensures),
+        has_ended _ _ _ _ _ _ c.self.invariant c.args.k (c.from-index.result - 1) c.index.result.now (counted c.args.k c.from-index.result c.from-index.ensures c.requires.counted) at (goes_on c.self.inside.stop (sym c.is_some.ensures ∙ c.if-is_some.false)) (is_ended _ c.if-eq.ensures),
       ),
     )
 
@@ -52,7 +58,7 @@ returns-then-len-ge-MOST_ENTRIES-clause-turn c =
       (
         c.self.invariant.state,
         subst (λ (r : Run). replay_of r ≡ Some c.self.invariant.state) c.self.view_is c.self.invariant.replays,
-        subst (λ (r : Run). can_turn r c.self.invariant.state c.args.k ≡ true) c.self.view_is (can_turn_here _ _ _ _ _ c.self.invariant c.args.k (c.from-index.result - 1) c.index.result.now (counted c.args.k c.from-index.result c.from-index.ensures c.requires.counted) at (is_live _ c.if-eq.ensures)),
+        subst (λ (r : Run). can_turn r c.self.invariant.state c.args.k ≡ true) c.self.view_is (can_turn_here _ _ _ _ _ _ c.self.invariant c.args.k (c.from-index.result - 1) c.index.result.now (counted c.args.k c.from-index.result c.from-index.ensures c.requires.counted) at (goes_on c.self.inside.stop (sym c.is_some.ensures ∙ c.if-is_some.false)) (is_live _ c.if-eq.ensures)),
       ),
     )
 
@@ -65,7 +71,7 @@ advance-event-requires-clause-agrees c =
     let count = threads_of _ _ _ c.self.invariant.count c.self.view_is in
     let seen = thread_there c.self.inside.threads.items c.args.k c.from-index.result _ c.index.result.now c.from-index.ensures c.requires.counted c.requires.is_thread count c.index.ensures in
     let at = thread_there c.self.inside.threads.items c.args.k c.from-index.result _ c.index_mut.result.now c.from-index.ensures c.requires.counted c.requires.is_thread count c.index_mut.ensures.value in
-    let f = the_thread _ _ _ _ _ c.self.invariant c.args.k (c.from-index.result - 1) c.index_mut.result.now (counted c.args.k c.from-index.result c.from-index.ensures c.requires.counted) at in
+    let f = the_thread _ _ _ _ _ _ c.self.invariant c.args.k (c.from-index.result - 1) c.index_mut.result.now (counted c.args.k c.from-index.result c.from-index.ensures c.requires.counted) at in
     (_, f.source, f.agrees, same_thread c.self.inside.threads.items (c.from-index.result - 1) _ _ seen at (is_live _ c.if-eq.ensures))
 
 -- the journal has one more entry
@@ -77,9 +83,9 @@ invariant_of-self-2 c =
     let count = threads_of _ _ _ c.self.invariant.count c.self.view_is in
     let seen = thread_there c.self.inside.threads.items c.args.k c.from-index.result _ c.index.result.now c.from-index.ensures c.requires.counted c.requires.is_thread count c.index.ensures in
     let at = thread_there c.self.inside.threads.items c.args.k c.from-index.result _ c.index_mut.result.now c.from-index.ensures c.requires.counted c.requires.is_thread count c.index_mut.ensures.value in
-    let s = steps_on _ _ _ _ _ c.self.invariant c.args.k (c.from-index.result - 1) c.index_mut.result.now (counted c.args.k c.from-index.result c.from-index.ensures c.requires.counted) at c.advance-event.new.thread c.advance-event.result (same_thread c.self.inside.threads.items (c.from-index.result - 1) _ _ seen at (is_live _ c.if-eq.ensures)) c.advance-event.ensures in
-    let printed : c.note.new.printed.items ≡ printed_after c.self.inside.printed.items c.args.k c.advance-event.result = c.note.ensures ∙ ap (λ l. printed_after l c.args.k c.advance-event.result) c.reserve-2.ensures.items in
-    rw (printed, one_more c) s
+    let s = steps_on _ _ _ _ _ _ c.self.invariant c.args.k (c.from-index.result - 1) c.index_mut.result.now (counted c.args.k c.from-index.result c.from-index.ensures c.requires.counted) at c.advance-event.new.thread c.advance-event.result (goes_on c.self.inside.stop (sym c.is_some.ensures ∙ c.if-is_some.false)) (same_thread c.self.inside.threads.items (c.from-index.result - 1) _ _ seen at (is_live _ c.if-eq.ensures)) c.advance-event.ensures in
+    let printed : c.note.new.printed.items ≡ printed_after c.self.inside.printed.items c.args.k c.advance-event.result = c.note.ensures.printed ∙ ap (λ l. printed_after l c.args.k c.advance-event.result) c.reserve-2.ensures.items in
+    rw (printed, c.note.ensures.stop, one_more c) s
 
 pub returns-clause-turn : goal.returns-clause-turn
 returns-clause-turn c =
@@ -92,7 +98,7 @@ returns-clause-turn c =
       (
         c.self.invariant.state,
         subst (λ (r : Run). replay_of r ≡ Some c.self.invariant.state) c.self.view_is c.self.invariant.replays,
-        subst (λ (r : Run). can_turn r c.self.invariant.state c.args.k ≡ true) c.self.view_is (can_turn_here _ _ _ _ _ c.self.invariant c.args.k (c.from-index.result - 1) c.index.result.now (counted c.args.k c.from-index.result c.from-index.ensures c.requires.counted) seen (is_live _ c.if-eq.ensures)),
+        subst (λ (r : Run). can_turn r c.self.invariant.state c.args.k ≡ true) c.self.view_is (can_turn_here _ _ _ _ _ _ c.self.invariant c.args.k (c.from-index.result - 1) c.index.result.now (counted c.args.k c.from-index.result c.from-index.ensures c.requires.counted) seen (goes_on c.self.inside.stop (sym c.is_some.ensures ∙ c.if-is_some.false)) (is_live _ c.if-eq.ensures)),
       ),
     )
 

@@ -1,0 +1,79 @@
+-- An array that is filled number by number.
+use Rattle.std.proofs.Common.{◌≡◌, ℕ, ℤ, zero, suc, ◌+◌, ◌-◌, ◌<◌, ◌≤◌, List, [], ◌∷◌, ◌++◌, length, map, take, replicate, Option, Some, None, refl, sym, ap, ◌∙◌, subst, arith, length-append, FitsSigned}
+use Rattle.std.specs.Prelude.{slice_get, slice_set}
+use Rattle.std.specs.Int.{w32, cast_unsigned}
+use Rattle.std.proofs.lemmas.List.{length-map, length-replicate, append-nil}
+use Rattle.heap.specs.Heap.{Block, Space, IsLaidOut, end_of, left_of, values_at, fresh_block, with_block, with_value}
+use Rattle.world.specs.Object.{Object, ObjectValue, Number}
+use Rattle.regions.specs.Heap.{Heap}
+use Rattle.machine.specs.HeapAgrees.{WordsAgree, AreMade}
+use Rattle.machine.proofs.HeapLaws.{IsNext}
+use Rattle.machine.proofs.Loaded.{made_more, changed_new, values_new}
+
+-- the words of numbers, the first so many; 0 stands for the others
+abbrev pub words_so_far : List ℤ → ℕ → List ℕ
+words_so_far [] i = []
+words_so_far (z ∷ zs) zero = 0 ∷ words_so_far zs zero
+words_so_far (z ∷ zs) (suc i) = cast_unsigned w32 z ∷ words_so_far zs i
+
+-- the first so many numbers are in range
+abbrev pub FitSoFar : List ℤ → ℕ → Type 0
+FitSoFar [] i = Unit {0}
+FitSoFar (z ∷ zs) zero = Unit {0}
+FitSoFar (z ∷ zs) (suc i) = FitsSigned w32 z × FitSoFar zs i
+
+pub none_fit : (zs : List ℤ) → FitSoFar zs 0
+none_fit [] = tt
+none_fit (z ∷ zs) = tt
+
+pub fit_more : (zs : List ℤ) (i : ℕ) (z : ℤ) → slice_get zs i ≡ Some z → FitsSigned w32 z → FitSoFar zs i → FitSoFar zs (suc i)
+fit_more [] i z at fits h = tt
+fit_more (y ∷ zs) zero z at fits h = (let same : z ≡ y = cc in subst (FitsSigned w32) same fits, none_fit zs)
+fit_more (y ∷ zs) (suc i) z at fits h = (h.0, fit_more zs i z at fits h.1)
+
+pub length-words : (zs : List ℤ) (i : ℕ) → length (words_so_far zs i) ≡ length zs
+length-words [] i = refl
+length-words (z ∷ zs) zero = ap suc (length-words zs zero)
+length-words (z ∷ zs) (suc i) = ap suc (length-words zs i)
+
+pub words_zero : (zs : List ℤ) → words_so_far zs 0 ≡ replicate (length zs) 0
+words_zero [] = refl
+words_zero (z ∷ zs) = ap (λ (l : List ℕ). 0 ∷ l) (words_zero zs)
+
+pub words_more : (zs : List ℤ) (i : ℕ) (z : ℤ) → slice_get zs i ≡ Some z → slice_set (words_so_far zs i) i (cast_unsigned w32 z) ≡ words_so_far zs (suc i)
+words_more [] i z at = absurd (cc)
+words_more (y ∷ zs) zero z at = let same : z ≡ y = cc in ap (λ (x : ℤ). cast_unsigned w32 x ∷ words_so_far zs zero) same
+words_more (y ∷ zs) (suc i) z at = ap (λ (l : List ℕ). cast_unsigned w32 y ∷ l) (words_more zs i z at)
+
+pub words_agree : (s : Space) (zs : List ℤ) (i : ℕ) → length zs ≤ i → FitSoFar zs i → WordsAgree s (words_so_far zs i) (map Number zs)
+words_agree s [] i l h = tt
+words_agree s (z ∷ zs) zero l h = absurd (omega arith)
+words_agree s (z ∷ zs) (suc i) l h = ((h.0, refl), words_agree s zs i (omega arith) h.1)
+
+-- the block of an array, its first numbers being written
+abbrev pub array_block : Space → (class birth : ℕ) → List ℤ → ℕ → Block
+array_block s class birth zs i = record { address = end_of s; class = class; birth = birth; values = words_so_far zs i; pins = 0 }
+
+pub array_fresh : (s : Space) (class birth : ℕ) (zs : List ℤ) → with_block s (fresh_block (end_of s) class birth (length zs)) ≡ with_block s (array_block s class birth zs 0)
+array_fresh s class birth zs = ap (λ (ws : List ℕ). let b : Block = record { address = end_of s; class = class; birth = birth; values = ws; pins = 0 } in with_block s b) (sym (words_zero zs))
+
+-- one number more
+pub array_more : (s : Space) (class birth : ℕ) (zs : List ℤ) (i : ℕ) (z : ℤ) → IsLaidOut s → slice_get zs i ≡ Some z
+    → with_value (with_block s (array_block s class birth zs i)) (end_of s) i (cast_unsigned w32 z) ≡ with_block s (array_block s class birth zs (suc i))
+array_more s class birth zs i z laid at =
+    changed_new s (array_block s class birth zs i) (λ b. record b { values = slice_set b.values i (cast_unsigned w32 z) }) laid refl
+    ∙ ap (λ (ws : List ℕ). let b : Block = record { address = end_of s; class = class; birth = birth; values = ws; pins = 0 } in with_block s b) (words_more zs i z at)
+
+pub array_has_place : (s : Space) (class birth : ℕ) (zs : List ℤ) (i : ℕ) → IsLaidOut s → i < length zs → i < length (values_at (with_block s (array_block s class birth zs i)) (end_of s))
+array_has_place s class birth zs i laid l =
+    let values = ap length (values_new s (array_block s class birth zs i) laid refl) in
+    omega (arith, length-words zs i)
+
+-- all numbers
+pub array_made : (s : Space) (addresses : List ℕ) (objects : Heap) (class i : ℕ) (zs : List ℤ) → AreMade s addresses objects → 3 + length zs ≤ left_of s → length zs ≤ i → FitSoFar zs i
+    → AreMade (with_block s (array_block s class (length addresses + 1) zs i)) (addresses ++ end_of s ∷ []) (objects ++ record { class = class; values = map Number zs } ∷ [])
+array_made s addresses objects class i zs h room l fit =
+    let o : Object = record { class = class; values = map Number zs } in
+    let counted : length addresses ≡ length objects = h.table.counted in
+    let next : IsNext s objects (array_block s class (length addresses + 1) zs i) o = record { behind = refl; birth = ap (λ n. n + 1) counted; class = refl; values = words_agree s zs i l fit } in
+    made_more s addresses objects (array_block s class (length addresses + 1) zs i) o h next (omega (arith, length-map zs (λ (z : ℤ). Number z)))

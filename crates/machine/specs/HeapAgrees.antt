@@ -1,0 +1,72 @@
+-- How a heap of blocks stands for a heap of the source. A block's birth number is the name of its object, wherever it lies.
+use Rattle.std.specs.Prelude.{◌≡◌, ℕ, ◌+◌, List, [], ◌∷◌, length, slice_get, Option, Some, None, FitsSigned}
+use Rattle.std.specs.Int.{w32, cast_unsigned}
+use Rattle.heap.specs.Heap.{Block, Space, IsLaidOut, end_of, name_at, AreNamesUnique}
+use Rattle.world.specs.Object.{Object, ObjectValue, Number, Refers, Reference, sizes}
+use Rattle.regions.specs.Heap.{Heap, object_at}
+use Rattle.regions.specs.Reachable.{IsName}
+
+-- ---- references and words
+
+-- an address or none stands for a reference
+abbrev pub ReferenceAgrees : Space → Option ℕ → Reference → Type 0
+ReferenceAgrees space None None = Unit {0}
+ReferenceAgrees space None (Some n) = ⊥
+ReferenceAgrees space (Some a) None = ⊥
+ReferenceAgrees space (Some a) (Some n) = name_at space a ≡ Some n
+
+-- the word of NULL, which is no address
+abbrev pub null_word : ℕ
+null_word = 4294967295
+
+-- a word stands for a value: a number by its two's complement, an object by the address of its block
+abbrev pub WordAgrees : Space → ℕ → ObjectValue → Type 0
+WordAgrees space word (Number z) = FitsSigned w32 z × (word ≡ cast_unsigned w32 z)
+WordAgrees space word (Refers None) = word ≡ null_word
+WordAgrees space word (Refers (Some n)) = name_at space word ≡ Some n
+
+-- word by word
+abbrev pub WordsAgree : Space → List ℕ → List ObjectValue → Type 0
+WordsAgree space [] [] = Unit {0}
+WordsAgree space [] (v ∷ values) = ⊥
+WordsAgree space (word ∷ words) [] = ⊥
+WordsAgree space (word ∷ words) (v ∷ values) = WordAgrees space word v × WordsAgree space words values
+
+-- ---- blocks
+
+-- a block has the class and the values of the object of its birth number
+pub record BlockAgrees (space : Space) (heap : Heap) (b : Block) : Type 0 where
+  pub object : Object
+  pub is : object_at heap b.birth ≡ Some object
+  pub class : b.class ≡ object.class
+  pub values : WordsAgree space b.values object.values
+
+-- block by block
+abbrev pub BlocksAgree : Space → Heap → List Block → Type 0
+BlocksAgree space heap [] = Unit {0}
+BlocksAgree space heap (b ∷ blocks) = BlockAgrees space heap b × BlocksAgree space heap blocks
+
+-- some block has this name
+abbrev pub IsNamed : Space → ℕ → Type 0
+IsNamed space n = (a : ℕ) × (name_at space a ≡ Some n)
+
+-- The blocks stand for objects of the source's heap, out of which nothing is ever taken: no two for one object, and one
+-- for each object that is needed. A block of an object that isn't needed any more may be gone.
+pub record HeapAgrees (space : Space) (heap : Heap) (IsNeeded : ℕ → Type 0) : Type 0 where
+  pub blocks : BlocksAgree space heap space.blocks
+  pub unique : AreNamesUnique space
+  pub there : (n : ℕ) → IsNeeded n → IsNamed space n
+
+-- ---- the objects made at load
+
+-- The addresses of the objects named 1, 2 and so on. These objects stay for ever, so each has its place in this table.
+pub record IsTable (space : Space) (addresses : List ℕ) (count : ℕ) : Type 0 where
+  pub counted : length addresses ≡ count
+  pub named : (i a : ℕ) → slice_get addresses i ≡ Some a → name_at space a ≡ Some (i + 1)
+
+-- These objects have been made, one behind another from the lowest cell on, and nothing else.
+pub record AreMade (space : Space) (addresses : List ℕ) (objects : Heap) : Type 0 where
+  pub agree : HeapAgrees space objects (IsName objects)
+  pub table : IsTable space addresses (length objects)
+  pub laid_out : IsLaidOut space
+  pub filled : end_of space ≡ sizes objects

@@ -1,0 +1,45 @@
+-- Why and where the machine has stopped, as it is held in memory.
+use Rattle.std.specs.Prelude.{ℕ, ◌==◌, if◌then◌else◌, Option, Some, None}
+use Rattle.world.specs.declared.report.Standing.{Standing}
+use Rattle.world.specs.declared.report.Standing.TheVariants as standing
+use Rattle.regions.specs.State as state
+use Rattle.regions.specs.Value as source
+use Rattle.machine.specs.declared.stop.Trap.{Trap}
+use Rattle.machine.specs.declared.stop.Trap.TheVariants.{DivisionByZero, ShiftTooFar, OutOfRange, NullReference, ExceptionPending, WrongObject, DeletedReference, NoCapacity, Fatal}
+use Rattle.machine.specs.declared.stop.Stop.{Stop}
+use Rattle.machine.specs.declared.thread.Ending.{Ending}
+use Rattle.machine.specs.declared.thread.Ending.TheVariants.{Unfinished, Ended}
+use Rattle.machine.specs.declared.thread.Event.{Event}
+use Rattle.machine.specs.declared.thread.Event.TheVariants.{Quiet, Printed, Trapped}
+
+-- a trap
+abbrev pub trap_view : Trap → source.Trap
+trap_view DivisionByZero = source.DivisionByZero
+trap_view ShiftTooFar = source.ShiftTooFar
+trap_view OutOfRange = source.OutOfRange
+trap_view NullReference = source.NullReference
+trap_view ExceptionPending = source.ExceptionPending
+trap_view WrongObject = source.WrongObject
+trap_view DeletedReference = source.DeletedReference
+trap_view NoCapacity = source.NoCapacity
+trap_view Fatal = source.Fatal
+
+-- the trap that stopped the machine
+abbrev pub stop_view : Stop → state.Stop
+stop_view stop = record { thread = stop.thread; trap = trap_view stop.trap; line = stop.line }
+
+-- the same after a step of thread k
+abbrev pub stop_after : Option Stop → (k : ℕ) → Event → Option Stop
+stop_after stop k Quiet = stop
+stop_after stop k (Printed z) = stop
+stop_after stop k (Trapped trap line) = Some (record { thread = k; trap = trap; line = line })
+
+-- how a thread stands that didn't trap
+abbrev pub standing_by_ending : Ending → Standing
+standing_by_ending Unfinished = standing.Running
+standing_by_ending Ended = standing.Ended
+
+-- the same of thread k; only the one that stopped the machine trapped
+abbrev pub standing_of : Option Stop → (k : ℕ) → Ending → Standing
+standing_of None k ending = standing_by_ending ending
+standing_of (Some stop) k ending = if stop.thread == k then standing.Trapped (source.trap_number (trap_view stop.trap)) stop.line else standing_by_ending ending

@@ -1,0 +1,163 @@
+-- Words that are read as values are written so.
+use Rattle.std.proofs.Common.{◌≡◌, ℕ, suc, ◌+◌, ◌-◌, ◌^◌, ◌<◌, ◌≤◌, Bool, true, false, cond, List, [], ◌∷◌, ◌++◌, length, map, take, drop, min, Option, Some, None, refl, sym, ap, ◌∙◌, subst, arith}
+use Rattle.std.specs.Prelude.{codes, decimal, not, ◌&&◌, ◌||◌, ◌==◌, nat_lt, nat_le, ℤ, pos, negsuc}
+use Rattle.std.specs.Fmt.{signed_decimal}
+use Rattle.std.specs.Option.{option_map}
+use Rattle.std.specs.List.{list_all}
+use Rattle.std.specs.Str.{bytes_eq}
+use Rattle.std.proofs.lemmas.Bool.{and_from}
+use Rattle.std.proofs.lemmas.Bool.Decides.{nat_tests}
+use Rattle.std.proofs.lemmas.List.{take-append-drop}
+use Rattle.std.proofs.lemmas.Slice.Eq.{bytes_eq-Decides}
+use Rattle.base.specs.Bytes.{Identifier}
+use Rattle.base.specs.Element.{ElementType, JInt, JShort, JByte, JChar}
+use Rattle.classes.specs.Mangling.{is_simple_name}
+use Rattle.world.specs.Natural.{natural_of}
+use Rattle.world.specs.ReadingValues.{negated, number_named, object_named, plain_value, value_named, values_named, element_named}
+use Rattle.world.specs.ReadingWords.{with_word}
+use Rattle.world.specs.WorldLines.{WorldValue, NumberValue, NullValue, NamedObject, NamedClass, at_name, value_text, element_letter}
+use Rattle.world.specs.WorldRules.{is_formed_value, is_between, is_in_range, value_in_range}
+use Rattle.world.proofs.ScheduleLaws.{guarded, some_with, decimal-natural_of}
+use Rattle.world.proofs.WordLaws.{both_true}
+
+pub same_bytes : (a b : List ℕ) → bytes_eq a b ≡ true → a ≡ b
+same_bytes a b h = (bytes_eq-Decides a b).0 h
+
+pub mapped : {A B : Type 0} (f : A → B) (o : Option A) (y : B) → option_map f o ≡ Some y → (x : A) × (o ≡ Some x) × (f x ≡ y)
+mapped f None y h = absurd (cc)
+mapped f (Some x) y h = (x, refl, cc)
+
+-- ---- numbers
+
+below_zero : (n m : ℕ) → (n == 0) ≡ false → m ≡ min (n - 1) (2 ^ 63 - 1) → m < 2147483648 → n < 2 ^ 64 → (suc m ≡ n)
+below_zero n m h e small big = let some : 0 < n = grind (arith, nat_tests, h) in omega arith
+
+number_below : (digits : List ℕ) (z : ℤ) → negated (natural_of digits) ≡ Some z → is_in_range JInt z ≡ true → signed_decimal z ≡ 45 ∷ digits
+number_below digits z h range = by_value (natural_of digits) refl h
+  where
+    by_value : (o : Option ℕ) → natural_of digits ≡ o → negated o ≡ Some z → signed_decimal z ≡ 45 ∷ digits
+    by_value None e h = absurd (cc)
+    by_value (Some n) e h = by_test (n == 0) refl h
+      where
+        by_test : (b : Bool) → (n == 0) ≡ b → cond b None (Some (negsuc (min (n - 1) (2 ^ 63 - 1)))) ≡ Some z → signed_decimal z ≡ 45 ∷ digits
+        by_test true t h = absurd (cc)
+        by_test false t h =
+            let m = min (n - 1) (2 ^ 63 - 1) in
+            let is : negsuc m ≡ z = cc in
+            let small : nat_lt m 2147483648 ≡ true = ap (is_in_range JInt) is ∙ range in
+            let low : m < 2147483648 = grind (arith, nat_tests, small) in
+            let some : 0 < n = grind (arith, nat_tests, t) in
+            let exact : suc m ≡ n = omega (arith, low, some) in
+            ap signed_decimal (sym is) ∙ ap (λ k. 45 ∷ decimal k) exact ∙ ap (λ (ds : List ℕ). 45 ∷ ds) (decimal-natural_of digits n e (omega (arith, low, exact)))
+
+number_above : (word : List ℕ) (z : ℤ) → option_map (λ n. pos (min n (2 ^ 63 - 1))) (natural_of word) ≡ Some z → is_in_range JInt z ≡ true → signed_decimal z ≡ word
+number_above word z h range =
+    let n = mapped (λ n. pos (min n (2 ^ 63 - 1))) (natural_of word) z h in
+    let small : nat_le (min n.0 (2 ^ 63 - 1)) 2147483647 ≡ true = ap (is_in_range JInt) n.2 ∙ range in
+    let low : min n.0 (2 ^ 63 - 1) ≤ 2147483647 = grind (arith, nat_tests, small) in
+    let exact : min n.0 (2 ^ 63 - 1) ≡ n.0 = omega (arith, low) in
+    ap signed_decimal (sym n.2) ∙ ap decimal exact ∙ decimal-natural_of word n.0 n.1 (omega (arith, low))
+
+-- a number is written as it is read
+number_written : (word : List ℕ) (z : ℤ) → number_named word ≡ Some z → is_in_range JInt z ≡ true → signed_decimal z ≡ word
+number_written [] z h range = absurd (cc)
+number_written (sign ∷ digits) z h range = by_sign (sign == 45) refl h
+  where
+    by_sign : (b : Bool) → (sign == 45) ≡ b → cond b (negated (natural_of digits)) (option_map (λ n. pos (min n (2 ^ 63 - 1))) (natural_of (sign ∷ digits))) ≡ Some z → signed_decimal z ≡ sign ∷ digits
+    by_sign true t h = let is : sign ≡ 45 = grind (arith, nat_tests, t) in number_below digits z h range ∙ ap (λ s. s ∷ digits) (sym is)
+    by_sign false t h = number_above (sign ∷ digits) z h range
+
+-- ---- values
+
+-- a word is the text of a value, which is formed
+pub record IsWritten (word : List ℕ) (v : WorldValue) : Type 0 where
+  pub text : word ≡ value_text v
+  pub formed : is_formed_value v ≡ true
+
+-- the name of an object
+pub object_written : (word : List ℕ) (x : Identifier) → object_named word ≡ Some x → (word ≡ at_name x) × (is_simple_name x ≡ true)
+object_written [] x h = absurd (cc)
+object_written (c ∷ y) x h =
+    let g = guarded (c == 64 && is_simple_name y) y x h in
+    let b = both_true (c == 64) (is_simple_name y) g.0 in
+    let is : c ≡ 64 = grind (arith, nat_tests, b.0) in
+    (ap (λ s. s ∷ y) is ∙ ap (λ (n : Identifier). 64 ∷ n) g.1, subst (λ (n : Identifier). is_simple_name n ≡ true) g.1 b.1)
+
+plain_written : (word : List ℕ) (v : WorldValue) → plain_value word ≡ Some v → value_in_range JInt v ≡ true → IsWritten word v
+plain_written word v h range = by_test (bytes_eq word (codes "null")) refl h
+  where
+    by_test : (b : Bool) → bytes_eq word (codes "null") ≡ b → cond b (Some NullValue) (option_map NumberValue (number_named word)) ≡ Some v → IsWritten word v
+    by_test true t h = let is : NullValue ≡ v = cc in subst (IsWritten word) is (record { text = same_bytes word (codes "null") t; formed = refl })
+    by_test false t h =
+        let z = mapped NumberValue (number_named word) v h in
+        subst (IsWritten word) z.2 (record { text = sym (number_written word z.0 z.1 (ap (value_in_range JInt) z.2 ∙ range)); formed = refl })
+
+pub value_written : (word : List ℕ) (v : WorldValue) → value_named word ≡ Some v → value_in_range JInt v ≡ true → IsWritten word v
+unfolding value_named
+value_written [] v h range = absurd (cc)
+value_written (c ∷ rest) v h range = by_sign (c == 64) (bytes_eq (take 6 (c ∷ rest)) (codes "class:")) refl h
+  where
+    by_sign : (a b : Bool) → bytes_eq (take 6 (c ∷ rest)) (codes "class:") ≡ b
+        → cond a (option_map NamedObject (object_named (c ∷ rest))) (cond b (Some (NamedClass (drop 6 (c ∷ rest)))) (plain_value (c ∷ rest))) ≡ Some v → IsWritten (c ∷ rest) v
+    by_sign true b t h =
+        let x = mapped NamedObject (object_named (c ∷ rest)) v h in
+        let w = object_written (c ∷ rest) x.0 x.1 in
+        subst (IsWritten (c ∷ rest)) x.2 (record { text = w.0; formed = w.1 })
+    by_sign false true t h =
+        let is : NamedClass (drop 6 (c ∷ rest)) ≡ v = cc in
+        subst (IsWritten (c ∷ rest)) is (record { text = sym (take-append-drop 6 (c ∷ rest)) ∙ ap (λ (front : List ℕ). front ++ drop 6 (c ∷ rest)) (same_bytes (take 6 (c ∷ rest)) (codes "class:") t); formed = refl })
+    by_sign false false t h = plain_written (c ∷ rest) v h range
+
+-- words are the texts of values, which are formed
+pub record AreWritten (words : List (List ℕ)) (vs : List WorldValue) : Type 0 where
+  pub texts : words ≡ map value_text vs
+  pub formed : list_all is_formed_value vs ≡ true
+
+pub values_written : (words : List (List ℕ)) (vs : List WorldValue) → values_named words ≡ Some vs → list_all (value_in_range JInt) vs ≡ true → AreWritten words vs
+values_written [] vs h range = let none : [] ≡ vs = cc in subst (AreWritten []) none (record { texts = refl; formed = refl })
+values_written (word ∷ words) vs h range =
+    let w = some_with (value_named word) (values_named words) vs h in
+    let r = both_true (value_in_range JInt w.0) (list_all (value_in_range JInt) w.1) (ap (list_all (value_in_range JInt)) (sym w.4) ∙ range) in
+    let first = value_written word w.0 w.2 r.0 in
+    let others = values_written words w.1 w.3 r.1 in
+    subst (AreWritten (word ∷ words)) (sym w.4) (record {
+      texts = ap (λ (x : List ℕ). x ∷ words) first.text ∙ ap (λ (xs : List (List ℕ)). value_text w.0 ∷ xs) others.texts;
+      formed = and_from (is_formed_value w.0) (list_all is_formed_value w.1) first.formed others.formed;
+    })
+
+-- ---- ranges
+
+-- each range is within that of jint
+in_jint : (t : ElementType) (z : ℤ) → is_in_range t z ≡ true → is_in_range JInt z ≡ true
+in_jint JInt z h = h
+in_jint JShort (pos n) h = grind (arith, nat_tests, h)
+in_jint JShort (negsuc n) h = grind (arith, nat_tests, h)
+in_jint JByte (pos n) h = grind (arith, nat_tests, h)
+in_jint JByte (negsuc n) h = grind (arith, nat_tests, h)
+in_jint JChar (pos n) h = grind (arith, nat_tests, h)
+in_jint JChar (negsuc n) h = grind (arith, nat_tests, h)
+
+value_in_jint : (t : ElementType) (v : WorldValue) → value_in_range t v ≡ true → value_in_range JInt v ≡ true
+value_in_jint t (NumberValue z) h = in_jint t z h
+value_in_jint t NullValue h = refl
+value_in_jint t (NamedObject x) h = refl
+value_in_jint t (NamedClass x) h = refl
+
+pub values_in_jint : (t : ElementType) (vs : List WorldValue) → list_all (value_in_range t) vs ≡ true → list_all (value_in_range JInt) vs ≡ true
+values_in_jint t [] h = refl
+values_in_jint t (v ∷ vs) h =
+    let b = both_true (value_in_range t v) (list_all (value_in_range t) vs) h in
+    and_from (value_in_range JInt v) (list_all (value_in_range JInt) vs) (value_in_jint t v b.0) (values_in_jint t vs b.1)
+
+-- ---- the letter of a type
+
+pub element_written : (word : List ℕ) (t : ElementType) → element_named word ≡ Some t → word ≡ element_letter t
+element_written word t h = by_letter (bytes_eq word (codes "I")) (bytes_eq word (codes "S")) (bytes_eq word (codes "B")) (bytes_eq word (codes "C")) refl refl refl refl h
+  where
+    by_letter : (i s b c : Bool) → bytes_eq word (codes "I") ≡ i → bytes_eq word (codes "S") ≡ s → bytes_eq word (codes "B") ≡ b → bytes_eq word (codes "C") ≡ c
+        → cond i (Some JInt) (cond s (Some JShort) (cond b (Some JByte) (cond c (Some JChar) None))) ≡ Some t → word ≡ element_letter t
+    by_letter true s b c p q r u h = let is : JInt ≡ t = cc in same_bytes word (codes "I") p ∙ ap element_letter is
+    by_letter false true b c p q r u h = let is : JShort ≡ t = cc in same_bytes word (codes "S") q ∙ ap element_letter is
+    by_letter false false true c p q r u h = let is : JByte ≡ t = cc in same_bytes word (codes "B") r ∙ ap element_letter is
+    by_letter false false false true p q r u h = let is : JChar ≡ t = cc in same_bytes word (codes "C") u ∙ ap element_letter is
+    by_letter false false false false p q r u h = absurd (cc)
