@@ -1,31 +1,22 @@
 -- The lines of classes and arrays and of the thread: what they define, and that they keep the rules.
-use Rattle.std.proofs.Common.{◌≡◌, ℕ, suc, ◌+◌, ◌*◌, ◌<◌, ◌≤◌, Bool, true, false, cond, List, [], ◌∷◌, ◌++◌, length, map, fold, Option, Some, None, refl, sym, ap, ◌∙◌, subst, arith, length-append, append-nil, append_assoc, sum_by}
-use Rattle.std.specs.Prelude.{not, ◌&&◌, ◌||◌, ◌==◌, nat_lt, nat_le, filter_map, is_some, is_none, position, ℤ, pos}
-use Rattle.std.specs.Option.{option_map}
-use Rattle.std.specs.List.{list_all, list_any}
+use Rattle.std.proofs.Common.{◌≡◌, ℕ, List, [], ◌∷◌, ◌++◌, length, map, fold, refl, sym, ap, ◌∙◌, arith, append-nil, sum_by}
+use Rattle.std.specs.Prelude.{filter_map, position, ℤ}
 use Rattle.std.specs.Str.{bytes_eq}
-use Rattle.std.proofs.lemmas.Bool.{and_from}
-use Rattle.std.proofs.lemmas.Bool.Decides.{nat_tests}
-use Rattle.std.proofs.lemmas.List.{length-map, map-append}
+use Rattle.std.proofs.lemmas.List.{length-map}
 use Rattle.std.proofs.lemmas.List.Elements.{filter_map-append}
-use Rattle.std.proofs.lemmas.List.Folds.{list_all-append}
 use Rattle.std.proofs.lemmas.List.Sums.{fold-append, sum_by-cons}
-use Rattle.base.specs.Bytes.{Identifier, ByName, lookup}
-use Rattle.base.specs.Element.{ElementType, JInt}
-use Rattle.classes.specs.Class.{FieldType, NumberField, Classes, class_named}
+use Rattle.base.specs.Bytes.{Identifier, ByName}
+use Rattle.classes.specs.Class.{Classes}
 use Rattle.classes.specs.BuiltIns.{number_array}
-use Rattle.classes.specs.Mangling.{is_simple_name}
-use Rattle.world.specs.Object.{ObjectValue, Number, Refers, Object, size, sizes}
-use Rattle.world.specs.ReadingWorlds.{place_of, is_number, number_of, is_there, object_at, argument_of}
-use Rattle.world.specs.Scene.{ArrayScene, Scene, array_size, cells_used}
+use Rattle.world.specs.Object.{ObjectValue, Number, Object, size, sizes}
+use Rattle.world.specs.Scene.{ArrayScene, array_size, cells_used}
 use Rattle.world.specs.SceneWorld.{classes_named, array_object}
 use Rattle.world.specs.World.{Invocation}
-use Rattle.world.specs.WorldLines.{WorldValue, NumberValue, NullValue, NamedObject, NamedClass, WorldLine, ArrayLine, ThreadLine, Lines}
-use Rattle.world.specs.WorldMeaning.{table_with, table_of, object_defined, objects_defined, class_of_object, object_number, value_of, object_of, threads_with, threads_of, invocation_of_line, world_of, cells_of}
-use Rattle.world.specs.WorldRules.{part_of, is_in_order, is_formed_value, is_line_word, is_known_value, each_holds, value_in_range, each_in_range, OfClass, LineForm, WrongName, OutOfLimit, HeapFull, line_breaks, broken_by_line}
-use Rattle.world.proofs.ClassTables.{classes_length, loaded_size}
-use Rattle.world.proofs.KeptLines.{Named, names, class_lines, table_classes, no_objects_in, no_object_of, no_threads_in, none_broken, in_part}
-use Rattle.world.proofs.NameLemmas.{found, position-found, found-map}
+use Rattle.world.specs.WorldLines.{WorldValue, NumberValue, WorldLine, ArrayLine, ThreadLine, Lines}
+use Rattle.world.specs.WorldMeaning.{table_with, table_of, object_defined, objects_defined, value_of, object_of, threads_with, threads_of, invocation_of_line, world_of, cells_of}
+use Rattle.world.proofs.ClassTables.{loaded_size}
+use Rattle.world.proofs.KeptLines.{Named, names, class_lines, table_classes, no_objects_in, no_object_of, no_threads_in}
+use Rattle.world.proofs.NameLemmas.{position-found, found-map}
 
 -- ---- the lines
 

@@ -10,23 +10,20 @@ use Rattle.std.proofs.lemmas.List.{length-map, map-append}
 use Rattle.std.proofs.lemmas.List.Folds.{list_all-append}
 use Rattle.base.specs.Bytes.{Identifier, ByName, lookup}
 use Rattle.base.specs.Element.{ElementType, JInt}
-use Rattle.classes.specs.Class.{FieldType, NumberField, Classes, class_named}
+use Rattle.classes.specs.Class.{NumberField, Classes, class_named}
 use Rattle.classes.specs.BuiltIns.{number_array}
 use Rattle.classes.specs.Mangling.{is_simple_name}
-use Rattle.world.specs.declared.fault.Rule.{Rule}
-use Rattle.world.specs.Object.{ObjectValue, Number, Refers, Reference}
-use Rattle.world.specs.ReadingWorlds.{least_rule, place_of, is_number, number_of, array_rule, thread_rule, is_there, object_at, argument_of}
+use Rattle.world.specs.Object.{ObjectValue, Refers, Reference}
+use Rattle.world.specs.ReadingWorlds.{least_rule, place_of, is_there, object_at, argument_of}
 use Rattle.world.specs.Scene.{ArrayScene, Scene, cells_used}
-use Rattle.world.specs.SceneWorld.{classes_named}
 use Rattle.world.specs.World.{Invocation}
-use Rattle.world.specs.WorldLines.{WorldValue, NumberValue, NullValue, NamedObject, NamedClass, WorldLine, ArrayLine, ThreadLine, Lines}
+use Rattle.world.specs.WorldLines.{WorldValue, NumberValue, NullValue, NamedObject, NamedClass, WorldLine, ThreadLine, Lines}
 use Rattle.world.specs.WorldMeaning.{table_of, objects_defined, class_of_object, object_number, value_of, threads_of, invocation_of_line, cells_of}
 use Rattle.world.specs.WorldRules.{part_of, is_formed_value, is_line_word, is_known_value, each_holds, value_in_range, each_in_range, broken_by_line}
-use Rattle.world.proofs.ArrayLines.{Arrays, arrays, array_line, array_lines, lines_before, all_lines, table_before, table_all, named_objects, objects_before, objects_all, cells_before, threads_before, threads_all, named_at}
+use Rattle.world.proofs.ArrayLines.{Arrays, arrays, array_line, array_lines, lines_before, all_lines, table_before, table_all, objects_before, objects_all, cells_before, threads_before, threads_all, named_at}
 use Rattle.world.proofs.ClassTables.{classes_length}
 use Rattle.world.proofs.KeptLines.{Named, names, class_lines, none_broken, in_part, passes, not_false}
 use Rattle.world.proofs.NameLemmas.{found, position-found}
-use Rattle.world.proofs.WordLaws.{both_true}
 
 -- the scene of classes and arrays
 abbrev pub before_threads : (cells : ℕ) → Named → Arrays → Scene

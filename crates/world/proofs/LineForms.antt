@@ -178,7 +178,7 @@ module _ (scene : Scene) (n : ℕ) (line : List ℕ) (next : Scene) (word name :
       let a : ArrayScene = record { name = x; element = t; values = map number_of vs } in
       let k = kept n (array_rule scene x t vs) (record scene { objects = scene.objects ++ a ∷ [] }) next h in
       let l = least_kept (not (scene.heap == 0) && (length scene.threads == 0)) (is_none (place_of scene x) && list_all is_number vs) (list_all (value_in_range t) vs && nat_lt (length scene.objects) 65536)
-          (nat_le (cells_used (length scene.classes) scene.objects + 3 + length vs) scene.heap) k.0 in
+      (nat_le (cells_used (length scene.classes) scene.objects + 3 + length vs) scene.heap) k.0 in
       let numbers = numbers_of vs ((both_true (is_none (place_of scene x)) (list_all is_number vs) l.1).1) in
       let range = values_in_jint t vs ((both_true (list_all (value_in_range t) vs) (nat_lt (length scene.objects) 65536) l.2).0) in
       let written = values_written more vs r range in

@@ -1,6 +1,6 @@
 -- Words that are read as values are written so.
-use Rattle.std.proofs.Common.{◌≡◌, ℕ, suc, ◌+◌, ◌-◌, ◌^◌, ◌<◌, ◌≤◌, Bool, true, false, cond, List, [], ◌∷◌, ◌++◌, length, map, take, drop, min, Option, Some, None, refl, sym, ap, ◌∙◌, subst, arith}
-use Rattle.std.specs.Prelude.{codes, decimal, not, ◌&&◌, ◌||◌, ◌==◌, nat_lt, nat_le, ℤ, pos, negsuc}
+use Rattle.std.proofs.Common.{◌≡◌, ℕ, suc, ◌-◌, ◌^◌, ◌<◌, ◌≤◌, Bool, true, false, cond, List, [], ◌∷◌, ◌++◌, map, take, drop, min, Option, Some, None, refl, sym, ap, ◌∙◌, subst, arith}
+use Rattle.std.specs.Prelude.{codes, decimal, ◌&&◌, ◌==◌, nat_lt, nat_le, ℤ, pos, negsuc}
 use Rattle.std.specs.Fmt.{signed_decimal}
 use Rattle.std.specs.Option.{option_map}
 use Rattle.std.specs.List.{list_all}
@@ -14,9 +14,8 @@ use Rattle.base.specs.Element.{ElementType, JInt, JShort, JByte, JChar}
 use Rattle.classes.specs.Mangling.{is_simple_name}
 use Rattle.world.specs.Natural.{natural_of}
 use Rattle.world.specs.ReadingValues.{negated, number_named, object_named, plain_value, value_named, values_named, element_named}
-use Rattle.world.specs.ReadingWords.{with_word}
 use Rattle.world.specs.WorldLines.{WorldValue, NumberValue, NullValue, NamedObject, NamedClass, at_name, value_text, element_letter}
-use Rattle.world.specs.WorldRules.{is_formed_value, is_between, is_in_range, value_in_range}
+use Rattle.world.specs.WorldRules.{is_formed_value, is_in_range, value_in_range}
 use Rattle.world.proofs.ScheduleLaws.{guarded, some_with, decimal-natural_of}
 use Rattle.world.proofs.WordLaws.{both_true}
 

@@ -1,5 +1,4 @@
 -- What the values of a world say, as they are held in memory.
-use Rattle.std.specs.Prelude.{pos, Option, Some, None}
 use Rattle.base.specs.Element.{ElementType, JInt, JShort, JByte, JChar}
 use Rattle.world.specs.declared.array.Element.{Element}
 use Rattle.world.specs.declared.array.Element.TheVariants as elements

@@ -23,4 +23,5 @@ pub struct WorldBuilder {
     ghost used_is: { used ≡ cells_used (length classes.items) objects.items },
     ghost room_before: { heap ≡ 0 → used ≤ 512 },
     ghost room: { 0 < heap → used ≤ heap },
+    ghost limit: { heap ≤ 1048576 },
 }

@@ -54,10 +54,7 @@ pub fn put_row_head<S: Sink>(sink: &mut S, number: u32, class: ClassName) -> Res
     let name = name.format(number);
     match class {
         ClassName::Plain(class) => put_pieces(sink, &[b"#", name.as_bytes(), b" ", class]),
-        ClassName::Array(class) => put_pieces(
-            sink,
-            &[b"#", name.as_bytes(), b" [L", class, b";"],
-        ),
+        ClassName::Array(class) => put_pieces(sink, &[b"#", name.as_bytes(), b" [L", class, b";"]),
     }
 }
 

@@ -66,7 +66,10 @@ fn read_value(word: &[u8]) -> Option<Value<'_>>
 }
 
 /// The values that the words are, or `None` where one of them is none.
-pub fn read_values<'a>(alloc: Global, words: Parts<'a>) -> Result<Option<Vec<Value<'a>>>, AllocError>
+pub fn read_values<'a>(
+    alloc: Global,
+    words: Parts<'a>,
+) -> Result<Option<Vec<Value<'a>>>, AllocError>
     ensures { IfOk result (λ values. option_map (λ v. map value_view v.items) values ≡ values_named (parts_left words.entry)) }
 {
     let mut values = Vec::new(alloc);

@@ -123,7 +123,9 @@ fn are_numbers(values: &[Value]) -> bool
 fn are_in_range(element: Element, values: &[Value]) -> bool
     ensures { result ≡ list_all (λ value. value_in_range (element_view element) (value_view value)) values.now }
 {
-    values.iter().all(|value| is_value_in_range(element, *value))
+    values
+        .iter()
+        .all(|value| is_value_in_range(element, *value))
 }
 
 /// Whether an array of so many numbers fits behind the cells that are used.
@@ -432,11 +434,7 @@ fn take_thread(
     }
     let arguments = builder.arguments(alloc, &values)?;
     let mut calls = Vec::new(alloc);
-    calls.push(Call::new(
-        Vec::from_slice(alloc, function)?,
-        number,
-        arguments,
-    ))?;
+    calls.push(Call::new(Vec::from_slice(alloc, function)?, number, arguments))?;
     builder.threads.push(calls)?;
     Ok(())
 }

@@ -1,4 +1,4 @@
-use Rattle.std.proofs.Common.{◌≡◌, ◌+◌, ◌*◌, ◌<◌, ap, arith, length, sym, ◌∙◌, Some, ℕ, true, false, get_or}
+use Rattle.std.proofs.Common.{◌≡◌, ap, arith, sym, ◌∙◌, Some, ℕ, true, false, get_or}
 use Rattle.std.specs.Global.{Vec}
 use Rattle.std.specs.Str.{bytes_eq}
 use Rattle.world.proofs.NameLemmas.{in_built_ins, built_in_below, in_world, in_world_below, nowhere, is_itself, is_array}

@@ -1,4 +1,4 @@
-use Rattle.std.proofs.Common.{◌≡◌, map, take, ap, ◌∙◌, pos}
+use Rattle.std.proofs.Common.{map, ap, ◌∙◌, pos}
 use Rattle.std.proofs.lemmas.List.{map-append}
 use Rattle.base.specs.Element.{JInt}
 use Rattle.world.specs.declared.value.Value.TheVariants.{Number}

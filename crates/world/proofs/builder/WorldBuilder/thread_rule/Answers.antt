@@ -1,4 +1,4 @@
-use Rattle.std.proofs.Common.{◌≡◌, ◌∙◌, ap, sym, length, refl, true}
+use Rattle.std.proofs.Common.{◌∙◌, ap, sym, length, refl, true}
 use Rattle.std.specs.Prelude.{◌&&◌, ◌==◌}
 use Rattle.std.proofs.lemmas.List.Folds.{list_all-map}
 use Rattle.base.specs.Element.{JInt}
