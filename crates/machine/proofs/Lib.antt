@@ -12,3 +12,5 @@ pub mod LoadedObjects
 pub mod Loaded
 pub mod Arrays
 pub mod LengthCalls
+pub mod Effects
+pub mod Invocations

@@ -21,3 +21,5 @@ pub mod ArrayLines
 pub mod KeptArrays
 pub mod LineForms
 pub mod FitLemmas
+pub mod PlainClasses
+pub mod GivenLemmas
