@@ -1,10 +1,13 @@
 -- An array that is filled number by number.
-use Rattle.std.proofs.Common.{◌≡◌, ℕ, ℤ, zero, suc, ◌+◌, ◌-◌, ◌<◌, ◌≤◌, List, [], ◌∷◌, ◌++◌, length, map, take, replicate, Option, Some, None, refl, sym, ap, ◌∙◌, subst, arith, length-append, FitsSigned}
+use Rattle.std.proofs.Common.{◌≡◌, ℕ, ℤ, zero, suc, ◌+◌, ◌-◌, ◌*◌, ◌<◌, ◌≤◌, List, [], ◌∷◌, ◌++◌, length, map, take, replicate, Option, Some, None, refl, sym, ap, ◌∙◌, subst, arith, append_assoc, length-append, FitsSigned}
 use Rattle.std.specs.Prelude.{slice_get, slice_set}
 use Rattle.std.specs.Int.{w32, cast_unsigned}
 use Rattle.std.proofs.lemmas.List.{length-map, length-replicate, append-nil}
+use Rattle.std.proofs.lemmas.List.Sums.{sum_by-append, sum_by-cons}
 use Rattle.heap.specs.Heap.{Block, Space, IsLaidOut, end_of, left_of, values_at, fresh_block, with_block, with_value}
-use Rattle.world.specs.Object.{Object, ObjectValue, Number}
+use Rattle.world.specs.Object.{Object, ObjectValue, Number, size, sizes}
+use Rattle.world.specs.Scene.{ArrayScene}
+use Rattle.world.specs.SceneWorld.{array_object}
 use Rattle.regions.specs.Heap.{Heap}
 use Rattle.machine.specs.HeapAgrees.{WordsAgree, AreMade}
 use Rattle.machine.proofs.HeapLaws.{IsNext}
@@ -77,3 +80,44 @@ array_made s addresses objects class i zs h room l fit =
     let counted : length addresses ≡ length objects = h.table.counted in
     let next : IsNext s objects (array_block s class (length addresses + 1) zs i) o = record { behind = refl; birth = ap (λ n. n + 1) counted; class = refl; values = words_agree s zs i l fit } in
     made_more s addresses objects (array_block s class (length addresses + 1) zs i) o h next (omega (arith, length-map zs (λ (z : ℤ). Number z)))
+
+-- ---- the world's arrays, one after another
+
+-- the objects of the first so many arrays
+abbrev pub made_so_far : Heap → List ArrayScene → ℕ → Heap
+made_so_far first arrays i = first ++ map array_object (take i arrays)
+
+take_one : (arrays : List ArrayScene) (i : ℕ) (a : ArrayScene) → slice_get arrays i ≡ Some a → map array_object (take (suc i) arrays) ≡ map array_object (take i arrays) ++ array_object a ∷ []
+take_one [] i a h = absurd (cc)
+take_one (x ∷ arrays) zero a h = let same : x ≡ a = cc in ap (λ (y : ArrayScene). array_object y ∷ []) same
+take_one (x ∷ arrays) (suc i) a h = ap (λ (l : Heap). array_object x ∷ l) (take_one arrays i a h)
+
+pub so_far-more : (first : Heap) (arrays : List ArrayScene) (i : ℕ) (a : ArrayScene) → slice_get arrays i ≡ Some a → made_so_far first arrays (suc i) ≡ made_so_far first arrays i ++ array_object a ∷ []
+so_far-more first arrays i a h = ap (λ (l : Heap). first ++ l) (take_one arrays i a h) ∙ sym (append_assoc first (map array_object (take i arrays)) (array_object a ∷ []))
+
+part_within : (arrays : List ArrayScene) (i : ℕ) (a : ArrayScene) → slice_get arrays i ≡ Some a → sizes (map array_object (take i arrays)) + size (array_object a) ≤ sizes (map array_object arrays)
+part_within [] i a h = absurd (cc)
+part_within (x ∷ arrays) zero a h =
+    let same : size (array_object x) ≡ size (array_object a) = ap (λ (y : ArrayScene). size (array_object y)) (let e : x ≡ a = cc in e) in
+    omega (arith, sum_by-cons size (array_object x) (map array_object arrays))
+part_within (x ∷ arrays) (suc i) a h =
+    omega (arith, part_within arrays i a h, sum_by-cons size (array_object x) (map array_object arrays), sum_by-cons size (array_object x) (map array_object (take i arrays)))
+
+pub room_for : (s : Space) (addresses : List ℕ) (first : Heap) (arrays : List ArrayScene) (i : ℕ) (a : ArrayScene) → AreMade s addresses (made_so_far first arrays i) → slice_get arrays i ≡ Some a → sizes first + sizes (map array_object arrays) ≤ s.cells → 3 + length a.values ≤ left_of s
+room_for s addresses first arrays i a h at fits =
+    let filled : end_of s ≡ sizes (made_so_far first arrays i) = h.filled in
+    let both = sum_by-append size first (map array_object (take i arrays)) in
+    let part = part_within arrays i a at in
+    let values = length-map a.values (λ (z : ℤ). Number z) in
+    omega arith
+
+-- an object has at least three cells
+pub few_objects : (objects : Heap) → 3 * length objects ≤ sizes objects
+few_objects [] = omega arith
+few_objects (o ∷ objects) = omega (arith, few_objects objects, sum_by-cons size o objects)
+
+pub few_for : (s : Space) (addresses : List ℕ) (objects : Heap) → AreMade s addresses objects → s.cells ≤ 1048576 → 0 < left_of s → length addresses < 1048576
+few_for s addresses objects h limit room =
+    let counted : length addresses ≡ length objects = h.table.counted in
+    let filled : end_of s ≡ sizes objects = h.filled in
+    omega (arith, few_objects objects)

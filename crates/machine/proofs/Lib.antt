@@ -6,6 +6,7 @@ pub mod LoadLemmas
 pub mod ThreadLoads
 pub mod Runs
 pub mod Standings
+pub mod ShownRows
 pub mod Reports
 pub mod HeapLaws
 pub mod LoadedObjects
@@ -14,3 +15,6 @@ pub mod Arrays
 pub mod LengthCalls
 pub mod Effects
 pub mod Invocations
+pub mod RowTexts
+pub mod BlockRows
+pub mod LoadedRows

@@ -97,11 +97,11 @@ error_has_value s birth laid =
 
 -- and after
 pub error_made : (s : Space) (addresses : List ℕ) (n : ℕ) → AreMade s addresses (replicate n plain_class_object) → 4 ≤ left_of s
-    → AreMade (with_value (with_block s (fresh_block (end_of s) out_of_memory_error (length addresses + 1) 1)) (end_of s) 0 null_word) (addresses ++ end_of s ∷ []) (made_first n [])
+    → AreMade (with_value (with_block s (fresh_block (end_of s) out_of_memory_error (length addresses + 1) 1)) (end_of s) 0 null_word) (addresses ++ end_of s ∷ []) (made_first n)
 error_made s addresses n h room =
     let fresh : Block = fresh_block (end_of s) out_of_memory_error (length addresses + 1) 1 in
     let filled : Block = record fresh { values = null_word ∷ [] } in
     let counted : length addresses ≡ length (replicate n plain_class_object) = h.table.counted in
     let next : IsNext s (replicate n plain_class_object) filled error_object = record { behind = refl; birth = ap (λ n. n + 1) counted; class = refl; values = (refl, tt) } in
-    subst (λ (t : Space). AreMade t (addresses ++ end_of s ∷ []) (made_first n [])) (sym (changed_new s fresh (λ b. record b { values = slice_set b.values 0 null_word }) h.laid_out refl))
+    subst (λ (t : Space). AreMade t (addresses ++ end_of s ∷ []) (made_first n)) (sym (changed_new s fresh (λ b. record b { values = slice_set b.values 0 null_word }) h.laid_out refl))
     (made_more s addresses (replicate n plain_class_object) filled error_object h next room)

@@ -16,21 +16,9 @@ use Rattle.world.specs.Object.{Object, Refers, size, sizes}
 use Rattle.world.specs.SceneWorld.{with_named_class, classes_named}
 use Rattle.world.specs.World.{World, initial, class_object, fresh_object, class_objects, loaded_objects, fits_cells}
 use Rattle.regions.specs.Heap.{Heap}
+use Rattle.machine.specs.HeapAgrees.{made_before}
 
 -- ---- how the table of classes grows
-
-length-fold : (names : List Identifier) (T : Classes) → length (fold with_named_class T names) ≡ length T + 2 * length names
-length-fold [] T = omega arith
-length-fold (n ∷ names) T =
-    let one : length (with_named_class T n) ≡ length T + 2 = length-append T (new_class n (Some 1) ∷ object_array_class (length T + 1, new_class n (Some 1)) ∷ []) in
-    omega (arith, length-fold names (with_named_class T n))
-
-built_ins_length : length built_ins ≡ 42
-unfolding built_ins
-built_ins_length = refl
-
-pub classes_count : (names : List Identifier) → length (classes_named names) ≡ 42 + 2 * length names
-classes_count names = omega (arith, length-fold names built_ins, built_ins_length)
 
 -- the classes behind the first ones
 grown : (names : List Identifier) (T : Classes) → (X : Classes) × (fold with_named_class T names ≡ T ++ X)
@@ -99,17 +87,22 @@ error_is X = refl
 
 -- ---- all
 
--- the class objects, the OutOfMemoryError object and these
-abbrev pub made_first : ℕ → List Object → Heap
-made_first classes others = replicate classes plain_class_object ++ error_object ∷ others
+-- the class objects and the OutOfMemoryError object, by their number
+abbrev pub made_first : ℕ → Heap
+made_first classes = replicate classes plain_class_object ++ error_object ∷ []
 
-pub loaded_is : (names : List Identifier) (w : World) → w.classes ≡ classes_named names → loaded_objects w ≡ made_first (length w.classes) w.objects
-loaded_is names w is =
+pub before_is : (names : List Identifier) → made_before (classes_named names) ≡ made_first (length (classes_named names))
+before_is names =
+    let T = classes_named names in
     let g = grown names built_ins in
-    let statics : list_all no_statics w.classes ≡ true = ap (list_all no_statics) is ∙ fold_statics names built_ins built_ins_statics in
-    let error : fresh_object w.classes out_of_memory_error ≡ error_object = ap (λ (x : Classes). fresh_object x out_of_memory_error) (is ∙ g.1) ∙ error_is g.0 in
-    ap (λ (os : List Object). os ++ fresh_object w.classes out_of_memory_error ∷ w.objects) (all_are_plain w.classes w.classes 1 statics)
-    ∙ ap (λ (o : Object). replicate (length w.classes) plain_class_object ++ o ∷ w.objects) error
+    let statics : list_all no_statics T ≡ true = fold_statics names built_ins built_ins_statics in
+    let error : fresh_object T out_of_memory_error ≡ error_object = ap (λ (x : Classes). fresh_object x out_of_memory_error) g.1 ∙ error_is g.0 in
+    ap (λ (os : List Object). os ++ fresh_object T out_of_memory_error ∷ []) (all_are_plain T T 1 statics)
+    ∙ ap (λ (o : Object). replicate (length T) plain_class_object ++ o ∷ []) error
+
+-- the world's objects are the last
+pub loaded_is : (w : World) → loaded_objects w ≡ made_before w.classes ++ w.objects
+loaded_is w = sym (append_assoc (class_objects w.classes) (fresh_object w.classes out_of_memory_error ∷ []) w.objects)
 
 pub sizes_plain : (n : ℕ) → sizes (replicate n plain_class_object) ≡ 3 * n
 sizes_plain zero = refl
@@ -117,15 +110,22 @@ sizes_plain (suc n) =
     let first = sum_by-cons size plain_class_object (replicate n plain_class_object) in
     omega (arith, first, sizes_plain n)
 
-pub sizes_first : (n : ℕ) (others : List Object) → sizes (made_first n others) ≡ 3 * n + 4 + sizes others
-sizes_first n others =
-    let both = sum_by-append size (replicate n plain_class_object) (error_object ∷ others) in
-    let error = sum_by-cons size error_object others in
+sizes_first : (n : ℕ) → sizes (made_first n) ≡ 3 * n + 4
+sizes_first n =
+    let both = sum_by-append size (replicate n plain_class_object) (error_object ∷ []) in
+    let error = sum_by-cons size error_object [] in
     omega (arith, both, error, sizes_plain n)
 
--- a world that fits has the cells for these
-pub fits_first : (names : List Identifier) (w : World) → w.classes ≡ classes_named names → IsTrue (fits_cells w) → 3 * length w.classes + 4 + sizes w.objects ≤ w.cells
-fits_first names w is fits =
-    let size : sizes (loaded_objects w) ≡ 3 * length w.classes + 4 + sizes w.objects = ap sizes (loaded_is names w is) ∙ sizes_first (length w.classes) w.objects in
+-- a world that fits has the cells for all of these
+pub fits_all : (w : World) → IsTrue (fits_cells w) → sizes (made_before w.classes) + sizes w.objects ≤ w.cells
+fits_all w fits =
+    let size : sizes (loaded_objects w) ≡ sizes (made_before w.classes) + sizes w.objects = ap sizes (loaded_is w) ∙ sum_by-append size (made_before w.classes) w.objects in
     let within : sizes (loaded_objects w) ≤ w.cells = grind (arith, nat_tests, fits) in
+    omega arith
+
+pub fits_first : (names : List Identifier) (w : World) → w.classes ≡ classes_named names → IsTrue (fits_cells w) → 3 * length w.classes + 4 ≤ w.cells
+fits_first names w is fits =
+    let all = fits_all w fits in
+    let first : sizes (made_before w.classes) ≡ 3 * length w.classes + 4 =
+    ap (λ (x : Classes). sizes (made_before x)) is ∙ ap sizes (before_is names) ∙ sizes_first (length (classes_named names)) ∙ ap (λ (x : Classes). 3 * length x + 4) (sym is) in
     omega arith

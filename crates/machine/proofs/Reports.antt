@@ -18,7 +18,8 @@ use Rattle.world.specs.Sink as sink
 use Rattle.world.specs.Sink.{Written}
 use Rattle.world.specs.Scene.{Scene}
 use Rattle.world.specs.SceneWorld.{world_of_scene}
-use Rattle.world.specs.Standing.{standing_view, report_without_objects}
+use Rattle.world.specs.Shown.{report_with}
+use Rattle.world.specs.Standing.{standing_view}
 use Rattle.classes.specs.BuiltIns.{out_of_memory_error}
 use Rattle.world.specs.World.{World, fresh_object, class_object, class_objects, loaded_objects}
 use Rattle.regions.specs.Heap.{Heap}
@@ -31,6 +32,7 @@ use Rattle.regions.specs.Value.{trap_number}
 use Rattle.regions.specs.Step.{is_waiting, is_blocked, is_unfinished}
 use Rattle.regions.specs.Thread as source
 use Rattle.regions.specs.Thread.{Shared}
+use Rattle.heap.specs.Heap.{Space}
 use Rattle.lower.specs.Lowered.{Lowered, IsLowered}
 use Rattle.machine.specs.declared.thread.Ending.{Ending}
 use Rattle.machine.specs.declared.thread.Ending.TheVariants as ending
@@ -42,65 +44,10 @@ use Rattle.machine.specs.Stops.{stop_view, trap_view}
 use Rattle.machine.specs.Run as run
 use Rattle.regions.specs.Run.{JournalHasRoom}
 use Rattle.machine.specs.Run.{Run, Corresponds, WritesRun, IsFinished}
+use Rattle.machine.specs.Rows.{loaded_rows}
+use Rattle.machine.proofs.ShownRows.{shown_rows}
 use Rattle.machine.proofs.Standings.{standings}
 use Rattle.machine.proofs.Threads.{unblocked}
-
--- ---- no object is shown
-
--- no name above a limit
-abbrev AllWithin : ℕ → List ℕ → Type 0
-AllWithin limit names = filter (λ n. nat_lt limit n) names ≡ []
-
-within : (limit n : ℕ) → n ≤ limit → nat_lt limit n ≡ false
-within limit n h = grind (arith, nat_tests)
-
-one_more_within : (limit : ℕ) (names : List ℕ) (n : ℕ) → AllWithin limit names → nat_lt limit n ≡ false → AllWithin limit (names ++ n ∷ [])
-one_more_within limit [] n h e = rw e refl
-one_more_within limit (m ∷ names) n h e = by_first (nat_lt limit m) refl h (λ k. one_more_within limit names n k e)
-  where
-    by_first : (b : Bool) → nat_lt limit m ≡ b → cond b (m ∷ filter (λ n. nat_lt limit n) names) (filter (λ n. nat_lt limit n) names) ≡ [] → (AllWithin limit names → AllWithin limit (names ++ n ∷ [])) → AllWithin limit ((m ∷ names) ++ n ∷ [])
-    by_first true f h further = absurd (cc)
-    by_first false f h further = rw f (further h)
-
-from_one_within : (limit n : ℕ) → n ≤ limit → AllWithin limit (from_one n)
-from_one_within limit zero h = refl
-from_one_within limit (suc n) h = one_more_within limit (from_one n) (suc n) (from_one_within limit n (omega (arith, h))) (within limit (suc n) h)
-
--- fewer names
-filter_within : (limit : ℕ) (p : ℕ → Bool) (names : List ℕ) → AllWithin limit names → AllWithin limit (filter p names)
-filter_within limit p [] h = refl
-filter_within limit p (m ∷ names) h = by_first (nat_lt limit m) refl h (filter_within limit p names)
-  where
-    kept : (b : Bool) → nat_lt limit m ≡ false → AllWithin limit (filter p names) → AllWithin limit (cond b (m ∷ filter p names) (filter p names))
-    kept true f g = rw f g
-    kept false f g = g
-
-    by_first : (b : Bool) → nat_lt limit m ≡ b → cond b (m ∷ filter (λ n. nat_lt limit n) names) (filter (λ n. nat_lt limit n) names) ≡ [] → (AllWithin limit names → AllWithin limit (filter p names)) → AllWithin limit (filter p (m ∷ names))
-    by_first true f h further = absurd (cc)
-    by_first false f h further = kept (p m) f (further h)
-
-rising_within : (limit : ℕ) (heap : Heap) (names : List ℕ) → length heap ≤ limit → AllWithin limit (rising heap names)
-rising_within limit heap names h = filter_within limit (is_in names) (from_one (length heap)) (from_one_within limit (length heap) h)
-
-closed_within : (limit n : ℕ) (heap : Heap) (names : List ℕ) → length heap ≤ limit → AllWithin limit names → AllWithin limit (closed n heap names)
-closed_within limit zero heap names h g = g
-closed_within limit (suc n) heap names h g = either (length (grown heap names) == length names) (closed_within limit n heap (grown heap names) h (rising_within limit heap _ h))
-  where
-    either : (b : Bool) → AllWithin limit (closed n heap (grown heap names)) → AllWithin limit (cond b names (closed n heap (grown heap names)))
-    either true k = g
-    either false k = k
-
--- the objects that a world without objects makes at load
-loaded_length : (w : World) → w.objects ≡ [] → length (loaded_objects w) ≤ length w.classes + 1
-loaded_length w none =
-    let count = length-append (class_objects w.classes) (fresh_object w.classes out_of_memory_error ∷ w.objects) in
-    let classes : length (class_objects w.classes) ≡ length w.classes = length-map (enumerate_from 1 w.classes) (λ (c : ℕ × Class). class_object w.classes c.0) ∙ length-enumerate_from 1 w.classes in
-    omega (arith, count, classes, ap length none)
-
-pub nothing_shown : (w : World) (s : State) → w.objects ≡ [] → s.shared.heap ≡ loaded_objects w → shown w s ≡ []
-nothing_shown w s none heap =
-    let h : length s.shared.heap ≤ length w.classes + 1 = subst (λ (x : Heap). length x ≤ length w.classes + 1) (sym heap) (loaded_length w none) in
-    closed_within (length w.classes + 1) (length s.shared.heap) s.shared.heap (rising s.shared.heap (roots w s)) h (rising_within (length w.classes + 1) s.shared.heap (roots w s) h)
 
 -- ---- how threads stand
 
@@ -139,20 +86,20 @@ each_stands p classes s stop n (t ∷ ts) (x ∷ ss) free h =
 
 -- ---- the report
 
-pub report_is : (p : Lowered) (scene : Scene) (ts : List Thread) (printed : List Printed) (stop : Option Stop) (journal : List Entry) (c : Corresponds p scene ts printed stop journal)
-    → report (world_of_scene scene) c.state ≡ report_without_objects printed (standings stop 1 ts)
+pub report_is : (p : Lowered) (scene : Scene) (space : Space) (addresses : List ℕ) (ts : List Thread) (printed : List Printed) (stop : Option Stop) (journal : List Entry) (c : Corresponds p scene space addresses ts printed stop journal)
+    → report (world_of_scene scene) c.state ≡ report_with printed (standings stop 1 ts) (loaded_rows (world_of_scene scene))
 unfolding report
-report_is p scene ts printed stop journal c =
+report_is p scene space addresses ts printed stop journal c =
     let w = world_of_scene scene in
     let before = map (λ (t : ℕ × source.Thread). standing_of w.classes c.state t.0 t.1 c.state.stop) (enumerate_from 1 c.state.threads) in
     let threads = map standing_view (standings stop 1 ts) in
     let same : before ≡ threads =
     ap (λ (o : Option state.Stop). map (λ (t : ℕ × source.Thread). standing_of w.classes c.state t.0 t.1 o) (enumerate_from 1 c.state.threads)) c.same_stop
     ∙ each_stands p w.classes c.state stop 1 ts c.state.threads (never_blocked p w.classes c.state ts c.lowered c.threads_agree) c.threads_agree in
-    let none = ap (map (shown_row w.classes c.state.shared.heap)) (nothing_shown w c.state refl c.heap) in
+    let rows = shown_rows w c.state c.heap in
     ap (λ (l : List Printed). let r : Report = record { printed = l; standings = before; objects = map (shown_row w.classes c.state.shared.heap) (shown w c.state) } in r) c.same_printed
     ∙ ap (λ (l : List ThreadStanding). let r : Report = record { printed = printed; standings = l; objects = map (shown_row w.classes c.state.shared.heap) (shown w c.state) } in r) same
-    ∙ ap (λ (l : List ShownRow). let r : Report = record { printed = printed; standings = threads; objects = l } in r) none
+    ∙ ap (λ (l : List ShownRow). let r : Report = record { printed = printed; standings = threads; objects = l } in r) rows
 
 -- ---- the end
 
@@ -169,10 +116,10 @@ each_ended p classes s n (t ∷ ts) (x ∷ ss) free h =
     ap (λ b. b && list_all (λ (t : Thread). run.has_ended t.ending) ts) (one_ended t.ending x.ending (is_blocked classes s n) (free n) h.0.ending)
     ∙ ap (λ b. (not (is_unfinished x.ending) || is_blocked classes s n) && b) (each_ended p classes s (n + 1) ts ss free h.1)
 
-pub is_finished : (p : Lowered) (scene : Scene) (ts : List Thread) (printed : List Printed) (stop : Option Stop) (journal : List Entry) (c : Corresponds p scene ts printed stop journal) (now : Run)
+pub is_finished : (p : Lowered) (scene : Scene) (space : Space) (addresses : List ℕ) (ts : List Thread) (printed : List Printed) (stop : Option Stop) (journal : List Entry) (c : Corresponds p scene space addresses ts printed stop journal) (now : Run)
     → ◌≡◌ {A = Run} (record { unit = p.unit; world = scene; journal = journal }) now
     → (answer : Bool) → answer ≡ (is_some stop || list_all (λ (t : Thread). run.has_ended t.ending) ts) → IsFinished now answer
-is_finished p scene ts printed stop journal c now view answer h =
+is_finished p scene space addresses ts printed stop journal c now view answer h =
     let w = world_of_scene scene in
     let free = never_blocked p w.classes c.state ts c.lowered c.threads_agree in
     let same : answer ≡ run.is_finished w.classes c.state =
@@ -185,23 +132,24 @@ is_finished p scene ts printed stop journal c now view answer h =
     has_stopped (Some x) = refl
 
 -- what is written of these parts is what the run writes
-pub writes_run : {T E : Type 0} (p : Lowered) (scene : Scene) (ts : List Thread) (printed : List Printed) (stop : Option Stop) (journal : List Entry) (c : Corresponds p scene ts printed stop journal) (now : Run)
+pub writes_run : {T E : Type 0} (p : Lowered) (scene : Scene) (space : Space) (addresses : List ℕ) (ts : List Thread) (printed : List Printed) (stop : Option Stop) (journal : List Entry) (c : Corresponds p scene space addresses ts printed stop journal) (now : Run)
     → ◌≡◌ {A = Run} (record { unit = p.unit; world = scene; journal = journal }) now
-    → (old new : Written) (result : Result T E) (numbers : List Printed) (shown : List Standing) (entries : List Entry)
-    → numbers ≡ printed → shown ≡ standings stop 1 ts → entries ≡ journal
-    → sink.Writes old new result (report_text (report_without_objects numbers shown) ++ journal_line entries)
+    → (old new : Written) (result : Result T E) (numbers : List Printed) (shown : List Standing) (rows : List ShownRow) (entries : List Entry)
+    → numbers ≡ printed → shown ≡ standings stop 1 ts → rows ≡ loaded_rows (world_of_scene scene) → entries ≡ journal
+    → sink.Writes old new result (report_text (report_with numbers shown rows) ++ journal_line entries)
     → WritesRun now old new result
-writes_run p scene ts printed stop journal c now view old new result numbers shown entries n s e h =
+writes_run p scene space addresses ts printed stop journal c now view old new result numbers shown rows entries n s o e h =
     let threads = standings stop 1 ts in
-    let same : report_text (report_without_objects numbers shown) ++ journal_line entries ≡ report_text (report (world_of_scene scene) c.state) ++ journal_line journal =
-    ap (λ (l : List Printed). report_text (report_without_objects l shown) ++ journal_line entries) n
-    ∙ ap (λ (l : List Standing). report_text (report_without_objects printed l) ++ journal_line entries) s
-    ∙ ap (λ (l : List Entry). report_text (report_without_objects printed threads) ++ journal_line l) e
-    ∙ ap (λ (r : Report). report_text r ++ journal_line journal) (sym (report_is p scene ts printed stop journal c)) in
-    let written : source_run.Writes (unit_tree p.unit) (world_of_scene scene) journal (report_text (report_without_objects numbers shown) ++ journal_line entries) = record { end = c.state; replays = c.replays; same = same } in
+    let same : report_text (report_with numbers shown rows) ++ journal_line entries ≡ report_text (report (world_of_scene scene) c.state) ++ journal_line journal =
+    ap (λ (l : List Printed). report_text (report_with l shown rows) ++ journal_line entries) n
+    ∙ ap (λ (l : List Standing). report_text (report_with printed l rows) ++ journal_line entries) s
+    ∙ ap (λ (l : List ShownRow). report_text (report_with printed threads l) ++ journal_line entries) o
+    ∙ ap (λ (l : List Entry). report_text (report_with printed threads (loaded_rows (world_of_scene scene))) ++ journal_line l) e
+    ∙ ap (λ (r : Report). report_text r ++ journal_line journal) (sym (report_is p scene space addresses ts printed stop journal c)) in
+    let written : source_run.Writes (unit_tree p.unit) (world_of_scene scene) journal (report_text (report_with numbers shown rows) ++ journal_line entries) = record { end = c.state; replays = c.replays; same = same } in
     record {
-      text = report_text (report_without_objects numbers shown) ++ journal_line entries;
-      is = subst (λ (r : Run). source_run.Writes (unit_tree r.unit) (world_of_scene r.world) r.journal (report_text (report_without_objects numbers shown) ++ journal_line entries)) view written;
+      text = report_text (report_with numbers shown rows) ++ journal_line entries;
+      is = subst (λ (r : Run). source_run.Writes (unit_tree r.unit) (world_of_scene r.world) r.journal (report_text (report_with numbers shown rows) ++ journal_line entries)) view written;
       has_room = subst (λ (r : Run). JournalHasRoom (unit_tree r.unit) (world_of_scene r.world) r.journal) view c.has_room;
       written = h;
     }

@@ -20,6 +20,7 @@ use Rattle.regions.specs.Run.{replay, Follows, JournalHasRoom}
 use Rattle.regions.specs.State.{State, thread_at}
 use Rattle.regions.specs.Step.{can_step, is_blocked, is_unfinished}
 use Rattle.regions.specs.Thread.{Thread as SourceThread}
+use Rattle.heap.specs.Heap.{Space}
 use Rattle.lower.specs.Lowered.{Lowered, IsLowered}
 use Rattle.machine.specs.declared.thread.Thread.{Thread}
 use Rattle.machine.specs.declared.thread.Ending.{Ending}
@@ -30,6 +31,7 @@ use Rattle.machine.specs.declared.turn.Turn.{Turn as Answer}
 use Rattle.machine.specs.declared.turn.Turn.TheVariants as turn
 use Rattle.machine.specs.declared.stop.Stop.{Stop}
 use Rattle.machine.specs.Agrees.{ThreadsAgree}
+use Rattle.machine.specs.HeapAgrees.{AgreesAtLoad}
 use Rattle.machine.specs.Stops.{stop_view}
 
 -- a program's items, the world in memory and the steps taken
@@ -49,15 +51,16 @@ pub record IsUnstarted (unit : List Item) (scene : Scene) (r : Run) : Type 0 whe
   pub unstarted : r.journal ≡ []
 
 -- The machine stands for the state that its journal leads to.
-pub record Corresponds (p : Lowered) (scene : Scene) (threads : List Thread) (printed : List Printed) (stop : Option Stop) (journal : List Entry) : Type 0 where
+pub record Corresponds (p : Lowered) (scene : Scene) (space : Space) (addresses : List ℕ) (threads : List Thread) (printed : List Printed) (stop : Option Stop) (journal : List Entry) : Type 0 where
   pub lowered : IsLowered p
   pub state : State
   pub replays : replay (unit_tree p.unit) (world_of_scene scene) journal ≡ Some state
-  pub threads_agree : ThreadsAgree p (world_of_scene scene).classes threads state.threads
+  pub threads_agree : ThreadsAgree p (world_of_scene scene).classes space (length addresses) state.shared threads state.threads
   pub same_printed : state.printed ≡ printed
   pub same_stop : state.stop ≡ option_map stop_view stop
   -- no instruction allocates or enters a monitor yet
   pub heap : state.shared.heap ≡ loaded_objects (world_of_scene scene)
+  pub blocks : AgreesAtLoad space addresses (world_of_scene scene)
   pub monitors : state.shared.monitors ≡ []
   -- no step was refused an allocation, and those that made objects had room
   pub has_room : JournalHasRoom (unit_tree p.unit) (world_of_scene scene) journal

@@ -12,10 +12,13 @@ ghost use Rattle.machine.specs.Stops.{stop_after, standing_of, standing_by_endin
 
 use crate::fault::{LoadFault, RunFault};
 use crate::load::load_threads;
+use crate::objects::load_heap;
+use crate::rows::LoadedRows;
 use crate::stop::Stop;
 use crate::thread::{Ending, Event, Thread, advance};
 use crate::turn::Turn;
 use arrayvec::ArrayVec;
+use heap::{Addr, Heap};
 use lower::Program;
 use std::alloc::{AllocError, Global};
 use std::marker::Model;
@@ -29,6 +32,9 @@ pub const MOST_ENTRIES: usize = 1_000_000;
 pub struct Machine<'a> {
     program: Program<'a>,
     world: World,
+    heap: Heap,
+    /// The addresses of the objects made at load, by their names, counted from 1. These objects stay for ever.
+    loaded: Vec<Addr>,
     threads: Vec<Thread>,
     printed: Vec<Printed>,
     stop: Option<Stop>,
@@ -46,7 +52,7 @@ impl<'a> Model for Machine<'a> {
 
     ghost view = { λ m. record { unit = m.program.unit; world = m.world; journal = m.journal.items } };
 
-    ghost invariant = { λ m. Corresponds m.program m.world m.threads.items m.printed.items m.stop m.journal.items };
+    ghost invariant = { λ m. Corresponds m.program m.world m.heap m.loaded.items m.threads.items m.printed.items m.stop m.journal.items };
 }
 
 impl<'a> Machine<'a> {
@@ -61,10 +67,13 @@ impl<'a> Machine<'a> {
     {
         let _ = program.items();
         let _ = world.threads();
+        let (heap, loaded) = load_heap(alloc, &world)?;
         match load_threads(alloc, &program, &world) {
             Ok(threads) => Ok(Machine {
                 program,
                 world,
+                heap,
+                loaded,
                 threads,
                 printed: Vec::new(alloc),
                 stop: None,
@@ -110,7 +119,13 @@ impl<'a> Machine<'a> {
         }
         self.journal.reserve(1)?;
         self.printed.reserve(1)?;
-        let event = advance(&self.program, &mut self.threads[index]);
+        let event = advance(
+            &self.program,
+            &self.world,
+            &self.heap,
+            &self.loaded,
+            &mut self.threads[index],
+        )?;
         note(&mut self.printed, &mut self.stop, k, event);
         self.journal
             .push(Entry {
@@ -202,10 +217,16 @@ impl<'a> Machine<'a> {
         ensures none_waits { OnOk result ((S.written sink.new).waiting ≡ 0) }
     {
         let standings = standings_of(&self.threads, self.stop);
+        let rows = LoadedRows {
+            world: &self.world,
+            heap: &self.heap,
+            loaded: self.loaded.as_slice(),
+        };
         write_run(
             sink,
             self.printed.as_slice(),
             standings.as_slice(),
+            &rows,
             self.journal.as_slice(),
         )
     }

@@ -1,22 +1,21 @@
 //! The objects that are there when a run begins.
 
-ghost use Rattle.std.specs.Prelude.{◌≡◌, ◌+◌, ◌<◌, ◌≤◌, [], ◌∷◌, ◌++◌, length, map, IfOk, OnOk, IsTrue};
+ghost use Rattle.std.specs.Prelude.{◌≡◌, ◌+◌, ◌<◌, ◌≤◌, [], ◌∷◌, ◌++◌, length, map, IfOk, OnOk};
 ghost use Rattle.heap.specs.Heap.{IsLaidOut, left_of, end_of, fresh_block, with_block};
 ghost use Rattle.world.specs.SceneWorld.{world_of_scene};
-ghost use Rattle.world.specs.World.{loaded_objects, fits_cells};
+ghost use Rattle.world.specs.Views.{element_view};
+ghost use Rattle.world.specs.World.{loaded_objects};
+ghost use Rattle.classes.specs.BuiltIns.{number_array};
 ghost use Rattle.world.specs.Object.{Number};
 ghost use Rattle.regions.specs.Heap.{Heap as Objects};
-ghost use Rattle.machine.specs.HeapAgrees.{AreMade};
+ghost use Rattle.machine.specs.HeapAgrees.{AreMade, made_before};
 
 use heap::{Addr, Heap, MOST_CELLS};
 use std::alloc::{AllocError, Global};
-use world::World;
+use world::{Element, World};
 
 /// The word of NULL, which is no address.
 pub const NULL: u32 = 4_294_967_295;
-
-/// How many classes are built in.
-const BUILT_INS: usize = 42;
 
 /// The class of class objects, java/lang/Class, by its number.
 const CLASS: u32 = 2;
@@ -27,26 +26,43 @@ const OUT_OF_MEMORY_ERROR: u32 = 11;
 /// The heap with the objects that are made before the first step: the class objects, the OutOfMemoryError object and
 /// the world's, in this order. Behind it the address of each, by its name, counted from 1.
 pub fn load_heap(alloc: Global, world: &World) -> Result<(Heap, Vec<Addr>), AllocError>
-    requires fits { IsTrue (fits_cells (world_of_scene world.now)) }
-    requires limit { world.now.heap ≤ MOST_CELLS }
     ensures made { IfOk result (λ made. AreMade made.0 made.1.items (loaded_objects (world_of_scene world.now))) }
-    ensures cells { IfOk result (λ made. made.0.cells ≡ world.now.heap) }
 {
+    let _ = world.objects();
     let mut heap = Heap::new(alloc, world.heap())?;
     let mut loaded = Vec::new(alloc);
-    for _class in 0..class_count(world) {
+    for _class in 0..world.class_count() {
         make(&mut heap, &mut loaded, CLASS, 0)?;
     }
     let error = make(&mut heap, &mut loaded, OUT_OF_MEMORY_ERROR, 1)?;
     heap.set(error, 0, NULL);
+    make_arrays(&mut heap, &mut loaded, world)?;
     Ok((heap, loaded))
 }
 
-/// The number of classes.
-fn class_count(world: &World) -> usize
-    ensures { result ≡ length (world_of_scene world.now).classes }
+/// Makes the world's objects.
+fn make_arrays(heap: &mut Heap, loaded: &mut Vec<Addr>, world: &World) -> Result<(), AllocError>
+    requires first { AreMade heap.old loaded.old.items (made_before (world_of_scene world.now).classes) }
+    requires cells { heap.old.cells ≡ world.now.heap }
+    ensures { OnOk result (AreMade heap.new loaded.new.items (loaded_objects (world_of_scene world.now))) }
 {
-    BUILT_INS + 2 * world.classes().len()
+    let _ = world.heap();
+    for array in world.objects() {
+        make_array(heap, loaded, array_class(array.element()), array.values())?;
+    }
+    Ok(())
+}
+
+/// The number of the class of arrays with such elements.
+fn array_class(element: Element) -> u32
+    ensures { result ≡ number_array (element_view element) }
+{
+    match element {
+        Element::Byte => 20,
+        Element::Char => 21,
+        Element::Short => 22,
+        Element::Int => 23,
+    }
 }
 
 /// Makes the next object, whose values are 0.

@@ -2,6 +2,7 @@
 
 use crate::fault::LoadFault;
 use crate::machine::Machine;
+use crate::stop::Trap;
 use lower::lower;
 use regions::{Checked, check};
 use std::alloc::Global;
@@ -83,5 +84,35 @@ fn an_unknown_function(rt: HostRuntime) -> Result<(), Fail> {
     let world = read_world(alloc, b"heap 512\nclass A\n\nthread Java_A_g\n")?;
     let answer = Machine::load(alloc, lower(alloc, &checked)?, world);
     assert!(rt; matches!(answer, Err(LoadFault::DoesNotFit(4))));
+    Ok(())
+}
+
+#[test]
+fn a_world_with_arrays(rt: HostRuntime) -> Result<(), Fail> {
+    let alloc = rt.alloc();
+    let checked = program(alloc)?;
+    let world = read_world(
+        alloc,
+        b"heap 512\nclass A\narray @a I 7 -8\narray @b C 65535\nthread Java_A_f\n",
+    )?;
+    let text = b"T1 running\n#46 [I 7 -8\n#47 [C 65535\njournal\n".as_slice();
+    assert_eq!(rt; written(alloc, &checked, world, b"")?.as_slice(), text);
+    Ok(())
+}
+
+#[test]
+fn an_argument_too_many(rt: HostRuntime) -> Result<(), Fail> {
+    let alloc = rt.alloc();
+    let checked = program(alloc)?;
+    let world = read_world(alloc, b"heap 512\nclass A\nthread Java_A_f 5\n")?;
+    let answer = Machine::load(alloc, lower(alloc, &checked)?, world);
+    assert!(rt; matches!(answer, Err(LoadFault::DoesNotFit(3))));
+    Ok(())
+}
+
+#[test]
+fn traps_have_numbers(rt: HostRuntime) -> Result<(), Fail> {
+    assert_eq!(rt; Trap::NullReference.number(), 4);
+    assert_eq!(rt; Trap::WrongObject.number(), 6);
     Ok(())
 }

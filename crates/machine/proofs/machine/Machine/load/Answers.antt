@@ -18,6 +18,7 @@ invariant_of-result c =
       same_printed = sym c.new.ensures.items;
       same_stop = refl;
       heap = refl;
+      blocks = record { agree = c.in_ok-heap.ensures.made.agree; table = c.in_ok-heap.ensures.made.table };
       monitors = refl;
       has_room = rw c.new-in-Ok.ensures.items tt;
       count = count;

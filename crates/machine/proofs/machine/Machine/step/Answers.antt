@@ -44,7 +44,7 @@ returns-then-eq-clause-turn c =
       (
         c.self.invariant.state,
         subst (λ (r : Run). replay_of r ≡ Some c.self.invariant.state) c.self.view_is c.self.invariant.replays,
-        has_ended _ _ _ _ _ _ c.self.invariant c.args.k (c.from-index.result - 1) c.index.result.now (counted c.args.k c.from-index.result c.from-index.ensures c.requires.counted) at (goes_on c.self.inside.stop (sym c.is_some.ensures ∙ c.if-is_some.false)) (is_ended _ c.if-eq.ensures),
+        has_ended _ _ _ _ _ _ _ _ c.self.invariant c.args.k (c.from-index.result - 1) c.index.result.now (counted c.args.k c.from-index.result c.from-index.ensures c.requires.counted) at (goes_on c.self.inside.stop (sym c.is_some.ensures ∙ c.if-is_some.false)) (is_ended _ c.if-eq.ensures),
       ),
     )
 
@@ -58,7 +58,7 @@ returns-then-len-ge-MOST_ENTRIES-clause-turn c =
       (
         c.self.invariant.state,
         subst (λ (r : Run). replay_of r ≡ Some c.self.invariant.state) c.self.view_is c.self.invariant.replays,
-        subst (λ (r : Run). can_turn r c.self.invariant.state c.args.k ≡ true) c.self.view_is (can_turn_here _ _ _ _ _ _ c.self.invariant c.args.k (c.from-index.result - 1) c.index.result.now (counted c.args.k c.from-index.result c.from-index.ensures c.requires.counted) at (goes_on c.self.inside.stop (sym c.is_some.ensures ∙ c.if-is_some.false)) (is_live _ c.if-eq.ensures)),
+        subst (λ (r : Run). can_turn r c.self.invariant.state c.args.k ≡ true) c.self.view_is (can_turn_here _ _ _ _ _ _ _ _ c.self.invariant c.args.k (c.from-index.result - 1) c.index.result.now (counted c.args.k c.from-index.result c.from-index.ensures c.requires.counted) at (goes_on c.self.inside.stop (sym c.is_some.ensures ∙ c.if-is_some.false)) (is_live _ c.if-eq.ensures)),
       ),
     )
 
@@ -71,7 +71,7 @@ advance-event-requires-clause-agrees c =
     let count = threads_of _ _ _ c.self.invariant.count c.self.view_is in
     let seen = thread_there c.self.inside.threads.items c.args.k c.from-index.result _ c.index.result.now c.from-index.ensures c.requires.counted c.requires.is_thread count c.index.ensures in
     let at = thread_there c.self.inside.threads.items c.args.k c.from-index.result _ c.index_mut.result.now c.from-index.ensures c.requires.counted c.requires.is_thread count c.index_mut.ensures.value in
-    let f = the_thread _ _ _ _ _ _ c.self.invariant c.args.k (c.from-index.result - 1) c.index_mut.result.now (counted c.args.k c.from-index.result c.from-index.ensures c.requires.counted) at in
+    let f = the_thread _ _ _ _ _ _ _ _ c.self.invariant c.args.k (c.from-index.result - 1) c.index_mut.result.now (counted c.args.k c.from-index.result c.from-index.ensures c.requires.counted) at in
     (_, f.source, f.agrees, same_thread c.self.inside.threads.items (c.from-index.result - 1) _ _ seen at (is_live _ c.if-eq.ensures))
 
 -- the journal has one more entry
@@ -83,7 +83,7 @@ invariant_of-self-2 c =
     let count = threads_of _ _ _ c.self.invariant.count c.self.view_is in
     let seen = thread_there c.self.inside.threads.items c.args.k c.from-index.result _ c.index.result.now c.from-index.ensures c.requires.counted c.requires.is_thread count c.index.ensures in
     let at = thread_there c.self.inside.threads.items c.args.k c.from-index.result _ c.index_mut.result.now c.from-index.ensures c.requires.counted c.requires.is_thread count c.index_mut.ensures.value in
-    let s = steps_on _ _ _ _ _ _ c.self.invariant c.args.k (c.from-index.result - 1) c.index_mut.result.now (counted c.args.k c.from-index.result c.from-index.ensures c.requires.counted) at c.advance-event.new.thread c.advance-event.result (goes_on c.self.inside.stop (sym c.is_some.ensures ∙ c.if-is_some.false)) (same_thread c.self.inside.threads.items (c.from-index.result - 1) _ _ seen at (is_live _ c.if-eq.ensures)) c.advance-event.ensures in
+    let s = steps_on _ _ _ _ _ _ _ _ c.self.invariant c.args.k (c.from-index.result - 1) c.index_mut.result.now (counted c.args.k c.from-index.result c.from-index.ensures c.requires.counted) at c.advance-event.new.thread c.advance-event.result (goes_on c.self.inside.stop (sym c.is_some.ensures ∙ c.if-is_some.false)) (same_thread c.self.inside.threads.items (c.from-index.result - 1) _ _ seen at (is_live _ c.if-eq.ensures)) c.advance-event.ensures in
     let printed : c.note.new.printed.items ≡ printed_after c.self.inside.printed.items c.args.k c.advance-event.result = c.note.ensures.printed ∙ ap (λ l. printed_after l c.args.k c.advance-event.result) c.reserve-2.ensures.items in
     rw (printed, c.note.ensures.stop, one_more c) s
 
@@ -98,7 +98,7 @@ returns-clause-turn c =
       (
         c.self.invariant.state,
         subst (λ (r : Run). replay_of r ≡ Some c.self.invariant.state) c.self.view_is c.self.invariant.replays,
-        subst (λ (r : Run). can_turn r c.self.invariant.state c.args.k ≡ true) c.self.view_is (can_turn_here _ _ _ _ _ _ c.self.invariant c.args.k (c.from-index.result - 1) c.index.result.now (counted c.args.k c.from-index.result c.from-index.ensures c.requires.counted) seen (goes_on c.self.inside.stop (sym c.is_some.ensures ∙ c.if-is_some.false)) (is_live _ c.if-eq.ensures)),
+        subst (λ (r : Run). can_turn r c.self.invariant.state c.args.k ≡ true) c.self.view_is (can_turn_here _ _ _ _ _ _ _ _ c.self.invariant c.args.k (c.from-index.result - 1) c.index.result.now (counted c.args.k c.from-index.result c.from-index.ensures c.requires.counted) seen (goes_on c.self.inside.stop (sym c.is_some.ensures ∙ c.if-is_some.false)) (is_live _ c.if-eq.ensures)),
       ),
     )
 

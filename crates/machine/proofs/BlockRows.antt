@@ -1,0 +1,81 @@
+-- The row of a block is that of its object.
+use Rattle.std.proofs.Common.{◌≡◌, ℕ, ℤ, zero, suc, ◌+◌, ◌-◌, ◌*◌, ◌<◌, ◌≤◌, Bool, true, false, cond, eqb, List, [], ◌∷◌, ◌++◌, length, map, Option, Some, None, refl, sym, ap, ◌∙◌, subst, arith, length-append, IsSome}
+use Rattle.std.specs.Prelude.{slice_get, find}
+use Rattle.std.specs.Option.{option_map, option_map_or}
+use Rattle.std.specs.Int.{w32, cast_signed}
+use Rattle.std.proofs.Math.Facts.{to_z-of_z}
+use Rattle.std.proofs.lemmas.Option.{slice_get-map}
+use Rattle.classes.specs.Class.{Classes, class_name}
+use Rattle.heap.specs.Heap.{Block, Space, IsAddress, block_at, name_at}
+use Rattle.world.specs.Object.{Object, ObjectValue, Number, sizes}
+use Rattle.world.specs.Report.{ShownValue, ShownNumber, ShownRow}
+use Rattle.world.specs.World.{World, loaded_objects}
+use Rattle.regions.specs.Heap.{Heap, object_at}
+use Rattle.regions.specs.ReportOf.{shown_value}
+use Rattle.machine.specs.HeapAgrees.{WordsAgree, BlockAgrees, BlocksAgree, HeapAgrees, AgreesAtLoad, made_before}
+use Rattle.machine.specs.Rows.{object_row, block_row, shown_numbers}
+use Rattle.machine.proofs.LoadedObjects.{loaded_is}
+use Rattle.machine.proofs.ShownRows.{length-before}
+
+-- the block of a name
+pub record Named (s : Space) (heap : Heap) (a n : ℕ) : Type 0 where
+  pub block : Block
+  pub at : block_at s a ≡ Some block
+  pub birth : block.birth ≡ n
+  pub agrees : BlockAgrees s heap block
+
+found_agrees : (s : Space) (heap : Heap) (a : ℕ) (bs : List Block) (b : Block) → BlocksAgree s heap bs → find (λ (b : Block). eqb b.address a) bs ≡ Some b → BlockAgrees s heap b
+found_agrees s heap a [] b h e = absurd (cc)
+found_agrees s heap a (c ∷ bs) b h e = either (eqb c.address a) h.0 (λ f. found_agrees s heap a bs b h.1 f) e
+  where
+    either : (t : Bool) → BlockAgrees s heap c → (find (λ (b : Block). eqb b.address a) bs ≡ Some b → BlockAgrees s heap b) → cond t (Some c) (find (λ (b : Block). eqb b.address a) bs) ≡ Some b → BlockAgrees s heap b
+    either true k further e = let same : c ≡ b = cc in subst (BlockAgrees s heap) same k
+    either false k further e = further e
+
+pub named : (s : Space) (heap : Heap) (N : ℕ → Type 0) (a n : ℕ) → HeapAgrees s heap N → name_at s a ≡ Some n → Named s heap a n
+named s heap N a n h e = by_block (block_at s a) refl e
+  where
+    by_block : (o : Option Block) → block_at s a ≡ o → option_map (λ (b : Block). b.birth) o ≡ Some n → Named s heap a n
+    by_block None at e = absurd (cc)
+    by_block (Some b) at e = record { block = b; at = at; birth = cc; agrees = found_agrees s heap a s.blocks b h.blocks at }
+
+pub is_address : (s : Space) (a n : ℕ) → name_at s a ≡ Some n → IsAddress s a
+is_address s a n e = some (block_at s a) e
+  where
+    some : (o : Option Block) → option_map (λ (b : Block). b.birth) o ≡ Some n → IsSome o
+    some None e = absurd (cc)
+    some (Some b) e = refl
+
+-- words that agree with numbers are shown as these
+numbers_shown : (s : Space) (classes : Classes) (ws : List ℕ) (zs : List ℤ) → WordsAgree s ws (map Number zs) → shown_numbers ws ≡ map (shown_value classes) (map Number zs)
+numbers_shown s classes [] [] h = refl
+numbers_shown s classes [] (z ∷ zs) h = absurd h
+numbers_shown s classes (w ∷ ws) [] h = absurd h
+numbers_shown s classes (w ∷ ws) (z ∷ zs) h =
+    let first : cast_signed w32 w ≡ z = ap (cast_signed w32) h.0.1 ∙ to_z-of_z {w = w32} h.0.0 in
+    ap (λ (y : ℤ). ShownNumber y ∷ shown_numbers ws) first ∙ ap (λ (l : List ShownValue). ShownNumber z ∷ l) (numbers_shown s classes ws zs h.1)
+
+-- the row of an object whose values are numbers
+pub row_is : (s : Space) (heap : Heap) (classes : Classes) (a n : ℕ) (o : Object) (zs : List ℤ) → Named s heap a n → object_at heap n ≡ Some o → o.values ≡ map Number zs → block_row classes s n a ≡ object_row classes (n, o)
+row_is s heap classes a n o zs h there numbers =
+    let b = h.block in
+    let same : h.agrees.object ≡ o = cc (sym h.agrees.is ∙ ap (object_at heap) h.birth ∙ there) in
+    let class : b.class ≡ o.class = h.agrees.class ∙ ap (λ (x : Object). x.class) same in
+    let words : WordsAgree s b.values (map Number zs) = subst (WordsAgree s b.values) (ap (λ (x : Object). x.values) same ∙ numbers) h.agrees.values in
+    let values : shown_numbers b.values ≡ map (shown_value classes) o.values = numbers_shown s classes b.values zs words ∙ ap (map (shown_value classes)) (sym numbers) in
+    ap (λ (x : Option Block). let r : ShownRow = record { name = n; class = class_name classes (option_map_or (λ (c : ℕ). c) (option_map (λ (b : Block). b.class) x) 0); values = shown_numbers (option_map_or (λ (b : Block). b.values) x []) } in r) h.at
+    ∙ ap (λ (c : ℕ). let r : ShownRow = record { name = n; class = class_name classes c; values = shown_numbers b.values } in r) class
+    ∙ ap (λ (l : List ShownValue). let r : ShownRow = record { name = n; class = class_name classes o.class; values = l } in r) values
+
+-- ---- the world's objects
+
+get_behind : (first rest : Heap) (j : ℕ) → slice_get (first ++ rest) (length first + j) ≡ slice_get rest j
+get_behind [] rest j = let e : 0 + j ≡ j = omega arith in ap (slice_get rest) e
+get_behind (x ∷ first) rest j = let e : suc (length first) + j ≡ suc (length first + j) = omega arith in ap (slice_get ((x ∷ first) ++ rest)) e ∙ get_behind first rest j
+
+-- by its name
+pub object_there : (w : World) (place j : ℕ) (o : Object) → place ≡ length w.classes + 1 + j → slice_get w.objects j ≡ Some o → object_at (loaded_objects w) (place + 1) ≡ Some o
+object_there w place j o is at =
+    let before = length-before w.classes in
+    let e : place + 1 ≡ suc (length (made_before w.classes) + j) = omega arith in
+    ap (object_at (loaded_objects w)) e ∙ ap (λ (h : Heap). slice_get h (length (made_before w.classes) + j)) (loaded_is w) ∙ get_behind (made_before w.classes) w.objects j ∙ at

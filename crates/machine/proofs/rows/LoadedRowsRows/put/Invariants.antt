@@ -1,0 +1,11 @@
+use Rattle.std.proofs.Common.{◌≡◌, ◌-◌, ◌+◌, length, drop}
+use Rattle.world.specs.SceneWorld.{world_of_scene}
+use Rattle.world.specs.Shown.{row_lines}
+use Rattle.world.proofs.Puts.{PutSoFar}
+use Rattle.machine.specs.Rows.{loaded_rows}
+use Rattle.machine.proofs.rows.LoadedRowsRows.put.Given as goal
+
+abbrev pub invariant-loop-place : goal.invariant-loop-place
+invariant-loop-place g l =
+    PutSoFar (g.S.Sink.written l.initial.sink) (g.S.Sink.written l.sink) (row_lines (loaded_rows (world_of_scene l.fn.self)))
+    (row_lines (drop (l.place - (length (world_of_scene l.fn.self).classes + 1)) (loaded_rows (world_of_scene l.fn.self))))
