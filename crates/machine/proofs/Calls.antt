@@ -1,76 +1,91 @@
 -- What the instruction at the place of a call does.
-use Rattle.std.proofs.Common.{◌≡◌, ℕ, ℤ, zero, suc, ◌+◌, ◌-◌, ◌<◌, Bool, true, false, cond, List, [], ◌∷◌, ◌++◌, length, take, Option, Some, None, refl, sym, ap, ◌∙◌, subst, arith, add-one, Bor}
-use Rattle.std.specs.Prelude.{slice_get, nat_lt, IsSome}
-use Rattle.std.specs.Option.{option_and_then, option_copied}
+use Rattle.std.proofs.Common.{◌≡◌, ℕ, ℤ, zero, suc, ◌+◌, ◌-◌, ◌<◌, Bool, true, false, cond, List, [], ◌∷◌, ◌++◌, length, take, Option, Some, None, refl, sym, ap, ◌∙◌, subst, arith, Bor}
+use Rattle.std.specs.Prelude.{slice_get, slice_set, nat_lt, IsSome}
+use Rattle.std.specs.Option.{option_and_then, option_copied, option_map}
 use Rattle.std.specs.Int.{w32, cast_signed}
 use Rattle.syntax.specs.Parts.{functions_of}
 use Rattle.syntax.specs.Tree.{Function}
 use Rattle.syntax.specs.Views.{unit_tree}
+use Rattle.types.specs.JniFunction.{JniFunction}
+use Rattle.base.specs.Bytes.{Identifier}
+use Rattle.heap.specs.Heap.{Space}
+use Rattle.world.specs.Object.{Reference}
 use Rattle.code.specs.declared.instr.Instr.{Instr}
 use Rattle.code.specs.declared.instr.Instr.TheVariants as instr
+use Rattle.code.specs.declared.instr.Call.{Call}
 use Rattle.code.specs.declared.instr.Plain.{Plain}
 use Rattle.code.specs.declared.instr.Plain.TheVariants as plain
 use Rattle.code.specs.Effect.{plain_of, operate}
-use Rattle.code.specs.Depth.{depth_after, depths, IsValid}
+use Rattle.code.specs.Depth.{Listing, depth_after, depths, IsValid}
+use Rattle.regions.specs.Arguments.{Actual}
 use Rattle.regions.specs.Effect.{Effect, Becomes, Sets, SetsNull, SetsElement, MakesArray, Prints, Calls, Returns, TrapsAt, NoEffect, effect_of}
 use Rattle.regions.specs.Sight.{Sight}
-use Rattle.regions.specs.Task.{Task}
-use Rattle.lower.specs.Stands.{StandsFor, DoesEffect, GoesOn, PrintsTop, LeavesCall, IsReturn}
+use Rattle.regions.specs.Task.{Task, Target}
+use Rattle.regions.specs.Value.{Value}
+use Rattle.lower.specs.Layout.{Known}
+use Rattle.lower.specs.Slots.{Slots, Shows}
+use Rattle.lower.specs.Stands.{StandsFor, DoesEffect, GoesOn, SetsNumber, PrintsTop, CallsFunction, LeavesCall, IsReturn}
 use Rattle.lower.specs.Lowered.{Lowered, IsLowered, IsCodeOf, AreCodesOf}
-use Rattle.machine.specs.declared.thread.Event.TheVariants as event
 use Rattle.machine.specs.declared.thread.Activation.{Activation}
-use Rattle.machine.specs.declared.thread.Executed.TheVariants.{Did, Returned}
-use Rattle.machine.specs.Agrees.{CallStands, Executes}
+use Rattle.machine.specs.Agrees.{CallStands, ReferencesAgree}
 
 -- the effects that an instruction has
-pub does_cases : (code : List Instr) (place : ℕ) (stack : List ℕ) (rest : List Task) (P : Effect → Type 0)
-    → ((tasks : List Task) → GoesOn code place stack (tasks ++ rest) → P (Becomes tasks))
-    → ((z : ℤ) → PrintsTop code place stack z rest → P (Prints z))
-    → (LeavesCall code place → P Returns)
-    → (e : Effect) → DoesEffect code place stack rest e → P e
-does_cases code place stack rest P becomes prints returns (Becomes tasks) h = becomes tasks h
-does_cases code place stack rest P becomes prints returns (Sets x v) h = absurd h
-does_cases code place stack rest P becomes prints returns (SetsNull target) h = absurd h
-does_cases code place stack rest P becomes prints returns (SetsElement x i z) h = absurd h
-does_cases code place stack rest P becomes prints returns (MakesArray T x n) h = absurd h
-does_cases code place stack rest P becomes prints returns (Prints z) h = prints z h
-does_cases code place stack rest P becomes prints returns (Calls line target f args) h = absurd h
-does_cases code place stack rest P becomes prints returns Returns h = returns h
-does_cases code place stack rest P becomes prints returns (TrapsAt trap line) h = absurd h
-does_cases code place stack rest P becomes prints returns NoEffect h = absurd h
+pub does_cases : (code : Listing) (known : Known) (place : ℕ) (stack : List ℕ) (slots : Slots) (sight : Sight) (rest : List Task) (P : Effect → Type 0)
+    → ((tasks : List Task) → GoesOn code known place stack slots sight (tasks ++ rest) → P (Becomes tasks))
+    → ((x : Identifier) (v : Value) → SetsNumber code known place stack slots sight x v rest → P (Sets x v))
+    → ((z : ℤ) → PrintsTop code known place stack slots sight z rest → P (Prints z))
+    → ((line : ℕ) (target : Target) (f : JniFunction) (args : List Actual) → CallsFunction code known place stack slots sight line target f args rest → P (Calls line target f args))
+    → (LeavesCall code known place stack slots sight → P Returns)
+    → (e : Effect) → DoesEffect code known place stack slots sight rest e → P e
+does_cases code known place stack slots sight rest P becomes sets prints calls returns (Becomes tasks) h = becomes tasks h
+does_cases code known place stack slots sight rest P becomes sets prints calls returns (Sets x v) h = sets x v h
+does_cases code known place stack slots sight rest P becomes sets prints calls returns (SetsNull target) h = absurd h
+does_cases code known place stack slots sight rest P becomes sets prints calls returns (SetsElement x i z) h = absurd h
+does_cases code known place stack slots sight rest P becomes sets prints calls returns (MakesArray T x n) h = absurd h
+does_cases code known place stack slots sight rest P becomes sets prints calls returns (Prints z) h = prints z h
+does_cases code known place stack slots sight rest P becomes sets prints calls returns (Calls line target f args) h = calls line target f args h
+does_cases code known place stack slots sight rest P becomes sets prints calls returns Returns h = returns h
+does_cases code known place stack slots sight rest P becomes sets prints calls returns (TrapsAt trap line) h = absurd h
+does_cases code known place stack slots sight rest P becomes sets prints calls returns NoEffect h = absurd h
 
 -- a code of a lowered program is its function's
-code_lowered : (functions : List Function) (codes : List (List Instr)) (n : ℕ) (code : List Instr) → AreCodesOf functions codes → slice_get codes n ≡ Some code → (f : Function) × (slice_get functions n ≡ Some f) × IsCodeOf f code
+code_lowered : (functions : List Function) (codes : List Listing) (n : ℕ) (code : Listing) → AreCodesOf functions codes → slice_get codes n ≡ Some code → (f : Function) × (slice_get functions n ≡ Some f) × IsCodeOf f code
 code_lowered [] [] n code h e = absurd (cc)
 code_lowered [] (c ∷ codes) n code h e = absurd h
 code_lowered (f ∷ functions) [] n code h e = absurd h
 code_lowered (f ∷ functions) (c ∷ codes) zero code h e = (f, refl, let s : c ≡ code = cc in subst (IsCodeOf f) s h.0)
 code_lowered (f ∷ functions) (c ∷ codes) (suc n) code h e = code_lowered functions codes n code h.1 e
 
+-- the slots of a call, with the names of the objects that they refer to
+abbrev pub slots_of : Activation → List Reference → Slots
+slots_of call references = record { numbers = call.numbers.items; references = references }
+
 -- what is known of the instruction at a call's place
-pub record Ready (p : Lowered) (call : Activation) (code : List Instr) (sight : Sight) (task : Task) (rest : List Task) : Type 0 where
+pub record Ready (p : Lowered) (space : Space) (call : Activation) (code : Listing) (sight : Sight) (task : Task) (rest : List Task) : Type 0 where
   pub of_function : slice_get p.codes call.function ≡ Some code
   pub valid : IsValid code
-  pub does : DoesEffect code call.place call.stack rest (effect_of sight task)
-  pub depth : depths (take call.place code) 0 ≡ Some (length call.stack)
+  pub known : Known
+  pub references : List Reference
+  pub agree : ReferencesAgree space call.references.items references
+  pub shows : Shows code known sight (slots_of call references)
+  pub does : DoesEffect code known call.place call.stack (slots_of call references) sight rest (effect_of sight task)
+  pub depth : depths (take call.place code.instrs) 0 ≡ Some (length call.stack)
 
-pub ready : (p : Lowered) (call : Activation) (code : List Instr) (sight : Sight) (task : Task) (rest : List Task) → IsLowered p → slice_get p.codes call.function ≡ Some code → CallStands p call (task ∷ rest) → Ready p call code sight task rest
-ready p call code sight task rest lowered at h =
+pub ready : (p : Lowered) (space : Space) (call : Activation) (code : Listing) (sight : Sight) (task : Task) (rest : List Task) → IsLowered p → slice_get p.codes call.function ≡ Some code → CallStands p space call sight (task ∷ rest) → Ready p space call code sight task rest
+ready p space call code sight task rest lowered at h =
     let same : h.code ≡ code = cc (h.of_function) in
     let found = code_lowered (functions_of (unit_tree p.unit)) p.codes call.function code lowered at in
+    let shows = subst (λ (k : Listing). Shows k h.known sight (slots_of call h.references)) same h.shows in
     record {
       of_function = at;
       valid = found.2.valid;
-      does = found.2.steps sight call.place call.stack task rest (subst (λ k. StandsFor k call.place call.stack (task ∷ rest)) same h.stands);
-      depth = subst (λ k. depths (take call.place k) 0 ≡ Some (length call.stack)) same h.depth;
+      known = h.known;
+      references = h.references;
+      agree = h.agree;
+      shows = shows;
+      does = found.2.steps sight h.known (slots_of call h.references) call.place call.stack task rest shows (subst (λ (k : Listing). StandsFor k h.known call.place call.stack (task ∷ rest)) same h.stands);
+      depth = subst (λ (k : Listing). depths (take call.place k.instrs) 0 ≡ Some (length call.stack)) same h.depth;
     }
-
--- there is an instruction
-fetched : (code : List Instr) (place : ℕ) (stack : List ℕ) (rest : List Task) (e : Effect) → DoesEffect code place stack rest e → (i : Instr) × (slice_get code place ≡ Some i)
-fetched code place stack rest e h = does_cases code place stack rest (λ e. (i : Instr) × (slice_get code place ≡ Some i)) (λ tasks g. (g.here, g.at)) (λ z g. (instr.PutJint, g.at)) (λ g. (g.here, g.at)) e h
-
-pub here : (p : Lowered) (call : Activation) (code : List Instr) (sight : Sight) (task : Task) (rest : List Task) → (r : Ready p call code sight task rest) → (i : Instr) × (slice_get code call.place ≡ Some i)
-here p call code sight task rest r = fetched code call.place call.stack rest (effect_of sight task) r.does
 
 -- ---- depths
 
@@ -98,126 +113,141 @@ guarded false x e h = absurd (cc)
 
 -- ---- what an instruction does
 
-stack_of : Option (Plain × List ℕ) → List ℕ
+-- a plain instruction's answer, by its parts
+abbrev pub Answer : Type 0
+Answer = Option (Plain × List ℕ × List ℕ)
+
+stack_of : Answer → List ℕ
 stack_of None = []
 stack_of (Some x) = x.1
 
-same_after : (o u : Plain) (a b : List ℕ) → ◌≡◌ {A = Option (Plain × List ℕ)} (Some (o, a)) (Some (u, b)) → a ≡ b
+numbers_of : Answer → List ℕ
+numbers_of None = []
+numbers_of (Some x) = x.2
+
+pub same_stack : (o u : Plain) (a b m n : List ℕ) → ◌≡◌ {A = Answer} (Some (o, a, m)) (Some (u, b, n)) → a ≡ b
 unfolding stack_of
-same_after o u a b h = ap stack_of h
+same_stack o u a b m n h = ap stack_of h
 
-put_not_plain : (s : List ℕ) (i : Instr) (x : Plain × List ℕ) → i ≡ instr.PutJint → plain_of i s ≡ Some x → ⊥
-put_not_plain s i x e h = let k : None ≡ Some x = subst (λ j. plain_of j s ≡ Some x) e h in cc
+pub same_numbers : (o u : Plain) (a b m n : List ℕ) → ◌≡◌ {A = Answer} (Some (o, a, m)) (Some (u, b, n)) → m ≡ n
+unfolding numbers_of
+same_numbers o u a b m n h = ap numbers_of h
 
-return_not_plain : (s : List ℕ) (i : Instr) (x : Plain × List ℕ) → IsReturn i → plain_of i s ≡ Some x → ⊥
-return_not_plain s (instr.Push n) x r h = r
-return_not_plain s instr.Complement x r h = r
-return_not_plain s instr.Convert x r h = r
-return_not_plain s (instr.Operate operator) x r h = r
-return_not_plain s instr.PutJint x r h = r
-return_not_plain s instr.Return x r h = cc
-return_not_plain s instr.ReturnJint x r h = cc
+-- what works on the stack and the number slots alone
+pub IsPlain : Instr → Type 0
+IsPlain instr.PutJint = ⊥
+IsPlain (instr.Call call) = ⊥
+IsPlain instr.Return = ⊥
+IsPlain instr.ReturnJint = ⊥
+IsPlain i = Unit {0}
 
-return_not_put : (i : Instr) → IsReturn i → i ≡ instr.PutJint → ⊥
-return_not_put i r e = subst IsReturn e r
+pub is_plain : (i : Instr) (s m : List ℕ) (x : Plain × List ℕ × List ℕ) → plain_of i s m ≡ Some x → IsPlain i
+unfolding IsPlain
+is_plain (instr.Push n) s m x h = tt
+is_plain (instr.Load slot) s m x h = tt
+is_plain (instr.Store slot) s m x h = tt
+is_plain instr.Complement s m x h = tt
+is_plain instr.Convert s m x h = tt
+is_plain (instr.Operate operator) s m x h = tt
+is_plain instr.PutJint s m x h = absurd (cc)
+is_plain (instr.Call call) s m x h = absurd (cc)
+is_plain instr.Return s m x h = absurd (cc)
+is_plain instr.ReturnJint s m x h = absurd (cc)
+
+pub put_not_plain : (i : Instr) → i ≡ instr.PutJint → IsPlain i → ⊥
+unfolding IsPlain
+put_not_plain i e h = subst IsPlain e h
+
+pub call_not_plain : (i : Instr) (call : Call) → i ≡ instr.Call call → IsPlain i → ⊥
+unfolding IsPlain
+call_not_plain i call e h = subst IsPlain e h
+
+pub return_not_plain : (i : Instr) → IsReturn i → IsPlain i → ⊥
+unfolding IsPlain
+return_not_plain (instr.Push n) r h = r
+return_not_plain (instr.Load slot) r h = r
+return_not_plain (instr.Store slot) r h = r
+return_not_plain instr.Complement r h = r
+return_not_plain instr.Convert r h = r
+return_not_plain (instr.Operate operator) r h = r
+return_not_plain instr.PutJint r h = h
+return_not_plain (instr.Call call) r h = h
+return_not_plain instr.Return r h = h
+return_not_plain instr.ReturnJint r h = h
+
+loaded_depth : (o : Option ℕ) (s m after m' : List ℕ) (u : Plain) → option_map (λ (n : ℕ). (plain.Next, n ∷ s, m)) o ≡ Some (u, after, m') → length after ≡ suc (length s)
+loaded_depth None s m after m' u h = absurd (cc)
+loaded_depth (Some n) s m after m' u h = let a : n ∷ s ≡ after = same_stack _ _ _ _ _ _ h in sym (ap length a)
+
+stored_depth : (b : Bool) (s m after m' : List ℕ) (u : Plain) → ◌≡◌ {A = Answer} (cond b (Some (plain.Next, s, m)) None) (Some (u, after, m')) → length after ≡ length s
+stored_depth true s m after m' u h = let a : s ≡ after = same_stack _ _ _ _ _ _ h in sym (ap length a)
+stored_depth false s m after m' u h = absurd (cc)
 
 -- the stack has as many words as the depths say
-plain_depth : (i : Instr) (s : List ℕ) (o : Plain) (after : List ℕ) (e : ℕ) → plain_of i s ≡ Some (o, after) → depth_after i (length s) ≡ Some e → length after ≡ e
-plain_depth (instr.Push n) s o after e h k = let a : n ∷ s ≡ after = same_after _ _ _ _ h in sym (ap length a) ∙ guarded (nat_lt (length s) 64) (suc (length s)) e k
-plain_depth instr.Complement [] o after e h k = absurd (cc)
-plain_depth instr.Complement (a ∷ s) o after e h k = let f : (4294967295 - a) ∷ s ≡ after = same_after _ _ _ _ h in sym (ap length f) ∙ (cc)
-plain_depth instr.Convert [] o after e h k = absurd (cc)
-plain_depth instr.Convert (a ∷ s) o after e h k = let f : a ∷ s ≡ after = same_after _ _ _ _ h in sym (ap length f) ∙ (cc)
-plain_depth (instr.Operate operator) [] o after e h k = absurd (cc)
-plain_depth (instr.Operate operator) (a ∷ []) o after e h k = absurd (cc)
-plain_depth (instr.Operate operator) (b ∷ a ∷ s) o after e h k = let f : operate operator a b ∷ s ≡ after = same_after _ _ _ _ h in sym (ap length f) ∙ (cc)
-plain_depth instr.PutJint s o after e h k = absurd (cc)
-plain_depth instr.Return s o after e h k = absurd (cc)
-plain_depth instr.ReturnJint s o after e h k = absurd (cc)
+pub plain_depth : (i : Instr) (s m : List ℕ) (o : Plain) (after m' : List ℕ) (e : ℕ) → plain_of i s m ≡ Some (o, after, m') → depth_after i (length s) ≡ Some e → length after ≡ e
+plain_depth (instr.Push n) s m o after m' e h k = let a : n ∷ s ≡ after = same_stack _ _ _ _ _ _ h in sym (ap length a) ∙ guarded (nat_lt (length s) 64) (suc (length s)) e k
+plain_depth (instr.Load slot) s m o after m' e h k = loaded_depth (slice_get m slot) s m after m' o h ∙ guarded (nat_lt (length s) 64) (suc (length s)) e k
+plain_depth (instr.Store slot) [] m o after m' e h k = absurd (cc)
+plain_depth (instr.Store slot) (n ∷ s) m o after m' e h k = stored_depth (nat_lt slot (length m)) s (slice_set m slot n) after m' o h ∙ (cc)
+plain_depth instr.Complement [] m o after m' e h k = absurd (cc)
+plain_depth instr.Complement (a ∷ s) m o after m' e h k = let f : (4294967295 - a) ∷ s ≡ after = same_stack _ _ _ _ _ _ h in sym (ap length f) ∙ (cc)
+plain_depth instr.Convert [] m o after m' e h k = absurd (cc)
+plain_depth instr.Convert (a ∷ s) m o after m' e h k = let f : a ∷ s ≡ after = same_stack _ _ _ _ _ _ h in sym (ap length f) ∙ (cc)
+plain_depth (instr.Operate operator) [] m o after m' e h k = absurd (cc)
+plain_depth (instr.Operate operator) (a ∷ []) m o after m' e h k = absurd (cc)
+plain_depth (instr.Operate operator) (b ∷ a ∷ s) m o after m' e h k = let f : operate operator a b ∷ s ≡ after = same_stack _ _ _ _ _ _ h in sym (ap length f) ∙ (cc)
+plain_depth instr.PutJint s m o after m' e h k = absurd (cc)
+plain_depth (instr.Call call) s m o after m' e h k = absurd (cc)
+plain_depth instr.Return s m o after m' e h k = absurd (cc)
+plain_depth instr.ReturnJint s m o after m' e h k = absurd (cc)
 
-abbrev pub moved : Activation → List ℕ → Activation
-moved call after = record { function = call.function; place = call.place + 1; stack = after }
+-- the call stands behind the instruction, with these operands and number slots
+pub record HasMoved (call after : Activation) (stack numbers : List ℕ) : Type 0 where
+  pub function : after.function ≡ call.function
+  pub place : after.place ≡ call.place + 1
+  pub stack : after.stack ≡ stack
+  pub numbers : after.numbers.items ≡ numbers
+  pub references : after.references.items ≡ call.references.items
 
--- what stands behind the instruction, with its depth
-stands_behind : (p : Lowered) (call : Activation) (code : List Instr) (sight : Sight) (task : Task) (rest tasks : List Task) (r : Ready p call code sight task rest) (i : Instr) (after : List ℕ) (e : ℕ) → slice_get code call.place ≡ Some i → depth_after i (length call.stack) ≡ Some e → length after ≡ e → StandsFor code (call.place + 1) after tasks → CallStands p (moved call after) tasks
-stands_behind p call code sight task rest tasks r i after e at d l stands =
-    let next = depth_next code call.place i 0 (length call.stack) r.valid.depth r.valid.stays at r.depth in
-    let same : next.0 ≡ length after = cc (next.1, d, l) in
-    record {
-      code = code;
-      of_function = r.of_function;
-      stands = stands;
-      depth = rw add-one (next.2 ∙ ap (λ k. Some k) same);
-    }
+module _ (p : Lowered) (space : Space) (call : Activation) (code : Listing) (sight : Sight) (task : Task) (rest : List Task) (r : Ready p space call code sight task rest) where
+  -- there is an instruction
+  pub here : (i : Instr) × (slice_get code.instrs call.place ≡ Some i)
+  here =
+      does_cases code r.known call.place call.stack (slots_of call r.references) sight rest (λ e. (i : Instr) × (slice_get code.instrs call.place ≡ Some i))
+      (λ tasks g. (g.here, g.at)) (λ x v g. (instr.Store g.slot, g.at)) (λ z g. (instr.PutJint, g.at)) (λ line target f args g. (instr.Call g.call, g.at)) (λ g. (g.here, g.at))
+      (effect_of sight task) r.does
 
--- room for the instruction
-pub room : (p : Lowered) (call : Activation) (code : List Instr) (sight : Sight) (task : Task) (rest : List Task) (r : Ready p call code sight task rest) (i : Instr) → slice_get code call.place ≡ Some i → (e : ℕ) × (depth_after i (length call.stack) ≡ Some e)
-room p call code sight task rest r i at =
-    let next = depth_next code call.place i 0 (length call.stack) r.valid.depth r.valid.stays at r.depth in
-    (next.0, next.1)
+  module _ (i : Instr) (at : slice_get code.instrs call.place ≡ Some i) where
+    -- room for the instruction
+    pub room : (e : ℕ) × (depth_after i (length call.stack) ≡ Some e)
+    room =
+        let next = depth_next code.instrs call.place i 0 (length call.stack) r.valid.moves.depth r.valid.moves.stays at r.depth in
+        (next.0, next.1)
 
--- an instruction on the stack alone
-pub plain_executes : (p : Lowered) (call : Activation) (code : List Instr) (sight : Sight) (task : Task) (rest : List Task) (r : Ready p call code sight task rest) (i : Instr) (after : List ℕ) → slice_get code call.place ≡ Some i → plain_of i call.stack ≡ Some (plain.Next, after) → Executes p (moved call after) rest (effect_of sight task) (Did event.Quiet)
-plain_executes p call code sight task rest r i after at is =
-    does_cases code call.place call.stack rest (λ e. Executes p (moved call after) rest e (Did event.Quiet)) becomes
-    (λ z h. absurd (put_not_plain call.stack i (plain.Next, after) (cc (at, h.at)) is))
-    (λ h. absurd (return_not_plain call.stack i (plain.Next, after) (let same : h.here ≡ i = cc (at, h.at) in subst IsReturn same h.returns) is))
-    (effect_of sight task) r.does
-  where
-    becomes : (tasks : List Task) → GoesOn code call.place call.stack (tasks ++ rest) → (Did event.Quiet ≡ Did event.Quiet) × CallStands p (moved call after) (tasks ++ rest)
-    becomes tasks h =
-        let same : h.here ≡ i = cc (h.at, at) in
-        let plain_is : plain_of i call.stack ≡ Some (plain.Next, h.after) = subst (λ j. plain_of j call.stack ≡ Some (plain.Next, h.after)) same h.plain in
-        let after_is : h.after ≡ after = same_after _ _ _ _ (sym plain_is ∙ is) in
-        let d = room p call code sight task rest r i at in
-        (refl, stands_behind p call code sight task rest (tasks ++ rest) r i after d.0 at d.1 (plain_depth i call.stack plain.Next after d.0 is d.1) (subst (λ s. StandsFor code (call.place + 1) s (tasks ++ rest)) after_is h.stands))
-
--- a print
-pub put_executes : (p : Lowered) (call : Activation) (code : List Instr) (sight : Sight) (task : Task) (rest : List Task) (r : Ready p call code sight task rest) (word : ℕ) (after : List ℕ) → slice_get code call.place ≡ Some instr.PutJint → call.stack ≡ word ∷ after → Executes p (moved call after) rest (effect_of sight task) (Did (event.Printed (cast_signed w32 word)))
-put_executes p call code sight task rest r word after at top =
-    does_cases code call.place call.stack rest (λ e. Executes p (moved call after) rest e (Did (event.Printed (cast_signed w32 word))))
-    (λ tasks h. absurd (put_not_plain call.stack h.here (plain.Next, h.after) (cc (at, h.at)) h.plain)) prints
-    (λ h. absurd (return_not_put h.here h.returns (cc (at, h.at))))
-    (effect_of sight task) r.does
-  where
-    prints : (z : ℤ) → PrintsTop code call.place call.stack z rest → (Did (event.Printed (cast_signed w32 word)) ≡ Did (event.Printed z)) × CallStands p (moved call after) rest
-    prints z h =
-        let words : word ≡ h.word = cc (top, h.top) in
-        let nothing : [] ≡ after = cc (top, h.top) in
-        let d : depth_after instr.PutJint (length call.stack) ≡ Some (length after) = ap (λ (s : List ℕ). depth_after instr.PutJint (length s)) top in
-        (ap (λ (w : ℕ). Did (event.Printed (cast_signed w32 w))) words ∙ ap (λ (z : ℤ). Did (event.Printed z)) h.is, stands_behind p call code sight task rest rest r instr.PutJint after (length after) at d refl (subst (λ s. StandsFor code (call.place + 1) s rest) nothing h.stands))
-
--- a return
-pub return_executes : (p : Lowered) (call : Activation) (code : List Instr) (sight : Sight) (task : Task) (rest : List Task) (r : Ready p call code sight task rest) (i : Instr) → slice_get code call.place ≡ Some i → IsReturn i → Executes p call rest (effect_of sight task) Returned
-return_executes p call code sight task rest r i at is =
-    does_cases code call.place call.stack rest (λ e. Executes p call rest e Returned)
-    (λ tasks h. absurd (return_not_plain call.stack i (plain.Next, h.after) is (let same : h.here ≡ i = cc (at, h.at) in subst (λ j. plain_of j call.stack ≡ Some (plain.Next, h.after)) same h.plain)))
-    (λ z h. absurd (return_not_put i is (cc (at, h.at)))) (λ h. refl)
-    (effect_of sight task) r.does
+    -- what stands behind the instruction
+    pub stands_behind : (after : Activation) (stack numbers : List ℕ) (names : Known) (sight' : Sight) (tasks : List Task) → depth_after i (length call.stack) ≡ Some (length stack) → HasMoved call after stack numbers
+        → StandsFor code names (call.place + 1) stack tasks → Shows code names sight' (record { numbers = numbers; references = r.references }) → CallStands p space after sight' tasks
+    stands_behind after stack numbers names sight' tasks d m stands shows =
+        let next = depth_next code.instrs call.place i 0 (length call.stack) r.valid.moves.depth r.valid.moves.stays at r.depth in
+        let same : next.0 ≡ length stack = cc (next.1, d) in
+        let place : after.place ≡ suc call.place = omega (arith, m.place) in
+        record {
+          code = code;
+          of_function = ap (slice_get p.codes) m.function ∙ r.of_function;
+          known = names;
+          stands = subst (λ (n : ℕ). StandsFor code names n after.stack tasks) (sym m.place) (subst (λ (s : List ℕ). StandsFor code names (call.place + 1) s tasks) (sym m.stack) stands);
+          references = r.references;
+          agree = subst (λ (l : List (Option ℕ)). ReferencesAgree space l r.references) (sym m.references) r.agree;
+          shows = subst (λ (ns : List ℕ). Shows code names sight' (record { numbers = ns; references = r.references })) (sym m.numbers) shows;
+          depth = ap (λ (n : ℕ). depths (take n code.instrs) 0) place ∙ next.2 ∙ ap (λ (n : ℕ). Some n) (same ∙ sym (ap length m.stack));
+        }
 
 -- what a look-up gave is there
 pub is_there : {A : Type 0} (o : Option (Bor A)) (x : A) → option_copied o ≡ Some x → IsSome o
 is_there None x h = absurd (cc)
 is_there (Some r) x h = refl
 
--- an operator's operands are on the stack
-pub put_operand : (p : Lowered) (call : Activation) (code : List Instr) (sight : Sight) (task : Task) (rest : List Task) (r : Ready p call code sight task rest) → slice_get code call.place ≡ Some instr.PutJint → 0 < length call.stack
-put_operand p call code sight task rest r at = positive (length call.stack) (room p call code sight task rest r instr.PutJint at)
-  where
-    positive : (n : ℕ) → (e : ℕ) × (depth_after instr.PutJint n ≡ Some e) → 0 < n
-    positive zero h = absurd (cc (h.1))
-    positive (suc n) h = omega arith
-
--- an instruction that neither prints nor returns works on the stack alone
-pub plain_operands : (i : Instr) (s : List ℕ) (e : ℕ) → (i ≡ instr.PutJint → ⊥) → (i ≡ instr.Return → ⊥) → (i ≡ instr.ReturnJint → ⊥) → depth_after i (length s) ≡ Some e → IsSome (plain_of i s)
-plain_operands (instr.Push n) s e a b c d = refl
-plain_operands instr.Complement [] e a b c d = absurd (cc)
-plain_operands instr.Complement (x ∷ s) e a b c d = refl
-plain_operands instr.Convert [] e a b c d = absurd (cc)
-plain_operands instr.Convert (x ∷ s) e a b c d = refl
-plain_operands (instr.Operate operator) [] e a b c d = absurd (cc)
-plain_operands (instr.Operate operator) (x ∷ []) e a b c d = absurd (cc)
-plain_operands (instr.Operate operator) (x ∷ y ∷ s) e a b c d = refl
-plain_operands instr.PutJint s e a b c d = absurd (a refl)
-plain_operands instr.Return s e a b c d = absurd (b refl)
-plain_operands instr.ReturnJint s e a b c d = absurd (c refl)
+-- a word is on the stack
+pub positive : (n : ℕ) → (e : ℕ) × (depth_after instr.PutJint n ≡ Some e) → 0 < n
+positive zero h = absurd (cc (h.1))
+positive (suc n) h = omega arith

@@ -13,6 +13,8 @@ pub mod LoadedObjects
 pub mod Loaded
 pub mod Arrays
 pub mod LengthCalls
+pub mod Effects
+pub mod Invocations
 pub mod RowTexts
 pub mod BlockRows
 pub mod LoadedRows

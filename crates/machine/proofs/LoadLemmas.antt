@@ -1,52 +1,98 @@
 -- Calls that load, and calls that don't.
-use Rattle.std.proofs.Common.{◌≡◌, ℕ, zero, suc, ◌+◌, ◌≤◌, Bool, true, false, List, [], ◌∷◌, ◌++◌, length, drop, map, Option, Some, None, refl, sym, ap, ◌∙◌, subst, arith, append_assoc, append-nil}
-use Rattle.std.specs.Prelude.{slice_get, is_some, ◌&&◌}
+use Rattle.std.proofs.Common.{◌≡◌, ℕ, ℤ, zero, suc, pos, negsuc, ◌+◌, ◌<◌, ◌≤◌, Bool, true, false, List, [], ◌∷◌, ◌++◌, length, drop, map, Option, Some, None, refl, sym, ap, ◌∙◌, subst, arith, append_assoc, append-nil}
+use Rattle.std.specs.Prelude.{slice_get, is_some, ◌&&◌, FitsSigned}
+use Rattle.std.specs.Int.{w32}
+use Rattle.std.specs.List.{list_all}
 use Rattle.std.specs.Option.{option_and_then}
 use Rattle.std.proofs.lemmas.Bool.{and_from}
+use Rattle.std.proofs.lemmas.Bool.Decides.{nat_tests}
 use Rattle.std.proofs.Math.ListN.{drop_of_length-le}
+use Rattle.base.specs.Bytes.{Identifier}
+use Rattle.base.specs.Element.{JInt}
 use Rattle.base.specs.Options.{some_passes}
-use Rattle.syntax.specs.Tree.{SourceUnit, Parameter}
+use Rattle.syntax.specs.Tree.{SourceUnit, Parameter, ParameterType, IntParameter, ReferenceParameter}
+use Rattle.syntax.specs.Views.{unit_tree}
 use Rattle.classes.specs.Class.{Classes, class_named}
 use Rattle.classes.specs.Mangling.{native_class}
-use Rattle.world.specs.Object.{ObjectValue}
-use Rattle.world.specs.Views.{argument_view}
+use Rattle.world.specs.CallArguments.{is_argument, are_arguments}
+use Rattle.world.specs.Object.{ObjectValue, Number, Refers}
 use Rattle.world.specs.Scene.{CallScene, has_call}
 use Rattle.world.specs.SceneWorld.{invocation_of}
+use Rattle.world.specs.Views.{argument_view}
+use Rattle.world.specs.WorldRules.{is_in_range}
+use Rattle.world.proofs.GivenLemmas.{class_within}
 use Rattle.regions.specs.Activation.{class_of_function}
-use Rattle.regions.specs.Load.{call_loads, is_callable, fit_parameters}
+use Rattle.regions.specs.Load.{call_loads, is_callable, fits_parameter, fit_parameters}
 use Rattle.lower.specs.Lowered.{Lowered}
+use Rattle.lower.specs.Slots.{ArgumentFits, ArgumentsFit}
 use Rattle.machine.specs.declared.thread.CallToCome.{CallToCome}
 use Rattle.machine.specs.Agrees.{CallAgrees, CallsAgree}
 use Rattle.machine.specs.Loading.{IsNumberOf, IsCallOf, refused_calls}
 
-some_class : (o : Option ℕ) → is_some o ≡ true → (c : ℕ) × (o ≡ Some c)
-some_class None h = absurd (cc)
-some_class (Some c) h = (c, refl)
+-- ---- arguments
 
--- a call whose function and class are there, and which is given nothing
-pub call_found : (p : Lowered) (classes : Classes) (call : CallScene) (next : CallToCome) → IsNumberOf p call.function next.function → is_some (option_and_then (class_named classes) (native_class call.function)) ≡ true
-    → call.arguments ≡ [] → map argument_view next.arguments.items ≡ call.arguments → IsCallOf p classes (invocation_of call) (Some next)
-call_found p classes call next n known nothing given =
-    let class : class_of_function classes n.function ≡ option_and_then (class_named classes) (native_class call.function) = ap (λ name. option_and_then (class_named classes) (native_class name)) n.has_name in
-    let there = ap is_some class ∙ known in
-    let c = some_class (class_of_function classes n.function) there in (
-      record { function = n.function; named = n.named; numbered = n.numbered; class = c.0; of_class = c.1; given = given },
-      ap (some_passes (is_callable classes call.arguments)) n.named
-      ∙ ap (λ (vs : List ObjectValue). is_callable classes vs n.function) nothing
-      ∙ and_from (is_some (class_of_function classes n.function)) (fit_parameters n.function.parameters []) there (ap (λ (ps : List Parameter). fit_parameters ps []) n.no_parameters),
+in_range : (z : ℤ) → is_in_range JInt z ≡ true → FitsSigned w32 z
+in_range (pos n) h = let low : n < 2147483648 = grind (arith, nat_tests, h) in record { sfits = low }
+in_range (negsuc n) h = let low : n < 2147483648 = grind (arith, nat_tests, h) in record { sfits = low }
+
+argument_fits : (made : ℕ) (t : ParameterType) (v : ObjectValue) → fits_parameter t v ≡ true → is_argument made v ≡ true → ArgumentFits t v
+argument_fits made IntParameter (Number z) h k = in_range z k
+argument_fits made IntParameter (Refers r) h k = absurd (cc)
+argument_fits made (ReferenceParameter type) (Number z) h k = absurd (cc)
+argument_fits made (ReferenceParameter type) (Refers r) h k = tt
+
+both : (a b : Bool) → (a && b) ≡ true → (a ≡ true) × (b ≡ true)
+both true true h = (refl, refl)
+both true false h = absurd (cc)
+both false b h = absurd (cc)
+
+arguments_fit : (made : ℕ) (ps : List Parameter) (vs : List ObjectValue) → fit_parameters ps vs ≡ true → list_all (is_argument made) vs ≡ true → ArgumentsFit ps vs
+arguments_fit made [] [] h k = tt
+arguments_fit made [] (v ∷ vs) h k = absurd (cc)
+arguments_fit made (p ∷ ps) [] h k = absurd (cc)
+arguments_fit made (p ∷ ps) (v ∷ vs) h k =
+    let a = both (fits_parameter p.type v) (fit_parameters ps vs) h in
+    let b = both (is_argument made v) (list_all (is_argument made) vs) k in
+    (argument_fits made p.type v a.0 b.0, arguments_fit made ps vs a.1 b.1)
+
+-- ---- calls
+
+class_made : (classes : Classes) (made : ℕ) (o : Option Identifier) (c : ℕ) → length classes ≤ made → option_and_then (class_named classes) o ≡ Some c → (0 < c) × (c ≤ made)
+class_made classes made None c few h = absurd (cc)
+class_made classes made (Some name) c few h = let w = class_within classes name c h in (w.0, omega (arith, w.1))
+
+-- a call whose function and class are there, and whose arguments fit
+pub call_found : (p : Lowered) (classes : Classes) (made : ℕ) (call : CallScene) (next : CallToCome) (n : IsNumberOf p call.function next.function) → length classes ≤ made → option_and_then (class_named classes) (native_class call.function) ≡ Some next.class
+    → map argument_view next.arguments.items ≡ call.arguments → are_arguments made call ≡ true → fit_parameters n.function.parameters call.arguments ≡ true → IsCallOf p classes made (invocation_of call) (Some next)
+call_found p classes made call next n few known arguments given fits =
+    let class : class_of_function classes n.function ≡ Some next.class = ap (λ name. option_and_then (class_named classes) (native_class name)) n.has_name ∙ known in (
+      record {
+        function = n.function;
+        named = n.named;
+        numbered = n.numbered;
+        of_class = class;
+        class_made = class_made classes made (native_class call.function) next.class few known;
+        arguments = arguments;
+        given = given;
+        fit = arguments_fit made n.function.parameters call.arguments fits given;
+      },
+      ap (some_passes (is_callable classes call.arguments)) n.named ∙ and_from (is_some (class_of_function classes n.function)) (fit_parameters n.function.parameters call.arguments) (ap is_some class) fits,
     )
 
--- a call that is given something
-pub given_refused : (p : Lowered) (classes : Classes) (call : CallScene) (number : ℕ) → IsNumberOf p call.function number → (call.arguments ≡ [] → ⊥) → IsCallOf p classes (invocation_of call) None
-given_refused p classes call number n some =
-    ap (some_passes (is_callable classes call.arguments)) n.named
-    ∙ ap (λ (ps : List Parameter). is_some (class_of_function classes n.function) && fit_parameters ps call.arguments) n.no_parameters
-    ∙ misfit (is_some (class_of_function classes n.function)) call.arguments some
+-- a call whose class isn't there
+pub no_class : (p : Lowered) (classes : Classes) (call : CallScene) (number : ℕ) (n : IsNumberOf p call.function number) → option_and_then (class_named classes) (native_class call.function) ≡ None → call_loads (unit_tree p.unit) classes (invocation_of call) ≡ false
+no_class p classes call number n none =
+    let class : class_of_function classes n.function ≡ None = ap (λ name. option_and_then (class_named classes) (native_class name)) n.has_name ∙ none in
+    ap (some_passes (is_callable classes call.arguments)) n.named ∙ ap (λ (o : Option ℕ). is_some o && fit_parameters n.function.parameters call.arguments) class
+
+-- a call whose arguments don't fit
+pub no_fit : (p : Lowered) (classes : Classes) (call : CallScene) (number : ℕ) (n : IsNumberOf p call.function number) → fit_parameters n.function.parameters call.arguments ≡ false → call_loads (unit_tree p.unit) classes (invocation_of call) ≡ false
+no_fit p classes call number n none =
+    ap (some_passes (is_callable classes call.arguments)) n.named ∙ ap (λ (b : Bool). is_some (class_of_function classes n.function) && b) none ∙ and_none (is_some (class_of_function classes n.function))
   where
-    misfit : (b : Bool) (vs : List ObjectValue) → (vs ≡ [] → ⊥) → (b && fit_parameters [] vs) ≡ false
-    misfit b [] h = absurd (h refl)
-    misfit true (v ∷ vs) h = refl
-    misfit false (v ∷ vs) h = refl
+    and_none : (b : Bool) → (b && false) ≡ false
+    and_none true = refl
+    and_none false = refl
 
 -- the calls from a place on
 calls_drop : (calls : List CallScene) (i : ℕ) (x : CallScene) → slice_get calls i ≡ Some x → drop i calls ≡ x ∷ drop (i + 1) calls
@@ -68,18 +114,24 @@ module _ (unit : SourceUnit) (classes : Classes) where
   refused_at calls i x h l = ap (λ (cs : List CallScene). refused_calls unit classes (map invocation_of cs)) (calls_drop calls i x h) ∙ next_refused x (drop (i + 1) calls) l
 
 -- the calls so far agree, and so do those that are still to come
-abbrev pub AgreeSoFar : Lowered → Classes → List CallScene → (i : ℕ) → List CallToCome → Type 0
-AgreeSoFar p classes calls i numbers = (rest : List CallToCome) → CallsAgree p classes rest (map invocation_of (drop i calls)) → CallsAgree p classes (numbers ++ rest) (map invocation_of calls)
+abbrev pub AgreeSoFar : Lowered → Classes → (made : ℕ) → List CallScene → (i : ℕ) → List CallToCome → Type 0
+AgreeSoFar p classes made calls i nexts = (rest : List CallToCome) → CallsAgree p classes made rest (map invocation_of (drop i calls)) → CallsAgree p classes made (nexts ++ rest) (map invocation_of calls)
 
-pub one_more : (p : Lowered) (classes : Classes) (calls : List CallScene) (i : ℕ) (x : CallScene) (n : CallToCome) (numbers : List CallToCome) → slice_get calls i ≡ Some x → CallAgrees p classes n (invocation_of x) → AgreeSoFar p classes calls i numbers → AgreeSoFar p classes calls (i + 1) (numbers ++ n ∷ [])
-one_more p classes calls i x n numbers at a so_far rest h =
-    subst (λ (l : List CallToCome). CallsAgree p classes l (map invocation_of calls)) (sym (append_assoc numbers (n ∷ []) rest))
-    (so_far (n ∷ rest) (subst (λ (cs : List CallScene). CallsAgree p classes (n ∷ rest) (map invocation_of cs)) (sym (calls_drop calls i x at)) (a, h)))
+pub one_more : (p : Lowered) (classes : Classes) (made : ℕ) (calls : List CallScene) (i : ℕ) (x : CallScene) (n : CallToCome) (nexts : List CallToCome) → slice_get calls i ≡ Some x → CallAgrees p classes made n (invocation_of x) → AgreeSoFar p classes made calls i nexts → AgreeSoFar p classes made calls (i + 1) (nexts ++ n ∷ [])
+one_more p classes made calls i x n nexts at a so_far rest h =
+    subst (λ (l : List CallToCome). CallsAgree p classes made l (map invocation_of calls)) (sym (append_assoc nexts (n ∷ []) rest))
+    (so_far (n ∷ rest) (subst (λ (cs : List CallScene). CallsAgree p classes made (n ∷ rest) (map invocation_of cs)) (sym (calls_drop calls i x at)) (a, h)))
 
-pub all_agree : (p : Lowered) (classes : Classes) (calls : List CallScene) (i : ℕ) (numbers : List CallToCome) → length calls ≤ i → AgreeSoFar p classes calls i numbers → CallsAgree p classes numbers (map invocation_of calls)
-all_agree p classes calls i numbers past so_far =
-    let none : CallsAgree p classes [] (map invocation_of (drop i calls)) = rw (drop_of_length-le calls past) tt in
-    subst (λ (n : List CallToCome). CallsAgree p classes n (map invocation_of calls)) (append-nil numbers) (so_far [] none)
+pub all_agree : (p : Lowered) (classes : Classes) (made : ℕ) (calls : List CallScene) (i : ℕ) (nexts : List CallToCome) → length calls ≤ i → AgreeSoFar p classes made calls i nexts → CallsAgree p classes made nexts (map invocation_of calls)
+all_agree p classes made calls i nexts past so_far =
+    let none : CallsAgree p classes made [] (map invocation_of (drop i calls)) = rw (drop_of_length-le calls past) tt in
+    subst (λ (n : List CallToCome). CallsAgree p classes made n (map invocation_of calls)) (append-nil nexts) (so_far [] none)
+
+-- each call of several
+pub given_at : (made : ℕ) (calls : List CallScene) (i : ℕ) (x : CallScene) → list_all (are_arguments made) calls ≡ true → slice_get calls i ≡ Some x → are_arguments made x ≡ true
+given_at made [] i x h e = absurd (cc)
+given_at made (c ∷ calls) zero x h e = let same : c ≡ x = cc in ap (are_arguments made) (sym same) ∙ (both (are_arguments made c) (list_all (are_arguments made) calls) h).0
+given_at made (c ∷ calls) (suc i) x h e = given_at made calls i x ((both (are_arguments made c) (list_all (are_arguments made) calls) h).1) e
 
 pub none_refused : (unit : SourceUnit) (classes : Classes) (calls : List CallScene) (i : ℕ) → length calls ≤ i → refused_calls unit classes (map invocation_of (drop i calls)) ≡ []
 none_refused unit classes calls i past = ap (λ (cs : List CallScene). refused_calls unit classes (map invocation_of cs)) (drop_of_length-le calls past)

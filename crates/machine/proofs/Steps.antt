@@ -26,29 +26,32 @@ use Rattle.machine.specs.declared.thread.Event.TheVariants as event
 use Rattle.machine.specs.declared.thread.Thread.{Thread}
 use Rattle.machine.specs.declared.stop.Stop.{Stop}
 use Rattle.machine.specs.Stops.{stop_view, stop_after}
+use Rattle.regions.specs.Heap.{Heap}
+use Rattle.machine.specs.HeapAgrees.{BlocksAgree, IsTable}
 use Rattle.machine.specs.Agrees.{ThreadAgrees, ThreadsAgree, Advances, ending_view, event_view}
 use Rattle.machine.specs.Run.{Corresponds, printed_after, entry_of, HasEnded}
 use Rattle.machine.proofs.Threads.{unblocked}
 
 -- one thread of several
-pub record Found (p : Lowered) (classes : Classes) (t : Thread) (ss : List source.Thread) (i : ℕ) : Type 0 where
+pub record Found (p : Lowered) (classes : Classes) (space : Space) (made : ℕ) (shared : Shared) (t : Thread) (ss : List source.Thread) (i : ℕ) : Type 0 where
   pub source : source.Thread
   pub is : slice_get ss i ≡ Some source
-  pub agrees : ThreadAgrees p classes t source
+  pub agrees : ThreadAgrees p classes space made shared t source
 
-pub found : (p : Lowered) (classes : Classes) (ts : List Thread) (ss : List source.Thread) (i : ℕ) (t : Thread) → ThreadsAgree p classes ts ss → slice_get ts i ≡ Some t → Found p classes t ss i
-found p classes [] [] i t h e = absurd (cc)
-found p classes [] (s ∷ ss) i t h e = absurd h
-found p classes (x ∷ ts) [] i t h e = absurd h
-found p classes (x ∷ ts) (s ∷ ss) zero t h e = record { source = s; is = refl; agrees = let same : x ≡ t = cc in subst (λ y. ThreadAgrees p classes y s) same h.0 }
-found p classes (x ∷ ts) (s ∷ ss) (suc i) t h e = let f = found p classes ts ss i t h.1 e in record { source = f.source; is = f.is; agrees = f.agrees }
+module _ (p : Lowered) (classes : Classes) (space : Space) (made : ℕ) (shared : Shared) where
+  pub found : (ts : List Thread) (ss : List source.Thread) (i : ℕ) (t : Thread) → ThreadsAgree p classes space made shared ts ss → slice_get ts i ≡ Some t → Found p classes space made shared t ss i
+  found [] [] i t h e = absurd (cc)
+  found [] (s ∷ ss) i t h e = absurd h
+  found (x ∷ ts) [] i t h e = absurd h
+  found (x ∷ ts) (s ∷ ss) zero t h e = record { source = s; is = refl; agrees = let same : x ≡ t = cc in subst (λ y. ThreadAgrees p classes space made shared y s) same h.0 }
+  found (x ∷ ts) (s ∷ ss) (suc i) t h e = let f = found ts ss i t h.1 e in record { source = f.source; is = f.is; agrees = f.agrees }
 
-changed : (p : Lowered) (classes : Classes) (ts : List Thread) (ss : List source.Thread) (i : ℕ) (t : Thread) (s : source.Thread) → ThreadsAgree p classes ts ss → ThreadAgrees p classes t s → ThreadsAgree p classes (slice_set ts i t) (slice_set ss i s)
-changed p classes [] [] i t s h a = tt
-changed p classes [] (y ∷ ss) i t s h a = absurd h
-changed p classes (x ∷ ts) [] i t s h a = absurd h
-changed p classes (x ∷ ts) (y ∷ ss) zero t s h a = (a, h.1)
-changed p classes (x ∷ ts) (y ∷ ss) (suc i) t s h a = (h.0, changed p classes ts ss i t s h.1 a)
+  changed : (ts : List Thread) (ss : List source.Thread) (i : ℕ) (t : Thread) (s : source.Thread) → ThreadsAgree p classes space made shared ts ss → ThreadAgrees p classes space made shared t s → ThreadsAgree p classes space made shared (slice_set ts i t) (slice_set ss i s)
+  changed [] [] i t s h a = tt
+  changed [] (y ∷ ss) i t s h a = absurd h
+  changed (x ∷ ts) [] i t s h a = absurd h
+  changed (x ∷ ts) (y ∷ ss) zero t s h a = (a, h.1)
+  changed (x ∷ ts) (y ∷ ss) (suc i) t s h a = (h.0, changed ts ss i t s h.1 a)
 
 -- ---- what a step changes
 
@@ -82,8 +85,8 @@ module _ (p : Lowered) (scene : Scene) (space : Space) (addresses : List ℕ) (t
   abbrev pub classes : Classes
   classes = (world_of_scene scene).classes
 
-  pub the_thread : Found p classes t c.state.threads i
-  the_thread = found p classes ts c.state.threads i t c.threads_agree at
+  pub the_thread : Found p classes space (length addresses) c.state.shared t c.state.threads i
+  the_thread = found p classes space (length addresses) c.state.shared ts c.state.threads i t c.threads_agree at
 
   there : thread_at c.state k ≡ Some the_thread.source
   there = ap (thread_at c.state) counted ∙ the_thread.is
@@ -93,7 +96,7 @@ module _ (p : Lowered) (scene : Scene) (space : Space) (addresses : List ℕ) (t
   running goes = c.same_stop ∙ ap (option_map stop_view) goes
 
   steps_here : stop ≡ None → t.ending ≡ Unfinished → Steps classes c.state k the_thread.source
-  steps_here goes live = steps classes c.state k the_thread.source (running goes) there (the_thread.agrees.ending ∙ ap ending_view live) (unblocked p classes k c.state.shared t the_thread.source c.lowered the_thread.agrees)
+  steps_here goes live = steps classes c.state k the_thread.source (running goes) there (the_thread.agrees.ending ∙ ap ending_view live) (unblocked p classes space (length addresses) k c.state.shared t the_thread.source c.lowered the_thread.agrees)
 
   pub can_turn_here : stop ≡ None → t.ending ≡ Unfinished → can_step classes c.state k ≡ true
   can_turn_here goes live = (steps_here goes live).can
@@ -107,11 +110,13 @@ module _ (p : Lowered) (scene : Scene) (space : Space) (addresses : List ℕ) (t
 
   -- the machine after the step
   pub steps_on : (after : Thread) (e : Event) → stop ≡ None → t.ending ≡ Unfinished
-      → ((classes : Classes) (lent : Lent) (k : ℕ) (shared : Shared) (s : source.Thread) → shared.monitors ≡ [] → ThreadAgrees p classes t s → t.ending ≡ Unfinished → Advances p classes lent k shared s after e)
+      → ((lent : Lent) (k : ℕ) (shared : Shared) (s : source.Thread) → shared.monitors ≡ [] → BlocksAgree space shared.heap space.blocks → IsTable space addresses (length addresses) → ThreadAgrees p classes space (length addresses) shared t s → Advances p classes space (length addresses) lent k shared s after e)
       → Corresponds p scene space addresses (slice_set ts i after) (printed_after printed k e) (stop_after stop k e) (journal ++ entry_of k ∷ [])
   steps_on after e goes live advances =
       let f = the_thread in
-      let a = advances classes (lent c.state) k c.state.shared f.source c.monitors f.agrees live in
+      let blocks = subst (λ (h : Heap). BlocksAgree space h space.blocks) (sym c.heap) c.blocks.agree.blocks in
+      let table : IsTable space addresses (length addresses) = record { counted = refl; named = c.blocks.table.named } in
+      let a = advances (lent c.state) k c.state.shared f.source c.monitors blocks table f.agrees in
       let next = next_state c.state k a.next e in
       let step : world_step (unit_tree p.unit) classes c.state (entry_of k) ≡ Some next =
       step-thread (unit_tree p.unit) classes c.state k f.source false (steps_here goes live) ∙ ap (advanced c.state k) a.steps in
@@ -119,7 +124,7 @@ module _ (p : Lowered) (scene : Scene) (space : Space) (addresses : List ℕ) (t
         lowered = c.lowered;
         state = next;
         replays = replay_more (unit_tree p.unit) (world_of_scene scene) journal (entry_of k) c.state next c.replays step;
-        threads_agree = subst (ThreadsAgree p classes (slice_set ts i after)) (sym (threads_next c.state k a.next e ∙ ap (λ n. set_thread c.state.threads n a.next) counted)) (changed p classes ts c.state.threads i after a.next c.threads_agree a.agrees);
+        threads_agree = subst (λ (x : Shared). ThreadsAgree p classes space (length addresses) x (slice_set ts i after) next.threads) (sym (shared_next c.state k a.next e)) (subst (ThreadsAgree p classes space (length addresses) c.state.shared (slice_set ts i after)) (sym (threads_next c.state k a.next e ∙ ap (λ n. set_thread c.state.threads n a.next) counted)) (changed p classes space (length addresses) c.state.shared ts c.state.threads i after a.next c.threads_agree a.agrees));
         same_printed = printed_next c.state k a.next e ∙ ap (λ l. printed_after l k e) c.same_printed;
         same_stop = stop_next c.state k a.next e stop c.same_stop;
         heap = ap (λ (x : Shared). x.heap) (shared_next c.state k a.next e) ∙ c.heap;

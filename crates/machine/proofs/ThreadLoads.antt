@@ -2,15 +2,20 @@
 use Rattle.std.proofs.Common.{◌≡◌, ℕ, zero, suc, ◌+◌, ◌≤◌, List, [], ◌∷◌, ◌++◌, length, drop, map, Some, refl, sym, ap, ◌∙◌, subst, arith, append_assoc, append-nil}
 use Rattle.std.specs.Prelude.{slice_get, flat_map}
 use Rattle.std.specs.Global.{Vec}
+use Rattle.std.specs.List.{list_all}
+use Rattle.world.proofs.WordLaws.{both_true}
 use Rattle.std.proofs.lemmas.List.Concat.{flat_map-cons}
 use Rattle.std.proofs.Math.ListN.{drop_of_length-le}
 use Rattle.syntax.specs.Tree.{SourceUnit}
 use Rattle.classes.specs.Class.{Classes}
+use Rattle.heap.specs.Heap.{Space}
+use Rattle.world.specs.CallArguments.{are_arguments}
 use Rattle.world.specs.Scene.{CallScene}
 use Rattle.world.specs.SceneWorld.{invocation_of}
 use Rattle.world.specs.World.{Invocation}
 use Rattle.regions.specs.Start.{waiting_thread}
 use Rattle.regions.specs.Thread as source
+use Rattle.regions.specs.Thread.{Shared}
 use Rattle.lower.specs.Lowered.{Lowered}
 use Rattle.machine.specs.declared.fault.LoadFault.{LoadFault}
 use Rattle.machine.specs.declared.fault.LoadFault.TheVariants.{DoesNotFit, Memory}
@@ -37,18 +42,19 @@ threads_drop (y ∷ ts) (suc i) x h = let e : suc i + 1 ≡ suc (i + 1) = omega 
 
 -- ---- threads that agree
 
-abbrev pub AgreeSoFar : Lowered → Classes → List (Vec CallScene) → (i : ℕ) → List Thread → Type 0
-AgreeSoFar p classes ts i threads = (rest : List Thread) → ThreadsAgree p classes rest (map waiting_thread (called (drop i ts))) → ThreadsAgree p classes (threads ++ rest) (map waiting_thread (called ts))
+module _ (p : Lowered) (classes : Classes) (space : Space) (made : ℕ) (shared : Shared) where
+  abbrev pub AgreeSoFar : List (Vec CallScene) → (i : ℕ) → List Thread → Type 0
+  AgreeSoFar ts i threads = (rest : List Thread) → ThreadsAgree p classes space made shared rest (map waiting_thread (called (drop i ts))) → ThreadsAgree p classes space made shared (threads ++ rest) (map waiting_thread (called ts))
 
-pub one_more : (p : Lowered) (classes : Classes) (ts : List (Vec CallScene)) (i : ℕ) (x : Vec CallScene) (t : Thread) (threads : List Thread) → slice_get ts i ≡ Some x → ThreadAgrees p classes t (waiting_thread (map invocation_of x.items)) → AgreeSoFar p classes ts i threads → AgreeSoFar p classes ts (i + 1) (threads ++ t ∷ [])
-one_more p classes ts i x t threads at a so_far rest h =
-    subst (λ (l : List Thread). ThreadsAgree p classes l (map waiting_thread (called ts))) (sym (append_assoc threads (t ∷ []) rest))
-    (so_far (t ∷ rest) (subst (λ (us : List (Vec CallScene)). ThreadsAgree p classes (t ∷ rest) (map waiting_thread (called us))) (sym (threads_drop ts i x at)) (a, h)))
+  pub one_more : (ts : List (Vec CallScene)) (i : ℕ) (x : Vec CallScene) (t : Thread) (threads : List Thread) → slice_get ts i ≡ Some x → ThreadAgrees p classes space made shared t (waiting_thread (map invocation_of x.items)) → AgreeSoFar ts i threads → AgreeSoFar ts (i + 1) (threads ++ t ∷ [])
+  one_more ts i x t threads at a so_far rest h =
+      subst (λ (l : List Thread). ThreadsAgree p classes space made shared l (map waiting_thread (called ts))) (sym (append_assoc threads (t ∷ []) rest))
+      (so_far (t ∷ rest) (subst (λ (us : List (Vec CallScene)). ThreadsAgree p classes space made shared (t ∷ rest) (map waiting_thread (called us))) (sym (threads_drop ts i x at)) (a, h)))
 
-pub all_agree : (p : Lowered) (classes : Classes) (ts : List (Vec CallScene)) (i : ℕ) (threads : List Thread) → length ts ≤ i → AgreeSoFar p classes ts i threads → ThreadsAgree p classes threads (map waiting_thread (called ts))
-all_agree p classes ts i threads past so_far =
-    let none : ThreadsAgree p classes [] (map waiting_thread (called (drop i ts))) = rw (drop_of_length-le ts past) tt in
-    subst (λ (n : List Thread). ThreadsAgree p classes n (map waiting_thread (called ts))) (append-nil threads) (so_far [] none)
+  pub all_agree : (ts : List (Vec CallScene)) (i : ℕ) (threads : List Thread) → length ts ≤ i → AgreeSoFar ts i threads → ThreadsAgree p classes space made shared threads (map waiting_thread (called ts))
+  all_agree ts i threads past so_far =
+      let none : ThreadsAgree p classes space made shared [] (map waiting_thread (called (drop i ts))) = rw (drop_of_length-le ts past) tt in
+      subst (λ (n : List Thread). ThreadsAgree p classes space made shared n (map waiting_thread (called ts))) (append-nil threads) (so_far [] none)
 
 -- ---- calls that don't load
 
@@ -75,11 +81,11 @@ pub none_refused : (unit : SourceUnit) (classes : Classes) (ts : List (Vec CallS
 none_refused unit classes ts i past = ap (refused_of unit classes) (drop_of_length-le ts past)
 
 -- as many threads as agree
-pub agree_length : (p : Lowered) (classes : Classes) (ts : List Thread) (ss : List source.Thread) → ThreadsAgree p classes ts ss → length ts ≡ length ss
-agree_length p classes [] [] h = refl
-agree_length p classes [] (s ∷ ss) h = absurd h
-agree_length p classes (t ∷ ts) [] h = absurd h
-agree_length p classes (t ∷ ts) (s ∷ ss) h = ap suc (agree_length p classes ts ss h.1)
+pub agree_length : (p : Lowered) (classes : Classes) (space : Space) (made : ℕ) (shared : Shared) (ts : List Thread) (ss : List source.Thread) → ThreadsAgree p classes space made shared ts ss → length ts ≡ length ss
+agree_length p classes space made shared [] [] h = refl
+agree_length p classes space made shared [] (s ∷ ss) h = absurd h
+agree_length p classes space made shared (t ∷ ts) [] h = absurd h
+agree_length p classes space made shared (t ∷ ts) (s ∷ ss) h = ap suc (agree_length p classes space made shared ts ss h.1)
 
 pub waiting_length : (threads : List (List CallScene)) → length (map waiting_thread (map (λ calls. map invocation_of calls) threads)) ≡ length threads
 waiting_length [] = refl
@@ -88,3 +94,9 @@ waiting_length (t ∷ threads) = ap suc (waiting_length threads)
 pub items_length : (ts : List (Vec CallScene)) → length (map (λ t. t.items) ts) ≡ length ts
 items_length [] = refl
 items_length (t ∷ ts) = ap suc (items_length ts)
+
+-- each thread of several
+pub given_at : (made : ℕ) (ts : List (Vec CallScene)) (i : ℕ) (x : Vec CallScene) → list_all (list_all (are_arguments made)) (map (λ t. t.items) ts) ≡ true → slice_get ts i ≡ Some x → list_all (are_arguments made) x.items ≡ true
+given_at made [] i x h e = absurd (cc)
+given_at made (t ∷ ts) zero x h e = let same : t ≡ x = cc in ap (λ (v : Vec CallScene). list_all (are_arguments made) v.items) (sym same) ∙ (both_true (list_all (are_arguments made) t.items) (list_all (list_all (are_arguments made)) (map (λ t. t.items) ts)) h).0
+given_at made (t ∷ ts) (suc i) x h e = given_at made ts i x ((both_true (list_all (are_arguments made) t.items) (list_all (list_all (are_arguments made)) (map (λ t. t.items) ts)) h).1) e

@@ -1,117 +1,113 @@
 -- A thread's step is that of the source's thread.
-use Rattle.std.proofs.Common.{◌≡◌, ℕ, ℤ, zero, suc, false, List, [], ◌∷◌, ◌++◌, Option, Some, None, refl, sym, ap, ◌∙◌, subst}
-use Rattle.std.specs.Prelude.{slice_get}
+use Rattle.std.proofs.Common.{◌≡◌, ℕ, zero, suc, ◌+◌, ◌-◌, ◌<◌, ◌≤◌, Bool, true, false, List, [], ◌∷◌, ◌++◌, length, map, filter_map, replicate, take, Option, Some, None, refl, sym, ap, ◌∙◌, subst, arith}
+use Rattle.std.specs.Prelude.{slice_get, nat_lt, nat_le, ◌&&◌}
+use Rattle.std.specs.List.{list_all}
 use Rattle.std.specs.Option.{option_map}
+use Rattle.std.proofs.lemmas.Bool.Decides.{nat_tests}
 use Rattle.syntax.specs.Parts.{functions_of}
 use Rattle.syntax.specs.Tree.{Function}
 use Rattle.syntax.specs.Views.{unit_tree}
 use Rattle.classes.specs.Class.{Classes}
+use Rattle.heap.specs.Heap.{Space, name_at}
+use Rattle.types.specs.JniFunction.{JniFunction}
+use Rattle.world.specs.CallArguments.{is_argument}
+use Rattle.world.specs.Object.{ObjectValue, Number, Refers, Reference}
+use Rattle.world.specs.Views.{argument_view}
 use Rattle.world.specs.World.{Invocation}
-use Rattle.code.specs.declared.instr.Instr.{Instr}
+use Rattle.code.specs.declared.instr.Callee.{Callee}
+use Rattle.code.specs.declared.instr.Callee.TheVariants as callee
+use Rattle.code.specs.Depth.{Listing, depths}
 use Rattle.regions.specs.Activation.{enter, entered, entered_function, entry_advance, return_step, monitors_after, calls_after}
 use Rattle.regions.specs.Activation as activation
+use Rattle.regions.specs.Arguments.{Actual}
 use Rattle.regions.specs.CallStep.{waits_with}
-use Rattle.regions.specs.Effect.{Effect, Becomes, Sets, SetsNull, SetsElement, MakesArray, Prints, Calls, Returns, TrapsAt, NoEffect, effect_of}
+use Rattle.regions.specs.Effect.{Effect, Calls, Returns, effect_of}
+use Rattle.regions.specs.Sight.{Sight}
 use Rattle.regions.specs.Start.{waiting_thread}
-use Rattle.regions.specs.Task.{Task, tasks_of}
+use Rattle.regions.specs.Task.{Task, Target, tasks_of}
 use Rattle.regions.specs.Thread as source
 use Rattle.regions.specs.Thread.{Lent, Shared, Monitor, sight_of, without_owner}
-use Rattle.regions.specs.ThreadStep.{thread_step, step_within, after_effect, next_effect, waits, with_tasks}
+use Rattle.regions.specs.ThreadStep.{thread_step, step_within, after_effect, next_effect, waits}
+use Rattle.lower.specs.Layout.{Known, entry_layout}
+use Rattle.lower.specs.Slots.{Slots, EntrySlots, HasRoom, argument_word, argument_reference}
+use Rattle.lower.specs.Stands.{StandsFor, IsCallee}
 use Rattle.lower.specs.Lowered.{Lowered, IsLowered, IsCodeOf, AreCodesOf}
 use Rattle.machine.specs.declared.thread.Ending.{Ending}
 use Rattle.machine.specs.declared.thread.Ending.TheVariants.{Unfinished}
 use Rattle.machine.specs.declared.thread.Event.{Event}
 use Rattle.machine.specs.declared.thread.Event.TheVariants as event
-use Rattle.machine.specs.declared.thread.CallToCome.{CallToCome}
 use Rattle.machine.specs.declared.thread.Thread.{Thread}
+use Rattle.machine.specs.declared.thread.CallToCome.{CallToCome}
 use Rattle.machine.specs.declared.thread.Activation.{Activation}
-use Rattle.machine.specs.declared.thread.Executed.{Executed}
-use Rattle.machine.specs.declared.thread.Executed.TheVariants.{Did, Returned}
-use Rattle.machine.specs.Agrees.{CallAgrees, CallsAgree, CallStands, WorkAgrees, ThreadAgrees, Executes, Advances, ending_view, event_view, ending_after}
-use Rattle.machine.proofs.Calls.{ready, does_cases}
+use Rattle.machine.specs.Agrees.{CallAgrees, CallsAgree, CallStands, WorkAgrees, ReferencesAgree, ThreadAgrees, GoesOn, Advances, ending_view, event_view, ending_after}
+use Rattle.machine.specs.Entry.{argument_address, BeginsIn, Begins, IsReady}
+use Rattle.machine.specs.HeapAgrees.{ReferenceAgrees, IsTable}
+use Rattle.machine.proofs.Calls.{ready, slots_of, does_cases}
 
 -- ---- work
 
 -- the tasks that a call in progress stands for
-pub record Working (p : Lowered) (call : Activation) (tasks : Option (List Task)) : Type 0 where
+pub record Working (p : Lowered) (space : Space) (call : Activation) (sight : Sight) (tasks : Option (List Task)) : Type 0 where
   pub task : Task
   pub rest : List Task
   pub is : tasks ≡ Some (task ∷ rest)
-  pub stands : CallStands p call (task ∷ rest)
+  pub stands : CallStands p space call sight (task ∷ rest)
 
-pub working : (p : Lowered) (o : Option Activation) (call : Activation) (tasks : Option (List Task)) → WorkAgrees p o tasks → o ≡ Some call → Working p call tasks
-working p None call tasks w e = absurd (cc)
-working p (Some x) call None w e = absurd w
-working p (Some x) call (Some []) w e = absurd w.stands
-working p (Some x) call (Some (task ∷ rest)) w e = record { task = task; rest = rest; is = refl; stands = let same : x ≡ call = cc in subst (λ a. CallStands p a (task ∷ rest)) same w }
+pub working : (p : Lowered) (space : Space) (sight : Sight) (o : Option Activation) (call : Activation) (tasks : Option (List Task)) → WorkAgrees p space sight o tasks → o ≡ Some call → Working p space call sight tasks
+working p space sight None call tasks w e = absurd (cc)
+working p space sight (Some x) call None w e = absurd w
+working p space sight (Some x) call (Some []) w e = absurd w.stands
+working p space sight (Some x) call (Some (task ∷ rest)) w e = record { task = task; rest = rest; is = refl; stands = let same : x ≡ call = cc in subst (λ a. CallStands p space a sight (task ∷ rest)) same w }
 
 -- no call is in progress
-resting : (p : Lowered) (o : Option Activation) (tasks : Option (List Task)) → WorkAgrees p o tasks → o ≡ None → tasks ≡ None
-resting p None None w e = refl
-resting p None (Some tasks) w e = absurd w
-resting p (Some x) tasks w e = absurd (cc)
+pub resting : (p : Lowered) (space : Space) (sight : Sight) (o : Option Activation) (tasks : Option (List Task)) → WorkAgrees p space sight o tasks → o ≡ None → tasks ≡ None
+resting p space sight None None w e = refl
+resting p space sight None (Some tasks) w e = absurd w
+resting p space sight (Some x) tasks w e = absurd (cc)
 
 -- no thread waits for a monitor
-not_waiting : (p : Lowered) (classes : Classes) (k : ℕ) (shared : Shared) (s : source.Thread) (o : Option Activation) (tasks : Option (List Task)) → IsLowered p → WorkAgrees p o tasks → waits_with classes k shared s (next_effect shared s tasks) ≡ false
-not_waiting p classes k shared s None None l w = refl
-not_waiting p classes k shared s None (Some tasks) l w = absurd w
-not_waiting p classes k shared s (Some call) None l w = absurd w
-not_waiting p classes k shared s (Some call) (Some []) l w = refl
-not_waiting p classes k shared s (Some call) (Some (task ∷ rest)) l w =
-    let r = ready p call w.code (sight_of shared s) task rest l w.of_function w in
-    does_cases w.code call.place call.stack rest (λ e. waits_with classes k shared s e ≡ false) (λ tasks h. refl) (λ z h. refl) (λ h. refl) (effect_of (sight_of shared s) task) r.does
+never_waits : (p : Lowered) (space : Space) (classes : Classes) (k : ℕ) (shared : Shared) (s : source.Thread) (call : Activation) (task : Task) (rest : List Task) → IsLowered p → CallStands p space call (sight_of shared s) (task ∷ rest) → waits_with classes k shared s (effect_of (sight_of shared s) task) ≡ false
+never_waits p space classes k shared s call task rest l w =
+    let r = ready p space call w.code (sight_of shared s) task rest l w.of_function w in
+    does_cases w.code r.known call.place call.stack (slots_of call r.references) (sight_of shared s) rest (λ e. waits_with classes k shared s e ≡ false)
+    (λ tasks h. refl) (λ x v h. refl) (λ z h. refl)
+    (λ line target f args h. no_monitor w.code r.known call.place call.stack (slots_of call r.references) (sight_of shared s) line target h.call.function f args h.function)
+    (λ h. refl) (effect_of (sight_of shared s) task) r.does
+  where
+    no_monitor : (code : Listing) (known : Known) (place : ℕ) (stack : List ℕ) (slots : Slots) (sight : Sight) (line : ℕ) (target : Target) (c : Callee) (f : JniFunction) (args : List Actual) → IsCallee code known place stack slots sight c f args → waits_with classes k shared s (Calls line target f args) ≡ false
+    no_monitor code known place stack slots sight line target (callee.GetArrayLength operand) f args h = ap (λ (g : JniFunction). waits_with classes k shared s (Calls line target g args)) h.1
 
-pub unblocked : (p : Lowered) (classes : Classes) (k : ℕ) (shared : Shared) (t : Thread) (s : source.Thread) → IsLowered p → ThreadAgrees p classes t s → waits classes k shared s ≡ false
-unblocked p classes k shared t s l h = not_waiting p classes k shared s t.call s.tasks l h.work
+not_waiting : (p : Lowered) (space : Space) (classes : Classes) (k : ℕ) (shared : Shared) (s : source.Thread) (o : Option Activation) (tasks : Option (List Task)) → IsLowered p → WorkAgrees p space (sight_of shared s) o tasks → waits_with classes k shared s (next_effect shared s tasks) ≡ false
+not_waiting p space classes k shared s None None l w = refl
+not_waiting p space classes k shared s None (Some tasks) l w = absurd w
+not_waiting p space classes k shared s (Some call) None l w = absurd w
+not_waiting p space classes k shared s (Some call) (Some []) l w = refl
+not_waiting p space classes k shared s (Some call) (Some (task ∷ rest)) l w = never_waits p space classes k shared s call task rest l w
+
+pub unblocked : (p : Lowered) (classes : Classes) (space : Space) (made : ℕ) (k : ℕ) (shared : Shared) (t : Thread) (s : source.Thread) → IsLowered p → ThreadAgrees p classes space made shared t s → waits classes k shared s ≡ false
+unblocked p classes space made k shared t s l h = not_waiting p space classes k shared s t.call s.tasks l h.work
 
 -- ---- an instruction
 
--- the effects that an instruction did
-executes_cases : (p : Lowered) (call : Activation) (rest : List Task) (done : Executed) (P : Effect → Type 0)
-    → ((tasks : List Task) → (done ≡ Did event.Quiet) × CallStands p call (tasks ++ rest) → P (Becomes tasks))
-    → ((z : ℤ) → (done ≡ Did (event.Printed z)) × CallStands p call rest → P (Prints z))
-    → (done ≡ Returned → P Returns)
-    → (e : Effect) → Executes p call rest e done → P e
-executes_cases p call rest done P becomes prints returns (Becomes tasks) h = becomes tasks h
-executes_cases p call rest done P becomes prints returns (Sets x v) h = absurd h
-executes_cases p call rest done P becomes prints returns (SetsNull target) h = absurd h
-executes_cases p call rest done P becomes prints returns (SetsElement x i z) h = absurd h
-executes_cases p call rest done P becomes prints returns (MakesArray T x n) h = absurd h
-executes_cases p call rest done P becomes prints returns (Prints z) h = prints z h
-executes_cases p call rest done P becomes prints returns (Calls line target f args) h = absurd h
-executes_cases p call rest done P becomes prints returns Returns h = returns h
-executes_cases p call rest done P becomes prints returns (TrapsAt trap line) h = absurd h
-executes_cases p call rest done P becomes prints returns NoEffect h = absurd h
-
 -- One step of a thread, where no monitor is owned.
-module _ (p : Lowered) (classes : Classes) (lent : Lent) (k : ℕ) (shared : Shared) (none_owned : shared.monitors ≡ []) (t : Thread) (s : source.Thread) (h : ThreadAgrees p classes t s) where
-  -- a step of the source's thread, by its parts
-  steps_by : (task : Task) (rest : List Task) (e : Effect) → s.tasks ≡ Some (task ∷ rest) → effect_of (sight_of shared s) task ≡ e → thread_step (unit_tree p.unit) classes lent k shared s false ≡ after_effect classes lent k shared s rest e
-  steps_by task rest e tasks is =
-      ap (step_within (unit_tree p.unit) classes lent k shared s false) tasks ∙ ap (after_effect classes lent k shared s rest) is
+module _ (p : Lowered) (classes : Classes) (space : Space) (made : ℕ) (lent : Lent) (k : ℕ) (shared : Shared) (none_owned : shared.monitors ≡ []) (t : Thread) (s : source.Thread) (h : ThreadAgrees p classes space made shared t s) where
+  -- a step of the source's thread within its call
+  steps_by : (task : Task) (rest : List Task) → s.tasks ≡ Some (task ∷ rest) → thread_step (unit_tree p.unit) classes lent k shared s false ≡ after_effect classes lent k shared s rest (effect_of (sight_of shared s) task)
+  steps_by task rest tasks = ap (step_within (unit_tree p.unit) classes lent k shared s false) tasks
 
   -- an instruction but a return
-  pub did : (call : Activation) (e : Event) (w : Working p call s.tasks) (after : Activation) → Executes p after w.rest (effect_of (sight_of shared s) w.task) (Did e) → Advances p classes lent k shared s (record t { call = Some after }) e
-  did call e w after x =
-      executes_cases p after w.rest (Did e) (λ f. effect_of (sight_of shared s) w.task ≡ f → Advances p classes lent k shared s (record t { call = Some after }) e) becomes prints (λ d is. absurd (cc)) (effect_of (sight_of shared s) w.task) x refl
-    where
-      becomes : (tasks : List Task) → (Did e ≡ Did event.Quiet) × CallStands p after (tasks ++ w.rest) → effect_of (sight_of shared s) w.task ≡ Becomes tasks → Advances p classes lent k shared s (record t { call = Some after }) e
-      becomes tasks x is =
-          let quiet : event.Quiet ≡ e = cc (x.0) in
-          record {
-            next = with_tasks s (tasks ++ w.rest);
-            steps = steps_by w.task w.rest (Becomes tasks) w.is is ∙ ap (λ (v : Event). source.Advances shared (with_tasks s (tasks ++ w.rest)) (event_view v)) quiet;
-            agrees = record { calls = h.calls; work = x.1; pending = h.pending; ending = h.ending; busy = λ a b c. cc };
-          }
-
-      prints : (z : ℤ) → (Did e ≡ Did (event.Printed z)) × CallStands p after w.rest → effect_of (sight_of shared s) w.task ≡ Prints z → Advances p classes lent k shared s (record t { call = Some after }) e
-      prints z x is =
-          let printed : event.Printed z ≡ e = cc (x.0) in
-          record {
-            next = with_tasks s w.rest;
-            steps = steps_by w.task w.rest (Prints z) w.is is ∙ ap (λ (v : Event). source.Advances shared (with_tasks s w.rest) (event_view v)) printed;
-            agrees = record { calls = h.calls; work = x.1; pending = h.pending; ending = h.ending; busy = λ a b c. cc };
-          }
+  pub did : (call : Activation) (e : Event) (w : Working p space call (sight_of shared s) s.tasks) (after : Activation) → GoesOn p classes space lent k shared s w.rest after (effect_of (sight_of shared s) w.task) e → Advances p classes space made lent k shared s (record t { call = Some after }) e
+  did call e w after g = record {
+    next = g.next;
+    steps = steps_by w.task w.rest w.is ∙ g.steps;
+    agrees = record {
+      calls = subst (CallsAgree p classes made t.calls.items) (sym g.calls) h.calls;
+      work = g.work;
+      pending = g.pending ∙ h.pending;
+      ending = g.ending ∙ h.ending;
+      busy = λ a b c. subst (λ (o : Option (List Task)). WorkAgrees p space (sight_of shared g.next) (Some after) o) b g.work;
+    };
+  }
 
 -- ---- a return
 
@@ -145,42 +141,37 @@ returns_by k shared s none pending =
     (record { calls = calls_after ending s.calls; tasks = None; variables = []; frames = []; pending = None; ending = ending }) source.Quiet) pending
     ∙ leaves k shared s.calls none
 
-ending_agrees : (p : Lowered) (classes : Classes) (numbers : List CallToCome) (calls : List Invocation) (ending : Ending) → CallsAgree p classes numbers calls → ending ≡ Unfinished → ending_of calls ≡ ending_view (ending_after numbers ending)
+ending_agrees : (p : Lowered) (classes : Classes) (made : ℕ) (nexts : List CallToCome) (calls : List Invocation) (ending : Ending) → CallsAgree p classes made nexts calls → ending ≡ Unfinished → ending_of calls ≡ ending_view (ending_after nexts ending)
 unfolding ending_of
-ending_agrees p classes [] [] ending h o = refl
-ending_agrees p classes [] (c ∷ calls) ending h o = absurd h
-ending_agrees p classes (n ∷ numbers) [] ending h o = absurd h
-ending_agrees p classes (n ∷ numbers) (c ∷ calls) ending h o = ap ending_view (sym o)
+ending_agrees p classes made [] [] ending h o = refl
+ending_agrees p classes made [] (c ∷ calls) ending h o = absurd h
+ending_agrees p classes made (n ∷ nexts) [] ending h o = absurd h
+ending_agrees p classes made (n ∷ nexts) (c ∷ calls) ending h o = ap ending_view (sym o)
 
-something_to_do : (p : Lowered) (classes : Classes) (numbers : List CallToCome) (calls : List Invocation) (ending : Ending) → CallsAgree p classes numbers calls → ending_after numbers ending ≡ Unfinished → calls ≡ [] → ⊥
-something_to_do p classes [] calls ending h o e = cc
-something_to_do p classes (n ∷ numbers) [] ending h o e = h
-something_to_do p classes (n ∷ numbers) (c ∷ calls) ending h o e = cc
+something_to_do : (p : Lowered) (classes : Classes) (made : ℕ) (nexts : List CallToCome) (calls : List Invocation) (ending : Ending) → CallsAgree p classes made nexts calls → ending_after nexts ending ≡ Unfinished → calls ≡ [] → ⊥
+something_to_do p classes made [] calls ending h o e = cc
+something_to_do p classes made (n ∷ nexts) [] ending h o e = h
+something_to_do p classes made (n ∷ nexts) (c ∷ calls) ending h o e = cc
 
-pub returned : (p : Lowered) (classes : Classes) (lent : Lent) (k : ℕ) (shared : Shared) (none_owned : shared.monitors ≡ []) (t : Thread) (s : source.Thread) (h : ThreadAgrees p classes t s) (call : Activation) (w : Working p call s.tasks) (after : Activation)
-    → t.ending ≡ Unfinished → Executes p after w.rest (effect_of (sight_of shared s) w.task) Returned
-    → Advances p classes lent k shared s (record { calls = t.calls; call = None; ending = ending_after t.calls.items t.ending }) event.Quiet
-returned p classes lent k shared none_owned t s h call w after o x =
-    executes_cases p after w.rest Returned (λ e. effect_of (sight_of shared s) w.task ≡ e → Advances p classes lent k shared s (record { calls = t.calls; call = None; ending = ending_after t.calls.items t.ending }) event.Quiet)
-    (λ tasks x is. absurd (let e : Returned ≡ Did event.Quiet = x.0 in cc)) (λ z x is. absurd (let e : Returned ≡ Did (event.Printed z) = x.0 in cc)) returns (effect_of (sight_of shared s) w.task) x refl
-  where
-    returns : Returned ≡ Returned → effect_of (sight_of shared s) w.task ≡ Returns → Advances p classes lent k shared s (record { calls = t.calls; call = None; ending = ending_after t.calls.items t.ending }) event.Quiet
-    returns d is = record {
-      next = idle s.calls;
-      steps = steps_by p classes lent k shared none_owned t s h w.task w.rest Returns w.is is ∙ returns_by k shared s none_owned h.pending;
-      agrees = record {
-        calls = h.calls;
-        work = tt;
-        pending = refl;
-        ending = ending_agrees p classes t.calls.items s.calls t.ending h.calls o;
-        busy = λ a b c. something_to_do p classes t.calls.items s.calls t.ending h.calls a c;
-      };
-    }
+pub returned : (p : Lowered) (classes : Classes) (space : Space) (made : ℕ) (lent : Lent) (k : ℕ) (shared : Shared) (none_owned : shared.monitors ≡ []) (t : Thread) (s : source.Thread) (h : ThreadAgrees p classes space made shared t s) (call : Activation) (w : Working p space call (sight_of shared s) s.tasks)
+    → t.ending ≡ Unfinished → effect_of (sight_of shared s) w.task ≡ Returns
+    → Advances p classes space made lent k shared s (record { calls = t.calls; call = None; ending = ending_after t.calls.items t.ending }) event.Quiet
+returned p classes space made lent k shared none_owned t s h call w o is = record {
+  next = idle s.calls;
+  steps = steps_by p classes space made lent k shared none_owned t s h w.task w.rest w.is ∙ ap (after_effect classes lent k shared s w.rest) is ∙ returns_by k shared s none_owned h.pending;
+  agrees = record {
+    calls = h.calls;
+    work = tt;
+    pending = refl;
+    ending = ending_agrees p classes made t.calls.items s.calls t.ending h.calls o;
+    busy = λ a b c. something_to_do p classes made t.calls.items s.calls t.ending h.calls a c;
+  };
+}
 
 -- ---- an entry
 
 -- the code of a function
-code_of : (functions : List Function) (codes : List (List Instr)) (n : ℕ) (f : Function) → AreCodesOf functions codes → slice_get functions n ≡ Some f → (code : List Instr) × (slice_get codes n ≡ Some code) × IsCodeOf f code
+code_of : (functions : List Function) (codes : List Listing) (n : ℕ) (f : Function) → AreCodesOf functions codes → slice_get functions n ≡ Some f → (code : Listing) × (slice_get codes n ≡ Some code) × IsCodeOf f code
 code_of [] [] n f h e = absurd (cc)
 code_of [] (c ∷ codes) n f h e = absurd h
 code_of (g ∷ functions) [] n f h e = absurd h
@@ -188,39 +179,129 @@ code_of (g ∷ functions) (c ∷ codes) zero f h e = (c, refl, let s : g ≡ f =
 code_of (g ∷ functions) (c ∷ codes) (suc n) f h e = code_of functions codes n f h.1 e
 
 -- the next call to come
-record Coming (p : Lowered) (classes : Classes) (n : CallToCome) (numbers : List CallToCome) (calls : List Invocation) : Type 0 where
-  call : Invocation
-  rest : List Invocation
-  is : calls ≡ call ∷ rest
-  function : CallAgrees p classes n call
-  agrees : CallsAgree p classes numbers rest
+pub record Coming (p : Lowered) (classes : Classes) (made : ℕ) (n : CallToCome) (nexts : List CallToCome) (calls : List Invocation) : Type 0 where
+  pub call : Invocation
+  pub rest : List Invocation
+  pub is : calls ≡ call ∷ rest
+  pub function : CallAgrees p classes made n call
+  pub agrees : CallsAgree p classes made nexts rest
 
-coming : (p : Lowered) (classes : Classes) (n : CallToCome) (all numbers : List CallToCome) (calls : List Invocation) → CallsAgree p classes all calls → all ≡ n ∷ numbers → Coming p classes n numbers calls
-coming p classes n [] numbers calls h e = absurd (cc)
-coming p classes n (x ∷ xs) numbers [] h e = absurd h
-coming p classes n (x ∷ xs) numbers (c ∷ calls) h e =
+pub coming : (p : Lowered) (classes : Classes) (made : ℕ) (n : CallToCome) (all nexts : List CallToCome) (calls : List Invocation) → CallsAgree p classes made all calls → all ≡ n ∷ nexts → Coming p classes made n nexts calls
+coming p classes made n [] nexts calls h e = absurd (cc)
+coming p classes made n (x ∷ xs) nexts [] h e = absurd h
+coming p classes made n (x ∷ xs) nexts (c ∷ calls) h e =
     let head : x ≡ n = cc in
-    let tail : xs ≡ numbers = cc in
-    record { call = c; rest = calls; is = refl; function = subst (λ m. CallAgrees p classes m c) head h.0; agrees = subst (λ l. CallsAgree p classes l calls) tail h.1 }
+    let tail : xs ≡ nexts = cc in
+    record { call = c; rest = calls; is = refl; function = subst (λ m. CallAgrees p classes made m c) head h.0; agrees = subst (λ l. CallsAgree p classes made l calls) tail h.1 }
 
-pub enters : (p : Lowered) (classes : Classes) (lent : Lent) (k : ℕ) (shared : Shared) (t after : Thread) (s : source.Thread) (n : CallToCome) → IsLowered p → ThreadAgrees p classes t s → t.call ≡ None → t.calls.items ≡ n ∷ after.calls.items
-    → after.call ≡ Some (record { function = n.function; place = 0; stack = [] }) → after.ending ≡ t.ending → Advances p classes lent k shared s after event.Quiet
-enters p classes lent k shared t after s n lowered h none calls call ending =
-    let c = coming p classes n t.calls.items after.calls.items s.calls h.calls calls in
-    let f = c.function in
+-- a call to come is ready
+pub ready_to_begin : (p : Lowered) (classes : Classes) (made : ℕ) (n : CallToCome) (call : Invocation) → IsLowered p → CallAgrees p classes made n call → IsReady p made n
+ready_to_begin p classes made n call lowered f =
     let code = code_of (functions_of (unit_tree p.unit)) p.codes n.function f.function lowered f.numbered in
-    let next : source.Thread = entered s c.rest f.function f.class c.call.arguments in
+    record {
+      class = f.class_made;
+      given = ap (λ (vs : List ObjectValue). list_all (is_argument made) vs) f.arguments ∙ f.given;
+      code = code.0;
+      of_function = code.1;
+      room = subst (λ (vs : List ObjectValue). HasRoom code.0 vs) (sym f.arguments) (code.2.room call.arguments f.fit);
+    }
+
+-- ---- what the slots of references hold at the entry
+
+-- a place of a list
+get_below : (xs : List ℕ) (i : ℕ) → i < length xs → (a : ℕ) × (slice_get xs i ≡ Some a)
+get_below [] i less = absurd (omega arith)
+get_below (x ∷ xs) zero less = (x, refl)
+get_below (x ∷ xs) (suc i) less = get_below xs i (omega arith)
+
+module _ (space : Space) (loaded : List ℕ) (made : ℕ) (table : IsTable space loaded made) where
+  -- an object made at load
+  made_agrees : (n : ℕ) → 0 < n → n ≤ made → ReferenceAgrees space (slice_get loaded (n - 1)) (Some n)
+  made_agrees n low high =
+      let count : length loaded ≡ made = table.counted in
+      let g = get_below loaded (n - 1) (omega arith) in
+      let name : (n - 1) + 1 ≡ n = omega arith in
+      subst (λ (o : Option ℕ). ReferenceAgrees space o (Some n)) (sym g.1) (table.named (n - 1) g.0 g.1 ∙ ap (λ (m : ℕ). Some m) name)
+
+  nulls_agree : (k : ℕ) → ReferencesAgree space (replicate k None) (replicate k None)
+  nulls_agree zero = tt
+  nulls_agree (suc k) = (tt, nulls_agree k)
+
+  within : (n : ℕ) → (nat_lt 0 n && nat_le n made) ≡ true → (0 < n) × (n ≤ made)
+  within n h = grind (arith, nat_tests, h)
+
+  both : (a b : Bool) → (a && b) ≡ true → (a ≡ true) × (b ≡ true)
+  both true true h = (refl, refl)
+  both true false h = absurd (cc)
+  both false b h = absurd (cc)
+
+  given_agree : (vs : List ObjectValue) (k : ℕ) → list_all (is_argument made) vs ≡ true → ReferencesAgree space (filter_map (argument_address loaded) vs ++ replicate k None) (filter_map argument_reference vs ++ replicate k None)
+  given_agree [] k h = nulls_agree k
+  given_agree (Number z ∷ vs) k h = given_agree vs k ((both (is_argument made (Number z)) (list_all (is_argument made) vs) h).1)
+  given_agree (Refers None ∷ vs) k h = (tt, given_agree vs k ((both (is_argument made (Refers None)) (list_all (is_argument made) vs) h).1))
+  given_agree (Refers (Some n) ∷ vs) k h =
+      let b = both (is_argument made (Refers (Some n))) (list_all (is_argument made) vs) h in
+      let w = within n b.0 in
+      (made_agrees n w.0 w.1, given_agree vs k b.1)
+
+agree_count : (space : Space) (addresses : List (Option ℕ)) (references : List Reference) → ReferencesAgree space addresses references → length references ≡ length addresses
+agree_count space [] [] h = refl
+agree_count space [] (r ∷ rs) h = absurd h
+agree_count space (a ∷ addresses) [] h = absurd h
+agree_count space (a ∷ addresses) (r ∷ rs) h = ap suc (agree_count space addresses rs h.1)
+
+-- the call stands for the function's statements
+begun : (p : Lowered) (classes : Classes) (space : Space) (loaded : List ℕ) (made : ℕ) (shared : Shared) (s : source.Thread) (rest : List Invocation) (n : CallToCome) (c : Invocation) (call : Activation) → IsLowered p → IsTable space loaded made → (f : CallAgrees p classes made n c) → Begins p loaded n call
+    → CallStands p space call (sight_of shared (entered s rest f.function n.class c.arguments)) (tasks_of f.function.body)
+begun p classes space loaded made shared s rest n c call lowered table f b =
+    let found = code_of (functions_of (unit_tree p.unit)) p.codes n.function f.function lowered f.numbered in
+    let same : found.0 ≡ b.code = cc (found.1, b.of_function) in
+    let is_code = subst (λ (k : Listing). IsCodeOf f.function k) same found.2 in
+    let begins = b.begins in
+    let words = begins.numbers in
+    let slots = begins.references in
+    let references : List Reference = Some n.class ∷ filter_map argument_reference c.arguments ++ replicate slots.more None in
+    let given : call.references.items ≡ slice_get loaded (n.class - 1) ∷ filter_map (argument_address loaded) c.arguments ++ replicate slots.more None =
+    slots.given ∙ ap (λ (vs : List ObjectValue). slice_get loaded (n.class - 1) ∷ filter_map (argument_address loaded) vs ++ replicate slots.more None) f.arguments in
+    let agree : ReferencesAgree space call.references.items references =
+    subst (λ (l : List (Option ℕ)). ReferencesAgree space l references) (sym given) (made_agrees space loaded made table n.class f.class_made.0 f.class_made.1, given_agree space loaded made table c.arguments slots.more f.given) in
+    let entry : EntrySlots b.code n.class c.arguments (record { numbers = call.numbers.items; references = references }) =
+    record {
+      numbers = words.counted;
+      more_numbers = words.more;
+      words = words.given ∙ ap (λ (vs : List ObjectValue). filter_map argument_word vs ++ words.more) f.arguments;
+      references = agree_count space call.references.items references agree ∙ slots.counted;
+      more_references = replicate slots.more None;
+      given = refl;
+    } in
+    record {
+      code = b.code;
+      of_function = ap (slice_get p.codes) begins.function ∙ b.of_function;
+      known = (entry_layout f.function).known;
+      stands = subst (λ (m : ℕ). StandsFor b.code (entry_layout f.function).known m call.stack (tasks_of f.function.body)) (sym begins.place)
+          (subst (λ (st : List ℕ). StandsFor b.code (entry_layout f.function).known 0 st (tasks_of f.function.body)) (sym begins.stack) is_code.begins);
+      references = references;
+      agree = agree;
+      shows = is_code.shows shared s rest n.class c.arguments (record { numbers = call.numbers.items; references = references }) f.fit entry;
+      depth = ap (λ (m : ℕ). depths (take m b.code.instrs) 0) begins.place ∙ ap (λ (st : List ℕ). Some (length st)) (sym begins.stack);
+    }
+
+pub enters : (p : Lowered) (classes : Classes) (space : Space) (loaded : List ℕ) (made : ℕ) (lent : Lent) (k : ℕ) (shared : Shared) (t after : Thread) (s : source.Thread) (n : CallToCome) (call : Activation) → IsLowered p → IsTable space loaded made → ThreadAgrees p classes space made shared t s → t.call ≡ None → t.calls.items ≡ n ∷ after.calls.items
+    → after.call ≡ Some call → Begins p loaded n call → after.ending ≡ t.ending → Advances p classes space made lent k shared s after event.Quiet
+enters p classes space loaded made lent k shared t after s n call lowered table h none calls is begins ending =
+    let c = coming p classes made n t.calls.items after.calls.items s.calls h.calls calls in
+    let f = c.function in
+    let next : source.Thread = entered s c.rest f.function n.class c.call.arguments in
     let found : enter (unit_tree p.unit) classes s s.calls ≡ Some next =
     ap (enter (unit_tree p.unit) classes s) c.is
     ∙ ap (entered_function classes s c.call c.rest) f.named
     ∙ ap (option_map (λ d. entered s c.rest f.function d c.call.arguments)) f.of_class in
-    let stands : CallStands p (record { function = n.function; place = 0; stack = [] }) (tasks_of f.function.body) = record { code = code.0; of_function = code.1; stands = code.2.begins; depth = refl } in
     record {
       next = next;
-      steps = ap (step_within (unit_tree p.unit) classes lent k shared s false) (resting p t.call s.tasks h.work none) ∙ ap (entry_advance shared) found;
+      steps = ap (step_within (unit_tree p.unit) classes lent k shared s false) (resting p space (sight_of shared s) t.call s.tasks h.work none) ∙ ap (entry_advance shared) found;
       agrees = record {
         calls = c.agrees;
-        work = subst (λ a. WorkAgrees p a (Some (tasks_of f.function.body))) (sym call) stands;
+        work = subst (λ a. WorkAgrees p space (sight_of shared next) a (Some (tasks_of f.function.body))) (sym is) (begun p classes space loaded made shared s c.rest n c.call call lowered table f begins);
         pending = h.pending;
         ending = h.ending ∙ ap ending_view (sym ending);
         busy = λ a b d. cc;
@@ -229,5 +310,5 @@ enters p classes lent k shared t after s n lowered h none calls call ending =
 
 -- ---- before the first call
 
-pub before_agrees : (p : Lowered) (classes : Classes) (t : Thread) (calls : List Invocation) → CallsAgree p classes t.calls.items calls → (calls ≡ [] → ⊥) → t.call ≡ None → t.ending ≡ Unfinished → ThreadAgrees p classes t (waiting_thread calls)
-before_agrees p classes t calls h some none ending = record { calls = h; work = rw none tt; pending = refl; ending = ap ending_view (sym ending); busy = λ a b c. some c }
+pub before_agrees : (p : Lowered) (classes : Classes) (space : Space) (made : ℕ) (shared : Shared) (t : Thread) (calls : List Invocation) → CallsAgree p classes made t.calls.items calls → (calls ≡ [] → ⊥) → t.call ≡ None → t.ending ≡ Unfinished → ThreadAgrees p classes space made shared t (waiting_thread calls)
+before_agrees p classes space made shared t calls h some none ending = record { calls = h; work = rw none tt; pending = refl; ending = ap ending_view (sym ending); busy = λ a b c. some c }

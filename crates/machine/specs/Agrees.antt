@@ -1,30 +1,37 @@
--- How the machine stands for a state of the source. Nothing is asked of variables and frames yet: no instruction reads them.
-use Rattle.std.specs.Prelude.{◌≡◌, ℕ, List, [], ◌∷◌, ◌++◌, length, map, take, Option, Some, None, slice_get, false}
+-- How the machine stands for a state of the source.
+use Rattle.std.specs.Prelude.{◌≡◌, ℕ, ◌<◌, ◌≤◌, List, [], ◌∷◌, length, map, take, Option, Some, None, IsTrue, slice_get, false}
+use Rattle.std.specs.List.{list_all}
 use Rattle.syntax.specs.Parts.{functions_of}
 use Rattle.syntax.specs.Tree.{Function}
 use Rattle.syntax.specs.Views.{unit_tree}
 use Rattle.classes.specs.Class.{Classes}
+use Rattle.heap.specs.Heap.{Space}
+use Rattle.world.specs.CallArguments.{is_argument}
+use Rattle.world.specs.Object.{Reference}
 use Rattle.world.specs.Views.{argument_view}
 use Rattle.world.specs.World.{Invocation}
-use Rattle.code.specs.declared.instr.Instr.{Instr}
-use Rattle.code.specs.Depth.{depths}
+use Rattle.code.specs.Depth.{Listing, depths}
 use Rattle.regions.specs.Activation.{function_at, class_of_function}
-use Rattle.regions.specs.Effect.{Effect, Becomes, Prints, Returns}
+use Rattle.regions.specs.Effect.{Effect, Returns}
+use Rattle.regions.specs.Sight.{Sight}
 use Rattle.regions.specs.Task.{Task}
 use Rattle.regions.specs.Thread as source
-use Rattle.regions.specs.Thread.{Lent, Shared}
-use Rattle.regions.specs.ThreadStep.{thread_step}
+use Rattle.regions.specs.Thread.{Lent, Shared, sight_of}
+use Rattle.regions.specs.ThreadStep.{thread_step, after_effect}
+use Rattle.lower.specs.Layout.{Known}
+use Rattle.lower.specs.Slots.{ArgumentsFit, Shows}
 use Rattle.lower.specs.Stands.{StandsFor}
 use Rattle.lower.specs.Lowered.{Lowered}
 use Rattle.machine.specs.declared.thread.Ending.{Ending}
 use Rattle.machine.specs.declared.thread.Ending.TheVariants.{Unfinished, Ended}
 use Rattle.machine.specs.declared.thread.Event.{Event}
 use Rattle.machine.specs.declared.thread.Event.TheVariants.{Quiet, Printed, Trapped}
-use Rattle.machine.specs.declared.thread.CallToCome.{CallToCome}
 use Rattle.machine.specs.declared.thread.Thread.{Thread}
+use Rattle.machine.specs.declared.thread.CallToCome.{CallToCome}
 use Rattle.machine.specs.declared.thread.Activation.{Activation}
 use Rattle.machine.specs.declared.thread.Executed.{Executed}
 use Rattle.machine.specs.declared.thread.Executed.TheVariants.{Did, Returned}
+use Rattle.machine.specs.HeapAgrees.{ReferenceAgrees}
 use Rattle.machine.specs.Stops.{trap_view}
 
 -- how a thread has ended, if it has
@@ -40,68 +47,90 @@ event_view (Trapped trap line) = source.Trapped (trap_view trap) line
 
 -- ---- calls
 
--- a function's number is its place among the unit's functions, and an object goes by its name
-pub record CallAgrees (p : Lowered) (classes : Classes) (next : CallToCome) (call : Invocation) : Type 0 where
+-- A call to come, where so many objects were made at load. A function's number is its place among the unit's functions.
+pub record CallAgrees (p : Lowered) (classes : Classes) (made : ℕ) (next : CallToCome) (call : Invocation) : Type 0 where
   pub function : Function
   pub named : function_at (unit_tree p.unit) call.function ≡ Some function
   pub numbered : slice_get (functions_of (unit_tree p.unit)) next.function ≡ Some function
-  pub class : ℕ
-  pub of_class : class_of_function classes function ≡ Some class
-  pub given : map argument_view next.arguments.items ≡ call.arguments
+  pub of_class : class_of_function classes function ≡ Some next.class
+  pub class_made : (0 < next.class) × (next.class ≤ made)
+  pub arguments : map argument_view next.arguments.items ≡ call.arguments
+  pub given : IsTrue (list_all (is_argument made) call.arguments)
+  pub fit : ArgumentsFit function.parameters call.arguments
 
 -- call by call
-abbrev pub CallsAgree : Lowered → Classes → List CallToCome → List Invocation → Type 0
-CallsAgree p classes [] [] = Unit {0}
-CallsAgree p classes [] (c ∷ calls) = ⊥
-CallsAgree p classes (n ∷ coming) [] = ⊥
-CallsAgree p classes (n ∷ coming) (c ∷ calls) = CallAgrees p classes n c × CallsAgree p classes coming calls
+abbrev pub CallsAgree : Lowered → Classes → (made : ℕ) → List CallToCome → List Invocation → Type 0
+CallsAgree p classes made [] [] = Unit {0}
+CallsAgree p classes made [] (c ∷ calls) = ⊥
+CallsAgree p classes made (n ∷ nexts) [] = ⊥
+CallsAgree p classes made (n ∷ nexts) (c ∷ calls) = CallAgrees p classes made n c × CallsAgree p classes made nexts calls
 
 -- ---- threads
 
--- a call in progress stands for its tasks still to do
-pub record CallStands (p : Lowered) (call : Activation) (tasks : List Task) : Type 0 where
-  pub code : List Instr
+-- slot by slot, what references hold
+abbrev pub ReferencesAgree : Space → List (Option ℕ) → List Reference → Type 0
+ReferencesAgree space [] [] = Unit {0}
+ReferencesAgree space [] (r ∷ references) = ⊥
+ReferencesAgree space (a ∷ addresses) [] = ⊥
+ReferencesAgree space (a ∷ addresses) (r ∷ references) = ReferenceAgrees space a r × ReferencesAgree space addresses references
+
+-- A call in progress stands for its tasks still to do, where this can be seen. The names of the objects that its slots
+-- refer to are those that the heap has at the addresses in them.
+pub record CallStands (p : Lowered) (space : Space) (call : Activation) (sight : Sight) (tasks : List Task) : Type 0 where
+  pub code : Listing
   pub of_function : slice_get p.codes call.function ≡ Some code
-  pub stands : StandsFor code call.place call.stack tasks
-  pub depth : depths (take call.place code) 0 ≡ Some (length call.stack)
+  pub known : Known
+  pub stands : StandsFor code known call.place call.stack tasks
+  pub references : List Reference
+  pub agree : ReferencesAgree space call.references.items references
+  pub shows : Shows code known sight (record { numbers = call.numbers.items; references = references })
+  pub depth : depths (take call.place code.instrs) 0 ≡ Some (length call.stack)
 
 -- a call in progress, or none
-abbrev pub WorkAgrees : Lowered → Option Activation → Option (List Task) → Type 0
-WorkAgrees p None None = Unit {0}
-WorkAgrees p None (Some tasks) = ⊥
-WorkAgrees p (Some call) None = ⊥
-WorkAgrees p (Some call) (Some tasks) = CallStands p call tasks
+abbrev pub WorkAgrees : Lowered → Space → Sight → Option Activation → Option (List Task) → Type 0
+WorkAgrees p space sight None None = Unit {0}
+WorkAgrees p space sight None (Some tasks) = ⊥
+WorkAgrees p space sight (Some call) None = ⊥
+WorkAgrees p space sight (Some call) (Some tasks) = CallStands p space call sight tasks
 
--- a thread stands for one of the source
-pub record ThreadAgrees (p : Lowered) (classes : Classes) (t : Thread) (s : source.Thread) : Type 0 where
-  pub calls : CallsAgree p classes t.calls.items s.calls
-  pub work : WorkAgrees p t.call s.tasks
+-- a thread stands for one of the source, with this heap, where so many objects were made at load
+pub record ThreadAgrees (p : Lowered) (classes : Classes) (space : Space) (made : ℕ) (shared : Shared) (t : Thread) (s : source.Thread) : Type 0 where
+  pub calls : CallsAgree p classes made t.calls.items s.calls
+  pub work : WorkAgrees p space (sight_of shared s) t.call s.tasks
   pub pending : s.pending ≡ None
   pub ending : s.ending ≡ ending_view t.ending
   -- a thread with nothing to do has ended
   pub busy : t.ending ≡ Unfinished → s.tasks ≡ None → s.calls ≡ [] → ⊥
 
 -- thread by thread
-abbrev pub ThreadsAgree : Lowered → Classes → List Thread → List source.Thread → Type 0
-ThreadsAgree p classes [] [] = Unit {0}
-ThreadsAgree p classes [] (s ∷ ss) = ⊥
-ThreadsAgree p classes (t ∷ ts) [] = ⊥
-ThreadsAgree p classes (t ∷ ts) (s ∷ ss) = ThreadAgrees p classes t s × ThreadsAgree p classes ts ss
+abbrev pub ThreadsAgree : Lowered → Classes → Space → (made : ℕ) → Shared → List Thread → List source.Thread → Type 0
+ThreadsAgree p classes space made shared [] [] = Unit {0}
+ThreadsAgree p classes space made shared [] (s ∷ ss) = ⊥
+ThreadsAgree p classes space made shared (t ∷ ts) [] = ⊥
+ThreadsAgree p classes space made shared (t ∷ ts) (s ∷ ss) = ThreadAgrees p classes space made shared t s × ThreadsAgree p classes space made shared ts ss
 
 -- ---- steps
 
--- what an instruction did is the effect of the first of the tasks; other effects have no instruction yet
-abbrev pub Executes : Lowered → Activation → (rest : List Task) → Effect → Executed → Type 0
-Executes p call rest (Becomes tasks) done = (done ≡ Did Quiet) × CallStands p call (tasks ++ rest)
-Executes p call rest (Prints z) done = (done ≡ Did (Printed z)) × CallStands p call rest
-Executes p call rest Returns done = done ≡ Returned
-Executes p call rest _ done = ⊥
+-- The first task had this effect on thread k, with the rest still to do: the thread goes on within its call, and the
+-- shared state is as it was.
+pub record GoesOn (p : Lowered) (classes : Classes) (space : Space) (lent : Lent) (k : ℕ) (shared : Shared) (s : source.Thread) (rest : List Task) (call : Activation) (effect : Effect) (event : Event) : Type 0 where
+  pub next : source.Thread
+  pub steps : after_effect classes lent k shared s rest effect ≡ source.Advances shared next (event_view event)
+  pub work : WorkAgrees p space (sight_of shared next) (Some call) next.tasks
+  pub calls : next.calls ≡ s.calls
+  pub pending : next.pending ≡ s.pending
+  pub ending : next.ending ≡ s.ending
+
+-- what an instruction did is the effect of the first of the tasks
+abbrev pub Executes : Lowered → Classes → Space → Lent → ℕ → Shared → source.Thread → (rest : List Task) → Activation → Effect → Executed → Type 0
+Executes p classes space lent k shared s rest call effect (Did event) = GoesOn p classes space lent k shared s rest call effect event
+Executes p classes space lent k shared s rest call effect Returned = effect ≡ Returns
 
 -- the thread took the step that the source's thread takes, which leaves the shared state as it was
-pub record Advances (p : Lowered) (classes : Classes) (lent : Lent) (k : ℕ) (shared : Shared) (s : source.Thread) (t : Thread) (event : Event) : Type 0 where
+pub record Advances (p : Lowered) (classes : Classes) (space : Space) (made : ℕ) (lent : Lent) (k : ℕ) (shared : Shared) (s : source.Thread) (t : Thread) (event : Event) : Type 0 where
   pub next : source.Thread
   pub steps : thread_step (unit_tree p.unit) classes lent k shared s false ≡ source.Advances shared next (event_view event)
-  pub agrees : ThreadAgrees p classes t next
+  pub agrees : ThreadAgrees p classes space made shared t next
 
 -- how a thread with these calls to come stands after a call
 abbrev pub ending_after : List CallToCome → Ending → Ending

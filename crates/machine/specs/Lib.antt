@@ -1,5 +1,7 @@
-pub mod Agrees
 pub mod HeapAgrees
+pub mod Entry
+pub mod Invoked
+pub mod Agrees
 pub mod Stops
 pub mod Rows
 pub mod Loading

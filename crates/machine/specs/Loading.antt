@@ -1,5 +1,5 @@
 -- What loading answers.
-use Rattle.std.specs.Prelude.{◌≡◌, ℕ, true, false, not, List, [], filter, map, Option, Some, None, slice_get}
+use Rattle.std.specs.Prelude.{◌≡◌, ℕ, ◌<◌, true, false, not, List, [], filter, length, map, Option, Some, None, slice_get}
 use Rattle.syntax.specs.Parts.{functions_of}
 use Rattle.syntax.specs.Tree.{Function, SourceUnit}
 use Rattle.syntax.specs.Views.{unit_tree}
@@ -19,12 +19,12 @@ pub record IsNumberOf (p : Lowered) (name : List ℕ) (number : ℕ) : Type 0 wh
   pub named : function_at (unit_tree p.unit) name ≡ Some function
   pub numbered : slice_get (functions_of (unit_tree p.unit)) number ≡ Some function
   pub has_name : function.name ≡ name
-  pub no_parameters : function.parameters ≡ []
+  pub there : number < length p.unit
 
--- a call by its function's number, or none where it doesn't load
-abbrev pub IsCallOf : Lowered → Classes → Invocation → Option CallToCome → Type 0
-IsCallOf p classes call None = call_loads (unit_tree p.unit) classes call ≡ false
-IsCallOf p classes call (Some next) = CallAgrees p classes next call × (call_loads (unit_tree p.unit) classes call ≡ true)
+-- a call to come, where so many objects are made at load; none where the call doesn't load
+abbrev pub IsCallOf : Lowered → Classes → (made : ℕ) → Invocation → Option CallToCome → Type 0
+IsCallOf p classes made call None = call_loads (unit_tree p.unit) classes call ≡ false
+IsCallOf p classes made call (Some next) = CallAgrees p classes made next call × (call_loads (unit_tree p.unit) classes call ≡ true)
 
 -- the calls that don't load
 abbrev pub refused_calls : SourceUnit → Classes → List Invocation → List Invocation

@@ -55,7 +55,7 @@ pub record Corresponds (p : Lowered) (scene : Scene) (space : Space) (addresses 
   pub lowered : IsLowered p
   pub state : State
   pub replays : replay (unit_tree p.unit) (world_of_scene scene) journal ≡ Some state
-  pub threads_agree : ThreadsAgree p (world_of_scene scene).classes threads state.threads
+  pub threads_agree : ThreadsAgree p (world_of_scene scene).classes space (length addresses) state.shared threads state.threads
   pub same_printed : state.printed ≡ printed
   pub same_stop : state.stop ≡ option_map stop_view stop
   -- no instruction allocates or enters a monitor yet

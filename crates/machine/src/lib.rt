@@ -1,7 +1,9 @@
 //! The machine, which runs lowered programs on their worlds.
 #![tactic(auto)]
 
+mod entry;
 mod fault;
+mod invoke;
 mod load;
 mod machine;
 mod objects;

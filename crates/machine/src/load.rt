@@ -1,15 +1,21 @@
 //! The threads of a machine before its first step.
 
-ghost use Rattle.std.specs.Prelude.{◌≡◌, IfOk, IfErr, OnOk, IfSome, IfNone, IsTrue, [], None, map, length, flat_map, is_some};
+ghost use Rattle.std.specs.Prelude.{◌≡◌, IfOk, IfErr, OnOk, IfSome, IfNone, IsTrue, [], None, map, length, flat_map};
+ghost use Rattle.std.specs.List.{list_all};
 ghost use Rattle.std.specs.Option.{option_and_then};
-ghost use Rattle.syntax.specs.Views.{unit_tree};
+ghost use Rattle.syntax.specs.Views.{unit_tree, parameter_tree, parameter_type_tree};
 ghost use Rattle.classes.specs.Class.{class_named};
 ghost use Rattle.classes.specs.Mangling.{native_class};
+ghost use Rattle.heap.specs.Heap.{Space};
+ghost use Rattle.world.specs.CallArguments.{are_arguments};
 ghost use Rattle.world.specs.Scene.{has_call};
 ghost use Rattle.world.specs.SceneWorld.{world_of_scene, invocation_of};
+ghost use Rattle.world.specs.Views.{argument_view};
+ghost use Rattle.world.specs.World.{loaded_objects};
 ghost use Rattle.regions.specs.Activation.{function_at};
+ghost use Rattle.regions.specs.Load.{fits_parameter, fit_parameters};
 ghost use Rattle.regions.specs.Start.{waiting_thread};
-ghost use Rattle.lower.specs.Lowered.{IsLowered};
+ghost use Rattle.regions.specs.Thread.{Shared};
 ghost use Rattle.machine.specs.Agrees.{ThreadAgrees, ThreadsAgree};
 ghost use Rattle.machine.specs.Loading.{IsNumberOf, IsCallOf, IsFirstOf, refused_calls};
 
@@ -19,8 +25,8 @@ use classes::mangling::unmangle;
 use lower::Program;
 use std::alloc::{AllocError, Global};
 use std::collections::VecDeque;
-use syntax::{Function, Item};
-use world::{Call, World};
+use syntax::{Function, Item, Parameter, ParameterType};
+use world::{Argument, Call, World};
 
 /// The world's threads before their first calls.
 pub fn load_threads(
@@ -28,7 +34,7 @@ pub fn load_threads(
     program: &Program<'_>,
     world: &World,
 ) -> Result<Vec<Thread>, LoadFault>
-    ensures agree { IfOk result (λ threads. ThreadsAgree program.now (world_of_scene world.now).classes threads.items
+    ensures agree { IfOk result (λ threads. (space : Space) (shared : Shared) → ThreadsAgree program.now (world_of_scene world.now).classes space (length (loaded_objects (world_of_scene world.now))) shared threads.items
         (map waiting_thread (world_of_scene world.now).threads)) }
     ensures all { OnOk result (flat_map (refused_calls (unit_tree program.now.unit) (world_of_scene world.now).classes) (world_of_scene world.now).threads ≡ []) }
     ensures refused { IfErr result (IsFirstOf (flat_map (refused_calls (unit_tree program.now.unit) (world_of_scene world.now).classes) (world_of_scene world.now).threads)) }
@@ -50,57 +56,87 @@ fn load_thread(
     world: &World,
     calls: &[Call],
 ) -> Result<Thread, LoadFault>
-    requires { IsTrue (has_call calls.now) }
-    ensures agrees { IfOk result (λ thread. ThreadAgrees program.now (world_of_scene world.now).classes thread
+    requires some { IsTrue (has_call calls.now) }
+    requires given { IsTrue (list_all (are_arguments (length (loaded_objects (world_of_scene world.now)))) calls.now) }
+    ensures agrees { IfOk result (λ thread. (space : Space) (shared : Shared) → ThreadAgrees program.now (world_of_scene world.now).classes space (length (loaded_objects (world_of_scene world.now))) shared thread
         (waiting_thread (map invocation_of calls.now))) }
     ensures all { OnOk result (refused_calls (unit_tree program.now.unit) (world_of_scene world.now).classes (map invocation_of calls.now) ≡ []) }
     ensures refused { IfErr result (IsFirstOf (refused_calls (unit_tree program.now.unit) (world_of_scene world.now).classes (map invocation_of calls.now))) }
 {
-    let mut coming = VecDeque::new(alloc);
+    let mut nexts = VecDeque::new(alloc);
     for call in calls {
         match load_call(alloc, program, world, call)? {
-            Some(next) => coming.push_back(next)?,
+            Some(next) => nexts.push_back(next)?,
             None => return Err(LoadFault::DoesNotFit(call.line())),
         }
     }
     Ok(Thread {
-        calls: coming,
+        calls: nexts,
         call: None,
         ending: Ending::Unfinished,
     })
 }
 
-/// The call by its function's number, if it fits the function. No function has parameters yet.
+/// A call to come, if the world's call fits its function.
 fn load_call(
     alloc: Global,
     program: &Program<'_>,
     world: &World,
     call: &Call,
 ) -> Result<Option<CallToCome>, AllocError>
-    ensures { IfOk result (IsCallOf program.now (world_of_scene world.now).classes (invocation_of call.now)) }
+    requires { IsTrue (are_arguments (length (loaded_objects (world_of_scene world.now))) call.now) }
+    ensures { IfOk result (IsCallOf program.now (world_of_scene world.now).classes (length (loaded_objects (world_of_scene world.now))) (invocation_of call.now)) }
 {
-    let Some(number) = function_number(program, call.function()) else {
+    let Some(function) = function_number(program, call.function()) else {
         return Ok(None);
     };
-    if !call.arguments().is_empty() {
+    let Some(class) = native_class_number(alloc, world, call.function())? else {
         return Ok(None);
-    }
-    if !has_native_class(alloc, world, call.function())? {
+    };
+    let parameters = &function_of(&program.items()[function]).parameters;
+    if !fit(parameters, call.arguments()) {
         return Ok(None);
     }
     Ok(Some(CallToCome {
-        function: number,
+        function,
+        class,
         arguments: Vec::from_slice(alloc, call.arguments())?,
     }))
 }
 
-/// Whether the class is there whose native method has a function of this name.
-fn has_native_class(alloc: Global, world: &World, name: &[u8]) -> Result<bool, AllocError>
-    ensures { IfOk result (λ there. there ≡ is_some (option_and_then (class_named (world_of_scene world.now).classes) (native_class name.now))) }
+/// The number of the class whose native method has a function of this name.
+fn native_class_number(
+    alloc: Global,
+    world: &World,
+    name: &[u8],
+) -> Result<Option<usize>, AllocError>
+    ensures { IfOk result (λ number. number ≡ option_and_then (class_named (world_of_scene world.now).classes) (native_class name.now)) }
 {
     match unmangle(alloc, name)? {
-        Some(native) => Ok(world.has_class(&native.class)),
-        None => Ok(false),
+        Some(native) => Ok(world.class_number(&native.class)),
+        None => Ok(None),
+    }
+}
+
+/// Whether there are as many arguments as parameters, each of its kind.
+fn fit(parameters: &[Parameter], arguments: &[Argument]) -> bool
+    ensures { result ≡ fit_parameters (map parameter_tree parameters.now) (map argument_view arguments.now) }
+{
+    parameters.len() == arguments.len()
+        && parameters
+            .iter()
+            .zip(arguments)
+            .all(|(parameter, argument)| fits(parameter.kind, *argument))
+}
+
+/// Whether an argument is of the kind of a parameter: a number for `jint`, and NULL or an object for a reference.
+fn fits(kind: ParameterType, argument: Argument) -> bool
+    ensures { result ≡ fits_parameter (parameter_type_tree kind) (argument_view argument) }
+{
+    match (kind, argument) {
+        (ParameterType::Jint, Argument::Number(_)) => true,
+        (ParameterType::Reference(_), Argument::Reference(_)) => true,
+        _ => false,
     }
 }
 

@@ -119,7 +119,13 @@ impl<'a> Machine<'a> {
         }
         self.journal.reserve(1)?;
         self.printed.reserve(1)?;
-        let event = advance(&self.program, &mut self.threads[index]);
+        let event = advance(
+            &self.program,
+            &self.world,
+            &self.heap,
+            &self.loaded,
+            &mut self.threads[index],
+        )?;
         note(&mut self.printed, &mut self.stop, k, event);
         self.journal
             .push(Entry {

@@ -1,23 +1,28 @@
 //! One thread of the machine, and a step of its own.
 
-ghost use Rattle.std.specs.Prelude.{◌≡◌, ℕ, ◌<◌, Some, None, [], ◌∷◌, List};
+ghost use Rattle.std.specs.Prelude.{◌≡◌, ℕ, ◌<◌, Some, None, [], ◌∷◌, List, length, IfOk, OnOk, OnErr};
 ghost use Rattle.std.specs.VecDeque.{deque_len};
-ghost use Rattle.classes.specs.Class.{Classes};
 ghost use Rattle.regions.specs.Effect.{effect_of};
 ghost use Rattle.regions.specs.Sight.{Sight};
 ghost use Rattle.regions.specs.Task.{Task};
-ghost use Rattle.regions.specs.Thread.{Lent, Shared, Thread as SourceThread};
+ghost use Rattle.regions.specs.Thread.{Lent, Shared, Thread as SourceThread, sight_of};
+ghost use Rattle.world.specs.SceneWorld.{world_of_scene};
 ghost use Rattle.lower.specs.Lowered.{IsLowered};
-ghost use Rattle.machine.specs.declared.thread.CallToCome.{CallToCome};
 ghost use Rattle.machine.specs.Agrees.{ThreadAgrees, CallStands, Executes, Advances, ending_after};
+ghost use Rattle.machine.specs.HeapAgrees.{BlocksAgree, IsTable};
+ghost use Rattle.machine.specs.Entry.{IsReady, Begins};
 
+use crate::entry::begin;
+use crate::invoke::invoke;
 use crate::stop::Trap;
 use code::instr::{Instr, Plain};
 use code::plain::plain;
 use code::stack::Stack;
+use heap::{Addr, Heap};
 use lower::Program;
+use std::alloc::AllocError;
 use std::collections::VecDeque;
-use world::Argument;
+use world::{Argument, World};
 
 /// Whether a thread has ended.
 #[derive(Clone, Copy, Debug, PartialEq, Eq)]
@@ -36,16 +41,7 @@ pub enum Event {
     Trapped(Trap, usize),
 }
 
-/// A call that a thread has still to make.
-#[derive(Drop, Debug)]
-pub struct CallToCome {
-    /// The function, by its place among the unit's functions.
-    pub function: usize,
-    /// What it is given behind the class. References go by the names of objects made at load.
-    pub arguments: Vec<Argument>,
-}
-
-/// A thread: its calls to come, and the call in progress.
+/// A thread: the calls that it has still to make, and the call in progress.
 #[derive(Drop, Debug)]
 pub struct Thread {
     pub calls: VecDeque<CallToCome>,
@@ -53,12 +49,24 @@ pub struct Thread {
     pub ending: Ending,
 }
 
-/// A call in progress: where it stands in its function's code, with its operands.
+/// A call that a thread has still to make: its function and the function's class by their numbers, and what the function
+/// is given.
+#[derive(Drop, Debug)]
+pub struct CallToCome {
+    pub function: usize,
+    pub class: usize,
+    pub arguments: Vec<Argument>,
+}
+
+/// A call in progress: where it stands in its function's code, with its operands and the slots of its variables. A
+/// reference is NULL or the address of an object.
 #[derive(Drop, Debug)]
 pub struct Activation {
     pub function: usize,
     pub place: usize,
     pub stack: Stack,
+    pub numbers: Vec<u32>,
+    pub references: Vec<Option<Addr>>,
 }
 
 /// What an instruction did.
@@ -68,42 +76,53 @@ pub enum Executed {
     Returned,
 }
 
-/// Takes one step of a thread that has not ended.
-pub fn advance(program: &Program<'_>, thread: &mut Thread) -> Event
+/// Takes one step of a thread that has not ended. Behind `heap` stand the addresses of the objects made at load, by their
+/// names, counted from 1. Only the entry into a call takes host memory.
+pub fn advance(
+    program: &Program<'_>,
+    world: &World,
+    heap: &Heap,
+    loaded: &[Addr],
+    thread: &mut Thread,
+) -> Result<Event, AllocError>
     requires lowered { IsLowered program.now }
-    requires agrees { (classes : Classes) × (s : SourceThread) × ThreadAgrees program.now classes thread.old s × (thread.old.ending ≡ Ending.Unfinished) }
-    ensures { (classes : Classes) (lent : Lent) (k : ℕ) (shared : Shared) (s : SourceThread) → shared.monitors ≡ []
-        → ThreadAgrees program.now classes thread.old s → thread.old.ending ≡ Ending.Unfinished
-        → Advances program.now classes lent k shared s thread.new result }
+    requires agrees { (shared : Shared) × (s : SourceThread) × ThreadAgrees program.now (world_of_scene world.now).classes heap.now (length loaded.now) shared thread.old s × (thread.old.ending ≡ Ending.Unfinished) }
+    ensures advances { IfOk result (λ event. (lent : Lent) (k : ℕ) (shared : Shared) (s : SourceThread) → shared.monitors ≡ [] → BlocksAgree heap.now shared.heap heap.now.blocks
+        → IsTable heap.now loaded.now (length loaded.now) → ThreadAgrees program.now (world_of_scene world.now).classes heap.now (length loaded.now) shared thread.old s
+        → Advances program.now (world_of_scene world.now).classes heap.now (length loaded.now) lent k shared s thread.new event) }
+    ensures err { OnErr result (thread.new ≡ thread.old) }
 {
     match &mut thread.call {
         None => {
-            enter(thread);
-            Event::Quiet
+            enter(program, loaded, thread)?;
+            Ok(Event::Quiet)
         }
-        Some(call) => match execute(program, call) {
-            Executed::Did(event) => event,
+        Some(call) => match execute(program, world, heap, call) {
+            Executed::Did(event) => Ok(event),
             Executed::Returned => {
                 leave(thread);
-                Event::Quiet
+                Ok(Event::Quiet)
             }
         },
     }
 }
 
 /// The entry into the next call.
-fn enter(thread: &mut Thread)
-    requires { 0 < deque_len thread.old.calls }
-    ensures calls { (next : CallToCome) × (thread.old.calls.items ≡ next ∷ thread.new.calls.items)
-        × (thread.new.call ≡ Some (record { function = next.function; place = 0; stack = [] })) }
-    ensures ending { thread.new.ending ≡ thread.old.ending }
+fn enter(program: &Program<'_>, loaded: &[Addr], thread: &mut Thread) -> Result<(), AllocError>
+    requires lowered { IsLowered program.now }
+    requires some { 0 < deque_len thread.old.calls }
+    requires ready { (next : CallToCome) (rest : List CallToCome) → thread.old.calls.items ≡ next ∷ rest → IsReady program.now (length loaded.now) next }
+    ensures calls { OnOk result ((next : CallToCome) × (call : Activation) × (thread.old.calls.items ≡ next ∷ thread.new.calls.items)
+        × (thread.new.call ≡ Some call) × Begins program.now loaded.now next call) }
+    ensures ending { OnOk result (thread.new.ending ≡ thread.old.ending) }
+    ensures err { OnErr result (thread.new ≡ thread.old) }
 {
-    let next = thread.calls.pop_front().unwrap();
-    thread.call = Some(Activation {
-        function: next.function,
-        place: 0,
-        stack: Stack::new(),
-    });
+    let next = thread.calls.front().unwrap();
+    let code = program.code(next.function).unwrap();
+    let call = begin(*thread.calls.allocator(), code, loaded, next)?;
+    let _ = thread.calls.pop_front();
+    thread.call = Some(call);
+    Ok(())
 }
 
 /// The end of a call.
@@ -121,11 +140,12 @@ fn leave(thread: &mut Thread)
 }
 
 /// One instruction of a call.
-fn execute(program: &Program<'_>, call: &mut Activation) -> Executed
+fn execute(program: &Program<'_>, world: &World, heap: &Heap, call: &mut Activation) -> Executed
     requires lowered { IsLowered program.now }
-    requires stands { (task : Task) × (rest : List Task) × CallStands program.now call.old (task ∷ rest) }
-    ensures { (sight : Sight) (task : Task) (rest : List Task) → CallStands program.now call.old (task ∷ rest)
-        → Executes program.now call.new rest (effect_of sight task) result }
+    requires stands { (sight : Sight) × (task : Task) × (rest : List Task) × CallStands program.now heap.now call.old sight (task ∷ rest) }
+    ensures { (lent : Lent) (k : ℕ) (shared : Shared) (s : SourceThread) (task : Task) (rest : List Task) → s.tasks ≡ Some (task ∷ rest) → s.pending ≡ None
+        → BlocksAgree heap.now shared.heap heap.now.blocks → CallStands program.now heap.now call.old (sight_of shared s) (task ∷ rest)
+        → Executes program.now (world_of_scene world.now).classes heap.now lent k shared s rest call.new (effect_of (sight_of shared s) task) result }
 {
     let code = program.code(call.function).unwrap();
     let instr = code.get(call.place).unwrap();
@@ -135,8 +155,9 @@ fn execute(program: &Program<'_>, call: &mut Activation) -> Executed
             call.place += 1;
             Executed::Did(Event::Printed(word.cast_signed()))
         }
+        Instr::Call(function) => Executed::Did(invoke(world, heap, call, *function)),
         Instr::Return | Instr::ReturnJint => Executed::Returned,
-        _ => match plain(instr, &mut call.stack) {
+        _ => match plain(instr, &mut call.stack, &mut call.numbers) {
             Plain::Next => {
                 call.place += 1;
                 Executed::Did(Event::Quiet)

@@ -27,3 +27,5 @@ pub mod MeantLines
 pub mod MeantRules
 pub mod BuiltForms
 pub mod MeantWorlds
+pub mod PlainClasses
+pub mod GivenLemmas

@@ -3,6 +3,7 @@
 ghost use Rattle.std.specs.Prelude.{◌≡◌, ◌<◌, ◌≤◌, true, map, length};
 ghost use Rattle.std.specs.List.{list_all};
 ghost use Rattle.world.specs.Scene.{has_call, cells_used};
+ghost use Rattle.world.specs.CallArguments.{objects_made, are_arguments};
 
 use crate::array::Array;
 use crate::world::Call;
@@ -24,4 +25,5 @@ pub struct WorldBuilder {
     ghost room_before: { heap ≡ 0 → used ≤ 512 },
     ghost room: { 0 < heap → used ≤ heap },
     ghost limit: { heap ≤ 1048576 },
+    ghost named: { list_all (list_all (are_arguments (objects_made (length classes.items) (length objects.items)))) (map (λ t. t.items) threads.items) ≡ true },
 }

@@ -1,10 +1,10 @@
 //! Names of classes.
 
-ghost use Rattle.std.specs.Prelude.{◌≡◌, ◌+◌, ◌*◌, ◌<◌, ◌≤◌, slice_index_or, ◌++◌, ◌∷◌, [], length, position, map, is_some, IfSome};
+ghost use Rattle.std.specs.Prelude.{◌≡◌, ◌+◌, ◌*◌, ◌<◌, ◌≤◌, slice_index_or, ◌++◌, ◌∷◌, [], length, position, map, not, is_some, IfSome};
 ghost use Rattle.std.specs.List.{list_all};
 ghost use Rattle.std.specs.Str.{bytes_eq};
 ghost use Rattle.base.specs.Bytes.{is_letter, is_name_part};
-ghost use Rattle.classes.specs.Class.{class_named, class_name, array_name};
+ghost use Rattle.classes.specs.Class.{class_named, class_name, class_kind, is_plain, array_name};
 ghost use Rattle.classes.specs.Mangling.{is_simple_name, is_class_name};
 ghost use Rattle.world.specs.SceneWorld.{is_of, classes_named};
 ghost use Rattle.world.specs.Shown.{name_view};
@@ -205,6 +205,17 @@ pub fn class_name(classes: &[Vec<u8>], number: usize) -> ClassName<'_>
     } else {
         ClassName::Array(class)
     }
+}
+
+/// Whether the class of this number is one of arrays.
+pub fn is_array_class(classes: &[Vec<u8>], number: usize) -> bool
+    ensures { result ≡ not (is_plain (class_kind (classes_named (map (λ class. class.items) classes.now)) number)) }
+{
+    if number < 43 {
+        return number >= 20;
+    }
+    let place = (number - 43) / 2;
+    place < classes.len() && (number - 43) % 2 == 1
 }
 
 /// Whether a built-in class or one of these has this name.

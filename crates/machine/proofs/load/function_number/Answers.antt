@@ -1,4 +1,4 @@
-use Rattle.std.proofs.Common.{◌≡◌, Some, List, refl, sym, ap, ◌∙◌, subst}
+use Rattle.std.proofs.Common.{◌≡◌, ◌<◌, Some, List, length, sym, ap, ◌∙◌, subst}
 use Rattle.std.specs.Prelude.{slice_get}
 use Rattle.std.specs.Str.{bytes_eq}
 use Rattle.syntax.specs.declared.unit.Item.{Item}
@@ -19,5 +19,5 @@ returns-then-eq-clause-found c =
       named = c.loop-number.invariant ∙ named_here items c.loop-number.number f c.args.name.now at same;
       numbered = subst (λ (xs : List Item). slice_get (functions_of (unit_tree xs)) c.loop-number.number ≡ Some (function_tree f)) whole (functions_get items c.loop-number.number f at);
       has_name = same_name f.name c.args.name.now same;
-      no_parameters = refl;
+      there = subst (λ (xs : List Item). c.loop-number.number < length xs) whole c.loop-number-test.true;
     }

@@ -1,11 +1,14 @@
-use Rattle.std.proofs.Common.{◌≡◌, drop}
+use Rattle.std.proofs.Common.{◌≡◌, drop, length}
 use Rattle.syntax.specs.Views.{unit_tree}
+use Rattle.heap.specs.Heap.{Space}
 use Rattle.world.specs.SceneWorld.{world_of_scene}
+use Rattle.world.specs.World.{loaded_objects}
+use Rattle.regions.specs.Thread.{Shared}
 use Rattle.machine.proofs.ThreadLoads.{AgreeSoFar, refused_of}
 use Rattle.machine.proofs.load.load_threads.Given as goal
 
 abbrev pub invariant-loop-calls : goal.invariant-loop-calls
 invariant-loop-calls l = record {
-  agree : AgreeSoFar l.program (world_of_scene l.world).classes l.calls-items l.calls-index l.threads.items;
+  agree : (space : Space) (shared : Shared) → AgreeSoFar l.program (world_of_scene l.world).classes space (length (loaded_objects (world_of_scene l.world))) shared l.calls-items l.calls-index l.threads.items;
   all : refused_of (unit_tree l.program.unit) (world_of_scene l.world).classes l.calls-items ≡ refused_of (unit_tree l.program.unit) (world_of_scene l.world).classes (drop l.calls-index l.calls-items);
 }

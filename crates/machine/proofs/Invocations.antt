@@ -1,0 +1,262 @@
+-- A call of a function of the JNI does what the source's call does.
+use Rattle.std.proofs.Common.{◌≡◌, ℕ, zero, suc, pos, ◌+◌, ◌<◌, ◌≤◌, ◌^◌, Bool, true, false, cond, eqb, List, [], ◌∷◌, ◌++◌, length, Option, Some, None, Result, refl, sym, ap, ◌∙◌, subst, arith, ⊎_elim, ◌⊎◌}
+use Rattle.std.specs.Prelude.{slice_get, slice_set, find, FitsSigned, Ok, Err, IsSome}
+use Rattle.std.specs.Option.{option_map, option_map_or}
+use Rattle.std.specs.Int.{w32, cast_unsigned}
+use Rattle.std.proofs.Math.Facts.{Fits-of_lt, sfits_to_z}
+use Rattle.base.specs.Bytes.{Identifier, lookup}
+use Rattle.classes.specs.Class.{Classes, class_kind, is_plain}
+use Rattle.types.specs.JniFunction.{JniFunction, GetArrayLength}
+use Rattle.types.specs.Sorts.{Jint, Ref}
+use Rattle.heap.specs.Heap.{Block, Space, block_at, class_at, name_at, values_at, IsAddress}
+use Rattle.world.specs.Object.{Object, ObjectValue, Reference}
+use Rattle.code.specs.declared.instr.Instr.{Instr}
+use Rattle.code.specs.declared.instr.Instr.TheVariants as instr
+use Rattle.code.specs.declared.instr.Call.{Call}
+use Rattle.code.specs.declared.instr.Callee.{Callee}
+use Rattle.code.specs.declared.instr.Callee.TheVariants as callee
+use Rattle.code.specs.declared.instr.ReferenceOperand.{ReferenceOperand}
+use Rattle.code.specs.declared.instr.ReferenceOperand.TheVariants.{Null, Local}
+use Rattle.code.specs.declared.instr.Target.{Target as Destination}
+use Rattle.code.specs.declared.instr.Target.TheVariants as destination
+use Rattle.code.specs.Depth.{Listing, depth_after}
+use Rattle.regions.specs.Arguments.{Actual, ReferenceActual}
+use Rattle.regions.specs.CallStep.{call_step}
+use Rattle.regions.specs.Effect.{Effect, Calls, effect_of}
+use Rattle.regions.specs.Heap.{Heap, object_at, class_of, values_of}
+use Rattle.regions.specs.Sight.{Sight}
+use Rattle.regions.specs.Task.{Task, Target, VariableKind, ScalarKind, ReferenceKind, FieldKind, BufferKind, Declared, Assigned, Dropped, Tested}
+use Rattle.regions.specs.Thread as source
+use Rattle.regions.specs.Thread.{Lent, Shared, sight_of}
+use Rattle.regions.specs.Value.{Int}
+use Rattle.regions.specs.Value as value
+use Rattle.regions.specs.Variable.{Scalar, assign, as_static}
+use Rattle.lower.specs.Layout.{Known}
+use Rattle.lower.specs.Slots.{Shows}
+use Rattle.lower.specs.Stands.{StandsFor, CallsFunction, IsCallee, IsOperand, TakesResult, TakesNumber}
+use Rattle.lower.specs.Lowered.{Lowered}
+use Rattle.machine.specs.declared.stop.Trap.{Trap}
+use Rattle.machine.specs.declared.stop.Trap.TheVariants as trap
+use Rattle.machine.specs.declared.thread.Event.{Event}
+use Rattle.machine.specs.declared.thread.Event.TheVariants as event
+use Rattle.machine.specs.declared.thread.Activation.{Activation}
+use Rattle.machine.specs.declared.thread.Executed.TheVariants.{Did}
+use Rattle.machine.specs.Agrees.{CallStands, Executes, GoesOn, ReferencesAgree, event_view}
+use Rattle.machine.specs.HeapAgrees.{ReferenceAgrees, WordsAgree, BlockAgrees, BlocksAgree}
+use Rattle.machine.specs.Invoked.{operand_at, held_in, length_operand, target_slot, HasPlainClass, HasArrayClass, LengthIs, HasWord, DidCall, Invoked}
+use Rattle.machine.specs.Stops.{trap_view}
+use Rattle.machine.proofs.Calls.{slots_of, Ready, HasMoved, stands_behind}
+use Rattle.machine.proofs.Effects.{call_cases, is_set}
+use Rattle.machine.proofs.LengthCalls.{length_of_null, length_of_plain, length_of_array}
+
+-- ---- the object at an address
+
+-- a block that is found stands for its object
+block_found : (space : Space) (heap : Heap) (bs : List Block) (a : ℕ) (b : Block) → BlocksAgree space heap bs → find (λ (c : Block). eqb c.address a) bs ≡ Some b → BlockAgrees space heap b
+block_found space heap [] a b h e = absurd (cc)
+block_found space heap (c ∷ bs) a b h e = by_test (eqb c.address a) e
+  where
+    by_test : (t : Bool) → cond t (Some c) (find (λ (d : Block). eqb d.address a) bs) ≡ Some b → BlockAgrees space heap b
+    by_test true e = let same : c ≡ b = cc in subst (λ (d : Block). BlockAgrees space heap d) same h.0
+    by_test false e = block_found space heap bs a b h.1 e
+
+words_length : (space : Space) (words : List ℕ) (values : List ObjectValue) → WordsAgree space words values → length words ≡ length values
+words_length space [] [] h = refl
+words_length space [] (v ∷ values) h = absurd h
+words_length space (w ∷ words) [] h = absurd h
+words_length space (w ∷ words) (v ∷ values) h = ap suc (words_length space words values h.1)
+
+-- what is known of the object whose block is at an address
+record IsObject (space : Space) (heap : Heap) (a n : ℕ) : Type 0 where
+  class : class_at space a ≡ Some (class_of heap n)
+  count : length (values_at space a) ≡ length (values_of heap n)
+
+is_object_by : (space : Space) (heap : Heap) (a n : ℕ) (o : Option Block) → block_at space a ≡ o → BlocksAgree space heap space.blocks → name_at space a ≡ Some n → IsObject space heap a n
+is_object_by space heap a n None e h named = absurd (let none : None ≡ Some n = sym (ap (option_map (λ (b : Block). b.birth)) e) ∙ named in cc)
+is_object_by space heap a n (Some b) e h named =
+    let f = block_found space heap space.blocks a b h e in
+    let birth : b.birth ≡ n = let same : Some b.birth ≡ Some n = sym (ap (option_map (λ (c : Block). c.birth)) e) ∙ named in cc in
+    let object : object_at heap n ≡ Some f.object = ap (object_at heap) (sym birth) ∙ f.is in
+    record {
+      class = ap (option_map (λ (c : Block). c.class)) e ∙ ap (λ (m : ℕ). Some m) (f.class ∙ sym (ap (λ (o : Option Object). option_map_or (λ (x : Object). x.class) o 0) object));
+      count = ap length (ap (λ (o : Option Block). option_map_or (λ (c : Block). c.values) o []) e) ∙ words_length space b.values f.object.values f.values ∙ sym (ap length (ap (λ (o : Option Object). option_map_or (λ (x : Object). x.values) o []) object));
+    }
+
+is_object : (space : Space) (heap : Heap) (a n : ℕ) → BlocksAgree space heap space.blocks → name_at space a ≡ Some n → IsObject space heap a n
+is_object space heap a n h named = is_object_by space heap a n (block_at space a) refl h named
+
+-- ---- the argument
+
+-- the slot of a reference
+reference_there : (space : Space) (addresses : List (Option ℕ)) (references : List Reference) (i : ℕ) (q : Reference) → ReferencesAgree space addresses references → slice_get references i ≡ Some q → ReferenceAgrees space (held_in (slice_get addresses i)) q
+reference_there space [] [] i q h e = absurd (cc)
+reference_there space [] (r ∷ rs) i q h e = absurd h
+reference_there space (a ∷ more) [] i q h e = absurd h
+reference_there space (a ∷ more) (r ∷ rs) zero q h e = let same : r ≡ q = cc in subst (λ (x : Reference). ReferenceAgrees space a x) same h.0
+reference_there space (a ∷ more) (r ∷ rs) (suc i) q h e = reference_there space more rs i q h.1 e
+
+-- an operand is what the source's argument is
+record OperandAgrees (space : Space) (addresses : List (Option ℕ)) (operand : ReferenceOperand) (actual : Actual) : Type 0 where
+  name : Identifier
+  reference : Reference
+  is : actual ≡ ReferenceActual name (as_static reference)
+  agrees : ReferenceAgrees space (operand_at addresses operand) reference
+
+operand_agrees : (p : Lowered) (space : Space) (call : Activation) (code : Listing) (sight : Sight) (task : Task) (rest : List Task) (r : Ready p space call code sight task rest) (operand : ReferenceOperand) (actual : Actual)
+    → IsOperand code r.known call.place call.stack (slots_of call r.references) sight operand actual → OperandAgrees space call.references.items operand actual
+operand_agrees p space call code sight task rest r Null actual h = record { name = []; reference = None; is = h; agrees = tt }
+operand_agrees p space call code sight task rest r (Local i) actual h =
+    let shown = r.shows.each h.0 (record { sort = Ref; index = i }) h.2 in
+    record {
+      name = h.0;
+      reference = shown.reference;
+      is = h.1 ∙ ap (ReferenceActual h.0) shown.is;
+      agrees = reference_there space call.references.items r.references i shown.reference r.agree shown.there;
+    }
+
+-- where a reference is an address, a block is there
+pub is_address : (space : Space) (o : Option ℕ) (q : Reference) (a : ℕ) → ReferenceAgrees space o q → o ≡ Some a → IsAddress space a
+is_address space None q a h e = absurd (cc)
+is_address space (Some b) None a h e = absurd h
+is_address space (Some b) (Some n) a h e =
+    let same : b ≡ a = cc in
+    some_block (block_at space a) n (subst (λ (c : ℕ). name_at space c ≡ Some n) same h)
+  where
+    some_block : (o : Option Block) (n : ℕ) → option_map (λ (c : Block). c.birth) o ≡ Some n → IsSome o
+    some_block None n h = absurd (cc)
+    some_block (Some c) n h = refl
+
+-- ---- the call
+
+-- the word of a length
+length_word : (n : ℕ) → cast_unsigned w32 (pos n) ≡ n
+length_word n = refl
+
+module _ (p : Lowered) (classes : Classes) (space : Space) (lent : Lent) (k : ℕ) (shared : Shared) (s : source.Thread) (call : Activation) (code : Listing) (task : Task) (rest : List Task) (r : Ready p space call code (sight_of shared s) task rest) where
+  abbrev sight : Sight
+  sight = sight_of shared s
+
+  -- what an instruction of GetArrayLength has
+  record IsLength (function : Call) (line : ℕ) (target : Target) (f : JniFunction) (args : List Actual) : Type 0 where
+    is : f ≡ GetArrayLength
+    name : Identifier
+    reference : Reference
+    arguments : args ≡ ReferenceActual name (as_static reference) ∷ []
+    agrees : ReferenceAgrees space (operand_at call.references.items (length_operand function.function)) reference
+    stack : call.stack ≡ []
+
+  is_length : (c : Callee) (f : JniFunction) (args : List Actual) → IsCallee code r.known call.place call.stack (slots_of call r.references) sight c f args
+      → (call.stack ≡ []) × (f ≡ GetArrayLength) × ((a : Actual) × (args ≡ a ∷ []) × OperandAgrees space call.references.items (length_operand c) a)
+  is_length (callee.GetArrayLength operand) f args h = (h.0, h.1, (h.2, h.3, operand_agrees p space call code sight task rest r operand h.2 h.4))
+
+  -- the word goes into its slot
+  module _ (i : Instr) (at : slice_get code.instrs call.place ≡ Some i) (function : Call) (is : i ≡ instr.Call function) where
+    given : (line : ℕ) (target : Target) (f : JniFunction) (args : List Actual) → CallsFunction code r.known call.place call.stack (slots_of call r.references) sight line target f args rest → IsLength function line target f args
+    given line target f args h =
+        let same : h.call ≡ function = let e : instr.Call h.call ≡ instr.Call function = cc (at, h.at, is) in cc in
+        let l = is_length function.function f args (subst (λ (c : Call). IsCallee code r.known call.place call.stack (slots_of call r.references) sight c.function f args) same h.function) in
+        let o = l.4 in
+        record { is = l.1; name = o.name; reference = o.reference; arguments = l.3 ∙ ap (λ (a : Actual). a ∷ []) o.is; agrees = o.agrees; stack = l.0 }
+
+    -- the operand is the address of a block
+    pub object_there : (a : ℕ) → operand_at call.references.items (length_operand function.function) ≡ Some a → IsAddress space a
+    object_there a e =
+        call_cases p classes space lent k shared s call code task rest r i at function is (λ e. IsAddress space a)
+        (λ line target f args h. let l = given line target f args h in is_address space (operand_at call.references.items (length_operand function.function)) l.reference a l.agrees e)
+
+    -- the slot of the result is there
+    pub slot_there : target_slot function.target < length call.numbers.items
+    slot_there =
+        call_cases p classes space lent k shared s call code task rest r i at function is (λ e. target_slot function.target < length call.numbers.items)
+        (λ line target f args h.
+          let same : h.call ≡ function = let e : instr.Call h.call ≡ instr.Call function = cc (at, h.at, is) in cc in
+          within function.target target (subst (λ (c : Call). TakesResult code r.known call.place call.stack (slots_of call r.references) sight c.target target rest) same h.goes))
+      where
+        within : (d : Destination) (target : Target) → TakesResult code r.known call.place call.stack (slots_of call r.references) sight d target rest → target_slot d < length call.numbers.items
+        within (destination.Number j) (Declared ScalarKind x) h = h.within
+        within (destination.Number j) (Declared ReferenceKind x) h = absurd h
+        within (destination.Number j) (Declared FieldKind x) h = absurd h
+        within (destination.Number j) (Declared (BufferKind T) x) h = absurd h
+        within (destination.Number j) (Assigned x) h = absurd h
+        within (destination.Number j) (Tested a b) h = absurd h
+        within (destination.Number j) Dropped h = absurd h
+
+    -- a trap stops the thread where it is
+    trapped : (line : ℕ) (target : Target) (args : List Actual) (t : Trap) (after : Activation) (e : Event) → s.tasks ≡ Some (task ∷ rest) → CallStands p space call sight (task ∷ rest)
+        → call_step classes lent k shared s line target GetArrayLength args rest false ≡ source.Advances shared s (source.Trapped (trap_view t) line) → function.line ≡ line → (after ≡ call) × (e ≡ event.Trapped t function.line)
+        → GoesOn p classes space lent k shared s rest after (Calls line target GetArrayLength args) e
+    trapped line target args t after e tasks stands steps same did = record {
+      next = s;
+      steps = steps ∙ ap (λ (n : ℕ). source.Advances shared s (source.Trapped (trap_view t) n)) (sym same) ∙ ap (λ (v : Event). source.Advances shared s (event_view v)) (sym did.1);
+      work = rw tasks (subst (λ (c : Activation). CallStands p space c sight (task ∷ rest)) (sym did.0) stands);
+      calls = refl;
+      pending = refl;
+      ending = refl;
+    }
+
+    -- a length goes into its slot
+    length_goes : (line : ℕ) (target : Target) (x : Identifier) (n a m : ℕ) (after : Activation) (e : Event) (d : Destination) → function.target ≡ d → s.pending ≡ None → call.stack ≡ []
+        → TakesResult code r.known call.place call.stack (slots_of call r.references) sight d target rest
+        → IsObject space shared.heap a n → HasArrayClass classes space a → m ≡ length (values_at space a) → m < 2 ^ 31
+        → HasWord call (target_slot d) m after → e ≡ event.Quiet
+        → GoesOn p classes space lent k shared s rest after (Calls line target GetArrayLength (ReferenceActual x (as_static (Some n)) ∷ [])) e
+    length_goes line (Declared ScalarKind y) x n a m after e (destination.Number j) to none empty goes object array long small word quiet =
+        let size : m ≡ length (values_of shared.heap n) = long ∙ object.count in
+        let class : array.0 ≡ class_of shared.heap n = let same : Some array.0 ≡ Some (class_of shared.heap n) = sym array.1 ∙ object.class in cc in
+        let kind : is_plain (class_kind classes (class_of shared.heap n)) ≡ false = ap (λ (c : ℕ). is_plain (class_kind classes c)) (sym class) ∙ array.2 in
+        let next : source.Thread = record s { tasks = Some rest; variables = assign y (Scalar (Int (pos (length (values_of shared.heap n))))) s.variables } in
+        let fits : FitsSigned w32 (pos (length (values_of shared.heap n))) = subst (λ (l : ℕ). FitsSigned w32 (pos l)) size (record { sfits = small }) in
+        let moved : HasMoved call after [] (slice_set call.numbers.items j (length (values_of shared.heap n))) =
+        record { function = word.0; place = word.1; stack = word.2 ∙ empty; numbers = word.3 ∙ ap (slice_set call.numbers.items j) size; references = ap (λ v. v.items) word.4 } in
+        let deep : depth_after i (length call.stack) ≡ Some (length {A = ℕ} []) = ap (λ (o : Instr). depth_after o (length call.stack)) is ∙ ap (λ (st : List ℕ). Some (length st)) empty in
+        record {
+          next = next;
+          steps = length_of_array classes shared s (Declared ScalarKind y) x none lent k line rest n kind ∙ ap (λ (v : Event). source.Advances shared next (event_view v)) (sym quiet);
+          work = stands_behind p space call code sight task rest r i at after [] (slice_set call.numbers.items j (length (values_of shared.heap n))) goes.names (sight_of shared next) rest deep moved goes.stands
+              (goes.shows (pos (length (values_of shared.heap n))) (sight_of shared next) fits (is_set shared s next y (Int (pos (length (values_of shared.heap n)))) refl));
+          calls = refl;
+          pending = refl;
+          ending = refl;
+        }
+    length_goes line (Declared ReferenceKind y) x n a m after e (destination.Number j) to none empty goes object array long small word quiet = absurd goes
+    length_goes line (Declared FieldKind y) x n a m after e (destination.Number j) to none empty goes object array long small word quiet = absurd goes
+    length_goes line (Declared (BufferKind T) y) x n a m after e (destination.Number j) to none empty goes object array long small word quiet = absurd goes
+    length_goes line (Assigned y) x n a m after e (destination.Number j) to none empty goes object array long small word quiet = absurd goes
+    length_goes line (Tested t f) x n a m after e (destination.Number j) to none empty goes object array long small word quiet = absurd goes
+    length_goes line Dropped x n a m after e (destination.Number j) to none empty goes object array long small word quiet = absurd goes
+
+    -- by what the operand is
+    by_operand : (line : ℕ) (target : Target) (x : Identifier) (o : Option ℕ) (q : Reference) (answer : Result ℕ Trap) (after : Activation) (e : Event) → s.tasks ≡ Some (task ∷ rest) → s.pending ≡ None → CallStands p space call sight (task ∷ rest)
+        → BlocksAgree space shared.heap space.blocks → call.stack ≡ [] → function.line ≡ line
+        → TakesResult code r.known call.place call.stack (slots_of call r.references) sight function.target target rest
+        → ReferenceAgrees space o q → LengthIs classes space o answer → DidCall function.line (target_slot function.target) call after answer e
+        → GoesOn p classes space lent k shared s rest after (Calls line target GetArrayLength (ReferenceActual x (as_static q) ∷ [])) e
+    by_operand line target x None None (Ok m) after e tasks none stands blocks empty same goes agrees length did = absurd length
+    by_operand line target x None None (Err t) after e tasks none stands blocks empty same goes agrees length did =
+        trapped line target (ReferenceActual x (as_static None) ∷ []) t after e tasks stands
+        (length_of_null classes shared s target x none lent k line rest ∙ ap (λ (u : Trap). source.Advances shared s (source.Trapped (trap_view u) line)) (sym length)) same did
+    by_operand line target x None (Some n) answer after e tasks none stands blocks empty same goes agrees length did = absurd agrees
+    by_operand line target x (Some a) None answer after e tasks none stands blocks empty same goes agrees length did = absurd agrees
+    by_operand line target x (Some a) (Some n) (Ok m) after e tasks none stands blocks empty same goes agrees length did =
+        length_goes line target x n a m after e function.target refl none empty goes (is_object space shared.heap a n blocks agrees) length.0 length.1 length.2 did.0 did.1
+    by_operand line target x (Some a) (Some n) (Err t) after e tasks none stands blocks empty same goes agrees length did =
+        let object = is_object space shared.heap a n blocks agrees in
+        let plain = length.0 in
+        let class : plain.0 ≡ class_of shared.heap n = let both : Some plain.0 ≡ Some (class_of shared.heap n) = sym plain.1 ∙ object.class in cc in
+        let kind : is_plain (class_kind classes (class_of shared.heap n)) ≡ true = ap (λ (c : ℕ). is_plain (class_kind classes c)) (sym class) ∙ plain.2 in
+        trapped line target (ReferenceActual x (as_static (Some n)) ∷ []) t after e tasks stands
+        (length_of_plain classes shared s target x none lent k line rest n kind ∙ ap (λ (u : Trap). source.Advances shared s (source.Trapped (trap_view u) line)) (sym length.1)) same did
+
+    -- a call of a function
+    pub call_executes : (after : Activation) (e : Event) → s.tasks ≡ Some (task ∷ rest) → s.pending ≡ None → CallStands p space call sight (task ∷ rest) → BlocksAgree space shared.heap space.blocks
+        → Invoked classes space call function after e → Executes p classes space lent k shared s rest after (effect_of sight task) (Did e)
+    call_executes after e tasks none stands blocks did =
+        call_cases p classes space lent k shared s call code task rest r i at function is (λ effect. Executes p classes space lent k shared s rest after effect (Did e))
+        (λ line target f args h.
+          let same : h.call ≡ function = let both : instr.Call h.call ≡ instr.Call function = cc (at, h.at, is) in cc in
+          let l = given line target f args h in
+          let goes = subst (λ (c : Call). TakesResult code r.known call.place call.stack (slots_of call r.references) sight c.target target rest) same h.goes in
+          let lines : function.line ≡ line = ap (λ (c : Call). c.line) (sym same) ∙ h.same_line in
+          subst (λ (g : JniFunction). GoesOn p classes space lent k shared s rest after (Calls line target g args) e) (sym l.is)
+          (subst (λ (more : List Actual). GoesOn p classes space lent k shared s rest after (Calls line target GetArrayLength more) e) (sym l.arguments)
+          (by_operand line target l.name (operand_at call.references.items (length_operand function.function)) l.reference did.0 after e tasks none stands blocks l.stack lines goes l.agrees did.1 did.2)))

@@ -1,0 +1,97 @@
+//! The slots of a call at its entry.
+
+ghost use Rattle.std.specs.Prelude.{◌≡◌, ℕ, ◌-◌, ◌<◌, ◌≤◌, ◌∷◌, ◌++◌, [], List, length, map, filter_map, slice_get, IfOk, IsTrue};
+ghost use Rattle.std.specs.List.{list_all};
+ghost use Rattle.world.specs.Views.{argument_view};
+ghost use Rattle.world.specs.CallArguments.{is_argument};
+ghost use Rattle.lower.specs.Slots.{argument_word, HasRoom};
+ghost use Rattle.machine.specs.Entry.{argument_address, IsNumbersOf, IsReferencesOf, BeginsIn};
+
+use crate::thread::{Activation, CallToCome};
+use code::code::Code;
+use code::stack::Stack;
+use heap::Addr;
+use std::alloc::{AllocError, Global};
+use std::vec::VecCloneMethods;
+use world::Argument;
+
+/// A call before its first instruction.
+pub fn begin(
+    alloc: Global,
+    code: &Code,
+    loaded: &[Addr],
+    next: &CallToCome,
+) -> Result<Activation, AllocError>
+    requires class { 0 < next.now.class }
+    requires given { IsTrue (list_all (is_argument (length loaded.now)) (map argument_view next.now.arguments.items)) }
+    requires room { HasRoom code.now (map argument_view next.now.arguments.items) }
+    ensures { IfOk result (λ call. BeginsIn code.now loaded.now next.now call) }
+{
+    Ok(Activation {
+        function: next.function,
+        place: 0,
+        stack: Stack::new(),
+        numbers: number_slots(alloc, &next.arguments, code.numbers())?,
+        references: reference_slots(
+            alloc,
+            loaded,
+            next.class,
+            &next.arguments,
+            code.references(),
+        )?,
+    })
+}
+
+/// So many number slots, of which the first hold the numbers that the call is given.
+fn number_slots(
+    alloc: Global,
+    arguments: &[Argument],
+    count: usize,
+) -> Result<Vec<u32>, AllocError>
+    requires { length (filter_map argument_word (map argument_view arguments.now)) ≤ count }
+    ensures { IfOk result (λ v. IsNumbersOf count (map argument_view arguments.now) v.items) }
+{
+    let mut slots = Vec::new(alloc);
+    for argument in arguments {
+        match argument {
+            Argument::Number(number) => slots.push(number.cast_unsigned())?,
+            Argument::Reference(_) => {}
+        }
+    }
+    slots.resize(count, 0)?;
+    Ok(slots)
+}
+
+/// So many slots of references, of which the first hold the class and the references that the call is given.
+fn reference_slots(
+    alloc: Global,
+    loaded: &[Addr],
+    class: usize,
+    arguments: &[Argument],
+    count: usize,
+) -> Result<Vec<Option<Addr>>, AllocError>
+    requires class { 0 < class }
+    requires given { IsTrue (list_all (is_argument (length loaded.now)) (map argument_view arguments.now)) }
+    requires room { length (filter_map (argument_address loaded.now) (map argument_view arguments.now)) < count }
+    ensures { IfOk result (λ v. IsReferencesOf count loaded.now class (map argument_view arguments.now) v.items) }
+{
+    let mut slots = Vec::new(alloc);
+    slots.push(object_of(loaded, class))?;
+    for argument in arguments {
+        match argument {
+            Argument::Number(_) => {}
+            Argument::Reference(None) => slots.push(None)?,
+            Argument::Reference(Some(name)) => slots.push(object_of(loaded, *name as usize))?,
+        }
+    }
+    slots.resize(count, None)?;
+    Ok(slots)
+}
+
+/// The address of the object of a name.
+fn object_of(loaded: &[Addr], name: usize) -> Option<Addr>
+    requires { 0 < name }
+    ensures { result ≡ slice_get loaded.now (name - 1) }
+{
+    loaded.get(name - 1).copied()
+}
