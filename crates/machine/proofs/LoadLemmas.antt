@@ -32,8 +32,8 @@ call_found p classes call next n known nothing given =
     let c = some_class (class_of_function classes n.function) there in (
       record { function = n.function; named = n.named; numbered = n.numbered; class = c.0; of_class = c.1; given = given },
       ap (some_passes (is_callable classes call.arguments)) n.named
-      ∙ ap (λ (vs : List ObjectValue). is_callable classes vs n.function) nothing
-      ∙ and_from (is_some (class_of_function classes n.function)) (fit_parameters n.function.parameters []) there (ap (λ (ps : List Parameter). fit_parameters ps []) n.no_parameters),
+          ∙ ap (λ (vs : List ObjectValue). is_callable classes vs n.function) nothing
+          ∙ and_from (is_some (class_of_function classes n.function)) (fit_parameters n.function.parameters []) there (ap (λ (ps : List Parameter). fit_parameters ps []) n.no_parameters),
     )
 
 -- a call that is given something

@@ -6,7 +6,7 @@ use Rattle.machine.proofs.thread.enter.Goals as goal
 
 pub returns-clause-calls : goal.returns-clause-calls
 returns-clause-calls c = (
-      c.unwrap-next.result,
-      c.pop_front.ensures.items ∙ ap (λ (o : Option CallToCome). option_to_list o ++ c.pop_front.new.self.items) c.unwrap-next.ensures,
-      ap (λ (s : List ℕ). let call : Activation = record { function = c.unwrap-next.result.function; place = 0; stack = s } in Some call) c.new.ensures,
-    )
+  c.unwrap-next.result,
+  c.pop_front.ensures.items ∙ ap (λ (o : Option CallToCome). option_to_list o ++ c.pop_front.new.self.items) c.unwrap-next.ensures,
+  ap (λ (s : List ℕ). let call : Activation = record { function = c.unwrap-next.result.function; place = 0; stack = s } in Some call) c.new.ensures,
+)
