@@ -1,9 +1,8 @@
 -- A call in progress takes the step of its first task.
-use Rattle.std.proofs.Common.{◌≡◌, ℕ, true, false, List, [], ◌∷◌, Option, Some, None, refl, sym, ap, ◌∙◌}
+use Rattle.std.proofs.Common.{◌≡◌, ℕ, false, List, [], ◌∷◌, Option, Some, None, refl, sym, ap, ◌∙◌}
 use Rattle.std.specs.Borrow.{Bor}
 use Rattle.std.specs.Global.{Vec}
 use Rattle.syntax.specs.declared.stmt.Stmt.{Stmt}
-use Rattle.syntax.specs.Tree.{SourceUnit}
 use Rattle.base.specs.Bytes.{Identifier}
 use Rattle.world.specs.World.{World}
 use Rattle.regions.specs.Task.{Task}
@@ -18,7 +17,7 @@ use Rattle.replay.specs.declared.task.Outcome.TheVariants as outcome
 use Rattle.replay.specs.declared.variable.Variable.{Variable as VariableInMemory}
 use Rattle.replay.specs.Views.{value_view, variables_view}
 use Rattle.replay.specs.Tasks.{task_view, tasks_of_statements, Sees, Does, left_by, trap_view}
-use Rattle.replay.specs.Activations.{tasks_from, tasks_left, thread_in, advance_by, Advances, IsApplied, task_after}
+use Rattle.replay.specs.Activations.{tasks_from, tasks_left, thread_in, advance_by, Advances, IsApplied}
 
 -- a thread with other tasks, and the variables that it has
 thread_is : (t : Thread) (tasks : List Task) (vs : Variables) → t.variables ≡ vs → with_tasks t tasks ≡ record t { tasks = Some tasks; variables = vs }

@@ -1,9 +1,8 @@
 -- What a call of GetArrayLength does, by its argument.
-use Rattle.std.proofs.Common.{◌≡◌, ℕ, Bool, true, false, List, [], ◌∷◌, ◌++◌, length, cond, Option, Some, None, refl, sym, ap, ◌∙◌, append-nil, IsTrue, pos, map, subst, IfOk, Result, Ok, Err}
+use Rattle.std.proofs.Common.{◌≡◌, ℕ, Bool, true, false, List, [], ◌∷◌, length, cond, Option, Some, None, refl, sym, ap, ◌∙◌, append-nil, IsTrue, pos, map, subst, IfOk, Result, Ok, Err}
 use Rattle.std.specs.Borrow.{Bor}
 use Rattle.base.specs.Bytes.{Identifier}
 use Rattle.base.specs.Options.{some_passes}
-use Rattle.base.specs.Element.{JInt}
 use Rattle.syntax.specs.declared.call.Call.{Call as CallInMemory}
 use Rattle.syntax.specs.declared.call.Argument.{Argument as ArgumentInMemory}
 use Rattle.syntax.specs.declared.call.Argument.TheVariants as argument
@@ -16,17 +15,17 @@ use Rattle.types.specs.JniFunction.{JniFunction, GetArrayLength}
 use Rattle.types.specs.Prototype.{function_named}
 use Rattle.world.specs.World.{World, loaded_objects}
 use Rattle.regions.specs.Arguments.{Actual, ReferenceActual, reference_argument}
-use Rattle.regions.specs.CallStep.{call_step, after_call, effect_of_call}
+use Rattle.regions.specs.CallStep.{call_step}
 use Rattle.regions.specs.Checks.{call_trap, go_together}
 use Rattle.regions.specs.CallTable.{call_effect}
-use Rattle.regions.specs.Effect.{Effect, Calls, effect_of}
+use Rattle.regions.specs.Effect.{effect_of}
 use Rattle.regions.specs.Heap.{Heap, class_of, values_of}
 use Rattle.regions.specs.Sight.{Sight, seen}
-use Rattle.regions.specs.Task.{Task, Declared, ScalarKind, Invoke, invocation, call_task}
-use Rattle.regions.specs.Thread.{Thread, Shared, Lent, Event, Quiet, Trapped, Advance, Advances, sight_of}
+use Rattle.regions.specs.Task.{Task, Declared, ScalarKind, invocation, call_task}
+use Rattle.regions.specs.Thread.{Thread, Shared, Lent, Event, Trapped, Advance, Advances, sight_of}
 use Rattle.regions.specs.ThreadStep.{after_effect, set_variable, with_tasks}
 use Rattle.regions.specs.Value.{Int, NullReference, WrongObject}
-use Rattle.regions.specs.Variable.{Variable, Scalar, Variables, StaticReference, Empty, Live, Deleted}
+use Rattle.regions.specs.Variable.{Scalar, Variables, StaticReference, Empty, Live}
 use Rattle.replay.specs.Objects.{array_length, reference_of}
 use Rattle.replay.specs.declared.task.Trap.TheVariants as trap
 use Rattle.replay.specs.declared.task.Task.{Task as TaskInMemory}

@@ -1,16 +1,16 @@
 -- Which objects of a loaded heap are arrays, and how long they are.
 use Rattle.std.proofs.Common.{◌≡◌, ℕ, zero, suc, ◌+◌, ◌-◌, ◌*◌, ◌<◌, ◌≤◌, Bool, true, false, cond, List, [], ◌∷◌, ◌++◌, length, map, replicate, Option, Some, None, refl, sym, ap, ◌∙◌, arith, ⊎_elim, ◌⊎◌, inl, inr}
 use Rattle.std.specs.Prelude.{slice_get}
-use Rattle.std.proofs.lemmas.List.{length-replicate, length-map}
+use Rattle.std.proofs.lemmas.List.{length-map}
 use Rattle.base.specs.Bytes.{Identifier}
 use Rattle.base.specs.Element.{ElementType, JInt, JShort, JByte, JChar}
 use Rattle.classes.specs.BuiltIns.{built_ins, number_array, class_class, out_of_memory_error}
-use Rattle.classes.specs.Class.{Classes, ClassKind, class_kind, is_plain}
-use Rattle.world.specs.Object.{Object, ObjectValue, Number}
+use Rattle.classes.specs.Class.{Classes, class_kind, is_plain}
+use Rattle.world.specs.Object.{Object, Number}
 use Rattle.world.specs.Scene.{ArrayScene, Scene}
 use Rattle.world.specs.SceneWorld.{array_object, classes_named, world_of_scene}
 use Rattle.world.specs.World.{World, loaded_objects}
-use Rattle.regions.specs.Heap.{Heap, class_of, values_of, object_at}
+use Rattle.regions.specs.Heap.{Heap, object_at}
 use Rattle.replay.specs.Objects.{array_length}
 use Rattle.replay.proofs.LoadedObjects.{classes_count, classes_grown, loaded_is, made_first, plain_class_object, error_object}
 
@@ -89,7 +89,7 @@ module _ (names : List Identifier) where
     lower k (suc i) low = ⊎_elim
         (λ (t : i < k). by_object (heap k) (suc i) (Some plain_class_object) (within k i (error_object ∷ map array_object others) t) ∙ rw class_is_plain refl)
         (λ (t : i ≡ k). let same : i ≡ k + 0 = omega (arith, t) in
-          by_object (heap k) (suc i) (Some error_object) (ap (slice_get (heap k)) same ∙ beyond k 0 (error_object ∷ map array_object others)) ∙ rw error_is_plain refl)
+        by_object (heap k) (suc i) (Some error_object) (ap (slice_get (heap k)) same ∙ beyond k 0 (error_object ∷ map array_object others)) ∙ rw error_is_plain refl)
         (below i k (omega arith))
 
     -- the arrays behind it

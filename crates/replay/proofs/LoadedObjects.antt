@@ -1,20 +1,18 @@
 -- The objects that are made at load, where no class declares a static.
-use Rattle.std.proofs.Common.{◌≡◌, ℕ, zero, suc, ◌+◌, ◌*◌, Bool, true, false, List, [], ◌∷◌, ◌++◌, length, map, fold, replicate, Some, None, refl, sym, ap, ◌∙◌, arith, append_assoc, append-nil, length-append, sum_by}
-use Rattle.std.specs.Prelude.{slice_get, ◌&&◌, ◌≤◌, IsTrue}
-use Rattle.std.proofs.lemmas.Bool.Decides.{nat_tests}
+use Rattle.std.proofs.Common.{◌≡◌, ℕ, zero, suc, ◌+◌, ◌*◌, Bool, true, false, List, [], ◌∷◌, ◌++◌, length, map, fold, replicate, Some, None, refl, sym, ap, ◌∙◌, arith, append_assoc, append-nil, length-append}
+use Rattle.std.specs.Prelude.{slice_get}
 use Rattle.std.specs.Option.{option_map_or}
 use Rattle.std.specs.List.{list_all, enumerate_from}
 use Rattle.std.proofs.lemmas.Bool.{and_from, and_parts}
 use Rattle.std.proofs.lemmas.List.Folds.{list_all-append}
-use Rattle.std.proofs.lemmas.List.Sums.{sum_by-append, sum_by-cons}
 use Rattle.base.specs.Bytes.{Identifier}
 use Rattle.classes.specs.Class.{Field, Class, Classes, class_at}
 use Rattle.classes.specs.BuiltIns.{built_ins, object_array_class, class_class, out_of_memory_error}
 use Rattle.classes.specs.Additions.{new_class}
 use Rattle.classes.specs.Fields.{FieldId}
-use Rattle.world.specs.Object.{Object, Refers, size, sizes}
+use Rattle.world.specs.Object.{Object, Refers}
 use Rattle.world.specs.SceneWorld.{with_named_class, classes_named}
-use Rattle.world.specs.World.{World, initial, class_object, fresh_object, class_objects, loaded_objects, fits_cells}
+use Rattle.world.specs.World.{World, initial, class_object, fresh_object, loaded_objects}
 use Rattle.regions.specs.Heap.{Heap}
 
 -- ---- how the table of classes grows

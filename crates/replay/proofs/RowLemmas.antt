@@ -1,15 +1,14 @@
 -- The text of a row, and the rows of a world.
-use Rattle.std.proofs.Common.{◌≡◌, ℕ, ℤ, ◌+◌, ◌*◌, ◌<◌, ◌≤◌, ◌^◌, List, [], ◌∷◌, ◌++◌, length, map, drop, get_or, replicate, refl, sym, ap, ◌∙◌, arith, length-append}
-use Rattle.std.specs.Prelude.{decimal, codes, IsTrue}
+use Rattle.std.proofs.Common.{◌≡◌, ℕ, ℤ, ◌+◌, ◌<◌, ◌≤◌, ◌^◌, List, [], ◌∷◌, ◌++◌, length, map, drop, get_or, replicate, refl, sym, ap, ◌∙◌, arith, length-append}
+use Rattle.std.specs.Prelude.{codes, IsTrue}
 use Rattle.std.specs.List.{flat_map, enumerate_from}
 use Rattle.std.proofs.lemmas.List.{get_or-map, length-map, length-replicate}
 use Rattle.std.proofs.lemmas.List.FromFn.{length-enumerate_from, get_or-enumerate_from}
 use Rattle.std.proofs.lemmas.List.Sums.{sum_by-cons}
 use Rattle.std.proofs.lemmas.Bool.Decides.{nat_tests}
 use Rattle.base.specs.Bytes.{Identifier}
-use Rattle.base.specs.Element.{ElementType}
 use Rattle.classes.specs.BuiltIns.{number_array}
-use Rattle.classes.specs.Class.{Classes, class_name}
+use Rattle.classes.specs.Class.{class_name}
 use Rattle.world.specs.Object.{Object, size, sizes}
 use Rattle.world.specs.Report.{ShownNumber, ShownRow, ShownValue, shown_text, text_line, object_line}
 use Rattle.world.specs.Scene.{ArrayScene, Scene}
@@ -18,7 +17,7 @@ use Rattle.world.specs.Shown.{row_head}
 use Rattle.world.specs.World.{World, loaded_objects, fits_cells}
 use Rattle.world.proofs.Puts.{flat_map-at, flat_map-past}
 use Rattle.replay.specs.Rows.{number_text, number_row, array_row, rows_of}
-use Rattle.replay.proofs.LoadedObjects.{loaded_is, made_first, plain_class_object, error_object}
+use Rattle.replay.proofs.LoadedObjects.{loaded_is, plain_class_object, error_object}
 
 numbers_are : (values : List ℤ) → flat_map (λ (v : ShownValue). codes " " ++ shown_text v) (map ShownNumber values) ≡ flat_map number_text values
 numbers_are [] = refl

@@ -1,7 +1,7 @@
 -- Which objects a report shows where the heap is as it was made at load.
 use Rattle.std.proofs.Common.{◌≡◌, ℕ, zero, suc, ◌+◌, ◌<◌, ◌≤◌, Bool, true, false, cond, List, [], ◌∷◌, ◌++◌, length, map, get_or, Option, Some, refl, sym, ap, ◌∙◌, subst, arith, append_assoc, length-append, Contains, ⊎_elim, ℤ}
 use Rattle.std.specs.Prelude.{slice_get, filter, nat_lt, ◌==◌, ◌||◌}
-use Rattle.std.specs.List.{list_any, enumerate_from}
+use Rattle.std.specs.List.{enumerate_from}
 use Rattle.std.specs.Option.{option_map_or}
 use Rattle.std.proofs.lemmas.Bool.{cases_lt}
 use Rattle.std.proofs.lemmas.Bool.Decides.{nat_tests}
@@ -10,15 +10,14 @@ use Rattle.std.proofs.lemmas.List.Elements.{filter-append, Contains-append_left,
 use Rattle.std.proofs.lemmas.List.FromFn.{length-enumerate_from}
 use Rattle.classes.specs.BuiltIns.{out_of_memory_error}
 use Rattle.classes.specs.Class.{Class, Classes, class_name}
-use Rattle.world.specs.Object.{Object, ObjectValue}
+use Rattle.world.specs.Object.{Object}
 use Rattle.world.specs.Report.{ShownValue, ShownRow}
 use Rattle.world.specs.World.{World, class_object, class_objects, fresh_object, loaded_objects}
 use Rattle.regions.specs.Heap.{Heap, object_at}
-use Rattle.regions.specs.Reachable.{from_one, is_in, reachable, roots, loaded_count, FromRoot}
+use Rattle.regions.specs.Reachable.{from_one, is_in, reachable, loaded_count, FromRoot}
 use Rattle.regions.specs.ReportOf.{shown, shown_value, shown_row}
 use Rattle.regions.specs.State.{State}
 use Rattle.regions.proofs.ReachableLemmas.{reachable_lists}
-use Rattle.base.specs.Bytes.{Identifier}
 use Rattle.classes.specs.BuiltIns.{number_array}
 use Rattle.world.specs.Object.{Number}
 use Rattle.world.specs.Report.{ShownNumber}
@@ -38,9 +37,9 @@ from_one-contains : (k n : ℕ) → 0 < n → n ≤ k → Contains (from_one k) 
 from_one-contains zero n low high = absurd (omega arith)
 from_one-contains (suc k) n low high =
     ⊎_elim
-      (λ (l : n < suc k). Contains-append_left (from_one k) (suc k ∷ []) n (from_one-contains k n low (omega arith)))
-      (λ (l : suc k ≤ n). let e : suc k ≡ n = omega arith in subst (λ m. Contains (from_one (suc k)) m) e (Contains-push (from_one k) (suc k)))
-      (cases_lt n (suc k))
+    (λ (l : n < suc k). Contains-append_left (from_one k) (suc k ∷ []) n (from_one-contains k n low (omega arith)))
+    (λ (l : suc k ≤ n). let e : suc k ≡ n = omega arith in subst (λ m. Contains (from_one (suc k)) m) e (Contains-push (from_one k) (suc k)))
+    (cases_lt n (suc k))
 
 -- the row of an object
 abbrev object_row : Classes → ℕ × Object → ShownRow
@@ -104,10 +103,10 @@ reachable_all w s heap =
     lists.in_order
     ∙ ap (λ n. filter (is_in (reachable w s)) (from_one n)) count
     ∙ all_kept (is_in (reachable w s)) (loaded_count w) (λ n low high.
-        let name = from_one-contains (length s.shared.heap) n low (omega arith) in
-        let root = in_first (from_one (loaded_count w)) _ _ _ _ n (from_one-contains (loaded_count w) n low high) in
-        let found = lists.complete n (FromRoot n name root) in
-        found_in (reachable w s) n found.0 found.1 found.2)
+    let name = from_one-contains (length s.shared.heap) n low (omega arith) in
+    let root = in_first (from_one (loaded_count w)) _ _ _ _ n (from_one-contains (loaded_count w) n low high) in
+    let found = lists.complete n (FromRoot n name root) in
+    found_in (reachable w s) n found.0 found.1 found.2)
 
 -- ---- their rows
 

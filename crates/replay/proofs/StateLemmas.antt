@@ -22,7 +22,7 @@ use Rattle.regions.specs.Value.{trap_number}
 use Rattle.world.specs.declared.report.Standing.TheVariants as standing
 use Rattle.regions.specs.ReportOf.{report, shown, shown_row}
 use Rattle.regions.specs.ReportOf as language
-use Rattle.regions.specs.State.{State, Stop, thread_at, set_thread, lent, with_event, advanced}
+use Rattle.regions.specs.State.{State, thread_at, set_thread, lent, with_event, advanced}
 use Rattle.regions.specs.Step.{world_step, can_step, step_of, is_blocked, is_live, is_unfinished, is_waiting}
 use Rattle.regions.specs.Thread.{Thread, Shared, Unfinished, Quiet, PrintedNumber, Trapped, Advance}
 use Rattle.regions.specs.ThreadStep.{thread_step}

@@ -1,9 +1,9 @@
 -- What a task's step in memory does is what the task's step does.
-use Rattle.std.proofs.Common.{◌≡◌, ℕ, Bool, true, false, List, [], ◌∷◌, Option, Some, refl, sym, ap, ◌∙◌, subst}
+use Rattle.std.proofs.Common.{◌≡◌, ℕ, Bool, true, false, List, [], Option, Some, refl, sym, ap, ◌∙◌, subst}
 use Rattle.std.specs.Borrow.{Bor}
 use Rattle.syntax.specs.declared.expr.Constant.{Constant}
 use Rattle.world.specs.World.{World}
-use Rattle.regions.specs.Effect.{Effect, goes_on, effect_of}
+use Rattle.regions.specs.Effect.{goes_on, effect_of}
 use Rattle.regions.specs.Heap.{Heap}
 use Rattle.regions.specs.Sight.{Sight, seen}
 use Rattle.regions.specs.Task.{Task, Print, ReturnValue, SetScalar}

@@ -1,10 +1,9 @@
 -- A thread in memory steps as the thread that it stands for.
-use Rattle.std.proofs.Common.{◌≡◌, ℕ, ℤ, true, false, List, [], ◌∷◌, Option, Some, None, refl, sym, ap, ◌∙◌, map, length, ◌==◌, IsTrue}
+use Rattle.std.proofs.Common.{◌≡◌, ℕ, true, false, List, [], ◌∷◌, Option, Some, None, refl, sym, ap, ◌∙◌, map, length, ◌==◌, IsTrue}
 use Rattle.std.specs.List.{list_all}
-use Rattle.std.specs.Option.{option_map, is_some}
-use Rattle.base.specs.Options.{some_passes}
+use Rattle.std.specs.Option.{option_map}
 use Rattle.world.specs.World.{Invocation, World}
-use Rattle.regions.specs.Load.{call_loads, is_callable, fit_parameters}
+use Rattle.regions.specs.Load.{call_loads}
 use Rattle.std.proofs.Common.{subst, arith, ne_eqb}
 use Rattle.std.proofs.lemmas.Bool.{and_parts}
 use Rattle.std.specs.Borrow.{Bor}
@@ -16,12 +15,10 @@ use Rattle.replay.specs.Tasks.{tasks_of_statements}
 use Rattle.classes.specs.Class.{Classes}
 use Rattle.world.specs.Scene.{CallScene}
 use Rattle.world.specs.SceneWorld.{invocation_of}
-use Rattle.regions.specs.Sight.{Sight}
 use Rattle.regions.specs.Task.{Task}
-use Rattle.regions.specs.Effect.{Effect, effect_of, Becomes, Prints, Returns, NoEffect}
-use Rattle.regions.specs.Thread.{Thread, Shared, Lent, Event, Quiet, PrintedNumber, Trapped, Advances as AdvancesTo, NoAdvance, Unfinished, Ended, sight_of}
+use Rattle.regions.specs.Thread.{Thread, Shared, Lent, Event, Quiet, PrintedNumber, Trapped, Advances as AdvancesTo, NoAdvance, Unfinished, Ended}
 use Rattle.regions.specs.Activation.{return_step, enter, entered, entry_advance, entered_function, class_of_function, function_at}
-use Rattle.regions.specs.ThreadStep.{thread_step, step_within, after_effect, with_tasks}
+use Rattle.regions.specs.ThreadStep.{thread_step, step_within}
 use Rattle.replay.specs.declared.activation.Activation.{Activation}
 use Rattle.replay.specs.declared.thread.Thread.{Thread as ThreadInMemory}
 use Rattle.replay.specs.declared.task.Outcome.TheVariants as outcome

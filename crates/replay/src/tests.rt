@@ -7,8 +7,8 @@ use std::alloc::{AllocError, Global};
 use std::process::Abort;
 use std::test::Fail;
 use syntax::{
-    Argument, Block, Call, Expr, Form, Function, Item, Name, Parameter, ParameterType, ReferenceType,
-    ResultType, RightSide, Stmt, Unit, VariableType,
+    Argument, Block, Call, Expr, Form, Function, Item, Name, Parameter, ParameterType,
+    ReferenceType, ResultType, RightSide, Stmt, Unit, VariableType,
 };
 use types::type_unit;
 use world::{Entry, StdSink, read_world};
@@ -159,7 +159,10 @@ fn the_length_of_a_class(rt: HostRuntime) -> Result<(), Fail> {
 fn a_number_for_a_reference(rt: HostRuntime) -> Result<(), Fail> {
     let alloc = rt.alloc();
     let checked = check(type_unit(alloc, length_unit(alloc)?)?)?;
-    let world = read_world(alloc, b"heap 512\nclass A\narray @a I 7 8 9\nthread Java_A_f 5\n")?;
+    let world = read_world(
+        alloc,
+        b"heap 512\nclass A\narray @a I 7 8 9\nthread Java_A_f 5\n",
+    )?;
     let mut sink = StdSink::new(Vec::new(alloc));
     let answer = replay(alloc, &checked, &world, &[], &mut sink);
     assert!(rt; answer == Err(ReplayFault::DoesNotFit(4)));

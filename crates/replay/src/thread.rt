@@ -99,7 +99,11 @@ fn add_parameters<'a>(
 }
 
 /// The number of the class whose native method a function is.
-pub(crate) fn class_of(alloc: Global, world: &World, function: &Function) -> Result<Option<usize>, AllocError>
+pub(crate) fn class_of(
+    alloc: Global,
+    world: &World,
+    function: &Function,
+) -> Result<Option<usize>, AllocError>
     ensures { IfOk result (λ class. class ≡ class_of_function (world_of_scene world.now).classes (function_tree function.now)) }
 {
     match unmangle(alloc, function.name.as_bytes())? {

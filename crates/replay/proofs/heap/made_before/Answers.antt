@@ -1,4 +1,4 @@
-use Rattle.std.proofs.Common.{sym, ap, ◌∙◌, map, List, length, ◌+◌, ◌*◌}
+use Rattle.std.proofs.Common.{sym, map}
 use Rattle.std.proofs.lemmas.List.{length-map}
 use Rattle.replay.proofs.HeapLemmas.{before_is}
 use Rattle.replay.proofs.heap.made_before.Goals as goal

@@ -1,4 +1,4 @@
-use Rattle.std.proofs.Common.{refl, rules, ap, ◌∙◌, sym}
+use Rattle.std.proofs.Common.{rules}
 use Rattle.syntax.specs.Views.{expr_tree}
 use Rattle.world.specs.SceneWorld.{world_of_scene}
 use Rattle.replay.specs.Views.{variables_view}

@@ -1,4 +1,4 @@
-use Rattle.std.proofs.Common.{refl, rules}
+use Rattle.std.proofs.Common.{rules}
 use Rattle.world.specs.SceneWorld.{world_of_scene}
 use Rattle.replay.specs.declared.task.Task.TheVariants as task
 use Rattle.replay.specs.Views.{variables_view}

@@ -1,4 +1,4 @@
-use Rattle.std.proofs.Common.{◌∷◌, List, ap, sym, ◌∙◌, None, Some, map, zip, rules}
+use Rattle.std.proofs.Common.{◌∷◌, List, ap, sym, ◌∙◌, None, Some, zip, rules}
 use Rattle.syntax.specs.Views.{unit_tree, function_tree}
 use Rattle.world.specs.Object.{ObjectValue}
 use Rattle.world.specs.SceneWorld.{world_of_scene}
