@@ -175,7 +175,7 @@ return_not_plain (instr.Call call) r h = h
 return_not_plain instr.Return r h = h
 return_not_plain instr.ReturnJint r h = h
 
-loaded_depth : (o : Option ℕ) (s m after m' : List ℕ) (u : Plain) → option_map (λ (n : ℕ). (plain.Next, n ∷ s, m)) o ≡ Some (u, after, m') → length after ≡ suc (length s)
+loaded_depth : (o : Option ℕ) (s m after m' : List ℕ) (u : Plain) → option_map {U = Plain × List ℕ × List ℕ} (λ (n : ℕ). (plain.Next, n ∷ s, m)) o ≡ Some (u, after, m') → length after ≡ suc (length s)
 loaded_depth None s m after m' u h = absurd (cc)
 loaded_depth (Some n) s m after m' u h = let a : n ∷ s ≡ after = same_stack _ _ _ _ _ _ h in sym (ap length a)
 
@@ -202,11 +202,11 @@ plain_depth instr.Return s m o after m' e h k = absurd (cc)
 plain_depth instr.ReturnJint s m o after m' e h k = absurd (cc)
 
 -- the call stands behind the instruction, with these operands and number slots
-pub record HasMoved (call after : Activation) (stack numbers : List ℕ) : Type 0 where
+pub record HasMoved (call after : Activation) (words slots : List ℕ) : Type 0 where
   pub function : after.function ≡ call.function
   pub place : after.place ≡ call.place + 1
-  pub stack : after.stack ≡ stack
-  pub numbers : after.numbers.items ≡ numbers
+  pub stack : after.stack ≡ words
+  pub numbers : after.numbers.items ≡ slots
   pub references : after.references.items ≡ call.references.items
 
 module _ (p : Lowered) (space : Space) (call : Activation) (code : Listing) (sight : Sight) (task : Task) (rest : List Task) (r : Ready p space call code sight task rest) where
