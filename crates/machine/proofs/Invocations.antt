@@ -54,11 +54,11 @@ use Rattle.machine.proofs.LengthCalls.{length_of_null, length_of_plain, length_o
 -- a block that is found stands for its object
 block_found : (space : Space) (heap : Heap) (bs : List Block) (a : ℕ) (b : Block) → BlocksAgree space heap bs → find (λ (c : Block). eqb c.address a) bs ≡ Some b → BlockAgrees space heap b
 block_found space heap [] a b h e = absurd (cc)
-block_found space heap (c ∷ bs) a b h e = by_test (eqb c.address a) e
+block_found space heap (c ∷ bs) a b h e = by_test (eqb c.address a) e (λ found. block_found space heap bs a b h.1 found)
   where
-    by_test : (t : Bool) → cond t (Some c) (find (λ (d : Block). eqb d.address a) bs) ≡ Some b → BlockAgrees space heap b
-    by_test true e = let same : c ≡ b = cc in subst (λ (d : Block). BlockAgrees space heap d) same h.0
-    by_test false e = block_found space heap bs a b h.1 e
+    by_test : (t : Bool) → cond t (Some c) (find (λ (d : Block). eqb d.address a) bs) ≡ Some b → (find (λ (d : Block). eqb d.address a) bs ≡ Some b → BlockAgrees space heap b) → BlockAgrees space heap b
+    by_test true e later = let same : c ≡ b = cc in subst (λ (d : Block). BlockAgrees space heap d) same h.0
+    by_test false e later = later e
 
 words_length : (space : Space) (words : List ℕ) (values : List ObjectValue) → WordsAgree space words values → length words ≡ length values
 words_length space [] [] h = refl
@@ -132,10 +132,7 @@ is_address space (Some b) (Some n) a h e =
 length_word : (n : ℕ) → cast_unsigned w32 (pos n) ≡ n
 length_word n = refl
 
-module _ (p : Lowered) (classes : Classes) (space : Space) (lent : Lent) (k : ℕ) (shared : Shared) (s : source.Thread) (call : Activation) (code : Listing) (task : Task) (rest : List Task) (r : Ready p space call code (sight_of shared s) task rest) where
-  abbrev sight : Sight
-  sight = sight_of shared s
-
+module _ (p : Lowered) (space : Space) (call : Activation) (code : Listing) (sight : Sight) (task : Task) (rest : List Task) (r : Ready p space call code sight task rest) where
   -- what an instruction of GetArrayLength has
   record IsLength (function : Call) (line : ℕ) (target : Target) (f : JniFunction) (args : List Actual) : Type 0 where
     is : f ≡ GetArrayLength
@@ -147,7 +144,7 @@ module _ (p : Lowered) (classes : Classes) (space : Space) (lent : Lent) (k : �
 
   is_length : (c : Callee) (f : JniFunction) (args : List Actual) → IsCallee code r.known call.place call.stack (slots_of call r.references) sight c f args
       → (call.stack ≡ []) × (f ≡ GetArrayLength) × ((a : Actual) × (args ≡ a ∷ []) × OperandAgrees space call.references.items (length_operand c) a)
-  is_length (callee.GetArrayLength operand) f args h = (h.0, h.1, (h.2, h.3, operand_agrees p space call code sight task rest r operand h.2 h.4))
+  is_length (callee.GetArrayLength operand) f args h = (h.0, h.1, (h.2.0, h.2.1, operand_agrees p space call code sight task rest r operand h.2.0 h.2.2))
 
   -- the word goes into its slot
   module _ (i : Instr) (at : slice_get code.instrs call.place ≡ Some i) (function : Call) (is : i ≡ instr.Call function) where
@@ -155,19 +152,19 @@ module _ (p : Lowered) (classes : Classes) (space : Space) (lent : Lent) (k : �
     given line target f args h =
         let same : h.call ≡ function = let e : instr.Call h.call ≡ instr.Call function = cc (at, h.at, is) in cc in
         let l = is_length function.function f args (subst (λ (c : Call). IsCallee code r.known call.place call.stack (slots_of call r.references) sight c.function f args) same h.function) in
-        let o = l.4 in
-        record { is = l.1; name = o.name; reference = o.reference; arguments = l.3 ∙ ap (λ (a : Actual). a ∷ []) o.is; agrees = o.agrees; stack = l.0 }
+        let o = l.2.2 in
+        record { is = l.1; name = o.name; reference = o.reference; arguments = l.2.1 ∙ ap (λ (a : Actual). a ∷ []) o.is; agrees = o.agrees; stack = l.0 }
 
     -- the operand is the address of a block
     pub object_there : (a : ℕ) → operand_at call.references.items (length_operand function.function) ≡ Some a → IsAddress space a
     object_there a e =
-        call_cases p classes space lent k shared s call code task rest r i at function is (λ e. IsAddress space a)
+        call_cases p space call code sight task rest r i at function is (λ e. IsAddress space a)
         (λ line target f args h. let l = given line target f args h in is_address space (operand_at call.references.items (length_operand function.function)) l.reference a l.agrees e)
 
     -- the slot of the result is there
     pub slot_there : target_slot function.target < length call.numbers.items
     slot_there =
-        call_cases p classes space lent k shared s call code task rest r i at function is (λ e. target_slot function.target < length call.numbers.items)
+        call_cases p space call code sight task rest r i at function is (λ e. target_slot function.target < length call.numbers.items)
         (λ line target f args h.
           let same : h.call ≡ function = let e : instr.Call h.call ≡ instr.Call function = cc (at, h.at, is) in cc in
           within function.target target (subst (λ (c : Call). TakesResult code r.known call.place call.stack (slots_of call r.references) sight c.target target rest) same h.goes))
@@ -181,6 +178,11 @@ module _ (p : Lowered) (classes : Classes) (space : Space) (lent : Lent) (k : �
         within (destination.Number j) (Tested a b) h = absurd h
         within (destination.Number j) Dropped h = absurd h
 
+module _ (p : Lowered) (classes : Classes) (space : Space) (lent : Lent) (k : ℕ) (shared : Shared) (s : source.Thread) (call : Activation) (code : Listing) (task : Task) (rest : List Task) (r : Ready p space call code (sight_of shared s) task rest) where
+  abbrev sight : Sight
+  sight = sight_of shared s
+
+  module _ (i : Instr) (at : slice_get code.instrs call.place ≡ Some i) (function : Call) (is : i ≡ instr.Call function) where
     -- a trap stops the thread where it is
     trapped : (line : ℕ) (target : Target) (args : List Actual) (t : Trap) (after : Activation) (e : Event) → s.tasks ≡ Some (task ∷ rest) → CallStands p space call sight (task ∷ rest)
         → call_step classes lent k shared s line target GetArrayLength args rest false ≡ source.Advances shared s (source.Trapped (trap_view t) line) → function.line ≡ line → (after ≡ call) × (e ≡ event.Trapped t function.line)
@@ -251,10 +253,10 @@ module _ (p : Lowered) (classes : Classes) (space : Space) (lent : Lent) (k : �
     pub call_executes : (after : Activation) (e : Event) → s.tasks ≡ Some (task ∷ rest) → s.pending ≡ None → CallStands p space call sight (task ∷ rest) → BlocksAgree space shared.heap space.blocks
         → Invoked classes space call function after e → Executes p classes space lent k shared s rest after (effect_of sight task) (Did e)
     call_executes after e tasks none stands blocks did =
-        call_cases p classes space lent k shared s call code task rest r i at function is (λ effect. Executes p classes space lent k shared s rest after effect (Did e))
+        call_cases p space call code sight task rest r i at function is (λ effect. Executes p classes space lent k shared s rest after effect (Did e))
         (λ line target f args h.
           let same : h.call ≡ function = let both : instr.Call h.call ≡ instr.Call function = cc (at, h.at, is) in cc in
-          let l = given line target f args h in
+          let l = given p space call code sight task rest r i at function is line target f args h in
           let goes = subst (λ (c : Call). TakesResult code r.known call.place call.stack (slots_of call r.references) sight c.target target rest) same h.goes in
           let lines : function.line ≡ line = ap (λ (c : Call). c.line) (sym same) ∙ h.same_line in
           subst (λ (g : JniFunction). GoesOn p classes space lent k shared s rest after (Calls line target g args) e) (sym l.is)
