@@ -78,20 +78,6 @@ some_is : {A : Type 0} (o : Option A) (x : A) → o ≡ Some x → IsSome o
 some_is None x h = absurd (cc)
 some_is (Some y) x h = refl
 
--- what is none of the others works on the stack and the number slots alone
-pub plain_else : (i : Instr) → (i ≡ instr.PutJint → ⊥) → ((call : Call) → i ≡ instr.Call call → ⊥) → (i ≡ instr.Return → ⊥) → (i ≡ instr.ReturnJint → ⊥) → IsPlain i
-unfolding IsPlain
-plain_else (instr.Push n) put call return return_jint = tt
-plain_else (instr.Load slot) put call return return_jint = tt
-plain_else (instr.Store slot) put call return return_jint = tt
-plain_else instr.Complement put call return return_jint = tt
-plain_else instr.Convert put call return return_jint = tt
-plain_else (instr.Operate operator) put call return return_jint = tt
-plain_else instr.PutJint put call return return_jint = put refl
-plain_else (instr.Call c) put call return return_jint = call c refl
-plain_else instr.Return put call return return_jint = return refl
-plain_else instr.ReturnJint put call return return_jint = return_jint refl
-
 module _ (p : Lowered) (space : Space) (call : Activation) (code : Listing) (sight : Sight) (task : Task) (rest : List Task) (r : Ready p space call code sight task rest) (i : Instr) (at : slice_get code.instrs call.place ≡ Some i) where
   -- its operands and its slot
   pub plain_there : IsPlain i → IsSome (plain_of i call.stack call.numbers.items)
