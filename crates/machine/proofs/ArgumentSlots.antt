@@ -1,5 +1,5 @@
 -- The slots of a call, argument by argument.
-use Rattle.std.proofs.Common.{◌≡◌, ℕ, ℤ, pos, negsuc, zero, suc, ◌+◌, ◌<◌, ◌≤◌, Bool, true, false, List, [], ◌∷◌, ◌++◌, length, map, take, get_or, Option, Some, None, refl, sym, ap, ◌∙◌, subst, arith, to_z}
+use Rattle.std.proofs.Common.{◌≡◌, ℕ, ℤ, pos, negsuc, zero, suc, ◌+◌, ◌<◌, ◌≤◌, Bool, true, false, List, [], ◌∷◌, ◌++◌, length, map, take, get_or, Option, Some, None, refl, ap, ◌∙◌, subst, arith, to_z}
 use Rattle.std.specs.Prelude.{filter_map, slice_get, nat_lt, nat_le, ◌&&◌}
 use Rattle.std.specs.List.{list_all, cons_option}
 use Rattle.std.specs.Int.{w32, cast_unsigned}
@@ -8,8 +8,6 @@ use Rattle.base.specs.Element.{JInt}
 use Rattle.world.specs.WorldRules.{is_in_range}
 use Rattle.std.proofs.lemmas.Bool.Decides.{nat_tests}
 use Rattle.world.specs.declared.argument.Argument.{Argument}
-use Rattle.world.specs.declared.argument.Argument.TheVariants.{Reference}
-use Rattle.world.specs.CallArguments.{is_argument}
 use Rattle.world.specs.Object.{ObjectValue, Number, Refers}
 use Rattle.world.specs.Views.{argument_view}
 use Rattle.lower.specs.Slots.{argument_reference}

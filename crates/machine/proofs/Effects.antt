@@ -1,16 +1,13 @@
 -- What an instruction did is the effect of the first of the tasks.
-use Rattle.std.proofs.Common.{◌≡◌, ◌≢◌, ℕ, ℤ, zero, suc, pos, ◌+◌, ◌<◌, Bool, true, false, cond, List, [], ◌∷◌, ◌++◌, length, Option, Some, None, refl, sym, ap, ◌∙◌, subst, arith, if◌then◌else◌}
-use Rattle.std.specs.Prelude.{slice_get, slice_set, FitsSigned, IsSome}
-use Rattle.std.specs.Option.{option_map, option_map_or}
+use Rattle.std.proofs.Common.{◌≡◌, ◌≢◌, ℕ, ℤ, ◌+◌, Bool, true, false, List, [], ◌∷◌, ◌++◌, length, Option, Some, None, refl, sym, ap, ◌∙◌, subst, if◌then◌else◌}
+use Rattle.std.specs.Prelude.{slice_get, IsSome}
 use Rattle.std.specs.Int.{w32, cast_signed}
 use Rattle.std.specs.Str.{bytes_eq}
 use Rattle.std.proofs.lemmas.Slice.Eq.{bytes_eq-Decides}
-use Rattle.std.proofs.lemmas.Bool.Decides.{not_from_Decides}
 use Rattle.base.specs.Bytes.{Identifier, ByName, lookup}
-use Rattle.classes.specs.Class.{Classes, class_kind, is_plain}
-use Rattle.types.specs.JniFunction.{JniFunction, GetArrayLength}
+use Rattle.classes.specs.Class.{Classes}
+use Rattle.types.specs.JniFunction.{JniFunction}
 use Rattle.heap.specs.Heap.{Space}
-use Rattle.world.specs.Object.{Reference}
 use Rattle.code.specs.declared.instr.Instr.{Instr}
 use Rattle.code.specs.declared.instr.Instr.TheVariants as instr
 use Rattle.code.specs.declared.instr.Call.{Call}
@@ -18,8 +15,8 @@ use Rattle.code.specs.declared.instr.Plain.TheVariants as plain
 use Rattle.code.specs.Effect.{plain_of}
 use Rattle.code.specs.Depth.{Listing, depth_after}
 use Rattle.regions.specs.Arguments.{Actual}
-use Rattle.regions.specs.Effect.{Effect, Becomes, Sets, Prints, Calls, Returns, effect_of}
-use Rattle.regions.specs.Sight.{Sight, scalar, held_reference, seen}
+use Rattle.regions.specs.Effect.{Effect, Becomes, Sets, Prints, Calls, effect_of}
+use Rattle.regions.specs.Sight.{Sight, scalar, held_reference}
 use Rattle.regions.specs.Task.{Task, Target}
 use Rattle.regions.specs.Thread as source
 use Rattle.regions.specs.Thread.{Lent, Shared, sight_of}
@@ -27,12 +24,12 @@ use Rattle.regions.specs.ThreadStep.{with_tasks}
 use Rattle.regions.specs.Value.{Value}
 use Rattle.regions.specs.Variable.{Variable, Scalar, assign}
 use Rattle.lower.specs.Slots.{Shows, IsSet}
-use Rattle.lower.specs.Stands.{StandsFor, GoesOn, SetsNumber, PrintsTop, CallsFunction, LeavesCall, IsReturn}
+use Rattle.lower.specs.Stands.{StandsFor, GoesOn, SetsNumber, PrintsTop, CallsFunction, IsReturn}
 use Rattle.lower.specs.Lowered.{Lowered}
 use Rattle.machine.specs.declared.thread.Event.TheVariants as event
 use Rattle.machine.specs.declared.thread.Activation.{Activation}
 use Rattle.machine.specs.declared.thread.Executed.TheVariants.{Did, Returned}
-use Rattle.machine.specs.Agrees.{CallStands, Executes}
+use Rattle.machine.specs.Agrees.{Executes}
 use Rattle.machine.proofs.Calls.{does_cases, slots_of, Ready, IsPlain, same_stack, same_numbers, is_plain as plain_instr, put_not_plain, call_not_plain, return_not_plain, plain_depth, HasMoved, room, stands_behind}
 
 -- ---- a variable is set

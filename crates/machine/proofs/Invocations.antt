@@ -1,13 +1,12 @@
 -- A call of a function of the JNI does what the source's call does.
-use Rattle.std.proofs.Common.{◌≡◌, ℕ, zero, suc, pos, ◌+◌, ◌<◌, ◌≤◌, ◌^◌, Bool, true, false, cond, eqb, List, [], ◌∷◌, ◌++◌, length, Option, Some, None, Result, refl, sym, ap, ◌∙◌, subst, arith, ⊎_elim, ◌⊎◌}
+use Rattle.std.proofs.Common.{◌≡◌, ℕ, zero, suc, pos, ◌<◌, ◌^◌, Bool, true, false, cond, eqb, List, [], ◌∷◌, length, Option, Some, None, Result, refl, sym, ap, ◌∙◌, subst}
 use Rattle.std.specs.Prelude.{slice_get, slice_set, find, FitsSigned, Ok, Err, IsSome}
 use Rattle.std.specs.Option.{option_map, option_map_or}
 use Rattle.std.specs.Int.{w32, cast_unsigned}
-use Rattle.std.proofs.Math.Facts.{Fits-of_lt, sfits_to_z}
-use Rattle.base.specs.Bytes.{Identifier, lookup}
+use Rattle.base.specs.Bytes.{Identifier}
 use Rattle.classes.specs.Class.{Classes, class_kind, is_plain}
 use Rattle.types.specs.JniFunction.{JniFunction, GetArrayLength}
-use Rattle.types.specs.Sorts.{Jint, Ref}
+use Rattle.types.specs.Sorts.{Ref}
 use Rattle.heap.specs.Heap.{Block, Space, block_at, class_at, name_at, values_at, IsAddress}
 use Rattle.world.specs.Object.{Object, ObjectValue, Reference}
 use Rattle.code.specs.declared.instr.Instr.{Instr}
@@ -22,28 +21,24 @@ use Rattle.code.specs.declared.instr.Target.TheVariants as destination
 use Rattle.code.specs.Depth.{Listing, depth_after}
 use Rattle.regions.specs.Arguments.{Actual, ReferenceActual}
 use Rattle.regions.specs.CallStep.{call_step}
-use Rattle.regions.specs.Effect.{Effect, Calls, effect_of}
+use Rattle.regions.specs.Effect.{Calls, effect_of}
 use Rattle.regions.specs.Heap.{Heap, object_at, class_of, values_of}
 use Rattle.regions.specs.Sight.{Sight}
-use Rattle.regions.specs.Task.{Task, Target, VariableKind, ScalarKind, ReferenceKind, FieldKind, BufferKind, Declared, Assigned, Dropped, Tested}
+use Rattle.regions.specs.Task.{Task, Target, ScalarKind, ReferenceKind, FieldKind, BufferKind, Declared, Assigned, Dropped, Tested}
 use Rattle.regions.specs.Thread as source
 use Rattle.regions.specs.Thread.{Lent, Shared, sight_of}
 use Rattle.regions.specs.Value.{Int}
-use Rattle.regions.specs.Value as value
 use Rattle.regions.specs.Variable.{Scalar, assign, as_static}
-use Rattle.lower.specs.Layout.{Known}
-use Rattle.lower.specs.Slots.{Shows}
-use Rattle.lower.specs.Stands.{StandsFor, CallsFunction, IsCallee, IsOperand, TakesResult, TakesNumber}
+use Rattle.lower.specs.Stands.{CallsFunction, IsCallee, IsOperand, TakesResult}
 use Rattle.lower.specs.Lowered.{Lowered}
 use Rattle.machine.specs.declared.stop.Trap.{Trap}
-use Rattle.machine.specs.declared.stop.Trap.TheVariants as trap
 use Rattle.machine.specs.declared.thread.Event.{Event}
 use Rattle.machine.specs.declared.thread.Event.TheVariants as event
 use Rattle.machine.specs.declared.thread.Activation.{Activation}
 use Rattle.machine.specs.declared.thread.Executed.TheVariants.{Did}
 use Rattle.machine.specs.Agrees.{CallStands, Executes, GoesOn, ReferencesAgree, event_view}
 use Rattle.machine.specs.HeapAgrees.{ReferenceAgrees, WordsAgree, BlockAgrees, BlocksAgree}
-use Rattle.machine.specs.Invoked.{operand_at, held_in, length_operand, target_slot, HasPlainClass, HasArrayClass, LengthIs, HasWord, DidCall, Invoked}
+use Rattle.machine.specs.Invoked.{operand_at, held_in, length_operand, target_slot, HasArrayClass, LengthIs, HasWord, DidCall, Invoked}
 use Rattle.machine.specs.Stops.{trap_view}
 use Rattle.machine.proofs.Calls.{slots_of, Ready, HasMoved, stands_behind}
 use Rattle.machine.proofs.Effects.{call_cases, is_set}
@@ -153,7 +148,8 @@ module _ (p : Lowered) (space : Space) (call : Activation) (code : Listing) (sig
         let same : h.call ≡ function = let e : instr.Call h.call ≡ instr.Call function = cc (at, h.at, is) in cc in
         let l = is_length function.function f args (subst (λ (c : Call). IsCallee code r.known call.place call.stack (slots_of call r.references) sight c.function f args) same h.function) in
         let o = l.2.2 in
-        record { is = l.1; name = o.name; reference = o.reference; arguments = l.2.1 ∙ ap (λ (a : Actual). a ∷ []) o.is; agrees = o.agrees; stack = l.0 }
+        let arguments : args ≡ ReferenceActual o.name (as_static o.reference) ∷ [] = l.2.1 ∙ ap (λ (a : Actual). a ∷ []) o.is in
+        record { is = l.1; name = o.name; reference = o.reference; arguments = arguments; agrees = o.agrees; stack = l.0 }
 
     -- the operand is the address of a block
     pub object_there : (a : ℕ) → operand_at call.references.items (length_operand function.function) ≡ Some a → IsAddress space a

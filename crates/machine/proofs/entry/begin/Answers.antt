@@ -1,7 +1,6 @@
-use Rattle.std.proofs.Common.{rules, ◌≡◌, ℕ, ◌<◌, length, map, filter_map, arith, subst, sym}
+use Rattle.std.proofs.Common.{◌<◌, length, map, filter_map, arith}
 use Rattle.world.specs.Views.{argument_view}
 use Rattle.lower.specs.Slots.{argument_reference}
-use Rattle.machine.specs.Entry.{argument_address}
 use Rattle.machine.proofs.ArgumentSlots.{addresses_count}
 use Rattle.machine.proofs.entry.begin.Goals as goal
 

@@ -1,4 +1,4 @@
-use Rattle.std.proofs.Common.{rules, ◌≡◌, ℕ, ℤ, pos, List, [], ◌∷◌, ◌++◌, length, map, filter_map, take, refl, sym, ap, ◌∙◌, ◌+◌, append-nil}
+use Rattle.std.proofs.Common.{◌≡◌, ℕ, pos, List, [], ◌∷◌, ◌++◌, map, filter_map, take, sym, ap, ◌∙◌, ◌+◌, append-nil}
 use Rattle.std.specs.Int.{w32, cast_unsigned}
 use Rattle.world.specs.declared.argument.Argument.TheVariants.{Number, Reference}
 use Rattle.world.specs.Views.{argument_view}

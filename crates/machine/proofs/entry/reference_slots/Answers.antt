@@ -1,13 +1,12 @@
-use Rattle.std.proofs.Common.{rules, ◌≡◌, ℕ, ℤ, pos, suc, ◌+◌, ◌-◌, ◌<◌, List, [], ◌∷◌, ◌++◌, Option, Some, None, length, map, take, refl, sym, ap, ◌∙◌, subst, arith, append-nil, replicate}
+use Rattle.std.proofs.Common.{◌≡◌, ℕ, pos, suc, ◌+◌, ◌-◌, ◌<◌, List, [], ◌∷◌, ◌++◌, Option, Some, None, length, map, take, sym, ap, ◌∙◌, arith, append-nil, replicate}
 use Rattle.std.specs.Prelude.{slice_get, filter_map, vec_len}
-use Rattle.std.specs.List.{list_all}
 use Rattle.std.proofs.lemmas.List.{take_all}
 use Rattle.std.proofs.lemmas.Grind.{common_steps}
 use Rattle.world.specs.declared.argument.Argument.{Argument}
 use Rattle.world.specs.declared.argument.Argument.TheVariants.{Number, Reference}
 use Rattle.world.specs.CallArguments.{is_argument}
 use Rattle.world.specs.Views.{argument_view}
-use Rattle.machine.specs.Entry.{argument_address, IsReferencesOf}
+use Rattle.machine.specs.Entry.{argument_address}
 use Rattle.machine.proofs.ArgumentSlots.{read_at, given_more, given_at, counted_from_1}
 use Rattle.machine.proofs.entry.reference_slots.Goals.{in-Number, in-Reference-None+in_ok-push-in-Reference-None, in-Reference-Some+in_ok-push-in-Reference-Some}
 use Rattle.machine.proofs.entry.reference_slots.Goals as goal

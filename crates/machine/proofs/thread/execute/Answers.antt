@@ -1,4 +1,4 @@
-use Rattle.std.proofs.Common.{rules, ◌≡◌, ℕ, ◌+◌, Some, [], ◌∷◌, List, length, refl, sym, ap, ◌∙◌, subst, to_z, of_z, ℤ, ◌⊎◌, ⊎_elim}
+use Rattle.std.proofs.Common.{rules, Bor, Option, ◌≡◌, ℕ, ◌+◌, Some, ◌∷◌, List, length, refl, sym, ap, ◌∙◌, subst, ℤ, ◌⊎◌, ⊎_elim}
 use Rattle.std.specs.Prelude.{slice_get, IsSome}
 use Rattle.std.specs.Option.{option_copied}
 use Rattle.std.specs.Int.{w32, cast_signed, cast_unsigned}
@@ -35,6 +35,9 @@ record Fetched (p : Lowered) (call : Activation) (i : Instr) : Type 0 where
   of_function : slice_get p.codes call.function ≡ Some code
   at : slice_get code.instrs call.place ≡ Some i
 
+fetched : (p : Lowered) (call : Activation) (o : Option (Bor Listing)) (code : Bor Listing) (q : Option (Bor Instr)) (i : Bor Instr) → IsLowered p → option_copied o ≡ slice_get p.codes call.function → o ≡ Some code → option_copied q ≡ slice_get code.now.instrs call.place → q ≡ Some i → Fetched p call i.now
+fetched p call o code q i lowered known is fetch here = record { code = code.now; lowered = lowered; of_function = sym known ∙ ap option_copied is; at = sym fetch ∙ ap option_copied here }
+
 ready_for : (p : Lowered) (space : Space) (call : Activation) (i : Instr) (f : Fetched p call i) (sight : Sight) (task : Task) (rest : List Task) → CallStands p space call sight (task ∷ rest) → Ready p space call f.code sight task rest
 ready_for p space call i f sight task rest h = ready p space call f.code sight task rest f.lowered f.of_function h
 
@@ -51,35 +54,35 @@ unwrap-instr-requires c =
 pub pop-word-requires : goal.pop-word-requires
 pop-word-requires c =
     let s = c.requires.stands in
-    let f : Fetched c.args.program.now c.args.call.now c.unwrap-instr.result.now = record { code = c.unwrap-code.result.now; lowered = c.requires.lowered; of_function = sym c.code.ensures.code ∙ ap option_copied c.unwrap-code.ensures; at = sym c.get.ensures.instr ∙ ap option_copied c.unwrap-instr.ensures } in
+    let f = fetched c.args.program.now c.args.call.now c.code.result c.unwrap-code.result c.get.result c.unwrap-instr.result c.requires.lowered c.code.ensures.code c.unwrap-code.ensures c.get.ensures.instr c.unwrap-instr.ensures in
     positive (length c.args.call.now.stack) (room _ _ _ f.code s.0 s.1 s.2 (ready_for _ c.args.heap.now _ _ f s.0 s.1 s.2 s.3) instr.PutJint (f.at ∙ ap (λ i. Some i) c.in-PutJint.is))
 
 pub returns-in-Return : goal.returns-in-Return
 returns-in-Return c lent k shared s task rest tasks none blocks h =
-    let f : Fetched c.args.program.now c.args.call.now c.unwrap-instr.result.now = record { code = c.unwrap-code.result.now; lowered = c.requires.lowered; of_function = sym c.code.ensures.code ∙ ap option_copied c.unwrap-code.ensures; at = sym c.get.ensures.instr ∙ ap option_copied c.unwrap-instr.ensures } in
+    let f = fetched c.args.program.now c.args.call.now c.code.result c.unwrap-code.result c.get.result c.unwrap-instr.result c.requires.lowered c.code.ensures.code c.unwrap-code.ensures c.get.ensures.instr c.unwrap-instr.ensures in
     return_executes _ (world_of_scene c.args.world.now).classes c.args.heap.now lent k shared s _ f.code task rest (ready_for _ c.args.heap.now _ _ f (sight_of shared s) task rest h) c.unwrap-instr.result.now f.at (returns_is _ c.in-Return.is) c.args.call.now
 
 pub returns-in-Return-2 : goal.returns-in-Return-2
 returns-in-Return-2 c lent k shared s task rest tasks none blocks h =
-    let f : Fetched c.args.program.now c.args.call.now c.unwrap-instr.result.now = record { code = c.unwrap-code.result.now; lowered = c.requires.lowered; of_function = sym c.code.ensures.code ∙ ap option_copied c.unwrap-code.ensures; at = sym c.get.ensures.instr ∙ ap option_copied c.unwrap-instr.ensures } in
+    let f = fetched c.args.program.now c.args.call.now c.code.result c.unwrap-code.result c.get.result c.unwrap-instr.result c.requires.lowered c.code.ensures.code c.unwrap-code.ensures c.get.ensures.instr c.unwrap-instr.ensures in
     return_executes _ (world_of_scene c.args.world.now).classes c.args.heap.now lent k shared s _ f.code task rest (ready_for _ c.args.heap.now _ _ f (sight_of shared s) task rest h) c.unwrap-instr.result.now f.at (returns_is _ c.in-Return.is) c.args.call.now
 
 pub invoke-requires-clause-object : goal.invoke-requires-clause-object
 invoke-requires-clause-object c =
     let s = c.requires.stands in
-    let f : Fetched c.args.program.now c.args.call.now c.unwrap-instr.result.now = record { code = c.unwrap-code.result.now; lowered = c.requires.lowered; of_function = sym c.code.ensures.code ∙ ap option_copied c.unwrap-code.ensures; at = sym c.get.ensures.instr ∙ ap option_copied c.unwrap-instr.ensures } in
+    let f = fetched c.args.program.now c.args.call.now c.code.result c.unwrap-code.result c.get.result c.unwrap-instr.result c.requires.lowered c.code.ensures.code c.unwrap-code.ensures c.get.ensures.instr c.unwrap-instr.ensures in
     object_there c.args.program.now c.args.heap.now c.args.call.now f.code s.0 s.1 s.2 (ready_for _ c.args.heap.now _ _ f s.0 s.1 s.2 s.3) c.unwrap-instr.result.now f.at c.in-Call.function c.in-Call.is
 
 pub invoke-requires-clause-slot : goal.invoke-requires-clause-slot
 invoke-requires-clause-slot c =
     let s = c.requires.stands in
-    let f : Fetched c.args.program.now c.args.call.now c.unwrap-instr.result.now = record { code = c.unwrap-code.result.now; lowered = c.requires.lowered; of_function = sym c.code.ensures.code ∙ ap option_copied c.unwrap-code.ensures; at = sym c.get.ensures.instr ∙ ap option_copied c.unwrap-instr.ensures } in
+    let f = fetched c.args.program.now c.args.call.now c.code.result c.unwrap-code.result c.get.result c.unwrap-instr.result c.requires.lowered c.code.ensures.code c.unwrap-code.ensures c.get.ensures.instr c.unwrap-instr.ensures in
     slot_there c.args.program.now c.args.heap.now c.args.call.now f.code s.0 s.1 s.2 (ready_for _ c.args.heap.now _ _ f s.0 s.1 s.2 s.3) c.unwrap-instr.result.now f.at c.in-Call.function c.in-Call.is
 
 pub plain-requires : goal.plain-requires
 plain-requires c =
     let s = c.requires.stands in
-    let f : Fetched c.args.program.now c.args.call.now c.unwrap-instr.result.now = record { code = c.unwrap-code.result.now; lowered = c.requires.lowered; of_function = sym c.code.ensures.code ∙ ap option_copied c.unwrap-code.ensures; at = sym c.get.ensures.instr ∙ ap option_copied c.unwrap-instr.ensures } in
+    let f = fetched c.args.program.now c.args.call.now c.code.result c.unwrap-code.result c.get.result c.unwrap-instr.result c.requires.lowered c.code.ensures.code c.unwrap-code.ensures c.get.ensures.instr c.unwrap-instr.ensures in
     let works = plain_else c.unwrap-instr.result.now c.in_default.not-PutJint c.in_default.not-Call c.in_default.not-Return c.in_default.not-ReturnJint in
     let r = ready_for _ c.args.heap.now _ _ f s.0 s.1 s.2 s.3 in
     record {
@@ -89,7 +92,7 @@ plain-requires c =
 
 pub returns-in-PutJint : goal.returns-in-PutJint
 returns-in-PutJint c lent k shared s task rest tasks none blocks h =
-    let f : Fetched c.args.program.now c.args.call.now c.unwrap-instr.result.now = record { code = c.unwrap-code.result.now; lowered = c.requires.lowered; of_function = sym c.code.ensures.code ∙ ap option_copied c.unwrap-code.ensures; at = sym c.get.ensures.instr ∙ ap option_copied c.unwrap-instr.ensures } in
+    let f = fetched c.args.program.now c.args.call.now c.code.result c.unwrap-code.result c.get.result c.unwrap-instr.result c.requires.lowered c.code.ensures.code c.unwrap-code.ensures c.get.ensures.instr c.unwrap-instr.ensures in
     let number : cast_signed w32 (cast_unsigned w32 c.cast_signed.result) ≡ cast_signed w32 c.pop-word.result = to_z-of_z {w = w32} (record { sfits = c.cast_signed.type_inv }) ∙ c.cast_signed.ensures in
     let classes = (world_of_scene c.args.world.now).classes in
     let after : Activation = record c.args.call.now { place = c.args.call.now.place + 1; stack = c.pop-word.new.self } in
@@ -100,14 +103,14 @@ returns-in-PutJint c lent k shared s task rest tasks none blocks h =
 
 pub returns-in-Call : goal.returns-in-Call
 returns-in-Call c lent k shared s task rest tasks none blocks h =
-    let f : Fetched c.args.program.now c.args.call.now c.unwrap-instr.result.now = record { code = c.unwrap-code.result.now; lowered = c.requires.lowered; of_function = sym c.code.ensures.code ∙ ap option_copied c.unwrap-code.ensures; at = sym c.get.ensures.instr ∙ ap option_copied c.unwrap-instr.ensures } in
+    let f = fetched c.args.program.now c.args.call.now c.code.result c.unwrap-code.result c.get.result c.unwrap-instr.result c.requires.lowered c.code.ensures.code c.unwrap-code.ensures c.get.ensures.instr c.unwrap-instr.ensures in
     let classes = (world_of_scene c.args.world.now).classes in
     call_executes c.args.program.now classes c.args.heap.now lent k shared s c.args.call.now f.code task rest (ready_for _ c.args.heap.now _ _ f (sight_of shared s) task rest h) c.unwrap-instr.result.now f.at c.in-Call.function c.in-Call.is
     c.invoke.new.call c.invoke.result tasks none h blocks c.invoke.ensures
 
 pub returns-in-Next : goal.returns-in-Next
 returns-in-Next c lent k shared s task rest tasks none blocks h =
-    let f : Fetched c.args.program.now c.args.call.now c.unwrap-instr.result.now = record { code = c.unwrap-code.result.now; lowered = c.requires.lowered; of_function = sym c.code.ensures.code ∙ ap option_copied c.unwrap-code.ensures; at = sym c.get.ensures.instr ∙ ap option_copied c.unwrap-instr.ensures } in
+    let f = fetched c.args.program.now c.args.call.now c.code.result c.unwrap-code.result c.get.result c.unwrap-instr.result c.requires.lowered c.code.ensures.code c.unwrap-code.ensures c.get.ensures.instr c.unwrap-instr.ensures in
     let classes = (world_of_scene c.args.world.now).classes in
     let i = c.unwrap-instr.result.now in
     let stack = c.args.call.now.stack in
