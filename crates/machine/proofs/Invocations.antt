@@ -162,8 +162,8 @@ module _ (p : Lowered) (space : Space) (call : Activation) (code : Listing) (sig
     slot_there =
         call_cases p space call code sight task rest r i at function is (λ e. target_slot function.target < length call.numbers.items)
         (λ line target f args h.
-          let same : h.call ≡ function = let e : instr.Call h.call ≡ instr.Call function = cc (at, h.at, is) in cc in
-          within function.target target (subst (λ (c : Call). TakesResult code r.known call.place call.stack (slots_of call r.references) sight c.target target rest) same h.goes))
+        let same : h.call ≡ function = let e : instr.Call h.call ≡ instr.Call function = cc (at, h.at, is) in cc in
+        within function.target target (subst (λ (c : Call). TakesResult code r.known call.place call.stack (slots_of call r.references) sight c.target target rest) same h.goes))
       where
         within : (d : Destination) (target : Target) → TakesResult code r.known call.place call.stack (slots_of call r.references) sight d target rest → target_slot d < length call.numbers.items
         within (destination.Number j) (Declared ScalarKind x) h = h.within
@@ -251,10 +251,10 @@ module _ (p : Lowered) (classes : Classes) (space : Space) (lent : Lent) (k : �
     call_executes after e tasks none stands blocks did =
         call_cases p space call code sight task rest r i at function is (λ effect. Executes p classes space lent k shared s rest after effect (Did e))
         (λ line target f args h.
-          let same : h.call ≡ function = let both : instr.Call h.call ≡ instr.Call function = cc (at, h.at, is) in cc in
-          let l = given p space call code sight task rest r i at function is line target f args h in
-          let goes = subst (λ (c : Call). TakesResult code r.known call.place call.stack (slots_of call r.references) sight c.target target rest) same h.goes in
-          let lines : function.line ≡ line = ap (λ (c : Call). c.line) (sym same) ∙ h.same_line in
-          subst (λ (g : JniFunction). GoesOn p classes space lent k shared s rest after (Calls line target g args) e) (sym l.is)
-          (subst (λ (more : List Actual). GoesOn p classes space lent k shared s rest after (Calls line target GetArrayLength more) e) (sym l.arguments)
-          (by_operand line target l.name (operand_at call.references.items (length_operand function.function)) l.reference did.0 after e tasks none stands blocks l.stack lines goes l.agrees did.1 did.2)))
+        let same : h.call ≡ function = let both : instr.Call h.call ≡ instr.Call function = cc (at, h.at, is) in cc in
+        let l = given p space call code sight task rest r i at function is line target f args h in
+        let goes = subst (λ (c : Call). TakesResult code r.known call.place call.stack (slots_of call r.references) sight c.target target rest) same h.goes in
+        let lines : function.line ≡ line = ap (λ (c : Call). c.line) (sym same) ∙ h.same_line in
+        subst (λ (g : JniFunction). GoesOn p classes space lent k shared s rest after (Calls line target g args) e) (sym l.is)
+        (subst (λ (more : List Actual). GoesOn p classes space lent k shared s rest after (Calls line target GetArrayLength more) e) (sym l.arguments)
+        (by_operand line target l.name (operand_at call.references.items (length_operand function.function)) l.reference did.0 after e tasks none stands blocks l.stack lines goes l.agrees did.1 did.2)))

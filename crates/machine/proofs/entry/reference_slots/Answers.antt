@@ -28,23 +28,23 @@ loop-argument-preserved c =
     let i = c.loop-argument.argument-index in
     let class : Option ℕ = slice_get loaded (c.args.class - 1) in
     elim c.match-argument.branch as (λ w. c.match-argument.slots.items ≡ class ∷ filter_map (argument_address loaded) (map argument_view (take (i + 1) xs))) [
-      in-Number w ↦
-      let at = read_at xs i (Number (pos 0)) (Number w.in-Number.field-0) c.loop-argument-test.true w.in-Number.is in
-      ap (λ v. v.items) w.slots-is ∙ c.loop-argument.invariant ∙ ap (λ (l : List (Option ℕ)). class ∷ l) (sym (append-nil _) ∙ sym (given_more (argument_address loaded) xs i (Number w.in-Number.field-0) at))
+      | in-Number w ↦
+          let at = read_at xs i (Number (pos 0)) (Number w.in-Number.field-0) c.loop-argument-test.true w.in-Number.is in
+          ap (λ v. v.items) w.slots-is ∙ c.loop-argument.invariant ∙ ap (λ (l : List (Option ℕ)). class ∷ l) (sym (append-nil _) ∙ sym (given_more (argument_address loaded) xs i (Number w.in-Number.field-0) at))
       | in-Reference-None+in_ok-push-in-Reference-None w ↦
-      let r = w.in-Reference-None in
-      let inner : r.field-0 ≡ None = rw r.is at r.field-0-is in
-      let at = read_at xs i (Number (pos 0)) (Reference None) c.loop-argument-test.true (r.is ∙ ap Reference inner) in
-      ap (λ v. v.items) w.slots-is ∙ w.in_ok-push-in-Reference-None.ensures.items ∙ ap (λ (l : List (Option ℕ)). l ++ None ∷ []) c.loop-argument.invariant
-      ∙ ap (λ (l : List (Option ℕ)). class ∷ l) (sym (given_more (argument_address loaded) xs i (Reference None) at))
+          let r = w.in-Reference-None in
+          let inner : r.field-0 ≡ None = rw r.is at r.field-0-is in
+          let at = read_at xs i (Number (pos 0)) (Reference None) c.loop-argument-test.true (r.is ∙ ap Reference inner) in
+          ap (λ v. v.items) w.slots-is ∙ w.in_ok-push-in-Reference-None.ensures.items ∙ ap (λ (l : List (Option ℕ)). l ++ None ∷ []) c.loop-argument.invariant
+          ∙ ap (λ (l : List (Option ℕ)). class ∷ l) (sym (given_more (argument_address loaded) xs i (Reference None) at))
       | in-Reference-Some+in_ok-push-in-Reference-Some w ↦
-      let r = w.in-Reference-Some in
-      let inner : r.field-0 ≡ Some r.name = rw r.is at r.field-0-is in
-      let at = read_at xs i (Number (pos 0)) (Reference (Some r.name)) c.loop-argument-test.true (r.is ∙ ap Reference inner) in
-      let object : w.object_of-in-Reference-Some.result ≡ slice_get loaded (r.name - 1) = w.object_of-in-Reference-Some.ensures in
-      ap (λ v. v.items) w.slots-is ∙ w.in_ok-push-in-Reference-Some.ensures.items ∙ ap (λ (l : List (Option ℕ)). l ++ w.object_of-in-Reference-Some.result ∷ []) c.loop-argument.invariant
-      ∙ ap (λ (o : Option ℕ). class ∷ filter_map (argument_address loaded) (map argument_view (take i xs)) ++ o ∷ []) object
-      ∙ ap (λ (l : List (Option ℕ)). class ∷ l) (sym (given_more (argument_address loaded) xs i (Reference (Some r.name)) at))
+          let r = w.in-Reference-Some in
+          let inner : r.field-0 ≡ Some r.name = rw r.is at r.field-0-is in
+          let at = read_at xs i (Number (pos 0)) (Reference (Some r.name)) c.loop-argument-test.true (r.is ∙ ap Reference inner) in
+          let object : w.object_of-in-Reference-Some.result ≡ slice_get loaded (r.name - 1) = w.object_of-in-Reference-Some.ensures in
+          ap (λ v. v.items) w.slots-is ∙ w.in_ok-push-in-Reference-Some.ensures.items ∙ ap (λ (l : List (Option ℕ)). l ++ w.object_of-in-Reference-Some.result ∷ []) c.loop-argument.invariant
+          ∙ ap (λ (o : Option ℕ). class ∷ filter_map (argument_address loaded) (map argument_view (take i xs)) ++ o ∷ []) object
+          ∙ ap (λ (l : List (Option ℕ)). class ∷ l) (sym (given_more (argument_address loaded) xs i (Reference (Some r.name)) at))
     ]
 
 pub returns : goal.returns

@@ -7,7 +7,6 @@ use Rattle.machine.specs.Agrees.{Advances}
 use Rattle.machine.proofs.Threads.{working, did, returned, enters, coming, ready_to_begin}
 use Rattle.machine.proofs.thread.advance.Goals as goal
 
-
 pub execute-requires-clause-stands : goal.execute-requires-clause-stands
 execute-requires-clause-stands c =
     let a = c.requires.agrees in
