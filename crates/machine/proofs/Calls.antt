@@ -2,7 +2,6 @@
 use Rattle.std.proofs.Common.{◌≡◌, ℕ, ℤ, zero, suc, ◌+◌, ◌-◌, ◌<◌, Bool, true, false, cond, List, [], ◌∷◌, ◌++◌, length, take, Option, Some, None, refl, sym, ap, ◌∙◌, subst, arith, Bor}
 use Rattle.std.specs.Prelude.{slice_get, slice_set, nat_lt, IsSome}
 use Rattle.std.specs.Option.{option_and_then, option_copied, option_map}
-use Rattle.std.specs.Int.{w32, cast_signed}
 use Rattle.syntax.specs.Parts.{functions_of}
 use Rattle.syntax.specs.Tree.{Function}
 use Rattle.syntax.specs.Views.{unit_tree}
@@ -174,6 +173,20 @@ return_not_plain instr.PutJint r h = h
 return_not_plain (instr.Call call) r h = h
 return_not_plain instr.Return r h = h
 return_not_plain instr.ReturnJint r h = h
+
+-- what is none of the others works on the stack and the number slots alone
+pub plain_else : (i : Instr) → (i ≡ instr.PutJint → ⊥) → ((call : Call) → i ≡ instr.Call call → ⊥) → (i ≡ instr.Return → ⊥) → (i ≡ instr.ReturnJint → ⊥) → IsPlain i
+unfolding IsPlain
+plain_else (instr.Push n) put call return return_jint = tt
+plain_else (instr.Load slot) put call return return_jint = tt
+plain_else (instr.Store slot) put call return return_jint = tt
+plain_else instr.Complement put call return return_jint = tt
+plain_else instr.Convert put call return return_jint = tt
+plain_else (instr.Operate operator) put call return return_jint = tt
+plain_else instr.PutJint put call return return_jint = put refl
+plain_else (instr.Call c) put call return return_jint = call c refl
+plain_else instr.Return put call return return_jint = return refl
+plain_else instr.ReturnJint put call return return_jint = return_jint refl
 
 loaded_depth : (o : Option ℕ) (s m after m' : List ℕ) (u : Plain) → option_map {U = Plain × List ℕ × List ℕ} (λ (n : ℕ). (plain.Next, n ∷ s, m)) o ≡ Some (u, after, m') → length after ≡ suc (length s)
 loaded_depth None s m after m' u h = absurd (cc)

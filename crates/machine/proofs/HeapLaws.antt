@@ -23,9 +23,9 @@ none_behind from a [] cells h e = refl
 none_behind from a (b ∷ bs) cells h e =
     let later = from_below_end (block_end b) bs cells h.1 in
     ⊎_elim
-      (λ (t : (eqb b.address a ≡ true) × (b.address ≡ a)). absurd (let same : b.address ≡ a = t.1 in omega arith))
-      (λ (t : (eqb b.address a ≡ false) × (b.address ≡ a → ⊥)). ap (λ (c : Bool). cond c (Some b) (find (λ (b : Block). eqb b.address a) bs)) t.0 ∙ none_behind (block_end b) a bs cells h.1 e)
-      (eqb_tells b.address a)
+    (λ (t : (eqb b.address a ≡ true) × (b.address ≡ a)). absurd (let same : b.address ≡ a = t.1 in omega arith))
+    (λ (t : (eqb b.address a ≡ false) × (b.address ≡ a → ⊥)). ap (λ (c : Bool). cond c (Some b) (find (λ (b : Block). eqb b.address a) bs)) t.0 ∙ none_behind (block_end b) a bs cells h.1 e)
+    (eqb_tells b.address a)
 
 eqb_same : (a : ℕ) → eqb a a ≡ true
 eqb_same a = ⊎_elim (λ (t : (eqb a a ≡ true) × (a ≡ a)). t.0) (λ (t : (eqb a a ≡ false) × (a ≡ a → ⊥)). absurd (t.1 refl)) (eqb_tells a a)
@@ -119,12 +119,12 @@ unique_push s heap bs b h birth unique i j d below within =
     let first : get_or (bs ++ b ∷ []) i d ≡ get_or bs i d = get_or_append_left bs (b ∷ []) d i (omega arith) in
     let old : (get_or bs i d).birth ≤ length heap = births_within s heap bs i d h (omega arith) in
     ⊎_elim
-      (λ (l : j < length bs). λ e. unique i j d below l (sym (ap (λ (c : Block). c.birth) first) ∙ e ∙ ap (λ (c : Block). c.birth) (get_or_append_left bs (b ∷ []) d j l)))
-      (λ (l : length bs ≤ j). λ e.
-        let last : get_or (bs ++ b ∷ []) j d ≡ b = get_or_push bs b d j (omega arith) in
-        let same : (get_or bs i d).birth ≡ b.birth = sym (ap (λ (c : Block). c.birth) first) ∙ e ∙ ap (λ (c : Block). c.birth) last in
-        absurd (omega arith))
-      (cases_lt j (length bs))
+    (λ (l : j < length bs). λ e. unique i j d below l (sym (ap (λ (c : Block). c.birth) first) ∙ e ∙ ap (λ (c : Block). c.birth) (get_or_append_left bs (b ∷ []) d j l)))
+    (λ (l : length bs ≤ j). λ e.
+    let last : get_or (bs ++ b ∷ []) j d ≡ b = get_or_push bs b d j (omega arith) in
+    let same : (get_or bs i d).birth ≡ b.birth = sym (ap (λ (c : Block). c.birth) first) ∙ e ∙ ap (λ (c : Block). c.birth) last in
+    absurd (omega arith))
+    (cases_lt j (length bs))
 
 -- ---- the heap with a further block
 
@@ -169,10 +169,10 @@ table_push s b addresses count h laid behind birth = record {
   named = λ i a at. ⊎_elim
       (λ (old : slice_get addresses i ≡ Some a). name_kept s b a (i + 1) (h.named i a old))
       (λ (new : (i ≡ length addresses) × (a ≡ b.address)).
-        let here : i ≡ length addresses = new.0 in
-        let counted : length addresses ≡ count = h.counted in
-        let same : b.birth ≡ i + 1 = omega arith in
-        ap (name_at (with_block s b)) new.1 ∙ name_new s b laid behind ∙ ap (λ (m : ℕ). Some m) same)
+      let here : i ≡ length addresses = new.0 in
+      let counted : length addresses ≡ count = h.counted in
+      let same : b.birth ≡ i + 1 = omega arith in
+      ap (name_at (with_block s b)) new.1 ∙ name_new s b laid behind ∙ ap (λ (m : ℕ). Some m) same)
       (get_push addresses b.address i a at);
 }
 
@@ -190,17 +190,17 @@ pub from_one-bounds : (k n : ℕ) → Contains (from_one k) n → (0 < n) × (n 
 from_one-bounds zero n c = let l : c.0 < 0 = c.1 in absurd (omega arith)
 from_one-bounds (suc k) n c =
     ⊎_elim
-      (λ (old : Contains (from_one k) n). let b = from_one-bounds k n old in (b.0, omega arith))
-      (λ (new : Contains (suc k ∷ []) n). let e : n ≡ suc k = only (suc k) n new in (omega arith, omega arith))
-      (Contains-append_cases (from_one k) (suc k ∷ []) n c)
+    (λ (old : Contains (from_one k) n). let b = from_one-bounds k n old in (b.0, omega arith))
+    (λ (new : Contains (suc k ∷ []) n). let e : n ≡ suc k = only (suc k) n new in (omega arith, omega arith))
+    (Contains-append_cases (from_one k) (suc k ∷ []) n c)
 
 pub from_one-contains : (k n : ℕ) → 0 < n → n ≤ k → Contains (from_one k) n
 from_one-contains zero n low high = absurd (omega arith)
 from_one-contains (suc k) n low high =
     ⊎_elim
-      (λ (l : n < suc k). Contains-append_left (from_one k) (suc k ∷ []) n (from_one-contains k n low (omega arith)))
-      (λ (l : suc k ≤ n). let e : suc k ≡ n = omega arith in subst (λ m. Contains (from_one (suc k)) m) e (Contains-push (from_one k) (suc k)))
-      (cases_lt n (suc k))
+    (λ (l : n < suc k). Contains-append_left (from_one k) (suc k ∷ []) n (from_one-contains k n low (omega arith)))
+    (λ (l : suc k ≤ n). let e : suc k ≡ n = omega arith in subst (λ m. Contains (from_one (suc k)) m) e (Contains-push (from_one k) (suc k)))
+    (cases_lt n (suc k))
 
 -- each name of a heap with one more object is an old name or the new one
 pub IsName-more : (heap : Heap) (o : Object) → Needs (IsName heap) (IsName (heap ++ o ∷ [])) (length heap + 1)
@@ -208,6 +208,6 @@ IsName-more heap o n h =
     let count = length-append heap (o ∷ []) in
     let b = from_one-bounds (length (heap ++ o ∷ [])) n h in
     ⊎_elim
-      (λ (l : n < length heap + 1). inl (from_one-contains (length heap) n b.0 (omega arith)))
-      (λ (l : length heap + 1 ≤ n). inr (omega arith))
-      (cases_lt n (length heap + 1))
+    (λ (l : n < length heap + 1). inl (from_one-contains (length heap) n b.0 (omega arith)))
+    (λ (l : length heap + 1 ≤ n). inr (omega arith))
+    (cases_lt n (length heap + 1))

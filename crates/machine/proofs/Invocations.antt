@@ -1,13 +1,12 @@
 -- A call of a function of the JNI does what the source's call does.
-use Rattle.std.proofs.Common.{◌≡◌, ℕ, zero, suc, pos, ◌+◌, ◌<◌, ◌≤◌, ◌^◌, Bool, true, false, cond, eqb, List, [], ◌∷◌, ◌++◌, length, Option, Some, None, Result, refl, sym, ap, ◌∙◌, subst, arith, ⊎_elim, ◌⊎◌}
+use Rattle.std.proofs.Common.{◌≡◌, ℕ, zero, suc, pos, ◌<◌, ◌^◌, Bool, true, false, cond, eqb, List, [], ◌∷◌, length, Option, Some, None, Result, refl, sym, ap, ◌∙◌, subst}
 use Rattle.std.specs.Prelude.{slice_get, slice_set, find, FitsSigned, Ok, Err, IsSome}
 use Rattle.std.specs.Option.{option_map, option_map_or}
 use Rattle.std.specs.Int.{w32, cast_unsigned}
-use Rattle.std.proofs.Math.Facts.{Fits-of_lt, sfits_to_z}
-use Rattle.base.specs.Bytes.{Identifier, lookup}
+use Rattle.base.specs.Bytes.{Identifier}
 use Rattle.classes.specs.Class.{Classes, class_kind, is_plain}
 use Rattle.types.specs.JniFunction.{JniFunction, GetArrayLength}
-use Rattle.types.specs.Sorts.{Jint, Ref}
+use Rattle.types.specs.Sorts.{Ref}
 use Rattle.heap.specs.Heap.{Block, Space, block_at, class_at, name_at, values_at, IsAddress}
 use Rattle.world.specs.Object.{Object, ObjectValue, Reference}
 use Rattle.code.specs.declared.instr.Instr.{Instr}
@@ -22,28 +21,24 @@ use Rattle.code.specs.declared.instr.Target.TheVariants as destination
 use Rattle.code.specs.Depth.{Listing, depth_after}
 use Rattle.regions.specs.Arguments.{Actual, ReferenceActual}
 use Rattle.regions.specs.CallStep.{call_step}
-use Rattle.regions.specs.Effect.{Effect, Calls, effect_of}
+use Rattle.regions.specs.Effect.{Calls, effect_of}
 use Rattle.regions.specs.Heap.{Heap, object_at, class_of, values_of}
 use Rattle.regions.specs.Sight.{Sight}
-use Rattle.regions.specs.Task.{Task, Target, VariableKind, ScalarKind, ReferenceKind, FieldKind, BufferKind, Declared, Assigned, Dropped, Tested}
+use Rattle.regions.specs.Task.{Task, Target, ScalarKind, ReferenceKind, FieldKind, BufferKind, Declared, Assigned, Dropped, Tested}
 use Rattle.regions.specs.Thread as source
 use Rattle.regions.specs.Thread.{Lent, Shared, sight_of}
 use Rattle.regions.specs.Value.{Int}
-use Rattle.regions.specs.Value as value
 use Rattle.regions.specs.Variable.{Scalar, assign, as_static}
-use Rattle.lower.specs.Layout.{Known}
-use Rattle.lower.specs.Slots.{Shows}
-use Rattle.lower.specs.Stands.{StandsFor, CallsFunction, IsCallee, IsOperand, TakesResult, TakesNumber}
+use Rattle.lower.specs.Stands.{CallsFunction, IsCallee, IsOperand, TakesResult}
 use Rattle.lower.specs.Lowered.{Lowered}
 use Rattle.machine.specs.declared.stop.Trap.{Trap}
-use Rattle.machine.specs.declared.stop.Trap.TheVariants as trap
 use Rattle.machine.specs.declared.thread.Event.{Event}
 use Rattle.machine.specs.declared.thread.Event.TheVariants as event
 use Rattle.machine.specs.declared.thread.Activation.{Activation}
 use Rattle.machine.specs.declared.thread.Executed.TheVariants.{Did}
 use Rattle.machine.specs.Agrees.{CallStands, Executes, GoesOn, ReferencesAgree, event_view}
 use Rattle.machine.specs.HeapAgrees.{ReferenceAgrees, WordsAgree, BlockAgrees, BlocksAgree}
-use Rattle.machine.specs.Invoked.{operand_at, held_in, length_operand, target_slot, HasPlainClass, HasArrayClass, LengthIs, HasWord, DidCall, Invoked}
+use Rattle.machine.specs.Invoked.{operand_at, held_in, length_operand, target_slot, HasArrayClass, LengthIs, HasWord, DidCall, Invoked}
 use Rattle.machine.specs.Stops.{trap_view}
 use Rattle.machine.proofs.Calls.{slots_of, Ready, HasMoved, stands_behind}
 use Rattle.machine.proofs.Effects.{call_cases, is_set}
@@ -54,11 +49,11 @@ use Rattle.machine.proofs.LengthCalls.{length_of_null, length_of_plain, length_o
 -- a block that is found stands for its object
 block_found : (space : Space) (heap : Heap) (bs : List Block) (a : ℕ) (b : Block) → BlocksAgree space heap bs → find (λ (c : Block). eqb c.address a) bs ≡ Some b → BlockAgrees space heap b
 block_found space heap [] a b h e = absurd (cc)
-block_found space heap (c ∷ bs) a b h e = by_test (eqb c.address a) e
+block_found space heap (c ∷ bs) a b h e = by_test (eqb c.address a) e (λ found. block_found space heap bs a b h.1 found)
   where
-    by_test : (t : Bool) → cond t (Some c) (find (λ (d : Block). eqb d.address a) bs) ≡ Some b → BlockAgrees space heap b
-    by_test true e = let same : c ≡ b = cc in subst (λ (d : Block). BlockAgrees space heap d) same h.0
-    by_test false e = block_found space heap bs a b h.1 e
+    by_test : (t : Bool) → cond t (Some c) (find (λ (d : Block). eqb d.address a) bs) ≡ Some b → (find (λ (d : Block). eqb d.address a) bs ≡ Some b → BlockAgrees space heap b) → BlockAgrees space heap b
+    by_test true e later = let same : c ≡ b = cc in subst (λ (d : Block). BlockAgrees space heap d) same h.0
+    by_test false e later = later e
 
 words_length : (space : Space) (words : List ℕ) (values : List ObjectValue) → WordsAgree space words values → length words ≡ length values
 words_length space [] [] h = refl
@@ -132,10 +127,7 @@ is_address space (Some b) (Some n) a h e =
 length_word : (n : ℕ) → cast_unsigned w32 (pos n) ≡ n
 length_word n = refl
 
-module _ (p : Lowered) (classes : Classes) (space : Space) (lent : Lent) (k : ℕ) (shared : Shared) (s : source.Thread) (call : Activation) (code : Listing) (task : Task) (rest : List Task) (r : Ready p space call code (sight_of shared s) task rest) where
-  abbrev sight : Sight
-  sight = sight_of shared s
-
+module _ (p : Lowered) (space : Space) (call : Activation) (code : Listing) (sight : Sight) (task : Task) (rest : List Task) (r : Ready p space call code sight task rest) where
   -- what an instruction of GetArrayLength has
   record IsLength (function : Call) (line : ℕ) (target : Target) (f : JniFunction) (args : List Actual) : Type 0 where
     is : f ≡ GetArrayLength
@@ -147,7 +139,7 @@ module _ (p : Lowered) (classes : Classes) (space : Space) (lent : Lent) (k : �
 
   is_length : (c : Callee) (f : JniFunction) (args : List Actual) → IsCallee code r.known call.place call.stack (slots_of call r.references) sight c f args
       → (call.stack ≡ []) × (f ≡ GetArrayLength) × ((a : Actual) × (args ≡ a ∷ []) × OperandAgrees space call.references.items (length_operand c) a)
-  is_length (callee.GetArrayLength operand) f args h = (h.0, h.1, (h.2, h.3, operand_agrees p space call code sight task rest r operand h.2 h.4))
+  is_length (callee.GetArrayLength operand) f args h = (h.0, h.1, (h.2.0, h.2.1, operand_agrees p space call code sight task rest r operand h.2.0 h.2.2))
 
   -- the word goes into its slot
   module _ (i : Instr) (at : slice_get code.instrs call.place ≡ Some i) (function : Call) (is : i ≡ instr.Call function) where
@@ -155,22 +147,23 @@ module _ (p : Lowered) (classes : Classes) (space : Space) (lent : Lent) (k : �
     given line target f args h =
         let same : h.call ≡ function = let e : instr.Call h.call ≡ instr.Call function = cc (at, h.at, is) in cc in
         let l = is_length function.function f args (subst (λ (c : Call). IsCallee code r.known call.place call.stack (slots_of call r.references) sight c.function f args) same h.function) in
-        let o = l.4 in
-        record { is = l.1; name = o.name; reference = o.reference; arguments = l.3 ∙ ap (λ (a : Actual). a ∷ []) o.is; agrees = o.agrees; stack = l.0 }
+        let o = l.2.2 in
+        let arguments : args ≡ ReferenceActual o.name (as_static o.reference) ∷ [] = l.2.1 ∙ ap (λ (a : Actual). a ∷ []) o.is in
+        record { is = l.1; name = o.name; reference = o.reference; arguments = arguments; agrees = o.agrees; stack = l.0 }
 
     -- the operand is the address of a block
     pub object_there : (a : ℕ) → operand_at call.references.items (length_operand function.function) ≡ Some a → IsAddress space a
     object_there a e =
-        call_cases p classes space lent k shared s call code task rest r i at function is (λ e. IsAddress space a)
+        call_cases p space call code sight task rest r i at function is (λ e. IsAddress space a)
         (λ line target f args h. let l = given line target f args h in is_address space (operand_at call.references.items (length_operand function.function)) l.reference a l.agrees e)
 
     -- the slot of the result is there
     pub slot_there : target_slot function.target < length call.numbers.items
     slot_there =
-        call_cases p classes space lent k shared s call code task rest r i at function is (λ e. target_slot function.target < length call.numbers.items)
+        call_cases p space call code sight task rest r i at function is (λ e. target_slot function.target < length call.numbers.items)
         (λ line target f args h.
-          let same : h.call ≡ function = let e : instr.Call h.call ≡ instr.Call function = cc (at, h.at, is) in cc in
-          within function.target target (subst (λ (c : Call). TakesResult code r.known call.place call.stack (slots_of call r.references) sight c.target target rest) same h.goes))
+        let same : h.call ≡ function = let e : instr.Call h.call ≡ instr.Call function = cc (at, h.at, is) in cc in
+        within function.target target (subst (λ (c : Call). TakesResult code r.known call.place call.stack (slots_of call r.references) sight c.target target rest) same h.goes))
       where
         within : (d : Destination) (target : Target) → TakesResult code r.known call.place call.stack (slots_of call r.references) sight d target rest → target_slot d < length call.numbers.items
         within (destination.Number j) (Declared ScalarKind x) h = h.within
@@ -181,6 +174,11 @@ module _ (p : Lowered) (classes : Classes) (space : Space) (lent : Lent) (k : �
         within (destination.Number j) (Tested a b) h = absurd h
         within (destination.Number j) Dropped h = absurd h
 
+module _ (p : Lowered) (classes : Classes) (space : Space) (lent : Lent) (k : ℕ) (shared : Shared) (s : source.Thread) (call : Activation) (code : Listing) (task : Task) (rest : List Task) (r : Ready p space call code (sight_of shared s) task rest) where
+  abbrev sight : Sight
+  sight = sight_of shared s
+
+  module _ (i : Instr) (at : slice_get code.instrs call.place ≡ Some i) (function : Call) (is : i ≡ instr.Call function) where
     -- a trap stops the thread where it is
     trapped : (line : ℕ) (target : Target) (args : List Actual) (t : Trap) (after : Activation) (e : Event) → s.tasks ≡ Some (task ∷ rest) → CallStands p space call sight (task ∷ rest)
         → call_step classes lent k shared s line target GetArrayLength args rest false ≡ source.Advances shared s (source.Trapped (trap_view t) line) → function.line ≡ line → (after ≡ call) × (e ≡ event.Trapped t function.line)
@@ -251,12 +249,12 @@ module _ (p : Lowered) (classes : Classes) (space : Space) (lent : Lent) (k : �
     pub call_executes : (after : Activation) (e : Event) → s.tasks ≡ Some (task ∷ rest) → s.pending ≡ None → CallStands p space call sight (task ∷ rest) → BlocksAgree space shared.heap space.blocks
         → Invoked classes space call function after e → Executes p classes space lent k shared s rest after (effect_of sight task) (Did e)
     call_executes after e tasks none stands blocks did =
-        call_cases p classes space lent k shared s call code task rest r i at function is (λ effect. Executes p classes space lent k shared s rest after effect (Did e))
+        call_cases p space call code sight task rest r i at function is (λ effect. Executes p classes space lent k shared s rest after effect (Did e))
         (λ line target f args h.
-          let same : h.call ≡ function = let both : instr.Call h.call ≡ instr.Call function = cc (at, h.at, is) in cc in
-          let l = given line target f args h in
-          let goes = subst (λ (c : Call). TakesResult code r.known call.place call.stack (slots_of call r.references) sight c.target target rest) same h.goes in
-          let lines : function.line ≡ line = ap (λ (c : Call). c.line) (sym same) ∙ h.same_line in
-          subst (λ (g : JniFunction). GoesOn p classes space lent k shared s rest after (Calls line target g args) e) (sym l.is)
-          (subst (λ (more : List Actual). GoesOn p classes space lent k shared s rest after (Calls line target GetArrayLength more) e) (sym l.arguments)
-          (by_operand line target l.name (operand_at call.references.items (length_operand function.function)) l.reference did.0 after e tasks none stands blocks l.stack lines goes l.agrees did.1 did.2)))
+        let same : h.call ≡ function = let both : instr.Call h.call ≡ instr.Call function = cc (at, h.at, is) in cc in
+        let l = given p space call code sight task rest r i at function is line target f args h in
+        let goes = subst (λ (c : Call). TakesResult code r.known call.place call.stack (slots_of call r.references) sight c.target target rest) same h.goes in
+        let lines : function.line ≡ line = ap (λ (c : Call). c.line) (sym same) ∙ h.same_line in
+        subst (λ (g : JniFunction). GoesOn p classes space lent k shared s rest after (Calls line target g args) e) (sym l.is)
+        (subst (λ (more : List Actual). GoesOn p classes space lent k shared s rest after (Calls line target GetArrayLength more) e) (sym l.arguments)
+        (by_operand line target l.name (operand_at call.references.items (length_operand function.function)) l.reference did.0 after e tasks none stands blocks l.stack lines goes l.agrees did.1 did.2)))

@@ -1,20 +1,20 @@
 -- What a call of GetArrayLength does, by its argument.
-use Rattle.std.proofs.Common.{◌≡◌, ℕ, pos, Bool, true, false, List, [], ◌∷◌, ◌++◌, length, Option, Some, None, refl, sym, ap, not, ◌∙◌, append-nil}
-use Rattle.base.specs.Bytes.{Identifier, lookup}
+use Rattle.std.proofs.Common.{◌≡◌, ℕ, pos, Bool, true, false, List, [], ◌∷◌, ◌++◌, length, Some, None, ap, not, ◌∙◌, append-nil}
+use Rattle.base.specs.Bytes.{Identifier}
 use Rattle.classes.specs.Class.{Classes, class_kind, is_plain}
 use Rattle.types.specs.JniFunction.{GetArrayLength}
-use Rattle.world.specs.Object.{Object, Reference}
+use Rattle.world.specs.Object.{Reference}
 use Rattle.regions.specs.Arguments.{Actual, ReferenceActual}
-use Rattle.regions.specs.CallEffects.{CallResult, ScalarResult, CallEffect, Leaves, Halts}
+use Rattle.regions.specs.CallEffects.{CallResult, ScalarResult}
 use Rattle.regions.specs.CallStep.{call_step, after_call, trap_of_call, put, checked, is_zero}
 use Rattle.regions.specs.CallTable.{call_effect}
 use Rattle.regions.specs.Checks.{call_trap, go_together, first_trap}
 use Rattle.regions.specs.Effect.{tasks_after}
 use Rattle.regions.specs.Heap.{Heap, class_of, values_of}
-use Rattle.regions.specs.Task.{Task, Target, Declared, Assigned, Dropped, ScalarKind}
-use Rattle.regions.specs.Thread.{Thread, Shared, Lent, Quiet, Trapped, Advance, Advances}
-use Rattle.regions.specs.Value.{Value, Int, Trap, ExceptionPending, NullReference, WrongObject, DeletedReference, NoCapacity}
-use Rattle.regions.specs.Variable.{Variable, Scalar, Empty, Live, Deleted, StaticReference, assign}
+use Rattle.regions.specs.Task.{Task, Target}
+use Rattle.regions.specs.Thread.{Thread, Shared, Lent, Trapped, Advances}
+use Rattle.regions.specs.Value.{Int, Trap, ExceptionPending, NullReference, WrongObject, DeletedReference, NoCapacity}
+use Rattle.regions.specs.Variable.{Empty, Live, Deleted}
 
 -- the length of an array as a result
 abbrev pub length_result : Heap → ℕ → CallResult

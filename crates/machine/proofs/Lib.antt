@@ -1,3 +1,4 @@
+pub mod ArgumentSlots
 pub mod Calls
 pub mod Threads
 pub mod Steps

@@ -1,5 +1,5 @@
 -- Calls that load, and calls that don't.
-use Rattle.std.proofs.Common.{◌≡◌, ℕ, ℤ, zero, suc, pos, negsuc, ◌+◌, ◌<◌, ◌≤◌, Bool, true, false, List, [], ◌∷◌, ◌++◌, length, drop, map, Option, Some, None, refl, sym, ap, ◌∙◌, subst, arith, append_assoc, append-nil}
+use Rattle.std.proofs.Common.{◌≡◌, ℕ, ℤ, zero, suc, pos, negsuc, ◌+◌, ◌<◌, ◌≤◌, Bool, true, false, List, [], ◌∷◌, ◌++◌, length, drop, map, Option, Some, None, refl, sym, ap, ◌∙◌, subst, arith, append_assoc, append-nil, get_or}
 use Rattle.std.specs.Prelude.{slice_get, is_some, ◌&&◌, FitsSigned}
 use Rattle.std.specs.Int.{w32}
 use Rattle.std.specs.List.{list_all}
@@ -10,8 +10,11 @@ use Rattle.std.proofs.Math.ListN.{drop_of_length-le}
 use Rattle.base.specs.Bytes.{Identifier}
 use Rattle.base.specs.Element.{JInt}
 use Rattle.base.specs.Options.{some_passes}
-use Rattle.syntax.specs.Tree.{SourceUnit, Parameter, ParameterType, IntParameter, ReferenceParameter}
-use Rattle.syntax.specs.Views.{unit_tree}
+use Rattle.syntax.specs.declared.unit.Function.{Function as FunctionInMemory}
+use Rattle.syntax.specs.declared.unit.Item.{Item}
+use Rattle.syntax.specs.declared.unit.Item.TheVariants as item
+use Rattle.syntax.specs.Tree.{SourceUnit, Function, Parameter, ParameterType, IntParameter, ReferenceParameter}
+use Rattle.syntax.specs.Views.{unit_tree, function_tree, parameter_tree}
 use Rattle.classes.specs.Class.{Classes, class_named}
 use Rattle.classes.specs.Mangling.{native_class}
 use Rattle.world.specs.CallArguments.{is_argument, are_arguments}
@@ -28,6 +31,7 @@ use Rattle.lower.specs.Slots.{ArgumentFits, ArgumentsFit}
 use Rattle.machine.specs.declared.thread.CallToCome.{CallToCome}
 use Rattle.machine.specs.Agrees.{CallAgrees, CallsAgree}
 use Rattle.machine.specs.Loading.{IsNumberOf, IsCallOf, refused_calls}
+use Rattle.machine.proofs.Names.{functions_get, item_there}
 
 -- ---- arguments
 
@@ -93,6 +97,13 @@ no_fit p classes call number n none =
     and_none : (b : Bool) → (b && false) ≡ false
     and_none true = refl
     and_none false = refl
+
+-- the parameters in memory are those of the function
+pub same_parameters : (p : Lowered) (name : List ℕ) (number : ℕ) (n : IsNumberOf p name number) (x : Item) (f : FunctionInMemory) → x ≡ get_or p.unit number x → x ≡ item.Function f → n.function.parameters ≡ map parameter_tree f.parameters.items
+same_parameters p name number n x f h is =
+    let named = functions_get p.unit number f (item_there p.unit number x f n.there h is) in
+    let same : n.function ≡ function_tree f = cc (sym n.numbered, named) in
+    ap (λ (g : Function). g.parameters) same
 
 -- the calls from a place on
 calls_drop : (calls : List CallScene) (i : ℕ) (x : CallScene) → slice_get calls i ≡ Some x → drop i calls ≡ x ∷ drop (i + 1) calls

@@ -55,19 +55,19 @@ blocks_below change from a [] cells h e = refl
 blocks_below change from a (b ∷ bs) cells h e =
     let later = from_below_end (block_end b) bs cells h.1 in
     ⊎_elim
-      (λ (t : (eqb b.address a ≡ true) × (b.address ≡ a)). absurd (let same : b.address ≡ a = t.1 in omega arith))
-      (λ (t : (eqb b.address a ≡ false) × (b.address ≡ a → ⊥)).
-        ap (λ (c : Bool). cond c (change b) b ∷ map (λ (b : Block). cond (eqb b.address a) (change b) b) bs) t.0
-        ∙ ap (λ (l : List Block). b ∷ l) (blocks_below change (block_end b) a bs cells h.1 e))
-      (eqb_tells b.address a)
+    (λ (t : (eqb b.address a ≡ true) × (b.address ≡ a)). absurd (let same : b.address ≡ a = t.1 in omega arith))
+    (λ (t : (eqb b.address a ≡ false) × (b.address ≡ a → ⊥)).
+    ap (λ (c : Bool). cond c (change b) b ∷ map (λ (b : Block). cond (eqb b.address a) (change b) b) bs) t.0
+    ∙ ap (λ (l : List Block). b ∷ l) (blocks_below change (block_end b) a bs cells h.1 e))
+    (eqb_tells b.address a)
 
 pub changed_new : (s : Space) (b : Block) (change : Block → Block) → IsLaidOut s → b.address ≡ end_of s → with_changed (with_block s b) b.address change ≡ with_block s (change b)
 changed_new s b change laid behind =
     let here : map (λ (c : Block). cond (eqb c.address b.address) (change c) c) (b ∷ []) ≡ change b ∷ [] =
     ⊎_elim
-      (λ (t : (eqb b.address b.address ≡ true) × (b.address ≡ b.address)). ap (λ (c : Bool). cond c (change b) b ∷ []) t.0)
-      (λ (t : (eqb b.address b.address ≡ false) × (b.address ≡ b.address → ⊥)). absurd (t.1 refl))
-      (eqb_tells b.address b.address) in
+    (λ (t : (eqb b.address b.address ≡ true) × (b.address ≡ b.address)). ap (λ (c : Bool). cond c (change b) b ∷ []) t.0)
+    (λ (t : (eqb b.address b.address ≡ false) × (b.address ≡ b.address → ⊥)). absurd (t.1 refl))
+    (eqb_tells b.address b.address) in
     let all : map (λ (c : Block). cond (eqb c.address b.address) (change c) c) (s.blocks ++ b ∷ []) ≡ s.blocks ++ change b ∷ [] =
     map-append (λ (c : Block). cond (eqb c.address b.address) (change c) c) s.blocks (b ∷ [])
     ∙ ap (λ (l : List Block). l ++ map (λ (c : Block). cond (eqb c.address b.address) (change c) c) (b ∷ [])) (blocks_below change 0 b.address s.blocks s.cells laid (omega arith))

@@ -51,16 +51,16 @@ use Rattle.machine.proofs.Threads.{unblocked}
 
 -- ---- how threads stand
 
-free_at : (p : Lowered) (classes : Classes) (k : ℕ) (shared : Shared) (ts : List Thread) (ss : List source.Thread) (i : ℕ) → IsLowered p → ThreadsAgree p classes ts ss → is_waiting classes k shared (slice_get ss i) ≡ false
-free_at p classes k shared [] [] i l h = refl
-free_at p classes k shared [] (s ∷ ss) i l h = absurd h
-free_at p classes k shared (t ∷ ts) [] i l h = absurd h
-free_at p classes k shared (t ∷ ts) (s ∷ ss) zero l h = unblocked p classes k shared t s l h.0
-free_at p classes k shared (t ∷ ts) (s ∷ ss) (suc i) l h = free_at p classes k shared ts ss i l h.1
+free_at : (p : Lowered) (classes : Classes) (space : Space) (made k : ℕ) (shared : Shared) (ts : List Thread) (ss : List source.Thread) (i : ℕ) → IsLowered p → ThreadsAgree p classes space made shared ts ss → is_waiting classes k shared (slice_get ss i) ≡ false
+free_at p classes space made k shared [] [] i l h = refl
+free_at p classes space made k shared [] (s ∷ ss) i l h = absurd h
+free_at p classes space made k shared (t ∷ ts) [] i l h = absurd h
+free_at p classes space made k shared (t ∷ ts) (s ∷ ss) zero l h = unblocked p classes space made k shared t s l h.0
+free_at p classes space made k shared (t ∷ ts) (s ∷ ss) (suc i) l h = free_at p classes space made k shared ts ss i l h.1
 
-never_blocked : (p : Lowered) (classes : Classes) (s : State) (ts : List Thread) → IsLowered p → ThreadsAgree p classes ts s.threads → (k : ℕ) → is_blocked classes s k ≡ false
-never_blocked p classes s ts l h zero = refl
-never_blocked p classes s ts l h (suc i) = free_at p classes (suc i) s.shared ts s.threads i l h
+never_blocked : (p : Lowered) (classes : Classes) (space : Space) (made : ℕ) (s : State) (ts : List Thread) → IsLowered p → ThreadsAgree p classes space made s.shared ts s.threads → (k : ℕ) → is_blocked classes s k ≡ false
+never_blocked p classes space made s ts l h zero = refl
+never_blocked p classes space made s ts l h (suc i) = free_at p classes space made (suc i) s.shared ts s.threads i l h
 
 stands : (classes : Classes) (blocked : Bool) (e : Ending) (f : source.Ending) → blocked ≡ false → f ≡ ending_view e → standing_by_ending classes blocked f ≡ standing_view (machine.standing_by_ending e)
 stands classes blocked ending.Unfinished f b e = rw (b, e) refl
@@ -75,14 +75,14 @@ one_stands classes s None k e x free same = stands classes (is_blocked classes s
 one_stands classes s (Some stop) k e x free same =
     trapped_or (stop.thread == k) (HasTrapped (trap_number (trap_view stop.trap)) stop.line) (held.Trapped (trap_number (trap_view stop.trap)) stop.line) (standing_by_ending classes (is_blocked classes s k) x.ending) (machine.standing_by_ending e) refl (stands classes (is_blocked classes s k) e x.ending free same)
 
-each_stands : (p : Lowered) (classes : Classes) (s : State) (stop : Option Stop) (n : ℕ) (ts : List Thread) (ss : List source.Thread) → ((k : ℕ) → is_blocked classes s k ≡ false) → ThreadsAgree p classes ts ss
+each_stands : (p : Lowered) (classes : Classes) (space : Space) (made : ℕ) (shared : Shared) (s : State) (stop : Option Stop) (n : ℕ) (ts : List Thread) (ss : List source.Thread) → ((k : ℕ) → is_blocked classes s k ≡ false) → ThreadsAgree p classes space made shared ts ss
     → map (λ (t : ℕ × source.Thread). standing_of classes s t.0 t.1 (option_map stop_view stop)) (enumerate_from n ss) ≡ map standing_view (standings stop n ts)
-each_stands p classes s stop n [] [] free h = refl
-each_stands p classes s stop n [] (x ∷ ss) free h = absurd h
-each_stands p classes s stop n (t ∷ ts) [] free h = absurd h
-each_stands p classes s stop n (t ∷ ts) (x ∷ ss) free h =
+each_stands p classes space made shared s stop n [] [] free h = refl
+each_stands p classes space made shared s stop n [] (x ∷ ss) free h = absurd h
+each_stands p classes space made shared s stop n (t ∷ ts) [] free h = absurd h
+each_stands p classes space made shared s stop n (t ∷ ts) (x ∷ ss) free h =
     ap (λ v. v ∷ map (λ (t : ℕ × source.Thread). standing_of classes s t.0 t.1 (option_map stop_view stop)) (enumerate_from (n + 1) ss)) (one_stands classes s stop n t.ending x (free n) h.0.ending)
-    ∙ ap (λ vs. standing_view (machine.standing_of stop n t.ending) ∷ vs) (each_stands p classes s stop (n + 1) ts ss free h.1)
+    ∙ ap (λ vs. standing_view (machine.standing_of stop n t.ending) ∷ vs) (each_stands p classes space made shared s stop (n + 1) ts ss free h.1)
 
 -- ---- the report
 
@@ -95,7 +95,7 @@ report_is p scene space addresses ts printed stop journal c =
     let threads = map standing_view (standings stop 1 ts) in
     let same : before ≡ threads =
     ap (λ (o : Option state.Stop). map (λ (t : ℕ × source.Thread). standing_of w.classes c.state t.0 t.1 o) (enumerate_from 1 c.state.threads)) c.same_stop
-    ∙ each_stands p w.classes c.state stop 1 ts c.state.threads (never_blocked p w.classes c.state ts c.lowered c.threads_agree) c.threads_agree in
+    ∙ each_stands p w.classes space (length addresses) c.state.shared c.state stop 1 ts c.state.threads (never_blocked p w.classes space (length addresses) c.state ts c.lowered c.threads_agree) c.threads_agree in
     let rows = shown_rows w c.state c.heap in
     ap (λ (l : List Printed). let r : Report = record { printed = l; standings = before; objects = map (shown_row w.classes c.state.shared.heap) (shown w c.state) } in r) c.same_printed
     ∙ ap (λ (l : List ThreadStanding). let r : Report = record { printed = printed; standings = l; objects = map (shown_row w.classes c.state.shared.heap) (shown w c.state) } in r) same
@@ -107,23 +107,23 @@ one_ended : (e : Ending) (f : source.Ending) (blocked : Bool) → blocked ≡ fa
 one_ended ending.Unfinished f b h e = rw (h, e) refl
 one_ended ending.Ended f b h e = rw (h, e) refl
 
-each_ended : (p : Lowered) (classes : Classes) (s : State) (n : ℕ) (ts : List Thread) (ss : List source.Thread) → ((k : ℕ) → is_blocked classes s k ≡ false) → ThreadsAgree p classes ts ss
+each_ended : (p : Lowered) (classes : Classes) (space : Space) (made : ℕ) (shared : Shared) (s : State) (n : ℕ) (ts : List Thread) (ss : List source.Thread) → ((k : ℕ) → is_blocked classes s k ≡ false) → ThreadsAgree p classes space made shared ts ss
     → list_all (λ (t : Thread). run.has_ended t.ending) ts ≡ list_all (λ (t : ℕ × source.Thread). not (is_unfinished t.1.ending) || is_blocked classes s t.0) (enumerate_from n ss)
-each_ended p classes s n [] [] free h = refl
-each_ended p classes s n [] (x ∷ ss) free h = absurd h
-each_ended p classes s n (t ∷ ts) [] free h = absurd h
-each_ended p classes s n (t ∷ ts) (x ∷ ss) free h =
+each_ended p classes space made shared s n [] [] free h = refl
+each_ended p classes space made shared s n [] (x ∷ ss) free h = absurd h
+each_ended p classes space made shared s n (t ∷ ts) [] free h = absurd h
+each_ended p classes space made shared s n (t ∷ ts) (x ∷ ss) free h =
     ap (λ b. b && list_all (λ (t : Thread). run.has_ended t.ending) ts) (one_ended t.ending x.ending (is_blocked classes s n) (free n) h.0.ending)
-    ∙ ap (λ b. (not (is_unfinished x.ending) || is_blocked classes s n) && b) (each_ended p classes s (n + 1) ts ss free h.1)
+    ∙ ap (λ b. (not (is_unfinished x.ending) || is_blocked classes s n) && b) (each_ended p classes space made shared s (n + 1) ts ss free h.1)
 
 pub is_finished : (p : Lowered) (scene : Scene) (space : Space) (addresses : List ℕ) (ts : List Thread) (printed : List Printed) (stop : Option Stop) (journal : List Entry) (c : Corresponds p scene space addresses ts printed stop journal) (now : Run)
     → ◌≡◌ {A = Run} (record { unit = p.unit; world = scene; journal = journal }) now
     → (answer : Bool) → answer ≡ (is_some stop || list_all (λ (t : Thread). run.has_ended t.ending) ts) → IsFinished now answer
 is_finished p scene space addresses ts printed stop journal c now view answer h =
     let w = world_of_scene scene in
-    let free = never_blocked p w.classes c.state ts c.lowered c.threads_agree in
+    let free = never_blocked p w.classes space (length addresses) c.state ts c.lowered c.threads_agree in
     let same : answer ≡ run.is_finished w.classes c.state =
-    h ∙ ap (λ b. is_some stop || b) (each_ended p w.classes c.state 1 ts c.state.threads free c.threads_agree)
+    h ∙ ap (λ b. is_some stop || b) (each_ended p w.classes space (length addresses) c.state.shared c.state 1 ts c.state.threads free c.threads_agree)
     ∙ ap (λ b. b || list_all (λ (t : ℕ × source.Thread). not (is_unfinished t.1.ending) || is_blocked w.classes c.state t.0) (enumerate_from 1 c.state.threads)) (has_stopped stop ∙ ap (λ (o : Option state.Stop). is_some o) (sym c.same_stop)) in
     subst (λ (r : Run). IsFinished r answer) view (c.state, c.replays, same)
   where

@@ -76,10 +76,10 @@ reachable_all w s heap =
     lists.in_order
     ∙ ap (λ n. filter (is_in (reachable w s)) (from_one n)) count
     ∙ all_kept (is_in (reachable w s)) (loaded_count w) (λ n low high.
-        let name = from_one-contains (length s.shared.heap) n low (omega arith) in
-        let root = in_first (from_one (loaded_count w)) _ _ _ _ n (from_one-contains (loaded_count w) n low high) in
-        let found = lists.complete n (FromRoot n name root) in
-        found_in (reachable w s) n found.0 found.1 found.2)
+    let name = from_one-contains (length s.shared.heap) n low (omega arith) in
+    let root = in_first (from_one (loaded_count w)) _ _ _ _ n (from_one-contains (loaded_count w) n low high) in
+    let found = lists.complete n (FromRoot n name root) in
+    found_in (reachable w s) n found.0 found.1 found.2)
 
 -- ---- their rows
 

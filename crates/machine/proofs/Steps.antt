@@ -79,6 +79,12 @@ threads_next s k t event.Quiet = refl
 threads_next s k t (event.Printed z) = refl
 threads_next s k t (event.Trapped trap line) = refl
 
+-- the thread took the step that the source's thread takes, whatever state it stands for
+abbrev pub AdvancesAlways : Lowered → Classes → Space → (addresses : List ℕ) → Thread → Thread → Event → Type 0
+AdvancesAlways p classes space addresses t after e =
+    (lent : Lent) (k : ℕ) (shared : Shared) (s : source.Thread) → shared.monitors ≡ [] → BlocksAgree space shared.heap space.blocks → IsTable space addresses (length addresses) → ThreadAgrees p classes space (length addresses) shared t s
+    → Advances p classes space (length addresses) lent k shared s after e
+
 -- ---- thread k of the state that the journal leads to, which is the machine's at i
 
 module _ (p : Lowered) (scene : Scene) (space : Space) (addresses : List ℕ) (ts : List Thread) (printed : List Printed) (stop : Option Stop) (journal : List Entry) (c : Corresponds p scene space addresses ts printed stop journal) (k i : ℕ) (t : Thread) (counted : k ≡ suc i) (at : slice_get ts i ≡ Some t) where
@@ -109,8 +115,7 @@ module _ (p : Lowered) (scene : Scene) (space : Space) (addresses : List ℕ) (t
   makes_nothing s next step same = λ some. absurd (some (ap (made_between s) step ∙ ap (drop (length s.shared.heap)) same ∙ drop-length s.shared.heap))
 
   -- the machine after the step
-  pub steps_on : (after : Thread) (e : Event) → stop ≡ None → t.ending ≡ Unfinished
-      → ((lent : Lent) (k : ℕ) (shared : Shared) (s : source.Thread) → shared.monitors ≡ [] → BlocksAgree space shared.heap space.blocks → IsTable space addresses (length addresses) → ThreadAgrees p classes space (length addresses) shared t s → Advances p classes space (length addresses) lent k shared s after e)
+  pub steps_on : (after : Thread) (e : Event) → stop ≡ None → t.ending ≡ Unfinished → AdvancesAlways p classes space addresses t after e
       → Corresponds p scene space addresses (slice_set ts i after) (printed_after printed k e) (stop_after stop k e) (journal ++ entry_of k ∷ [])
   steps_on after e goes live advances =
       let f = the_thread in

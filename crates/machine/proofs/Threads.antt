@@ -1,5 +1,5 @@
 -- A thread's step is that of the source's thread.
-use Rattle.std.proofs.Common.{◌≡◌, ℕ, zero, suc, ◌+◌, ◌-◌, ◌<◌, ◌≤◌, Bool, true, false, List, [], ◌∷◌, ◌++◌, length, map, filter_map, replicate, take, Option, Some, None, refl, sym, ap, ◌∙◌, subst, arith}
+use Rattle.std.proofs.Common.{◌≡◌, ℕ, zero, suc, ◌+◌, ◌-◌, ◌<◌, ◌≤◌, Bool, true, false, List, [], ◌∷◌, ◌++◌, length, filter_map, replicate, take, Option, Some, None, refl, sym, ap, ◌∙◌, subst, arith}
 use Rattle.std.specs.Prelude.{slice_get, nat_lt, nat_le, ◌&&◌}
 use Rattle.std.specs.List.{list_all}
 use Rattle.std.specs.Option.{option_map}
@@ -8,11 +8,10 @@ use Rattle.syntax.specs.Parts.{functions_of}
 use Rattle.syntax.specs.Tree.{Function}
 use Rattle.syntax.specs.Views.{unit_tree}
 use Rattle.classes.specs.Class.{Classes}
-use Rattle.heap.specs.Heap.{Space, name_at}
+use Rattle.heap.specs.Heap.{Space}
 use Rattle.types.specs.JniFunction.{JniFunction}
 use Rattle.world.specs.CallArguments.{is_argument}
 use Rattle.world.specs.Object.{ObjectValue, Number, Refers, Reference}
-use Rattle.world.specs.Views.{argument_view}
 use Rattle.world.specs.World.{Invocation}
 use Rattle.code.specs.declared.instr.Callee.{Callee}
 use Rattle.code.specs.declared.instr.Callee.TheVariants as callee
@@ -21,7 +20,7 @@ use Rattle.regions.specs.Activation.{enter, entered, entered_function, entry_adv
 use Rattle.regions.specs.Activation as activation
 use Rattle.regions.specs.Arguments.{Actual}
 use Rattle.regions.specs.CallStep.{waits_with}
-use Rattle.regions.specs.Effect.{Effect, Calls, Returns, effect_of}
+use Rattle.regions.specs.Effect.{Calls, Returns, effect_of}
 use Rattle.regions.specs.Sight.{Sight}
 use Rattle.regions.specs.Start.{waiting_thread}
 use Rattle.regions.specs.Task.{Task, Target, tasks_of}
@@ -39,8 +38,8 @@ use Rattle.machine.specs.declared.thread.Event.TheVariants as event
 use Rattle.machine.specs.declared.thread.Thread.{Thread}
 use Rattle.machine.specs.declared.thread.CallToCome.{CallToCome}
 use Rattle.machine.specs.declared.thread.Activation.{Activation}
-use Rattle.machine.specs.Agrees.{CallAgrees, CallsAgree, CallStands, WorkAgrees, ReferencesAgree, ThreadAgrees, GoesOn, Advances, ending_view, event_view, ending_after}
-use Rattle.machine.specs.Entry.{argument_address, BeginsIn, Begins, IsReady}
+use Rattle.machine.specs.Agrees.{CallAgrees, CallsAgree, CallStands, WorkAgrees, ReferencesAgree, ThreadAgrees, GoesOn, Advances, ending_view, ending_after}
+use Rattle.machine.specs.Entry.{argument_address, Begins, IsReady}
 use Rattle.machine.specs.HeapAgrees.{ReferenceAgrees, IsTable}
 use Rattle.machine.proofs.Calls.{ready, slots_of, does_cases}
 

@@ -1,6 +1,5 @@
 -- What an instruction that calls a function of the JNI does.
 use Rattle.std.specs.Prelude.{◌≡◌, ℕ, ◌+◌, ◌<◌, ◌^◌, true, false, List, length, slice_get, slice_set, Option, Some, None, Result, Ok, Err}
-use Rattle.std.specs.Option.{option_map_or}
 use Rattle.classes.specs.Class.{Classes, class_kind, is_plain}
 use Rattle.code.specs.declared.instr.Call.{Call}
 use Rattle.code.specs.declared.instr.Callee.{Callee}

@@ -43,12 +43,9 @@ pub fn begin(
 }
 
 /// So many number slots, of which the first hold the numbers that the call is given.
-fn number_slots(
-    alloc: Global,
-    arguments: &[Argument],
-    count: usize,
-) -> Result<Vec<u32>, AllocError>
-    requires { length (filter_map argument_word (map argument_view arguments.now)) ≤ count }
+fn number_slots(alloc: Global, arguments: &[Argument], count: usize) -> Result<Vec<u32>, AllocError>
+    requires given { (made : ℕ) × IsTrue (list_all (is_argument made) (map argument_view arguments.now)) }
+    requires room { length (filter_map argument_word (map argument_view arguments.now)) ≤ count }
     ensures { IfOk result (λ v. IsNumbersOf count (map argument_view arguments.now) v.items) }
 {
     let mut slots = Vec::new(alloc);

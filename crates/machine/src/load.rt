@@ -122,11 +122,15 @@ fn native_class_number(
 fn fit(parameters: &[Parameter], arguments: &[Argument]) -> bool
     ensures { result ≡ fit_parameters (map parameter_tree parameters.now) (map argument_view arguments.now) }
 {
-    parameters.len() == arguments.len()
-        && parameters
-            .iter()
-            .zip(arguments)
-            .all(|(parameter, argument)| fits(parameter.kind, *argument))
+    match parameters {
+        [] => arguments.is_empty(),
+        [parameter, parameters_left @ ..] => match arguments {
+            [] => false,
+            [argument, arguments_left @ ..] => {
+                fits(parameter.kind, *argument) && fit(parameters_left, arguments_left)
+            }
+        },
+    }
 }
 
 /// Whether an argument is of the kind of a parameter: a number for `jint`, and NULL or an object for a reference.

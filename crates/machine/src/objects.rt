@@ -66,12 +66,7 @@ fn array_class(element: Element) -> u32
 }
 
 /// Makes the next object, whose values are 0.
-fn make(
-    heap: &mut Heap,
-    loaded: &mut Vec<Addr>,
-    class: u32,
-    len: usize,
-) -> Result<Addr, AllocError>
+fn make(heap: &mut Heap, loaded: &mut Vec<Addr>, class: u32, len: usize) -> Result<Addr, AllocError>
     requires room { 3 + len ≤ left_of heap.old }
     requires few { length loaded.old.items < MOST_CELLS }
     ensures address { IfOk result (λ addr. addr ≡ end_of heap.old) }

@@ -31,6 +31,7 @@ fn program(alloc: Global) -> Result<Checked, Fail> {
         result: ResultType::Void,
         name: Name::new(alloc, b"Java_A_f")?,
         class_name: Name::new(alloc, b"cls")?,
+        parameters: Vec::new(alloc),
         body: Block {
             statements: vec![in alloc; put, back]?,
             end_line: 4,

@@ -1,20 +1,23 @@
-use Rattle.std.proofs.Common.{◌≡◌, length, refl, sym, ap, ◌∙◌, arith}
+use Rattle.std.proofs.Common.{◌≡◌, ℕ, subst, length, refl, sym, ap, ◌∙◌, arith}
 use Rattle.syntax.specs.Views.{unit_tree}
 use Rattle.world.specs.SceneWorld.{world_of_scene}
 use Rattle.regions.specs.Start.{start}
+use Rattle.machine.specs.Agrees.{ThreadsAgree}
 use Rattle.machine.proofs.ThreadLoads.{agree_length, waiting_length, items_length}
 use Rattle.machine.proofs.machine.Machine.load.Goals as goal
 
 pub invariant_of-result : goal.invariant_of-result
 invariant_of-result c =
     let w = world_of_scene c.args.world in
-    let count : length c.in-Ok.threads.items ≡ length c.args.world.threads = agree_length _ _ _ _ c.in-Ok.ensures.agree ∙ waiting_length c.args.world.threads in
+    let s = start (unit_tree c.args.program.unit) w in
+    let agree = subst (λ (n : ℕ). ThreadsAgree c.args.program w.classes c.in_ok-heap.heap n s.shared c.in-Ok.threads.items s.threads) (sym c.in_ok-heap.ensures.made.table.counted) (c.in-Ok.ensures.agree c.in_ok-heap.heap s.shared) in
+    let count : length c.in-Ok.threads.items ≡ length c.args.world.threads = agree_length _ _ _ _ _ _ _ agree ∙ waiting_length c.args.world.threads in
     let long : length c.args.world.threads ≡ length c.threads.result.now = sym (ap length c.threads.ensures.calls) ∙ items_length c.threads.result.now in
     record {
       lowered = c.items.ensures.lowered;
-      state = start (unit_tree c.args.program.unit) w;
+      state = s;
       replays = rw c.new-in-Ok.ensures.items refl;
-      threads_agree = c.in-Ok.ensures.agree;
+      threads_agree = agree;
       same_printed = sym c.new.ensures.items;
       same_stop = refl;
       heap = refl;

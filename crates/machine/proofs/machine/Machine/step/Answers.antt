@@ -9,7 +9,9 @@ use Rattle.machine.specs.contracts.thread.Ending.{the_type}
 use Rattle.machine.specs.declared.stop.Stop.{Stop}
 use Rattle.machine.specs.declared.thread.Thread.{Thread}
 use Rattle.machine.specs.Run.{Run, replay_of, entry_of, printed_after, can_turn, stepped}
-use Rattle.machine.proofs.Steps.{the_thread, can_turn_here, has_ended, steps_on}
+use Rattle.world.specs.SceneWorld.{world_of_scene}
+use Rattle.machine.specs.Agrees.{ThreadAgrees}
+use Rattle.machine.proofs.Steps.{AdvancesAlways, the_thread, can_turn_here, has_ended, steps_on}
 use Rattle.machine.proofs.machine.Machine.step.Goals as goal
 
 -- the machine hasn't stopped
@@ -66,13 +68,14 @@ returns-then-len-ge-MOST_ENTRIES-clause-turn c =
 same_thread : (ts : List Thread) (i : ℕ) (a b : Thread) → slice_get ts i ≡ Some a → slice_get ts i ≡ Some b → a.ending ≡ Unfinished → b.ending ≡ Unfinished
 same_thread ts i a b e f live = let same : a ≡ b = cc in ap (λ (t : Thread). t.ending) (sym same) ∙ live
 
-pub advance-event-requires-clause-agrees : goal.advance-event-requires-clause-agrees
-advance-event-requires-clause-agrees c =
+pub advance-requires-clause-agrees : goal.advance-requires-clause-agrees
+advance-requires-clause-agrees c =
     let count = threads_of _ _ _ c.self.invariant.count c.self.view_is in
     let seen = thread_there c.self.inside.threads.items c.args.k c.from-index.result _ c.index.result.now c.from-index.ensures c.requires.counted c.requires.is_thread count c.index.ensures in
     let at = thread_there c.self.inside.threads.items c.args.k c.from-index.result _ c.index_mut.result.now c.from-index.ensures c.requires.counted c.requires.is_thread count c.index_mut.ensures.value in
     let f = the_thread _ _ _ _ _ _ _ _ c.self.invariant c.args.k (c.from-index.result - 1) c.index_mut.result.now (counted c.args.k c.from-index.result c.from-index.ensures c.requires.counted) at in
-    (_, f.source, f.agrees, same_thread c.self.inside.threads.items (c.from-index.result - 1) _ _ seen at (is_live _ c.if-eq.ensures))
+    let agrees = subst (λ (l : List ℕ). ThreadAgrees c.self.inside.program (world_of_scene c.self.inside.world).classes c.self.inside.heap (length l) c.self.invariant.state.shared c.index_mut.result.now f.source) (sym c.deref.ensures.value) f.agrees in
+    (c.self.invariant.state.shared, f.source, agrees, same_thread c.self.inside.threads.items (c.from-index.result - 1) _ _ seen at (is_live _ c.if-eq.ensures))
 
 -- the journal has one more entry
 one_more : (c : goal.After-unwrap) → c.push.new.self.items ≡ c.self.inside.journal.items ++ entry_of c.args.k ∷ []
@@ -83,8 +86,9 @@ invariant_of-self-2 c =
     let count = threads_of _ _ _ c.self.invariant.count c.self.view_is in
     let seen = thread_there c.self.inside.threads.items c.args.k c.from-index.result _ c.index.result.now c.from-index.ensures c.requires.counted c.requires.is_thread count c.index.ensures in
     let at = thread_there c.self.inside.threads.items c.args.k c.from-index.result _ c.index_mut.result.now c.from-index.ensures c.requires.counted c.requires.is_thread count c.index_mut.ensures.value in
-    let s = steps_on _ _ _ _ _ _ _ _ c.self.invariant c.args.k (c.from-index.result - 1) c.index_mut.result.now (counted c.args.k c.from-index.result c.from-index.ensures c.requires.counted) at c.advance-event.new.thread c.advance-event.result (goes_on c.self.inside.stop (sym c.is_some.ensures ∙ c.if-is_some.false)) (same_thread c.self.inside.threads.items (c.from-index.result - 1) _ _ seen at (is_live _ c.if-eq.ensures)) c.advance-event.ensures in
-    let printed : c.note.new.printed.items ≡ printed_after c.self.inside.printed.items c.args.k c.advance-event.result = c.note.ensures.printed ∙ ap (λ l. printed_after l c.args.k c.advance-event.result) c.reserve-2.ensures.items in
+    let advances = subst (λ (l : List ℕ). AdvancesAlways c.self.inside.program (world_of_scene c.self.inside.world).classes c.self.inside.heap l c.index_mut.result.now c.advance.new.thread c.in_ok-event.event) c.deref.ensures.value c.in_ok-event.ensures.advances in
+    let s = steps_on _ _ _ _ _ _ _ _ c.self.invariant c.args.k (c.from-index.result - 1) c.index_mut.result.now (counted c.args.k c.from-index.result c.from-index.ensures c.requires.counted) at c.advance.new.thread c.in_ok-event.event (goes_on c.self.inside.stop (sym c.is_some.ensures ∙ c.if-is_some.false)) (same_thread c.self.inside.threads.items (c.from-index.result - 1) _ _ seen at (is_live _ c.if-eq.ensures)) advances in
+    let printed : c.note.new.printed.items ≡ printed_after c.self.inside.printed.items c.args.k c.in_ok-event.event = c.note.ensures.printed ∙ ap (λ l. printed_after l c.args.k c.in_ok-event.event) c.reserve-2.ensures.items in
     rw (printed, c.note.ensures.stop, one_more c) s
 
 pub returns-clause-turn : goal.returns-clause-turn
