@@ -7,8 +7,8 @@ use std::alloc::{AllocError, Global};
 use std::process::Abort;
 use std::test::Fail;
 use syntax::{
-    Argument, Block, Call, Expr, Form, Function, Item, Name, Parameter, ParameterType,
-    ReferenceType, ResultType, RightSide, Stmt, Unit, VariableType,
+    Argument, BinaryOp, Block, Call, Expr, Form, Function, Item, Name, Parameter, ParameterType,
+    PrefixOp, ReferenceType, ResultType, RightSide, Stmt, Unit, VariableType,
 };
 use types::type_unit;
 use world::{Entry, StdSink, read_world};
@@ -103,15 +103,63 @@ fn length_unit(alloc: Global) -> Result<Unit, AllocError> {
     Ok(Unit::new(vec![in alloc; Item::Function(function)]?))
 }
 
-/// Replays so many entries of that function's thread in a world.
+/// A function with a parameter `jint a` and these statements from line 2 on:
+/// `jint n = (jint)((uint32_t)a + 1u);`, `put_jint(n);` and `return;`.
+fn successor_unit(alloc: Global) -> Result<Unit, AllocError> {
+    let word = Expr::Prefix(
+        PrefixOp::ToWord,
+        Box::new(alloc, Expr::Variable(Name::new(alloc, b"a")?))?,
+    );
+    let one = Expr::Number {
+        value: 1,
+        unsigned: true,
+    };
+    let sum = Expr::Binary(BinaryOp::Add, Box::new(alloc, word)?, Box::new(alloc, one)?);
+    let inside = Expr::Paren(Box::new(alloc, sum)?);
+    let declare = Stmt {
+        line: 2,
+        form: Form::Declare(
+            VariableType::Jint,
+            Name::new(alloc, b"n")?,
+            RightSide::Expr(Expr::Prefix(PrefixOp::ToInt, Box::new(alloc, inside)?)),
+        ),
+    };
+    let put = Stmt {
+        line: 3,
+        form: Form::PutJint(Expr::Variable(Name::new(alloc, b"n")?)),
+    };
+    let back = Stmt {
+        line: 4,
+        form: Form::Return(None),
+    };
+    let parameter = Parameter {
+        kind: ParameterType::Jint,
+        name: Name::new(alloc, b"a")?,
+    };
+    let function = Function {
+        line: 1,
+        result: ResultType::Void,
+        name: Name::new(alloc, b"Java_A_f")?,
+        class_name: Name::new(alloc, b"cls")?,
+        parameters: vec![in alloc; parameter]?,
+        body: Block {
+            statements: vec![in alloc; declare, put, back]?,
+            end_line: 5,
+        },
+    };
+    Ok(Unit::new(vec![in alloc; Item::Function(function)]?))
+}
+
+/// Replays so many entries of a unit's one thread in a world.
 fn replayed(
     rt: &impl Abort,
     alloc: Global,
+    unit: Unit,
     world: &[u8],
     entries: usize,
     text: &[u8],
 ) -> Result<(), Fail> {
-    let checked = check(type_unit(alloc, length_unit(alloc)?)?)?;
+    let checked = check(type_unit(alloc, unit)?)?;
     let world = read_world(alloc, world)?;
     let mut journal = Vec::new(alloc);
     for _ in 0..entries {
@@ -138,21 +186,33 @@ fn replayed(
 fn the_length_of_an_array(rt: HostRuntime) -> Result<(), Fail> {
     let world = b"heap 512\nclass A\narray @a I 7 8 9\nthread Java_A_f @a\n";
     let text = b"T1 3\nT1 ended\n#46 [I 7 8 9\njournal 1 1 1 1 1\n";
-    replayed(&rt, rt.alloc(), world, 5, text)
+    let alloc = rt.alloc();
+    replayed(&rt, alloc, length_unit(alloc)?, world, 5, text)
 }
 
 #[test]
 fn the_length_of_null(rt: HostRuntime) -> Result<(), Fail> {
     let world = b"heap 512\nclass A\narray @a I 7 8 9\nthread Java_A_f null\n";
     let text = b"T1 trap 4 line 2\n#46 [I 7 8 9\njournal 1 1\n";
-    replayed(&rt, rt.alloc(), world, 2, text)
+    let alloc = rt.alloc();
+    replayed(&rt, alloc, length_unit(alloc)?, world, 2, text)
 }
 
 #[test]
 fn the_length_of_a_class(rt: HostRuntime) -> Result<(), Fail> {
     let world = b"heap 512\nclass A\narray @a I 7 8 9\nthread Java_A_f class:A\n";
     let text = b"T1 trap 6 line 2\n#46 [I 7 8 9\njournal 1 1\n";
-    replayed(&rt, rt.alloc(), world, 2, text)
+    let alloc = rt.alloc();
+    replayed(&rt, alloc, length_unit(alloc)?, world, 2, text)
+}
+
+#[test]
+fn a_number_that_is_given(rt: HostRuntime) -> Result<(), Fail> {
+    let alloc = rt.alloc();
+    let world = b"heap 512\nclass A\nthread Java_A_f 2147483647\n";
+    // The entry, five steps to the value, one to set it, two to print it, the return.
+    let text = b"T1 -2147483648\nT1 ended\njournal 1 1 1 1 1 1 1 1 1 1\n";
+    replayed(&rt, alloc, successor_unit(alloc)?, world, 10, text)
 }
 
 #[test]

@@ -11,12 +11,12 @@ use Rattle.replay.proofs.rows.put_rows.Goals as goal
 
 pub overflow_add-name : goal.overflow_add-name
 overflow_add-name g c =
-    let low = name_low c.args.world.now c.objects-objects.result.now c.heap-cells.result c.loop-array.name c.loop-array.array-index c.objects-objects.ensures.fits c.objects-objects.ensures.objects c.heap-cells.ensures c.heap-cells.type_inv c.loop-array.invariant.named c.loop-array-test.true in
+    let low = name_low c.args.world.now c.objects-objects.result.now c.heap-cells.result c.loop-array.name c.loop-array.array-index c.objects-objects.ensures.fits c.objects-objects.ensures.objects c.heap-cells.ensures.cells c.heap-cells.type_inv c.loop-array.invariant.named c.loop-array-test.true in
     omega (arith, low)
 
 pub overflow_cast-name : goal.overflow_cast-name
 overflow_cast-name g c =
-    let low = name_low c.args.world.now c.objects-objects.result.now c.heap-cells.result c.loop-array.name c.loop-array.array-index c.objects-objects.ensures.fits c.objects-objects.ensures.objects c.heap-cells.ensures c.heap-cells.type_inv c.loop-array.invariant.named c.loop-array-test.true in
+    let low = name_low c.args.world.now c.objects-objects.result.now c.heap-cells.result c.loop-array.name c.loop-array.array-index c.objects-objects.ensures.fits c.objects-objects.ensures.objects c.heap-cells.ensures.cells c.heap-cells.type_inv c.loop-array.invariant.named c.loop-array-test.true in
     omega (arith, low)
 
 pub returns-in_err-put_row : goal.returns-in_err-put_row
