@@ -1,4 +1,5 @@
 mod Refusals
+mod CheckLemmas
 mod SayLemmas
 mod FileLemmas
 mod RunLemmas

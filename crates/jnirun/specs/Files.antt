@@ -7,6 +7,12 @@ pub record AreGiven (gives : List ℕ → List ℕ → Type 0) (program_name wor
   pub world_given : gives world_name world
   pub order_given : gives order_name order
 
+-- what is said of a text, of the file of this name
+pub record OfFile (gives : List ℕ → List ℕ → Type 0) (name : List ℕ) (Holds : (text : List ℕ) → Type 0) : Type 0 where
+  pub text : List ℕ
+  pub given : gives name text
+  pub holds : Holds text
+
 -- what is said of three texts, of the files of these names
 pub record OfFiles (gives : List ℕ → List ℕ → Type 0) (program_name world_name order_name : List ℕ) (Holds : (program world order : List ℕ) → Type 0) : Type 0 where
   pub program : List ℕ

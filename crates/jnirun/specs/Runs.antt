@@ -24,19 +24,19 @@ pub record IsRun (program world schedule text : List ℕ) : Type 0 where
   pub follows : JournalFollows meaning.unit (world_of_scene meaning.scene) journal meaning.words
   pub has_room : JournalHasRoom meaning.unit (world_of_scene meaning.scene) journal
 
--- some text that a run or a replay writes was appended
+-- some text that a command writes was appended
 pub record AppendsRun (old new : Written) (Writes : List ℕ → Type 0) : Type 0 where
   pub text : List ℕ
   pub runs : Writes text
   pub appended : AppendsText old new text
 
--- a write failed within some text that a run or a replay writes
+-- a write failed within some text that a command writes
 pub record StopsRun (old new : Written) (Writes : List ℕ → Type 0) : Type 0 where
   pub text : List ℕ
   pub runs : Writes text
   pub stopped : StopsWithin old new text
 
--- What a call that runs or replays did to the sink, by its answer: nothing is written for any fault but the writer's, and
+-- What a command did to the sink, by its answer: nothing is written for any fault but the writer's, and
 -- the number and the place of a fault are those that the texts earn.
 abbrev pub RunsTexts : Written → Written → Result Unit RunError → (Writes : List ℕ → Type 0) → (Refused : ℕ → Place → Type 0) → Type 0
 RunsTexts old new (Ok _) Writes Refused = AppendsRun old new Writes

@@ -3,10 +3,11 @@ use Rattle.std.specs.Prelude.{◌≡◌, ◌⊎◌, ℕ, Bool, ◌||◌, List, �
 use Rattle.std.specs.List.{list_any}
 use Rattle.world.specs.Sink.{Written, AppendsText, StopsWithin}
 use Rattle.jnirun.specs.declared.command.Command.{Command}
-use Rattle.jnirun.specs.declared.command.Command.TheVariants.{Run, Replay}
+use Rattle.jnirun.specs.declared.command.Command.TheVariants.{Check, Run, Replay}
 use Rattle.jnirun.specs.declared.fault.Place.{Place}
 use Rattle.jnirun.specs.declared.fault.Place.TheVariants.{Line, Entry}
-use Rattle.jnirun.specs.Files.{OfFiles}
+use Rattle.jnirun.specs.Checks.{PassesCheck, FailsCheck}
+use Rattle.jnirun.specs.Files.{OfFile, OfFiles}
 use Rattle.jnirun.specs.Texts.{AreRefused}
 use Rattle.jnirun.specs.Runs.{IsRun}
 use Rattle.jnirun.specs.Replays.{IsReplay, AreRefusedReplays}
@@ -18,13 +19,19 @@ fault_line number (Entry entry) = codes "fault " ++ decimal number ++ codes " en
 
 -- ---- files
 
--- what the command writes: the report and the journal of a run, or of a replay, of its files
+-- what a check of a program writes
+abbrev pub passed : List ℕ
+passed = codes "ok\n"
+
+-- what the command writes of its files: `ok` for a program that passes a check, or the report and the journal of a run or of a replay
 abbrev pub CommandWrites : (gives : List ℕ → List ℕ → Type 0) → Command → (text : List ℕ) → Type 0
+CommandWrites gives (Check program) text = OfFile gives program.now PassesCheck × (text ≡ passed)
 CommandWrites gives (Run program world schedule) text = OfFiles gives program.now world.now schedule.now (λ p w s. IsRun p w s text)
 CommandWrites gives (Replay program world journal) text = OfFiles gives program.now world.now journal.now (λ p w j. IsReplay p w j text)
 
 -- its files earn the number and the place of a fault
 abbrev pub CommandEarns : (gives : List ℕ → List ℕ → Type 0) → Command → (number : ℕ) → Place → Type 0
+CommandEarns gives (Check program) number place = OfFile gives program.now (λ p. FailsCheck p number place)
 CommandEarns gives (Run program world schedule) number place = OfFiles gives program.now world.now schedule.now (λ p w s. AreRefused p w s number place)
 CommandEarns gives (Replay program world journal) number place = OfFiles gives program.now world.now journal.now (λ p w j. AreRefusedReplays p w j number place)
 

@@ -7,6 +7,8 @@ use std::convert::AsStr;
 /// What the words ask for, with the names of the files.
 #[derive(Clone, Copy, Debug)]
 pub enum Command<'a> {
+    /// A program is checked.
+    Check { program: &'a str },
     /// A program runs in a world by a schedule.
     Run {
         program: &'a str,
@@ -27,6 +29,14 @@ fn word<'a>(alloc: Global, name: &'a str, help: &'a str) -> Arg<'a> {
         .required(true)
         .action(ArgAction::Set)
         .help(help)
+}
+
+/// `check PROG`.
+fn check_command<'a>(alloc: Global) -> Result<clap::Command<'a>, Error> {
+    let command = clap::Command::new(alloc, "check")
+        .about("Checks a program, and prints ok or its first fault")
+        .arg(word(alloc, "PROG", "The text of the native methods"))?;
+    Ok(command)
 }
 
 /// `run PROG WORLD --schedule FILE`.
@@ -65,6 +75,13 @@ fn replay_command<'a>(alloc: Global) -> Result<clap::Command<'a>, Error> {
     Ok(command)
 }
 
+/// The file of a check.
+fn check_of<'a>(given: &ArgMatches<'a>) -> Option<Command<'a>> {
+    Some(Command::Check {
+        program: given.get_str("PROG")?,
+    })
+}
+
 /// The files of a run, where the words say how to schedule.
 fn run_of<'a>(given: &ArgMatches<'a>) -> Option<Command<'a>> {
     Some(Command::Run {
@@ -90,10 +107,12 @@ pub fn parse<'a, S: AsStr>(alloc: Global, words: &'a [S]) -> Result<Option<Comma
         .version("0.1.0")
         .about("Runs Java native methods on a heap whose objects move")
         .subcommand_required(true)
+        .subcommand(check_command(alloc)?)?
         .subcommand(run_command(alloc)?)?
         .subcommand(replay_command(alloc)?)?;
     let matches = command.try_get_matches_from(words)?;
     let command = match matches.subcommand() {
+        Some(("check", given)) => check_of(given),
         Some(("run", given)) => run_of(given),
         Some(("replay", given)) => replay_of(given),
         _ => None,

@@ -1,7 +1,8 @@
-//! Runs native methods over a heap: `jnirun run PROG WORLD --schedule FILE`, and replays their journals:
-//! `jnirun replay PROG WORLD JOURNAL`.
+//! Checks native methods, `jnirun check PROG`, runs them over a heap, `jnirun run PROG WORLD --schedule FILE`, and
+//! replays their journals, `jnirun replay PROG WORLD JOURNAL`.
 #![tactic(auto)]
 
+mod checking;
 mod command;
 mod fault;
 mod files;

@@ -13,7 +13,7 @@ use machine::{LoadFault, Machine, RunFault};
 use std::alloc::Global;
 use world::{ReadError, Sink, read_schedule, read_world};
 
-fn of_lower(fault: LowerFault) -> RunError
+pub(crate) fn of_lower(fault: LowerFault) -> RunError
     ensures { result ≡ of_lower fault }
 {
     match fault {

@@ -2,9 +2,12 @@
 
 ghost use Rattle.std.specs.Prelude.{◌≡◌, ◌≢◌, ◌≤◌, ◌⊎◌, ◌++◌, IsTrue, codes, decimal};
 ghost use Rattle.world.specs.Sink.{CanFail, Writes};
+ghost use Rattle.jnirun.specs.Checks.{PassesCheck, FailsCheck};
+ghost use Rattle.jnirun.specs.Files.{OfFile};
 ghost use Rattle.jnirun.specs.Runs.{RunsTexts, AppendsRun};
-ghost use Rattle.jnirun.specs.Serve.{CommandWrites, CommandEarns, SomeCommandWrites, SomeCommandEarns, SaysFault, IsFailure, SaysFailure, fault_line, is_help_word, asks_for_help};
+ghost use Rattle.jnirun.specs.Serve.{CommandWrites, CommandEarns, passed, SomeCommandWrites, SomeCommandEarns, SaysFault, IsFailure, SaysFailure, fault_line, is_help_word, asks_for_help};
 
+use crate::checking::check_text;
 use crate::command::{Command, parse};
 use crate::fault::{Place, RunError};
 use crate::files::{Files, read_texts};
@@ -26,7 +29,29 @@ pub const COMMAND_LINE: u8 = 2;
 /// Memory, a file or a writer failed.
 pub const FAILED: u8 = 3;
 
-/// Reads the files of a command, and runs or replays.
+/// Reads the file of a program, checks it, and says `ok` where it passes.
+fn check_file<F: Files, W: Sink>(
+    alloc: Global,
+    program: &str,
+    files: &mut F,
+    out: &mut W,
+) -> Result<(), RunError>
+    requires { CanFail (W.written out.old) }
+    ensures { RunsTexts (W.written out.old) (W.written out.new) result
+        (λ text. OfFile (F.gives files.old) program.now PassesCheck × (text ≡ passed)) (λ number place. OfFile (F.gives files.old) program.now (λ p. FailsCheck p number place)) }
+{
+    let text = files.read(alloc, program)?;
+    match check_text(alloc, &text) {
+        Ok(()) => {}
+        Err(error) => return Err(error),
+    }
+    match say(out, b"ok\n") {
+        Ok(()) => Ok(()),
+        Err(_) => Err(RunError::Writer),
+    }
+}
+
+/// Reads the files of a command, and checks, runs or replays.
 fn run_files<F: Files, W: Sink>(
     alloc: Global,
     command: Command<'_>,
@@ -38,6 +63,7 @@ fn run_files<F: Files, W: Sink>(
         (CommandWrites (F.gives files.old) command.entry) (CommandEarns (F.gives files.old) command.entry) }
 {
     match command {
+        Command::Check { program } => check_file(alloc, program, files, out),
         Command::Run {
             program,
             world,
@@ -119,7 +145,7 @@ fn fail<E: Sink>(err: &mut E, word: &[u8]) -> u8
     FAILED
 }
 
-/// Runs or replays, and says how it went.
+/// Checks, runs or replays, and says how it went.
 fn run_command<F: Files, O: Sink, E: Sink>(
     alloc: Global,
     command: Command<'_>,
@@ -205,8 +231,8 @@ pub fn serve<S: AsStr, F: Files, O: Sink, E: Sink>(
     requires out { CanFail (O.written out.old) }
     requires err { CanFail (E.written err.old) }
     ensures status { result ≤ 3 }
-    // What is written is the report and the journal of a run or a replay, of files that were read, or the help that was
-    // asked for.
+    // What is written is `ok` for a program that passes, or the report and the journal of a run or a replay, of files that
+    // were read, or the help that was asked for.
     ensures done { result ≡ 0 → AppendsRun (O.written out.old) (O.written out.new) (SomeCommandWrites (F.gives files.old))
         ⊎ IsTrue (asks_for_help S.text words.now) }
     ensures refused { result ≡ 1 → SaysFault (O.written out.old) (O.written out.new) (SomeCommandEarns (F.gives files.old)) }

@@ -2,7 +2,7 @@
 
 use crate::files::{FileFault, Files};
 use crate::serve::serve;
-use std::alloc::Global;
+use std::alloc::{AllocError, Global};
 use std::io;
 use std::io::{ErrorKind, Write};
 use std::test::Fail;
@@ -60,6 +60,8 @@ impl Write for Narrow {
 }
 
 const WORLD: &[u8] = b"heap 512\nclass A\nthread Java_A_f\n";
+
+const CHECK: [&str; 3] = ["jnirun", "check", "p"];
 
 const RUN: [&str; 6] = ["jnirun", "run", "p", "w", "--schedule", "o"];
 
@@ -191,6 +193,11 @@ fn done(
     (status, out)
 }
 
+/// The status and the output of a check.
+fn checked(rt: &impl AllocGlobal, program: &[u8]) -> (u8, Vec<u8>) {
+    done(rt, CHECK.as_slice(), program, b"", b"")
+}
+
 /// The status and the output of a run.
 fn run(rt: &impl AllocGlobal, program: &[u8], world: &[u8], schedule: &[u8]) -> (u8, Vec<u8>) {
     done(rt, RUN.as_slice(), program, world, schedule)
@@ -211,6 +218,9 @@ fn journal_of(out: &[u8]) -> &[u8] {
 #[test]
 fn worked_examples_run_and_replay(rt: HostRuntime) {
     for worked in &WORKED {
+        let (status, out) = checked(&rt, worked.program);
+        assert_eq!(rt; status, 0);
+        assert_eq!(rt; out.as_slice(), b"ok\n".as_slice());
         let (status, out) = run(&rt, worked.program, worked.world, worked.schedule);
         assert_eq!(rt; status, 0);
         assert_eq!(rt; out.as_slice(), worked.written);
@@ -219,6 +229,42 @@ fn worked_examples_run_and_replay(rt: HostRuntime) {
         assert_eq!(rt; status, 0);
         assert_eq!(rt; again.as_slice(), worked.written);
     }
+}
+
+#[test]
+fn beginnings_are_checked(rt: HostRuntime) {
+    for text in [FIRST, LENGTH, PRODUCT] {
+        for end in 0..text.len() {
+            let (status, out) = checked(&rt, &text[..end]);
+            if status == 0 {
+                assert_eq!(rt; out.as_slice(), b"ok\n".as_slice());
+            } else {
+                assert_eq!(rt; status, 1);
+                assert!(rt; out.starts_with(b"fault "));
+            }
+        }
+    }
+}
+
+/// A function of so many statements and a return.
+fn long_function(rt: &impl AllocGlobal, statements: usize) -> Result<Vec<u8>, AllocError> {
+    let mut text = Vec::new(rt.alloc());
+    text.extend_from_slice(b"JNIEXPORT void JNICALL Java_A_f(JNIEnv *env, jclass cls) {\n")?;
+    for _statement in 0..statements {
+        text.extend_from_slice(b"put_jint(1);\n")?;
+    }
+    text.extend_from_slice(b"return; }\n")?;
+    Ok(text)
+}
+
+// A statement is two instructions, and the return is one.
+#[test]
+fn long_functions(rt: HostRuntime) -> Result<(), Fail> {
+    let longest = long_function(&rt, 32_767)?;
+    assert_eq!(rt; checked(&rt, &longest).1.as_slice(), b"ok\n".as_slice());
+    let long = long_function(&rt, 32_768)?;
+    assert_eq!(rt; checked(&rt, &long).1.as_slice(), b"fault 51 line 0\n".as_slice());
+    Ok(())
 }
 
 #[test]
@@ -343,6 +389,11 @@ fn status_of(rt: &impl AllocGlobal, line: &str) -> Option<u8> {
 #[test]
 fn words(rt: HostRuntime) {
     let cases = [
+        ("jnirun check p", 0),
+        ("jnirun check w", 1),
+        ("jnirun check x", 3),
+        ("jnirun check p w", 2),
+        ("jnirun check", 2),
         ("jnirun run p w --schedule o", 0),
         ("jnirun run w p --schedule o", 1),
         ("jnirun run --schedule=o p w", 0),

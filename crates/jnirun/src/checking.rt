@@ -1,0 +1,29 @@
+//! A check of a program text.
+
+ghost use Rattle.std.specs.Prelude.{◌≡◌};
+ghost use Rattle.jnirun.specs.Checks.{PassesCheck, ChecksText, IsCheckedOrFails};
+
+use crate::fault::RunError;
+use crate::program::program;
+use crate::run::of_lower;
+use lower::lower;
+use std::alloc::Global;
+
+/// Whether a text is that of an accepted program, which runs in each world that it fits.
+///
+/// The text is scanned, parsed, checked for sorts and regions, and lowered, in this order; a fault is the first that is
+/// found, with its line, or 51 at line 0. The time is linear in the text but for the names of a function.
+pub fn check_text(alloc: Global, program_text: &[u8]) -> Result<(), RunError>
+    ensures check { ChecksText program_text.now result }
+    // The text of an accepted program is refused for memory or for length alone.
+    ensures accepted { PassesCheck program_text.now → IsCheckedOrFails result }
+{
+    let checked = match program(alloc, program_text) {
+        Ok(checked) => checked,
+        Err(error) => return Err(error),
+    };
+    match lower(alloc, &checked) {
+        Ok(_lowered) => Ok(()),
+        Err(fault) => Err(of_lower(fault)),
+    }
+}
