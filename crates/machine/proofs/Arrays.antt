@@ -1,11 +1,11 @@
 -- An array that is filled number by number.
-use Rattle.std.proofs.Common.{◌≡◌, ℕ, ℤ, zero, suc, ◌+◌, ◌-◌, ◌*◌, ◌<◌, ◌≤◌, List, [], ◌∷◌, ◌++◌, length, map, take, replicate, Option, Some, None, refl, sym, ap, ◌∙◌, subst, arith, append_assoc, length-append, FitsSigned}
+use Rattle.std.proofs.Common.{◌≡◌, ℕ, ℤ, zero, suc, ◌+◌, ◌*◌, ◌<◌, ◌≤◌, List, [], ◌∷◌, ◌++◌, length, map, take, replicate, Some, refl, sym, ap, ◌∙◌, subst, arith, append_assoc, FitsSigned}
 use Rattle.std.specs.Prelude.{slice_get, slice_set}
 use Rattle.std.specs.Int.{w32, cast_unsigned}
-use Rattle.std.proofs.lemmas.List.{length-map, length-replicate, append-nil}
+use Rattle.std.proofs.lemmas.List.{length-map}
 use Rattle.std.proofs.lemmas.List.Sums.{sum_by-append, sum_by-cons}
 use Rattle.heap.specs.Heap.{Block, Space, IsLaidOut, end_of, left_of, values_at, fresh_block, with_block, with_value}
-use Rattle.world.specs.Object.{Object, ObjectValue, Number, size, sizes}
+use Rattle.world.specs.Object.{Object, Number, size, sizes}
 use Rattle.world.specs.Scene.{ArrayScene}
 use Rattle.world.specs.SceneWorld.{array_object}
 use Rattle.regions.specs.Heap.{Heap}

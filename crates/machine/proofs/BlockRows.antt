@@ -1,18 +1,17 @@
 -- The row of a block is that of its object.
-use Rattle.std.proofs.Common.{◌≡◌, ℕ, ℤ, zero, suc, ◌+◌, ◌-◌, ◌*◌, ◌<◌, ◌≤◌, Bool, true, false, cond, eqb, List, [], ◌∷◌, ◌++◌, length, map, Option, Some, None, refl, sym, ap, ◌∙◌, subst, arith, length-append, IsSome}
+use Rattle.std.proofs.Common.{◌≡◌, ℕ, ℤ, suc, ◌+◌, Bool, true, false, cond, eqb, List, [], ◌∷◌, ◌++◌, length, map, Option, Some, None, refl, sym, ap, ◌∙◌, subst, arith, IsSome}
 use Rattle.std.specs.Prelude.{slice_get, find}
 use Rattle.std.specs.Option.{option_map, option_map_or}
 use Rattle.std.specs.Int.{w32, cast_signed}
 use Rattle.std.proofs.Math.Facts.{to_z-of_z}
-use Rattle.std.proofs.lemmas.Option.{slice_get-map}
 use Rattle.classes.specs.Class.{Classes, class_name}
 use Rattle.heap.specs.Heap.{Block, Space, IsAddress, block_at, name_at}
-use Rattle.world.specs.Object.{Object, ObjectValue, Number, sizes}
+use Rattle.world.specs.Object.{Object, Number}
 use Rattle.world.specs.Report.{ShownValue, ShownNumber, ShownRow}
 use Rattle.world.specs.World.{World, loaded_objects}
 use Rattle.regions.specs.Heap.{Heap, object_at}
 use Rattle.regions.specs.ReportOf.{shown_value}
-use Rattle.machine.specs.HeapAgrees.{WordsAgree, BlockAgrees, BlocksAgree, HeapAgrees, AgreesAtLoad, made_before}
+use Rattle.machine.specs.HeapAgrees.{WordsAgree, BlockAgrees, BlocksAgree, HeapAgrees, made_before}
 use Rattle.machine.specs.Rows.{object_row, block_row, shown_numbers}
 use Rattle.machine.proofs.LoadedObjects.{loaded_is}
 use Rattle.machine.proofs.ShownRows.{length-before}

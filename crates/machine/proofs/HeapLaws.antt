@@ -1,6 +1,6 @@
 -- A heap that gets a further block still stands for the source's heap, which gets a further object.
-use Rattle.std.proofs.Common.{◌≡◌, ℕ, zero, suc, ◌+◌, ◌-◌, ◌<◌, ◌≤◌, Bool, true, false, cond, eqb, List, [], ◌∷◌, ◌++◌, length, map, get_or, Option, Some, None, refl, sym, ap, ◌∙◌, subst, arith, ⊎_elim, ◌⊎◌, inl, inr, length-append, Contains}
-use Rattle.std.specs.Prelude.{find, slice_get, slice_set, AllPairs, ◌≢◌, ◌==◌, if◌then◌else◌}
+use Rattle.std.proofs.Common.{◌≡◌, ℕ, zero, suc, ◌+◌, ◌<◌, ◌≤◌, Bool, true, false, cond, eqb, List, [], ◌∷◌, ◌++◌, length, get_or, Option, Some, None, refl, sym, ap, ◌∙◌, subst, arith, ⊎_elim, ◌⊎◌, inl, inr, length-append, Contains}
+use Rattle.std.specs.Prelude.{find, slice_get, AllPairs, ◌≢◌}
 use Rattle.std.specs.Option.{option_map, option_or}
 use Rattle.std.proofs.lemmas.Bool.{cases_lt}
 use Rattle.std.proofs.lemmas.Bool.Decides.{eqb_tells}
@@ -13,7 +13,7 @@ use Rattle.heap.proofs.Layouts.{from_below_end}
 use Rattle.world.specs.Object.{Object, ObjectValue, Number, Refers}
 use Rattle.regions.specs.Heap.{Heap, object_at}
 use Rattle.regions.specs.Reachable.{from_one, IsName}
-use Rattle.machine.specs.HeapAgrees.{ReferenceAgrees, WordAgrees, WordsAgree, BlockAgrees, BlocksAgree, IsNamed, HeapAgrees, IsTable}
+use Rattle.machine.specs.HeapAgrees.{ReferenceAgrees, WordAgrees, WordsAgree, BlockAgrees, BlocksAgree, HeapAgrees, IsTable}
 
 -- ---- the block at an address
 

@@ -1,17 +1,17 @@
 -- Objects that are made one behind another.
-use Rattle.std.proofs.Common.{◌≡◌, ℕ, zero, suc, ◌+◌, ◌-◌, ◌*◌, ◌<◌, ◌≤◌, Bool, true, false, cond, eqb, List, [], ◌∷◌, ◌++◌, length, map, replicate, Option, Some, None, refl, sym, ap, ◌∙◌, subst, arith, ⊎_elim, ◌⊎◌, length-append, Contains}
+use Rattle.std.proofs.Common.{◌≡◌, ℕ, suc, ◌+◌, ◌<◌, ◌≤◌, Bool, true, false, cond, eqb, List, [], ◌∷◌, ◌++◌, length, map, replicate, Option, refl, sym, ap, ◌∙◌, subst, arith, ⊎_elim, ◌⊎◌, length-append}
 use Rattle.std.specs.Prelude.{slice_set}
 use Rattle.std.specs.Option.{option_map_or}
 use Rattle.std.proofs.lemmas.Bool.Decides.{eqb_tells}
-use Rattle.std.proofs.lemmas.List.{length-replicate, map-append, replicate-append-replicate}
+use Rattle.std.proofs.lemmas.List.{map-append, replicate-append-replicate}
 use Rattle.std.proofs.lemmas.List.Sums.{sum_by-append, sum_by-cons}
 use Rattle.classes.specs.BuiltIns.{class_class, out_of_memory_error}
-use Rattle.heap.specs.Heap.{Block, Space, block_end, end_from, end_of, left_of, LieFrom, IsLaidOut, name_at, values_at, fresh_block, with_block, with_changed, with_value}
+use Rattle.heap.specs.Heap.{Block, Space, block_end, end_from, end_of, left_of, LieFrom, IsLaidOut, values_at, fresh_block, with_block, with_changed, with_value}
 use Rattle.heap.proofs.Layouts.{from_below_end, end_from-push, LieFrom-push}
-use Rattle.world.specs.Object.{Object, ObjectValue, Number, Refers, size, sizes}
+use Rattle.world.specs.Object.{Object, ObjectValue, size, sizes}
 use Rattle.regions.specs.Heap.{Heap}
-use Rattle.regions.specs.Reachable.{from_one, IsName}
-use Rattle.machine.specs.HeapAgrees.{WordsAgree, HeapAgrees, IsTable, AreMade, null_word}
+use Rattle.regions.specs.Reachable.{IsName}
+use Rattle.machine.specs.HeapAgrees.{WordsAgree, IsTable, AreMade, null_word}
 use Rattle.machine.proofs.HeapLaws.{IsNext, block_new, agrees_with_block, table_push, from_one-bounds, IsName-more}
 use Rattle.machine.proofs.LoadedObjects.{plain_class_object, error_object, made_first}
 

@@ -1,6 +1,6 @@
 -- The objects that are made at load, where no class declares a static.
-use Rattle.std.proofs.Common.{◌≡◌, ℕ, zero, suc, ◌+◌, ◌*◌, Bool, true, false, List, [], ◌∷◌, ◌++◌, length, map, fold, replicate, Some, None, refl, sym, ap, ◌∙◌, arith, append_assoc, append-nil, length-append, sum_by}
-use Rattle.std.specs.Prelude.{slice_get, ◌&&◌, ◌≤◌, IsTrue}
+use Rattle.std.proofs.Common.{◌≡◌, ℕ, zero, suc, ◌+◌, ◌*◌, Bool, true, false, List, [], ◌∷◌, ◌++◌, length, map, fold, replicate, Some, None, refl, sym, ap, ◌∙◌, arith, append_assoc, append-nil}
+use Rattle.std.specs.Prelude.{slice_get, ◌≤◌, IsTrue}
 use Rattle.std.proofs.lemmas.Bool.Decides.{nat_tests}
 use Rattle.std.specs.Option.{option_map_or}
 use Rattle.std.specs.List.{list_all, enumerate_from}

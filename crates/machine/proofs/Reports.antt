@@ -1,13 +1,10 @@
 -- The report of the state that a machine's journal leads to.
-use Rattle.std.proofs.Common.{◌≡◌, ℕ, zero, suc, ◌+◌, ◌≤◌, Bool, true, false, cond, List, [], ◌∷◌, ◌++◌, length, map, Option, Some, None, Result, refl, sym, ap, ◌∙◌, subst, arith}
-use Rattle.std.specs.Prelude.{slice_get, filter, nat_lt, ◌==◌, is_some, not, ◌||◌, ◌&&◌}
+use Rattle.std.proofs.Common.{◌≡◌, ℕ, zero, suc, ◌+◌, Bool, true, false, cond, List, [], ◌∷◌, ◌++◌, length, map, Option, Some, None, Result, refl, sym, ap, ◌∙◌, subst}
+use Rattle.std.specs.Prelude.{slice_get, ◌==◌, is_some, not, ◌||◌, ◌&&◌}
 use Rattle.std.specs.List.{list_all, enumerate_from}
 use Rattle.std.specs.Option.{option_map}
-use Rattle.std.proofs.lemmas.Bool.Decides.{nat_tests}
-use Rattle.std.proofs.lemmas.List.{length-map, length-append}
-use Rattle.std.proofs.lemmas.List.FromFn.{length-enumerate_from}
 use Rattle.syntax.specs.Views.{unit_tree}
-use Rattle.classes.specs.Class.{Class, Classes}
+use Rattle.classes.specs.Class.{Classes}
 use Rattle.world.specs.declared.journal.Entry.{Entry}
 use Rattle.world.specs.declared.report.Printed.{Printed}
 use Rattle.world.specs.declared.report.Standing.{Standing}
@@ -20,10 +17,6 @@ use Rattle.world.specs.Scene.{Scene}
 use Rattle.world.specs.SceneWorld.{world_of_scene}
 use Rattle.world.specs.Shown.{report_with}
 use Rattle.world.specs.Standing.{standing_view}
-use Rattle.classes.specs.BuiltIns.{out_of_memory_error}
-use Rattle.world.specs.World.{World, fresh_object, class_object, class_objects, loaded_objects}
-use Rattle.regions.specs.Heap.{Heap}
-use Rattle.regions.specs.Reachable.{from_one, roots, is_in, rising, grown, closed}
 use Rattle.regions.specs.ReportOf.{standing_by_ending, standing_of, shown, shown_row, report}
 use Rattle.regions.specs.Run as source_run
 use Rattle.regions.specs.State as state

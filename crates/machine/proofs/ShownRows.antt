@@ -1,7 +1,7 @@
 -- Which objects a report shows where the heap is as it was made at load.
 use Rattle.std.proofs.Common.{◌≡◌, ℕ, zero, suc, ◌+◌, ◌<◌, ◌≤◌, Bool, true, false, cond, List, [], ◌∷◌, ◌++◌, length, map, get_or, Option, Some, refl, sym, ap, ◌∙◌, subst, arith, append_assoc, length-append, Contains}
 use Rattle.std.specs.Prelude.{slice_get, filter, nat_lt, ◌==◌, ◌||◌}
-use Rattle.std.specs.List.{list_any, enumerate_from}
+use Rattle.std.specs.List.{enumerate_from}
 use Rattle.std.specs.Option.{option_map_or}
 use Rattle.std.proofs.lemmas.Bool.Decides.{nat_tests}
 use Rattle.std.proofs.lemmas.List.{length-map}
@@ -9,11 +9,11 @@ use Rattle.std.proofs.lemmas.List.Elements.{filter-append, Contains-append_left}
 use Rattle.std.proofs.lemmas.List.FromFn.{length-enumerate_from}
 use Rattle.classes.specs.BuiltIns.{out_of_memory_error}
 use Rattle.classes.specs.Class.{Class, Classes, class_name}
-use Rattle.world.specs.Object.{Object, ObjectValue}
-use Rattle.world.specs.Report.{ShownValue, ShownRow}
+use Rattle.world.specs.Object.{Object}
+use Rattle.world.specs.Report.{ShownRow}
 use Rattle.world.specs.World.{World, class_object, class_objects, fresh_object, loaded_objects}
 use Rattle.regions.specs.Heap.{Heap, object_at}
-use Rattle.regions.specs.Reachable.{from_one, is_in, reachable, roots, loaded_count, FromRoot}
+use Rattle.regions.specs.Reachable.{from_one, is_in, reachable, loaded_count, FromRoot}
 use Rattle.regions.specs.ReportOf.{shown, shown_value, shown_row}
 use Rattle.regions.specs.State.{State}
 use Rattle.regions.proofs.ReachableLemmas.{reachable_lists}

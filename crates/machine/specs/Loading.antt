@@ -1,5 +1,5 @@
 -- What loading answers.
-use Rattle.std.specs.Prelude.{◌≡◌, ℕ, ◌<◌, true, false, not, List, [], filter, length, map, Option, Some, None, slice_get}
+use Rattle.std.specs.Prelude.{◌≡◌, ℕ, ◌<◌, true, false, not, List, filter, length, map, Option, Some, None, slice_get}
 use Rattle.syntax.specs.Parts.{functions_of}
 use Rattle.syntax.specs.Tree.{Function, SourceUnit}
 use Rattle.syntax.specs.Views.{unit_tree}

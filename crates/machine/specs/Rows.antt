@@ -1,5 +1,5 @@
 -- The rows of a report, read off the blocks.
-use Rattle.std.specs.Prelude.{ℕ, ◌+◌, ℤ, List, map, length}
+use Rattle.std.specs.Prelude.{ℕ, ◌+◌, List, map, length}
 use Rattle.std.specs.List.{enumerate_from}
 use Rattle.std.specs.Option.{option_map_or}
 use Rattle.std.specs.Int.{w32, cast_signed}

@@ -1,4 +1,4 @@
-use Rattle.std.proofs.Common.{◌≡◌, ℕ, ◌≤◌, Bool, true, false, List, map, length, Some, sym, ap, ◌∙◌, subst, arith, get_or}
+use Rattle.std.proofs.Common.{◌≡◌, ℕ, ◌≤◌, Bool, List, map, length, sym, ap, ◌∙◌, subst, arith, get_or}
 use Rattle.std.specs.Option.{option_and_then}
 use Rattle.syntax.specs.declared.unit.Function.{Function}
 use Rattle.syntax.specs.declared.unit.Item.{Item}

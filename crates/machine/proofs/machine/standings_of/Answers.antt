@@ -1,5 +1,4 @@
-use Rattle.std.proofs.Common.{◌≡◌, ℕ, suc, ◌+◌, ◌<◌, List, ◌∷◌, [], ◌++◌, length, take, Some, refl, sym, ap, ◌∙◌, subst, arith, length-take}
-use Rattle.std.specs.Prelude.{slice_get}
+use Rattle.std.proofs.Common.{◌≡◌, ℕ, suc, ◌+◌, ◌<◌, List, ◌∷◌, [], ◌++◌, length, take, refl, sym, ap, ◌∙◌, arith, length-take}
 use Rattle.std.proofs.lemmas.Option.{slice_get_read}
 use Rattle.world.specs.declared.report.Standing.{Standing}
 use Rattle.machine.specs.Stops.{standing_of}

@@ -1,7 +1,4 @@
-use Rattle.std.proofs.Common.{◌≡◌, ℕ, map, take, length}
-use Rattle.std.specs.List.{enumerate_from}
-use Rattle.machine.specs.declared.thread.Thread.{Thread}
-use Rattle.machine.specs.Stops.{standing_of}
+use Rattle.std.proofs.Common.{◌≡◌, take}
 use Rattle.machine.proofs.Standings.{standings}
 use Rattle.machine.proofs.machine.standings_of.Given as goal
 

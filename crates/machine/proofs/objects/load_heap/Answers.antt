@@ -1,12 +1,11 @@
-use Rattle.std.proofs.Common.{◌≡◌, ℕ, ◌+◌, ◌*◌, ◌<◌, ◌≤◌, List, [], ◌∷◌, ◌++◌, length, refl, sym, ap, ◌∙◌, arith, replicate, subst}
+use Rattle.std.proofs.Common.{◌≡◌, ℕ, ◌+◌, [], ◌∷◌, ◌++◌, length, refl, sym, ap, ◌∙◌, arith, subst}
 use Rattle.heap.specs.Heap.{Space, end_of, fresh_block, with_block, with_value}
 use Rattle.classes.specs.BuiltIns.{out_of_memory_error}
 use Rattle.machine.specs.HeapAgrees.{AreMade, made_before, null_word}
-use Rattle.regions.specs.Heap.{Heap}
 use Rattle.std.proofs.lemmas.List.{length-replicate}
 use Rattle.world.specs.SceneWorld.{world_of_scene}
 use Rattle.machine.proofs.LoadedObjects.{plain_class_object, made_first, before_is, fits_first, sizes_plain}
-use Rattle.machine.proofs.Loaded.{none_made, class_made, error_has_value, error_made}
+use Rattle.machine.proofs.Loaded.{class_made, error_has_value, error_made}
 use Rattle.machine.proofs.objects.load_heap.Goals as goal
 
 pub make-requires-clause-room : goal.make-requires-clause-room

@@ -1,11 +1,10 @@
-use Rattle.std.proofs.Common.{◌≡◌, ℕ, ℤ, pos, suc, ◌+◌, ◌≤◌, List, [], ◌∷◌, ◌++◌, length, Some, refl, sym, ap, ◌∙◌, arith, subst, FitsSigned, get_or, Option, None, Bor}
+use Rattle.std.proofs.Common.{◌≡◌, ℕ, ℤ, suc, ◌+◌, List, length, Some, refl, sym, ap, ◌∙◌, arith, subst, FitsSigned, get_or, Option, None, Bor}
 use Rattle.std.specs.Prelude.{slice_get, IfSome}
 use Rattle.std.proofs.lemmas.Option.{slice_get_read}
 use Rattle.std.specs.Option.{option_copied}
 use Rattle.std.specs.Int.{w32, cast_unsigned}
 use Rattle.std.proofs.Math.Facts.{to_z-of_z}
-use Rattle.heap.specs.Heap.{Space, end_of, with_block, with_value, fresh_block}
-use Rattle.machine.specs.HeapAgrees.{AreMade}
+use Rattle.heap.specs.Heap.{Space, end_of, with_block, with_value}
 use Rattle.machine.proofs.Arrays.{array_block, FitSoFar, none_fit, fit_more, array_fresh, array_more, array_has_place, array_made}
 use Rattle.machine.proofs.objects.make_array.Goals as goal
 

@@ -1,4 +1,4 @@
-use Rattle.std.proofs.Common.{◌≡◌, ℕ, ◌+◌, length}
+use Rattle.std.proofs.Common.{◌≡◌, ◌+◌, length}
 use Rattle.heap.specs.Heap.{with_block}
 use Rattle.machine.proofs.Arrays.{array_block, FitSoFar}
 use Rattle.machine.proofs.objects.make_array.Given as goal

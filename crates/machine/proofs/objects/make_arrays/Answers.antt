@@ -1,15 +1,11 @@
-use Rattle.std.proofs.Common.{◌≡◌, ℕ, ℤ, suc, ◌+◌, ◌<◌, ◌≤◌, List, [], ◌∷◌, ◌++◌, length, map, take, Some, refl, sym, ap, ◌∙◌, arith, subst, append-nil}
-use Rattle.std.specs.Prelude.{slice_get}
+use Rattle.std.proofs.Common.{◌≡◌, ℕ, ℤ, suc, ◌+◌, List, [], ◌∷◌, ◌++◌, length, map, refl, sym, ap, ◌∙◌, arith, subst}
 use Rattle.std.proofs.lemmas.List.{take_all}
 use Rattle.std.proofs.lemmas.Option.{slice_get_read}
-use Rattle.heap.specs.Heap.{left_of}
-use Rattle.base.specs.Element.{ElementType}
 use Rattle.classes.specs.BuiltIns.{number_array}
 use Rattle.world.specs.Object.{Object, Number, sizes}
 use Rattle.world.specs.Scene.{ArrayScene}
 use Rattle.world.specs.SceneWorld.{world_of_scene, array_object}
 use Rattle.world.specs.World.{loaded_objects}
-use Rattle.regions.specs.Heap.{Heap}
 use Rattle.machine.specs.HeapAgrees.{AreMade, made_before}
 use Rattle.machine.proofs.Arrays.{made_so_far, so_far-more, room_for, few_for}
 use Rattle.machine.proofs.LoadedObjects.{fits_all, loaded_is}

@@ -1,8 +1,8 @@
-use Rattle.std.proofs.Common.{◌≡◌, ℕ, Option, ◌∙◌, sym, ap}
+use Rattle.std.proofs.Common.{ℕ, Option, ◌∙◌, sym, ap}
 use Rattle.std.specs.Option.{option_map_or}
 use Rattle.std.proofs.lemmas.Result.{err_from_is_err_and}
 use Rattle.classes.specs.Class.{class_name}
-use Rattle.heap.specs.Heap.{class_at, values_at}
+use Rattle.heap.specs.Heap.{values_at}
 use Rattle.world.specs.SceneWorld.{world_of_scene}
 use Rattle.machine.specs.Rows.{shown_numbers}
 use Rattle.machine.proofs.RowTexts.{row_written, head_stops, values_stop}

@@ -1,4 +1,4 @@
-use Rattle.std.proofs.Common.{◌≡◌, ◌-◌, ◌+◌, length, drop}
+use Rattle.std.proofs.Common.{◌-◌, ◌+◌, length, drop}
 use Rattle.world.specs.SceneWorld.{world_of_scene}
 use Rattle.world.specs.Shown.{row_lines}
 use Rattle.world.proofs.Puts.{PutSoFar}
