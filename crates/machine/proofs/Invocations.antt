@@ -2,7 +2,7 @@
 use Rattle.std.proofs.Common.{◌≡◌, ℕ, zero, suc, pos, ◌<◌, ◌^◌, Bool, true, false, cond, eqb, List, [], ◌∷◌, length, Option, Some, None, Result, refl, sym, ap, ◌∙◌, subst}
 use Rattle.std.specs.Prelude.{slice_get, slice_set, find, FitsSigned, Ok, Err, IsSome}
 use Rattle.std.specs.Option.{option_map, option_map_or}
-use Rattle.std.specs.Int.{w32, cast_unsigned}
+use Rattle.std.specs.Int.{w32}
 use Rattle.base.specs.Bytes.{Identifier}
 use Rattle.classes.specs.Class.{Classes, class_kind, is_plain}
 use Rattle.types.specs.JniFunction.{JniFunction, GetArrayLength}
@@ -123,33 +123,29 @@ is_address space (Some b) (Some n) a h e =
 
 -- ---- the call
 
--- the word of a length
-length_word : (n : ℕ) → cast_unsigned w32 (pos n) ≡ n
-length_word n = refl
-
 module _ (p : Lowered) (space : Space) (call : Activation) (code : Listing) (sight : Sight) (task : Task) (rest : List Task) (r : Ready p space call code sight task rest) where
   -- what an instruction of GetArrayLength has
-  record IsLength (function : Call) (line : ℕ) (target : Target) (f : JniFunction) (args : List Actual) : Type 0 where
+  record IsLength (c : Callee) (f : JniFunction) (args : List Actual) : Type 0 where
     is : f ≡ GetArrayLength
     name : Identifier
     reference : Reference
     arguments : args ≡ ReferenceActual name (as_static reference) ∷ []
-    agrees : ReferenceAgrees space (operand_at call.references.items (length_operand function.function)) reference
+    agrees : ReferenceAgrees space (operand_at call.references.items (length_operand c)) reference
     stack : call.stack ≡ []
 
-  is_length : (c : Callee) (f : JniFunction) (args : List Actual) → IsCallee code r.known call.place call.stack (slots_of call r.references) sight c f args
-      → (call.stack ≡ []) × (f ≡ GetArrayLength) × ((a : Actual) × (args ≡ a ∷ []) × OperandAgrees space call.references.items (length_operand c) a)
-  is_length (callee.GetArrayLength operand) f args h = (h.0, h.1, (h.2.0, h.2.1, operand_agrees p space call code sight task rest r operand h.2.0 h.2.2))
+  with_operand : (operand : ReferenceOperand) (f : JniFunction) (args : List Actual) (a : Actual) → call.stack ≡ [] → f ≡ GetArrayLength → args ≡ a ∷ [] → OperandAgrees space call.references.items operand a → IsLength (callee.GetArrayLength operand) f args
+  with_operand operand f args a empty is one o =
+      record { is = is; name = o.name; reference = o.reference; arguments = one ∙ ap (λ (x : Actual). x ∷ []) o.is; agrees = o.agrees; stack = empty }
 
-  -- the word goes into its slot
+  is_length : (c : Callee) (f : JniFunction) (args : List Actual) → IsCallee code r.known call.place call.stack (slots_of call r.references) sight c f args → IsLength c f args
+  is_length (callee.GetArrayLength operand) f args h = with_operand operand f args h.2.0 h.0 h.1 h.2.1 (operand_agrees p space call code sight task rest r operand h.2.0 h.2.2)
+
+  -- at an instruction that is a call
   module _ (i : Instr) (at : slice_get code.instrs call.place ≡ Some i) (function : Call) (is : i ≡ instr.Call function) where
-    given : (line : ℕ) (target : Target) (f : JniFunction) (args : List Actual) → CallsFunction code r.known call.place call.stack (slots_of call r.references) sight line target f args rest → IsLength function line target f args
+    given : (line : ℕ) (target : Target) (f : JniFunction) (args : List Actual) → CallsFunction code r.known call.place call.stack (slots_of call r.references) sight line target f args rest → IsLength function.function f args
     given line target f args h =
         let same : h.call ≡ function = let e : instr.Call h.call ≡ instr.Call function = cc (at, h.at, is) in cc in
-        let l = is_length function.function f args (subst (λ (c : Call). IsCallee code r.known call.place call.stack (slots_of call r.references) sight c.function f args) same h.function) in
-        let o = l.2.2 in
-        let arguments : args ≡ ReferenceActual o.name (as_static o.reference) ∷ [] = l.2.1 ∙ ap (λ (a : Actual). a ∷ []) o.is in
-        record { is = l.1; name = o.name; reference = o.reference; arguments = arguments; agrees = o.agrees; stack = l.0 }
+        is_length function.function f args (subst (λ (c : Call). IsCallee code r.known call.place call.stack (slots_of call r.references) sight c.function f args) same h.function)
 
     -- the operand is the address of a block
     pub object_there : (a : ℕ) → operand_at call.references.items (length_operand function.function) ≡ Some a → IsAddress space a
