@@ -1,6 +1,6 @@
 -- What calls are given is there.
-use Rattle.std.proofs.Common.{◌≡◌, ℕ, suc, ◌+◌, ◌*◌, ◌<◌, ◌≤◌, Bool, true, false, if◌then◌else◌, List, [], ◌∷◌, ◌++◌, length, map, Option, Some, None, refl, sym, ap, ◌∙◌, subst, arith, length-append}
-use Rattle.std.specs.Prelude.{◌&&◌, ◌==◌, not, nat_lt, nat_le, position, is_some}
+use Rattle.std.proofs.Common.{◌≡◌, ℕ, ◌+◌, ◌<◌, ◌≤◌, Bool, true, false, if◌then◌else◌, List, [], ◌∷◌, ◌++◌, length, map, Option, Some, None, refl, sym, ap, ◌∙◌, subst, arith, length-append}
+use Rattle.std.specs.Prelude.{◌&&◌, ◌==◌, not, nat_lt, nat_le, position}
 use Rattle.std.specs.Global.{Vec}
 use Rattle.std.specs.Option.{option_map}
 use Rattle.std.specs.List.{list_all, enumerate_from}
@@ -120,10 +120,10 @@ none_left (Some r) h = absurd (h r refl)
 
 -- what a line gives its call
 pub call_given : (builder : WorldBuilder) (function : List ℕ) (vs ws : List WorldValue) (o : Option Rule) (arguments : List ObjectValue) (call : CallScene) → o ≡ thread_rule (scene_of builder) function vs → ((r : Rule) → o ≡ Some r → ⊥) → arguments ≡ map (argument_of (scene_of builder)) ws → vs ≡ ws → call.arguments ≡ arguments
-    → are_arguments (objects_made (length builder.classes.items) (length builder.objects.items)) call ≡ true
+    → are_arguments (objects_made (length builder.classes.items) (length builder.objects)) call ≡ true
 call_given builder function vs ws o arguments call rule none is same given =
     let scene = scene_of builder in
     let kept = rule_keeps scene function vs (sym rule ∙ none_left o none) in
     let count : length scene.classes ≡ length builder.classes.items = length-map builder.classes.items (λ (c : Vec ℕ). c.items) in
-    ap (λ (n : ℕ). list_all (is_argument (objects_made n (length builder.objects.items))) call.arguments) (sym count)
+    ap (λ (n : ℕ). list_all (is_argument (objects_made n (length builder.objects))) call.arguments) (sym count)
     ∙ ap (λ (xs : List ObjectValue). list_all (is_argument (objects_made (length scene.classes) (length scene.objects))) xs) (given ∙ is ∙ ap (map (argument_of scene)) (sym same)) ∙ kept

@@ -29,3 +29,4 @@ pub mod BuiltForms
 pub mod MeantWorlds
 pub mod PlainClasses
 pub mod GivenLemmas
+pub mod ObjectLemmas

@@ -93,7 +93,7 @@ found_below p (x ∷ xs) i h = by_test (p x) (found p xs) (found_below p xs) h
 pub place_below : {X : Type 0} (p : X → Bool) (xs : List X) (i : ℕ) → Some i ≡ position p xs → i < length xs
 place_below p xs i h = found_below p xs i (sym (h ∙ position-found p xs))
 
-kept_place : {X : Type 0} (p : X → Bool) (xs ys : List X) (i : ℕ) → found p xs ≡ Some i → found p (xs ++ ys) ≡ Some i
+pub kept_place : {X : Type 0} (p : X → Bool) (xs ys : List X) (i : ℕ) → found p xs ≡ Some i → found p (xs ++ ys) ≡ Some i
 kept_place p [] ys i h = absurd (cc)
 kept_place p (x ∷ xs) ys i h = by_test (p x) (found p xs) (found p (xs ++ ys)) (λ j e. kept_place p xs ys j e) h
   where
@@ -118,7 +118,7 @@ none_map : (o : Option ℕ) → o ≡ option_map (λ (i : ℕ). 0 + i) o
 none_map None = refl
 none_map (Some i) = ap Some (omega arith)
 
-later_place : {X : Type 0} (p : X → Bool) (xs ys : List X) → found p xs ≡ None → found p (xs ++ ys) ≡ option_map (λ (i : ℕ). length xs + i) (found p ys)
+pub later_place : {X : Type 0} (p : X → Bool) (xs ys : List X) → found p xs ≡ None → found p (xs ++ ys) ≡ option_map (λ (i : ℕ). length xs + i) (found p ys)
 later_place p [] ys h = none_map (found p ys)
 later_place p (x ∷ xs) ys h =
     let t = passes_not (p x) (found p xs) h in

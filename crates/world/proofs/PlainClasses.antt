@@ -106,30 +106,30 @@ module _ (classes : List (Vec ℕ)) (number : ℕ) where
   pub of_first : number < 43 → nat_le 20 number ≡ is_array
   of_first less =
       ⊎_elim
-        (λ (l : number < 20). (let b : nat_le 20 number ≡ false = grind (arith, nat_tests, l) in b) ∙ sym (below l))
-        (λ (l : 20 ≤ number). (let b : nat_le 20 number ≡ true = grind (arith, nat_tests, l) in b) ∙ sym (high_is (number - 20) (omega arith) (omega arith)))
-        (cases_lt number 20)
+      (λ (l : number < 20). (let b : nat_le 20 number ≡ false = grind (arith, nat_tests, l) in b) ∙ sym (below l))
+      (λ (l : 20 ≤ number). (let b : nat_le 20 number ≡ true = grind (arith, nat_tests, l) in b) ∙ sym (high_is (number - 20) (omega arith) (omega arith)))
+      (cases_lt number 20)
     where
       below : number < 20 → is_array ≡ false
       below l =
           ⊎_elim
-            (λ (z : number < 1). zero_is (omega arith))
-            (λ (z : 1 ≤ number). low_is (number - 1) (omega arith) (omega arith))
-            (cases_lt number 1)
+          (λ (z : number < 1). zero_is (omega arith))
+          (λ (z : 1 ≤ number). low_is (number - 1) (omega arith) (omega arith))
+          (cases_lt number 1)
 
   pub of_own : 43 ≤ number → (number - 43) / 2 < length classes → eqb ((number - 43) % 2) 1 ≡ is_array
   of_own above less =
       ⊎_elim
-        (λ (t : (eqb ((number - 43) % 2) 1 ≡ true) × ((number - 43) % 2 ≡ 1)). let odd : (number - 43) % 2 ≡ 1 = t.1 in t.0 ∙ sym (array_is ((number - 43) / 2) (omega arith) less))
-        (λ (t : (eqb ((number - 43) % 2) 1 ≡ false) × ((number - 43) % 2 ≡ 1 → ⊥)). t.0 ∙ sym (own_is ((number - 43) / 2) (even t.1)))
-        (eqb_tells ((number - 43) % 2) 1)
+      (λ (t : (eqb ((number - 43) % 2) 1 ≡ true) × ((number - 43) % 2 ≡ 1)). let odd : (number - 43) % 2 ≡ 1 = t.1 in t.0 ∙ sym (array_is ((number - 43) / 2) (omega arith) less))
+      (λ (t : (eqb ((number - 43) % 2) 1 ≡ false) × ((number - 43) % 2 ≡ 1 → ⊥)). t.0 ∙ sym (own_is ((number - 43) / 2) (even t.1)))
+      (eqb_tells ((number - 43) % 2) 1)
     where
       even : ((number - 43) % 2 ≡ 1 → ⊥) → number ≡ 43 + 2 * ((number - 43) / 2)
       even odd =
           ⊎_elim
-            (λ (z : (number - 43) % 2 < 1). omega arith)
-            (λ (z : 1 ≤ (number - 43) % 2). absurd (odd (omega arith)))
-            (cases_lt ((number - 43) % 2) 1)
+          (λ (z : (number - 43) % 2 < 1). omega arith)
+          (λ (z : 1 ≤ (number - 43) % 2). absurd (odd (omega arith)))
+          (cases_lt ((number - 43) % 2) 1)
 
   pub of_none : 43 ≤ number → length classes ≤ (number - 43) / 2 → is_array ≡ false
   of_none above more = past_is (number - 43) (omega arith) (omega arith)

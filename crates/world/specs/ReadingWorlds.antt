@@ -23,7 +23,7 @@ use Rattle.world.specs.WorldLines.{WorldValue, NumberValue, NullValue, NamedObje
 use Rattle.world.specs.WorldRules.{value_in_range}
 
 abbrev pub scene_of : WorldBuilder → Scene
-scene_of d = record { heap = d.heap; classes = map (λ c. c.items) d.classes.items; objects = d.objects.items; threads = map (λ t. t.items) d.threads.items }
+scene_of d = record { heap = d.heap; classes = map (λ c. c.items) d.classes.items; objects = d.objects; threads = map (λ t. t.items) d.threads.items }
 
 -- a negative number is as far below each limit as 0 is
 abbrev pub below_zero : Option ℕ → Option ℕ

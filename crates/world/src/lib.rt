@@ -8,6 +8,7 @@ mod fault;
 mod journal;
 mod names;
 mod natural;
+mod objects;
 mod parts;
 mod report;
 mod rows;

@@ -160,6 +160,23 @@ fn a_world_with_an_array(rt: HostRuntime) -> Result<(), Fail> {
 }
 
 #[test]
+fn objects_by_their_names(rt: HostRuntime) -> Result<(), Fail> {
+    let world = read_world(
+        rt.alloc(),
+        b"heap 512\nclass A\narray @b I\narray @a I 1\narray @c B\nthread f @a @c @b",
+    )?;
+    let [calls] = world.threads() else {
+        return Err(Fail::new("one thread"));
+    };
+    let [call] = calls.as_slice() else {
+        return Err(Fail::new("one call"));
+    };
+    let arguments = [47, 48, 46].map(|object| Argument::Reference(Some(object)));
+    assert_eq!(rt; call.arguments(), arguments.as_slice());
+    Ok(())
+}
+
+#[test]
 fn names_of_classes(rt: HostRuntime) -> Result<(), Fail> {
     let world = read_world(rt.alloc(), b"heap 512\nclass A\nthread f")?;
     assert_eq!(rt; world.class_count(), 44);

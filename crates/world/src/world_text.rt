@@ -19,6 +19,7 @@ use crate::builder::WorldBuilder;
 use crate::fault::{ReadError, Rule, TextFault};
 use crate::names::{class_number, is_class_name, is_taken};
 use crate::natural::natural;
+use crate::objects::Objects;
 use crate::parts::Parts;
 use crate::value::{Value, object_name, read_element, read_values};
 use crate::world::{Call, World};
@@ -157,7 +158,7 @@ impl WorldBuilder {
     fn place_of(&self, name: &[u8]) -> Option<usize>
         ensures { result ≡ place_of (scene_of self.now) name.now }
     {
-        self.objects.iter().position(|object| object.name() == name)
+        self.objects.place_of(name)
     }
 
     /// Whether the heap's line was there and no thread's.
@@ -379,7 +380,7 @@ fn take_array(
     let values = numbers(alloc, element, &values)?;
     let size = 3 + values.len();
     let array = Array::new(Vec::from_slice(alloc, name)?, element, values);
-    builder.objects.push(array)?;
+    builder.objects.push(alloc, array)?;
     builder.used += size;
     Ok(())
 }
@@ -509,7 +510,7 @@ fn finish(builder: WorldBuilder, last: usize) -> Result<World, ReadError>
     Ok(World::new(
         builder.heap,
         builder.classes,
-        builder.objects,
+        builder.objects.into_arrays(),
         builder.threads,
     ))
 }
@@ -528,7 +529,7 @@ pub fn read_world(alloc: Global, text: &[u8]) -> Result<World, ReadError>
     let mut builder = WorldBuilder {
         heap: 0,
         classes: Vec::new(alloc),
-        objects: Vec::new(alloc),
+        objects: Objects::new(alloc),
         threads: Vec::new(alloc),
         used: 130,
     };

@@ -1,4 +1,4 @@
-use Rattle.std.proofs.Common.{◌∙◌, sym, arith}
+use Rattle.std.proofs.Common.{sym, arith}
 use Rattle.world.proofs.PlainClasses.{of_first, of_own, of_none}
 use Rattle.world.proofs.names.is_array_class.Goals as goal
 
