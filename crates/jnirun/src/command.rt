@@ -8,7 +8,9 @@ use std::convert::AsStr;
 #[derive(Clone, Copy, Debug)]
 pub enum Command<'a> {
     /// A program is checked.
-    Check { program: &'a str },
+    Check {
+        program: &'a str,
+    },
     /// A program runs in a world by a schedule.
     Run {
         program: &'a str,

@@ -263,7 +263,10 @@ fn long_functions(rt: HostRuntime) -> Result<(), Fail> {
     let longest = long_function(&rt, 32_767)?;
     assert_eq!(rt; checked(&rt, &longest).1.as_slice(), b"ok\n".as_slice());
     let long = long_function(&rt, 32_768)?;
-    assert_eq!(rt; checked(&rt, &long).1.as_slice(), b"fault 51 line 0\n".as_slice());
+    assert_eq!(rt;
+        checked(&rt, &long).1.as_slice(),
+        b"fault 51 line 0\n".as_slice()
+    );
     Ok(())
 }
 
