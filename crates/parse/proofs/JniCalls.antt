@@ -1,18 +1,18 @@
--- Calls and right sides: what is read is spelled so, and what is spelled so is read.
+-- Calls, right sides and tests: what is read is spelled so, and what is spelled so is read.
 use Rattle.std.proofs.Common.{◌≡◌, ℕ, zero, suc, ◌+◌, ◌<◌, ◌≤◌, true, false, List, [], ◌∷◌, ◌++◌, length, Option, Some, None, Result, Ok, refl, sym, ap, subst, ◌∙◌, arith, add-one, inl, inr}
 use Rattle.std.specs.Prelude.{flat_map}
 use Rattle.scan.specs.declared.token.Mark.TheVariants as marks
-use Rattle.syntax.specs.Tree.{LogicalNot, Complement, ToWord, ToInt, Expr, Number, Named, Variable, Element, Prefix, Binary, Paren, Argument, Value, Text, AddressOf, Call, RightSide, FromExpr, FromCall}
+use Rattle.syntax.specs.Tree.{LogicalNot, Complement, ToWord, ToInt, Expr, Number, Named, Variable, Element, Prefix, Binary, Paren, Argument, Value, Text, AddressOf, Call, RightSide, FromExpr, FromCall, Test, TestExpr, TestCall}
 use Rattle.parse.specs.declared.fault.ParseFault.{ParseFault}
 use Rattle.parse.specs.declared.words.Word.TheVariants as words
 use Rattle.parse.specs.declared.lexemes.Fixed.TheVariants as fixed
 use Rattle.parse.specs.Results.{◌>>=◌}
 use Rattle.parse.specs.Meaning.{Meaning, Fixed', Name', Number', Text'}
 use Rattle.parse.specs.Lexemes.{Lexed, expect, name_at}
-use Rattle.parse.specs.Spelling.{Spelled, Anywhere, mark, word, constant_word, operator_mark, expression, argument, call, right}
-use Rattle.parse.specs.Reading.{starts_with, behind, expr_at, interface_at, text_of, text_at, value_at, argument_by, argument_at, arguments_at, call_at, starts_call, right_at}
-use Rattle.parse.proofs.Forms.{IsArgument, AreArguments, IsRight}
-use Rattle.parse.proofs.Singles.{Begins, bind_ok, ok_is, chosen, begins_append, begins_split, begins_length, shortens, first_takes, first_rest, first_is, starts_takes, expect_takes, expect_again, then_takes, name_takes, name_again}
+use Rattle.parse.specs.Spelling.{Spelled, Anywhere, mark, word, constant_word, operator_mark, expression, argument, call, right, test_tokens}
+use Rattle.parse.specs.Reading.{starts_with, behind, expr_at, interface_at, text_of, text_at, value_at, argument_by, argument_at, arguments_at, call_at, starts_call, right_at, number_at, test_at}
+use Rattle.parse.proofs.Forms.{IsArgument, AreArguments, IsRight, IsTest}
+use Rattle.parse.proofs.Singles.{Begins, bind_ok, ok_is, chosen, begins_append, begins_split, begins_length, shortens, first_takes, first_rest, first_is, starts_takes, expect_takes, expect_again, then_takes, name_takes, name_again, zero_takes, number_again}
 use Rattle.parse.proofs.Table.{Closes, closes_mark}
 use Rattle.parse.proofs.Levels.{index_tokens, no_first, no_first_mark, no_call, expr_reads, expr_reads_again}
 
@@ -126,10 +126,10 @@ step1 room f = expect (fixed.Mark marks.OpenParen) f.1 >>= step2 room f.0
 abbrev step0 : ℕ → List Lexed → Read
 step0 room ls = name_at ls >>= step1 room
 
-abbrev TakesCall : ℕ → List Lexed → Call × List Lexed → Type 0
+abbrev pub TakesCall : ℕ → List Lexed → Call × List Lexed → Type 0
 TakesCall room ls x = Begins (call x.0) ls x.1 × AreArguments room x.0.arguments
 
-call_takes : (room : ℕ) (ls : List Lexed) (x : Call × List Lexed) → call_at room ls ≡ Ok x → TakesCall room ls x
+pub call_takes : (room : ℕ) (ls : List Lexed) (x : Call × List Lexed) → call_at room ls ≡ Ok x → TakesCall room ls x
 unfolding call_at
 call_takes room ls x h =
     let a = bind_ok (interface_at ls) (step0 room) x h in
@@ -164,6 +164,31 @@ right_takes room ls x e =
           let a = bind_ok (expr_at room 0 ls) (λ y. Ok (FromExpr y.0, y.2)) x w.1 in
           let made : RightSide × List Lexed = (FromExpr a.0.0, a.0.2) in
           subst (λ (y : RightSide × List Lexed). TakesRight room ls y) (ok_is made x a.2) (expr_reads room ls a.0 a.1)
+    ]
+
+abbrev TakesTest : ℕ → List Lexed → Test × List Lexed → Type 0
+TakesTest room ls x = Begins (test_tokens x.0) ls x.1 × IsTest room x.0
+
+-- what makes a call a test
+abbrev is_zero : List Spelled
+is_zero = mark marks.Equal ∷ Anywhere (Number' 0 false) ∷ []
+
+pub test_takes : (room : ℕ) (ls : List Lexed) (x : Test × List Lexed) → test_at room ls ≡ Ok x → TakesTest room ls x
+unfolding test_at
+test_takes room ls x e =
+    elim (chosen (starts_call ls) _ _ (Ok x) e) [
+      | inl w ↦
+          let a = bind_ok (call_at room ls) (λ c. expect (fixed.Mark marks.Equal) c.1 >>= λ a. number_at 0 0 a >>= λ number. Ok (TestCall c.0, number.1)) x w.1 in
+          let b = bind_ok (expect (fixed.Mark marks.Equal) a.0.1) (λ b. number_at 0 0 b >>= λ number. Ok (TestCall a.0.0, number.1)) x a.2 in
+          let c = bind_ok (number_at 0 0 b.0) (λ number. Ok (TestCall a.0.0, number.1)) x b.2 in
+          let t = call_takes room ls a.0 a.1 in
+          let made : Test × List Lexed = (TestCall a.0.0, c.0.1) in
+          let closing = then_takes (fixed.Mark marks.Equal) (Anywhere (Number' 0 false) ∷ []) a.0.1 b.0 c.0.1 b.1 (zero_takes b.0 c.0 c.1) in
+          subst (λ (y : Test × List Lexed). TakesTest room ls y) (ok_is made x c.2) (begins_append (call a.0.0) is_zero ls a.0.1 c.0.1 t.0 closing, t.1)
+      | inr w ↦
+          let a = bind_ok (expr_at room 0 ls) (λ y. Ok (TestExpr y.0, y.2)) x w.1 in
+          let made : Test × List Lexed = (TestExpr a.0.0, a.0.2) in
+          subst (λ (y : Test × List Lexed). TakesTest room ls y) (ok_is made x a.2) (expr_reads room ls a.0 a.1)
     ]
 
 -- ---- what is spelled so is read
@@ -240,7 +265,7 @@ arguments_again room (a ∷ more) (suc steps) ls rest enough h is comma closed =
 abbrev call_read : Call → List Lexed → Read
 call_read c ls = Ok (c, ls)
 
-call_again : (room : ℕ) (c : Call) (ls rest : List Lexed) → Begins (call c) ls rest → AreArguments room c.arguments → call_at room ls ≡ Ok (c, rest)
+pub call_again : (room : ℕ) (c : Call) (ls rest : List Lexed) → Begins (call c) ls rest → AreArguments room c.arguments → call_at room ls ≡ Ok (c, rest)
 unfolding call_at
 call_again room c ls rest h is =
     let closing : List Spelled = mark marks.CloseParen ∷ [] in
@@ -273,3 +298,15 @@ pub right_again : (room : ℕ) (r : RightSide) (ls rest : List Lexed) → Begins
 unfolding right_at
 right_again room (FromExpr e) ls rest h is closed = rw (no_call 0 e is.levelled ls rest h, expr_reads_again room ls rest e h is closed) refl
 right_again room (FromCall c) ls rest h is closed = rw (call_starts (call_behind c) ls rest h, call_again room c ls rest h is) refl
+
+abbrev test_read : Test → List Lexed → Result (Test × List Lexed) ParseFault
+test_read t ls = Ok (t, ls)
+
+pub test_again : (room : ℕ) (t : Test) (ls rest : List Lexed) → Begins (test_tokens t) ls rest → IsTest room t → Closes rest → test_at room ls ≡ Ok (t, rest)
+unfolding test_at
+test_again room (TestExpr e) ls rest h is closed = rw (no_call 0 e is.levelled ls rest h, expr_reads_again room ls rest e h is closed) refl
+test_again room (TestCall c) ls rest h is closed =
+    let parts = begins_split (call c) is_zero ls rest h in
+    let a = expect_again (fixed.Mark marks.Equal) (Anywhere (Number' 0 false) ∷ []) parts.0 rest parts.2 in
+    let n = number_again 0 0 0 [] a.0 rest (omega arith) (omega arith) a.2 in
+    rw (call_starts (call_behind c) ls parts.0 parts.1, call_again room c ls parts.0 parts.1 is, a.1, n) (ap (test_read (TestCall c)) (first_rest (Anywhere (Number' 0 false)) [] a.0 rest a.2))

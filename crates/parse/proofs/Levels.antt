@@ -508,3 +508,10 @@ index_reads room ls y e = index_takes (deeper room) room (deeper_takes room) ls 
 
 pub index_reads_again : (room : ℕ) (i : Expr) (ls rest : List Lexed) → Begins (index_tokens i) ls rest → IsLevelled 0 i → height i < room → index_at room ls ≡ Ok (i, height i, rest)
 index_reads_again room i ls rest h levelled low = index_again (deeper room) room (deeper_again room) i ls rest h levelled low
+
+-- what stands behind an index
+pub index_more : (i : Expr) (more : List Spelled) (ls rest : List Lexed) → Begins (index_tokens i ++ more) ls rest → Begins (mark marks.OpenBracket ∷ (expression i ++ mark marks.CloseBracket ∷ more)) ls rest
+index_more i more ls rest h = subst (λ (es : List Spelled). Begins (mark marks.OpenBracket ∷ es) ls rest) (append_assoc (expression i) (mark marks.CloseBracket ∷ []) more) h
+
+pub index_split : (i : Expr) (more : List Spelled) (ls rest : List Lexed) → Begins (mark marks.OpenBracket ∷ (expression i ++ mark marks.CloseBracket ∷ more)) ls rest → (mid : List Lexed) × Begins (index_tokens i) ls mid × Begins more mid rest
+index_split i more ls rest h = begins_split (index_tokens i) more ls rest (subst (λ (es : List Spelled). Begins (mark marks.OpenBracket ∷ es) ls rest) (sym (append_assoc (expression i) (mark marks.CloseBracket ∷ []) more)) h)

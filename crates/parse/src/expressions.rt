@@ -117,7 +117,7 @@ fn primary(alloc: Global, lexemes: &[Lexeme]) -> Result<ReadExpr<'_>, ParseFault
 }
 
 /// Whether a name with an index comes next.
-fn starts_element(lexemes: &[Lexeme]) -> bool
+pub(crate) fn starts_element(lexemes: &[Lexeme]) -> bool
     ensures { result ≡ starts_element (views lexemes.now) }
 {
     starts_name(lexemes) && starts_with(Fixed::Mark(Mark::OpenBracket), behind(lexemes))
