@@ -1,175 +1,283 @@
--- What is spelled so is read: statements, blocks, functions and units.
-use Rattle.std.proofs.Common.{◌≡◌, ℕ, zero, suc, ◌+◌, ◌-◌, ◌<◌, ◌≤◌, Bool, true, false, List, [], ◌∷◌, ◌++◌, length, Some, Result, Ok, refl, ap, ◌∙◌, arith, add-one}
-use Rattle.std.specs.Prelude.{IsTrue, flat_map}
+-- What is spelled so is read: statements, blocks, functions, statics and units.
+use Rattle.std.proofs.Common.{◌≡◌, ℕ, zero, suc, ◌+◌, ◌-◌, ◌<◌, ◌≤◌, Bool, true, false, List, [], ◌∷◌, ◌++◌, length, Result, Ok, refl, sym, ap, subst, ◌∙◌, arith, add-one}
+use Rattle.std.specs.Prelude.{flat_map}
 use Rattle.std.proofs.lemmas.Bool.{ne_eqb}
 use Rattle.scan.specs.declared.token.Mark.TheVariants as marks
-use Rattle.base.specs.Bytes.{Identifier}
-use Rattle.syntax.specs.Tree.{VariableType, UInt32, JIntVariable, JSize, JBoolean, JFieldId, ReferenceVariable, Expr, RightSide, Stmt, Declare, DeclareBuffer, DeclareChars, DeclareArray, Assign, AssignElement, Perform, PutJint, If, IfElse, While, Return, ReturnValue, Block, End, Next, ResultType, Void, IntResult, ReferenceResult, Parameter, Function, Item, StaticItem, FunctionItem}
-use Rattle.syntax.specs.Parts.{statements_within, statements_of, names_declared}
+use Rattle.syntax.specs.Tree.{Expr, Test, Stmt, Declare, DeclareBuffer, DeclareChars, DeclareArray, Assign, AssignElement, Perform, PutJint, If, IfElse, While, Return, ReturnValue, Block, End, Next, Parameter, Function, Static, Item, StaticItem, FunctionItem}
+use Rattle.syntax.specs.Parts.{statements_within, statements_of, line_of}
 use Rattle.parse.specs.declared.fault.ParseFault.{ParseFault}
 use Rattle.parse.specs.declared.words.Word.{Word}
 use Rattle.parse.specs.declared.words.Word.TheVariants as words
 use Rattle.parse.specs.declared.lexemes.Fixed.{Fixed}
 use Rattle.parse.specs.declared.lexemes.Fixed.TheVariants as fixed
-use Rattle.parse.specs.Meaning.{Meaning, Fixed', Name'}
-use Rattle.parse.specs.Lexemes.{Lexed, same_word, expect}
-use Rattle.parse.specs.Built.{is_built_variable, is_built_result}
-use Rattle.parse.specs.Spelling.{Spelled, Anywhere, OnLine, mark, word, variable_word, parameter_word, expression, right, setting, statement, inside, result_word, parameter, function, item}
-use Rattle.parse.specs.Reading.{starts_with, behind, parameter_at, parameters_at, result_at, head_at, body_at, function_at, items_at, put_at, return_at, setting_at, declared_at, statement_at, is_return, names_of, block_at}
-use Rattle.parse.proofs.Forms.{IsExpr, IsRight, IsForm, MayFollow, IsBlock, IsFunction, AreItems}
-use Rattle.parse.proofs.Singles.{Begins, same_itself, begins_split, begins_length, first_rest, first_is, expect_again, name_again, on_is, on_line_is}
-use Rattle.parse.proofs.Table.{operator_first}
-use Rattle.parse.proofs.TypeWords.{parameter_type_again, variable_type_again}
-use Rattle.parse.proofs.Levels.{no_first, no_first_mark, expr_reads_again}
-use Rattle.parse.proofs.JniCalls.{right_again}
-use Rattle.parse.proofs.Sentences.{names_split}
-use Rattle.parse.proofs.Programs.{parameters_head}
+use Rattle.parse.specs.Meaning.{Meaning, Fixed', Name', Number'}
+use Rattle.parse.specs.Lexemes.{Lexed, same_fixed, is_fixed_meaning, line_at, expect}
+use Rattle.parse.specs.Spelling.{Spelled, Anywhere, OnLine, mark, word, reference_word, element_word, variable_word, result_word, parameter_word, expression, setting, test_tokens, statement, inside, parameter, function, item}
+use Rattle.parse.specs.Reading.{starts_with, behind, ReadStmt, simple_at, ReadBlock, BlockReader, else_by, if_by, while_by, statement_by, is_return, block_by, inner, block_at, parameter_at, parameters_at, head_at, body_at, function_at, static_at, item_at, items_at}
+use Rattle.parse.proofs.Forms.{names_of, names_in, IsTest, IsForm, MayFollow, IsBlock, IsFunction, AreItems, IsExpr}
+use Rattle.parse.proofs.Singles.{Begins, same_itself, begins_split, begins_length, shortens, first_rest, first_is, expect_again, name_again, on_is, on_line_is}
+use Rattle.parse.proofs.Table.{Closes, closes_mark}
+use Rattle.parse.proofs.TypeWords.{reference_type_again, result_type_again, parameter_type_again}
+use Rattle.parse.proofs.Levels.{expr_reads_again}
+use Rattle.parse.proofs.JniCalls.{argument_tokens, test_again}
+use Rattle.parse.proofs.Sentences.{call_tail, element_tail, setting_tail, IsPlain, plain_again}
+use Rattle.parse.proofs.Declared.{array_tail, declares, declares_first, declares_no, element_declares, variable_declares, IsDeclared, declared_again}
+use Rattle.parse.proofs.Nested.{tested_tail, names_split}
+use Rattle.parse.proofs.Programs.{parameters_head, functions_in, statics_in}
 
-abbrev statement_read : Stmt → List Lexed → Result (Stmt × List Lexed) ParseFault
-statement_read s ls = Ok (s, ls)
+-- ---- the first token of a statement
 
-put_again : (room line : ℕ) (e : Expr) (ls rest : List Lexed) → Begins (mark marks.OpenParen ∷ (expression e ++ (mark marks.CloseParen ∷ mark marks.Semicolon ∷ []))) ls rest → IsExpr room e → put_at room line ls ≡ Ok (PutJint line e, rest)
-unfolding put_at
-put_again room line e ls rest h is =
-    let closing : List Spelled = mark marks.CloseParen ∷ mark marks.Semicolon ∷ [] in
-    let a = expect_again (fixed.Mark marks.OpenParen) (expression e ++ closing) ls rest h in
-    let parts = begins_split (expression e) closing a.0 rest a.2 in
-    let d = expr_reads_again room a.0 parts.0 e parts.1 is (operator_first (Fixed' (fixed.Mark marks.CloseParen)) (mark marks.Semicolon ∷ []) parts.0 rest parts.2) in
-    let b = expect_again (fixed.Mark marks.CloseParen) (mark marks.Semicolon ∷ []) parts.0 rest parts.2 in
-    let c = expect_again (fixed.Mark marks.Semicolon) [] b.0 rest b.2 in
-    rw (a.1, d, b.1, c.1) (ap (statement_read (PutJint line e)) c.2)
+first_meaning : Stmt → Meaning
+first_meaning (Declare line t x r) = Fixed' (fixed.Word (variable_word t))
+first_meaning (DeclareBuffer line t x r) = Fixed' (fixed.Word (element_word t))
+first_meaning (DeclareChars line x r) = Fixed' (fixed.Word words.Const)
+first_meaning (DeclareArray line t x size) = Fixed' (fixed.Word (element_word t))
+first_meaning (Assign line x r) = Name' x
+first_meaning (AssignElement line x i e) = Name' x
+first_meaning (Perform line c) = Fixed' (fixed.Mark marks.OpenParen)
+first_meaning (PutJint line e) = Fixed' (fixed.Word words.PutJint)
+first_meaning (If line test b) = Fixed' (fixed.Word words.If)
+first_meaning (IfElse line test b d) = Fixed' (fixed.Word words.If)
+first_meaning (While line test b) = Fixed' (fixed.Word words.While)
+first_meaning (Return line) = Fixed' (fixed.Word words.Return)
+first_meaning (ReturnValue line e) = Fixed' (fixed.Word words.Return)
 
-return_again : (room line : ℕ) (ls rest : List Lexed) → Begins (mark marks.Semicolon ∷ []) ls rest → return_at room line ls ≡ Ok (Return line, rest)
-unfolding return_at
-return_again room line ls rest h =
-    let s = first_is (Fixed' (fixed.Mark marks.Semicolon)) [] ls rest (fixed.Mark marks.Semicolon) h in
-    rw s (ap (statement_read (Return line)) (first_rest (mark marks.Semicolon) [] ls rest h))
+first_others : Stmt → List Spelled
+first_others (Declare line t x r) = setting x r
+first_others (DeclareBuffer line t x r) = mark marks.Star ∷ setting x r
+first_others (DeclareChars line x r) = word words.Jchar ∷ mark marks.Star ∷ setting x r
+first_others (DeclareArray line t x size) = Anywhere (Name' x) ∷ array_tail size
+first_others (Assign line x r) = setting_tail r
+first_others (AssignElement line x i e) = element_tail i e
+first_others (Perform line c) = call_tail c ++ mark marks.Semicolon ∷ []
+first_others (PutJint line e) = mark marks.OpenParen ∷ (expression e ++ (mark marks.CloseParen ∷ mark marks.Semicolon ∷ []))
+first_others (If line test b) = tested_tail (test_tokens test) ++ mark marks.OpenBrace ∷ inside b
+first_others (IfElse line test b d) = tested_tail (test_tokens test) ++ mark marks.OpenBrace ∷ inside b ++ word words.Else ∷ mark marks.OpenBrace ∷ inside d
+first_others (While line test b) = tested_tail (expression test) ++ mark marks.OpenBrace ∷ inside b
+first_others (Return line) = mark marks.Semicolon ∷ []
+first_others (ReturnValue line e) = expression e ++ mark marks.Semicolon ∷ []
 
-value_again : (room line : ℕ) (e : Expr) (ls rest : List Lexed) → Begins (expression e ++ mark marks.Semicolon ∷ []) ls rest → IsExpr room e → return_at room line ls ≡ Ok (ReturnValue line e, rest)
-unfolding return_at
-value_again room line e ls rest h is =
-    let parts = begins_split (expression e) (mark marks.Semicolon ∷ []) ls rest h in
-    let s = no_first (fixed.Mark marks.Semicolon) (no_first_mark marks.Semicolon refl refl) 0 e is.levelled ls parts.0 parts.1 in
-    let d = expr_reads_again room ls parts.0 e parts.1 is (operator_first (Fixed' (fixed.Mark marks.Semicolon)) [] parts.0 rest parts.2) in
-    let c = expect_again (fixed.Mark marks.Semicolon) [] parts.0 rest parts.2 in
-    rw (s, d, c.1) (ap (statement_read (ReturnValue line e)) c.2)
+first_of : (s : Stmt) → statement s ≡ OnLine (line_of s) (first_meaning s) ∷ first_others s
+unfolding first_meaning first_others
+first_of (Declare line t x r) = refl
+first_of (DeclareBuffer line t x r) = refl
+first_of (DeclareChars line x r) = refl
+first_of (DeclareArray line t x size) = refl
+first_of (Assign line x r) = refl
+first_of (AssignElement line x i e) = refl
+first_of (Perform line c) = refl
+first_of (PutJint line e) = refl
+first_of (If line test b) = refl
+first_of (IfElse line test b d) = refl
+first_of (While line test b) = refl
+first_of (Return line) = refl
+first_of (ReturnValue line e) = refl
 
-abbrev setting_read : Identifier → RightSide → List Lexed → Result (Identifier × RightSide × List Lexed) ParseFault
-setting_read x r ls = Ok (x, r, ls)
+begins_first : (s : Stmt) (ls rest : List Lexed) → Begins (statement s) ls rest → Begins (OnLine (line_of s) (first_meaning s) ∷ first_others s) ls rest
+begins_first s ls rest h = subst (λ (es : List Spelled). Begins es ls rest) (first_of s) h
 
-setting_again : (room : ℕ) (x : Identifier) (r : RightSide) (ls rest : List Lexed) → Begins (setting x r) ls rest → IsRight room r → setting_at room ls ≡ Ok (x, r, rest)
-unfolding setting_at
-setting_again room x r ls rest h is =
-    let closing : List Spelled = mark marks.Semicolon ∷ [] in
-    let n = name_again x (mark marks.Assign ∷ (right r ++ closing)) ls rest h in
-    let a = expect_again (fixed.Mark marks.Assign) (right r ++ closing) (behind ls) rest (first_rest (Anywhere (Name' x)) (mark marks.Assign ∷ (right r ++ closing)) ls rest h) in
-    let parts = begins_split (right r) closing a.0 rest a.2 in
-    let d = right_again room r a.0 parts.0 parts.1 is (operator_first (Fixed' (fixed.Mark marks.Semicolon)) [] parts.0 rest parts.2) in
-    let c = expect_again (fixed.Mark marks.Semicolon) [] parts.0 rest parts.2 in
-    rw (n, a.1, d, c.1) (ap (setting_read x r) c.2)
+statement_starts : (s : Stmt) (f : Fixed) (ls rest : List Lexed) → Begins (statement s) ls rest → starts_with f ls ≡ is_fixed_meaning (first_meaning s) f
+statement_starts s f ls rest h = on_is (line_of s) (first_meaning s) (first_others s) ls rest f (begins_first s ls rest h)
 
-declared_again : (room free line : ℕ) (t : VariableType) (x : Identifier) (r : RightSide) (ls rest : List Lexed) → Begins (statement (Declare line t x r)) ls rest → IsRight room r → 1 ≤ free → declared_at room free (Some t) ls ≡ Ok (Declare line t x r, rest)
-unfolding declared_at
-declared_again room free line t x r ls rest h is few =
-    let first : Spelled = OnLine line (Fixed' (fixed.Word (variable_word t))) in
-    let l = on_line_is line (Fixed' (fixed.Word (variable_word t))) (setting x r) ls rest h in
-    rw (ne_eqb free 0 (omega (arith, few)), l, setting_again room x r (behind ls) rest (first_rest first (setting x r) ls rest h) is) refl
+statement_shorter : (s : Stmt) (ls rest : List Lexed) → Begins (statement s) ls rest → length rest < length ls
+statement_shorter s ls rest h = shortens (OnLine (line_of s) (first_meaning s)) (first_others s) ls rest (begins_first s ls rest h)
 
--- no type of a variable is one of these words
-record IsNoStatement (w : Word) : Type 0 where
-  put : same_word w words.PutJint ≡ false
-  return : same_word w words.Return ≡ false
+-- no statement begins so
+record IsNoStart (f : Fixed) : Type 0 where
+  declared : declares (Fixed' f) ≡ false
+  paren : same_fixed (fixed.Mark marks.OpenParen) f ≡ false
+  put : same_fixed (fixed.Word words.PutJint) f ≡ false
+  test : same_fixed (fixed.Word words.If) f ≡ false
+  loop : same_fixed (fixed.Word words.While) f ≡ false
+  last : same_fixed (fixed.Word words.Return) f ≡ false
 
-no_statement : (t : VariableType) → IsTrue (is_built_variable t) → IsNoStatement (variable_word t)
-no_statement UInt32 built = absurd cc
-no_statement JIntVariable built = record { put = refl; return = refl }
-no_statement JSize built = absurd cc
-no_statement JBoolean built = absurd cc
-no_statement JFieldId built = absurd cc
-no_statement (ReferenceVariable r) built = absurd cc
+no_start : (f : Fixed) → IsNoStart f → (s : Stmt) → is_fixed_meaning (first_meaning s) f ≡ false
+unfolding first_meaning
+no_start f is (Declare line t x r) = declares_no (Fixed' (fixed.Word (variable_word t))) f (variable_declares t) is.declared
+no_start f is (DeclareBuffer line t x r) = declares_no (Fixed' (fixed.Word (element_word t))) f (element_declares t) is.declared
+no_start f is (DeclareChars line x r) = declares_no (Fixed' (fixed.Word words.Const)) f refl is.declared
+no_start f is (DeclareArray line t x size) = declares_no (Fixed' (fixed.Word (element_word t))) f (element_declares t) is.declared
+no_start f is (Assign line x r) = refl
+no_start f is (AssignElement line x i e) = refl
+no_start f is (Perform line c) = is.paren
+no_start f is (PutJint line e) = is.put
+no_start f is (If line test b) = is.test
+no_start f is (IfElse line test b d) = is.test
+no_start f is (While line test b) = is.loop
+no_start f is (Return line) = is.last
+no_start f is (ReturnValue line e) = is.last
 
--- a statement is read, does not begin with a closing brace, and has a token
-record StmtAgain (room free : ℕ) (s : Stmt) (ls rest : List Lexed) : Type 0 where
-  read : statement_at room free ls ≡ Ok (s, rest)
-  no_brace : starts_with (fixed.Mark marks.CloseBrace) ls ≡ false
-  shorter : length rest < length ls
+no_brace : IsNoStart (fixed.Mark marks.CloseBrace)
+no_brace = record { declared = refl; paren = refl; put = refl; test = refl; loop = refl; last = refl }
 
-statement_again : (room free : ℕ) (s : Stmt) (ls rest : List Lexed) → Begins (statement s) ls rest → IsForm room s → names_of s ≤ free → StmtAgain room free s ls rest
-unfolding statement_at
-statement_again room free (PutJint line e) ls rest h is few =
-    let es : List Spelled = mark marks.OpenParen ∷ (expression e ++ (mark marks.CloseParen ∷ mark marks.Semicolon ∷ [])) in
-    let first : Spelled = OnLine line (Fixed' (fixed.Word words.PutJint)) in
-    let s = on_is line (Fixed' (fixed.Word words.PutJint)) es ls rest (fixed.Word words.PutJint) h in
-    let p = begins_length (first ∷ es) ls rest h in
-    record {
-      read = rw (s, on_line_is line (Fixed' (fixed.Word words.PutJint)) es ls rest h, put_again room line e (behind ls) rest (first_rest first es ls rest h) is) refl;
-      no_brace = on_is line (Fixed' (fixed.Word words.PutJint)) es ls rest (fixed.Mark marks.CloseBrace) h;
-      shorter = omega (arith, p);
-    }
-statement_again room free (Return line) ls rest h is few =
-    let es : List Spelled = mark marks.Semicolon ∷ [] in
-    let first : Spelled = OnLine line (Fixed' (fixed.Word words.Return)) in
-    let s = on_is line (Fixed' (fixed.Word words.Return)) es ls rest (fixed.Word words.PutJint) h in
-    let t = on_is line (Fixed' (fixed.Word words.Return)) es ls rest (fixed.Word words.Return) h in
-    let p = begins_length (first ∷ es) ls rest h in
-    record {
-      read = rw (s, t, on_line_is line (Fixed' (fixed.Word words.Return)) es ls rest h, return_again room line (behind ls) rest (first_rest first es ls rest h)) refl;
-      no_brace = on_is line (Fixed' (fixed.Word words.Return)) es ls rest (fixed.Mark marks.CloseBrace) h;
-      shorter = omega (arith, p);
-    }
-statement_again room free (ReturnValue line e) ls rest h is few =
-    let es : List Spelled = expression e ++ mark marks.Semicolon ∷ [] in
-    let first : Spelled = OnLine line (Fixed' (fixed.Word words.Return)) in
-    let s = on_is line (Fixed' (fixed.Word words.Return)) es ls rest (fixed.Word words.PutJint) h in
-    let t = on_is line (Fixed' (fixed.Word words.Return)) es ls rest (fixed.Word words.Return) h in
-    let p = begins_length (first ∷ es) ls rest h in
-    record {
-      read = rw (s, t, on_line_is line (Fixed' (fixed.Word words.Return)) es ls rest h, value_again room line e (behind ls) rest (first_rest first es ls rest h) is) refl;
-      no_brace = on_is line (Fixed' (fixed.Word words.Return)) es ls rest (fixed.Mark marks.CloseBrace) h;
-      shorter = omega (arith, p);
-    }
-statement_again room free (Declare line t x r) ls rest h is few =
-    let m : Meaning = Fixed' (fixed.Word (variable_word t)) in
-    let es : List Spelled = setting x r in
-    let no = no_statement t is.0 in
-    let s = on_is line m es ls rest (fixed.Word words.PutJint) h ∙ no.put in
-    let v = on_is line m es ls rest (fixed.Word words.Return) h ∙ no.return in
-    let p = begins_length (OnLine line m ∷ es) ls rest h in
-    record {
-      read = rw (s, v, variable_type_again t is.0 line es ls rest h, declared_again room free line t x r ls rest h is.1 few) refl;
-      no_brace = on_is line m es ls rest (fixed.Mark marks.CloseBrace) h;
-      shorter = omega (arith, p);
-    }
-statement_again room free (DeclareBuffer line t x r) ls rest h is few = absurd is
-statement_again room free (DeclareChars line x r) ls rest h is few = absurd is
-statement_again room free (DeclareArray line t x size) ls rest h is few = absurd is
-statement_again room free (Assign line x r) ls rest h is few = absurd is
-statement_again room free (AssignElement line x i e) ls rest h is few = absurd is
-statement_again room free (Perform line c) ls rest h is few = absurd is
-statement_again room free (If line test b) ls rest h is few = absurd is
-statement_again room free (IfElse line test b d) ls rest h is few = absurd is
-statement_again room free (While line test b) ls rest h is few = absurd is
+no_else : IsNoStart (fixed.Word words.Else)
+no_else = record { declared = refl; paren = refl; put = refl; test = refl; loop = refl; last = refl }
 
-abbrev block_read : Block → List Lexed → Result (Block × List Lexed) ParseFault
-block_read b ls = Ok (b, ls)
-
-pub block_again : (room free : ℕ) (b : Block) (steps : ℕ) (returned : Bool) (ls rest : List Lexed) → length ls ≤ steps → Begins (inside b) ls rest → IsBlock room b → MayFollow returned b → length (names_declared (statements_of b)) ≤ free → block_at room free (suc steps) returned ls ≡ Ok (b, rest)
-unfolding block_at
-block_again room free (End line) steps returned ls rest enough h is follows few =
-    let s = on_is line (Fixed' (fixed.Mark marks.CloseBrace)) [] ls rest (fixed.Mark marks.CloseBrace) h in
-    rw (s, on_line_is line (Fixed' (fixed.Mark marks.CloseBrace)) [] ls rest h) (ap (block_read (End line)) (first_rest (OnLine line (Fixed' (fixed.Mark marks.CloseBrace))) [] ls rest h))
-block_again room free (Next s b) steps true ls rest enough h is follows few = absurd follows
-block_again room free (Next s b) zero false ls rest enough h is follows few =
+-- nor does what stands in a block begin with `else`
+inside_no_else : (b : Block) (ls rest : List Lexed) → Begins (inside b) ls rest → starts_with (fixed.Word words.Else) ls ≡ false
+inside_no_else (End line) ls rest h = on_is line (Fixed' (fixed.Mark marks.CloseBrace)) [] ls rest (fixed.Word words.Else) h
+inside_no_else (Next s b) ls rest h =
     let parts = begins_split (statement s) (inside b) ls rest h in
-    let count = names_split (statements_within s) (statements_of b) in
-    let one = statement_again room free s ls parts.0 parts.1 is.0 (omega (arith, count, few)) in
-    absurd (omega (arith, enough, one.shorter))
-block_again room free (Next s b) (suc steps) false ls rest enough h is follows few =
-    let parts = begins_split (statement s) (inside b) ls rest h in
-    let count = names_split (statements_within s) (statements_of b) in
-    let one = statement_again room free s ls parts.0 parts.1 is.0 (omega (arith, count, few)) in
-    let more = block_again room (free - names_of s) b steps (is_return s) parts.0 rest (omega (arith, enough, one.shorter)) parts.2 is.2 is.1 (omega (arith, count, few)) in
-    rw (one.no_brace, one.read, more) refl
+    statement_starts s (fixed.Word words.Else) ls parts.0 parts.1 ∙ no_start (fixed.Word words.Else) no_else s
+
+-- ---- statements without blocks
+
+abbrev statement_read : Stmt → ℕ → List Lexed → Result ReadStmt ParseFault
+statement_read s left ls = Ok (s, left, ls)
+
+declared_simple : (room free : ℕ) (s : Stmt) (ls rest : List Lexed) → Begins (statement s) ls rest → declares (first_meaning s) ≡ true → names_of s ≡ 1 → IsForm room s → IsDeclared s → names_of s ≤ free → simple_at room free ls ≡ Ok (s, free - names_of s, rest)
+unfolding simple_at
+declared_simple room free s ls rest h first one is declared few =
+    let starts = declares_first (line_of s) (first_meaning s) (first_others s) ls rest (begins_first s ls rest h) ∙ first in
+    let left : free - 1 ≡ free - names_of s = omega (arith, one) in
+    rw (starts, ne_eqb free 0 (omega (arith, one, few)), declared_again room s ls rest h is declared) (ap (λ (n : ℕ). statement_read s n rest) left)
+
+plain_simple : (room free : ℕ) (s : Stmt) (ls rest : List Lexed) → Begins (statement s) ls rest → declares (first_meaning s) ≡ false → names_of s ≡ 0 → IsForm room s → IsPlain s → simple_at room free ls ≡ Ok (s, free - names_of s, rest)
+unfolding simple_at
+plain_simple room free s ls rest h first none is plain =
+    let starts = declares_first (line_of s) (first_meaning s) (first_others s) ls rest (begins_first s ls rest h) ∙ first in
+    let left : free ≡ free - names_of s = omega (arith, none) in
+    rw (starts, plain_again room s ls rest h is plain) (ap (λ (n : ℕ). statement_read s n rest) left)
+
+-- ---- blocks
+
+-- a test in its parentheses, and what stands behind them
+record Tested (test more : List Spelled) (ls rest : List Lexed) : Type 0 where
+  inner_ls : List Lexed
+  closing : List Lexed
+  mid : List Lexed
+  opens : expect (fixed.Mark marks.OpenParen) ls ≡ Ok inner_ls
+  parts : Begins test inner_ls closing
+  closed : Closes closing
+  closes : expect (fixed.Mark marks.CloseParen) closing ≡ Ok mid
+  behind_it : Begins more mid rest
+
+abbrev rest_read : List Lexed → Result (List Lexed) ParseFault
+rest_read ls = Ok ls
+
+tested_again : (test more : List Spelled) (ls rest : List Lexed) → Begins (tested_tail test ++ more) ls rest → Tested test more ls rest
+tested_again test more ls rest h =
+    let s = begins_split (tested_tail test) more ls rest h in
+    let o = expect_again (fixed.Mark marks.OpenParen) (test ++ mark marks.CloseParen ∷ []) ls s.0 s.1 in
+    let p = begins_split test (mark marks.CloseParen ∷ []) o.0 s.0 o.2 in
+    let c = expect_again (fixed.Mark marks.CloseParen) [] p.0 s.0 p.2 in
+    record {
+      inner_ls = o.0;
+      closing = p.0;
+      mid = s.0;
+      opens = o.1;
+      parts = p.1;
+      closed = closes_mark marks.CloseParen refl refl [] p.0 s.0 p.2;
+      closes = c.1 ∙ ap rest_read c.2;
+      behind_it = s.2;
+    }
+
+abbrev AllBlocksAgain : BlockReader → ℕ → Type 0
+AllBlocksAgain deep room = (free : ℕ) (b : Block) (ls rest : List Lexed) → 1 ≤ room → Begins (inside b) ls rest → IsBlock (room - 1) b → names_in b ≤ free → deep free ls ≡ Ok (b, free - names_in b, rest)
+
+abbrev block_read : Block → ℕ → List Lexed → Result ReadBlock ParseFault
+block_read b left ls = Ok (b, left, ls)
+
+module _ (deep : BlockReader) (room : ℕ) (all : AllBlocksAgain deep room) where
+  -- up to the end of the first block
+  if_head : (free line : ℕ) (test : Test) (b : Block) (ls mid : List Lexed) → Begins (tested_tail (test_tokens test) ++ mark marks.OpenBrace ∷ inside b) ls mid → 1 ≤ room → IsTest room test → IsBlock (room - 1) b → names_in b ≤ free → if_by deep room free line ls ≡ else_by deep line test b (free - names_in b) mid
+  unfolding if_by
+  if_head free line test b ls mid h some is_test is_block few =
+      let t = tested_again (test_tokens test) (mark marks.OpenBrace ∷ inside b) ls mid h in
+      let d = expect_again (fixed.Mark marks.OpenBrace) (inside b) t.mid mid t.behind_it in
+      rw (t.opens, test_again room test t.inner_ls t.closing t.parts is_test t.closed, t.closes, d.1, all free b d.0 mid some d.2 is_block few) refl
+
+  if_again : (free line : ℕ) (test : Test) (b : Block) (ls rest : List Lexed) → Begins (tested_tail (test_tokens test) ++ mark marks.OpenBrace ∷ inside b) ls rest → 1 ≤ room → IsTest room test → IsBlock (room - 1) b → names_in b ≤ free → starts_with (fixed.Word words.Else) rest ≡ false → if_by deep room free line ls ≡ Ok (If line test b, free - names_in b, rest)
+  unfolding else_by
+  if_again free line test b ls rest h some is_test is_block few other = rw (if_head free line test b ls rest h some is_test is_block few, other) refl
+
+  else_again : (free line : ℕ) (test : Test) (b d : Block) (ls rest : List Lexed) → Begins (word words.Else ∷ mark marks.OpenBrace ∷ inside d) ls rest → 1 ≤ room → IsBlock (room - 1) d → names_in d ≤ free → else_by deep line test b free ls ≡ Ok (IfElse line test b d, free - names_in d, rest)
+  unfolding else_by
+  else_again free line test b d ls rest h some is_block few =
+      let s = first_is (Fixed' (fixed.Word words.Else)) (mark marks.OpenBrace ∷ inside d) ls rest (fixed.Word words.Else) h in
+      let o = expect_again (fixed.Mark marks.OpenBrace) (inside d) (behind ls) rest (first_rest (word words.Else) (mark marks.OpenBrace ∷ inside d) ls rest h) in
+      rw (s, o.1, all free d o.0 rest some o.2 is_block few) refl
+
+  while_again : (free line : ℕ) (test : Expr) (b : Block) (ls rest : List Lexed) → Begins (tested_tail (expression test) ++ mark marks.OpenBrace ∷ inside b) ls rest → 1 ≤ room → IsExpr room test → IsBlock (room - 1) b → names_in b ≤ free → while_by deep room free line ls ≡ Ok (While line test b, free - names_in b, rest)
+  unfolding while_by
+  while_again free line test b ls rest h some is_test is_block few =
+      let t = tested_again (expression test) (mark marks.OpenBrace ∷ inside b) ls rest h in
+      let d = expect_again (fixed.Mark marks.OpenBrace) (inside b) t.mid rest t.behind_it in
+      rw (t.opens, expr_reads_again room t.inner_ls t.closing test t.parts is_test t.closed, t.closes, d.1, all free b d.0 rest some d.2 is_block few) refl
+
+  simple_again : (free : ℕ) (s : Stmt) (ls rest : List Lexed) → Begins (statement s) ls rest → is_fixed_meaning (first_meaning s) (fixed.Word words.If) ≡ false → is_fixed_meaning (first_meaning s) (fixed.Word words.While) ≡ false → simple_at room free ls ≡ Ok (s, free - names_of s, rest) → statement_by deep room free ls ≡ Ok (s, free - names_of s, rest)
+  unfolding statement_by
+  simple_again free s ls rest h no_if no_while read = rw (statement_starts s (fixed.Word words.If) ls rest h ∙ no_if, statement_starts s (fixed.Word words.While) ls rest h ∙ no_while, read) refl
+
+  declared_statement : (free : ℕ) (s : Stmt) (ls rest : List Lexed) → Begins (statement s) ls rest → declares (first_meaning s) ≡ true → names_of s ≡ 1 → IsForm room s → IsDeclared s → names_of s ≤ free → statement_by deep room free ls ≡ Ok (s, free - names_of s, rest)
+  declared_statement free s ls rest h first one is declared few =
+      simple_again free s ls rest h (declares_no (first_meaning s) (fixed.Word words.If) first refl) (declares_no (first_meaning s) (fixed.Word words.While) first refl) (declared_simple room free s ls rest h first one is declared few)
+
+  -- a statement, behind which no `else` stands
+  statement_again : (free : ℕ) (s : Stmt) (ls rest : List Lexed) → Begins (statement s) ls rest → IsForm room s → names_of s ≤ free → starts_with (fixed.Word words.Else) rest ≡ false → statement_by deep room free ls ≡ Ok (s, free - names_of s, rest)
+  unfolding statement_by first_meaning
+  statement_again free (Declare line t x r) ls rest h is few other = declared_statement free (Declare line t x r) ls rest h (variable_declares t) refl is tt few
+  statement_again free (DeclareBuffer line t x r) ls rest h is few other = declared_statement free (DeclareBuffer line t x r) ls rest h (element_declares t) refl is tt few
+  statement_again free (DeclareChars line x r) ls rest h is few other = declared_statement free (DeclareChars line x r) ls rest h refl refl is tt few
+  statement_again free (DeclareArray line t x size) ls rest h is few other = declared_statement free (DeclareArray line t x size) ls rest h (element_declares t) refl is tt few
+  statement_again free (Assign line x r) ls rest h is few other = simple_again free (Assign line x r) ls rest h refl refl (plain_simple room free (Assign line x r) ls rest h refl refl is tt)
+  statement_again free (AssignElement line x i e) ls rest h is few other = simple_again free (AssignElement line x i e) ls rest h refl refl (plain_simple room free (AssignElement line x i e) ls rest h refl refl is tt)
+  statement_again free (Perform line c) ls rest h is few other = simple_again free (Perform line c) ls rest h refl refl (plain_simple room free (Perform line c) ls rest h refl refl is tt)
+  statement_again free (PutJint line e) ls rest h is few other = simple_again free (PutJint line e) ls rest h refl refl (plain_simple room free (PutJint line e) ls rest h refl refl is tt)
+  statement_again free (Return line) ls rest h is few other = simple_again free (Return line) ls rest h refl refl (plain_simple room free (Return line) ls rest h refl refl is tt)
+  statement_again free (ReturnValue line e) ls rest h is few other = simple_again free (ReturnValue line e) ls rest h refl refl (plain_simple room free (ReturnValue line e) ls rest h refl refl is tt)
+  statement_again free (If line test b) ls rest h is few other =
+      let m : Meaning = Fixed' (fixed.Word words.If) in
+      let es : List Spelled = tested_tail (test_tokens test) ++ mark marks.OpenBrace ∷ inside b in
+      let s = on_is line m es ls rest (fixed.Word words.If) h in
+      rw (s, ne_eqb room 0 (omega (arith, is.0)), on_line_is line m es ls rest h) (if_again free line test b (behind ls) rest (first_rest (OnLine line m) es ls rest h) is.0 is.1 is.2 few other)
+  statement_again free (IfElse line test b d) ls rest h is few other =
+      let m : Meaning = Fixed' (fixed.Word words.If) in
+      let es : List Spelled = tested_tail (test_tokens test) ++ mark marks.OpenBrace ∷ inside b in
+      let parts = begins_split (OnLine line m ∷ es) (word words.Else ∷ mark marks.OpenBrace ∷ inside d) ls rest h in
+      let split = names_split (statements_of b) (statements_of d) in
+      let s = on_is line m es ls parts.0 (fixed.Word words.If) parts.1 in
+      let first = if_head free line test b (behind ls) parts.0 (first_rest (OnLine line m) es ls parts.0 parts.1) is.0 is.1 is.2 (omega (arith, few, split)) in
+      let second = else_again (free - names_in b) line test b d parts.0 rest parts.2 is.0 is.3 (omega (arith, few, split)) in
+      let left : free - names_in b - names_in d ≡ free - names_of (IfElse line test b d) = omega (arith, split) in
+      rw (s, ne_eqb room 0 (omega (arith, is.0)), on_line_is line m es ls parts.0 parts.1, first, second) (ap (λ (n : ℕ). statement_read (IfElse line test b d) n rest) left)
+  statement_again free (While line test b) ls rest h is few other =
+      let m : Meaning = Fixed' (fixed.Word words.While) in
+      let es : List Spelled = tested_tail (expression test) ++ mark marks.OpenBrace ∷ inside b in
+      let s = on_is line m es ls rest (fixed.Word words.If) h in
+      let t = on_is line m es ls rest (fixed.Word words.While) h in
+      rw (s, t, ne_eqb room 0 (omega (arith, is.0)), on_line_is line m es ls rest h) (while_again free line test b (behind ls) rest (first_rest (OnLine line m) es ls rest h) is.0 is.1 is.2 few)
+
+  block_by_again : (free : ℕ) (b : Block) (steps : ℕ) (returned : Bool) (ls rest : List Lexed) → length ls ≤ steps → Begins (inside b) ls rest → IsBlock room b → MayFollow returned b → names_in b ≤ free → block_by deep room free (suc steps) returned ls ≡ Ok (b, free - names_in b, rest)
+  unfolding block_by
+  block_by_again free (End line) steps returned ls rest enough h is follows few =
+      let s = on_is line (Fixed' (fixed.Mark marks.CloseBrace)) [] ls rest (fixed.Mark marks.CloseBrace) h in
+      let none : free ≡ free - 0 = omega arith in
+      rw (s, on_line_is line (Fixed' (fixed.Mark marks.CloseBrace)) [] ls rest h) (ap (block_read (End line) free) (first_rest (OnLine line (Fixed' (fixed.Mark marks.CloseBrace))) [] ls rest h) ∙ ap (λ (n : ℕ). block_read (End line) n rest) none)
+  block_by_again free (Next s b) steps true ls rest enough h is follows few = absurd follows
+  block_by_again free (Next s b) zero false ls rest enough h is follows few =
+      let parts = begins_split (statement s) (inside b) ls rest h in
+      let short = statement_shorter s ls parts.0 parts.1 in
+      absurd (omega (arith, enough, short))
+  block_by_again free (Next s b) (suc steps) false ls rest enough h is follows few =
+      let parts = begins_split (statement s) (inside b) ls rest h in
+      let count = names_split (statements_within s) (statements_of b) in
+      let brace = statement_starts s (fixed.Mark marks.CloseBrace) ls parts.0 parts.1 ∙ no_start (fixed.Mark marks.CloseBrace) no_brace s in
+      let short = statement_shorter s ls parts.0 parts.1 in
+      let one = statement_again free s ls parts.0 parts.1 is.0 (omega (arith, count, few)) (inside_no_else b parts.0 rest parts.2) in
+      let more = block_by_again (free - names_of s) b steps (is_return s) parts.0 rest (omega (arith, enough, short)) parts.2 is.2 is.1 (omega (arith, count, few)) in
+      let left : free - names_of s - names_in b ≡ free - names_in (Next s b) = omega (arith, count) in
+      rw (brace, one, more) (ap (λ (n : ℕ). block_read (Next s b) n rest) left)
+
+inner_again : (room : ℕ) → AllBlocksAgain (inner room) room
+unfolding inner
+inner_again zero = λ free b ls rest some h is few. absurd (omega (arith, some))
+inner_again (suc room) = λ free b ls rest some h is few.
+    let same : suc room - 1 ≡ room = omega arith in
+    rw (add-one (length ls)) (block_by_again (inner room) room (inner_again room) free b (length ls) false ls rest (omega arith) h (subst (λ (n : ℕ). IsBlock n b) same is) tt few)
+
+pub block_again : (room free : ℕ) (b : Block) (ls rest : List Lexed) → Begins (inside b) ls rest → IsBlock room b → names_in b ≤ free → block_at room free ls ≡ Ok (b, free - names_in b, rest)
+block_again room free b ls rest h is few = rw (add-one (length ls)) (block_by_again (inner room) room (inner_again room) free b (length ls) false ls rest (omega arith) h is tt few)
 
 -- ---- functions
 
@@ -177,15 +285,6 @@ expect_on : (line : ℕ) (f : Fixed) (es : List Spelled) (ls rest : List Lexed) 
 unfolding expect
 expect_on line f es [] rest h = absurd h
 expect_on line f es (l ∷ ls) rest h = rw (h.0.0, same_itself f) refl
-
-result_again : (r : ResultType) → IsTrue (is_built_result r) → (es : List Spelled) (ls rest : List Lexed) → Begins (word (result_word r) ∷ es) ls rest → result_at ls ≡ Ok (r, behind ls)
-unfolding result_at
-result_again Void built es ls rest h = rw (first_is (Fixed' (fixed.Word words.Void)) es ls rest (fixed.Word words.Void) h) refl
-result_again IntResult built es ls rest h = rw (first_is (Fixed' (fixed.Word words.Jint)) es ls rest (fixed.Word words.Void) h, first_is (Fixed' (fixed.Word words.Jint)) es ls rest (fixed.Word words.Jint) h) refl
-result_again (ReferenceResult r) built es ls rest h = absurd (no_built built)
-  where
-    no_built : false ≡ true → ⊥
-    no_built e = cc
 
 head_again : (es : List Spelled) (ls rest : List Lexed) → Begins (parameters_head ++ es) ls rest → (after : List Lexed) × (head_at ls ≡ Ok after) × Begins es after rest
 unfolding head_at
@@ -223,13 +322,12 @@ parameters_again (suc free) (p ∷ ps) ls rest few h comma =
     let more = parameters_again free ps (behind (behind (behind ls))) rest (omega (arith, few)) h3 comma in
     rw (s, one, more) refl
 
-body_again : (free : ℕ) (b : Block) (ls rest : List Lexed) → Begins (mark marks.CloseParen ∷ mark marks.OpenBrace ∷ inside b) ls rest → IsBlock 31 b → length (names_declared (statements_of b)) ≤ free → body_at free ls ≡ Ok (b, rest)
+body_again : (free : ℕ) (b : Block) (ls rest : List Lexed) → Begins (mark marks.CloseParen ∷ mark marks.OpenBrace ∷ inside b) ls rest → IsBlock 31 b → names_in b ≤ free → body_at free ls ≡ Ok (b, rest)
 unfolding body_at
 body_again free b ls rest h is few =
     let a = expect_again (fixed.Mark marks.CloseParen) (mark marks.OpenBrace ∷ inside b) ls rest h in
     let c = expect_again (fixed.Mark marks.OpenBrace) (inside b) a.0 rest a.2 in
-    let d = block_again 31 free b (length c.0) false c.0 rest (omega arith) c.2 is tt few in
-    rw (a.1, c.1, add-one (length c.0)) d
+    rw (a.1, c.1, block_again 31 free b c.0 rest c.2 is few) refl
 
 record FunctionAgain (f : Function) (ls rest : List Lexed) : Type 0 where
   read : function_at ls ≡ Ok (f, rest)
@@ -250,7 +348,7 @@ function_again f ls rest h is =
     let es1 : List Spelled = word (result_word f.result) ∷ es2 in
     let first : Spelled = OnLine f.line (Fixed' (fixed.Word words.JniExport)) in
     let h1 = first_rest first es1 ls rest h in
-    let r = result_again f.result is.result es2 (behind ls) rest h1 in
+    let r = result_type_again f.result es2 (behind ls) rest h1 in
     let h2 = first_rest (word (result_word f.result)) es2 (behind ls) rest h1 in
     let c = expect_again (fixed.Word words.JniCall) es3 (behind (behind ls)) rest h2 in
     let n = name_again f.name es4 c.0 rest c.2 in
@@ -270,18 +368,62 @@ function_again f ls rest h is =
       shorter = omega (arith, p);
     }
 
+-- ---- statics
+
+record StaticAgain (s : Static) (ls rest : List Lexed) : Type 0 where
+  read : static_at ls ≡ Ok (s, rest)
+  no_end : starts_with fixed.End ls ≡ false
+  no_export : starts_with (fixed.Word words.JniExport) ls ≡ false
+  starts : starts_with (fixed.Word words.Static) ls ≡ true
+  shorter : length rest < length ls
+
+abbrev static_read : Static → List Lexed → Result (Static × List Lexed) ParseFault
+static_read s ls = Ok (s, ls)
+
+static_again : (s : Static) (ls rest : List Lexed) → Begins (item (StaticItem s)) ls rest → StaticAgain s ls rest
+unfolding static_at
+static_again s ls rest h =
+    let m : Meaning = Fixed' (fixed.Word words.Static) in
+    let es4 : List Spelled = word words.Null ∷ mark marks.Semicolon ∷ [] in
+    let es3 : List Spelled = mark marks.Assign ∷ es4 in
+    let es2 : List Spelled = Anywhere (Name' s.name) ∷ es3 in
+    let es1 : List Spelled = word (reference_word s.type) ∷ es2 in
+    let h1 = first_rest (OnLine s.line m) es1 ls rest h in
+    let t = reference_type_again s.type es2 (behind ls) rest h1 in
+    let h2 = first_rest (word (reference_word s.type)) es2 (behind ls) rest h1 in
+    let n = name_again s.name es3 (behind (behind ls)) rest h2 in
+    let a = expect_again (fixed.Mark marks.Assign) es4 (behind (behind (behind ls))) rest (first_rest (Anywhere (Name' s.name)) es3 (behind (behind ls)) rest h2) in
+    let b = expect_again (fixed.Word words.Null) (mark marks.Semicolon ∷ []) a.0 rest a.2 in
+    let c = expect_again (fixed.Mark marks.Semicolon) [] b.0 rest b.2 in
+    let p = begins_length (OnLine s.line m ∷ es1) ls rest h in
+    record {
+      read = rw (expect_on s.line (fixed.Word words.Static) es1 ls rest h, t, n, a.1, b.1, c.1, on_line_is s.line m es1 ls rest h) (ap (static_read s) c.2);
+      no_end = on_is s.line m es1 ls rest fixed.End h;
+      no_export = on_is s.line m es1 ls rest (fixed.Word words.JniExport) h;
+      starts = on_is s.line m es1 ls rest (fixed.Word words.Static) h;
+      shorter = omega (arith, p);
+    }
+
 -- ---- units
 
-pub items_again : (items : List Item) (steps count : ℕ) (ls rest : List Lexed) → length ls ≤ steps → Begins (flat_map item items) ls rest → starts_with fixed.End rest ≡ true → AreItems items → count + length items ≤ 256 → items_at (suc steps) count ls ≡ Ok items
-unfolding items_at
-items_again [] steps count ls rest enough h ended is few = rw (ap (starts_with fixed.End) h ∙ ended) refl
-items_again (StaticItem s ∷ items) steps count ls rest enough h ended is few = absurd is
-items_again (FunctionItem f ∷ items) zero count ls rest enough h ended is few =
+pub items_again : (items : List Item) (steps functions statics : ℕ) (ls rest : List Lexed) → length ls ≤ steps → Begins (flat_map item items) ls rest → starts_with fixed.End rest ≡ true → AreItems items → functions_in items ≤ functions → statics_in items ≤ statics → items_at (suc steps) functions statics ls ≡ Ok items
+unfolding items_at item_at
+items_again [] steps functions statics ls rest enough h ended is few_functions few_statics = rw (ap (starts_with fixed.End) h ∙ ended) refl
+items_again (StaticItem s ∷ items) zero functions statics ls rest enough h ended is few_functions few_statics =
+    let parts = begins_split (item (StaticItem s)) (flat_map item items) ls rest h in
+    let one = static_again s ls parts.0 parts.1 in
+    absurd (omega (arith, enough, one.shorter))
+items_again (StaticItem s ∷ items) (suc steps) functions statics ls rest enough h ended is few_functions few_statics =
+    let parts = begins_split (item (StaticItem s)) (flat_map item items) ls rest h in
+    let one = static_again s ls parts.0 parts.1 in
+    let more = items_again items steps functions (statics - 1) parts.0 rest (omega (arith, enough, one.shorter)) parts.2 ended is few_functions (omega (arith, few_statics)) in
+    rw (one.no_end, one.no_export, one.starts, ne_eqb statics 0 (omega (arith, few_statics)), one.read, more) refl
+items_again (FunctionItem f ∷ items) zero functions statics ls rest enough h ended is few_functions few_statics =
     let parts = begins_split (function f) (flat_map item items) ls rest h in
     let one = function_again f ls parts.0 parts.1 is.0 in
     absurd (omega (arith, enough, one.shorter))
-items_again (FunctionItem f ∷ items) (suc steps) count ls rest enough h ended is few =
+items_again (FunctionItem f ∷ items) (suc steps) functions statics ls rest enough h ended is few_functions few_statics =
     let parts = begins_split (function f) (flat_map item items) ls rest h in
     let one = function_again f ls parts.0 parts.1 is.0 in
-    let more = items_again items steps (count + 1) parts.0 rest (omega (arith, enough, one.shorter)) parts.2 ended is.1 (omega (arith, few)) in
-    rw (one.no_end, one.export, ne_eqb count 256 (omega (arith, few)), one.read, more) refl
+    let more = items_again items steps (functions - 1) statics parts.0 rest (omega (arith, enough, one.shorter)) parts.2 ended is.1 (omega (arith, few_functions)) few_statics in
+    rw (one.no_end, one.export, ne_eqb functions 0 (omega (arith, few_functions)), one.read, more) refl

@@ -8,6 +8,8 @@ pub mod Lines
 pub mod JniCalls
 pub mod Commas
 pub mod Sentences
+pub mod Declared
+pub mod Nested
 pub mod Blocks
 pub mod Programs
 pub mod Again

@@ -1,10 +1,10 @@
 -- Functions and units: what is read is spelled so, and what is spelled so is read.
-use Rattle.std.proofs.Common.{◌≡◌, ℕ, zero, suc, ◌+◌, ◌-◌, ◌<◌, ◌≤◌, true, false, List, [], ◌∷◌, ◌++◌, length, Option, Some, None, Result, Ok, refl, sym, ap, subst, arith, inl, inr}
+use Rattle.std.proofs.Common.{◌≡◌, ℕ, zero, suc, ◌+◌, ◌-◌, ◌<◌, ◌≤◌, true, List, [], ◌∷◌, ◌++◌, length, Option, Some, None, Result, Ok, refl, ap, subst, arith, inl, inr}
 use Rattle.std.specs.Prelude.{◌==◌, ◌≢◌, flat_map}
 use Rattle.std.proofs.lemmas.Bool.{eqb-false}
 use Rattle.scan.specs.declared.token.Mark.TheVariants as marks
-use Rattle.syntax.specs.Tree.{ResultType, Void, IntResult, ParameterType, Parameter, Block, Function, Item, FunctionItem}
-use Rattle.syntax.specs.Parts.{statements_of, names_declared}
+use Rattle.syntax.specs.Tree.{ReferenceType, ResultType, ParameterType, Parameter, Block, Function, Static, Item, StaticItem, FunctionItem}
+use Rattle.syntax.specs.Parts.{functions_of, statics_of}
 use Rattle.parse.specs.declared.fault.ParseFault.{ParseFault}
 use Rattle.parse.specs.declared.words.Word.TheVariants as words
 use Rattle.parse.specs.declared.lexemes.Fixed.{Fixed}
@@ -12,35 +12,12 @@ use Rattle.parse.specs.declared.lexemes.Fixed.TheVariants as fixed
 use Rattle.parse.specs.Results.{◌>>=◌}
 use Rattle.parse.specs.Meaning.{Fixed', Name'}
 use Rattle.parse.specs.Lexemes.{Lexed, line_at, expect, name_at}
-use Rattle.parse.specs.Built.{is_built_result}
-use Rattle.parse.specs.Spelling.{Spelled, Anywhere, OnLine, mark, word, result_word, parameter_word, inside, parameter, function, item}
-use Rattle.parse.specs.Reading.{starts_with, behind, found, parameter_type_at, parameter_at, parameters_at, result_at, head_at, body_at, block_at, function_at, items_at}
-use Rattle.parse.proofs.Forms.{IsBlock, IsFunction, AreItems}
+use Rattle.parse.specs.Spelling.{Spelled, Anywhere, OnLine, mark, word, reference_word, result_word, parameter_word, inside, parameter, function, item}
+use Rattle.parse.specs.Reading.{starts_with, behind, found, reference_type_at, result_type_at, parameter_type_at, parameter_at, parameters_at, head_at, body_at, block_at, function_at, static_at, ReadItem, item_at, items_at}
+use Rattle.parse.proofs.Forms.{names_in, IsBlock, IsFunction, AreItems}
 use Rattle.parse.proofs.Singles.{Begins, bind_ok, ok_is, chosen, begins_append, first_takes, starts_takes, expect_takes, then_takes, name_takes, shortens}
-use Rattle.parse.proofs.TypeWords.{parameter_type_takes}
-use Rattle.parse.proofs.Sentences.{block_takes}
-
-result_takes : (ls : List Lexed) (x : ResultType × List Lexed) → result_at ls ≡ Ok x → Begins (word (result_word x.0) ∷ []) ls x.1
-unfolding result_at
-result_takes ls x e =
-    elim (chosen (starts_with (fixed.Word words.Void) ls) _ _ (Ok x) e) [
-      | inl w ↦ subst (λ (y : ResultType × List Lexed). Begins (word (result_word y.0) ∷ []) ls y.1) (ok_is (Void, behind ls) x w.1) (starts_takes (fixed.Word words.Void) ls w.0)
-      | inr v ↦ elim (chosen (starts_with (fixed.Word words.Jint) ls) _ _ (Ok x) v.1) [
-        | inl w ↦ subst (λ (y : ResultType × List Lexed). Begins (word (result_word y.0) ∷ []) ls y.1) (ok_is (IntResult, behind ls) x w.1) (starts_takes (fixed.Word words.Jint) ls w.0)
-        | inr w ↦ absurd cc
-      ]
-    ]
-
-result_built : (ls : List Lexed) (x : ResultType × List Lexed) → result_at ls ≡ Ok x → is_built_result x.0 ≡ true
-unfolding result_at
-result_built ls x e =
-    elim (chosen (starts_with (fixed.Word words.Void) ls) _ _ (Ok x) e) [
-      | inl w ↦ ap (λ (y : ResultType × List Lexed). is_built_result y.0) (sym (ok_is (Void, behind ls) x w.1))
-      | inr v ↦ elim (chosen (starts_with (fixed.Word words.Jint) ls) _ _ (Ok x) v.1) [
-        | inl w ↦ ap (λ (y : ResultType × List Lexed). is_built_result y.0) (sym (ok_is (IntResult, behind ls) x w.1))
-        | inr w ↦ absurd cc
-      ]
-    ]
+use Rattle.parse.proofs.TypeWords.{reference_type_takes, result_type_takes, parameter_type_takes}
+use Rattle.parse.proofs.Nested.{block_takes}
 
 -- the parameters that each function has, up to the name of its class
 abbrev pub parameters_head : List Spelled
@@ -115,20 +92,23 @@ parameters_take (suc free) ls x e =
 record TakesBody (free : ℕ) (ls : List Lexed) (x : Block × List Lexed) : Type 0 where
   parts : Begins (mark marks.CloseParen ∷ mark marks.OpenBrace ∷ inside x.0) ls x.1
   formed : IsBlock 31 x.0
-  few : length (names_declared (statements_of x.0)) ≤ free
+  few : names_in x.0 ≤ free
 
 body_takes : (free : ℕ) (ls : List Lexed) (x : Block × List Lexed) → body_at free ls ≡ Ok x → TakesBody free ls x
 unfolding body_at
 body_takes free ls x h =
-    let a = bind_ok (expect (fixed.Mark marks.CloseParen) ls) (λ a. expect (fixed.Mark marks.OpenBrace) a >>= λ b. block_at 31 free (length b + 1) false b) x h in
-    let b = bind_ok (expect (fixed.Mark marks.OpenBrace) a.0) (λ b. block_at 31 free (length b + 1) false b) x a.2 in
-    let t = block_takes 31 free (length b.0 + 1) false b.0 x b.2 in
-    let within = then_takes (fixed.Mark marks.OpenBrace) (inside x.0) a.0 b.0 x.1 b.1 t.parts in
-    record {
-      parts = then_takes (fixed.Mark marks.CloseParen) (mark marks.OpenBrace ∷ inside x.0) ls a.0 x.1 a.1 within;
+    let a = bind_ok (expect (fixed.Mark marks.CloseParen) ls) (λ a. expect (fixed.Mark marks.OpenBrace) a >>= λ b. block_at 31 free b >>= λ body. Ok (body.0, body.2)) x h in
+    let b = bind_ok (expect (fixed.Mark marks.OpenBrace) a.0) (λ b. block_at 31 free b >>= λ body. Ok (body.0, body.2)) x a.2 in
+    let c = bind_ok (block_at 31 free b.0) (λ body. Ok (body.0, body.2)) x b.2 in
+    let t = block_takes 31 free b.0 c.0 c.1 in
+    let within = then_takes (fixed.Mark marks.OpenBrace) (inside c.0.0) a.0 b.0 c.0.2 b.1 t.parts in
+    let count = t.count in
+    let made : Block × List Lexed = (c.0.0, c.0.2) in
+    subst (λ (y : Block × List Lexed). TakesBody free ls y) (ok_is made x c.2) (record {
+      parts = then_takes (fixed.Mark marks.CloseParen) (mark marks.OpenBrace ∷ inside c.0.0) ls a.0 c.0.2 a.1 within;
       formed = t.formed;
-      few = t.few;
-    }
+      few = omega (arith, count);
+    })
 
 -- the first lexeme, with its line
 on_expected : (f : Fixed) (ls rest : List Lexed) → expect f ls ≡ Ok rest → Begins (OnLine (line_at ls) (Fixed' f) ∷ []) ls rest
@@ -165,7 +145,7 @@ abbrev step1 : ℕ → ResultType × List Lexed → Read
 step1 line r = expect (fixed.Word words.JniCall) r.1 >>= step2 line r.0
 
 abbrev step0 : ℕ → List Lexed → Read
-step0 line ls = result_at ls >>= step1 line
+step0 line ls = found (result_type_at ls) ls >>= step1 line
 
 pub record TakesFunction (ls : List Lexed) (x : Function × List Lexed) : Type 0 where
   pub parts : Begins (function x.0) ls x.1
@@ -177,7 +157,9 @@ unfolding function_at
 function_takes ls x h =
     let line = line_at ls in
     let a = bind_ok (expect (fixed.Word words.JniExport) ls) (step0 line) x h in
-    let b = bind_ok (result_at a.0) (step1 line) x a.2 in
+    let b = bind_ok (found (result_type_at a.0) a.0) (step1 line) x a.2 in
+    let result = found_ok (result_type_at a.0) a.0 b.0 b.1 in
+    let type = subst (λ (mid : List Lexed). Begins (word (result_word b.0.0) ∷ []) a.0 mid) result.1 (result_type_takes b.0.0 a.0 result.0) in
     let c = bind_ok (expect (fixed.Word words.JniCall) b.0.1) (step2 line b.0.0) x b.2 in
     let d = bind_ok (name_at c.0) (step3 line b.0.0) x c.2 in
     let e = bind_ok (head_at d.0.1) (step4 line b.0.0 d.0.0) x d.2 in
@@ -196,47 +178,146 @@ function_takes ls x h =
     let t4 = begins_append parameters_head es5 d.0.1 e.0 g.0.1 (head_takes d.0.1 e.0 e.1) t5 in
     let t3 = begins_append (Anywhere (Name' d.0.0) ∷ []) (parameters_head ++ es5) c.0 d.0.1 g.0.1 (name_takes c.0 d.0 d.1) t4 in
     let t2 = begins_append (word words.JniCall ∷ []) es3 b.0.1 c.0 g.0.1 (expect_takes (fixed.Word words.JniCall) b.0.1 c.0 c.1) t3 in
-    let t1 = begins_append (word (result_word b.0.0) ∷ []) es2 a.0 b.0.1 g.0.1 (result_takes a.0 b.0 b.1) t2 in
+    let t1 = begins_append (word (result_word b.0.0) ∷ []) es2 a.0 b.0.1 g.0.1 type t2 in
     let t0 = begins_append (OnLine line (Fixed' (fixed.Word words.JniExport)) ∷ []) es1 ls a.0 g.0.1 (on_expected (fixed.Word words.JniExport) ls a.0 a.1) t1 in
     let few = ps.1 in
     subst (λ (y : Function × List Lexed). TakesFunction ls y) (ok_is (made line b.0.0 d.0.0 f.0.0 k.0.0 g.0.0, g.0.1) x g.2) (record {
       parts = t0;
-      formed = record { result = result_built a.0 b.0 b.1; body = body.formed; names = omega (arith, few, body.few) };
+      formed = record { body = body.formed; names = omega (arith, few, body.few) };
       shorter = shortens (OnLine line (Fixed' (fixed.Word words.JniExport))) es1 ls g.0.1 t0;
+    })
+
+-- ---- statics
+
+abbrev ReadStatic : Type 0
+ReadStatic = Result (Static × List Lexed) ParseFault
+
+abbrev static_of : ℕ → ReferenceType → List ℕ → Static
+static_of line t n = record { line = line; type = t; name = n }
+
+abbrev static4 : ℕ → ReferenceType → List ℕ → List Lexed → ReadStatic
+static4 line t n c = expect (fixed.Mark marks.Semicolon) c >>= λ rest. Ok (static_of line t n, rest)
+
+abbrev static3 : ℕ → ReferenceType → List ℕ → List Lexed → ReadStatic
+static3 line t n b = expect (fixed.Word words.Null) b >>= static4 line t n
+
+abbrev static2 : ℕ → ReferenceType → List ℕ × List Lexed → ReadStatic
+static2 line t n = expect (fixed.Mark marks.Assign) n.1 >>= static3 line t n.0
+
+abbrev static1 : ℕ → ReferenceType × List Lexed → ReadStatic
+static1 line t = name_at t.1 >>= static2 line t.0
+
+abbrev static0 : ℕ → List Lexed → ReadStatic
+static0 line a = found (reference_type_at a) a >>= static1 line
+
+record TakesStatic (ls : List Lexed) (x : Static × List Lexed) : Type 0 where
+  parts : Begins (item (StaticItem x.0)) ls x.1
+  shorter : length x.1 < length ls
+
+static_takes : (ls : List Lexed) (x : Static × List Lexed) → static_at ls ≡ Ok x → TakesStatic ls x
+unfolding static_at
+static_takes ls x h =
+    let line = line_at ls in
+    let a = bind_ok (expect (fixed.Word words.Static) ls) (static0 line) x h in
+    let b = bind_ok (found (reference_type_at a.0) a.0) (static1 line) x a.2 in
+    let c = bind_ok (name_at b.0.1) (static2 line b.0.0) x b.2 in
+    let d = bind_ok (expect (fixed.Mark marks.Assign) c.0.1) (static3 line b.0.0 c.0.0) x c.2 in
+    let e = bind_ok (expect (fixed.Word words.Null) d.0) (static4 line b.0.0 c.0.0) x d.2 in
+    let f = bind_ok (expect (fixed.Mark marks.Semicolon) e.0) (λ rest. Ok (static_of line b.0.0 c.0.0, rest)) x e.2 in
+    let type = found_ok (reference_type_at a.0) a.0 b.0 b.1 in
+    let first = subst (λ (mid : List Lexed). Begins (word (reference_word b.0.0) ∷ []) a.0 mid) type.1 (reference_type_takes b.0.0 a.0 type.0) in
+    let es4 : List Spelled = word words.Null ∷ mark marks.Semicolon ∷ [] in
+    let es3 : List Spelled = mark marks.Assign ∷ es4 in
+    let es2 : List Spelled = Anywhere (Name' c.0.0) ∷ es3 in
+    let es1 : List Spelled = word (reference_word b.0.0) ∷ es2 in
+    let t4 = then_takes (fixed.Word words.Null) (mark marks.Semicolon ∷ []) d.0 e.0 f.0 e.1 (expect_takes (fixed.Mark marks.Semicolon) e.0 f.0 f.1) in
+    let t3 = then_takes (fixed.Mark marks.Assign) es4 c.0.1 d.0 f.0 d.1 t4 in
+    let t2 = begins_append (Anywhere (Name' c.0.0) ∷ []) es3 b.0.1 c.0.1 f.0 (name_takes b.0.1 c.0 c.1) t3 in
+    let t1 = begins_append (word (reference_word b.0.0) ∷ []) es2 a.0 b.0.1 f.0 first t2 in
+    let t0 = begins_append (OnLine line (Fixed' (fixed.Word words.Static)) ∷ []) es1 ls a.0 f.0 (on_expected (fixed.Word words.Static) ls a.0 a.1) t1 in
+    subst (λ (y : Static × List Lexed). TakesStatic ls y) (ok_is (static_of line b.0.0 c.0.0, f.0) x f.2) (record {
+      parts = t0;
+      shorter = shortens (OnLine line (Fixed' (fixed.Word words.Static))) es1 ls f.0 t0;
     })
 
 -- ---- units
 
-pub record TakesItems (count : ℕ) (ls : List Lexed) (items : (List Item)) : Type 0 where
+-- how many functions and statics there are
+abbrev pub functions_in : List Item → ℕ
+functions_in items = length (functions_of (record { items = items }))
+
+abbrev pub statics_in : List Item → ℕ
+statics_in items = length (statics_of (record { items = items }))
+
+pub record TakesItem (functions statics : ℕ) (ls : List Lexed) (x : ReadItem) : Type 0 where
+  pub parts : Begins (item x.0) ls x.3
+  pub formed : (others : List Item) → AreItems others → AreItems (x.0 ∷ others)
+  pub functions_count : (others : List Item) → functions_in others ≤ x.1 → functions_in (x.0 ∷ others) ≤ functions
+  pub statics_count : (others : List Item) → statics_in others ≤ x.2 → statics_in (x.0 ∷ others) ≤ statics
+  pub shorter : length x.3 < length ls
+
+pub item_takes : (functions statics : ℕ) (ls : List Lexed) (x : ReadItem) → item_at functions statics ls ≡ Ok x → TakesItem functions statics ls x
+unfolding item_at
+item_takes functions statics ls x e =
+    elim (chosen (starts_with (fixed.Word words.JniExport) ls) _ _ (Ok x) e) [
+      | inl w ↦ elim (chosen (functions == 0) _ _ (Ok x) w.1) [
+        | inl v ↦ absurd cc
+        | inr v ↦
+            let a = bind_ok (function_at ls) (λ f. Ok (FunctionItem f.0, functions - 1, statics, f.1)) x v.1 in
+            let t = function_takes ls a.0 a.1 in
+            let other : functions ≢ 0 = eqb-false functions 0 v.0 in
+            subst (λ (y : ReadItem). TakesItem functions statics ls y) (ok_is (FunctionItem a.0.0, functions - 1, statics, a.0.1) x a.2) (record {
+              parts = t.parts;
+              formed = λ others are. (t.formed, are);
+              functions_count = λ others few. omega (arith, other, few);
+              statics_count = λ others few. few;
+              shorter = t.shorter;
+            })
+      ]
+      | inr w ↦ elim (chosen (starts_with (fixed.Word words.Static) ls) _ _ (Ok x) w.1) [
+        | inl u ↦ elim (chosen (statics == 0) _ _ (Ok x) u.1) [
+          | inl v ↦ absurd cc
+          | inr v ↦
+              let a = bind_ok (static_at ls) (λ s. Ok (StaticItem s.0, functions, statics - 1, s.1)) x v.1 in
+              let t = static_takes ls a.0 a.1 in
+              let other : statics ≢ 0 = eqb-false statics 0 v.0 in
+              subst (λ (y : ReadItem). TakesItem functions statics ls y) (ok_is (StaticItem a.0.0, functions, statics - 1, a.0.1) x a.2) (record {
+                parts = t.parts;
+                formed = λ others are. are;
+                functions_count = λ others few. few;
+                statics_count = λ others few. omega (arith, other, few);
+                shorter = t.shorter;
+              })
+        ]
+        | inr u ↦ absurd cc
+      ]
+    ]
+
+pub record TakesItems (functions statics : ℕ) (ls : List Lexed) (items : List Item) : Type 0 where
   pub rest : List Lexed
   pub parts : Begins (flat_map item items) ls rest
   pub ended : starts_with fixed.End rest ≡ true
   pub formed : AreItems items
-  pub few : count ≤ 256 → count + length items ≤ 256
+  pub few_functions : functions_in items ≤ functions
+  pub few_statics : statics_in items ≤ statics
 
-pub items_take : (steps count : ℕ) (ls : List Lexed) (items : (List Item)) → items_at steps count ls ≡ Ok items → TakesItems count ls items
+pub items_take : (steps functions statics : ℕ) (ls : List Lexed) (items : List Item) → items_at steps functions statics ls ≡ Ok items → TakesItems functions statics ls items
 unfolding items_at
-items_take zero count ls items h = absurd cc
-items_take (suc steps) count ls items h =
+items_take zero functions statics ls items h = absurd cc
+items_take (suc steps) functions statics ls items h =
     elim (chosen (starts_with fixed.End ls) _ _ (Ok items) h) [
-      | inl w ↦ subst (λ (y : (List Item)). TakesItems count ls y) (ok_is [] items w.1) (record { rest = ls; parts = refl; ended = w.0; formed = tt; few = λ le. omega (arith, le) })
-      | inr w ↦ elim (chosen (starts_with (fixed.Word words.JniExport) ls) _ _ (Ok items) w.1) [
-        | inr v ↦ absurd cc
-        | inl v ↦ elim (chosen (count == 256) _ _ (Ok items) v.1) [
-          | inl u ↦ absurd cc
-          | inr u ↦
-              let a = bind_ok (function_at ls) (λ f. items_at steps (count + 1) f.1 >>= λ items. Ok (FunctionItem f.0 ∷ items)) items u.1 in
-              let b = bind_ok (items_at steps (count + 1) a.0.1) (λ items. Ok (FunctionItem a.0.0 ∷ items)) items a.2 in
-              let t = function_takes ls a.0 a.1 in
-              let r = items_take steps (count + 1) a.0.1 b.0 b.1 in
-              let other = eqb-false count 256 u.0 in
-              subst (λ (y : (List Item)). TakesItems count ls y) (ok_is (FunctionItem a.0.0 ∷ b.0) items b.2) (record {
-                rest = r.rest;
-                parts = begins_append (function a.0.0) (flat_map item b.0) ls a.0.1 r.rest t.parts r.parts;
-                ended = r.ended;
-                formed = (t.formed, r.formed);
-                few = λ le. let ne : count ≢ 256 = other in let q = r.few (omega arith) in omega (arith, q);
-              })
-        ]
-      ]
+      | inl w ↦ subst (λ (y : List Item). TakesItems functions statics ls y) (ok_is [] items w.1) (record { rest = ls; parts = refl; ended = w.0; formed = tt; few_functions = omega arith; few_statics = omega arith })
+      | inr w ↦
+          let a = bind_ok (item_at functions statics ls) (λ i. items_at steps i.1 i.2 i.3 >>= λ items. Ok (i.0 ∷ items)) items w.1 in
+          let b = bind_ok (items_at steps a.0.1 a.0.2 a.0.3) (λ items. Ok (a.0.0 ∷ items)) items a.2 in
+          let t = item_takes functions statics ls a.0 a.1 in
+          let r = items_take steps a.0.1 a.0.2 a.0.3 b.0 b.1 in
+          subst (λ (y : List Item). TakesItems functions statics ls y) (ok_is (a.0.0 ∷ b.0) items b.2) (record {
+            rest = r.rest;
+            parts = begins_append (item a.0.0) (flat_map item b.0) ls a.0.3 r.rest t.parts r.parts;
+            ended = r.ended;
+            formed = t.formed b.0 r.formed;
+            few_functions = t.functions_count b.0 r.few_functions;
+            few_statics = t.statics_count b.0 r.few_statics;
+          })
     ]

@@ -1,7 +1,7 @@
 -- Single lexemes: what is expected and what is read.
-use Rattle.std.proofs.Common.{◌≡◌, ℕ, ◌+◌, ◌<◌, length, arith, Bool, true, false, cond, List, [], ◌∷◌, ◌++◌, Result, Ok, Err, refl, sym, ap, subst, ◌∙◌, inl, inr}
-use Rattle.std.specs.Prelude.{◌⊎◌, ◌==◌, if◌then◌else◌}
-use Rattle.std.proofs.lemmas.Bool.{eqb-true, eq-eqb, false_from_ne_true}
+use Rattle.std.proofs.Common.{◌≡◌, ℕ, ◌+◌, ◌<◌, ◌≤◌, length, arith, Bool, true, false, cond, List, [], ◌∷◌, ◌++◌, Result, Ok, Err, refl, sym, ap, subst, ◌∙◌, inl, inr}
+use Rattle.std.specs.Prelude.{◌⊎◌, ◌==◌, nat_lt, if◌then◌else◌}
+use Rattle.std.proofs.lemmas.Bool.{eqb-true, eq-eqb, false_from_ne_true, ltb-false, le-ltb}
 use Rattle.scan.specs.declared.token.Mark.{Mark}
 use Rattle.scan.specs.declared.token.Mark.TheVariants as marks
 use Rattle.parse.specs.declared.fault.Fault.TheVariants.{NoForm}
@@ -15,7 +15,7 @@ use Rattle.parse.specs.Results.{◌>>=◌}
 use Rattle.parse.specs.Meaning.{Meaning, Fixed', Name', Number', Text'}
 use Rattle.parse.specs.Lexemes.{Lexed, mark_code, word_code, same_mark, same_word, same_fixed, is_fixed_meaning, is_fixed, line_at, expect, name_in, name_at}
 use Rattle.parse.specs.Spelling.{Spelled, Anywhere, OnLine}
-use Rattle.parse.specs.Reading.{starts_with, behind}
+use Rattle.parse.specs.Reading.{starts_with, behind, is_name, starts_name, number_in, number_at}
 
 -- ---- results
 
@@ -240,6 +240,15 @@ unfolding name_at
 name_takes [] x e = absurd cc
 name_takes (l ∷ ls) x e = name_in_takes l ls x l.meaning refl e
 
+-- a name comes next
+pub starts_name_again : (n : List ℕ) (es : List Spelled) (ls rest : List Lexed) → Begins (Anywhere (Name' n) ∷ es) ls rest → starts_name ls ≡ true
+starts_name_again n es [] rest h = absurd h
+starts_name_again n es (l ∷ ls) rest h = ap is_name h.0
+
+pub first_no_name : (m : Meaning) → is_name m ≡ false → (es : List Spelled) (ls rest : List Lexed) → Begins (Anywhere m ∷ es) ls rest → starts_name ls ≡ false
+first_no_name m other es [] rest h = absurd h
+first_no_name m other es (l ∷ ls) rest h = ap is_name h.0 ∙ other
+
 pub name_again : (n : List ℕ) (es : List Spelled) (ls rest : List Lexed) → Begins (Anywhere (Name' n) ∷ es) ls rest → name_at ls ≡ Ok (n, behind ls)
 unfolding name_at
 name_again n es [] rest h = absurd h
@@ -269,3 +278,53 @@ on_is line m es (l ∷ ls) rest f h = ap (λ (x : Meaning). is_fixed_meaning x f
 pub on_line_is : (line : ℕ) (m : Meaning) (es : List Spelled) (ls rest : List Lexed) → Begins (OnLine line m ∷ es) ls rest → line_at ls ≡ line
 on_line_is line m es [] rest h = absurd h
 on_line_is line m es (l ∷ ls) rest h = h.0.1
+
+-- a first lexeme with its line, or anywhere
+pub on_first : (m : Meaning) (es : List Spelled) (ls rest : List Lexed) → Begins (Anywhere m ∷ es) ls rest → Begins (OnLine (line_at ls) m ∷ es) ls rest
+on_first m es [] rest h = h
+on_first m es (l ∷ ls) rest h = ((h.0, refl), h.1)
+
+pub off_first : (line : ℕ) (m : Meaning) (es : List Spelled) (ls rest : List Lexed) → Begins (OnLine line m ∷ es) ls rest → Begins (Anywhere m ∷ es) ls rest
+off_first line m es [] rest h = h
+off_first line m es (l ∷ ls) rest h = (h.0.0, h.1)
+
+-- ---- numbers
+
+pub record TakesNumber (least most : ℕ) (ls : List Lexed) (x : ℕ × List Lexed) : Type 0 where
+  pub parts : Begins (Anywhere (Number' x.0 false) ∷ []) ls x.1
+  pub some : least ≤ x.0
+  pub bound : x.0 ≤ most
+
+number_in_takes : (least most : ℕ) (l : Lexed) (ls : List Lexed) (x : ℕ × List Lexed) (m : Meaning) → l.meaning ≡ m → number_in least most m (l ∷ ls) ls ≡ Ok x → TakesNumber least most (l ∷ ls) x
+number_in_takes least most l ls x (Number' value true) is e = absurd cc
+number_in_takes least most l ls x (Number' value false) is e =
+    elim (chosen (nat_lt value least) _ _ (Ok x) e) [
+      | inl w ↦ absurd cc
+      | inr w ↦ elim (chosen (nat_lt most value) _ _ (Ok x) w.1) [
+        | inl v ↦ absurd cc
+        | inr v ↦
+            let made : ℕ × List Lexed = (value, ls) in
+            subst (λ (y : ℕ × List Lexed). TakesNumber least most (l ∷ ls) y) (ok_is made x v.1) (record { parts = (is, refl); some = ltb-false value least w.0; bound = ltb-false most value v.0 })
+      ]
+    ]
+number_in_takes least most l ls x (Fixed' f) is e = absurd cc
+number_in_takes least most l ls x (Name' bytes) is e = absurd cc
+number_in_takes least most l ls x (Text' bytes) is e = absurd cc
+
+pub number_takes : (least most : ℕ) (ls : List Lexed) (x : ℕ × List Lexed) → number_at least most ls ≡ Ok x → TakesNumber least most ls x
+unfolding number_at
+number_takes least most [] x e = absurd cc
+number_takes least most (l ∷ ls) x e = number_in_takes least most l ls x l.meaning refl e
+
+pub number_again : (least most n : ℕ) (es : List Spelled) (ls rest : List Lexed) → least ≤ n → n ≤ most → Begins (Anywhere (Number' n false) ∷ es) ls rest → number_at least most ls ≡ Ok (n, behind ls)
+unfolding number_at
+number_again least most n es [] rest some bound h = absurd h
+number_again least most n es (l ∷ ls) rest some bound h = rw (h.0, le-ltb n least some, le-ltb most n bound) refl
+
+-- the number 0
+pub zero_takes : (ls : List Lexed) (x : ℕ × List Lexed) → number_at 0 0 ls ≡ Ok x → Begins (Anywhere (Number' 0 false) ∷ []) ls x.1
+zero_takes ls x e =
+    let t = number_takes 0 0 ls x e in
+    let bound = t.bound in
+    let none : x.0 ≡ 0 = omega (arith, bound) in
+    subst (λ (n : ℕ). Begins (Anywhere (Number' n false) ∷ []) ls x.1) none t.parts

@@ -1,20 +1,25 @@
--- The trees that are read are the built ones that a text may spell.
-use Rattle.std.proofs.Common.{◌≡◌, ℕ, ◌+◌, ◌≤◌, Bool, true, false, List, [], ◌∷◌, ◌++◌, length, map, refl, sym, ap, ◌∙◌, arith}
+-- The trees that are read are those that a text may spell.
+use Rattle.std.proofs.Common.{◌≡◌, ℕ, ◌+◌, ◌-◌, ◌≤◌, Bool, true, false, List, [], ◌∷◌, ◌++◌, length, map, refl, sym, ap, ◌∙◌, arith}
 use Rattle.std.specs.Prelude.{◌&&◌, nat_le, nat_lt, flat_map}
 use Rattle.std.specs.List.{list_all}
 use Rattle.std.proofs.lemmas.Bool.{and_from, and_parts, leb-true, le-leb, ltb-true, lt-ltb}
 use Rattle.std.proofs.lemmas.List.{length-append, length-map}
+use Rattle.std.proofs.lemmas.List.Folds.{list_all-append}
 use Rattle.scan.specs.declared.token.Mark.TheVariants as marks
-use Rattle.syntax.specs.Tree.{Expr, Number, Named, Variable, Element, Prefix, Binary, Paren, Argument, Value, Text, AddressOf, RightSide, FromExpr, FromCall, Stmt, Declare, DeclareBuffer, DeclareChars, DeclareArray, Assign, AssignElement, Perform, PutJint, If, IfElse, While, Return, ReturnValue, Block, End, Next, Function, Item, StaticItem, FunctionItem, SourceUnit}
-use Rattle.syntax.specs.Parts.{functions_of, statics_of, statements_within, statements_of, argument_expressions, right_side_expressions, own_expressions, names_declared, parameter_names}
-use Rattle.syntax.specs.Limits.{operator_level, prefix_level, level, levelled, numbers_in_range, height, highest, statement_height, block_height, block_well_formed, IsTree}
-use Rattle.parse.specs.Built.{is_built_prefix, is_built_operator, is_built_expression, is_built_argument, is_built_right, is_built_variable, is_built_statement, is_built_block, is_built_result, is_built_item, is_built}
-use Rattle.parse.specs.Spelling.{mark, expression, right, statement, inside, parameters, function, item, spell}
+use Rattle.syntax.specs.Tree.{Expr, Number, Named, Variable, Element, Prefix, Binary, Paren, Argument, Value, Text, AddressOf, Call, RightSide, FromExpr, FromCall, Test, TestExpr, TestCall, Stmt, Declare, DeclareBuffer, DeclareChars, DeclareArray, Assign, AssignElement, Perform, PutJint, If, IfElse, While, Return, ReturnValue, Block, End, Next, Function, Item, StaticItem, FunctionItem, SourceUnit}
+use Rattle.syntax.specs.Parts.{functions_of, statements_within, statements_of, argument_expressions, right_side_expressions, test_expressions, own_expressions, names_declared, parameter_names}
+use Rattle.syntax.specs.Limits.{operator_level, prefix_level, level, levelled, numbers_in_range, height, highest, own_height, statement_height, block_height, well_formed, block_well_formed, IsTree}
+use Rattle.parse.specs.declared.words.Word.TheVariants as words
+use Rattle.parse.specs.declared.lexemes.Fixed.TheVariants as fixed
+use Rattle.parse.specs.Meaning.{Fixed', Number'}
+use Rattle.parse.specs.Spelling.{Spelled, Anywhere, OnLine, mark, word, expression, call, right, test_tokens, statement, inside, parameters, function, item, spell}
 use Rattle.parse.specs.Reading.{is_return}
-use Rattle.parse.proofs.Forms.{IsLevelled, AreArguments, IsRight, IsForm, MayFollow, IsBlock, IsFunction, AreItems}
+use Rattle.parse.proofs.Forms.{IsLevelled, IsExpr, AreArguments, IsRight, IsTest, IsForm, MayFollow, IsBlock, names_in, IsFunction, AreItems}
 use Rattle.parse.proofs.Table.{level_small}
 use Rattle.parse.proofs.Ranges.{AreInRange, range_left, range_right, numbers_of}
 use Rattle.parse.proofs.JniCalls.{argument_tokens}
+use Rattle.parse.proofs.Nested.{tested_tail}
+use Rattle.parse.proofs.Programs.{functions_in, statics_in}
 
 false_true : false ≡ true → ⊥
 false_true e = cc
@@ -25,7 +30,7 @@ level_of : (least : ℕ) (e : Expr) → least ≤ prefix_level → IsLevelled le
 level_of least (Number value unsigned) le h = omega (arith, le)
 level_of least (Named c) le h = omega (arith, le)
 level_of least (Variable x) le h = omega (arith, le)
-level_of least (Element x i) le h = absurd h
+level_of least (Element x i) le h = omega (arith, le)
 level_of least (Prefix op e) le h = le
 level_of least (Binary op a b) le h = h.0
 level_of least (Paren e) le h = omega (arith, le)
@@ -34,43 +39,31 @@ levelled_of : (least : ℕ) (e : Expr) → IsLevelled least e → levelled e ≡
 levelled_of least (Number value unsigned) h = refl
 levelled_of least (Named c) h = refl
 levelled_of least (Variable x) h = refl
-levelled_of least (Element x i) h = absurd h
-levelled_of least (Prefix op e) h = and_from (nat_le prefix_level (level e)) (levelled e) (le-leb prefix_level (level e) (level_of prefix_level e (omega arith) h.1)) (levelled_of prefix_level e h.1)
+levelled_of least (Element x i) h = levelled_of 0 i h
+levelled_of least (Prefix op e) h = and_from (nat_le prefix_level (level e)) (levelled e) (le-leb prefix_level (level e) (level_of prefix_level e (omega arith) h)) (levelled_of prefix_level e h)
 levelled_of least (Binary op a b) h =
     let small = level_small op in
-    let left = le-leb (operator_level op) (level a) (level_of (operator_level op) a (omega (arith, small)) h.2) in
-    let tighter : operator_level op + 1 ≤ level b = level_of (operator_level op + 1) b (omega (arith, small)) h.3 in
+    let left = le-leb (operator_level op) (level a) (level_of (operator_level op) a (omega (arith, small)) h.1) in
+    let tighter : operator_level op + 1 ≤ level b = level_of (operator_level op + 1) b (omega (arith, small)) h.2 in
     let right = lt-ltb (operator_level op) (level b) (omega (arith, tighter)) in
-    and_from _ (levelled b) (and_from _ (levelled a) (and_from _ _ left right) (levelled_of (operator_level op) a h.2)) (levelled_of (operator_level op + 1) b h.3)
+    and_from _ (levelled b) (and_from _ (levelled a) (and_from _ _ left right) (levelled_of (operator_level op) a h.1)) (levelled_of (operator_level op + 1) b h.2)
 levelled_of least (Paren e) h = levelled_of 0 e h
 
-built_of : (least : ℕ) (e : Expr) → IsLevelled least e → is_built_expression e ≡ true
-built_of least (Number value unsigned) h = refl
-built_of least (Named c) h = h
-built_of least (Variable x) h = refl
-built_of least (Element x i) h = absurd h
-built_of least (Prefix op e) h = and_from (is_built_prefix op) (is_built_expression e) h.0 (built_of prefix_level e h.1)
-built_of least (Binary op a b) h = and_from _ (is_built_expression b) (and_from (is_built_operator op) (is_built_expression a) h.1 (built_of (operator_level op) a h.2)) (built_of (operator_level op + 1) b h.3)
-built_of least (Paren e) h = built_of 0 e h
-
-to_levelled : (e : Expr) (least : ℕ) → levelled e ≡ true → is_built_expression e ≡ true → least ≤ level e → IsLevelled least e
-to_levelled (Number value unsigned) least h built le = tt
-to_levelled (Named c) least h built le = built
-to_levelled (Variable x) least h built le = tt
-to_levelled (Element x i) least h built le = absurd (false_true built)
-to_levelled (Prefix op e) least h built le =
+to_levelled : (e : Expr) (least : ℕ) → levelled e ≡ true → least ≤ level e → IsLevelled least e
+to_levelled (Number value unsigned) least h le = tt
+to_levelled (Named c) least h le = tt
+to_levelled (Variable x) least h le = tt
+to_levelled (Element x i) least h le = to_levelled i 0 h (omega arith)
+to_levelled (Prefix op e) least h le =
     let p = and_parts (nat_le prefix_level (level e)) (levelled e) h in
-    let q = and_parts (is_built_prefix op) (is_built_expression e) built in
-    (q.0, to_levelled e prefix_level p.1 q.1 (leb-true prefix_level (level e) p.0))
-to_levelled (Binary op a b) least h built le =
+    to_levelled e prefix_level p.1 (leb-true prefix_level (level e) p.0)
+to_levelled (Binary op a b) least h le =
     let p = and_parts (nat_le (operator_level op) (level a) && nat_lt (operator_level op) (level b) && levelled a) (levelled b) h in
     let q = and_parts (nat_le (operator_level op) (level a) && nat_lt (operator_level op) (level b)) (levelled a) p.0 in
     let r = and_parts (nat_le (operator_level op) (level a)) (nat_lt (operator_level op) (level b)) q.0 in
-    let u = and_parts (is_built_operator op && is_built_expression a) (is_built_expression b) built in
-    let v = and_parts (is_built_operator op) (is_built_expression a) u.0 in
     let tighter = ltb-true (operator_level op) (level b) r.1 in
-    (le, v.0, to_levelled a (operator_level op) q.1 v.1 (leb-true (operator_level op) (level a) r.0), to_levelled b (operator_level op + 1) p.1 u.1 (omega (arith, tighter)))
-to_levelled (Paren e) least h built le = to_levelled e 0 h built (omega arith)
+    (le, to_levelled a (operator_level op) q.1 (leb-true (operator_level op) (level a) r.0), to_levelled b (operator_level op + 1) p.1 (omega (arith, tighter)))
+to_levelled (Paren e) least h le = to_levelled e 0 h (omega arith)
 
 -- ---- arguments and right sides
 
@@ -81,10 +74,9 @@ record ArgumentFacts (room : ℕ) (arguments : List Argument) : Type 0 where
   levels : list_all levelled (expressions_of arguments) ≡ true
   numbers : AreInRange (argument_tokens arguments) → list_all numbers_in_range (expressions_of arguments) ≡ true
   low : highest (map height (expressions_of arguments)) ≤ room
-  built : list_all is_built_argument arguments ≡ true
 
 argument_facts : (room : ℕ) (arguments : List Argument) → AreArguments room arguments → ArgumentFacts room arguments
-argument_facts room [] is = record { levels = refl; numbers = λ h. refl; low = omega arith; built = refl }
+argument_facts room [] is = record { levels = refl; numbers = λ h. refl; low = omega arith }
 argument_facts room (Value e ∷ more) is =
     let facts = argument_facts room more is.1 in
     let high = is.0.low in
@@ -93,32 +85,32 @@ argument_facts room (Value e ∷ more) is =
       levels = and_from (levelled e) _ (levelled_of 0 e is.0.levelled) facts.levels;
       numbers = λ h. and_from (numbers_in_range e) _ (numbers_of e (range_left (expression e) (argument_tokens more) h.1)) (facts.numbers (range_right (expression e) (argument_tokens more) h.1));
       low = omega (arith, high, high_more);
-      built = and_from (is_built_expression e) _ (built_of 0 e is.0.levelled) facts.built;
     }
-argument_facts room (Text bytes ∷ more) is = absurd is.0
-argument_facts room (AddressOf x ∷ more) is = absurd is.0
+argument_facts room (Text bytes ∷ more) is =
+    let facts = argument_facts room more is.1 in
+    record { levels = facts.levels; numbers = λ h. facts.numbers h.1.1; low = facts.low }
+argument_facts room (AddressOf x ∷ more) is =
+    let facts = argument_facts room more is.1 in
+    record { levels = facts.levels; numbers = λ h. facts.numbers h.1.1.1; low = facts.low }
 
-to_arguments : (room : ℕ) (arguments : List Argument) → list_all is_built_argument arguments ≡ true → list_all levelled (expressions_of arguments) ≡ true → highest (map height (expressions_of arguments)) ≤ room → AreArguments room arguments
-to_arguments room [] built h low = tt
-to_arguments room (Value e ∷ more) built h low =
+to_arguments : (room : ℕ) (arguments : List Argument) → list_all levelled (expressions_of arguments) ≡ true → highest (map height (expressions_of arguments)) ≤ room → AreArguments room arguments
+to_arguments room [] h low = tt
+to_arguments room (Value e ∷ more) h low =
     let p = and_parts (levelled e) (list_all levelled (expressions_of more)) h in
-    let q = and_parts (is_built_expression e) (list_all is_built_argument more) built in
-    (record { levelled = to_levelled e 0 p.0 q.0 (omega arith); low = omega (arith, low) }, to_arguments room more q.1 p.1 (omega (arith, low)))
-to_arguments room (Text bytes ∷ more) built h low = absurd (false_true built)
-to_arguments room (AddressOf x ∷ more) built h low = absurd (false_true built)
+    (record { levelled = to_levelled e 0 p.0 (omega arith); low = omega (arith, low) }, to_arguments room more p.1 (omega (arith, low)))
+to_arguments room (Text bytes ∷ more) h low = (tt, to_arguments room more h low)
+to_arguments room (AddressOf x ∷ more) h low = (tt, to_arguments room more h low)
 
 record RightFacts (room : ℕ) (r : RightSide) : Type 0 where
   levels : list_all levelled (right_side_expressions r) ≡ true
   numbers : AreInRange (right r) → list_all numbers_in_range (right_side_expressions r) ≡ true
   low : highest (map height (right_side_expressions r)) ≤ room
-  built : is_built_right r ≡ true
 
 right_facts : (room : ℕ) (r : RightSide) → IsRight room r → RightFacts room r
 right_facts room (FromExpr e) is = record {
   levels = and_from (levelled e) true (levelled_of 0 e is.levelled) refl;
   numbers = λ h. and_from (numbers_in_range e) true (numbers_of e h) refl;
   low = let low = is.low in omega (arith, low);
-  built = built_of 0 e is.levelled;
 }
 right_facts room (FromCall c) is =
     let facts = argument_facts room c.arguments is in
@@ -126,169 +118,305 @@ right_facts room (FromCall c) is =
       levels = facts.levels;
       numbers = λ h. facts.numbers (range_left (argument_tokens c.arguments) (mark marks.CloseParen ∷ []) h.1.1.1.1.1.1.1.1);
       low = facts.low;
-      built = facts.built;
     }
 
-to_right : (room : ℕ) (r : RightSide) → is_built_right r ≡ true → list_all levelled (right_side_expressions r) ≡ true → highest (map height (right_side_expressions r)) ≤ room → IsRight room r
-to_right room (FromExpr e) built h low = record { levelled = to_levelled e 0 (and_parts (levelled e) true h).0 built (omega arith); low = omega (arith, low) }
-to_right room (FromCall c) built h low = to_arguments room c.arguments built h low
+to_right : (room : ℕ) (r : RightSide) → list_all levelled (right_side_expressions r) ≡ true → highest (map height (right_side_expressions r)) ≤ room → IsRight room r
+to_right room (FromExpr e) h low = record { levelled = to_levelled e 0 (and_parts (levelled e) true h).0 (omega arith); low = omega (arith, low) }
+to_right room (FromCall c) h low = to_arguments room c.arguments h low
 
--- ---- statements
+-- the range of a call's arguments
+call_range : (c : Call) → AreInRange (call c) → AreInRange (argument_tokens c.arguments)
+call_range c h = range_left (argument_tokens c.arguments) (mark marks.CloseParen ∷ []) h.1.1.1.1.1.1.1.1
+
+record TestFacts (room : ℕ) (t : Test) : Type 0 where
+  levels : list_all levelled (test_expressions t) ≡ true
+  numbers : AreInRange (test_tokens t) → list_all numbers_in_range (test_expressions t) ≡ true
+  low : highest (map height (test_expressions t)) ≤ room
+
+test_facts : (room : ℕ) (t : Test) → IsTest room t → TestFacts room t
+test_facts room (TestExpr e) is = record {
+  levels = and_from (levelled e) true (levelled_of 0 e is.levelled) refl;
+  numbers = λ h. and_from (numbers_in_range e) true (numbers_of e h) refl;
+  low = let low = is.low in omega (arith, low);
+}
+test_facts room (TestCall c) is =
+    let facts = argument_facts room c.arguments is in
+    record { levels = facts.levels; numbers = λ h. facts.numbers (call_range c (range_left (call c) (mark marks.Equal ∷ Anywhere (Number' 0 false) ∷ []) h)); low = facts.low }
+
+to_test : (room : ℕ) (t : Test) → list_all levelled (test_expressions t) ≡ true → highest (map height (test_expressions t)) ≤ room → IsTest room t
+to_test room (TestExpr e) h low = record { levelled = to_levelled e 0 (and_parts (levelled e) true h).0 (omega arith); low = omega (arith, low) }
+to_test room (TestCall c) h low = to_arguments room c.arguments h low
+
+-- the range of a test's tokens
+tested_range : (test more : List Spelled) → AreInRange (tested_tail test ++ more) → AreInRange test
+tested_range test more h = range_left test (mark marks.CloseParen ∷ []) (range_left (tested_tail test) more h).1
+
+-- a block counts one
+block_some : (b : Block) → 1 ≤ block_height b
+block_some (End line) = omega arith
+block_some (Next s rest) = let p = block_some rest in omega (arith, p)
+
+-- ---- statements and blocks
+
+abbrev pub all_levelled : List Stmt → Bool
+all_levelled statements = list_all (λ s. list_all levelled (own_expressions s)) statements
+
+abbrev pub all_numbers : List Stmt → Bool
+all_numbers statements = list_all (λ s. list_all numbers_in_range (own_expressions s)) statements
+
+-- what is so of each statement of two lists
+both : (test : Stmt → Bool) (a b : List Stmt) → list_all test a ≡ true → list_all test b ≡ true → list_all test (a ++ b) ≡ true
+both test a b h k = list_all-append test a b ∙ and_from (list_all test a) (list_all test b) h k
+
+parted : (test : Stmt → Bool) (a b : List Stmt) → list_all test (a ++ b) ≡ true → (list_all test a ≡ true) × (list_all test b ≡ true)
+parted test a b h = and_parts (list_all test a) (list_all test b) (sym (list_all-append test a b) ∙ h)
 
 record FormFacts (room : ℕ) (s : Stmt) : Type 0 where
-  within : statements_within s ≡ s ∷ []
+  levels : all_levelled (statements_within s) ≡ true
+  numbers : AreInRange (statement s) → all_numbers (statements_within s) ≡ true
+  formed : well_formed s ≡ true
+  low : statement_height s ≤ room
+
+pub record BlockFacts (room : ℕ) (b : Block) : Type 0 where
+  pub levels : all_levelled (statements_of b) ≡ true
+  pub numbers : AreInRange (inside b) → all_numbers (statements_of b) ≡ true
+  pub formed : block_well_formed b ≡ true
+  pub low : block_height b ≤ room + 1
+
+-- the facts of a statement's own expressions, where it has no block
+record OwnFacts (room : ℕ) (s : Stmt) : Type 0 where
   levels : list_all levelled (own_expressions s) ≡ true
   numbers : AreInRange (statement s) → list_all numbers_in_range (own_expressions s) ≡ true
-  low : statement_height s ≤ room
-  built : is_built_statement s ≡ true
+  low : own_height s ≤ room
 
-form_facts : (room : ℕ) (s : Stmt) → IsForm room s → FormFacts room s
-form_facts room (PutJint line e) is = record {
-  within = refl;
-  levels = and_from (levelled e) true (levelled_of 0 e is.levelled) refl;
-  numbers = λ h. and_from (numbers_in_range e) true (numbers_of e (range_left (expression e) (mark marks.CloseParen ∷ mark marks.Semicolon ∷ []) h.1.1)) refl;
-  low = let low = is.low in omega (arith, low);
-  built = built_of 0 e is.levelled;
-}
-form_facts room (Return line) is = record { within = refl; levels = refl; numbers = λ h. refl; low = omega arith; built = refl }
-form_facts room (ReturnValue line e) is = record {
-  within = refl;
-  levels = and_from (levelled e) true (levelled_of 0 e is.levelled) refl;
-  numbers = λ h. and_from (numbers_in_range e) true (numbers_of e (range_left (expression e) (mark marks.Semicolon ∷ []) h.1)) refl;
-  low = let low = is.low in omega (arith, low);
-  built = built_of 0 e is.levelled;
-}
-form_facts room (Declare line t x r) is =
-    let facts = right_facts room r is.1 in
+one_expression : (e : Expr) → levelled e ≡ true → list_all levelled (e ∷ []) ≡ true
+one_expression e h = and_from (levelled e) true h refl
+
+one_number : (e : Expr) → numbers_in_range e ≡ true → list_all numbers_in_range (e ∷ []) ≡ true
+one_number e h = and_from (numbers_in_range e) true h refl
+
+own_facts : (room : ℕ) (s : Stmt) → IsForm room s → OwnFacts room s
+own_facts room (Declare line t x r) is =
+    let facts = right_facts room r is in
+    record { levels = facts.levels; numbers = λ h. facts.numbers (range_left (right r) (mark marks.Semicolon ∷ []) h.1.1.1); low = facts.low }
+own_facts room (DeclareBuffer line t x r) is =
+    let facts = right_facts room r is in
+    record { levels = facts.levels; numbers = λ h. facts.numbers (range_left (right r) (mark marks.Semicolon ∷ []) h.1.1.1.1); low = facts.low }
+own_facts room (DeclareChars line x r) is =
+    let facts = right_facts room r is in
+    record { levels = facts.levels; numbers = λ h. facts.numbers (range_left (right r) (mark marks.Semicolon ∷ []) h.1.1.1.1.1); low = facts.low }
+own_facts room (DeclareArray line t x size) is = record { levels = refl; numbers = λ h. refl; low = omega arith }
+own_facts room (Assign line x r) is =
+    let facts = right_facts room r is in
+    record { levels = facts.levels; numbers = λ h. facts.numbers (range_left (right r) (mark marks.Semicolon ∷ []) h.1.1); low = facts.low }
+own_facts room (AssignElement line x i e) is =
+    let closing : List Spelled = expression e ++ mark marks.Semicolon ∷ [] in
+    let low_i = is.0.low in
+    let low_e = is.1.low in
     record {
-      within = refl;
-      levels = facts.levels;
-      numbers = λ h. facts.numbers (range_left (right r) (mark marks.Semicolon ∷ []) h.1.1.1);
-      low = facts.low;
-      built = and_from (is_built_variable t) (is_built_right r) is.0 facts.built;
+      levels = and_from (levelled i) _ (levelled_of 0 i is.0.levelled) (one_expression e (levelled_of 0 e is.1.levelled));
+      numbers = λ h.
+          let behind_index = range_right (expression i) (mark marks.CloseBracket ∷ mark marks.Assign ∷ closing) h.1.1 in
+          and_from (numbers_in_range i) _ (numbers_of i (range_left (expression i) (mark marks.CloseBracket ∷ mark marks.Assign ∷ closing) h.1.1)) (one_number e (numbers_of e (range_left (expression e) (mark marks.Semicolon ∷ []) behind_index.1.1)));
+      low = omega (arith, low_i, low_e);
     }
-form_facts room (DeclareBuffer line t x r) is = absurd is
-form_facts room (DeclareChars line x r) is = absurd is
-form_facts room (DeclareArray line t x size) is = absurd is
-form_facts room (Assign line x r) is = absurd is
-form_facts room (AssignElement line x i e) is = absurd is
-form_facts room (Perform line c) is = absurd is
-form_facts room (If line test b) is = absurd is
-form_facts room (IfElse line test b d) is = absurd is
-form_facts room (While line test b) is = absurd is
+own_facts room (Perform line c) is =
+    let facts = argument_facts room c.arguments is in
+    record { levels = facts.levels; numbers = λ h. facts.numbers (call_range c (range_left (call c) (mark marks.Semicolon ∷ []) h)); low = facts.low }
+own_facts room (PutJint line e) is = record {
+  levels = one_expression e (levelled_of 0 e is.levelled);
+  numbers = λ h. one_number e (numbers_of e (range_left (expression e) (mark marks.CloseParen ∷ mark marks.Semicolon ∷ []) h.1.1));
+  low = let low = is.low in omega (arith, low);
+}
+own_facts room (If line test b) is =
+    let facts = test_facts room test is.1 in
+    record { levels = facts.levels; numbers = λ h. facts.numbers (tested_range (test_tokens test) (mark marks.OpenBrace ∷ inside b) h.1); low = facts.low }
+own_facts room (IfElse line test b d) is =
+    let facts = test_facts room test is.1 in
+    record { levels = facts.levels; numbers = λ h. facts.numbers (tested_range (test_tokens test) (mark marks.OpenBrace ∷ inside b) (range_left (statement (If line test b)) (word words.Else ∷ mark marks.OpenBrace ∷ inside d) h).1); low = facts.low }
+own_facts room (While line test b) is = record {
+  levels = one_expression test (levelled_of 0 test is.1.levelled);
+  numbers = λ h. one_number test (numbers_of test (tested_range (expression test) (mark marks.OpenBrace ∷ inside b) h.1));
+  low = let low = is.1.low in omega (arith, low);
+}
+own_facts room (Return line) is = record { levels = refl; numbers = λ h. refl; low = omega arith }
+own_facts room (ReturnValue line e) is = record {
+  levels = one_expression e (levelled_of 0 e is.levelled);
+  numbers = λ h. one_number e (numbers_of e (range_left (expression e) (mark marks.Semicolon ∷ []) h.1));
+  low = let low = is.low in omega (arith, low);
+}
+
+-- a statement without a block
+alone : (room : ℕ) (s : Stmt) → OwnFacts room s → statements_within s ≡ s ∷ [] → statement_height s ≡ own_height s → well_formed s ≡ true → FormFacts room s
+alone room s own within same formed = record {
+  levels = ap all_levelled within ∙ and_from _ true own.levels refl;
+  numbers = λ h. ap all_numbers within ∙ and_from _ true (own.numbers h) refl;
+  formed = formed;
+  low = let low = own.low in omega (arith, same, low);
+}
+
+-- the range of a block's tokens, behind a test, and behind `else`
+block_range : (first : Spelled) (test : List Spelled) (b : Block) → AreInRange (first ∷ (tested_tail test ++ mark marks.OpenBrace ∷ inside b)) → AreInRange (inside b)
+block_range first test b h = (range_right (tested_tail test) (mark marks.OpenBrace ∷ inside b) h.1).1
+
+else_range : (line : ℕ) (test : Test) (b d : Block) → AreInRange (statement (IfElse line test b d)) → AreInRange (inside d)
+else_range line test b d h = (range_right (statement (If line test b)) (word words.Else ∷ mark marks.OpenBrace ∷ inside d) h).1.1
 
 -- a statement, and a block behind it that may follow
-well_formed_of : (room : ℕ) (s : Stmt) (rest : Block) → IsForm room s → MayFollow (is_return s) rest → block_well_formed rest ≡ true → block_well_formed (Next s rest) ≡ true
-well_formed_of room (PutJint line e) rest is follows h = and_from true (block_well_formed rest) refl h
-well_formed_of room (Return line) (End last) is follows h = refl
-well_formed_of room (Return line) (Next s rest) is follows h = absurd follows
-well_formed_of room (ReturnValue line e) (End last) is follows h = refl
-well_formed_of room (ReturnValue line e) (Next s rest) is follows h = absurd follows
-well_formed_of room (Declare line t x r) rest is follows h = and_from true (block_well_formed rest) refl h
-well_formed_of room (DeclareBuffer line t x r) rest is follows h = absurd is
-well_formed_of room (DeclareChars line x r) rest is follows h = absurd is
-well_formed_of room (DeclareArray line t x size) rest is follows h = absurd is
-well_formed_of room (Assign line x r) rest is follows h = absurd is
-well_formed_of room (AssignElement line x i e) rest is follows h = absurd is
-well_formed_of room (Perform line c) rest is follows h = absurd is
-well_formed_of room (If line test b) rest is follows h = absurd is
-well_formed_of room (IfElse line test b d) rest is follows h = absurd is
-well_formed_of room (While line test b) rest is follows h = absurd is
+well_formed_of : (s : Stmt) (rest : Block) → MayFollow (is_return s) rest → well_formed s ≡ true → block_well_formed rest ≡ true → block_well_formed (Next s rest) ≡ true
+well_formed_of (Declare line t x r) rest follows own h = and_from (well_formed (Declare line t x r)) (block_well_formed rest) own h
+well_formed_of (DeclareBuffer line t x r) rest follows own h = and_from (well_formed (DeclareBuffer line t x r)) (block_well_formed rest) own h
+well_formed_of (DeclareChars line x r) rest follows own h = and_from (well_formed (DeclareChars line x r)) (block_well_formed rest) own h
+well_formed_of (DeclareArray line t x size) rest follows own h = and_from (well_formed (DeclareArray line t x size)) (block_well_formed rest) own h
+well_formed_of (Assign line x r) rest follows own h = and_from (well_formed (Assign line x r)) (block_well_formed rest) own h
+well_formed_of (AssignElement line x i e) rest follows own h = and_from (well_formed (AssignElement line x i e)) (block_well_formed rest) own h
+well_formed_of (Perform line c) rest follows own h = and_from (well_formed (Perform line c)) (block_well_formed rest) own h
+well_formed_of (PutJint line e) rest follows own h = and_from (well_formed (PutJint line e)) (block_well_formed rest) own h
+well_formed_of (If line test b) rest follows own h = and_from (well_formed (If line test b)) (block_well_formed rest) own h
+well_formed_of (IfElse line test b d) rest follows own h = and_from (well_formed (IfElse line test b d)) (block_well_formed rest) own h
+well_formed_of (While line test b) rest follows own h = and_from (well_formed (While line test b)) (block_well_formed rest) own h
+well_formed_of (Return line) (End last) follows own h = refl
+well_formed_of (Return line) (Next s rest) follows own h = absurd follows
+well_formed_of (ReturnValue line e) (End last) follows own h = refl
+well_formed_of (ReturnValue line e) (Next s rest) follows own h = absurd follows
 
-within_one : (s : Stmt) → is_built_statement s ≡ true → statements_within s ≡ s ∷ []
-within_one (PutJint line e) built = refl
-within_one (Return line) built = refl
-within_one (ReturnValue line e) built = refl
-within_one (Declare line t x r) built = refl
-within_one (DeclareBuffer line t x r) built = absurd (false_true built)
-within_one (DeclareChars line x r) built = absurd (false_true built)
-within_one (DeclareArray line t x size) built = absurd (false_true built)
-within_one (Assign line x r) built = absurd (false_true built)
-within_one (AssignElement line x i e) built = absurd (false_true built)
-within_one (Perform line c) built = absurd (false_true built)
-within_one (If line test b) built = absurd (false_true built)
-within_one (IfElse line test b d) built = absurd (false_true built)
-within_one (While line test b) built = absurd (false_true built)
+mutual
+  form_facts : (room : ℕ) (s : Stmt) → IsForm room s → FormFacts room s
+  form_facts room (Declare line t x r) is = alone room (Declare line t x r) (own_facts room (Declare line t x r) is) refl refl refl
+  form_facts room (DeclareBuffer line t x r) is = alone room (DeclareBuffer line t x r) (own_facts room (DeclareBuffer line t x r) is) refl refl refl
+  form_facts room (DeclareChars line x r) is = alone room (DeclareChars line x r) (own_facts room (DeclareChars line x r) is) refl refl refl
+  form_facts room (DeclareArray line t x size) is = alone room (DeclareArray line t x size) (own_facts room (DeclareArray line t x size) is) refl refl (and_from (nat_le 1 size) (nat_le size 1024) (le-leb 1 size is.some) (le-leb size 1024 is.bound))
+  form_facts room (Assign line x r) is = alone room (Assign line x r) (own_facts room (Assign line x r) is) refl refl refl
+  form_facts room (AssignElement line x i e) is = alone room (AssignElement line x i e) (own_facts room (AssignElement line x i e) is) refl refl refl
+  form_facts room (Perform line c) is = alone room (Perform line c) (own_facts room (Perform line c) is) refl refl refl
+  form_facts room (PutJint line e) is = alone room (PutJint line e) (own_facts room (PutJint line e) is) refl refl refl
+  form_facts room (Return line) is = alone room (Return line) (own_facts room (Return line) is) refl refl refl
+  form_facts room (ReturnValue line e) is = alone room (ReturnValue line e) (own_facts room (ReturnValue line e) is) refl refl refl
+  form_facts room (If line test b) is =
+      let own = own_facts room (If line test b) is in
+      let body = block_facts (room - 1) b is.2 in
+      let low_own = own.low in
+      let low_body = body.low in
+      record {
+        levels = and_from _ (all_levelled (statements_of b)) own.levels body.levels;
+        numbers = λ h. and_from _ (all_numbers (statements_of b)) (own.numbers h) (body.numbers (block_range (OnLine line (Fixed' (fixed.Word words.If))) (test_tokens test) b h));
+        formed = body.formed;
+        low = omega (arith, is.0, low_own, low_body);
+      }
+  form_facts room (IfElse line test b d) is =
+      let own = own_facts room (IfElse line test b d) is in
+      let body = block_facts (room - 1) b is.2 in
+      let other = block_facts (room - 1) d is.3 in
+      let low_own = own.low in
+      let low_body = body.low in
+      let low_other = other.low in
+      record {
+        levels = and_from _ (all_levelled (statements_of b ++ statements_of d)) own.levels (both _ (statements_of b) (statements_of d) body.levels other.levels);
+        numbers = λ h. and_from _ (all_numbers (statements_of b ++ statements_of d)) (own.numbers h) (both _ (statements_of b) (statements_of d) (body.numbers (block_range (OnLine line (Fixed' (fixed.Word words.If))) (test_tokens test) b (range_left (statement (If line test b)) (word words.Else ∷ mark marks.OpenBrace ∷ inside d) h))) (other.numbers (else_range line test b d h)));
+        formed = and_from (block_well_formed b) (block_well_formed d) body.formed other.formed;
+        low = omega (arith, is.0, low_own, low_body, low_other);
+      }
+  form_facts room (While line test b) is =
+      let own = own_facts room (While line test b) is in
+      let body = block_facts (room - 1) b is.2 in
+      let low_own = own.low in
+      let low_body = body.low in
+      record {
+        levels = and_from _ (all_levelled (statements_of b)) own.levels body.levels;
+        numbers = λ h. and_from _ (all_numbers (statements_of b)) (own.numbers h) (body.numbers (block_range (OnLine line (Fixed' (fixed.Word words.While))) (expression test) b h));
+        formed = body.formed;
+        low = omega (arith, is.0, low_own, low_body);
+      }
 
-to_form : (room : ℕ) (s : Stmt) → is_built_statement s ≡ true → list_all levelled (own_expressions s) ≡ true → statement_height s ≤ room → IsForm room s
-to_form room (PutJint line e) built h low = record { levelled = to_levelled e 0 (and_parts (levelled e) true h).0 built (omega arith); low = omega (arith, low) }
-to_form room (Return line) built h low = tt
-to_form room (ReturnValue line e) built h low = record { levelled = to_levelled e 0 (and_parts (levelled e) true h).0 built (omega arith); low = omega (arith, low) }
-to_form room (Declare line t x r) built h low = let p = and_parts (is_built_variable t) (is_built_right r) built in (p.0, to_right room r p.1 h low)
-to_form room (DeclareBuffer line t x r) built h low = absurd (false_true built)
-to_form room (DeclareChars line x r) built h low = absurd (false_true built)
-to_form room (DeclareArray line t x size) built h low = absurd (false_true built)
-to_form room (Assign line x r) built h low = absurd (false_true built)
-to_form room (AssignElement line x i e) built h low = absurd (false_true built)
-to_form room (Perform line c) built h low = absurd (false_true built)
-to_form room (If line test b) built h low = absurd (false_true built)
-to_form room (IfElse line test b d) built h low = absurd (false_true built)
-to_form room (While line test b) built h low = absurd (false_true built)
+  pub block_facts : (room : ℕ) (b : Block) → IsBlock room b → BlockFacts room b
+  block_facts room (End line) is = record { levels = refl; numbers = λ h. refl; formed = refl; low = omega arith }
+  block_facts room (Next s rest) is =
+      let f = form_facts room s is.0 in
+      let r = block_facts room rest is.2 in
+      record {
+        levels = both _ (statements_within s) (statements_of rest) f.levels r.levels;
+        numbers = λ h. both _ (statements_within s) (statements_of rest) (f.numbers (range_left (statement s) (inside rest) h)) (r.numbers (range_right (statement s) (inside rest) h));
+        formed = well_formed_of s rest is.1 f.formed r.formed;
+        low = omega (arith, f.low, r.low);
+      }
 
-to_follows : (s : Stmt) (rest : Block) → is_built_statement s ≡ true → block_well_formed (Next s rest) ≡ true → MayFollow (is_return s) rest × (block_well_formed rest ≡ true)
-to_follows (PutJint line e) rest built h = (tt, (and_parts true (block_well_formed rest) h).1)
-to_follows (Return line) (End last) built h = (tt, refl)
-to_follows (Return line) (Next s rest) built h = absurd (false_true h)
-to_follows (ReturnValue line e) (End last) built h = (tt, refl)
-to_follows (ReturnValue line e) (Next s rest) built h = absurd (false_true h)
-to_follows (Declare line t x r) rest built h = (tt, (and_parts true (block_well_formed rest) h).1)
-to_follows (DeclareBuffer line t x r) rest built h = absurd (false_true built)
-to_follows (DeclareChars line x r) rest built h = absurd (false_true built)
-to_follows (DeclareArray line t x size) rest built h = absurd (false_true built)
-to_follows (Assign line x r) rest built h = absurd (false_true built)
-to_follows (AssignElement line x i e) rest built h = absurd (false_true built)
-to_follows (Perform line c) rest built h = absurd (false_true built)
-to_follows (If line test b) rest built h = absurd (false_true built)
-to_follows (IfElse line test b d) rest built h = absurd (false_true built)
-to_follows (While line test b) rest built h = absurd (false_true built)
+-- ---- the other way round
 
--- ---- blocks
+to_follows : (s : Stmt) (rest : Block) → block_well_formed (Next s rest) ≡ true → MayFollow (is_return s) rest × (block_well_formed rest ≡ true) × (well_formed s ≡ true)
+to_follows (Declare line t x r) rest h = let p = and_parts (well_formed (Declare line t x r)) (block_well_formed rest) h in (tt, p.1, p.0)
+to_follows (DeclareBuffer line t x r) rest h = let p = and_parts (well_formed (DeclareBuffer line t x r)) (block_well_formed rest) h in (tt, p.1, p.0)
+to_follows (DeclareChars line x r) rest h = let p = and_parts (well_formed (DeclareChars line x r)) (block_well_formed rest) h in (tt, p.1, p.0)
+to_follows (DeclareArray line t x size) rest h = let p = and_parts (well_formed (DeclareArray line t x size)) (block_well_formed rest) h in (tt, p.1, p.0)
+to_follows (Assign line x r) rest h = let p = and_parts (well_formed (Assign line x r)) (block_well_formed rest) h in (tt, p.1, p.0)
+to_follows (AssignElement line x i e) rest h = let p = and_parts (well_formed (AssignElement line x i e)) (block_well_formed rest) h in (tt, p.1, p.0)
+to_follows (Perform line c) rest h = let p = and_parts (well_formed (Perform line c)) (block_well_formed rest) h in (tt, p.1, p.0)
+to_follows (PutJint line e) rest h = let p = and_parts (well_formed (PutJint line e)) (block_well_formed rest) h in (tt, p.1, p.0)
+to_follows (If line test b) rest h = let p = and_parts (well_formed (If line test b)) (block_well_formed rest) h in (tt, p.1, p.0)
+to_follows (IfElse line test b d) rest h = let p = and_parts (well_formed (IfElse line test b d)) (block_well_formed rest) h in (tt, p.1, p.0)
+to_follows (While line test b) rest h = let p = and_parts (well_formed (While line test b)) (block_well_formed rest) h in (tt, p.1, p.0)
+to_follows (Return line) (End last) h = (tt, refl, refl)
+to_follows (Return line) (Next s rest) h = absurd (false_true h)
+to_follows (ReturnValue line e) (End last) h = (tt, refl, refl)
+to_follows (ReturnValue line e) (Next s rest) h = absurd (false_true h)
 
-abbrev pub block_levelled : Block → Bool
-block_levelled b = list_all (λ s. list_all levelled (own_expressions s)) (statements_of b)
+-- the first of a list of statements
+first_part : (test : Stmt → Bool) (s : Stmt) (others : List Stmt) → list_all test (s ∷ others) ≡ true → (test s ≡ true) × (list_all test others ≡ true)
+first_part test s others h = and_parts (test s) (list_all test others) h
 
-abbrev pub block_numbers : Block → Bool
-block_numbers b = list_all (λ s. list_all numbers_in_range (own_expressions s)) (statements_of b)
+abbrev is_levelled : Stmt → Bool
+is_levelled s = list_all levelled (own_expressions s)
 
-pub record BlockFacts (b : Block) : Type 0 where
-  pub levels : block_levelled b ≡ true
-  pub numbers : block_numbers b ≡ true
-  pub formed : block_well_formed b ≡ true
-  pub low : block_height b ≤ 32
-  pub built : is_built_block b ≡ true
+to_expr : (room : ℕ) (e : Expr) → list_all levelled (e ∷ []) ≡ true → height e ≤ room → IsExpr room e
+to_expr room e h low = record { levelled = to_levelled e 0 (and_parts (levelled e) true h).0 (omega arith); low = low }
 
-pub block_facts : (b : Block) → IsBlock 31 b → AreInRange (inside b) → BlockFacts b
-block_facts (End line) is range = record { levels = refl; numbers = refl; formed = refl; low = omega arith; built = refl }
-block_facts (Next s rest) is range =
-    let f = form_facts 31 s is.0 in
-    let r = block_facts rest is.2 (range_right (statement s) (inside rest) range) in
-    let all : statements_of (Next s rest) ≡ s ∷ statements_of rest = ap (λ (l : List Stmt). l ++ statements_of rest) f.within in
-    record {
-      levels = ap (list_all (λ x. list_all levelled (own_expressions x))) all ∙ and_from _ _ f.levels r.levels;
-      numbers = ap (list_all (λ x. list_all numbers_in_range (own_expressions x))) all ∙ and_from _ _ (f.numbers (range_left (statement s) (inside rest) range)) r.numbers;
-      formed = well_formed_of 31 s rest is.0 is.1 r.formed;
-      low = omega (arith, f.low, r.low);
-      built = and_from _ _ f.built r.built;
-    }
+mutual
+  to_form : (room : ℕ) (s : Stmt) → all_levelled (statements_within s) ≡ true → well_formed s ≡ true → statement_height s ≤ room → IsForm room s
+  to_form room (Declare line t x r) h formed low = to_right room r (first_part is_levelled (Declare line t x r) [] h).0 low
+  to_form room (DeclareBuffer line t x r) h formed low = to_right room r (first_part is_levelled (DeclareBuffer line t x r) [] h).0 low
+  to_form room (DeclareChars line x r) h formed low = to_right room r (first_part is_levelled (DeclareChars line x r) [] h).0 low
+  to_form room (DeclareArray line t x size) h formed low =
+      let p = and_parts (nat_le 1 size) (nat_le size 1024) formed in
+      record { some = leb-true 1 size p.0; bound = leb-true size 1024 p.1 }
+  to_form room (Assign line x r) h formed low = to_right room r (first_part is_levelled (Assign line x r) [] h).0 low
+  to_form room (AssignElement line x i e) h formed low =
+      let own = (first_part is_levelled (AssignElement line x i e) [] h).0 in
+      let p = and_parts (levelled i) (list_all levelled (e ∷ [])) own in
+      (record { levelled = to_levelled i 0 p.0 (omega arith); low = omega (arith, low) }, to_expr room e p.1 (omega (arith, low)))
+  to_form room (Perform line c) h formed low = to_arguments room c.arguments (first_part is_levelled (Perform line c) [] h).0 low
+  to_form room (PutJint line e) h formed low = to_expr room e (first_part is_levelled (PutJint line e) [] h).0 (omega (arith, low))
+  to_form room (Return line) h formed low = tt
+  to_form room (ReturnValue line e) h formed low = to_expr room e (first_part is_levelled (ReturnValue line e) [] h).0 (omega (arith, low))
+  to_form room (If line test b) h formed low =
+      let p = first_part is_levelled (If line test b) (statements_of b) h in
+      let some = block_some b in
+      (omega (arith, low, some), to_test room test p.0 (omega (arith, low)), to_block (room - 1) b p.1 formed (omega (arith, low, some)))
+  to_form room (IfElse line test b d) h formed low =
+      let p = first_part is_levelled (IfElse line test b d) (statements_of b ++ statements_of d) h in
+      let q = parted is_levelled (statements_of b) (statements_of d) p.1 in
+      let f = and_parts (block_well_formed b) (block_well_formed d) formed in
+      let some = block_some b in
+      (omega (arith, low, some), to_test room test p.0 (omega (arith, low)), to_block (room - 1) b q.0 f.0 (omega (arith, low, some)), to_block (room - 1) d q.1 f.1 (omega (arith, low, some)))
+  to_form room (While line test b) h formed low =
+      let p = first_part is_levelled (While line test b) (statements_of b) h in
+      let some = block_some b in
+      (omega (arith, low, some), to_expr room test p.0 (omega (arith, low)), to_block (room - 1) b p.1 formed (omega (arith, low, some)))
 
-pub to_block : (b : Block) → is_built_block b ≡ true → block_levelled b ≡ true → block_well_formed b ≡ true → block_height b ≤ 32 → IsBlock 31 b
-to_block (End line) built levels formed low = tt
-to_block (Next s rest) built levels formed low =
-    let p = and_parts (is_built_statement s) (is_built_block rest) built in
-    let all : statements_of (Next s rest) ≡ s ∷ statements_of rest = ap (λ (l : List Stmt). l ++ statements_of rest) (within_one s p.0) in
-    let q = and_parts (list_all levelled (own_expressions s)) (block_levelled rest) (sym (ap (list_all (λ x. list_all levelled (own_expressions x))) all) ∙ levels) in
-    let f = to_follows s rest p.0 formed in
-    (to_form 31 s p.0 q.0 (omega (arith, low)), f.0, to_block rest p.1 q.1 f.1 (omega (arith, low)))
+  pub to_block : (room : ℕ) (b : Block) → all_levelled (statements_of b) ≡ true → block_well_formed b ≡ true → block_height b ≤ room + 1 → IsBlock room b
+  to_block room (End line) h formed low = tt
+  to_block room (Next s rest) h formed low =
+      let q = parted is_levelled (statements_within s) (statements_of rest) h in
+      let f = to_follows s rest formed in
+      (to_form room s q.0 f.2 (omega (arith, low)), f.0, to_block room rest q.1 f.1 (omega (arith, low)))
 
 -- ---- functions and units
 
 pub record FunctionFacts (f : Function) : Type 0 where
-  pub body : BlockFacts f.body
+  pub body : BlockFacts 31 f.body
+  pub range : AreInRange (inside f.body)
   pub names : length (parameter_names f ++ names_declared (statements_of f.body)) ≤ 256
-  pub built : is_built_item (FunctionItem f) ≡ true
 
 -- the names of a function, its class first
-names_count : (f : Function) → length (parameter_names f ++ names_declared (statements_of f.body)) ≡ 1 + length f.parameters + length (names_declared (statements_of f.body))
+names_count : (f : Function) → length (parameter_names f ++ names_declared (statements_of f.body)) ≡ 1 + length f.parameters + names_in f.body
 names_count f =
     let all = length-append (parameter_names f) (names_declared (statements_of f.body)) in
     let behind_class = length-map f.parameters (λ p. p.name) in
@@ -302,23 +430,22 @@ body_range f range =
 
 function_facts : (f : Function) → IsFunction f → AreInRange (function f) → FunctionFacts f
 function_facts f is range =
-    let body = block_facts f.body is.body (body_range f range) in
     let names = is.names in
     let count = names_count f in
     record {
-      body = body;
+      body = block_facts 31 f.body is.body;
+      range = body_range f range;
       names = omega (arith, count, names);
-      built = and_from _ _ is.result body.built;
     }
 
 abbrev AllFacts : List Item → Type 0
 AllFacts [] = Unit {0}
-AllFacts (StaticItem s ∷ items) = ⊥
+AllFacts (StaticItem s ∷ items) = AllFacts items
 AllFacts (FunctionItem f ∷ items) = FunctionFacts f × AllFacts items
 
 all_facts : (items : List Item) → AreItems items → AreInRange (flat_map item items) → AllFacts items
 all_facts [] is range = tt
-all_facts (StaticItem s ∷ items) is range = absurd is
+all_facts (StaticItem s ∷ items) is range = all_facts items is (range_right (item (StaticItem s)) (flat_map item items) range)
 all_facts (FunctionItem f ∷ items) is range = (function_facts f is.0 (range_left (function f) (flat_map item items) range), all_facts items is.1 (range_right (function f) (flat_map item items) range))
 
 abbrev unit_of : List Item → SourceUnit
@@ -327,61 +454,37 @@ unit_of items = record { items = items }
 -- what is so of each function
 all_of : (test : Function → Bool) → ((f : Function) → FunctionFacts f → test f ≡ true) → (items : List Item) → AllFacts items → list_all test (functions_of (unit_of items)) ≡ true
 all_of test so [] facts = refl
-all_of test so (StaticItem s ∷ items) facts = absurd facts
+all_of test so (StaticItem s ∷ items) facts = all_of test so items facts
 all_of test so (FunctionItem f ∷ items) facts = and_from _ _ (so f facts.0) (all_of test so items facts.1)
-
-all_built : (items : List Item) → AllFacts items → is_built (unit_of items) ≡ true
-all_built [] facts = refl
-all_built (StaticItem s ∷ items) facts = absurd facts
-all_built (FunctionItem f ∷ items) facts = and_from _ _ facts.0.built (all_built items facts.1)
-
-no_statics : (items : List Item) → AllFacts items → length (statics_of (unit_of items)) ≡ 0
-no_statics [] facts = refl
-no_statics (StaticItem s ∷ items) facts = absurd facts
-no_statics (FunctionItem f ∷ items) facts = no_statics items facts.1
-
-all_functions : (items : List Item) → AreItems items → length (functions_of (unit_of items)) ≡ length items
-all_functions [] is = refl
-all_functions (StaticItem s ∷ items) is = absurd is
-all_functions (FunctionItem f ∷ items) is = let p = all_functions items is.1 in omega (arith, p)
-
-pub is_tree : (items : List Item) → AreItems items → length items ≤ 256 → AreInRange (spell (unit_of items)) → IsTree (unit_of items) × (is_built (unit_of items) ≡ true)
-is_tree items is few range =
-    let facts = all_facts items is range in
-    let functions = all_functions items is in
-    let statics = no_statics items facts in (
-      record {
-        levelled_expressions = all_of (λ f. block_levelled f.body) (λ f k. k.body.levels) items facts;
-        numbers = all_of (λ f. block_numbers f.body) (λ f k. k.body.numbers) items facts;
-        forms = all_of (λ f. block_well_formed f.body) (λ f k. k.body.formed) items facts;
-        low = all_of (λ f. nat_le (block_height f.body) 32) (λ f k. le-leb (block_height f.body) 32 k.body.low) items facts;
-        few_functions = omega (arith, functions, few);
-        few_statics = omega (arith, statics);
-        few_names = all_of (λ f. nat_le (length (parameter_names f ++ names_declared (statements_of f.body))) 256) (λ f k. le-leb _ 256 k.names) items facts;
-      },
-      all_built items facts,
-    )
 
 abbrev few_names : Function → Bool
 few_names f = nat_le (length (parameter_names f ++ names_declared (statements_of f.body))) 256
 
-to_items : (items : List Item) → is_built (unit_of items) ≡ true → list_all (λ f. block_levelled f.body) (functions_of (unit_of items)) ≡ true → list_all (λ f. block_well_formed f.body) (functions_of (unit_of items)) ≡ true → list_all (λ f. nat_le (block_height f.body) 32) (functions_of (unit_of items)) ≡ true → list_all few_names (functions_of (unit_of items)) ≡ true → AreItems items
-to_items [] built levels forms low few = tt
-to_items (StaticItem s ∷ items) built levels forms low few = absurd (false_true built)
-to_items (FunctionItem f ∷ items) built levels forms low few =
-    let b = and_parts (is_built_item (FunctionItem f)) (is_built (unit_of items)) built in
-    let c = and_parts (is_built_result f.result) (is_built_block f.body) b.0 in
-    let l = and_parts (block_levelled f.body) (list_all (λ f. block_levelled f.body) (functions_of (unit_of items))) levels in
+pub is_tree : (items : List Item) → AreItems items → functions_in items ≤ 256 → statics_in items ≤ 256 → AreInRange (spell (unit_of items)) → IsTree (unit_of items)
+is_tree items is few_functions few_statics range =
+    let facts = all_facts items is range in
+    record {
+      levelled_expressions = all_of (λ f. all_levelled (statements_of f.body)) (λ f k. k.body.levels) items facts;
+      numbers = all_of (λ f. all_numbers (statements_of f.body)) (λ f k. k.body.numbers k.range) items facts;
+      forms = all_of (λ f. block_well_formed f.body) (λ f k. k.body.formed) items facts;
+      low = all_of (λ f. nat_le (block_height f.body) 32) (λ f k. le-leb (block_height f.body) 32 (let low = k.body.low in omega (arith, low))) items facts;
+      few_functions = few_functions;
+      few_statics = few_statics;
+      few_names = all_of few_names (λ f k. le-leb _ 256 k.names) items facts;
+    }
+
+to_items : (items : List Item) → list_all (λ f. all_levelled (statements_of f.body)) (functions_of (unit_of items)) ≡ true → list_all (λ f. block_well_formed f.body) (functions_of (unit_of items)) ≡ true → list_all (λ f. nat_le (block_height f.body) 32) (functions_of (unit_of items)) ≡ true → list_all few_names (functions_of (unit_of items)) ≡ true → AreItems items
+to_items [] levels forms low few = tt
+to_items (StaticItem s ∷ items) levels forms low few = to_items items levels forms low few
+to_items (FunctionItem f ∷ items) levels forms low few =
+    let l = and_parts (all_levelled (statements_of f.body)) (list_all (λ f. all_levelled (statements_of f.body)) (functions_of (unit_of items))) levels in
     let w = and_parts (block_well_formed f.body) (list_all (λ f. block_well_formed f.body) (functions_of (unit_of items))) forms in
     let h = and_parts (nat_le (block_height f.body) 32) (list_all (λ f. nat_le (block_height f.body) 32) (functions_of (unit_of items))) low in
     let n = and_parts (few_names f) (list_all few_names (functions_of (unit_of items))) few in
+    let low_body = leb-true (block_height f.body) 32 h.0 in
     let names = leb-true (length (parameter_names f ++ names_declared (statements_of f.body))) 256 n.0 in
     let count = names_count f in
-    (record { result = c.0; body = to_block f.body c.1 l.0 w.0 (leb-true (block_height f.body) 32 h.0); names = omega (arith, names, count) }, to_items items b.1 l.1 w.1 h.1 n.1)
+    (record { body = to_block 31 f.body l.0 w.0 (omega (arith, low_body)); names = omega (arith, names, count) }, to_items items l.1 w.1 h.1 n.1)
 
-pub tree_items : (unit : SourceUnit) → is_built unit ≡ true → IsTree unit → AreItems unit.items × (length unit.items ≤ 256)
-tree_items unit built is =
-    let items = to_items unit.items built is.levelled_expressions is.forms is.low is.few_names in
-    let count = all_functions unit.items items in
-    let few = is.few_functions in
-    (items, omega (arith, count, few))
+pub tree_items : (unit : SourceUnit) → IsTree unit → AreItems unit.items
+tree_items unit is = to_items unit.items is.levelled_expressions is.forms is.low is.few_names

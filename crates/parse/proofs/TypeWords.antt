@@ -1,52 +1,36 @@
 -- What the proofs need of the tables of words.
-use Rattle.std.proofs.Common.{◌≡◌, ℕ, true, List, [], ◌∷◌, Option, Some, None, refl, sym, ap, ◌∙◌, inl, inr}
-use Rattle.std.specs.Prelude.{IsTrue}
+use Rattle.std.proofs.Common.{◌≡◌, ℕ, List, [], ◌∷◌, Option, Some, None, refl, sym, ap, ◌∙◌, inl, inr}
+use Rattle.std.specs.Prelude.{◌⊎◌}
 use Rattle.std.specs.Option.{option_map, option_flatten}
-use Rattle.syntax.specs.Tree.{ReferenceType, JObject, JClass, JString, JArray, JThrowable, JIntArray, JShortArray, JByteArray, JCharArray, JObjectArray, Constant, True, False, Commit, Abort, Null, ParameterType, IntParameter, ReferenceParameter, VariableType, UInt32, JIntVariable, JSize, JBoolean, JFieldId, ReferenceVariable}
+use Rattle.base.specs.Element.{ElementType, JInt, JShort, JByte, JChar}
+use Rattle.syntax.specs.Tree.{ReferenceType, JObject, JClass, JString, JArray, JThrowable, JIntArray, JShortArray, JByteArray, JCharArray, JObjectArray, Constant, True, False, Commit, Abort, Null, ResultType, Void, IntResult, ReferenceResult, ParameterType, IntParameter, ReferenceParameter, VariableType, UInt32, JIntVariable, JSize, JBoolean, JFieldId, ReferenceVariable}
 use Rattle.parse.specs.declared.words.Word.{Word}
 use Rattle.parse.specs.declared.words.Word.TheVariants as words
 use Rattle.parse.specs.declared.lexemes.Fixed.TheVariants as fixed
 use Rattle.parse.specs.Meaning.{Meaning, Fixed', Name', Number', Text'}
 use Rattle.parse.specs.Lexemes.{Lexed, same_word, line_at}
-use Rattle.parse.specs.Spelling.{Spelled, OnLine, word, reference_word, constant_word, variable_word, parameter_word}
-use Rattle.parse.specs.Built.{is_built_constant, is_built_variable}
-use Rattle.parse.specs.Reading.{behind, constant_of_word, word_in, word_at, reference_of_word, parameter_of_word, variable_of_word, parameter_type_at, variable_type_at}
+use Rattle.parse.specs.Spelling.{Spelled, OnLine, word, reference_word, constant_word, element_word, variable_word, result_word, parameter_word}
+use Rattle.parse.specs.Reading.{behind, constant_of_word, word_in, word_at, reference_of_word, result_of_word, element_of_word, parameter_of_word, variable_of_word, reference_type_at, result_type_at, element_type_at, parameter_type_at, variable_type_at}
 use Rattle.parse.proofs.Singles.{Begins, chosen, word_is}
 
 -- ---- constants
 
-pub constant_again : (c : Constant) → IsTrue (is_built_constant c) → constant_of_word (constant_word c) ≡ Some c
-constant_again True built = absurd cc
-constant_again False built = absurd cc
-constant_again Commit built = absurd cc
-constant_again Abort built = absurd cc
-constant_again Null built = refl
+pub constant_again : (c : Constant) → constant_of_word (constant_word c) ≡ Some c
+constant_again True = refl
+constant_again False = refl
+constant_again Commit = refl
+constant_again Abort = refl
+constant_again Null = refl
 
 pub constant_is : (w : Word) (c : Constant) → constant_of_word w ≡ Some c → w ≡ constant_word c
+constant_is words.JniTrue c e = let f : True ≡ c = cc in ap constant_word f
+constant_is words.JniFalse c e = let f : False ≡ c = cc in ap constant_word f
+constant_is words.JniCommit c e = let f : Commit ≡ c = cc in ap constant_word f
+constant_is words.JniAbort c e = let f : Abort ≡ c = cc in ap constant_word f
 constant_is words.Null c e = let f : Null ≡ c = cc in ap constant_word f
 constant_is _ c e = absurd cc
 
-pub constant_built : (w : Word) (c : Constant) → constant_of_word w ≡ Some c → is_built_constant c ≡ true
-constant_built words.Null c e = let f : Null ≡ c = cc in ap is_built_constant (sym f)
-constant_built _ c e = absurd cc
-
 -- ---- types
-
-variable_again : (t : VariableType) → IsTrue (is_built_variable t) → variable_of_word (variable_word t) ≡ Some t
-variable_again UInt32 built = absurd cc
-variable_again JIntVariable built = refl
-variable_again JSize built = absurd cc
-variable_again JBoolean built = absurd cc
-variable_again JFieldId built = absurd cc
-variable_again (ReferenceVariable r) built = absurd cc
-
-variable_is : (w : Word) (t : VariableType) → variable_of_word w ≡ Some t → w ≡ variable_word t
-variable_is words.Jint t e = let f : JIntVariable ≡ t = cc in ap variable_word f
-variable_is _ t e = absurd cc
-
-variable_built : (w : Word) (t : VariableType) → variable_of_word w ≡ Some t → is_built_variable t ≡ true
-variable_built words.Jint t e = let f : JIntVariable ≡ t = cc in ap is_built_variable (sym f)
-variable_built _ t e = absurd cc
 
 reference_is : (w : Word) (r : ReferenceType) → reference_of_word w ≡ Some r → w ≡ reference_word r
 reference_is words.Jobject r e = let f : JObject ≡ r = cc in ap reference_word f
@@ -61,6 +45,31 @@ reference_is words.JcharArray r e = let f : JCharArray ≡ r = cc in ap referenc
 reference_is words.JobjectArray r e = let f : JObjectArray ≡ r = cc in ap reference_word f
 reference_is _ r e = absurd cc
 
+reference_again : (r : ReferenceType) → reference_of_word (reference_word r) ≡ Some r
+reference_again JObject = refl
+reference_again JClass = refl
+reference_again JString = refl
+reference_again JArray = refl
+reference_again JThrowable = refl
+reference_again JIntArray = refl
+reference_again JShortArray = refl
+reference_again JByteArray = refl
+reference_again JCharArray = refl
+reference_again JObjectArray = refl
+
+element_again : (t : ElementType) → element_of_word (element_word t) ≡ Some t
+element_again JInt = refl
+element_again JShort = refl
+element_again JByte = refl
+element_again JChar = refl
+
+element_is : (w : Word) (t : ElementType) → element_of_word w ≡ Some t → w ≡ element_word t
+element_is words.Jint t e = let f : JInt ≡ t = cc in ap element_word f
+element_is words.Jshort t e = let f : JShort ≡ t = cc in ap element_word f
+element_is words.Jbyte t e = let f : JByte ≡ t = cc in ap element_word f
+element_is words.Jchar t e = let f : JChar ≡ t = cc in ap element_word f
+element_is _ t e = absurd cc
+
 parameter_again : (t : ParameterType) → parameter_of_word (parameter_word t) ≡ Some t
 parameter_again IntParameter = refl
 parameter_again (ReferenceParameter JObject) = refl
@@ -73,6 +82,52 @@ parameter_again (ReferenceParameter JShortArray) = refl
 parameter_again (ReferenceParameter JByteArray) = refl
 parameter_again (ReferenceParameter JCharArray) = refl
 parameter_again (ReferenceParameter JObjectArray) = refl
+
+result_again : (t : ResultType) → result_of_word (result_word t) ≡ Some t
+result_again Void = refl
+result_again IntResult = refl
+result_again (ReferenceResult JObject) = refl
+result_again (ReferenceResult JClass) = refl
+result_again (ReferenceResult JString) = refl
+result_again (ReferenceResult JArray) = refl
+result_again (ReferenceResult JThrowable) = refl
+result_again (ReferenceResult JIntArray) = refl
+result_again (ReferenceResult JShortArray) = refl
+result_again (ReferenceResult JByteArray) = refl
+result_again (ReferenceResult JCharArray) = refl
+result_again (ReferenceResult JObjectArray) = refl
+
+result_is : (w : Word) (t : ResultType) → result_of_word w ≡ Some t → w ≡ result_word t
+result_is words.Void t e = let f : Void ≡ t = cc in ap result_word f
+result_is words.Jint t e = let f : IntResult ≡ t = cc in ap result_word f
+result_is words.Jobject t e = let f : ReferenceResult JObject ≡ t = cc in ap result_word f
+result_is words.Jclass t e = let f : ReferenceResult JClass ≡ t = cc in ap result_word f
+result_is words.Jstring t e = let f : ReferenceResult JString ≡ t = cc in ap result_word f
+result_is words.Jarray t e = let f : ReferenceResult JArray ≡ t = cc in ap result_word f
+result_is words.Jthrowable t e = let f : ReferenceResult JThrowable ≡ t = cc in ap result_word f
+result_is words.JintArray t e = let f : ReferenceResult JIntArray ≡ t = cc in ap result_word f
+result_is words.JshortArray t e = let f : ReferenceResult JShortArray ≡ t = cc in ap result_word f
+result_is words.JbyteArray t e = let f : ReferenceResult JByteArray ≡ t = cc in ap result_word f
+result_is words.JcharArray t e = let f : ReferenceResult JCharArray ≡ t = cc in ap result_word f
+result_is words.JobjectArray t e = let f : ReferenceResult JObjectArray ≡ t = cc in ap result_word f
+result_is _ t e = absurd cc
+
+variable_is : (w : Word) (t : VariableType) → variable_of_word w ≡ Some t → w ≡ variable_word t
+variable_is words.Uint32 t e = let f : UInt32 ≡ t = cc in ap variable_word f
+variable_is words.Jsize t e = let f : JSize ≡ t = cc in ap variable_word f
+variable_is words.Jboolean t e = let f : JBoolean ≡ t = cc in ap variable_word f
+variable_is words.JfieldId t e = let f : JFieldId ≡ t = cc in ap variable_word f
+variable_is words.Jobject t e = let f : ReferenceVariable JObject ≡ t = cc in ap variable_word f
+variable_is words.Jclass t e = let f : ReferenceVariable JClass ≡ t = cc in ap variable_word f
+variable_is words.Jstring t e = let f : ReferenceVariable JString ≡ t = cc in ap variable_word f
+variable_is words.Jarray t e = let f : ReferenceVariable JArray ≡ t = cc in ap variable_word f
+variable_is words.Jthrowable t e = let f : ReferenceVariable JThrowable ≡ t = cc in ap variable_word f
+variable_is words.JintArray t e = let f : ReferenceVariable JIntArray ≡ t = cc in ap variable_word f
+variable_is words.JshortArray t e = let f : ReferenceVariable JShortArray ≡ t = cc in ap variable_word f
+variable_is words.JbyteArray t e = let f : ReferenceVariable JByteArray ≡ t = cc in ap variable_word f
+variable_is words.JcharArray t e = let f : ReferenceVariable JCharArray ≡ t = cc in ap variable_word f
+variable_is words.JobjectArray t e = let f : ReferenceVariable JObjectArray ≡ t = cc in ap variable_word f
+variable_is _ t e = absurd cc
 
 reference_parameter : (w : Word) (t : ParameterType) (o : Option ReferenceType) → reference_of_word w ≡ o → option_map (λ r. ReferenceParameter r) o ≡ Some t → w ≡ parameter_word t
 reference_parameter w t None o e = absurd cc
@@ -116,15 +171,68 @@ word_on : (w : Word) (es : List Spelled) (ls rest : List Lexed) → word_at ls �
 word_on w es [] rest e h = absurd cc
 word_on w es (l ∷ ls) rest e h = ((word_meaning l.meaning w e, refl), h)
 
--- a variable's type, which stands first in its line
+pub reference_type_takes : (t : ReferenceType) (ls : List Lexed) → reference_type_at ls ≡ Some t → Begins (word (reference_word t) ∷ []) ls (behind ls)
+reference_type_takes t ls e =
+    let w = flat_some reference_of_word (word_at ls) t e in
+    word_takes (reference_word t) ls (w.1 ∙ ap (λ (v : Word). Some v) (reference_is w.0 t w.2))
+
+pub reference_type_again : (t : ReferenceType) (es : List Spelled) (ls rest : List Lexed) → Begins (word (reference_word t) ∷ es) ls rest → reference_type_at ls ≡ Some t
+reference_type_again t es [] rest h = absurd h
+reference_type_again t es (l ∷ ls) rest h = rw h.0 (reference_again t)
+
+pub result_type_takes : (t : ResultType) (ls : List Lexed) → result_type_at ls ≡ Some t → Begins (word (result_word t) ∷ []) ls (behind ls)
+result_type_takes t ls e =
+    let w = flat_some result_of_word (word_at ls) t e in
+    word_takes (result_word t) ls (w.1 ∙ ap (λ (v : Word). Some v) (result_is w.0 t w.2))
+
+pub result_type_again : (t : ResultType) (es : List Spelled) (ls rest : List Lexed) → Begins (word (result_word t) ∷ es) ls rest → result_type_at ls ≡ Some t
+result_type_again t es [] rest h = absurd h
+result_type_again t es (l ∷ ls) rest h = rw h.0 (result_again t)
+
+-- ---- the type that stands first in a line
+
+pub element_type_takes : (t : ElementType) (es : List Spelled) (ls rest : List Lexed) → element_type_at ls ≡ Some t → Begins es (behind ls) rest → Begins (OnLine (line_at ls) (Fixed' (fixed.Word (element_word t))) ∷ es) ls rest
+element_type_takes t es ls rest e h =
+    let w = flat_some element_of_word (word_at ls) t e in
+    word_on (element_word t) es ls rest (w.1 ∙ ap (λ (v : Word). Some v) (element_is w.0 t w.2)) h
+
 pub variable_type_takes : (t : VariableType) (es : List Spelled) (ls rest : List Lexed) → variable_type_at ls ≡ Some t → Begins es (behind ls) rest → Begins (OnLine (line_at ls) (Fixed' (fixed.Word (variable_word t))) ∷ es) ls rest
 variable_type_takes t es ls rest e h =
     let w = flat_some variable_of_word (word_at ls) t e in
     word_on (variable_word t) es ls rest (w.1 ∙ ap (λ (v : Word). Some v) (variable_is w.0 t w.2)) h
 
-pub variable_type_built : (t : VariableType) (ls : List Lexed) → variable_type_at ls ≡ Some t → is_built_variable t ≡ true
-variable_type_built t ls e = let w = flat_some variable_of_word (word_at ls) t e in variable_built w.0 t w.2
+-- what the first lexeme of a line is the type of
+abbrev pub element_in : Meaning → Option ElementType
+element_in m = option_flatten (option_map element_of_word (word_in m))
 
-pub variable_type_again : (t : VariableType) → IsTrue (is_built_variable t) → (line : ℕ) (es : List Spelled) (ls rest : List Lexed) → Begins (OnLine line (Fixed' (fixed.Word (variable_word t))) ∷ es) ls rest → variable_type_at ls ≡ Some t
-variable_type_again t built line es [] rest h = absurd h
-variable_type_again t built line es (l ∷ ls) rest h = rw h.0.0 (variable_again t built)
+abbrev pub variable_in : Meaning → Option VariableType
+variable_in m = option_flatten (option_map variable_of_word (word_in m))
+
+pub first_element : (line : ℕ) (m : Meaning) (es : List Spelled) (ls rest : List Lexed) → Begins (OnLine line m ∷ es) ls rest → element_type_at ls ≡ element_in m
+first_element line m es [] rest h = absurd h
+first_element line m es (l ∷ ls) rest h = ap element_in h.0.0
+
+pub first_variable : (line : ℕ) (m : Meaning) (es : List Spelled) (ls rest : List Lexed) → Begins (OnLine line m ∷ es) ls rest → variable_type_at ls ≡ variable_in m
+first_variable line m es [] rest h = absurd h
+first_variable line m es (l ∷ ls) rest h = ap variable_in h.0.0
+
+pub element_word_in : (t : ElementType) → element_in (Fixed' (fixed.Word (element_word t))) ≡ Some t
+element_word_in t = element_again t
+
+-- `jint` is read as an element's type, and no other variable's type is
+pub variable_word_in : (t : VariableType) → (t ≡ JIntVariable) ⊎ ((element_in (Fixed' (fixed.Word (variable_word t))) ≡ None) × (variable_in (Fixed' (fixed.Word (variable_word t))) ≡ Some t))
+variable_word_in UInt32 = inr (refl, refl)
+variable_word_in JIntVariable = inl refl
+variable_word_in JSize = inr (refl, refl)
+variable_word_in JBoolean = inr (refl, refl)
+variable_word_in JFieldId = inr (refl, refl)
+variable_word_in (ReferenceVariable JObject) = inr (refl, refl)
+variable_word_in (ReferenceVariable JClass) = inr (refl, refl)
+variable_word_in (ReferenceVariable JString) = inr (refl, refl)
+variable_word_in (ReferenceVariable JArray) = inr (refl, refl)
+variable_word_in (ReferenceVariable JThrowable) = inr (refl, refl)
+variable_word_in (ReferenceVariable JIntArray) = inr (refl, refl)
+variable_word_in (ReferenceVariable JShortArray) = inr (refl, refl)
+variable_word_in (ReferenceVariable JByteArray) = inr (refl, refl)
+variable_word_in (ReferenceVariable JCharArray) = inr (refl, refl)
+variable_word_in (ReferenceVariable JObjectArray) = inr (refl, refl)

@@ -18,7 +18,6 @@ use Rattle.parse.specs.Words.{word_of}
 use Rattle.parse.specs.Meaning.{Fixed', name_or_word, meaning_of, token_meaning}
 use Rattle.parse.specs.Lexemes.{Lexed, is_fixed_meaning, line_ends, lexemes, AreInOrder}
 use Rattle.parse.specs.Results.{Fails}
-use Rattle.parse.specs.Built.{is_built}
 use Rattle.parse.specs.Spelling.{Spelled, Anywhere, OnLine, item, spell, Stands, SpellsUnit}
 use Rattle.parse.specs.Reading.{starts_with, items_at, unit_at}
 use Rattle.parse.proofs.Singles.{Begins}
@@ -106,23 +105,21 @@ unit_of items = record { items = items }
 
 -- the items that the lexemes of a text give
 abbrev pub items_of : List ℕ → List Token → Result (List Item) ParseFault
-items_of text tokens = items_at (length (lexemes text 0 1 tokens) + 1) 0 (lexemes text 0 1 tokens)
+items_of text tokens = items_at (length (lexemes text 0 1 tokens) + 1) 256 256 (lexemes text 0 1 tokens)
 
 pub record IsFound (text : List ℕ) (items : List Item) : Type 0 where
   pub tree : IsTree (unit_of items)
   pub spelled : SpellsUnit text (unit_of items)
-  pub built : is_built (unit_of items) ≡ true
 
 pub items_found : (text : List ℕ) (tokens : List Token) (items : List Item) → Spells text tokens → items_of text tokens ≡ Ok items → IsFound text items
 items_found text tokens items spelled h =
     let w = lexemes_is text 0 1 tokens (order_of text spelled) refl in
-    let t = items_take (length (lexemes text 0 1 tokens) + 1) 0 (lexemes text 0 1 tokens) items h in
+    let t = items_take (length (lexemes text 0 1 tokens) + 1) 256 256 (lexemes text 0 1 tokens) items h in
     let parts = subst (λ (ls : List Lexed). Begins (flat_map item items) ls t.rest) w.1 t.parts in
     let stand = stand_of text tokens (flat_map item items) (strip (flat_map item items) text tokens (record { meaning = Fixed' fixed.End; line = w.0 }) t.rest parts t.ended) in
     let range = spelled_in_range text tokens (flat_map item items) (tokens_in_range text spelled) stand in
-    let few : length items ≤ 256 = let f = t.few (omega arith) in omega (arith, f) in
-    let tree = is_tree items t.formed few range in
-    record { tree = tree.0; spelled = (tokens, spelled, (tree.0, stand)); built = tree.1 }
+    let tree = is_tree items t.formed t.few_functions t.few_statics range in
+    record { tree = tree; spelled = (tokens, spelled, (tree, stand)) }
 
 -- ---- the other way round
 
@@ -131,15 +128,14 @@ extend [] ls more h = ap (λ (x : List Lexed). x ++ more) h
 extend (e ∷ es) [] more h = absurd h
 extend (e ∷ es) (l ∷ ls) more h = (h.0, extend es ls more h.1)
 
--- where the tokens are those of a built unit, its items are read
-pub items_only : (text : List ℕ) (tokens : List Token) (unit : SourceUnit) → ((others : List Token) → Spells text others → others ≡ tokens) → Spells text tokens → is_built unit ≡ true → SpellsUnit text unit → items_of text tokens ≡ Ok unit.items
-items_only text tokens unit unique spelled built s =
+-- where the tokens are those of a unit, its items are read
+pub items_only : (text : List ℕ) (tokens : List Token) (unit : SourceUnit) → ((others : List Token) → Spells text others → others ≡ tokens) → Spells text tokens → SpellsUnit text unit → items_of text tokens ≡ Ok unit.items
+items_only text tokens unit unique spelled s =
     let w = lexemes_is text 0 1 tokens (order_of text spelled) refl in
     let behind_all : List Lexed = record { meaning = Fixed' fixed.End; line = w.0 } ∷ [] in
     let stand = subst (λ (ts : List Token). AllZip (Stands text) ts (spell unit)) (unique s.0 s.1) s.2.1 in
     let parts = subst (λ (ls : List Lexed). Begins (spell unit) ls behind_all) (sym w.1) (extend (spell unit) (lexemes_of text tokens) behind_all (begins_of text tokens (spell unit) stand)) in
-    let is = tree_items unit built s.2.0 in
-    rw (add-one (length (lexemes text 0 1 tokens))) (items_again unit.items (length (lexemes text 0 1 tokens)) 0 (lexemes text 0 1 tokens) behind_all (omega arith) parts refl is.0 (omega (arith, is.1)))
+    rw (add-one (length (lexemes text 0 1 tokens))) (items_again unit.items (length (lexemes text 0 1 tokens)) 256 256 (lexemes text 0 1 tokens) behind_all (omega arith) parts refl (tree_items unit s.2.0) s.2.0.few_functions s.2.0.few_statics)
 
 -- ---- from items to units
 
@@ -154,34 +150,34 @@ items_same a b e = cc
 
 -- what is read of lexemes, which are the text's
 module _ (text : List ℕ) (tokens : List Token) (spelled : Spells text tokens) (ls : List Lexed) (is : ls ≡ lexemes text 0 1 tokens) where
-  pub found_by : (items : List Item) → items_at (length ls + 1) 0 ls ≡ Ok items → IsFound text items
-  found_by items given = items_found text tokens items spelled (subst (λ (l : List Lexed). items_at (length l + 1) 0 l ≡ items_given items) is given)
+  pub found_by : (items : List Item) → items_at (length ls + 1) 256 256 ls ≡ Ok items → IsFound text items
+  found_by items given = items_found text tokens items spelled (subst (λ (l : List Lexed). items_at (length l + 1) 256 256 l ≡ items_given items) is given)
 
-  pub unit_by : (items : List Item) → items_at (length ls + 1) 0 ls ≡ Ok items → unit_at (lexemes text 0 1 tokens) ≡ Ok (unit_of items)
+  pub unit_by : (items : List Item) → items_at (length ls + 1) 256 256 ls ≡ Ok items → unit_at (lexemes text 0 1 tokens) ≡ Ok (unit_of items)
   unfolding unit_at
   unit_by items given = ap unit_at (sym is) ∙ rw given refl
 
-  pub fault_by : (e : ParseFault) → Fails e (items_at (length ls + 1) 0 ls) → Fails e (unit_at (lexemes text 0 1 tokens))
+  pub fault_by : (e : ParseFault) → Fails e (items_at (length ls + 1) 256 256 ls) → Fails e (unit_at (lexemes text 0 1 tokens))
   unfolding unit_at
   fault_by Memory h = tt
   fault_by (Found fault line) h = ap unit_at (sym is) ∙ rw h refl
 
   module _ (unique : (others : List Token) → Spells text others → others ≡ tokens) where
-    only_items : (unit : SourceUnit) → is_built unit ≡ true → SpellsUnit text unit → items_at (length ls + 1) 0 ls ≡ Ok unit.items
-    only_items unit built s = subst (λ (l : List Lexed). items_at (length l + 1) 0 l ≡ items_given unit.items) (sym is) (items_only text tokens unit unique spelled built s)
+    only_items : (unit : SourceUnit) → SpellsUnit text unit → items_at (length ls + 1) 256 256 ls ≡ Ok unit.items
+    only_items unit s = subst (λ (l : List Lexed). items_at (length l + 1) 256 256 l ≡ items_given unit.items) (sym is) (items_only text tokens unit unique spelled s)
 
-    pub only_by : (items : List Item) (unit : SourceUnit) → items_at (length ls + 1) 0 ls ≡ Ok items → is_built unit ≡ true → SpellsUnit text unit → unit_given unit ≡ Ok (unit_of items)
-    only_by items unit given built s = ap (λ (l : List Item). unit_given (unit_of l)) (items_same unit.items items (sym (only_items unit built s) ∙ given))
+    pub only_by : (items : List Item) (unit : SourceUnit) → items_at (length ls + 1) 256 256 ls ≡ Ok items → SpellsUnit text unit → unit_given unit ≡ Ok (unit_of items)
+    only_by items unit given s = ap (λ (l : List Item). unit_given (unit_of l)) (items_same unit.items items (sym (only_items unit s) ∙ given))
 
-    -- a fault where a built unit is spelled is want of memory
-    pub no_fault_by : (e : ParseFault) (unit : SourceUnit) → Fails e (items_at (length ls + 1) 0 ls) → is_built unit ≡ true → SpellsUnit text unit → Fails e (unit_given unit)
-    no_fault_by Memory unit h built s = tt
-    no_fault_by (Found fault line) unit h built s = let f : items_given unit.items ≡ Err (Found fault line) = sym (only_items unit built s) ∙ h in absurd cc
+    -- a fault where a unit is spelled is want of memory
+    pub no_fault_by : (e : ParseFault) (unit : SourceUnit) → Fails e (items_at (length ls + 1) 256 256 ls) → SpellsUnit text unit → Fails e (unit_given unit)
+    no_fault_by Memory unit h s = tt
+    no_fault_by (Found fault line) unit h s = let f : items_given unit.items ≡ Err (Found fault line) = sym (only_items unit s) ∙ h in absurd cc
 
--- no text has two trees that are built
-pub one_tree : (text : List ℕ) (a b : SourceUnit) → ((tokens others : List Token) → Spells text tokens → Spells text others → tokens ≡ others) → is_built a ≡ true → is_built b ≡ true → SpellsUnit text a → SpellsUnit text b → a ≡ b
-one_tree text a b unique built_a built_b of_a of_b =
+-- no text has two trees
+pub one_tree : (text : List ℕ) (a b : SourceUnit) → ((tokens others : List Token) → Spells text tokens → Spells text others → tokens ≡ others) → SpellsUnit text a → SpellsUnit text b → a ≡ b
+one_tree text a b unique of_a of_b =
     let only = λ (others : List Token) (s : Spells text others). unique others of_a.0 s of_a.1 in
-    let first = items_only text of_a.0 a only of_a.1 built_a of_a in
-    let second = items_only text of_a.0 b only of_a.1 built_b of_b in
+    let first = items_only text of_a.0 a only of_a.1 of_a in
+    let second = items_only text of_a.0 b only of_a.1 of_b in
     ap unit_of (items_same a.items b.items (sym first ∙ second))

@@ -1,7 +1,6 @@
 pub mod Words
 pub mod Meaning
 pub mod Spelling
-pub mod Built
 pub mod Faults
 pub mod Results
 pub mod Lexemes

@@ -1,11 +1,11 @@
 -- Reading lexemes from left to right, with the first fault that is met.
-use Rattle.std.specs.Prelude.{ℕ, zero, suc, ◌+◌, ◌-◌, max, Bool, true, false, nat_lt, ◌==◌, List, [], ◌∷◌, length, Option, Some, None, Result, Ok, Err, if◌then◌else◌}
+use Rattle.std.specs.Prelude.{ℕ, zero, suc, ◌+◌, ◌-◌, max, Bool, true, false, ◌||◌, nat_lt, ◌==◌, List, [], ◌∷◌, length, Option, Some, None, is_some, Result, Ok, Err, if◌then◌else◌}
 use Rattle.std.specs.Option.{option_map, option_flatten}
 use Rattle.scan.specs.declared.token.Mark.{Mark}
 use Rattle.scan.specs.declared.token.Mark.TheVariants as marks
 use Rattle.base.specs.Bytes.{Identifier}
-use Rattle.syntax.specs.Tree.{ReferenceType, JObject, JClass, JString, JArray, JThrowable, JIntArray, JShortArray, JByteArray, JCharArray, JObjectArray, Constant, Null, ParameterType, IntParameter, ReferenceParameter, VariableType, JIntVariable, PrefixOp, Complement, ToWord, ToInt, BinaryOp, BitOr, BitXor, BitAnd, Add, Subtract, Multiply, Expr, Number, Named, Variable, Prefix, Binary, Paren, Argument, Value, Call, RightSide, FromExpr, FromCall, Stmt, Declare, PutJint, Return, ReturnValue, Block, End, Next, ResultType, Void, IntResult, Parameter, Function, Item, FunctionItem, SourceUnit}
-use Rattle.syntax.specs.Parts.{statements_within, names_declared}
+use Rattle.base.specs.Element.{ElementType, JInt, JShort, JByte, JChar}
+use Rattle.syntax.specs.Tree.{ReferenceType, JObject, JClass, JString, JArray, JThrowable, JIntArray, JShortArray, JByteArray, JCharArray, JObjectArray, Constant, True, False, Commit, Abort, Null, ParameterType, IntParameter, ReferenceParameter, VariableType, UInt32, JIntVariable, JSize, JBoolean, JFieldId, ReferenceVariable, PrefixOp, LogicalNot, Complement, ToWord, ToInt, BinaryOp, LogicalOr, LogicalAnd, BitOr, BitXor, BitAnd, Equal, NotEqual, Less, LessEqual, Greater, GreaterEqual, ShiftLeft, ShiftRight, Add, Subtract, Multiply, Divide, Remainder, Expr, Number, Named, Variable, Element, Prefix, Binary, Paren, Argument, Value, Text, AddressOf, Call, RightSide, FromExpr, FromCall, Test, TestExpr, TestCall, Stmt, Declare, DeclareBuffer, DeclareChars, DeclareArray, Assign, AssignElement, Perform, PutJint, If, IfElse, While, Return, ReturnValue, Block, End, Next, ResultType, Void, IntResult, ReferenceResult, Parameter, Function, Static, Item, StaticItem, FunctionItem, SourceUnit}
 use Rattle.syntax.specs.Limits.{operator_level, prefix_level}
 use Rattle.parse.specs.declared.fault.Fault.TheVariants.{NoForm, TooHigh, TooMany}
 use Rattle.parse.specs.declared.fault.ParseFault.{ParseFault}
@@ -29,12 +29,24 @@ behind (l ∷ ls) = ls
 -- ---- expressions
 
 abbrev pub binary_of_mark : Mark → Option BinaryOp
-binary_of_mark marks.Star = Some Multiply
+binary_of_mark marks.LogicalOr = Some LogicalOr
+binary_of_mark marks.LogicalAnd = Some LogicalAnd
+binary_of_mark marks.Bar = Some BitOr
+binary_of_mark marks.Caret = Some BitXor
+binary_of_mark marks.Ampersand = Some BitAnd
+binary_of_mark marks.Equal = Some Equal
+binary_of_mark marks.NotEqual = Some NotEqual
+binary_of_mark marks.Less = Some Less
+binary_of_mark marks.LessEqual = Some LessEqual
+binary_of_mark marks.Greater = Some Greater
+binary_of_mark marks.GreaterEqual = Some GreaterEqual
+binary_of_mark marks.ShiftLeft = Some ShiftLeft
+binary_of_mark marks.ShiftRight = Some ShiftRight
 binary_of_mark marks.Plus = Some Add
 binary_of_mark marks.Minus = Some Subtract
-binary_of_mark marks.Ampersand = Some BitAnd
-binary_of_mark marks.Caret = Some BitXor
-binary_of_mark marks.Bar = Some BitOr
+binary_of_mark marks.Star = Some Multiply
+binary_of_mark marks.Slash = Some Divide
+binary_of_mark marks.Percent = Some Remainder
 binary_of_mark _ = None
 
 abbrev pub binary_of : Meaning → Option BinaryOp
@@ -92,7 +104,38 @@ behind_paren deep ls =
     else if starts_with (fixed.Word words.Jint) ls then (expect (fixed.Mark marks.CloseParen) (behind ls) >>= λ after. under_prefix deep ToInt after)
     else in_parens deep ls
 
+-- an index in its brackets
+unfoldable pub index_by : ℕ → Reader → List Lexed → Result ReadExpr ParseFault
+index_by room deep ls =
+    if room == 0 then Err (fault_at TooHigh ls)
+    else (expect (fixed.Mark marks.OpenBracket) ls >>= λ within. deep 0 within >>= λ i. expect (fixed.Mark marks.CloseBracket) i.2 >>= λ after. Ok (i.0, i.1, after))
+
+abbrev pub is_name : Meaning → Bool
+is_name (Name' bytes) = true
+is_name (Fixed' found) = false
+is_name (Number' value unsigned) = false
+is_name (Text' bytes) = false
+
+-- whether a name comes next
+abbrev pub starts_name : List Lexed → Bool
+starts_name [] = false
+starts_name (l ∷ ls) = is_name l.meaning
+
+-- whether a name with an index comes next
+abbrev pub starts_element : List Lexed → Bool
+starts_element ls = if starts_name ls then starts_with (fixed.Mark marks.OpenBracket) (behind ls) else false
+
+unfoldable pub element_by : ℕ → Reader → List Lexed → Result ReadExpr ParseFault
+element_by room deep ls = do
+  name ← name_at ls
+  i ← index_by room deep name.1
+  Ok (Element name.0 i.0, 1 + i.1, i.2)
+
 abbrev pub constant_of_word : Word → Option Constant
+constant_of_word words.JniTrue = Some True
+constant_of_word words.JniFalse = Some False
+constant_of_word words.JniCommit = Some Commit
+constant_of_word words.JniAbort = Some Abort
 constant_of_word words.Null = Some Null
 constant_of_word _ = None
 
@@ -113,11 +156,13 @@ unfoldable pub primary_at : List Lexed → Result ReadExpr ParseFault
 primary_at [] = Err (Found NoForm 0)
 primary_at (l ∷ after) = primary_of l.meaning (l ∷ after) after
 
--- a prefix with its operand, parentheses, or what holds best
+-- a prefix with its operand, parentheses, an element, or what holds best
 unfoldable pub operand_by : ℕ → Reader → List Lexed → Result ReadExpr ParseFault
 operand_by room deep ls =
     if starts_with (fixed.Mark marks.Tilde) ls then (if room == 0 then Err (fault_at TooHigh ls) else under_prefix deep Complement (behind ls))
+    else if starts_with (fixed.Mark marks.Exclamation) ls then (if room == 0 then Err (fault_at TooHigh ls) else under_prefix deep LogicalNot (behind ls))
     else if starts_with (fixed.Mark marks.OpenParen) ls then (if room == 0 then Err (fault_at TooHigh ls) else behind_paren deep (behind ls))
+    else if starts_element ls then element_by room deep ls
     else primary_at ls
 
 unfoldable pub expr_by : ℕ → Reader → ℕ → List Lexed → Result ReadExpr ParseFault
@@ -134,6 +179,10 @@ operand_at room ls = operand_by room (deeper room) ls
 -- the expression of this level or tighter, no higher than there is room
 abbrev pub expr_at : ℕ → ℕ → List Lexed → Result ReadExpr ParseFault
 expr_at room least ls = expr_by room (deeper room) least ls
+
+-- an index that stands where there is this room
+abbrev pub index_at : ℕ → List Lexed → Result ReadExpr ParseFault
+index_at room ls = index_by room (deeper room) ls
 
 -- ---- words of types
 
@@ -166,13 +215,38 @@ reference_of_word _ = None
 abbrev pub parameter_of_word : Word → Option ParameterType
 parameter_of_word w = if same_word w words.Jint then Some IntParameter else option_map (λ r. ReferenceParameter r) (reference_of_word w)
 
-abbrev pub variable_of_word : Word → Option VariableType
-variable_of_word words.Jint = Some JIntVariable
-variable_of_word _ = None
+abbrev pub result_of_word : Word → Option ResultType
+result_of_word words.Void = Some Void
+result_of_word words.Jint = Some IntResult
+result_of_word w = option_map (λ r. ReferenceResult r) (reference_of_word w)
 
--- the type of a parameter that comes next, and that of a variable
+abbrev pub element_of_word : Word → Option ElementType
+element_of_word words.Jint = Some JInt
+element_of_word words.Jshort = Some JShort
+element_of_word words.Jbyte = Some JByte
+element_of_word words.Jchar = Some JChar
+element_of_word _ = None
+
+-- the types of variables but `jint`, which is an element's too
+abbrev pub variable_of_word : Word → Option VariableType
+variable_of_word words.Uint32 = Some UInt32
+variable_of_word words.Jsize = Some JSize
+variable_of_word words.Jboolean = Some JBoolean
+variable_of_word words.JfieldId = Some JFieldId
+variable_of_word w = option_map (λ r. ReferenceVariable r) (reference_of_word w)
+
+-- the type that comes next: of references, of a result, of a parameter, of an element, of a variable
+abbrev pub reference_type_at : List Lexed → Option ReferenceType
+reference_type_at ls = option_flatten (option_map reference_of_word (word_at ls))
+
+abbrev pub result_type_at : List Lexed → Option ResultType
+result_type_at ls = option_flatten (option_map result_of_word (word_at ls))
+
 abbrev pub parameter_type_at : List Lexed → Option ParameterType
 parameter_type_at ls = option_flatten (option_map parameter_of_word (word_at ls))
+
+abbrev pub element_type_at : List Lexed → Option ElementType
+element_type_at ls = option_flatten (option_map element_of_word (word_at ls))
 
 abbrev pub variable_type_at : List Lexed → Option VariableType
 variable_type_at ls = option_flatten (option_map variable_of_word (word_at ls))
@@ -193,10 +267,29 @@ interface_at ls = do
   d ← expect (fixed.Mark marks.CloseParen) c
   expect (fixed.Mark marks.Arrow) d
 
+abbrev pub text_of : Meaning → Option (List ℕ)
+text_of (Text' bytes) = Some bytes
+text_of (Fixed' found) = None
+text_of (Name' bytes) = None
+text_of (Number' value unsigned) = None
+
+-- the string that comes next
+abbrev pub text_at : List Lexed → Option (List ℕ)
+text_at [] = None
+text_at (l ∷ ls) = text_of l.meaning
+
+-- an argument that is no string
+unfoldable pub value_at : ℕ → List Lexed → Result (Argument × List Lexed) ParseFault
+value_at room ls =
+    if starts_with (fixed.Mark marks.Ampersand) ls then (name_at (behind ls) >>= λ name. Ok (AddressOf name.0, name.1))
+    else (expr_at room 0 ls >>= λ e. Ok (Value e.0, e.2))
+
+abbrev pub argument_by : ℕ → Option (List ℕ) → List Lexed → Result (Argument × List Lexed) ParseFault
+argument_by room None ls = value_at room ls
+argument_by room (Some bytes) ls = Ok (Text bytes, behind ls)
+
 unfoldable pub argument_at : ℕ → List Lexed → Result (Argument × List Lexed) ParseFault
-argument_at room ls = do
-  e ← expr_at room 0 ls
-  Ok (Value e.0, e.2)
+argument_at room ls = argument_by room (text_at ls) ls
 
 -- arguments, each with the comma before it, of which there are fewer than steps
 unfoldable pub arguments_at : (room steps : ℕ) → List Lexed → Result (List Argument × List Lexed) ParseFault
@@ -225,20 +318,24 @@ right_at room ls =
     if starts_call ls then (call_at room ls >>= λ c. Ok (FromCall c.0, c.1))
     else (expr_at room 0 ls >>= λ e. Ok (FromExpr e.0, e.2))
 
--- ---- statements
+-- ---- single numbers
 
-unfoldable pub put_at : (room line : ℕ) → List Lexed → Result (Stmt × List Lexed) ParseFault
-put_at room line ls = do
-  within ← expect (fixed.Mark marks.OpenParen) ls
-  e ← expr_at room 0 within
-  after ← expect (fixed.Mark marks.CloseParen) e.2
-  rest ← expect (fixed.Mark marks.Semicolon) after
-  Ok (PutJint line e.0, rest)
+-- a number without `u`, from the least to the most
+abbrev pub number_in : (least most : ℕ) → Meaning → List Lexed → List Lexed → Result (ℕ × List Lexed) ParseFault
+number_in least most (Number' value unsigned) ls after =
+    if unsigned then Err (fault_at NoForm ls)
+    else if nat_lt value least then Err (fault_at NoForm ls)
+    else if nat_lt most value then Err (fault_at NoForm ls)
+    else Ok (value, after)
+number_in least most (Fixed' found) ls after = Err (fault_at NoForm ls)
+number_in least most (Name' bytes) ls after = Err (fault_at NoForm ls)
+number_in least most (Text' bytes) ls after = Err (fault_at NoForm ls)
 
-unfoldable pub return_at : (room line : ℕ) → List Lexed → Result (Stmt × List Lexed) ParseFault
-return_at room line ls =
-    if starts_with (fixed.Mark marks.Semicolon) ls then Ok (Return line, behind ls)
-    else (expr_at room 0 ls >>= λ e. expect (fixed.Mark marks.Semicolon) e.2 >>= λ rest. Ok (ReturnValue line e.0, rest))
+unfoldable pub number_at : (least most : ℕ) → List Lexed → Result (ℕ × List Lexed) ParseFault
+number_at least most [] = Err (Found NoForm 0)
+number_at least most (l ∷ after) = number_in least most l.meaning (l ∷ after) after
+
+-- ---- statements without blocks
 
 -- a name, and what it is set to
 unfoldable pub setting_at : ℕ → List Lexed → Result (Identifier × RightSide × List Lexed) ParseFault
@@ -249,22 +346,167 @@ setting_at room ls = do
   rest ← expect (fixed.Mark marks.Semicolon) right.1
   Ok (name.0, right.0, rest)
 
--- a declaration, where so many more names may be declared
-unfoldable pub declared_at : (room free : ℕ) → Option VariableType → List Lexed → Result (Stmt × List Lexed) ParseFault
-declared_at room free None ls = Err (fault_at NoForm ls)
-declared_at room free (Some t) ls =
-    if free == 0 then Err (fault_at TooMany ls)
-    else (setting_at room (behind ls) >>= λ s. Ok (Declare (line_at ls) t s.0 s.1, s.2))
+abbrev pub ReadPlain : Type 0
+ReadPlain = Stmt × List Lexed
 
-unfoldable pub statement_at : (room free : ℕ) → List Lexed → Result (Stmt × List Lexed) ParseFault
-statement_at room free ls =
+unfoldable pub put_at : (room line : ℕ) → List Lexed → Result ReadPlain ParseFault
+put_at room line ls = do
+  within ← expect (fixed.Mark marks.OpenParen) ls
+  e ← expr_at room 0 within
+  after ← expect (fixed.Mark marks.CloseParen) e.2
+  rest ← expect (fixed.Mark marks.Semicolon) after
+  Ok (PutJint line e.0, rest)
+
+unfoldable pub return_at : (room line : ℕ) → List Lexed → Result ReadPlain ParseFault
+return_at room line ls =
+    if starts_with (fixed.Mark marks.Semicolon) ls then Ok (Return line, behind ls)
+    else (expr_at room 0 ls >>= λ e. expect (fixed.Mark marks.Semicolon) e.2 >>= λ rest. Ok (ReturnValue line e.0, rest))
+
+unfoldable pub perform_at : (room line : ℕ) → List Lexed → Result ReadPlain ParseFault
+perform_at room line ls = do
+  c ← call_at room ls
+  rest ← expect (fixed.Mark marks.Semicolon) c.1
+  Ok (Perform line c.0, rest)
+
+unfoldable pub set_element_at : (room line : ℕ) → List Lexed → Result ReadPlain ParseFault
+set_element_at room line ls = do
+  name ← name_at ls
+  i ← index_at room name.1
+  within ← expect (fixed.Mark marks.Assign) i.2
+  e ← expr_at room 0 within
+  rest ← expect (fixed.Mark marks.Semicolon) e.2
+  Ok (AssignElement line name.0 i.0 e.0, rest)
+
+unfoldable pub set_at : (room line : ℕ) → List Lexed → Result ReadPlain ParseFault
+set_at room line ls =
+    if starts_element ls then set_element_at room line ls
+    else (setting_at room ls >>= λ s. Ok (Assign line s.0 s.1, s.2))
+
+-- a statement that declares no name and has no block
+unfoldable pub plain_at : ℕ → List Lexed → Result ReadPlain ParseFault
+plain_at room ls =
     if starts_with (fixed.Word words.PutJint) ls then put_at room (line_at ls) (behind ls)
     else if starts_with (fixed.Word words.Return) ls then return_at room (line_at ls) (behind ls)
-    else declared_at room free (variable_type_at ls) ls
+    else if starts_with (fixed.Mark marks.OpenParen) ls then perform_at room (line_at ls) ls
+    else set_at room (line_at ls) ls
 
--- how many names a statement declares
-abbrev pub names_of : Stmt → ℕ
-names_of s = length (names_declared (statements_within s))
+-- ---- declarations
+
+-- = {0};
+unfoldable pub zeros_at : List Lexed → Result (List Lexed) ParseFault
+zeros_at ls = do
+  a ← expect (fixed.Mark marks.Assign) ls
+  b ← expect (fixed.Mark marks.OpenBrace) a
+  number ← number_at 0 0 b
+  c ← expect (fixed.Mark marks.CloseBrace) number.1
+  expect (fixed.Mark marks.Semicolon) c
+
+-- the name, the size and the zeros of a local array
+unfoldable pub array_at : (line : ℕ) → ElementType → List Lexed → Result ReadPlain ParseFault
+array_at line t ls = do
+  name ← name_at ls
+  a ← expect (fixed.Mark marks.OpenBracket) name.1
+  size ← number_at 1 1024 a
+  b ← expect (fixed.Mark marks.CloseBracket) size.1
+  rest ← zeros_at b
+  Ok (DeclareArray line t name.0 size.0, rest)
+
+-- whether an array is declared behind an element's type, of which `jint` alone is a variable's too
+abbrev pub is_array : ElementType → List Lexed → Bool
+is_array JInt ls = starts_with (fixed.Mark marks.OpenBracket) (behind ls)
+is_array JShort ls = true
+is_array JByte ls = true
+is_array JChar ls = true
+
+-- what stands behind an element's type
+unfoldable pub behind_element : (room line : ℕ) → ElementType → List Lexed → Result ReadPlain ParseFault
+behind_element room line t ls =
+    if starts_with (fixed.Mark marks.Star) ls then (setting_at room (behind ls) >>= λ s. Ok (DeclareBuffer line t s.0 s.1, s.2))
+    else if is_array t ls then array_at line t ls
+    else (setting_at room ls >>= λ s. Ok (Declare line JIntVariable s.0 s.1, s.2))
+
+unfoldable pub behind_variable : (room line : ℕ) → VariableType → List Lexed → Result ReadPlain ParseFault
+behind_variable room line t ls = do
+  s ← setting_at room ls
+  Ok (Declare line t s.0 s.1, s.2)
+
+-- const jchar *
+unfoldable pub behind_const : (room line : ℕ) → List Lexed → Result ReadPlain ParseFault
+behind_const room line ls = do
+  a ← expect (fixed.Word words.Jchar) ls
+  b ← expect (fixed.Mark marks.Star) a
+  s ← setting_at room b
+  Ok (DeclareChars line s.0 s.1, s.2)
+
+-- a declaration that begins with one of these types, or with `const`
+abbrev pub declared_by : ℕ → Option ElementType → Option VariableType → List Lexed → Result ReadPlain ParseFault
+declared_by room (Some t) o ls = behind_element room (line_at ls) t (behind ls)
+declared_by room None (Some t) ls = behind_variable room (line_at ls) t (behind ls)
+declared_by room None None ls = behind_const room (line_at ls) (behind ls)
+
+unfoldable pub declared_at : ℕ → List Lexed → Result ReadPlain ParseFault
+declared_at room ls = declared_by room (element_type_at ls) (variable_type_at ls) ls
+
+-- whether a declaration comes next
+abbrev pub starts_declaration : List Lexed → Bool
+starts_declaration ls = is_some (element_type_at ls) || is_some (variable_type_at ls) || starts_with (fixed.Word words.Const) ls
+
+-- a statement, how many more names may be declared behind it, and what stands behind it
+abbrev pub ReadStmt : Type 0
+ReadStmt = Stmt × ℕ × List Lexed
+
+-- a statement without a block, where so many more names may be declared
+unfoldable pub simple_at : (room free : ℕ) → List Lexed → Result ReadStmt ParseFault
+simple_at room free ls =
+    if starts_declaration ls then (if free == 0 then Err (fault_at TooMany ls) else (declared_at room ls >>= λ s. Ok (s.0, free - 1, s.1)))
+    else (plain_at room ls >>= λ s. Ok (s.0, free, s.1))
+
+-- ---- blocks
+
+-- a block, how many more names may be declared behind it, and what stands behind it
+abbrev pub ReadBlock : Type 0
+ReadBlock = Block × ℕ × List Lexed
+
+-- reads what stands behind an opening brace, where so many more names may be declared
+abbrev pub BlockReader : Type 0
+BlockReader = ℕ → List Lexed → Result ReadBlock ParseFault
+
+-- an expression, or a call that is tested for 0
+unfoldable pub test_at : ℕ → List Lexed → Result (Test × List Lexed) ParseFault
+test_at room ls =
+    if starts_call ls then (call_at room ls >>= λ c. expect (fixed.Mark marks.Equal) c.1 >>= λ a. number_at 0 0 a >>= λ number. Ok (TestCall c.0, number.1))
+    else (expr_at room 0 ls >>= λ e. Ok (TestExpr e.0, e.2))
+
+-- behind the first block of an `if`
+unfoldable pub else_by : BlockReader → (line : ℕ) → Test → Block → (free : ℕ) → List Lexed → Result ReadStmt ParseFault
+else_by deep line test then' free ls =
+    if starts_with (fixed.Word words.Else) ls
+    then (expect (fixed.Mark marks.OpenBrace) (behind ls) >>= λ within. deep free within >>= λ b. Ok (IfElse line test then' b.0, b.1, b.2))
+    else Ok (If line test then', free, ls)
+
+unfoldable pub if_by : BlockReader → (room free line : ℕ) → List Lexed → Result ReadStmt ParseFault
+if_by deep room free line ls = do
+  a ← expect (fixed.Mark marks.OpenParen) ls
+  test ← test_at room a
+  b ← expect (fixed.Mark marks.CloseParen) test.1
+  within ← expect (fixed.Mark marks.OpenBrace) b
+  then' ← deep free within
+  else_by deep line test.0 then'.0 then'.1 then'.2
+
+unfoldable pub while_by : BlockReader → (room free line : ℕ) → List Lexed → Result ReadStmt ParseFault
+while_by deep room free line ls = do
+  a ← expect (fixed.Mark marks.OpenParen) ls
+  test ← expr_at room 0 a
+  b ← expect (fixed.Mark marks.CloseParen) test.2
+  within ← expect (fixed.Mark marks.OpenBrace) b
+  body ← deep free within
+  Ok (While line test.0 body.0, body.1, body.2)
+
+unfoldable pub statement_by : BlockReader → (room free : ℕ) → List Lexed → Result ReadStmt ParseFault
+statement_by deep room free ls =
+    if starts_with (fixed.Word words.If) ls then (if room == 0 then Err (fault_at TooHigh ls) else if_by deep room free (line_at ls) (behind ls))
+    else if starts_with (fixed.Word words.While) ls then (if room == 0 then Err (fault_at TooHigh ls) else while_by deep room free (line_at ls) (behind ls))
+    else simple_at room free ls
 
 abbrev pub is_return : Stmt → Bool
 is_return (Return line) = true
@@ -273,20 +515,26 @@ is_return s = false
 
 -- statements up to the closing brace, of which there are fewer than steps, where so many more names
 -- may be declared; none stands behind a return
-unfoldable pub block_at : (room free steps : ℕ) → Bool → List Lexed → Result (Block × List Lexed) ParseFault
-block_at room free zero returned ls = Err (fault_at NoForm ls)
-block_at room free (suc steps) returned ls =
-    if starts_with (fixed.Mark marks.CloseBrace) ls then Ok (End (line_at ls), behind ls)
+unfoldable pub block_by : BlockReader → (room free steps : ℕ) → Bool → List Lexed → Result ReadBlock ParseFault
+block_by deep room free zero returned ls = Err (fault_at NoForm ls)
+block_by deep room free (suc steps) returned ls =
+    if starts_with (fixed.Mark marks.CloseBrace) ls then Ok (End (line_at ls), free, behind ls)
     else if returned then Err (fault_at NoForm ls)
-    else (statement_at room free ls >>= λ s. block_at room (free - names_of s.0) steps (is_return s.0) s.1 >>= λ b. Ok (Next s.0 b.0, b.1))
+    else (statement_by deep room free ls >>= λ s. block_by deep room s.1 steps (is_return s.0) s.2 >>= λ b. Ok (Next s.0 b.0, b.1, b.2))
 
--- ---- functions
+-- blocks that stand one step deeper than where there is this room
+unfoldable pub inner : ℕ → BlockReader
+inner zero = λ free ls. Err (fault_at TooHigh ls)
+inner (suc room) = λ free ls. block_by (inner room) room free (length ls + 1) false ls
 
-unfoldable pub result_at : List Lexed → Result (ResultType × List Lexed) ParseFault
-result_at ls =
-    if starts_with (fixed.Word words.Void) ls then Ok (Void, behind ls)
-    else if starts_with (fixed.Word words.Jint) ls then Ok (IntResult, behind ls)
-    else Err (fault_at NoForm ls)
+abbrev pub statement_at : (room free : ℕ) → List Lexed → Result ReadStmt ParseFault
+statement_at room free ls = statement_by (inner room) room free ls
+
+-- the block whose statements have this room
+abbrev pub block_at : (room free : ℕ) → List Lexed → Result ReadBlock ParseFault
+block_at room free ls = block_by (inner room) room free (length ls + 1) false ls
+
+-- ---- functions and statics
 
 -- the parameters that each function has, up to the name of its class
 unfoldable pub head_at : List Lexed → Result (List Lexed) ParseFault
@@ -317,13 +565,14 @@ unfoldable pub body_at : ℕ → List Lexed → Result (Block × List Lexed) Par
 body_at free ls = do
   a ← expect (fixed.Mark marks.CloseParen) ls
   b ← expect (fixed.Mark marks.OpenBrace) a
-  block_at 31 free (length b + 1) false b
+  body ← block_at 31 free b
+  Ok (body.0, body.2)
 
 -- a function; behind the class it may have 255 more names
 unfoldable pub function_at : List Lexed → Result (Function × List Lexed) ParseFault
 function_at ls = do
   a ← expect (fixed.Word words.JniExport) ls
-  result ← result_at a
+  result ← found (result_type_at a) a
   b ← expect (fixed.Word words.JniCall) result.1
   name ← name_at b
   c ← head_at name.1
@@ -332,14 +581,33 @@ function_at ls = do
   body ← body_at (255 - length parameters.0) parameters.1
   Ok (record { line = line_at ls; result = result.0; name = name.0; class_name = class_name.0; parameters = parameters.0; body = body.0 }, body.1)
 
--- functions up to the end, of which there are fewer than steps, behind a count of them
-unfoldable pub items_at : ℕ → ℕ → List Lexed → Result (List Item) ParseFault
-items_at zero count ls = Err (fault_at NoForm ls)
-items_at (suc steps) count ls =
-    if starts_with fixed.End ls then Ok []
-    else if starts_with (fixed.Word words.JniExport) ls
-    then (if count == 256 then Err (fault_at TooMany ls) else (function_at ls >>= λ f. items_at steps (count + 1) f.1 >>= λ items. Ok (FunctionItem f.0 ∷ items)))
+unfoldable pub static_at : List Lexed → Result (Static × List Lexed) ParseFault
+static_at ls = do
+  a ← expect (fixed.Word words.Static) ls
+  t ← found (reference_type_at a) a
+  name ← name_at t.1
+  b ← expect (fixed.Mark marks.Assign) name.1
+  c ← expect (fixed.Word words.Null) b
+  rest ← expect (fixed.Mark marks.Semicolon) c
+  Ok (record { line = line_at ls; type = t.0; name = name.0 }, rest)
+
+-- an item, how many more functions and statics there may be behind it, and what stands behind it
+abbrev pub ReadItem : Type 0
+ReadItem = Item × ℕ × ℕ × List Lexed
+
+-- an item, where there may be so many more functions and statics
+unfoldable pub item_at : (functions statics : ℕ) → List Lexed → Result ReadItem ParseFault
+item_at functions statics ls =
+    if starts_with (fixed.Word words.JniExport) ls then (if functions == 0 then Err (fault_at TooMany ls) else (function_at ls >>= λ f. Ok (FunctionItem f.0, functions - 1, statics, f.1)))
+    else if starts_with (fixed.Word words.Static) ls then (if statics == 0 then Err (fault_at TooMany ls) else (static_at ls >>= λ s. Ok (StaticItem s.0, functions, statics - 1, s.1)))
     else Err (fault_at NoForm ls)
 
+-- items up to the end, of which there are fewer than steps
+unfoldable pub items_at : (steps functions statics : ℕ) → List Lexed → Result (List Item) ParseFault
+items_at zero functions statics ls = Err (fault_at NoForm ls)
+items_at (suc steps) functions statics ls =
+    if starts_with fixed.End ls then Ok []
+    else (item_at functions statics ls >>= λ i. items_at steps i.1 i.2 i.3 >>= λ items. Ok (i.0 ∷ items))
+
 unfoldable pub unit_at : List Lexed → Result SourceUnit ParseFault
-unit_at ls = items_at (length ls + 1) 0 ls >>= λ items. Ok (record { items = items })
+unit_at ls = items_at (length ls + 1) 256 256 ls >>= λ items. Ok (record { items = items })

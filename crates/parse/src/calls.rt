@@ -1,18 +1,18 @@
-//! Calls of JNI functions, and what variables are set to.
+//! Calls of JNI functions, what variables are set to, and what is tested.
 
 ghost use Rattle.std.specs.Prelude.{◌≡◌, ◌≤◌, ◌+◌, length, map};
-ghost use Rattle.syntax.specs.Views.{argument_tree, call_tree, right_side_tree};
+ghost use Rattle.syntax.specs.Views.{argument_tree, call_tree, right_side_tree, test_tree};
 ghost use Rattle.parse.specs.Results.{Gives};
 ghost use Rattle.parse.specs.Lexemes.{views};
-ghost use Rattle.parse.specs.Reading.{interface_at, argument_at, arguments_at, call_at, starts_call, right_at};
+ghost use Rattle.parse.specs.Reading.{interface_at, value_at, argument_at, arguments_at, call_at, starts_call, right_at, setting_at, test_at};
 
 use crate::expressions::expression;
 use crate::fault::ParseFault;
-use crate::lexemes::{Fixed, Lexeme, behind, expect, name_at, starts_with};
+use crate::lexemes::{Fixed, Lexeme, behind, expect, name_at, number_at, starts_with, text_at};
 use crate::words::Word;
 use scan::Mark;
 use std::alloc::Global;
-use syntax::{Argument, Call, Name, RightSide};
+use syntax::{Argument, Call, Name, RightSide, Test};
 
 /// What stands behind `(*env)->`.
 #[tactic(auto, unfolding(crate::specs::Reading::interface_at))]
@@ -26,6 +26,20 @@ fn interface(lexemes: &[Lexeme]) -> Result<&[Lexeme], ParseFault>
     expect(Fixed::Mark(Mark::Arrow), rest)
 }
 
+/// An argument that is no string.
+#[tactic(auto, unfolding(crate::specs::Reading::value_at))]
+fn value(alloc: Global, room: u32, lexemes: &[Lexeme]) -> Result<(Argument, &[Lexeme]), ParseFault>
+    requires { room ≤ 32 }
+    ensures { Gives (λ x. (argument_tree x.0, views x.1.now)) result (value_at room (views lexemes.now)) }
+{
+    if starts_with(Fixed::Mark(Mark::Ampersand), lexemes) {
+        let (name, rest) = name_at(behind(lexemes))?;
+        return Ok((Argument::AddressOf(Name::new(alloc, name)?), rest));
+    }
+    let (value, _, rest) = expression(alloc, room, 0, lexemes)?;
+    Ok((Argument::Value(value), rest))
+}
+
 /// An argument.
 #[tactic(auto, unfolding(crate::specs::Reading::argument_at))]
 fn argument(
@@ -36,8 +50,13 @@ fn argument(
     requires { room ≤ 32 }
     ensures { Gives (λ x. (argument_tree x.0, views x.1.now)) result (argument_at room (views lexemes.now)) }
 {
-    let (value, _, rest) = expression(alloc, room, 0, lexemes)?;
-    Ok((Argument::Value(value), rest))
+    match text_at(lexemes) {
+        Some(bytes) => {
+            let bytes = Vec::from_slice(alloc, bytes)?;
+            Ok((Argument::Text(bytes), behind(lexemes)))
+        }
+        None => value(alloc, room, lexemes),
+    }
 }
 
 /// Arguments, each with the comma before it.
@@ -61,7 +80,11 @@ fn arguments(
 
 /// A call.
 #[tactic(auto, unfolding(crate::specs::Reading::call_at))]
-fn call(alloc: Global, room: u32, lexemes: &[Lexeme]) -> Result<(Call, &[Lexeme]), ParseFault>
+pub(crate) fn call(
+    alloc: Global,
+    room: u32,
+    lexemes: &[Lexeme],
+) -> Result<(Call, &[Lexeme]), ParseFault>
     requires { room ≤ 32 }
     ensures { Gives (λ x. (call_tree x.0, views x.1.now)) result (call_at room (views lexemes.now)) }
 {
@@ -105,4 +128,41 @@ pub(crate) fn right_side(
     }
     let (value, _, rest) = expression(alloc, room, 0, lexemes)?;
     Ok((RightSide::Expr(value), rest))
+}
+
+/// A name, what it is set to, and what stands behind the semicolon.
+#[tactic(auto, unfolding(crate::specs::Reading::setting_at))]
+pub(crate) fn setting(
+    alloc: Global,
+    room: u32,
+    lexemes: &[Lexeme],
+) -> Result<(Name, RightSide, &[Lexeme]), ParseFault>
+    requires { room ≤ 32 }
+    ensures { Gives (λ x. (x.0, right_side_tree x.1, views x.2.now)) result (setting_at room (views lexemes.now)) }
+{
+    let (name, rest) = name_at(lexemes)?;
+    let rest = expect(Fixed::Mark(Mark::Assign), rest)?;
+    let (right, rest) = right_side(alloc, room, rest)?;
+    let rest = expect(Fixed::Mark(Mark::Semicolon), rest)?;
+    Ok((Name::new(alloc, name)?, right, rest))
+}
+
+/// An expression, or a call that is tested for 0.
+#[tactic(auto, unfolding(crate::specs::Reading::test_at))]
+pub(crate) fn test(
+    alloc: Global,
+    room: u32,
+    lexemes: &[Lexeme],
+) -> Result<(Test, &[Lexeme]), ParseFault>
+    requires { room ≤ 32 }
+    ensures { Gives (λ x. (test_tree x.0, views x.1.now)) result (test_at room (views lexemes.now)) }
+{
+    if starts_call(lexemes) {
+        let (call, rest) = call(alloc, room, lexemes)?;
+        let rest = expect(Fixed::Mark(Mark::Equal), rest)?;
+        let (_, rest) = number_at(0, 0, rest)?;
+        return Ok((Test::Call(call), rest));
+    }
+    let (value, _, rest) = expression(alloc, room, 0, lexemes)?;
+    Ok((Test::Expr(value), rest))
 }

@@ -1,14 +1,13 @@
-//! Functions and the whole program.
+//! Functions, statics and the whole program.
 
-ghost use Rattle.std.specs.Prelude.{◌≡◌, ℕ, ◌+◌, List, length, map, IfOk, IsTrue, Ok};
+ghost use Rattle.std.specs.Prelude.{◌≡◌, ℕ, ◌+◌, List, length, map, IfOk, Ok};
 ghost use Rattle.scan.specs.Spelling.{Spells};
 ghost use Rattle.syntax.specs.Tree.{SourceUnit};
-ghost use Rattle.syntax.specs.Views.{result_tree, block_tree, function_tree, item_tree, unit_tree};
+ghost use Rattle.syntax.specs.Views.{block_tree, function_tree, static_tree, item_tree, unit_tree};
 ghost use Rattle.parse.specs.Results.{Gives};
 ghost use Rattle.parse.specs.Lexemes.{views, lexemes};
 ghost use Rattle.parse.specs.Spelling.{SpellsUnit};
-ghost use Rattle.parse.specs.Built.{is_built};
-ghost use Rattle.parse.specs.Reading.{result_at, head_at, body_at, function_at, items_at, unit_at};
+ghost use Rattle.parse.specs.Reading.{head_at, body_at, function_at, static_at, item_at, items_at, unit_at};
 
 use crate::fault::{Fault, ParseFault};
 use crate::lexemes::{
@@ -16,10 +15,11 @@ use crate::lexemes::{
 };
 use crate::parameters::{NAMES, parameters};
 use crate::statements::block;
+use crate::type_words::{reference_type, result_type};
 use crate::words::Word;
 use scan::{Mark, Token, one_spelling};
 use std::alloc::Global;
-use syntax::{Block, Function, Item, Name, ResultType, Unit};
+use syntax::{Block, Function, Item, Name, Static, Unit};
 
 /// How high the trees in a function's block may be, which counts one itself.
 const ROOM: u32 = 31;
@@ -27,19 +27,8 @@ const ROOM: u32 = 31;
 /// How many functions there may be.
 const FUNCTIONS: usize = 256;
 
-/// The type of a function's result.
-#[tactic(auto, unfolding(crate::specs::Reading::result_at))]
-fn result_type(lexemes: &[Lexeme]) -> Result<(ResultType, &[Lexeme]), ParseFault>
-    ensures { Gives (λ x. (result_tree x.0, views x.1.now)) result (result_at (views lexemes.now)) }
-{
-    if starts_with(Fixed::Word(Word::Void), lexemes) {
-        return Ok((ResultType::Void, behind(lexemes)));
-    }
-    if starts_with(Fixed::Word(Word::Jint), lexemes) {
-        return Ok((ResultType::Jint, behind(lexemes)));
-    }
-    Err(unexpected(lexemes))
-}
+/// How many statics there may be.
+const STATICS: usize = 256;
 
 /// What stands behind the parameters that each function has.
 #[tactic(auto, unfolding(crate::specs::Reading::head_at))]
@@ -61,7 +50,8 @@ fn body(alloc: Global, free: usize, lexemes: &[Lexeme]) -> Result<(Block, &[Lexe
 {
     let rest = expect(Fixed::Mark(Mark::CloseParen), lexemes)?;
     let rest = expect(Fixed::Mark(Mark::OpenBrace), rest)?;
-    block(alloc, ROOM, free, rest)
+    let (body, _, rest) = block(alloc, ROOM, free, rest)?;
+    Ok((body, rest))
 }
 
 /// A function (JNI Specification, chapter 2, "Native Method Arguments").
@@ -71,8 +61,10 @@ fn function(alloc: Global, lexemes: &[Lexeme]) -> Result<(Function, &[Lexeme]), 
 {
     let line = line_at(lexemes);
     let rest = expect(Fixed::Word(Word::JniExport), lexemes)?;
-    let (result, rest) = result_type(rest)?;
-    let rest = expect(Fixed::Word(Word::JniCall), rest)?;
+    let Some(result) = result_type(rest) else {
+        return Err(unexpected(rest));
+    };
+    let rest = expect(Fixed::Word(Word::JniCall), behind(rest))?;
     let (name, rest) = name_at(rest)?;
     let rest = head(rest)?;
     let (class_name, rest) = name_at(rest)?;
@@ -91,21 +83,67 @@ fn function(alloc: Global, lexemes: &[Lexeme]) -> Result<(Function, &[Lexeme]), 
     ))
 }
 
-/// All functions.
+/// A reference that all functions share.
+#[tactic(auto, unfolding(crate::specs::Reading::static_at))]
+fn static_reference(alloc: Global, lexemes: &[Lexeme]) -> Result<(Static, &[Lexeme]), ParseFault>
+    ensures { Gives (λ x. (static_tree x.0, views x.1.now)) result (static_at (views lexemes.now)) }
+{
+    let line = line_at(lexemes);
+    let rest = expect(Fixed::Word(Word::Static), lexemes)?;
+    let Some(kind) = reference_type(rest) else {
+        return Err(unexpected(rest));
+    };
+    let (name, rest) = name_at(behind(rest))?;
+    let rest = expect(Fixed::Mark(Mark::Assign), rest)?;
+    let rest = expect(Fixed::Word(Word::Null), rest)?;
+    let rest = expect(Fixed::Mark(Mark::Semicolon), rest)?;
+    let name = Name::new(alloc, name)?;
+    Ok((Static { line, kind, name }, rest))
+}
+
+/// An item, how many more functions and statics there may be behind it, and what stands behind it.
+type ReadItem<'t> = (Item, usize, usize, &'t [Lexeme]);
+
+/// An item, where there may be so many more functions and statics.
+#[tactic(auto, unfolding(crate::specs::Reading::item_at))]
+fn item(
+    alloc: Global,
+    functions: usize,
+    statics: usize,
+    lexemes: &[Lexeme],
+) -> Result<ReadItem<'_>, ParseFault>
+    ensures { Gives (λ x. (item_tree x.0, x.1, x.2, views x.3.now)) result (item_at functions statics (views lexemes.now)) }
+{
+    if starts_with(Fixed::Word(Word::JniExport), lexemes) {
+        if functions == 0 {
+            return Err(fault_at(Fault::TooMany, lexemes));
+        }
+        let (function, rest) = function(alloc, lexemes)?;
+        return Ok((Item::Function(function), functions - 1, statics, rest));
+    }
+    if starts_with(Fixed::Word(Word::Static), lexemes) {
+        if statics == 0 {
+            return Err(fault_at(Fault::TooMany, lexemes));
+        }
+        let (shared, rest) = static_reference(alloc, lexemes)?;
+        return Ok((Item::Static(shared), functions, statics - 1, rest));
+    }
+    Err(unexpected(lexemes))
+}
+
+/// All items.
 fn items(alloc: Global, lexemes: &[Lexeme]) -> Result<Vec<Item>, ParseFault>
-    ensures { Gives (λ v. map item_tree v.items) result (items_at (length (views lexemes.now) + 1) 0 (views lexemes.now)) }
+    ensures { Gives (λ v. map item_tree v.items) result (items_at (length (views lexemes.now) + 1) 256 256 (views lexemes.now)) }
 {
     let mut items = Vec::new(alloc);
     let mut rest = lexemes;
-    'functions: while !starts_with(Fixed::End, rest) {
-        if !starts_with(Fixed::Word(Word::JniExport), rest) {
-            return Err(unexpected(rest));
-        }
-        if items.len() == FUNCTIONS {
-            return Err(fault_at(Fault::TooMany, rest));
-        }
-        let (function, after) = function(alloc, rest)?;
-        items.push(Item::Function(function))?;
+    let mut functions = FUNCTIONS;
+    let mut statics = STATICS;
+    'items: while !starts_with(Fixed::End, rest) {
+        let (item, functions_left, statics_left, after) = item(alloc, functions, statics, rest)?;
+        items.push(item)?;
+        functions = functions_left;
+        statics = statics_left;
         rest = after;
     }
     Ok(items)
@@ -113,16 +151,12 @@ fn items(alloc: Global, lexemes: &[Lexeme]) -> Result<Vec<Item>, ParseFault>
 
 /// The syntax tree that the text spells by these tokens, which are the text's (ISO/IEC 9899:1999,
 /// 6.5, 6.8 and 6.9, of which the language is a part). The time is linear in the text.
-///
-/// Today the trees of `is_built` are read. A token behind which only other trees could go on is
-/// fault 11.
 pub fn parse(alloc: Global, text: &[u8], tokens: &[Token]) -> Result<Unit, ParseFault>
     requires { Spells text.now tokens.now }
     // What is found is spelled by the text.
     ensures found { IfOk result (λ unit. SpellsUnit text.now (unit_tree unit)) }
-    ensures built { IfOk result (λ unit. IsTrue (is_built (unit_tree unit))) }
     // What the text spells is found, unless memory runs out.
-    ensures only { (unit : SourceUnit) → IsTrue (is_built unit) → SpellsUnit text.now unit → Gives unit_tree result (Ok unit) }
+    ensures only { (unit : SourceUnit) → SpellsUnit text.now unit → Gives unit_tree result (Ok unit) }
     // Which fault it is, and at which line.
     ensures exact { Gives unit_tree result (unit_at (lexemes text.now 0 1 tokens.now)) }
 {
@@ -132,9 +166,9 @@ pub fn parse(alloc: Global, text: &[u8], tokens: &[Token]) -> Result<Unit, Parse
     Ok(Unit::new(items))
 }
 
-/// The law that no text spells two units of those that are read, for the proofs of callers.
+/// The law that no text spells two units, for the proofs of callers.
 pub fn one_unit()
-    ensures { (text : List ℕ) (a b : SourceUnit) → IsTrue (is_built a) → IsTrue (is_built b) → SpellsUnit text a → SpellsUnit text b → a ≡ b }
+    ensures { (text : List ℕ) (a b : SourceUnit) → SpellsUnit text a → SpellsUnit text b → a ≡ b }
 {
     one_spelling();
 }

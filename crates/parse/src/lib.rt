@@ -2,11 +2,13 @@
 #![tactic(auto)]
 
 mod calls;
+mod declarations;
 mod expressions;
 mod fault;
 mod functions;
 mod lexemes;
 mod parameters;
+mod plain;
 mod statements;
 mod type_words;
 mod words;

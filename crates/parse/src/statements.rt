@@ -1,127 +1,48 @@
 //! Statements and blocks (ISO/IEC 9899:1999, 6.8).
 
-ghost use Rattle.std.specs.Prelude.{◌≡◌, ◌≤◌, ◌+◌, length, false};
-ghost use Rattle.syntax.specs.Views.{variable_type_tree, right_side_tree, stmt_tree, block_tree};
-ghost use Rattle.std.specs.Option.{option_map};
+ghost use Rattle.std.specs.Prelude.{◌≡◌, ◌≤◌};
+ghost use Rattle.syntax.specs.Views.{stmt_tree, block_tree};
 ghost use Rattle.parse.specs.Results.{Gives};
 ghost use Rattle.parse.specs.Lexemes.{views};
-ghost use Rattle.parse.specs.Reading.{put_at, return_at, setting_at, declared_at, statement_at, is_return, names_of, block_at};
+ghost use Rattle.parse.specs.Reading.{simple_at, inner, if_by, while_by, is_return, statement_at, block_at};
 
-use crate::calls::right_side;
+use crate::calls::test;
+use crate::declarations::{declared, starts_declaration};
 use crate::expressions::expression;
 use crate::fault::{Fault, ParseFault};
-use crate::lexemes::{
-    Fixed, Lexeme, behind, expect, fault_at, line_at, name_at, starts_with, unexpected,
-};
-use crate::type_words::variable_type;
+use crate::lexemes::{Fixed, Lexeme, behind, expect, fault_at, line_at, starts_with, unexpected};
+use crate::plain::plain;
 use crate::words::Word;
 use scan::Mark;
 use std::alloc::Global;
-use syntax::{Block, Form, Name, RightSide, Stmt, VariableType};
+use syntax::{Block, Form, Stmt};
 
-/// What stands behind the `put_jint` of this line.
-#[tactic(auto, unfolding(crate::specs::Reading::put_at))]
-fn put(
-    alloc: Global,
-    room: u32,
-    line: usize,
-    lexemes: &[Lexeme],
-) -> Result<(Stmt, &[Lexeme]), ParseFault>
-    requires { room ≤ 32 }
-    ensures { Gives (λ x. (stmt_tree x.0, views x.1.now)) result (put_at room line (views lexemes.now)) }
-{
-    let rest = expect(Fixed::Mark(Mark::OpenParen), lexemes)?;
-    let (operand, _, rest) = expression(alloc, room, 0, rest)?;
-    let rest = expect(Fixed::Mark(Mark::CloseParen), rest)?;
-    let rest = expect(Fixed::Mark(Mark::Semicolon), rest)?;
-    let form = Form::PutJint(operand);
-    Ok((Stmt { line, form }, rest))
-}
+/// A statement, how many more names may be declared behind it, and what stands behind it.
+type ReadStmt<'t> = (Stmt, usize, &'t [Lexeme]);
 
-/// What stands behind the `return` of this line.
-#[tactic(auto, unfolding(crate::specs::Reading::return_at))]
-fn returned(
-    alloc: Global,
-    room: u32,
-    line: usize,
-    lexemes: &[Lexeme],
-) -> Result<(Stmt, &[Lexeme]), ParseFault>
-    requires { room ≤ 32 }
-    ensures { Gives (λ x. (stmt_tree x.0, views x.1.now)) result (return_at room line (views lexemes.now)) }
-{
-    if starts_with(Fixed::Mark(Mark::Semicolon), lexemes) {
-        let form = Form::Return(None);
-        return Ok((Stmt { line, form }, behind(lexemes)));
-    }
-    let (operand, _, rest) = expression(alloc, room, 0, lexemes)?;
-    let rest = expect(Fixed::Mark(Mark::Semicolon), rest)?;
-    let form = Form::Return(Some(operand));
-    Ok((Stmt { line, form }, rest))
-}
+/// A block, how many more names may be declared behind it, and what stands behind it.
+type ReadBlock<'t> = (Block, usize, &'t [Lexeme]);
 
-/// A name, what it is set to, and what stands behind the semicolon.
-#[tactic(auto, unfolding(crate::specs::Reading::setting_at))]
-fn setting(
-    alloc: Global,
-    room: u32,
-    lexemes: &[Lexeme],
-) -> Result<(Name, RightSide, &[Lexeme]), ParseFault>
-    requires { room ≤ 32 }
-    ensures { Gives (λ x. (x.0, right_side_tree x.1, views x.2.now)) result (setting_at room (views lexemes.now)) }
-{
-    let (name, rest) = name_at(lexemes)?;
-    let rest = expect(Fixed::Mark(Mark::Assign), rest)?;
-    let (right, rest) = right_side(alloc, room, rest)?;
-    let rest = expect(Fixed::Mark(Mark::Semicolon), rest)?;
-    Ok((Name::new(alloc, name)?, right, rest))
-}
-
-/// A declaration that begins with this type, where so many more names may be declared.
-#[tactic(auto, unfolding(crate::specs::Reading::declared_at))]
-fn declared(
-    alloc: Global,
-    room: u32,
-    free: usize,
-    kind: Option<VariableType>,
-    lexemes: &[Lexeme],
-) -> Result<(Stmt, &[Lexeme]), ParseFault>
-    requires { room ≤ 32 }
-    ensures { Gives (λ x. (stmt_tree x.0, views x.1.now)) result (declared_at room free (option_map variable_type_tree kind) (views lexemes.now)) }
-{
-    let Some(kind) = kind else {
-        return Err(unexpected(lexemes));
-    };
-    if free == 0 {
-        return Err(fault_at(Fault::TooMany, lexemes));
-    }
-    let (name, right, rest) = setting(alloc, room, behind(lexemes))?;
-    let stmt = Stmt {
-        line: line_at(lexemes),
-        form: Form::Declare(kind, name, right),
-    };
-    Ok((stmt, rest))
-}
-
-/// A statement, where so many more names may be declared.
-#[tactic(auto, unfolding(crate::specs::Reading::statement_at))]
-fn statement(
+/// A statement without a block, where so many more names may be declared.
+#[tactic(auto, unfolding(crate::specs::Reading::simple_at))]
+fn simple(
     alloc: Global,
     room: u32,
     free: usize,
     lexemes: &[Lexeme],
-) -> Result<(Stmt, &[Lexeme]), ParseFault>
+) -> Result<ReadStmt<'_>, ParseFault>
     requires { room ≤ 32 }
-    ensures { Gives (λ x. (stmt_tree x.0, views x.1.now)) result (statement_at room free (views lexemes.now)) }
+    ensures { Gives (λ x. (stmt_tree x.0, x.1, views x.2.now)) result (simple_at room free (views lexemes.now)) }
 {
-    let line = line_at(lexemes);
-    if starts_with(Fixed::Word(Word::PutJint), lexemes) {
-        return put(alloc, room, line, behind(lexemes));
+    if starts_declaration(lexemes) {
+        if free == 0 {
+            return Err(fault_at(Fault::TooMany, lexemes));
+        }
+        let (stmt, rest) = declared(alloc, room, lexemes)?;
+        return Ok((stmt, free - 1, rest));
     }
-    if starts_with(Fixed::Word(Word::Return), lexemes) {
-        return returned(alloc, room, line, behind(lexemes));
-    }
-    let kind = variable_type(lexemes);
-    declared(alloc, room, free, kind, lexemes)
+    let (stmt, rest) = plain(alloc, room, lexemes)?;
+    Ok((stmt, free, rest))
 }
 
 /// Whether a statement is a return, which ends its block.
@@ -131,25 +52,96 @@ fn is_return(stmt: &Stmt) -> bool
     matches!(stmt.form, Form::Return(_))
 }
 
-/// How many names a statement declares.
-fn names_of(stmt: &Stmt) -> usize
-    ensures { result ≡ names_of (stmt_tree stmt.now) }
+/// What stands behind the `if` of this line.
+#[cycle(blocks)]
+#[tactic(auto, using(crate::proofs::Blocks::inners), unfolding(crate::specs::Reading::if_by, crate::specs::Reading::else_by))]
+fn if_statement(
+    alloc: Global,
+    room: u32,
+    free: usize,
+    line: usize,
+    lexemes: &[Lexeme],
+) -> Result<ReadStmt<'_>, ParseFault>
+    requires some { 1 ≤ room }
+    requires bound { room ≤ 32 }
+    ensures { Gives (λ x. (stmt_tree x.0, x.1, views x.2.now)) result (if_by (inner room) room free line (views lexemes.now)) }
 {
-    match stmt.form {
-        Form::Declare(..) => 1,
-        Form::PutJint(_) | Form::Return(_) => 0,
+    let rest = expect(Fixed::Mark(Mark::OpenParen), lexemes)?;
+    let (test, rest) = test(alloc, room, rest)?;
+    let rest = expect(Fixed::Mark(Mark::CloseParen), rest)?;
+    let rest = expect(Fixed::Mark(Mark::OpenBrace), rest)?;
+    let (body, left, rest) = block(alloc, room - 1, free, rest)?;
+    if !starts_with(Fixed::Word(Word::Else), rest) {
+        let form = Form::If(test, body);
+        return Ok((Stmt { line, form }, left, rest));
     }
+    let rest = expect(Fixed::Mark(Mark::OpenBrace), behind(rest))?;
+    let (other, left, rest) = block(alloc, room - 1, left, rest)?;
+    let form = Form::IfElse(test, body, other);
+    Ok((Stmt { line, form }, left, rest))
+}
+
+/// What stands behind the `while` of this line.
+#[cycle(blocks)]
+#[tactic(auto, using(crate::proofs::Blocks::inners), unfolding(crate::specs::Reading::while_by))]
+fn while_statement(
+    alloc: Global,
+    room: u32,
+    free: usize,
+    line: usize,
+    lexemes: &[Lexeme],
+) -> Result<ReadStmt<'_>, ParseFault>
+    requires some { 1 ≤ room }
+    requires bound { room ≤ 32 }
+    ensures { Gives (λ x. (stmt_tree x.0, x.1, views x.2.now)) result (while_by (inner room) room free line (views lexemes.now)) }
+{
+    let rest = expect(Fixed::Mark(Mark::OpenParen), lexemes)?;
+    let (test, _, rest) = expression(alloc, room, 0, rest)?;
+    let rest = expect(Fixed::Mark(Mark::CloseParen), rest)?;
+    let rest = expect(Fixed::Mark(Mark::OpenBrace), rest)?;
+    let (body, left, rest) = block(alloc, room - 1, free, rest)?;
+    let form = Form::While(test, body);
+    Ok((Stmt { line, form }, left, rest))
+}
+
+/// A statement, where so many more names may be declared.
+#[cycle(blocks)]
+#[tactic(auto, unfolding(crate::specs::Reading::statement_by))]
+fn statement(
+    alloc: Global,
+    room: u32,
+    free: usize,
+    lexemes: &[Lexeme],
+) -> Result<ReadStmt<'_>, ParseFault>
+    requires { room ≤ 32 }
+    ensures { Gives (λ x. (stmt_tree x.0, x.1, views x.2.now)) result (statement_at room free (views lexemes.now)) }
+{
+    let line = line_at(lexemes);
+    if starts_with(Fixed::Word(Word::If), lexemes) {
+        if room == 0 {
+            return Err(fault_at(Fault::TooHigh, lexemes));
+        }
+        return if_statement(alloc, room, free, line, behind(lexemes));
+    }
+    if starts_with(Fixed::Word(Word::While), lexemes) {
+        if room == 0 {
+            return Err(fault_at(Fault::TooHigh, lexemes));
+        }
+        return while_statement(alloc, room, free, line, behind(lexemes));
+    }
+    simple(alloc, room, free, lexemes)
 }
 
 /// Statements up to the closing brace, where so many names may be declared.
+#[cycle(blocks)]
 pub(crate) fn block(
     alloc: Global,
     room: u32,
     names: usize,
     lexemes: &[Lexeme],
-) -> Result<(Block, &[Lexeme]), ParseFault>
+) -> Result<ReadBlock<'_>, ParseFault>
     requires { room ≤ 32 }
-    ensures { Gives (λ x. (block_tree x.0, views x.1.now)) result (block_at room names (length (views lexemes.now) + 1) false (views lexemes.now)) }
+    ensures { Gives (λ x. (block_tree x.0, x.1, views x.2.now)) result (block_at room names (views lexemes.now)) }
 {
     let mut statements = Vec::new(alloc);
     let mut rest = lexemes;
@@ -159,9 +151,9 @@ pub(crate) fn block(
         if returned {
             return Err(unexpected(rest));
         }
-        let (stmt, after) = statement(alloc, room, free, rest)?;
+        let (stmt, left, after) = statement(alloc, room, free, rest)?;
         returned = is_return(&stmt);
-        free -= names_of(&stmt);
+        free = left;
         statements.push(stmt)?;
         rest = after;
     }
@@ -170,5 +162,5 @@ pub(crate) fn block(
         statements,
         end_line,
     };
-    Ok((block, behind(rest)))
+    Ok((block, free, behind(rest)))
 }

@@ -5,8 +5,8 @@ use Rattle.parse.specs.Reading.{items_at}
 use Rattle.parse.proofs.Blocks.{FillsUnit}
 use Rattle.parse.proofs.functions.items.Given as goal
 
-abbrev pub invariant-functions : goal.invariant-functions
-invariant-functions l = FillsUnit (map item_tree l.items.items) (views l.rest) (items_at (length (views l.lexemes) + 1) 0 (views l.lexemes))
+abbrev pub invariant-items : goal.invariant-items
+invariant-items l = FillsUnit (map item_tree l.items.items) l.functions l.statics (views l.rest) (items_at (length (views l.lexemes) + 1) 256 256 (views l.lexemes))
 
-abbrev pub decreases-functions : goal.decreases-functions
-decreases-functions l = length (views l.rest)
+abbrev pub decreases-items : goal.decreases-items
+decreases-items l = length (views l.rest)

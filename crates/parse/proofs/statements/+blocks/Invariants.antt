@@ -1,0 +1,23 @@
+use Rattle.std.proofs.Common.{◌+◌, ◌*◌, length}
+use Rattle.parse.specs.Lexemes.{views}
+use Rattle.parse.specs.Reading.{block_at}
+use Rattle.parse.proofs.Blocks.{Fills}
+use Rattle.parse.proofs.statements.+blocks.Given as goal
+
+abbrev pub decreases-block : goal.decreases-block
+decreases-block l = 4 * l.room + 3
+
+abbrev pub decreases-statement : goal.decreases-statement
+decreases-statement l = 4 * l.room + 2
+
+abbrev pub decreases-if_statement : goal.decreases-if_statement
+decreases-if_statement l = 4 * l.room + 1
+
+abbrev pub decreases-while_statement : goal.decreases-while_statement
+decreases-while_statement l = 4 * l.room + 1
+
+abbrev pub invariant-block-statements : goal.invariant-block-statements
+invariant-block-statements l = Fills l.room l.free l.statements.items l.returned (views l.rest) (block_at l.room l.names (views l.lexemes))
+
+abbrev pub decreases-block-statements : goal.decreases-block-statements
+decreases-block-statements l = length (views l.rest)

@@ -1,0 +1,149 @@
+//! Declarations of variables (ISO/IEC 9899:1999, 6.7).
+
+ghost use Rattle.std.specs.Prelude.{◌≡◌, ◌≤◌};
+ghost use Rattle.syntax.specs.Views.{element_tree, variable_type_tree, stmt_tree};
+ghost use Rattle.parse.specs.Results.{Gives};
+ghost use Rattle.parse.specs.Lexemes.{views};
+ghost use Rattle.parse.specs.Reading.{zeros_at, array_at, is_array, behind_element, behind_variable, behind_const, declared_at, starts_declaration};
+
+use crate::calls::setting;
+use crate::fault::ParseFault;
+use crate::lexemes::{Fixed, Lexeme, behind, expect, line_at, name_at, number_at, starts_with};
+use crate::type_words::{element_type, variable_type};
+use crate::words::Word;
+use scan::Mark;
+use std::alloc::Global;
+use syntax::{ElementType, Form, Name, Stmt, VariableType};
+
+/// How many elements a local array may have.
+const ELEMENTS: u32 = 1024;
+
+/// What stands behind the zeros of a local array.
+#[tactic(auto, unfolding(crate::specs::Reading::zeros_at))]
+fn zeros(lexemes: &[Lexeme]) -> Result<&[Lexeme], ParseFault>
+    ensures { Gives (λ x. views x.now) result (zeros_at (views lexemes.now)) }
+{
+    let rest = expect(Fixed::Mark(Mark::Assign), lexemes)?;
+    let rest = expect(Fixed::Mark(Mark::OpenBrace), rest)?;
+    let (_, rest) = number_at(0, 0, rest)?;
+    let rest = expect(Fixed::Mark(Mark::CloseBrace), rest)?;
+    expect(Fixed::Mark(Mark::Semicolon), rest)
+}
+
+/// The name, the size and the zeros of a local array.
+#[tactic(auto, unfolding(crate::specs::Reading::array_at))]
+fn array(
+    alloc: Global,
+    line: usize,
+    element: ElementType,
+    lexemes: &[Lexeme],
+) -> Result<(Stmt, &[Lexeme]), ParseFault>
+    ensures { Gives (λ x. (stmt_tree x.0, views x.1.now)) result (array_at line (element_tree element) (views lexemes.now)) }
+{
+    let (name, rest) = name_at(lexemes)?;
+    let rest = expect(Fixed::Mark(Mark::OpenBracket), rest)?;
+    let (size, rest) = number_at(1, ELEMENTS, rest)?;
+    let rest = expect(Fixed::Mark(Mark::CloseBracket), rest)?;
+    let rest = zeros(rest)?;
+    let form = Form::DeclareArray(element, Name::new(alloc, name)?, size);
+    Ok((Stmt { line, form }, rest))
+}
+
+/// Whether an array is declared behind an element's type, of which `jint` alone is a variable's too.
+fn is_array(element: ElementType, lexemes: &[Lexeme]) -> bool
+    ensures { result ≡ is_array (element_tree element) (views lexemes.now) }
+{
+    match element {
+        ElementType::Jint => starts_with(Fixed::Mark(Mark::OpenBracket), behind(lexemes)),
+        ElementType::Jshort | ElementType::Jbyte | ElementType::Jchar => true,
+    }
+}
+
+/// What stands behind an element's type.
+#[tactic(auto, unfolding(crate::specs::Reading::behind_element))]
+fn behind_element(
+    alloc: Global,
+    room: u32,
+    line: usize,
+    element: ElementType,
+    lexemes: &[Lexeme],
+) -> Result<(Stmt, &[Lexeme]), ParseFault>
+    requires { room ≤ 32 }
+    ensures { Gives (λ x. (stmt_tree x.0, views x.1.now)) result (behind_element room line (element_tree element) (views lexemes.now)) }
+{
+    if starts_with(Fixed::Mark(Mark::Star), lexemes) {
+        let (name, right, rest) = setting(alloc, room, behind(lexemes))?;
+        let form = Form::DeclareBuffer(element, name, right);
+        return Ok((Stmt { line, form }, rest));
+    }
+    if is_array(element, lexemes) {
+        return array(alloc, line, element, lexemes);
+    }
+    let (name, right, rest) = setting(alloc, room, lexemes)?;
+    let form = Form::Declare(VariableType::Jint, name, right);
+    Ok((Stmt { line, form }, rest))
+}
+
+/// What stands behind another variable's type.
+#[tactic(auto, unfolding(crate::specs::Reading::behind_variable))]
+fn behind_variable(
+    alloc: Global,
+    room: u32,
+    line: usize,
+    kind: VariableType,
+    lexemes: &[Lexeme],
+) -> Result<(Stmt, &[Lexeme]), ParseFault>
+    requires { room ≤ 32 }
+    ensures { Gives (λ x. (stmt_tree x.0, views x.1.now)) result (behind_variable room line (variable_type_tree kind) (views lexemes.now)) }
+{
+    let (name, right, rest) = setting(alloc, room, lexemes)?;
+    let form = Form::Declare(kind, name, right);
+    Ok((Stmt { line, form }, rest))
+}
+
+/// What stands behind `const`.
+#[tactic(auto, unfolding(crate::specs::Reading::behind_const))]
+fn behind_const(
+    alloc: Global,
+    room: u32,
+    line: usize,
+    lexemes: &[Lexeme],
+) -> Result<(Stmt, &[Lexeme]), ParseFault>
+    requires { room ≤ 32 }
+    ensures { Gives (λ x. (stmt_tree x.0, views x.1.now)) result (behind_const room line (views lexemes.now)) }
+{
+    let rest = expect(Fixed::Word(Word::Jchar), lexemes)?;
+    let rest = expect(Fixed::Mark(Mark::Star), rest)?;
+    let (name, right, rest) = setting(alloc, room, rest)?;
+    let form = Form::DeclareChars(name, right);
+    Ok((Stmt { line, form }, rest))
+}
+
+/// A declaration.
+#[tactic(auto, unfolding(crate::specs::Reading::declared_at))]
+pub(crate) fn declared(
+    alloc: Global,
+    room: u32,
+    lexemes: &[Lexeme],
+) -> Result<(Stmt, &[Lexeme]), ParseFault>
+    requires { room ≤ 32 }
+    ensures { Gives (λ x. (stmt_tree x.0, views x.1.now)) result (declared_at room (views lexemes.now)) }
+{
+    let line = line_at(lexemes);
+    if let Some(element) = element_type(lexemes) {
+        return behind_element(alloc, room, line, element, behind(lexemes));
+    }
+    if let Some(kind) = variable_type(lexemes) {
+        return behind_variable(alloc, room, line, kind, behind(lexemes));
+    }
+    behind_const(alloc, room, line, behind(lexemes))
+}
+
+/// Whether a declaration comes next.
+pub(crate) fn starts_declaration(lexemes: &[Lexeme]) -> bool
+    ensures { result ≡ starts_declaration (views lexemes.now) }
+{
+    element_type(lexemes).is_some()
+        || variable_type(lexemes).is_some()
+        || starts_with(Fixed::Word(Word::Const), lexemes)
+}
