@@ -50,10 +50,7 @@ fn within_slots(instr: &Instr, slots: SlotCounts) -> bool
 fn array_within(array: LocalArray, numbers: usize) -> bool
     ensures { result ≡ array_within numbers array }
 {
-    0 < array.len
-        && array.len <= 1024
-        && array.len <= numbers
-        && array.start <= numbers - array.len
+    0 < array.len && array.len <= 1024 && array.len <= numbers && array.start <= numbers - array.len
 }
 
 fn variable_within(variable: NullableVariable, slots: SlotCounts) -> bool

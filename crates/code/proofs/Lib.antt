@@ -1,0 +1,3 @@
+pub mod Depths
+pub mod Effects
+pub mod Runs
