@@ -131,6 +131,7 @@ module _ (code : Listing) (valid : IsValid code) (place : ℕ) (i : Instr) (at :
 
   pub runs_at : RunsAt code place i
   runs_at = record {
+    slots = passes (within_slots code.slots) code.instrs place i valid.slots at;
     words = ap is_some ((known place).1);
     room = λ depth h. ap is_some ((words_behind depth h).1);
     plain = λ stack numbers p h l. let next = words_behind (length stack) h in plain_there code.slots i stack numbers next.0 p (passes (within_slots code.slots) code.instrs place i valid.slots at) l next.1;

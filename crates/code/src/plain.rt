@@ -1,7 +1,8 @@
 //! Instructions that work on the operand stack and the number slots alone.
 
 ghost use Rattle.std.specs.Prelude.{◌≡◌, ◌<◌, ◌^◌, ℕ, List, IsSome, Some, length, replicate};
-ghost use Rattle.code.specs.declared.instr.Instr.TheVariants.{OperateOrTrap, SkipUnless, SkipIf, LoadElement, StoreElement};
+ghost use Rattle.code.specs.declared.instr.Instr.TheVariants.{Complement, Not, Operate, OperateOrTrap, SkipUnless, SkipIf, JumpUnless, LoadElement, StoreElement};
+ghost use Rattle.code.specs.declared.instr.Plain.TheVariants.{Next};
 ghost use Rattle.code.specs.Depth.{depth_after};
 ghost use Rattle.code.specs.Effect.{truth_word, operate, operate_or_trap, element_word, plain_of};
 
@@ -18,25 +19,14 @@ pub fn plain(instr: &Instr, stack: &mut Stack, numbers: &mut [u32]) -> Plain
         Instr::Push(word) => stack.push(*word),
         Instr::Load(slot) => stack.push(numbers[*slot]),
         Instr::Store(slot) => numbers[*slot] = stack.pop(),
-        Instr::Complement => {
-            let word = stack.pop();
-            stack.push(!word);
-        }
-        Instr::Not => {
-            let word = stack.pop();
-            stack.push(truth_word(word == 0));
-        }
+        Instr::Complement => complement(stack),
+        Instr::Not => invert(stack),
         Instr::Convert => {}
-        Instr::Operate(operator) => {
-            let right = stack.pop();
-            let left = stack.pop();
-            stack.push(result_of(*operator, left, right));
-        }
-        Instr::OperateOrTrap(operator, line) => return operate(*operator, *line, stack),
+        Instr::Operate(operator) => operate(*operator, stack),
+        Instr::OperateOrTrap(operator, line) => return operate_or_trap(*operator, *line, stack),
         Instr::SkipUnless(n) => return skip_unless(*n, stack),
         Instr::SkipIf(n) => return skip_if(*n, stack),
-        Instr::JumpUnless(n) if stack.pop() == 0 => return Plain::Skip(*n),
-        Instr::JumpUnless(_) => {}
+        Instr::JumpUnless(n) => return jump_unless(*n, stack),
         Instr::GoOn(n) => return Plain::Skip(*n),
         Instr::GoBack(n) => return Plain::Back(*n),
         Instr::LoadElement(array, line) => return load_element(*array, *line, stack, numbers),
@@ -47,6 +37,31 @@ pub fn plain(instr: &Instr, stack: &mut Stack, numbers: &mut [u32]) -> Plain
         _ => unreachable!(),
     }
     Plain::Next
+}
+
+fn complement(stack: &mut Stack)
+    requires { 0 < length stack.old }
+    ensures { (numbers : List ℕ) → plain_of Complement stack.old numbers ≡ Some (Next, stack.new, numbers) }
+{
+    let word = stack.pop();
+    stack.push(!word);
+}
+
+fn invert(stack: &mut Stack)
+    requires { 0 < length stack.old }
+    ensures { (numbers : List ℕ) → plain_of Not stack.old numbers ≡ Some (Next, stack.new, numbers) }
+{
+    let word = stack.pop();
+    stack.push(truth_word(word == 0));
+}
+
+fn operate(operator: Operator, stack: &mut Stack)
+    requires { 1 < length stack.old }
+    ensures { (numbers : List ℕ) → plain_of (Operate operator) stack.old numbers ≡ Some (Next, stack.new, numbers) }
+{
+    let right = stack.pop();
+    let left = stack.pop();
+    stack.push(result_of(operator, left, right));
 }
 
 /// The word of a truth.
@@ -94,7 +109,7 @@ fn result_or_trap(operator: TrappingOperator, left: u32, right: u32) -> Result<u
 }
 
 /// A trap leaves the operands on the stack.
-fn operate(operator: TrappingOperator, line: usize, stack: &mut Stack) -> Plain
+fn operate_or_trap(operator: TrappingOperator, line: usize, stack: &mut Stack) -> Plain
     requires { 1 < length stack.old }
     ensures { (numbers : List ℕ) → plain_of (OperateOrTrap operator line) stack.old numbers ≡ Some (result, stack.new, numbers) }
 {
@@ -135,6 +150,17 @@ fn skip_if(n: usize, stack: &mut Stack) -> Plain
     }
     stack.push(word);
     Plain::Skip(n)
+}
+
+fn jump_unless(n: usize, stack: &mut Stack) -> Plain
+    requires { 0 < length stack.old }
+    ensures { (numbers : List ℕ) → plain_of (JumpUnless n) stack.old numbers ≡ Some (result, stack.new, numbers) }
+{
+    if stack.pop() == 0 {
+        Plain::Skip(n)
+    } else {
+        Plain::Next
+    }
 }
 
 fn load_element(array: LocalArray, line: usize, stack: &mut Stack, numbers: &[u32]) -> Plain
