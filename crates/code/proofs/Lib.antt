@@ -4,3 +4,4 @@ pub mod Effects
 pub mod Runs
 pub mod Pieces
 pub mod Arrays
+pub mod Words

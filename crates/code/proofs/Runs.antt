@@ -142,6 +142,12 @@ module _ (code : Listing) (valid : IsValid code) (place : ℕ) (i : Instr) (at :
     behind = place_behind;
   }
 
+-- the first place is inside, with no words
+pub begins : (code : Listing) → IsValid code → HasDepth code.instrs 0 0
+begins code valid =
+    let inside = slice_get_within code.instrs (length code.instrs - 1) valid.moves.ends.last valid.moves.ends.ends in
+    record { inside = omega arith; words = refl }
+
 -- what a look-up finds is the instruction there
 copied_found : (code : List Instr) (place : ℕ) (found : Option (Bor Instr)) → IsItemAt code place found → option_copied found ≡ slice_get code place
 copied_found code place None h = sym (slice_get_past code place h.3)

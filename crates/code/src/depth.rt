@@ -74,8 +74,8 @@ pub(crate) fn jumps_land(instrs: &[Instr], table: &[usize]) -> bool
     requires { IsDepthTable instrs.now table.now }
     ensures { IsTrue result ↔ JumpsLand instrs.now }
 {
-    for place in 0..instrs.len() {
-        if !lands(&instrs[place], place, table) {
+    for (place, instr) in instrs.iter().enumerate() {
+        if !lands(instr, place, table) {
             return false;
         }
     }
@@ -97,7 +97,7 @@ fn lands(instr: &Instr, place: usize, table: &[usize]) -> bool
     }
 }
 
-/// Whether there are so many words behind the next `skipped` instructions.
+/// Whether the place behind the next `skipped` instructions is inside, with so many words.
 fn has_depth(table: &[usize], place: usize, skipped: usize, depth: usize) -> bool
     requires { place < length table.now }
     ensures { IsTrue result ↔ ((place + 1 + skipped < length table.now) × (slice_index table.now (place + 1 + skipped) ≡ depth)) }

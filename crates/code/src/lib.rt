@@ -1,4 +1,4 @@
-//! Instructions on words, their operand stack, and code that stays in the stack's range.
+//! Instructions, their operand stack, and code that stays in the stack's range, in its slots and inside itself.
 
 #![tactic(auto)]
 
