@@ -1,20 +1,18 @@
 -- What the effects of instructions have in common.
-use Rattle.std.proofs.Common.{◌≡◌, ℕ, zero, suc, ◌+◌, ◌<◌, ◌≤◌, Bool, true, false, ◌&&◌, cond, List, [], ◌∷◌, ◌++◌, length, take, drop, replicate, Option, Some, None, Result, Ok, Err, refl, sym, ap, ◌∙◌, arith, length-append}
+use Rattle.std.proofs.Common.{◌≡◌, ℕ, ◌+◌, ◌<◌, ◌≤◌, Bool, true, false, ◌&&◌, cond, List, [], ◌∷◌, ◌++◌, length, take, drop, replicate, Option, Some, None, Result, Ok, Err, refl, arith, length-append}
 use Rattle.std.specs.Prelude.{slice_get, slice_set, nat_lt, nat_le, IsSome, ◌==◌}
 use Rattle.std.specs.Option.{option_map}
 use Rattle.std.proofs.lemmas.Bool.{ltb-true, leb-true, lt-ltb, le-leb}
 use Rattle.std.proofs.lemmas.List.{length-set, length-take, length-drop, length-replicate}
 use Rattle.std.proofs.lemmas.Option.{slice_get-get_or}
-use Rattle.code.specs.declared.instr.ElementType.{ElementType}
 use Rattle.code.specs.declared.instr.Instr.{Instr}
 use Rattle.code.specs.declared.instr.Instr.TheVariants as instr
 use Rattle.code.specs.declared.instr.LocalArray.{LocalArray}
-use Rattle.code.specs.declared.instr.Plain.{Plain}
 use Rattle.code.specs.declared.instr.Plain.TheVariants as way
 use Rattle.code.specs.declared.instr.PlainTrap.{PlainTrap}
 use Rattle.code.specs.declared.slots.SlotCounts.{SlotCounts}
 use Rattle.code.specs.Depth.{depth_after, array_within, within_slots}
-use Rattle.code.specs.Effect.{Effect, operate_or_trap, operated, element_word, element_loaded, number_stored, element_stored, cleared, skipped_unless, skipped_if, jumped_unless, plain_of, IsPlain}
+use Rattle.code.specs.Effect.{Effect, operate_or_trap, operated, element_word, number_stored, cleared, plain_of, IsPlain}
 
 -- ---- the number of slots stays
 

@@ -1,15 +1,14 @@
 -- Pieces of code that join to valid code. Each takes the stack from one number of words to another, and its jumps lead to its
 -- own places or to the place behind it.
-use Rattle.std.proofs.Common.{◌≡◌, ℕ, zero, suc, ◌+◌, ◌-◌, ◌<◌, ◌≤◌, Bool, true, false, List, [], ◌∷◌, ◌++◌, length, take, Option, Some, None, refl, sym, ap, ◌∙◌, subst, arith, length-append, append_assoc}
+use Rattle.std.proofs.Common.{◌≡◌, ℕ, zero, suc, ◌+◌, ◌-◌, ◌≤◌, Bool, true, false, List, [], ◌∷◌, ◌++◌, length, take, Option, Some, None, refl, sym, ap, ◌∙◌, subst, arith, length-append}
 use Rattle.std.specs.Prelude.{slice_get, nat_lt}
 use Rattle.std.specs.Option.{option_and_then}
 use Rattle.std.proofs.Math.Seq.{take-append-add}
 use Rattle.std.proofs.lemmas.Bool.{ltb-true, ltb-false}
 use Rattle.std.proofs.lemmas.List.{take-append-le, take_all}
-use Rattle.std.proofs.lemmas.Option.{slice_get_within}
 use Rattle.code.specs.declared.instr.Instr.{Instr}
 use Rattle.code.specs.declared.instr.Instr.TheVariants.{SkipUnless, SkipIf, JumpUnless, GoOn, GoBack, Return}
-use Rattle.code.specs.Depth.{depth_after, depths, depth_at, HasDepth, Lands, Leaves, Moves, JumpsLand}
+use Rattle.code.specs.Depth.{depth_after, depths, HasDepth, Lands, Moves, JumpsLand}
 use Rattle.code.proofs.Lists.{get_left, get_right}
 
 -- ---- lists of instructions
@@ -107,7 +106,7 @@ each_by P a b entry middle place depth i false l k first second at h =
     let same : length a + (place - length a) ≡ place = omega arith in
     let cut : take place (a ++ b) ≡ a ++ take (place - length a) b = ap (λ n. take n (a ++ b)) (sym same) ∙ take-append-add a b (place - length a) in
     let there : depths (take (place - length a) b) middle ≡ Some depth =
-        sym (ap (option_and_then (depths (take (place - length a) b))) k) ∙ sym (depths-append a (take (place - length a) b) entry) ∙ ap (λ (c : List Instr). depths c entry) (sym cut) ∙ h in
+    sym (ap (option_and_then (depths (take (place - length a) b))) k) ∙ sym (depths-append a (take (place - length a) b) entry) ∙ ap (λ (c : List Instr). depths c entry) (sym cut) ∙ h in
     subst (λ p. P p depth i) same (second (place - length a) depth i (sym (get_right a b place past) ∙ at) there)
 
 -- what holds at the places of both pieces
@@ -175,7 +174,7 @@ piece_if then' else' h k =
     let ways = piece_append then' (GoOn (length else') ∷ else') 0 0 0 h rest in
     let second : Reaches (GoOn (length else') ∷ else') 0 1 0 = record { inside = omega arith; words = refl } in
     let jump : Reaches ((JumpUnless (length then' + 1) ∷ []) ++ (then' ++ GoOn (length else') ∷ else')) 1 (1 + (length then' + 1)) 0 =
-        reaches_right (JumpUnless (length then' + 1) ∷ []) (then' ++ GoOn (length else') ∷ else') 1 0 (length then' + 1) 0 refl (reaches_right then' (GoOn (length else') ∷ else') 0 0 1 0 h.stays second) in
+    reaches_right (JumpUnless (length then' + 1) ∷ []) (then' ++ GoOn (length else') ∷ else') 1 0 (length then' + 1) 0 refl (reaches_right then' (GoOn (length else') ∷ else') 0 0 1 0 h.stays second) in
     let same : 1 + (length then' + 1) ≡ 0 + 1 + (length then' + 1) = omega arith in
     piece_cons (JumpUnless (length then' + 1)) (then' ++ GoOn (length else') ∷ else') 1 0 0 refl ways
     (subst (λ p. Reaches (JumpUnless (length then' + 1) ∷ (then' ++ GoOn (length else') ∷ else')) 1 p 0) same jump)
@@ -210,7 +209,7 @@ module _ (test body : List Instr) (tests : IsPiece test 0 1) (turns : IsPiece bo
       let first : Reaches (loop test body) 0 0 0 = record { inside = omega arith; words = refl } in
       each_append P body (back ∷ []) 0 0 turns.stays
       (λ place depth i at l. lands_right test (JumpUnless (length body + 1) ∷ turn test body) 0 1 (1 + place) depth i tests.stays
-          (lands_right (JumpUnless (length body + 1) ∷ []) (turn test body) 1 0 place depth i refl (lands_left body (back ∷ []) 0 place depth i (turns.jumps place depth i at l))))
+      (lands_right (JumpUnless (length body + 1) ∷ []) (turn test body) 1 0 place depth i refl (lands_left body (back ∷ []) 0 place depth i (turns.jumps place depth i at l))))
       (each_one (λ p depth i. P (length body + p) depth i) back 0 (omega arith, subst (λ p. Reaches (loop test body) 0 p 0) (sym start) first))
 
   pub piece_loop : IsPiece (loop test body) 0 0

@@ -1,6 +1,6 @@
 -- An instruction of valid code leads inside.
-use Rattle.std.proofs.Common.{◌≡◌, ℕ, zero, suc, ◌+◌, ◌-◌, ◌<◌, ◌≤◌, Bool, true, false, ◌&&◌, cond, List, [], ◌∷◌, length, Option, Some, None, Result, Ok, Err, refl, sym, ap, ◌∙◌, subst, arith, Bor}
-use Rattle.std.specs.Prelude.{slice_get, slice_set, nat_lt, nat_le, IsSome, IfSome, ◌==◌}
+use Rattle.std.proofs.Common.{◌≡◌, ℕ, zero, suc, ◌+◌, ◌-◌, ◌<◌, ◌≤◌, Bool, true, false, cond, List, [], ◌∷◌, length, Option, Some, None, Result, Ok, Err, refl, sym, ap, ◌∙◌, subst, arith, Bor}
+use Rattle.std.specs.Prelude.{slice_get, slice_set, nat_lt, nat_le, IfSome, ◌==◌}
 use Rattle.std.specs.List.{list_all}
 use Rattle.std.specs.Slice.{IsItemAt}
 use Rattle.std.specs.Option.{option_map, option_and_then, option_copied, is_some}
@@ -8,11 +8,10 @@ use Rattle.std.proofs.lemmas.Bool.{ltb-true, ltb-false}
 use Rattle.std.proofs.lemmas.Option.{slice_get_within, slice_get_past, slice_get_read}
 use Rattle.code.specs.declared.instr.Instr.{Instr}
 use Rattle.code.specs.declared.instr.Instr.TheVariants as instr
-use Rattle.code.specs.declared.instr.Plain.{Plain}
 use Rattle.code.specs.declared.instr.Plain.TheVariants as way
 use Rattle.code.specs.declared.instr.PlainTrap.{PlainTrap}
-use Rattle.code.specs.Depth.{Listing, IsValid, HasDepth, LeadsInside, Lands, Leaves, EndsByLeaving, depth_after, depth_at, within_slots, with_one_more, with_one_less}
-use Rattle.code.specs.Effect.{Effect, operate_or_trap, operated, number_stored, element_word, cleared, plain_of, IsPlain}
+use Rattle.code.specs.Depth.{Listing, IsValid, HasDepth, LeadsInside, Lands, Leaves, EndsByLeaving, depth_after, depth_at, within_slots, with_one_more}
+use Rattle.code.specs.Effect.{Effect, operate_or_trap, operated, number_stored, element_word, cleared, plain_of}
 use Rattle.code.specs.Running.{RunsAt}
 use Rattle.code.proofs.Depths.{depth_at-next, depth_known}
 use Rattle.code.proofs.Effects.{KeepsSlots, plain_keeps, both, plain_there}

@@ -1,4 +1,4 @@
-use Rattle.std.proofs.Common.{◌≡◌, List, subst}
+use Rattle.std.proofs.Common.{List, subst}
 use Rattle.std.specs.Prelude.{IfSome}
 use Rattle.std.specs.Slice.{IsItemAt}
 use Rattle.code.specs.declared.instr.Instr.{Instr}

@@ -1,5 +1,4 @@
-use Rattle.std.proofs.Common.{rules, ◌≡◌, List, IsSome}
-use Rattle.code.specs.Depth.{IsValid, EndsByLeaving, JumpsLand}
+use Rattle.std.proofs.Common.{rules}
 use Rattle.code.proofs.Depths.{valid_of}
 use Rattle.code.proofs.code.Code.of.Goals as goal
 
