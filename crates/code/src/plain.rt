@@ -1,6 +1,6 @@
 //! Instructions that work on the operand stack and the number slots alone.
 
-ghost use Rattle.std.specs.Prelude.{◌≡◌, ◌<◌, ◌^◌, ℕ, List, IsSome, Some, length, replicate};
+ghost use Rattle.std.specs.Prelude.{◌≡◌, ◌<◌, ℕ, List, IsSome, Some, length, replicate};
 ghost use Rattle.code.specs.declared.instr.Instr.TheVariants.{Complement, Not, Operate, OperateOrTrap, SkipUnless, SkipIf, JumpUnless, LoadElement, StoreElement};
 ghost use Rattle.code.specs.declared.instr.Plain.TheVariants.{Next};
 ghost use Rattle.code.specs.Depth.{depth_after};
