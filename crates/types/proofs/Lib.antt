@@ -1,7 +1,5 @@
 pub mod FindsLemmas
-pub mod SortLemmas
-pub mod CallLemmas
+pub mod RuleLemmas
+pub mod ArgumentLemmas
 pub mod UnitLemmas
-pub mod FormLemmas
-pub mod RefusedLemmas
 mod TableLemmas

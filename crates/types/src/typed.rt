@@ -7,7 +7,7 @@ ghost use Rattle.types.specs.SortRules.{IsSorted};
 ghost use Rattle.types.specs.BuiltCalls.{calls_are_built, refused, first_refused};
 ghost use Rattle.types.specs.Faults.{Finds, IfBroken, fault_of};
 
-use crate::checker::check_items;
+use crate::items::check_items;
 use crate::fault::TypeFault;
 use std::alloc::Global;
 use std::marker::Model;
