@@ -1,5 +1,10 @@
 pub mod FindsLemmas
 pub mod RuleLemmas
+pub mod SortLemmas
+pub mod UnknownLemmas
+pub mod StatementLemmas
 pub mod ArgumentLemmas
+pub mod PlaceLemmas
+pub mod BlockLemmas
 pub mod UnitLemmas
 mod TableLemmas

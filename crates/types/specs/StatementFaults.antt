@@ -1,8 +1,8 @@
 -- What is refused at a statement, one rule after the other.
-use Rattle.std.specs.Prelude.{Bool, not, List, [], ◌++◌, Option}
+use Rattle.std.specs.Prelude.{ℕ, Bool, not, List, [], ◌++◌, Option}
 use Rattle.base.specs.Bytes.{Identifier}
 use Rattle.base.specs.Options.{some_passes}
-use Rattle.syntax.specs.Parts.{line_of, own_call, declared_name, right_side}
+use Rattle.syntax.specs.Parts.{own_call, declared_name, right_side}
 use Rattle.syntax.specs.Tree.{Call, ResultType, Void, Stmt}
 use Rattle.types.specs.Prototype.{function_named}
 use Rattle.types.specs.Sorts.{Scope, call_arguments_fit}
@@ -27,14 +27,24 @@ call_miscounts c = some_passes (λ c. has_wrong_count c (function_named c.functi
 abbrev pub call_mistakes_mode : Option Call → Bool
 call_mistakes_mode c = some_passes (λ c. has_wrong_mode c (function_named c.function)) c
 
--- where these names are known and these are taken
-abbrev pub statement_faults : Scope → List Identifier → ResultType → Stmt → Faults
-statement_faults known taken returns s =
-    broken_if (uses_unknown known s) UnknownName (line_of s)
-    ++ (broken_if (some_passes (has_name taken) (declared_name s)) DeclaredTwice (line_of s)
-    ++ (broken_if (breaks_sort_rule SortMisfit known [] returns s) SortMisfit (line_of s)
-    ++ (broken_if (calls_unknown (own_call s)) UnknownFunction (line_of s)
-    ++ (broken_if (call_miscounts (own_call s)) ArgumentCount (line_of s)
-    ++ (broken_if (copies_reference known (set_sort known s) (right_side s)) ReferenceCopied (line_of s)
-    ++ (broken_if (call_mistakes_mode (own_call s)) BadMode (line_of s)
-    ++ broken_if (breaks_sort_rule ReadOnlyWrite known [] Void s) ReadOnlyWrite (line_of s)))))))
+-- its names and sorts, where these names are known and these are taken
+abbrev pub sort_faults : Scope → List Identifier → ResultType → Stmt → ℕ → Faults
+sort_faults known taken returns s line =
+    broken_if (uses_unknown known s) UnknownName line
+    ++ (broken_if (some_passes (has_name taken) (declared_name s)) DeclaredTwice line
+    ++ broken_if (breaks_sort_rule SortMisfit known [] returns s) SortMisfit line)
+
+-- the function that it calls
+abbrev pub call_faults : Stmt → ℕ → Faults
+call_faults s line = broken_if (calls_unknown (own_call s)) UnknownFunction line ++ broken_if (call_miscounts (own_call s)) ArgumentCount line
+
+-- what it may not do although its sorts fit
+abbrev pub use_faults : Scope → Stmt → ℕ → Faults
+use_faults known s line =
+    broken_if (copies_reference known (set_sort known s) (right_side s)) ReferenceCopied line
+    ++ (broken_if (call_mistakes_mode (own_call s)) BadMode line
+    ++ broken_if (breaks_sort_rule ReadOnlyWrite known [] Void s) ReadOnlyWrite line)
+
+-- all of it
+abbrev pub statement_faults : Scope → List Identifier → ResultType → Stmt → ℕ → Faults
+statement_faults known taken returns s line = sort_faults known taken returns s line ++ (call_faults s line ++ use_faults known s line)

@@ -10,7 +10,7 @@ use crate::fault::TypeFault;
 use crate::scope::{Known, forget, learn, take};
 use crate::sort::{Sort, variable_sort};
 use crate::statements::check_statement;
-use std::alloc::Global;
+use std::alloc::{AllocError, Global};
 use syntax::{Block, ElementType, Form, Name, ResultType};
 
 /// One name more is known and taken.
@@ -20,7 +20,7 @@ fn add(
     taken: &mut Vec<Name>,
     name: &Name,
     sort: Sort,
-) -> Result<(), TypeFault>
+) -> Result<(), AllocError>
     ensures scope { OnOk result (scope_of known.new.items ≡ (name.now, sort_value sort) ∷ scope_of known.old.items) }
     ensures above { OnOk result (IsAbove known.new.items known.old.items) }
     ensures taken { OnOk result (taken.new.items ≡ taken.old.items ++ name.now ∷ []) }
@@ -31,6 +31,7 @@ fn add(
 }
 
 /// The blocks inside a statement, and the name that it declares.
+#[tactic(auto, using(crate::proofs::PlaceLemmas::place_rules))]
 #[cycle(blocks)]
 fn check_inside(
     alloc: Global,
@@ -45,19 +46,24 @@ fn check_inside(
     ensures taken { OnOk result ((line : ℕ) → taken.new.items ≡ taken.old.items ++ names_declared (statements_within (form_tree line form.now))) }
 {
     match form {
-        Form::Declare(t, x, _) => add(alloc, known, taken, x, variable_sort(*t)),
-        Form::DeclareBuffer(t, x, _) => add(alloc, known, taken, x, Sort::Buffer(*t, true)),
+        Form::Declare(t, x, _) => Ok(add(alloc, known, taken, x, variable_sort(*t))?),
+        Form::DeclareBuffer(t, x, _) => Ok(add(alloc, known, taken, x, Sort::Buffer(*t, true))?),
         Form::DeclareChars(x, _) => {
-            add(alloc, known, taken, x, Sort::Buffer(ElementType::Jchar, false))
+            Ok(add(alloc, known, taken, x, Sort::Buffer(ElementType::Jchar, false))?)
         }
-        Form::DeclareArray(t, x, size) => add(alloc, known, taken, x, Sort::Array(*t, *size)),
+        Form::DeclareArray(t, x, size) => Ok(add(alloc, known, taken, x, Sort::Array(*t, *size))?),
+        Form::Assign(..) => Ok(()),
+        Form::AssignElement(..) => Ok(()),
+        Form::Perform(_) => Ok(()),
+        Form::PutJint(_) => Ok(()),
         Form::If(_, b) => check_block(alloc, known, taken, returns, b),
         Form::IfElse(_, b, d) => {
             check_block(alloc, known, taken, returns, b)?;
             check_block(alloc, known, taken, returns, d)
         }
         Form::While(_, b) => check_block(alloc, known, taken, returns, b),
-        _ => Ok(()),
+        Form::Return(None) => Ok(()),
+        Form::Return(Some(_)) => Ok(()),
     }
 }
 

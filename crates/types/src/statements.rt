@@ -1,17 +1,18 @@
 //! The rules at a statement.
 
-ghost use Rattle.std.specs.Prelude.{◌≡◌, ℕ, []};
+ghost use Rattle.std.specs.Prelude.{◌≡◌, ℕ, [], ◌&&◌, Some};
 ghost use Rattle.std.specs.List.{list_all};
 ghost use Rattle.std.specs.Option.{option_map};
 ghost use Rattle.base.specs.Options.{some_passes};
 ghost use Rattle.syntax.specs.Parts.{own_expressions, own_call, declared_name, right_side_expressions, test_expressions, right_side};
-ghost use Rattle.syntax.specs.Tree.{Void, AssignElement};
+ghost use Rattle.syntax.specs.Tree.{Void};
 ghost use Rattle.syntax.specs.Views.{expr_tree, right_side_tree, test_tree, call_tree, form_tree, stmt_tree, result_tree};
+ghost use Rattle.types.specs.Sorts.{sort_in, sort_of, has_elements, is_index, is_jint};
 ghost use Rattle.types.specs.SortRules.{has_name, is_formed, value_sets, right_side_sets, buffer_begins, test_fits, return_fits, statement_fits, copies_reference, set_sort, SortMisfit, ReadOnlyWrite, breaks_sort_rule};
 ghost use Rattle.types.specs.BuiltCalls.{refused_at};
 ghost use Rattle.types.specs.Faults.{scope_of, sort_value, Finds, statement_place};
 ghost use Rattle.types.specs.Unknown.{right_unknown, test_unknown, uses_unknown};
-ghost use Rattle.types.specs.StatementFaults.{statement_faults, call_misfits, calls_unknown, call_miscounts, call_mistakes_mode};
+ghost use Rattle.types.specs.StatementFaults.{sort_faults, call_faults, use_faults, statement_faults, call_misfits, calls_unknown, call_miscounts, call_mistakes_mode};
 
 use crate::calls::{
     call_arguments_fit, call_fits, call_formed, call_unknown, has_wrong_count, has_wrong_mode,
@@ -208,7 +209,7 @@ fn return_fits(known: &[Known], returns: ResultType, e: &Expr) -> bool
 
 /// Whether an element of a named buffer or array may be set.
 fn element_fits(known: &[Known], name: &Name, index: &Expr, value: &Expr) -> bool
-    ensures { (line : ℕ) → result ≡ statement_fits (scope_of known.now) Void (AssignElement line name.now (expr_tree index.now) (expr_tree value.now)) }
+    ensures { result ≡ (has_elements (sort_in (scope_of known.now) name.now) && is_index (sort_of (scope_of known.now) (expr_tree index.now)) && is_jint (sort_of (scope_of known.now) (expr_tree value.now))) }
 {
     has_elements(sort_in(known, name))
         && is_index(sort_of(known, index))
@@ -326,7 +327,50 @@ fn writes_read_only(known: &[Known], form: &Form) -> bool
     }
 }
 
-/// The statement itself, without the blocks inside it. All rules are judged, and the first that is broken is answered.
+/// The names and sorts of a statement.
+#[tactic(auto, using(crate::proofs::FindsLemmas::finds_rules))]
+fn check_sorts(
+    known: &[Known],
+    taken: &[Name],
+    returns: ResultType,
+    form: &Form,
+    line: usize,
+) -> Result<(), TypeFault>
+    ensures { Finds result (sort_faults (scope_of known.now) taken.now (result_tree returns) (form_tree line form.now) line) }
+{
+    refuse_if(uses_unknown(known, form), SortRule::UnknownName, line)?;
+    refuse_if(declares_taken(taken, form), SortRule::DeclaredTwice, line)?;
+    refuse_if(misfits(known, returns, form), SortRule::SortMisfit, line)
+}
+
+/// The function that a statement calls, and the number of its arguments.
+#[tactic(auto, using(crate::proofs::FindsLemmas::finds_rules))]
+fn check_call(form: &Form, line: usize) -> Result<(), TypeFault>
+    ensures { Finds result (call_faults (form_tree line form.now) line) }
+{
+    refuse_if(calls_unknown(form), SortRule::UnknownFunction, line)?;
+    refuse_if(miscounts(form), SortRule::ArgumentCount, line)
+}
+
+/// What a statement may not do although its sorts fit.
+#[tactic(auto, using(crate::proofs::FindsLemmas::finds_rules))]
+fn check_uses(known: &[Known], form: &Form, line: usize) -> Result<(), TypeFault>
+    ensures { Finds result (use_faults (scope_of known.now) (form_tree line form.now) line) }
+{
+    refuse_if(
+        copies_reference(known, form),
+        SortRule::ReferenceCopied,
+        line,
+    )?;
+    refuse_if(mistakes_mode(form), SortRule::BadMode, line)?;
+    refuse_if(
+        writes_read_only(known, form),
+        SortRule::ReadOnlyWrite,
+        line,
+    )
+}
+
+/// A statement on this line, without the blocks inside it. All rules are judged, in the order of their numbers.
 #[tactic(auto, using(crate::proofs::FindsLemmas::finds_rules))]
 fn check_form(
     known: &[Known],
@@ -335,16 +379,11 @@ fn check_form(
     form: &Form,
     line: usize,
 ) -> Result<(), TypeFault>
-    ensures { Finds result (statement_faults (scope_of known.now) taken.now (result_tree returns) (form_tree line form.now)) }
+    ensures { Finds result (statement_faults (scope_of known.now) taken.now (result_tree returns) (form_tree line form.now) line) }
 {
-    refuse_if(uses_unknown(known, form), SortRule::UnknownName, line)?;
-    refuse_if(declares_taken(taken, form), SortRule::DeclaredTwice, line)?;
-    refuse_if(misfits(known, returns, form), SortRule::SortMisfit, line)?;
-    refuse_if(calls_unknown(form), SortRule::UnknownFunction, line)?;
-    refuse_if(miscounts(form), SortRule::ArgumentCount, line)?;
-    refuse_if(copies_reference(known, form), SortRule::ReferenceCopied, line)?;
-    refuse_if(mistakes_mode(form), SortRule::BadMode, line)?;
-    refuse_if(writes_read_only(known, form), SortRule::ReadOnlyWrite, line)
+    check_sorts(known, taken, returns, form, line)?;
+    check_call(form, line)?;
+    check_uses(known, form, line)
 }
 
 /// A statement of a function with this result, where these names are known and these are taken.
