@@ -6,5 +6,6 @@ pub mod StatementLemmas
 pub mod ArgumentLemmas
 pub mod PlaceLemmas
 pub mod BlockLemmas
+pub mod ItemLemmas
 pub mod UnitLemmas
 mod TableLemmas

@@ -1,5 +1,5 @@
 -- What is refused at places, one after the other.
-use Rattle.std.proofs.Common.{◌≡◌, List, [], ◌∷◌, ◌++◌, refl, ap, ap₂, ◌∙◌}
+use Rattle.std.proofs.Common.{◌≡◌, List, [], ◌∷◌, ◌++◌, refl, ap, ap₂, ◌∙◌, flat_map}
 use Rattle.std.proofs.lemmas.Grind.{flat_map-append}
 use Rattle.base.specs.Bytes.{Identifier}
 use Rattle.syntax.specs.Parts.{statements_within, names_declared}
@@ -35,3 +35,7 @@ found-statement returns known taken s rest =
     found-append (places_within returns known taken s) _ ∙ ap (λ xs. xs ++ found (places_of returns (with_declared known s) (taken ++ names_declared (statements_within s)) rest)) (own_first returns known taken s)
 
 pub ruleset place_rules = (found-none, found-append)
+
+pub found-is : (ps : List Place) → found ps ≡ flat_map refused_at ps
+unfolding found
+found-is ps = refl
