@@ -1,5 +1,5 @@
 -- What is refused at places, one after the other.
-use Rattle.std.proofs.Common.{◌≡◌, List, [], ◌∷◌, ◌++◌, refl, ap, ap₂, ◌∙◌, flat_map}
+use Rattle.std.proofs.Common.{◌≡◌, ℕ, zero, suc, ◌≤◌, List, [], ◌∷◌, ◌++◌, drop, length, refl, ap, ◌∙◌, flat_map, arith}
 use Rattle.std.proofs.lemmas.Grind.{flat_map-append}
 use Rattle.base.specs.Bytes.{Identifier}
 use Rattle.syntax.specs.Parts.{statements_within, names_declared}
@@ -39,3 +39,10 @@ pub ruleset place_rules = (found-none, found-append)
 pub found-is : (ps : List Place) → found ps ≡ flat_map refused_at ps
 unfolding found
 found-is ps = refl
+
+-- behind its end a list has nothing
+pub past : {A : Type 0} (i : ℕ) (xs : List A) → length xs ≤ i → drop i xs ≡ []
+past zero [] h = refl
+past zero (x ∷ xs) h = absurd (omega arith)
+past (suc i) [] h = refl
+past (suc i) (x ∷ xs) h = past i xs (omega arith)

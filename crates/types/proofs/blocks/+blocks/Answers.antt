@@ -1,4 +1,4 @@
-use Rattle.std.proofs.Common.{◌≡◌, ℕ, zero, suc, ◌+◌, ◌<◌, ◌≤◌, List, [], ◌∷◌, ◌++◌, Result, Ok, Err, OnOk, drop, length, get_or, refl, sym, ap, ap₂, subst, ◌∙◌, append_assoc, append-nil, arith}
+use Rattle.std.proofs.Common.{◌≡◌, ℕ, ◌+◌, List, [], ◌++◌, Result, Ok, Err, OnOk, drop, refl, sym, ap, ap₂, subst, ◌∙◌, append_assoc}
 use Rattle.std.proofs.lemmas.List.Elements.{filter_map-append}
 use Rattle.std.proofs.lemmas.Result.{err_from_is_err_and}
 use Rattle.base.specs.Bytes.{Identifier}
@@ -9,19 +9,13 @@ use Rattle.syntax.specs.Views.{form_tree, stmt_tree, block_tree, statements_tree
 use Rattle.syntax.proofs.Blocks.{block_is}
 use Rattle.types.specs.declared.fault.TypeFault.{TypeFault}
 use Rattle.types.specs.declared.scope.Known.{Known}
-use Rattle.types.specs.SortRules.{places_of, with_declared}
+use Rattle.types.specs.SortRules.{places_of}
 use Rattle.types.specs.BuiltCalls.{refused_at}
-use Rattle.types.specs.Faults.{Faults, Finds, Refuses, scope_of, found, statement_place, places_inside}
+use Rattle.types.specs.Faults.{Faults, Finds, Refuses, scope_of, found, statement_place}
 use Rattle.types.proofs.FindsLemmas.{Refuses-first}
-use Rattle.types.proofs.PlaceLemmas.{found-none}
+use Rattle.types.proofs.PlaceLemmas.{found-none, past}
 use Rattle.types.proofs.BlockLemmas.{found-rest, declared-rest, above-none, above-more}
 use Rattle.types.proofs.blocks.+blocks.Goals as goal
-
-past : {A : Type 0} (i : ℕ) (xs : List A) → length xs ≤ i → drop i xs ≡ []
-past zero [] h = refl
-past zero (x ∷ xs) h = absurd (omega arith)
-past (suc i) [] h = refl
-past (suc i) (x ∷ xs) h = past i xs (omega arith)
 
 nothing : (here inside rest : Faults) → here ≡ [] → inside ≡ [] → (here ++ inside) ++ rest ≡ rest
 nothing here inside rest h k = rw (h, k) refl
