@@ -21,7 +21,7 @@ stmt_next items i s h e = rw add-one (drop-cons items i s h ∙ ap (λ x. x ∷ 
 pub found-rest : (returns : ResultType) (known : Scope) (taken : List Identifier) (items : List StmtInMemory) (i : ℕ) (s : StmtInMemory) (end_line : ℕ) → i < length items → s ≡ get_or items i s
     → found (places_of returns known taken (statements_tree (drop i items) end_line))
     ≡ (refused_at (statement_place returns known taken (stmt_tree s)) ++ found (places_inside returns known taken (stmt_tree s)))
-      ++ found (places_of returns (with_declared known (stmt_tree s)) (taken ++ names_declared (statements_within (stmt_tree s))) (statements_tree (drop (i + 1) items) end_line))
+    ++ found (places_of returns (with_declared known (stmt_tree s)) (taken ++ names_declared (statements_within (stmt_tree s))) (statements_tree (drop (i + 1) items) end_line))
 found-rest returns known taken items i s end_line h e =
     ap (λ rest. found (places_of returns known taken (statements_tree rest end_line))) (stmt_next items i s h e) ∙ found-statement returns known taken (stmt_tree s) _
 

@@ -61,7 +61,7 @@ found-function taken statics f known e =
     let names = taken_names statics f known e in
     found-next (head_place taken statics f) _
     ∙ ap₂ (λ xs ys. xs ++ ys) (head taken statics f (map (λ k. k.name) known) names)
-        (ap₂ (λ scope all. found (places_of (result_tree f.result) scope all (block_tree f.body))) (ap (λ xs. (f.class_name, Ref) ∷ xs ++ statics) (entry_sorts f.parameters.items) ∙ sym e) names)
+    (ap₂ (λ scope all. found (places_of (result_tree f.result) scope all (block_tree f.body))) (ap (λ xs. (f.class_name, Ref) ∷ xs ++ statics) (entry_sorts f.parameters.items) ∙ sym e) names)
 
 -- ---- statics
 

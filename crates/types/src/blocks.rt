@@ -49,7 +49,13 @@ fn check_inside(
         Form::Declare(t, x, _) => Ok(add(alloc, known, taken, x, variable_sort(*t))?),
         Form::DeclareBuffer(t, x, _) => Ok(add(alloc, known, taken, x, Sort::Buffer(*t, true))?),
         Form::DeclareChars(x, _) => {
-            Ok(add(alloc, known, taken, x, Sort::Buffer(ElementType::Jchar, false))?)
+            Ok(add(
+                alloc,
+                known,
+                taken,
+                x,
+                Sort::Buffer(ElementType::Jchar, false),
+            )?)
         }
         Form::DeclareArray(t, x, size) => Ok(add(alloc, known, taken, x, Sort::Array(*t, *size))?),
         Form::Assign(..) => Ok(()),

@@ -198,7 +198,8 @@ pub(crate) fn may_be_dropped(call: &Call) -> bool
     match prototype_named(call.function.as_bytes()) {
         None => true,
         Some(prototype) => match prototype.result {
-            ResultKind::GivesFrameStatus | ResultKind::NewGlobal | ResultKind::GivesBuffer(_) => false,
+            ResultKind::GivesFrameStatus | ResultKind::NewGlobal | ResultKind::GivesBuffer(_) =>
+                false,
             _ => true,
         },
     }

@@ -282,13 +282,23 @@ const PROTOTYPES: [Row; 77] = [
     (b"NewByteArray", &[IntNumber], NewLocal, false),
     (
         b"GetByteArrayRegion",
-        &[NumberArray(Jbyte), IntNumber, IntNumber, ArrayVariable(Jbyte)],
+        &[
+            NumberArray(Jbyte),
+            IntNumber,
+            IntNumber,
+            ArrayVariable(Jbyte),
+        ],
         GivesNothing,
         false,
     ),
     (
         b"SetByteArrayRegion",
-        &[NumberArray(Jbyte), IntNumber, IntNumber, ArrayVariable(Jbyte)],
+        &[
+            NumberArray(Jbyte),
+            IntNumber,
+            IntNumber,
+            ArrayVariable(Jbyte),
+        ],
         GivesNothing,
         false,
     ),
@@ -300,7 +310,11 @@ const PROTOTYPES: [Row; 77] = [
     ),
     (
         b"ReleaseByteArrayElements",
-        &[NumberArray(Jbyte), BufferVariable(ElementsCopy(Jbyte)), Mode],
+        &[
+            NumberArray(Jbyte),
+            BufferVariable(ElementsCopy(Jbyte)),
+            Mode,
+        ],
         GivesNothing,
         false,
     ),
@@ -326,13 +340,23 @@ const PROTOTYPES: [Row; 77] = [
     (b"NewCharArray", &[IntNumber], NewLocal, false),
     (
         b"GetCharArrayRegion",
-        &[NumberArray(Jchar), IntNumber, IntNumber, ArrayVariable(Jchar)],
+        &[
+            NumberArray(Jchar),
+            IntNumber,
+            IntNumber,
+            ArrayVariable(Jchar),
+        ],
         GivesNothing,
         false,
     ),
     (
         b"SetCharArrayRegion",
-        &[NumberArray(Jchar), IntNumber, IntNumber, ArrayVariable(Jchar)],
+        &[
+            NumberArray(Jchar),
+            IntNumber,
+            IntNumber,
+            ArrayVariable(Jchar),
+        ],
         GivesNothing,
         false,
     ),
@@ -344,7 +368,11 @@ const PROTOTYPES: [Row; 77] = [
     ),
     (
         b"ReleaseCharArrayElements",
-        &[NumberArray(Jchar), BufferVariable(ElementsCopy(Jchar)), Mode],
+        &[
+            NumberArray(Jchar),
+            BufferVariable(ElementsCopy(Jchar)),
+            Mode,
+        ],
         GivesNothing,
         false,
     ),
@@ -392,7 +420,11 @@ fn row_named(mut rows: &[Row], name: &[u8]) -> Option<Prototype>
 {
     while let [row, rest @ ..] = rows {
         if row.0 == name {
-            return Some(Prototype { parameters: row.1, result: row.2, built: row.3 });
+            return Some(Prototype {
+                parameters: row.1,
+                result: row.2,
+                built: row.3,
+            });
         }
         rows = rest;
     }

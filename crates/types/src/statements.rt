@@ -363,11 +363,7 @@ fn check_uses(known: &[Known], form: &Form, line: usize) -> Result<(), TypeFault
         line,
     )?;
     refuse_if(mistakes_mode(form), SortRule::BadMode, line)?;
-    refuse_if(
-        writes_read_only(known, form),
-        SortRule::ReadOnlyWrite,
-        line,
-    )
+    refuse_if(writes_read_only(known, form), SortRule::ReadOnlyWrite, line)
 }
 
 /// A statement on this line, without the blocks inside it. All rules are judged, in the order of their numbers.

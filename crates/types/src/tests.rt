@@ -61,11 +61,7 @@ fn shared(alloc: Global, line: usize, name: &[u8]) -> Result<Item, AllocError> {
 
 /// An operator between two operands.
 fn binary(alloc: Global, op: BinaryOp, left: Expr, right: Expr) -> Result<Expr, AllocError> {
-    Ok(Expr::Binary(
-        op,
-        Box::new(alloc, left)?,
-        Box::new(alloc, right)?,
-    ))
+    Ok(Expr::Binary(op, Box::new(alloc, left)?, Box::new(alloc, right)?))
 }
 
 /// A number without `u`, and one with it.
@@ -257,12 +253,7 @@ fn a_reference_as_a_number(rt: HostRuntime) -> Result<(), Fail> {
 fn the_sum_of_jints(rt: HostRuntime) -> Result<(), Fail> {
     let alloc = rt.alloc();
     let mut forms = Vec::new(alloc);
-    forms.push(Form::PutJint(binary(
-        alloc,
-        BinaryOp::Add,
-        jint(1),
-        jint(2),
-    )?))?;
+    forms.push(Form::PutJint(binary(alloc, BinaryOp::Add, jint(1), jint(2))?))?;
     expect_fault(&rt, alloc, forms, SortRule::SortMisfit, 2)
 }
 

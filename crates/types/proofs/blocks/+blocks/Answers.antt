@@ -55,8 +55,8 @@ check_block-returns-in_err-check_statement-clause-finds t c =
     let given = err_from_is_err_and c.from_residual.result c.from_residual.ensures.1 in
     let here = ap₂ (λ (k : List Known) (names : List Identifier). refused_at (statement_place returned (scope_of k) names (stmt_tree s))) c.deref.ensures.value c.deref-in-loop-stmt.ensures.value in
     of_statement c.from_residual.result e _ _ _ _ (given.1 ∙ ap Err given.2)
-        (c.loop-stmt.invariant.finds ∙ found-rest returned known taken c.deref-stmt-items.result.now c.loop-stmt.stmt-index s (out-Block c.args.block.now).end_line c.loop-stmt-test.true c.stmt-item.is)
-        (subst (λ xs. Refuses e xs) here c.in_err-check_statement.ensures)
+    (c.loop-stmt.invariant.finds ∙ found-rest returned known taken c.deref-stmt-items.result.now c.loop-stmt.stmt-index s (out-Block c.args.block.now).end_line c.loop-stmt-test.true c.stmt-item.is)
+    (subst (λ xs. Refuses e xs) here c.in_err-check_statement.ensures)
 
 pub check_block-returns-in_err-check_inside-clause-finds : goal.check_block-returns-in_err-check_inside-clause-finds
 check_block-returns-in_err-check_inside-clause-finds t c =
@@ -68,9 +68,9 @@ check_block-returns-in_err-check_inside-clause-finds t c =
     let given = err_from_is_err_and c.from_residual-in_err-check_inside.result c.from_residual-in_err-check_inside.ensures.1 in
     let here = ap₂ (λ (k : List Known) (names : List Identifier). refused_at (statement_place returned (scope_of k) names (stmt_tree s))) c.deref.ensures.value c.deref-in-loop-stmt.ensures.value in
     of_inside c.from_residual-in_err-check_inside.result e _ _ _ _ (given.1 ∙ ap Err given.2)
-        (c.loop-stmt.invariant.finds ∙ found-rest returned known taken c.deref-stmt-items.result.now c.loop-stmt.stmt-index s (out-Block c.args.block.now).end_line c.loop-stmt-test.true c.stmt-item.is)
-        (sym here ∙ c.in_ok-check_statement.ensures)
-        (c.in_err-check_inside.ensures.finds s.line)
+    (c.loop-stmt.invariant.finds ∙ found-rest returned known taken c.deref-stmt-items.result.now c.loop-stmt.stmt-index s (out-Block c.args.block.now).end_line c.loop-stmt-test.true c.stmt-item.is)
+    (sym here ∙ c.in_ok-check_statement.ensures)
+    (c.in_err-check_inside.ensures.finds s.line)
 
 pub check_block-loop-stmt-preserved : goal.check_block-loop-stmt-preserved
 check_block-loop-stmt-preserved t c =
@@ -98,7 +98,7 @@ pub check_block-returns-clause-finds : goal.check_block-returns-clause-finds
 check_block-returns-clause-finds t c =
     c.loop-stmt.invariant.finds
     ∙ ap (λ items. found (places_of (result_tree c.args.returns) (scope_of c.loop-stmt.known.items) c.loop-stmt.taken.items (statements_tree items (out-Block c.args.block.now).end_line)))
-        (past c.loop-stmt.stmt-index c.deref-stmt-items.result.now c.loop-stmt-test.false)
+    (past c.loop-stmt.stmt-index c.deref-stmt-items.result.now c.loop-stmt-test.false)
     ∙ found-none
 
 -- ---- what is inside a statement
@@ -106,8 +106,8 @@ check_block-returns-clause-finds t c =
 pub check_inside-returns-in_ok-check_block-in-IfElse-clause-taken : goal.check_inside-returns-in_ok-check_block-in-IfElse-clause-taken
 check_inside-returns-in_ok-check_block-in-IfElse-clause-taken t c =
     on_ok c.check_block-in-IfElse-2.result _ _
-        (λ e line.
-          e ∙ ap (λ names. names ++ names_declared (statements_of (block_tree c.in-IfElse.d))) c.in_ok-check_block-in-IfElse.ensures.taken
-          ∙ two_blocks c.args.taken.now.items line (test_tree c.in-IfElse.field-0) (block_tree c.in-IfElse.b) (block_tree c.in-IfElse.d)
-          ∙ ap (λ f. c.args.taken.now.items ++ names_declared (statements_within (form_tree line f))) (sym c.in-IfElse.is))
-        c.check_block-in-IfElse-2.ensures.taken
+    (λ e line.
+    e ∙ ap (λ names. names ++ names_declared (statements_of (block_tree c.in-IfElse.d))) c.in_ok-check_block-in-IfElse.ensures.taken
+    ∙ two_blocks c.args.taken.now.items line (test_tree c.in-IfElse.field-0) (block_tree c.in-IfElse.b) (block_tree c.in-IfElse.d)
+    ∙ ap (λ f. c.args.taken.now.items ++ names_declared (statements_within (form_tree line f))) (sym c.in-IfElse.is))
+    c.check_block-in-IfElse-2.ensures.taken

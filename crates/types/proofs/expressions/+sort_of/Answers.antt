@@ -16,7 +16,7 @@ returns-else-is_null_test t c =
     let tested = λ (a b : ExprInMemory). is_some (null_test_sort scope (null_tested (Binary op (expr_tree a) (expr_tree b)))) in
     c.binary_sort.ensures
     ∙ ap₂ (binary_sort (group op))
-        (c.sort_of-in-Binary.ensures ∙ ap (λ e. sort_of scope (expr_tree e)) c.deref-in-Binary-3.ensures)
-        (c.sort_of-in-Binary-2.ensures ∙ ap (λ e. sort_of scope (expr_tree e)) c.deref-in-Binary-4.ensures)
+    (c.sort_of-in-Binary.ensures ∙ ap (λ e. sort_of scope (expr_tree e)) c.deref-in-Binary-3.ensures)
+    (c.sort_of-in-Binary-2.ensures ∙ ap (λ e. sort_of scope (expr_tree e)) c.deref-in-Binary-4.ensures)
     ∙ sym (not-null scope op (expr_tree c.in-Binary.a.value) (expr_tree c.in-Binary.b.value) (sym (c.if-is_null_test.ensures ∙ ap₂ tested c.deref-in-Binary.ensures c.deref-in-Binary-2.ensures)))
     ∙ ap (λ e. sort_of scope (expr_tree e)) (sym c.in-Binary.is)

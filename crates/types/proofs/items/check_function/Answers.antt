@@ -20,8 +20,8 @@ returns-in_err-check_head c =
     let given = err_from_is_err_and c.from_residual-in_err-check_head.result c.from_residual-in_err-check_head.ensures.1 in
     let entry = c.deref-2.ensures.value ∙ c.in_ok-taken.ensures ∙ ap (map {B = Identifier} (λ k. k.name)) c.deref.ensures.value in
     of_head c.from_residual-in_err-check_head.result e _ _ _ (given.1 ∙ ap Err given.2)
-        (found-function c.args.names.now (scope_of c.args.statics.now) c.args.f.now known c.in_ok-known.ensures)
-        (subst (λ names. Refuses e (head_faults c.args.names.now names c.args.f.now)) entry c.in_err-check_head.ensures)
+    (found-function c.args.names.now (scope_of c.args.statics.now) c.args.f.now known c.in_ok-known.ensures)
+    (subst (λ names. Refuses e (head_faults c.args.names.now names c.args.f.now)) entry c.in_err-check_head.ensures)
 
 pub returns : goal.returns
 returns c =
@@ -29,6 +29,6 @@ returns c =
     let taken = c.in_ok-taken.ensures ∙ ap (map {B = Identifier} (λ k. k.name)) c.deref.ensures.value in
     let none = ap (λ names. head_faults c.args.names.now names c.args.f.now) (sym (c.deref-2.ensures.value ∙ taken)) ∙ c.in_ok-check_head.ensures in
     subst (λ xs. Finds c.check_block.result xs)
-        (sym (found-function c.args.names.now (scope_of c.args.statics.now) c.args.f.now known c.in_ok-known.ensures))
-        (Finds-later c.check_block.result _ _ none
-            (subst (λ names. Finds c.check_block.result (found (places_of (result_tree c.args.f.now.result) (scope_of known) names (block_tree c.args.f.now.body)))) taken c.check_block.ensures.finds))
+    (sym (found-function c.args.names.now (scope_of c.args.statics.now) c.args.f.now known c.in_ok-known.ensures))
+    (Finds-later c.check_block.result _ _ none
+    (subst (λ names. Finds c.check_block.result (found (places_of (result_tree c.args.f.now.result) (scope_of known) names (block_tree c.args.f.now.body)))) taken c.check_block.ensures.finds))

@@ -18,9 +18,9 @@ returns-in_err-refuse_if-in-Static-clause-finds c =
     let s = c.in-Static.s in
     let given = err_from_is_err_and c.from_residual.result c.from_residual.ensures.1 in
     of_static c.from_residual.result c.in_err-refuse_if-in-Static.field-0.0 _ _ (given.1 ∙ ap Err given.2)
-        (ap (λ item. found (own_places names statics (item_tree item))) c.in-Static.is ∙ found-static names statics s
-            ∙ ap (λ b. broken_if b DeclaredTwice s.line) (sym (c.has_name.ensures ∙ ap (λ (all : List Identifier). has_name all s.name) c.deref.ensures.value)))
-        c.in_err-refuse_if-in-Static.ensures
+    (ap (λ item. found (own_places names statics (item_tree item))) c.in-Static.is ∙ found-static names statics s
+    ∙ ap (λ b. broken_if b DeclaredTwice s.line) (sym (c.has_name.ensures ∙ ap (λ (all : List Identifier). has_name all s.name) c.deref.ensures.value)))
+    c.in_err-refuse_if-in-Static.ensures
 
 pub returns-in_ok-insert-in-Static-clause-finds : goal.returns-in_ok-insert-in-Static-clause-finds
 returns-in_ok-insert-in-Static-clause-finds c =

@@ -17,8 +17,8 @@ pub returns-in_err-check_item : goal.returns-in_err-check_item
 returns-in_err-check_item c =
     let given = err_from_is_err_and c.from_residual.result c.from_residual.ensures.1 in
     of_item c.from_residual.result c.in_err-check_item.field-0.0 _ _ _ (given.1 ∙ ap Err given.2)
-        (c.loop-item.invariant ∙ found-item c.loop-item.names.items (scope_of c.loop-item.statics.items) c.args.items.now c.loop-item.item-index c.item-item.result c.loop-item-test.true c.item-item.is)
-        c.in_err-check_item.ensures.finds
+    (c.loop-item.invariant ∙ found-item c.loop-item.names.items (scope_of c.loop-item.statics.items) c.args.items.now c.loop-item.item-index c.item-item.result c.loop-item-test.true c.item-item.is)
+    c.in_err-check_item.ensures.finds
 
 pub loop-item-preserved : goal.loop-item-preserved
 loop-item-preserved c =

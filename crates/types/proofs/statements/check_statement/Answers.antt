@@ -12,5 +12,5 @@ returns c =
     let taken = c.args.taken.now in
     let s = stmt_tree c.args.stmt.now in
     subst (λ xs. Finds c.check_form.result xs)
-        (sym (statement-faults returned known taken s ∙ ap (statement_faults known taken returned s) (line-of c.args.stmt.now.line c.args.stmt.now.form)))
-        c.check_form.ensures
+    (sym (statement-faults returned known taken s ∙ ap (statement_faults known taken returned s) (line-of c.args.stmt.now.line c.args.stmt.now.form)))
+    c.check_form.ensures
