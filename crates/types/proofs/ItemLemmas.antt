@@ -35,7 +35,7 @@ entry_names (p ∷ parameters) statics = ap (λ names. p.name ∷ names) (entry_
 
 taken_names : (statics : Scope) (f : FunctionInMemory) (known : List Known) → scope_of known ≡ entry_scope statics f → parameter_names (function_tree f) ++ map (λ s. s.0) statics ≡ map (λ k. k.name) known
 taken_names statics f known e =
-    sym (ap (λ names. f.class_name ∷ names) (entry_names f.parameters.items statics)) ∙ sym (ap (map {B = Identifier} (λ v. v.0)) e) ∙ known_names known
+    sym (ap (λ names. f.class_name ∷ names) (entry_names f.parameters.items statics)) ∙ sym (ap (λ (scope : Scope). map {B = Identifier} (λ v. v.0) scope) e) ∙ known_names known
 
 -- ---- functions
 

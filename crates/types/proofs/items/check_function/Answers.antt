@@ -1,4 +1,4 @@
-use Rattle.std.proofs.Common.{◌≡◌, ◌++◌, Result, Err, map, sym, ap, subst, ◌∙◌}
+use Rattle.std.proofs.Common.{◌≡◌, List, ◌++◌, Result, Err, map, sym, ap, subst, ◌∙◌}
 use Rattle.syntax.specs.Views.{block_tree, result_tree}
 use Rattle.types.specs.declared.fault.TypeFault.{TypeFault}
 use Rattle.types.specs.declared.scope.Known.{Known}
@@ -18,7 +18,7 @@ returns-in_err-check_head c =
     let known = c.in_ok-known.known.items in
     let e = c.in_err-check_head.field-0.0 in
     let given = err_from_is_err_and c.from_residual-in_err-check_head.result c.from_residual-in_err-check_head.ensures.1 in
-    let entry = c.deref-2.ensures.value ∙ c.in_ok-taken.ensures ∙ ap (map {B = Identifier} (λ k. k.name)) c.deref.ensures.value in
+    let entry = c.deref-2.ensures.value ∙ c.in_ok-taken.ensures ∙ ap (λ (all : List Known). map {B = Identifier} (λ k. k.name) all) c.deref.ensures.value in
     of_head c.from_residual-in_err-check_head.result e _ _ _ (given.1 ∙ ap Err given.2)
     (found-function c.args.names.now (scope_of c.args.statics.now) c.args.f.now known c.in_ok-known.ensures)
     (subst (λ names. Refuses e (head_faults c.args.names.now names c.args.f.now)) entry c.in_err-check_head.ensures)
@@ -26,7 +26,7 @@ returns-in_err-check_head c =
 pub returns : goal.returns
 returns c =
     let known = c.in_ok-known.known.items in
-    let taken = c.in_ok-taken.ensures ∙ ap (map {B = Identifier} (λ k. k.name)) c.deref.ensures.value in
+    let taken = c.in_ok-taken.ensures ∙ ap (λ (all : List Known). map {B = Identifier} (λ k. k.name) all) c.deref.ensures.value in
     let none = ap (λ names. head_faults c.args.names.now names c.args.f.now) (sym (c.deref-2.ensures.value ∙ taken)) ∙ c.in_ok-check_head.ensures in
     subst (λ xs. Finds c.check_block.result xs)
     (sym (found-function c.args.names.now (scope_of c.args.statics.now) c.args.f.now known c.in_ok-known.ensures))
