@@ -1,7 +1,11 @@
 pub mod FindsLemmas
+pub mod RuleLemmas
 pub mod SortLemmas
-pub mod CallLemmas
+pub mod UnknownLemmas
+pub mod StatementLemmas
+pub mod ArgumentLemmas
+pub mod PlaceLemmas
+pub mod BlockLemmas
+pub mod ItemLemmas
 pub mod UnitLemmas
-pub mod FormLemmas
-pub mod RefusedLemmas
 mod TableLemmas

@@ -12,7 +12,7 @@ use Rattle.types.specs.Sorts.{Sort, Ref, Global, Scope}
 use Rattle.types.specs.SortRules.{SortRule, UnknownName, DeclaredTwice, SortMisfit, UnknownFunction, ArgumentCount, ReferenceCopied, BadMode, ReadOnlyWrite, sort_rules, Place, IsSorted, breaks, broken_at, broken, places, places_within, places_of, function_places, item_places, with_declared, parameter_sort}
 use Rattle.types.specs.BuiltCalls.{has_unbuilt_call, calls_unbuilt, calls_are_built, refuses, refused_at, refused, first_refused}
 use Rattle.types.specs.Faults.{Faults, Refuses, IfBroken, first, fault_of}
-use Rattle.types.proofs.RefusedLemmas.{same_refused}
+use Rattle.types.proofs.RuleLemmas.{same_refused}
 
 -- ---- one place
 

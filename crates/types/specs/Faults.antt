@@ -1,17 +1,12 @@
 -- What a check of some rules finds: the first that is broken.
 use Rattle.std.specs.Prelude.{◌≡◌, ℕ, Bool, true, false, not, ◌||◌, List, [], ◌∷◌, ◌++◌, map, flat_map, Option, Some, None, Result, Ok, Err}
-use Rattle.std.specs.List.{list_any}
-use Rattle.std.specs.Option.{is_some, is_none}
+use Rattle.std.specs.Option.{is_some}
 use Rattle.base.specs.Bytes.{Identifier}
-use Rattle.syntax.specs.declared.call.Argument.{Argument as ArgumentInMemory}
-use Rattle.syntax.specs.declared.stmt.Stmt.{Stmt as StmtInMemory}
-use Rattle.syntax.specs.declared.unit.Parameter.{Parameter as ParameterInMemory}
+use Rattle.classes.specs.Mangling.{unmangle}
 use Rattle.syntax.specs.declared.unit.Function.{Function as FunctionInMemory}
-use Rattle.syntax.specs.declared.unit.Item.{Item as ItemInMemory}
-use Rattle.syntax.specs.declared.unit.Item.TheVariants as item
-use Rattle.syntax.specs.Parts.{line_of, names_in, argument_expressions}
-use Rattle.syntax.specs.Tree.{Expr, ResultType, Stmt}
-use Rattle.syntax.specs.Views.{stmt_tree, result_tree, argument_tree, parameter_type_tree, function_tree}
+use Rattle.syntax.specs.Parts.{line_of, statements_of, names_declared}
+use Rattle.syntax.specs.Tree.{ResultType, Void, Stmt, If, IfElse, While, Item, StaticItem, FunctionItem}
+use Rattle.syntax.specs.Views.{element_tree, parameter_type_tree}
 use Rattle.types.specs.declared.fault.Fault.{Fault}
 use Rattle.types.specs.declared.fault.SortRule.{SortRule as RuleInMemory}
 use Rattle.types.specs.declared.fault.SortRule.TheVariants as rules
@@ -20,9 +15,8 @@ use Rattle.types.specs.declared.fault.TypeFault.TheVariants.{Memory, Broken}
 use Rattle.types.specs.declared.scope.Known.{Known}
 use Rattle.types.specs.declared.sort.Sort.{Sort as SortInMemory}
 use Rattle.types.specs.declared.sort.Sort.TheVariants as sorts
-use Rattle.types.specs.Sorts.{Sort, Word, Jint, Ref, Scope, sort_in}
-use Rattle.types.specs.SortRules.{SortRule, UnknownName, DeclaredTwice, SortMisfit, UnknownFunction, ArgumentCount, Place, HeadForm, StatementForm, has_name, has_repeated, parameter_sort, with_declared}
-use Rattle.classes.specs.Mangling.{unmangle}
+use Rattle.types.specs.Sorts.{Sort, Word, Jint, Flag, Truth, Ref, Global, FieldId, Buffer, Array, Scope}
+use Rattle.types.specs.SortRules.{SortRule, UnknownName, DeclaredTwice, SortMisfit, UnknownFunction, ArgumentCount, ReferenceCopied, BadMode, ReadOnlyWrite, Place, StaticForm, StatementForm, places_of, function_places, has_name, has_repeated, parameter_sort}
 use Rattle.types.specs.BuiltCalls.{refused_at}
 
 -- the rule of the definitions
@@ -32,6 +26,9 @@ rule_of rules.DeclaredTwice = DeclaredTwice
 rule_of rules.SortMisfit = SortMisfit
 rule_of rules.UnknownFunction = UnknownFunction
 rule_of rules.ArgumentCount = ArgumentCount
+rule_of rules.ReferenceCopied = ReferenceCopied
+rule_of rules.BadMode = BadMode
+rule_of rules.ReadOnlyWrite = ReadOnlyWrite
 
 -- the line and the rule
 abbrev pub fault_of : Fault → ℕ × SortRule
@@ -41,7 +38,13 @@ fault_of f = (f.line, rule_of f.rule)
 abbrev pub sort_value : SortInMemory → Sort
 sort_value sorts.Word = Word
 sort_value sorts.Jint = Jint
+sort_value sorts.Flag = Flag
+sort_value sorts.Truth = Truth
 sort_value sorts.Ref = Ref
+sort_value sorts.Global = Global
+sort_value sorts.FieldId = FieldId
+sort_value (sorts.Buffer t writable) = Buffer (element_tree t) writable
+sort_value (sorts.Array t size) = Array (element_tree t) size
 
 -- the names that are known
 abbrev pub scope_of : List Known → Scope
@@ -73,61 +76,49 @@ abbrev pub IfBroken : TypeFault → (Fault → Type 0) → Type 0
 IfBroken Memory P = Unit {0}
 IfBroken (Broken f) P = P f
 
--- ---- what is refused of a unit in memory, one rule after the other
+-- ---- what is refused at places
 
 -- the rule at this line, where it is broken
 abbrev pub broken_if : Bool → SortRule → ℕ → Faults
 broken_if true rule line = (line, rule) ∷ []
 broken_if false rule line = []
 
--- some name of an expression is not known
-abbrev pub has_unknown : Scope → Expr → Bool
-has_unknown scope e = list_any (λ x. is_none (sort_in scope x)) (names_in e)
+-- what is refused at places, in their order
+unfoldable pub found : List Place → Faults
+found places = flat_map refused_at places
 
--- the expressions that are arguments
-abbrev pub argument_values : List ArgumentInMemory → List Expr
-argument_values arguments = flat_map argument_expressions (map argument_tree arguments)
-
--- a statement of a function with this result, where these names are known and taken
+-- the place of a statement of a function with this result, where these names are known and these are taken
 abbrev pub statement_place : ResultType → Scope → List Identifier → Stmt → Place
-statement_place returns scope taken s = record { line = line_of s; known = scope; taken = taken; returns = returns; form = StatementForm s }
+statement_place returns known taken s = record { line = line_of s; known = known; taken = taken; returns = returns; form = StatementForm s }
 
--- where each name that is known is taken, and no other
-abbrev pub at_statement : ResultType → Scope → Stmt → Place
-at_statement returns scope s = statement_place returns scope (map (λ v. v.0) scope) s
+-- the places inside a statement
+abbrev pub places_inside : ResultType → Scope → List Identifier → Stmt → List Place
+places_inside returns known taken (If line test then') = places_of returns known taken then'
+places_inside returns known taken (IfElse line test then' else') = places_of returns known taken then' ++ places_of returns known (taken ++ names_declared (statements_of then')) else'
+places_inside returns known taken (While line test body) = places_of returns known taken body
+places_inside returns known taken s = []
 
--- what is refused at a statement
-unfoldable pub statement_refused : ResultType → Scope → Stmt → Faults
-statement_refused returns scope s = refused_at (at_statement returns scope s)
+-- the places of an item alone
+abbrev pub own_places : List Identifier → Scope → Item → List Place
+own_places taken statics (StaticItem s) = record { line = s.line; known = statics; taken = taken; returns = Void; form = StaticForm s } ∷ []
+own_places taken statics (FunctionItem f) = function_places taken statics f
 
--- the statements of a function without blocks inside
-abbrev pub statements_refused : ResultType → Scope → List StmtInMemory → Faults
-statements_refused returns scope [] = []
-statements_refused returns scope (s ∷ rest) = statement_refused returns scope (stmt_tree s) ++ statements_refused returns (with_declared scope (stmt_tree s)) rest
+-- the statics behind an item
+abbrev pub with_static : Scope → Item → Scope
+with_static statics (StaticItem s) = (s.name, Global) ∷ statics
+with_static statics (FunctionItem f) = statics
 
--- the place of a function's head behind the functions of these names
-abbrev pub head_place : List Identifier → FunctionInMemory → Place
-head_place taken f = record { line = f.line; known = []; taken = taken; returns = result_tree f.result; form = HeadForm (function_tree f) }
+-- what is refused at a function's head behind items of these names, where its parameters and the statics have those
+abbrev pub head_faults : List Identifier → List Identifier → FunctionInMemory → Faults
+head_faults taken entry f = broken_if (not (is_some (unmangle f.name))) UnknownName f.line ++ broken_if (has_name taken f.name || has_repeated entry) DeclaredTwice f.line
 
--- the names and sorts of parameters
-abbrev pub parameter_scope : List ParameterInMemory → Scope
-parameter_scope parameters = map (λ p. (p.name, parameter_sort (parameter_type_tree p.kind))) parameters
+-- ---- names in memory
 
--- what is known at a function's beginning
-abbrev pub entry_scope : FunctionInMemory → Scope
-entry_scope f = (f.class_name, Ref) ∷ parameter_scope f.parameters.items
+-- the list ends with the other
+pub record IsAbove (all below : List Known) : Type 0 where
+  pub above : List Known
+  pub joined : all ≡ above ++ below
 
--- a function's head behind the functions of these names
-abbrev pub head_faults : List Identifier → FunctionInMemory → Faults
-head_faults taken f =
-    broken_if (not (is_some (unmangle f.name))) UnknownName f.line
-    ++ broken_if (has_name taken f.name || has_repeated (f.class_name ∷ map (λ p. p.name) f.parameters.items)) DeclaredTwice f.line
-
--- a function behind those of these names
-abbrev pub function_refused : List Identifier → FunctionInMemory → Faults
-function_refused taken f = head_faults taken f ++ statements_refused (result_tree f.result) (entry_scope f) f.body.statements.items
-
--- items behind functions of these names
-abbrev pub items_refused : List Identifier → List ItemInMemory → Faults
-items_refused taken [] = []
-items_refused taken (item.Function f ∷ rest) = function_refused taken f ++ items_refused (taken ++ f.name ∷ []) rest
+-- what is known at a function's beginning, behind these statics
+abbrev pub entry_scope : Scope → FunctionInMemory → Scope
+entry_scope statics f = (f.class_name, Ref) ∷ map (λ p. (p.name, parameter_sort (parameter_type_tree p.kind))) f.parameters.items ++ statics

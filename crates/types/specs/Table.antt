@@ -2,28 +2,21 @@
 use Rattle.std.specs.Prelude.{ℕ, Bool, true, false, List, [], ◌∷◌, map, Option, Some, None, bytes_eq, if◌then◌else◌}
 use Rattle.std.specs.Borrow.{Bor}
 use Rattle.base.specs.Bytes.{Identifier}
-use Rattle.base.specs.Element.{ElementType, JInt, JShort, JByte, JChar}
+use Rattle.syntax.specs.Views.{element_tree}
 use Rattle.types.specs.JniFunction.{Access, ElementsCopy, ArrayView, CharsCopy, CharsView, JniFunction}
 use Rattle.types.specs.Prototype.{ParameterKind, Nullable, NonNull, ClassObject, ObjectArray, StringObject, NumberArray, LocalVariable, StaticVariable, FieldID, IntNumber, TextBytes, ArrayVariable, BufferVariable, Mode, IsCopy, ResultKind, NewLocal, NewGlobal, GivesFlag, GivesInt, GivesField, GivesNothing, GivesBuffer, prototype}
 use Rattle.types.specs.SortRules.{is_push}
 use Rattle.types.specs.BuiltCalls.{is_built_function}
-use Rattle.types.specs.declared.prototype.ElementType.{ElementType as ElementInMemory}
-use Rattle.types.specs.declared.prototype.ElementType.TheVariants as element
 use Rattle.types.specs.declared.prototype.Access.{Access as AccessInMemory}
 use Rattle.types.specs.declared.prototype.Access.TheVariants as access
 use Rattle.types.specs.declared.prototype.ParameterKind.{ParameterKind as ParameterInMemory}
 use Rattle.types.specs.declared.prototype.ParameterKind.TheVariants as parameter
 use Rattle.types.specs.declared.prototype.ResultKind.{ResultKind as ResultInMemory}
 use Rattle.types.specs.declared.prototype.ResultKind.TheVariants as results
-
-abbrev pub element_value : ElementInMemory → ElementType
-element_value element.Int = JInt
-element_value element.Short = JShort
-element_value element.Byte = JByte
-element_value element.Char = JChar
+use Rattle.types.specs.declared.prototype.Prototype.{Prototype as PrototypeInMemory}
 
 abbrev pub access_value : AccessInMemory → Access
-access_value (access.ElementsCopy t) = ElementsCopy (element_value t)
+access_value (access.ElementsCopy t) = ElementsCopy (element_tree t)
 access_value access.ArrayView = ArrayView
 access_value access.CharsCopy = CharsCopy
 access_value access.CharsView = CharsView
@@ -34,13 +27,13 @@ parameter_value parameter.NonNull = NonNull
 parameter_value parameter.ClassObject = ClassObject
 parameter_value parameter.ObjectArray = ObjectArray
 parameter_value parameter.StringObject = StringObject
-parameter_value (parameter.NumberArray t) = NumberArray (element_value t)
+parameter_value (parameter.NumberArray t) = NumberArray (element_tree t)
 parameter_value parameter.LocalVariable = LocalVariable
 parameter_value parameter.StaticVariable = StaticVariable
 parameter_value parameter.FieldID = FieldID
 parameter_value parameter.IntNumber = IntNumber
 parameter_value parameter.TextBytes = TextBytes
-parameter_value (parameter.ArrayVariable t) = ArrayVariable (element_value t)
+parameter_value (parameter.ArrayVariable t) = ArrayVariable (element_tree t)
 parameter_value (parameter.BufferVariable a) = BufferVariable (access_value a)
 parameter_value parameter.Mode = Mode
 parameter_value parameter.IsCopy = IsCopy
@@ -78,12 +71,12 @@ Row = Bor (List ℕ) × Bor (List ParameterInMemory) × ResultInMemory × Bool
 abbrev pub facts_by : List ParameterInMemory → ResultInMemory → Bool → Facts
 facts_by parameters result built = record { parameters = map parameter_value parameters; result = result_value result; pushes = is_status result; built = built }
 
-abbrev pub facts : Row → Facts
-facts row = facts_by row.1.now row.2 row.3
-
--- with its name
 abbrev pub row_value : Row → Identifier × Facts
-row_value row = (row.0.now, facts row)
+row_value row = (row.0.now, facts_by row.1.now row.2 row.3)
+
+-- the same of what is answered
+abbrev pub facts : PrototypeInMemory → Facts
+facts p = facts_by p.parameters.now p.result p.built
 
 -- what the first line for a name says
 abbrev pub row_named : List (Identifier × Facts) → Identifier → Option Facts

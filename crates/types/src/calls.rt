@@ -1,44 +1,47 @@
-//! The check of calls.
+//! What fits in a call.
 
-ghost use Rattle.std.specs.Prelude.{◌≡◌, ◌||◌, map};
+ghost use Rattle.std.specs.Prelude.{◌≡◌, ◌||◌, Some, map};
 ghost use Rattle.std.specs.List.{list_any, list_all};
-ghost use Rattle.std.specs.Option.{option_map};
-ghost use Rattle.syntax.specs.Views.{expr_tree, argument_tree};
-ghost use Rattle.types.specs.Sorts.{is_null, is_reference, name_sort, value_fits, arguments_fit};
-ghost use Rattle.types.specs.SortRules.{is_formed};
-ghost use Rattle.types.specs.Table.{parameter_value, facts};
-ghost use Rattle.types.specs.Faults.{scope_of, has_unknown, argument_values, Finds};
-ghost use Rattle.types.specs.FormFaults.{gives_number, arguments_suit, call_misfits, is_built, miscounts, function_faults, call_faults};
+ghost use Rattle.std.specs.Option.{option_map, is_none};
+ghost use Rattle.syntax.specs.Parts.{call_expressions};
+ghost use Rattle.syntax.specs.Views.{expr_tree, argument_tree, call_tree};
+ghost use Rattle.types.specs.Prototype.{function_named};
+ghost use Rattle.types.specs.Sorts.{is_null, is_reference, name_sort, value_fits, address_fits, text_fits, argument_fits, arguments_fit, call_arguments_fit};
+ghost use Rattle.types.specs.SortRules.{is_formed, is_mode, modes_fit, has_wrong_count, has_wrong_mode, result_fits, is_droppable, call_fits, may_be_dropped, may_be_tested};
+ghost use Rattle.types.specs.BuiltCalls.{is_built_call};
+ghost use Rattle.types.specs.Table.{parameter_value, result_value};
+ghost use Rattle.types.specs.Faults.{scope_of, sort_value};
+ghost use Rattle.types.specs.Unknown.{argument_unknown, call_unknown};
 
-use crate::fault::{SortRule, TypeFault, refuse_if};
-use crate::prototype::{ParameterKind, Prototype, ResultKind, prototype_named};
-use crate::scope::{Known, sort_in};
-use crate::sort::{has_unknown, is_formed, is_jint, is_null, is_ref_name};
-use syntax::{Argument, Call, Expr, Name};
+use crate::expressions::{has_unknown, is_formed, is_null, name_sort, sort_of};
+use crate::prototype::{ParameterKind, ResultKind, prototype_named};
+use crate::scope::{Known, is_unknown, sort_in};
+use crate::sort::{
+    Sort, is_array_of, is_buffer_for, is_field, is_flag, is_global, is_jint, is_ref,
+};
+use syntax::{Argument, Call, Constant, Expr, Name};
 
 /// Whether an expression is NULL or the bare name of a reference.
-#[tactic(auto, using(crate::proofs::CallLemmas::reference_rules))]
 fn is_reference(known: &[Known], e: &Expr) -> bool
     ensures { result ≡ (is_null (expr_tree e.now) || is_reference (name_sort (scope_of known.now) (expr_tree e.now))) }
 {
-    is_null(e) || is_ref_name(known, e)
+    is_null(e) || is_ref(name_sort(known, e)) || is_global(name_sort(known, e))
 }
 
 /// Whether an expression fits a parameter; a mode is judged by a rule of its own.
-#[tactic(auto, using(crate::proofs::CallLemmas::value_rules))]
 fn value_fits(known: &[Known], kind: ParameterKind, e: &Expr) -> bool
     ensures { result ≡ value_fits (scope_of known.now) (parameter_value kind) (expr_tree e.now) }
 {
     match kind {
-        ParameterKind::IntNumber => is_jint(known, e),
-        ParameterKind::Mode => true,
-        ParameterKind::IsCopy => is_null(e),
-        ParameterKind::FieldID => is_null(e),
-        ParameterKind::LocalVariable => is_ref_name(known, e),
+        ParameterKind::IntNumber => is_jint(sort_of(known, e)),
         ParameterKind::TextBytes => false,
-        ParameterKind::StaticVariable => false,
-        ParameterKind::ArrayVariable(_) => false,
-        ParameterKind::BufferVariable(_) => false,
+        ParameterKind::IsCopy => is_null(e),
+        ParameterKind::Mode => true,
+        ParameterKind::LocalVariable => is_ref(name_sort(known, e)),
+        ParameterKind::StaticVariable => is_global(name_sort(known, e)),
+        ParameterKind::FieldID => is_null(e) || is_field(name_sort(known, e)),
+        ParameterKind::ArrayVariable(element) => is_array_of(element, name_sort(known, e)),
+        ParameterKind::BufferVariable(access) => is_buffer_for(access, name_sort(known, e)),
         ParameterKind::Nullable => is_reference(known, e),
         ParameterKind::NonNull => is_reference(known, e),
         ParameterKind::ClassObject => is_reference(known, e),
@@ -48,140 +51,203 @@ fn value_fits(known: &[Known], kind: ParameterKind, e: &Expr) -> bool
     }
 }
 
+/// Whether a string may stand for a parameter.
+fn text_fits(kind: ParameterKind) -> bool
+    ensures { result ≡ text_fits (parameter_value kind) }
+{
+    matches!(kind, ParameterKind::TextBytes | ParameterKind::Mode)
+}
+
+/// Whether the address of a variable may stand for a parameter.
+fn address_fits(known: &[Known], kind: ParameterKind, name: &Name) -> bool
+    ensures { result ≡ address_fits (scope_of known.now) (parameter_value kind) name.now }
+{
+    match kind {
+        ParameterKind::IsCopy => is_flag(sort_in(known, name)),
+        ParameterKind::Mode => true,
+        _ => false,
+    }
+}
+
+/// Whether an argument fits its parameter.
+fn argument_fits(known: &[Known], kind: ParameterKind, argument: &Argument) -> bool
+    ensures { result ≡ argument_fits (scope_of known.now) (parameter_value kind) (argument_tree argument.now) }
+{
+    match argument {
+        Argument::Value(e) => value_fits(known, kind, e),
+        Argument::Text(_) => text_fits(kind),
+        Argument::AddressOf(x) => address_fits(known, kind, x),
+    }
+}
+
 /// Whether the arguments fit the parameters, as far as there are both.
-#[tactic(auto, using(crate::proofs::CallLemmas::argument_rules))]
+#[tactic(auto, using(crate::proofs::ArgumentLemmas::argument_rules))]
 fn arguments_fit(known: &[Known], kinds: &[ParameterKind], arguments: &[Argument]) -> bool
     ensures { result ≡ arguments_fit (scope_of known.now) (map parameter_value kinds.now) (map argument_tree arguments.now) }
 {
     match arguments {
         [] => true,
-        [Argument::Value(e), arguments @ ..] => match kinds {
+        [argument, arguments @ ..] => match kinds {
             [] => true,
-            [kind, kinds @ ..] => value_fits(known, *kind, e)
+            [kind, kinds @ ..] => argument_fits(known, *kind, argument)
                 && arguments_fit(known, kinds, arguments),
         },
     }
 }
 
-/// Whether some name in the arguments is not known.
-#[tactic(auto, using(crate::proofs::SortLemmas::name_rules))]
-fn arguments_unknown(known: &[Known], arguments: &[Argument]) -> bool
-    ensures { result ≡ list_any (has_unknown (scope_of known.now)) (argument_values arguments.now) }
+/// Whether an argument is a release mode.
+fn is_mode(argument: &Argument) -> bool
+    ensures { result ≡ is_mode (argument_tree argument.now) }
 {
-    for argument in arguments {
-        let Argument::Value(e) = argument;
-        if has_unknown(known, e) {
+    match argument {
+        Argument::Value(Expr::Number { value, unsigned }) => *value == 0 && !*unsigned,
+        Argument::Value(Expr::Named(Constant::Commit | Constant::Abort)) => true,
+        _ => false,
+    }
+}
+
+/// Whether each mode among the arguments is one, as far as there are parameters too.
+#[tactic(auto, using(crate::proofs::ArgumentLemmas::argument_rules))]
+fn modes_fit(kinds: &[ParameterKind], arguments: &[Argument]) -> bool
+    ensures { result ≡ modes_fit (map parameter_value kinds.now) (map argument_tree arguments.now) }
+{
+    match arguments {
+        [] => true,
+        [argument, arguments @ ..] => match kinds {
+            [] => true,
+            [ParameterKind::Mode, kinds @ ..] => {
+                is_mode(argument) && modes_fit(kinds, arguments)
+            }
+            [_, kinds @ ..] => modes_fit(kinds, arguments),
+        },
+    }
+}
+
+/// Whether a call's arguments fit, as far as its function is known.
+pub(crate) fn call_arguments_fit(known: &[Known], call: &Call) -> bool
+    ensures { result ≡ call_arguments_fit (scope_of known.now) (call_tree call.now) (function_named call.now.function) }
+{
+    match prototype_named(call.function.as_bytes()) {
+        None => true,
+        Some(prototype) => arguments_fit(known, prototype.parameters, &call.arguments),
+    }
+}
+
+/// Whether a call is of a function that can be called today.
+pub(crate) fn is_built(call: &Call) -> bool
+    ensures { result ≡ is_built_call (call_tree call.now) }
+{
+    match prototype_named(call.function.as_bytes()) {
+        None => false,
+        Some(prototype) => prototype.built,
+    }
+}
+
+/// Whether a call has a wrong number of arguments.
+pub(crate) fn has_wrong_count(call: &Call) -> bool
+    ensures { result ≡ has_wrong_count (call_tree call.now) (function_named call.now.function) }
+{
+    match prototype_named(call.function.as_bytes()) {
+        None => false,
+        Some(prototype) => call.arguments.len() != prototype.parameters.len(),
+    }
+}
+
+/// Whether a call has a mode that is none.
+pub(crate) fn has_wrong_mode(call: &Call) -> bool
+    ensures { result ≡ has_wrong_mode (call_tree call.now) (function_named call.now.function) }
+{
+    match prototype_named(call.function.as_bytes()) {
+        None => false,
+        Some(prototype) => !modes_fit(prototype.parameters, &call.arguments),
+    }
+}
+
+/// Whether a result fits where a variable of a sort is set.
+fn result_fits(sort: Option<Sort>, kind: ResultKind) -> bool
+    ensures { result ≡ result_fits (option_map sort_value sort) (result_value kind) }
+{
+    match kind {
+        ResultKind::GivesNothing => false,
+        ResultKind::GivesInt | ResultKind::GivesFrameStatus => is_jint(sort),
+        ResultKind::GivesFlag => is_flag(sort),
+        ResultKind::NewLocal => is_ref(sort),
+        ResultKind::NewGlobal => is_global(sort),
+        ResultKind::GivesField => is_field(sort),
+        ResultKind::GivesBuffer(access) => is_buffer_for(access, sort),
+    }
+}
+
+/// Whether a variable of a sort may be set to a call, as far as its function is known.
+pub(crate) fn call_fits(sort: Option<Sort>, call: &Call) -> bool
+    ensures { result ≡ call_fits (option_map sort_value sort) (function_named call.now.function) }
+{
+    match prototype_named(call.function.as_bytes()) {
+        None => true,
+        Some(prototype) => match prototype.result {
+            ResultKind::GivesFrameStatus => false,
+            kind => result_fits(sort, kind),
+        },
+    }
+}
+
+/// Whether a call may stand as a statement, as far as its function is known.
+pub(crate) fn may_be_dropped(call: &Call) -> bool
+    ensures { result ≡ may_be_dropped (function_named call.now.function) }
+{
+    match prototype_named(call.function.as_bytes()) {
+        None => true,
+        Some(prototype) => match prototype.result {
+            ResultKind::GivesFrameStatus | ResultKind::NewGlobal | ResultKind::GivesBuffer(_) =>
+                false,
+            _ => true,
+        },
+    }
+}
+
+/// Whether a call may be tested for 0, as far as its function is known.
+pub(crate) fn may_be_tested(call: &Call) -> bool
+    ensures { result ≡ may_be_tested (function_named call.now.function) }
+{
+    match prototype_named(call.function.as_bytes()) {
+        None => true,
+        Some(prototype) => matches!(prototype.result, ResultKind::GivesFrameStatus),
+    }
+}
+
+/// Whether some name of an argument is not known.
+fn argument_unknown(known: &[Known], argument: &Argument) -> bool
+    ensures { result ≡ argument_unknown (scope_of known.now) (argument_tree argument.now) }
+{
+    match argument {
+        Argument::Value(e) => has_unknown(known, e),
+        Argument::Text(_) => false,
+        Argument::AddressOf(x) => is_unknown(known, x),
+    }
+}
+
+/// Whether some name in a call is not known.
+pub(crate) fn call_unknown(known: &[Known], call: &Call) -> bool
+    ensures { result ≡ call_unknown (scope_of known.now) (call_tree call.now) }
+{
+    for argument in &call.arguments {
+        if argument_unknown(known, argument) {
             return true;
         }
     }
     false
 }
 
-/// Whether each argument is a bare name or constant, or has a sort.
-fn arguments_formed(known: &[Known], arguments: &[Argument]) -> bool
-    ensures { result ≡ list_all (is_formed (scope_of known.now)) (argument_values arguments.now) }
+/// Whether each expression in a call is a bare name or constant, or has a sort.
+pub(crate) fn call_formed(known: &[Known], call: &Call) -> bool
+    ensures { result ≡ list_all (is_formed (scope_of known.now)) (call_expressions (call_tree call.now)) }
 {
-    for argument in arguments {
-        let Argument::Value(e) = argument;
-        if !is_formed(known, e) {
-            return false;
+    for argument in &call.arguments {
+        if let Argument::Value(e) = argument {
+            if !is_formed(known, e) {
+                return false;
+            }
         }
     }
     true
-}
-
-/// Whether a call gives a number, as far as its function is known.
-fn gives_number(prototype: Option<Prototype>) -> bool
-    ensures { result ≡ gives_number (option_map facts prototype.entry) }
-{
-    match prototype {
-        None => true,
-        Some((_, _, result_kind, _)) => matches!(result_kind, ResultKind::GivesInt),
-    }
-}
-
-/// Whether the arguments of a call fit, as far as its function is known.
-fn arguments_suit(known: &[Known], prototype: Option<Prototype>, arguments: &[Argument]) -> bool
-    ensures { result ≡ arguments_suit (scope_of known.now) (option_map facts prototype.entry) arguments.now }
-{
-    match prototype {
-        None => true,
-        Some((_, kinds, _, _)) => arguments_fit(known, kinds, arguments),
-    }
-}
-
-/// Whether a call that a number is set to does not fit.
-fn call_misfits(known: &[Known], prototype: Option<Prototype>, arguments: &[Argument]) -> bool
-    ensures { result ≡ call_misfits (scope_of known.now) (option_map facts prototype.entry) arguments.now }
-{
-    !arguments_formed(known, arguments)
-        || !gives_number(prototype)
-        || !arguments_suit(known, prototype, arguments)
-}
-
-/// Whether a function is known and built.
-fn is_built(prototype: Option<Prototype>) -> bool
-    ensures { result ≡ is_built (option_map facts prototype.entry) }
-{
-    match prototype {
-        None => false,
-        Some((_, _, _, built)) => built,
-    }
-}
-
-/// Whether a call has a wrong number of arguments.
-fn miscounts(prototype: Option<Prototype>, arguments: &[Argument]) -> bool
-    ensures { result ≡ miscounts (option_map facts prototype.entry) arguments.now }
-{
-    match prototype {
-        None => false,
-        Some((_, kinds, _, _)) => arguments.len() != kinds.len(),
-    }
-}
-
-/// The function of a call, and the number of its arguments.
-#[tactic(auto, using(crate::proofs::FindsLemmas::finds_rules))]
-fn check_function(
-    prototype: Option<Prototype>,
-    arguments: &[Argument],
-    line: usize,
-) -> Result<(), TypeFault>
-    ensures { Finds result (function_faults (option_map facts prototype.entry) arguments.now line) }
-{
-    refuse_if(!is_built(prototype), SortRule::UnknownFunction, line)?;
-    refuse_if(
-        miscounts(prototype, arguments),
-        SortRule::ArgumentCount,
-        line,
-    )
-}
-
-/// A number that is set to a call.
-#[tactic(auto, using(crate::proofs::FindsLemmas::finds_rules))]
-pub(crate) fn check_call(
-    known: &[Known],
-    name: &Name,
-    call: &Call,
-    line: usize,
-) -> Result<(), TypeFault>
-    ensures { Finds result (call_faults (scope_of known.now) name.now call.now line) }
-{
-    let arguments = call.arguments.as_slice();
-    refuse_if(
-        arguments_unknown(known, arguments),
-        SortRule::UnknownName,
-        line,
-    )?;
-    refuse_if(
-        sort_in(known, name).is_some(),
-        SortRule::DeclaredTwice,
-        line,
-    )?;
-    let prototype = prototype_named(call.function.as_bytes());
-    refuse_if(
-        call_misfits(known, prototype, arguments),
-        SortRule::SortMisfit,
-        line,
-    )?;
-    check_function(prototype, arguments, line)
 }

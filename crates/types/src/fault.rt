@@ -14,7 +14,7 @@ pub enum SortRule {
     /// A function's name is that of no native method (JNI Specification, chapter 2, "Resolving Native Method Names"), or
     /// a name in an expression is not known.
     UnknownName,
-    /// Two functions, two parameters, or a parameter and a variable have one name.
+    /// A name is declared twice in a function and its statics, or two items have one name.
     DeclaredTwice,
     /// A sort does not fit.
     SortMisfit,
@@ -22,6 +22,12 @@ pub enum SortRule {
     UnknownFunction,
     /// A call has another number of arguments than its function has parameters.
     ArgumentCount,
+    /// A name stands where a local reference is set.
+    ReferenceCopied,
+    /// A release mode is none.
+    BadMode,
+    /// A buffer that may only be read is written.
+    ReadOnlyWrite,
 }
 
 impl SortRule {
@@ -35,6 +41,9 @@ impl SortRule {
             SortRule::SortMisfit => 23,
             SortRule::UnknownFunction => 24,
             SortRule::ArgumentCount => 25,
+            SortRule::ReferenceCopied => 26,
+            SortRule::BadMode => 27,
+            SortRule::ReadOnlyWrite => 28,
         }
     }
 }

@@ -1,12 +1,15 @@
 //! The sorts of a program's expressions, and the functions of the JNI.
 #![tactic(auto)]
 
+mod blocks;
 mod calls;
-mod checker;
+mod expressions;
 mod fault;
+mod items;
 mod prototype;
 mod scope;
 mod sort;
+mod statements;
 #[cfg(test)]
 mod tests;
 mod typed;

@@ -6,7 +6,6 @@ ghost use Rattle.types.specs.Prototype.{function_named};
 ghost use Rattle.types.specs.Table.{facts, facts_of, row_value, row_named};
 
 use Access::{ArrayView, CharsCopy, CharsView, ElementsCopy};
-use ElementType::{Byte, Char, Int, Short};
 use ParameterKind::{
     ArrayVariable, BufferVariable, ClassObject, FieldID, IntNumber, IsCopy, LocalVariable, Mode,
     NonNull, Nullable, NumberArray, ObjectArray, StaticVariable, StringObject, TextBytes,
@@ -15,15 +14,8 @@ use ResultKind::{
     GivesBuffer, GivesField, GivesFlag, GivesFrameStatus, GivesInt, GivesNothing, NewGlobal,
     NewLocal,
 };
-
-/// The types of numbers in arrays, buffers and fields.
-#[derive(Clone, Copy, Debug, PartialEq, Eq)]
-pub(crate) enum ElementType {
-    Int,
-    Short,
-    Byte,
-    Char,
-}
+use syntax::ElementType;
+use syntax::ElementType::{Jbyte, Jchar, Jint, Jshort};
 
 /// How a buffer comes to an array's elements or a string's units.
 #[derive(Clone, Copy, Debug, PartialEq, Eq)]
@@ -68,10 +60,19 @@ pub(crate) enum ResultKind {
     GivesBuffer(Access),
 }
 
-/// A function's name, parameters and result, and whether it can be called today.
-pub(crate) type Prototype = (&'static [u8], &'static [ParameterKind], ResultKind, bool);
+/// What the rules ask of a function.
+#[derive(Clone, Copy, Debug)]
+pub(crate) struct Prototype {
+    pub parameters: &'static [ParameterKind],
+    pub result: ResultKind,
+    /// Whether it can be called today.
+    pub built: bool,
+}
 
-const PROTOTYPES: [Prototype; 77] = [
+/// A function's name, parameters and result, and whether it can be called today.
+type Row = (&'static [u8], &'static [ParameterKind], ResultKind, bool);
+
+const PROTOTYPES: [Row; 77] = [
     (b"FindClass", &[TextBytes], NewLocal, false),
     (b"GetSuperclass", &[ClassObject], NewLocal, false),
     (b"GetObjectClass", &[NonNull], NewLocal, false),
@@ -145,7 +146,7 @@ const PROTOTYPES: [Prototype; 77] = [
     (b"GetStringLength", &[StringObject], GivesInt, false),
     (
         b"GetStringRegion",
-        &[StringObject, IntNumber, IntNumber, ArrayVariable(Char)],
+        &[StringObject, IntNumber, IntNumber, ArrayVariable(Jchar)],
         GivesNothing,
         false,
     ),
@@ -179,25 +180,25 @@ const PROTOTYPES: [Prototype; 77] = [
     (b"NewIntArray", &[IntNumber], NewLocal, false),
     (
         b"GetIntArrayRegion",
-        &[NumberArray(Int), IntNumber, IntNumber, ArrayVariable(Int)],
+        &[NumberArray(Jint), IntNumber, IntNumber, ArrayVariable(Jint)],
         GivesNothing,
         false,
     ),
     (
         b"SetIntArrayRegion",
-        &[NumberArray(Int), IntNumber, IntNumber, ArrayVariable(Int)],
+        &[NumberArray(Jint), IntNumber, IntNumber, ArrayVariable(Jint)],
         GivesNothing,
         false,
     ),
     (
         b"GetIntArrayElements",
-        &[NumberArray(Int), IsCopy],
-        GivesBuffer(ElementsCopy(Int)),
+        &[NumberArray(Jint), IsCopy],
+        GivesBuffer(ElementsCopy(Jint)),
         false,
     ),
     (
         b"ReleaseIntArrayElements",
-        &[NumberArray(Int), BufferVariable(ElementsCopy(Int)), Mode],
+        &[NumberArray(Jint), BufferVariable(ElementsCopy(Jint)), Mode],
         GivesNothing,
         false,
     ),
@@ -224,10 +225,10 @@ const PROTOTYPES: [Prototype; 77] = [
     (
         b"GetShortArrayRegion",
         &[
-            NumberArray(Short),
+            NumberArray(Jshort),
             IntNumber,
             IntNumber,
-            ArrayVariable(Short),
+            ArrayVariable(Jshort),
         ],
         GivesNothing,
         false,
@@ -235,25 +236,25 @@ const PROTOTYPES: [Prototype; 77] = [
     (
         b"SetShortArrayRegion",
         &[
-            NumberArray(Short),
+            NumberArray(Jshort),
             IntNumber,
             IntNumber,
-            ArrayVariable(Short),
+            ArrayVariable(Jshort),
         ],
         GivesNothing,
         false,
     ),
     (
         b"GetShortArrayElements",
-        &[NumberArray(Short), IsCopy],
-        GivesBuffer(ElementsCopy(Short)),
+        &[NumberArray(Jshort), IsCopy],
+        GivesBuffer(ElementsCopy(Jshort)),
         false,
     ),
     (
         b"ReleaseShortArrayElements",
         &[
-            NumberArray(Short),
-            BufferVariable(ElementsCopy(Short)),
+            NumberArray(Jshort),
+            BufferVariable(ElementsCopy(Jshort)),
             Mode,
         ],
         GivesNothing,
@@ -281,25 +282,39 @@ const PROTOTYPES: [Prototype; 77] = [
     (b"NewByteArray", &[IntNumber], NewLocal, false),
     (
         b"GetByteArrayRegion",
-        &[NumberArray(Byte), IntNumber, IntNumber, ArrayVariable(Byte)],
+        &[
+            NumberArray(Jbyte),
+            IntNumber,
+            IntNumber,
+            ArrayVariable(Jbyte),
+        ],
         GivesNothing,
         false,
     ),
     (
         b"SetByteArrayRegion",
-        &[NumberArray(Byte), IntNumber, IntNumber, ArrayVariable(Byte)],
+        &[
+            NumberArray(Jbyte),
+            IntNumber,
+            IntNumber,
+            ArrayVariable(Jbyte),
+        ],
         GivesNothing,
         false,
     ),
     (
         b"GetByteArrayElements",
-        &[NumberArray(Byte), IsCopy],
-        GivesBuffer(ElementsCopy(Byte)),
+        &[NumberArray(Jbyte), IsCopy],
+        GivesBuffer(ElementsCopy(Jbyte)),
         false,
     ),
     (
         b"ReleaseByteArrayElements",
-        &[NumberArray(Byte), BufferVariable(ElementsCopy(Byte)), Mode],
+        &[
+            NumberArray(Jbyte),
+            BufferVariable(ElementsCopy(Jbyte)),
+            Mode,
+        ],
         GivesNothing,
         false,
     ),
@@ -325,25 +340,39 @@ const PROTOTYPES: [Prototype; 77] = [
     (b"NewCharArray", &[IntNumber], NewLocal, false),
     (
         b"GetCharArrayRegion",
-        &[NumberArray(Char), IntNumber, IntNumber, ArrayVariable(Char)],
+        &[
+            NumberArray(Jchar),
+            IntNumber,
+            IntNumber,
+            ArrayVariable(Jchar),
+        ],
         GivesNothing,
         false,
     ),
     (
         b"SetCharArrayRegion",
-        &[NumberArray(Char), IntNumber, IntNumber, ArrayVariable(Char)],
+        &[
+            NumberArray(Jchar),
+            IntNumber,
+            IntNumber,
+            ArrayVariable(Jchar),
+        ],
         GivesNothing,
         false,
     ),
     (
         b"GetCharArrayElements",
-        &[NumberArray(Char), IsCopy],
-        GivesBuffer(ElementsCopy(Char)),
+        &[NumberArray(Jchar), IsCopy],
+        GivesBuffer(ElementsCopy(Jchar)),
         false,
     ),
     (
         b"ReleaseCharArrayElements",
-        &[NumberArray(Char), BufferVariable(ElementsCopy(Char)), Mode],
+        &[
+            NumberArray(Jchar),
+            BufferVariable(ElementsCopy(Jchar)),
+            Mode,
+        ],
         GivesNothing,
         false,
     ),
@@ -386,12 +415,16 @@ const PROTOTYPES: [Prototype; 77] = [
 ];
 
 /// The first line for a name.
-fn row_named(mut rows: &[Prototype], name: &[u8]) -> Option<Prototype>
+fn row_named(mut rows: &[Row], name: &[u8]) -> Option<Prototype>
     ensures { option_map facts result ≡ row_named (map row_value rows.entry.now) name.now }
 {
     while let [row, rest @ ..] = rows {
         if row.0 == name {
-            return Some(*row);
+            return Some(Prototype {
+                parameters: row.1,
+                result: row.2,
+                built: row.3,
+            });
         }
         rows = rest;
     }

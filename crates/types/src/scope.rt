@@ -1,15 +1,14 @@
-//! The names that are known at a place of a function.
+//! The names that are known at a place of a function, and those that are taken.
 
-ghost use Rattle.std.specs.Prelude.{◌≡◌, ◌∷◌, IfOk, OnOk, map, bytes_eq, ℕ};
-ghost use Rattle.std.specs.Option.{option_map};
-ghost use Rattle.syntax.specs.Views.{parameter_type_tree, form_tree};
+ghost use Rattle.std.specs.Prelude.{◌≡◌, ◌-◌, [], ◌∷◌, ◌++◌, IfOk, OnOk, map, drop, length, bytes_eq};
+ghost use Rattle.std.specs.Option.{option_map, is_none};
 ghost use Rattle.types.specs.Sorts.{sort_in};
-ghost use Rattle.types.specs.SortRules.{has_name, has_repeated, parameter_sort, with_declared};
-ghost use Rattle.types.specs.Faults.{scope_of, sort_value, entry_scope};
+ghost use Rattle.types.specs.SortRules.{has_name, has_repeated};
+ghost use Rattle.types.specs.Faults.{IsAbove, scope_of, sort_value, entry_scope};
 
-use crate::sort::Sort;
+use crate::sort::{Sort, parameter_sort};
 use std::alloc::{AllocError, Global};
-use syntax::{Form, Function, Name, Parameter, ParameterType, VariableType};
+use syntax::{Function, Name};
 
 /// A name that is known, and its sort.
 #[derive(Debug, Drop)]
@@ -19,7 +18,7 @@ pub(crate) struct Known {
 }
 
 /// Whether two names are spelled alike.
-pub(crate) fn is_same(a: &Name, b: &Name) -> bool
+fn is_same(a: &Name, b: &Name) -> bool
     ensures { result ≡ bytes_eq a.now b.now }
 {
     a.is_same(b)
@@ -37,39 +36,71 @@ pub(crate) fn sort_in(known: &[Known], name: &Name) -> Option<Sort>
     None
 }
 
+/// Whether a name is not known.
+pub(crate) fn is_unknown(known: &[Known], name: &Name) -> bool
+    ensures { result ≡ is_none (sort_in (scope_of known.now) name.now) }
+{
+    sort_in(known, name).is_none()
+}
+
+/// Whether one of the names is this one.
+pub(crate) fn has_name(names: &[Name], name: &Name) -> bool
+    ensures { result ≡ has_name names.now name.now }
+{
+    names.iter().any(|x| is_same(name, x))
+}
+
+/// Whether two of the names are spelled alike.
+pub(crate) fn has_repeated(names: &[Name]) -> bool
+    ensures { result ≡ has_repeated names.now }
+{
+    for (i, name) in names.iter().enumerate() {
+        if has_name(&names[i + 1..], name) {
+            return true;
+        }
+    }
+    false
+}
+
+/// One name more is taken.
+pub(crate) fn take(alloc: Global, taken: &mut Vec<Name>, name: &Name) -> Result<(), AllocError>
+    ensures { OnOk result (taken.new.items ≡ taken.old.items ++ name.now ∷ []) }
+{
+    taken.push(Name::new(alloc, name.as_bytes())?)?;
+    Ok(())
+}
+
 /// One name more is known. The youngest stand first.
-fn push(alloc: Global, known: &mut Vec<Known>, name: &Name, sort: Sort) -> Result<(), AllocError>
-    ensures { OnOk result (scope_of known.new.items ≡ (name.now, sort_value sort) ∷ scope_of known.old.items) }
+pub(crate) fn learn(
+    alloc: Global,
+    known: &mut Vec<Known>,
+    name: &Name,
+    sort: Sort,
+) -> Result<(), AllocError>
+    ensures scope { OnOk result (scope_of known.new.items ≡ (name.now, sort_value sort) ∷ scope_of known.old.items) }
+    ensures above { OnOk result (IsAbove known.new.items known.old.items) }
 {
     let name = Name::new(alloc, name.as_bytes())?;
     known.insert(0, Known { name, sort })?;
     Ok(())
 }
 
-/// What is known after a statement.
-pub(crate) fn declare(alloc: Global, known: &mut Vec<Known>, form: &Form) -> Result<(), AllocError>
-    ensures { OnOk result ((line : ℕ) → scope_of known.new.items ≡ with_declared (scope_of known.old.items) (form_tree line form.now)) }
+/// Only this many of the names stay known, the oldest.
+pub(crate) fn forget(known: &mut Vec<Known>, count: usize)
+    ensures { known.new.items ≡ drop (length known.old.items - count) known.old.items }
 {
-    match form {
-        Form::Declare(VariableType::Jint, name, _) => push(alloc, known, name, Sort::Jint),
-        Form::PutJint(_) => Ok(()),
-        Form::Return(None) => Ok(()),
-        Form::Return(Some(_)) => Ok(()),
+    while known.len() > count {
+        known.remove(0);
     }
 }
 
-fn parameter_sort(kind: ParameterType) -> Sort
-    ensures { sort_value result ≡ parameter_sort (parameter_type_tree kind) }
-{
-    match kind {
-        ParameterType::Jint => Sort::Jint,
-        ParameterType::Reference(_) => Sort::Ref,
-    }
-}
-
-/// What is known at a function's beginning.
-pub(crate) fn known_at_entry(alloc: Global, f: &Function) -> Result<Vec<Known>, AllocError>
-    ensures { IfOk result (λ known. scope_of known.items ≡ entry_scope f.now) }
+/// What is known at a function's beginning, behind these statics.
+pub(crate) fn known_at_entry(
+    alloc: Global,
+    statics: &[Known],
+    f: &Function,
+) -> Result<Vec<Known>, AllocError>
+    ensures { IfOk result (λ known. scope_of known.items ≡ entry_scope (scope_of statics.now) f.now) }
 {
     let mut known = Vec::new(alloc);
     known.push(Known {
@@ -82,36 +113,22 @@ pub(crate) fn known_at_entry(alloc: Global, f: &Function) -> Result<Vec<Known>, 
             sort: parameter_sort(p.kind),
         })?;
     }
+    for k in statics {
+        known.push(Known {
+            name: Name::new(alloc, k.name.as_bytes())?,
+            sort: k.sort,
+        })?;
+    }
     Ok(known)
 }
 
-/// Whether one of the parameters has this name.
-fn is_parameter(parameters: &[Parameter], name: &Name) -> bool
-    ensures { result ≡ has_name (map (λ p. p.name) parameters.now) name.now }
+/// The names that these give.
+pub(crate) fn names_of(alloc: Global, known: &[Known]) -> Result<Vec<Name>, AllocError>
+    ensures { IfOk result (λ names. names.items ≡ map (λ k. k.name) known.now) }
 {
-    for p in parameters {
-        if is_same(name, &p.name) {
-            return true;
-        }
+    let mut names = Vec::new(alloc);
+    for k in known {
+        take(alloc, &mut names, &k.name)?;
     }
-    false
-}
-
-/// Whether two of the parameters have one name.
-fn has_repeated(parameters: &[Parameter]) -> bool
-    ensures { result ≡ has_repeated (map (λ p. p.name) parameters.now) }
-{
-    for (i, p) in parameters.iter().enumerate() {
-        if is_parameter(&parameters[i + 1..], &p.name) {
-            return true;
-        }
-    }
-    false
-}
-
-/// Whether two of a function's parameters have one name, that for the class among them.
-pub(crate) fn repeats_parameter(f: &Function) -> bool
-    ensures { result ≡ has_repeated (f.now.class_name ∷ map (λ p. p.name) f.now.parameters.items) }
-{
-    is_parameter(&f.parameters, &f.class_name) || has_repeated(&f.parameters)
+    Ok(names)
 }

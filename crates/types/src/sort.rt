@@ -1,113 +1,176 @@
-//! Sorts of expressions.
+//! Sorts of names and expressions.
 
 ghost use Rattle.std.specs.Prelude.{◌≡◌};
 ghost use Rattle.std.specs.Option.{option_map};
-ghost use Rattle.syntax.specs.Views.{expr_tree, prefix_tree};
-ghost use Rattle.types.specs.Sorts.{sort_of, prefix_sort, binary_sort, is_jint, is_ref, is_null, name_sort, OnWords};
-ghost use Rattle.types.specs.SortRules.{is_formed};
-ghost use Rattle.types.specs.Faults.{sort_value, scope_of, has_unknown};
+ghost use Rattle.base.specs.Element.{same_element};
+ghost use Rattle.syntax.specs.Views.{element_tree, variable_type_tree, parameter_type_tree};
+ghost use Rattle.types.specs.Sorts.{is_word, is_jint, is_flag, is_truth, is_ref, is_global, is_field, is_index, is_castable, has_elements, is_nullable, is_array_of, is_buffer_for, is_read_only};
+ghost use Rattle.types.specs.SortRules.{variable_sort, parameter_sort};
+ghost use Rattle.types.specs.Table.{access_value};
+ghost use Rattle.types.specs.Faults.{sort_value};
 
-use crate::scope::{Known, sort_in};
-use syntax::{Constant, Expr, PrefixOp};
+use crate::prototype::Access;
+use syntax::{ElementType, ParameterType, VariableType};
 
-/// What an expression gives.
+/// What a name or an expression is.
 #[derive(Clone, Copy, Debug, PartialEq, Eq)]
 pub(crate) enum Sort {
     /// A number from 0 to 4294967295.
     Word,
     /// A number from -2147483648 to 2147483647.
     Jint,
+    /// A `jboolean`.
+    Flag,
+    /// What comparisons and logic give, which no variable holds.
+    Truth,
     /// A local reference.
     Ref,
+    /// A reference that all functions share.
+    Global,
+    FieldId,
+    /// A buffer, and whether it may be written.
+    Buffer(ElementType, bool),
+    /// A local array, and its size.
+    Array(ElementType, u32),
 }
 
-fn prefix_sort(op: PrefixOp, sort: Sort) -> Option<Sort>
-    ensures { option_map sort_value result ≡ prefix_sort (prefix_tree op) (Some (sort_value sort)) }
+pub(crate) fn is_word(sort: Option<Sort>) -> bool
+    ensures { result ≡ is_word (option_map sort_value sort) }
 {
-    match (op, sort) {
-        (_, Sort::Ref) => None,
-        (PrefixOp::Complement, Sort::Word) => Some(Sort::Word),
-        (PrefixOp::Complement, Sort::Jint) => None,
-        (PrefixOp::ToWord, _) => Some(Sort::Word),
-        (PrefixOp::ToInt, _) => Some(Sort::Jint),
-    }
+    matches!(sort, Some(Sort::Word))
 }
 
-/// The sort of the operators that take two words.
-fn words_sort(left: Sort, right: Sort) -> Option<Sort>
-    ensures { option_map sort_value result ≡ binary_sort OnWords (Some (sort_value left)) (Some (sort_value right)) }
+pub(crate) fn is_jint(sort: Option<Sort>) -> bool
+    ensures { result ≡ is_jint (option_map sort_value sort) }
 {
-    match (left, right) {
-        (Sort::Word, Sort::Word) => Some(Sort::Word),
-        _ => None,
-    }
+    matches!(sort, Some(Sort::Jint))
 }
 
-/// The sort of an expression, if it has one. NULL has none.
-#[tactic(auto, using(crate::proofs::SortLemmas::sort_rules))]
-pub(crate) fn sort_of(known: &[Known], e: &Expr) -> Option<Sort>
-    ensures { option_map sort_value result ≡ sort_of (scope_of known.now) (expr_tree e.now) }
+pub(crate) fn is_flag(sort: Option<Sort>) -> bool
+    ensures { result ≡ is_flag (option_map sort_value sort) }
 {
-    match e {
-        Expr::Number { unsigned, .. } => Some(if *unsigned { Sort::Word } else { Sort::Jint }),
-        Expr::Named(Constant::Null) => None,
-        Expr::Variable(x) => sort_in(known, x),
-        Expr::Prefix(op, a) => prefix_sort(*op, sort_of(known, a)?),
-        Expr::Binary(_, a, b) => {
-            let left = sort_of(known, a)?;
-            let right = sort_of(known, b)?;
-            words_sort(left, right)
-        }
-        Expr::Paren(a) => sort_of(known, a),
-    }
+    matches!(sort, Some(Sort::Flag))
 }
 
-/// Whether an expression gives a jint.
-#[tactic(auto, using(crate::proofs::SortLemmas::test_rules))]
-pub(crate) fn is_jint(known: &[Known], e: &Expr) -> bool
-    ensures { result ≡ is_jint (sort_of (scope_of known.now) (expr_tree e.now)) }
+pub(crate) fn is_truth(sort: Option<Sort>) -> bool
+    ensures { result ≡ is_truth (option_map sort_value sort) }
 {
-    matches!(sort_of(known, e), Some(Sort::Jint))
+    matches!(sort, Some(Sort::Truth))
 }
 
-/// Whether an expression is a bare name or constant, or has a sort.
-#[tactic(auto, using(crate::proofs::SortLemmas::test_rules))]
-pub(crate) fn is_formed(known: &[Known], e: &Expr) -> bool
-    ensures { result ≡ is_formed (scope_of known.now) (expr_tree e.now) }
+pub(crate) fn is_ref(sort: Option<Sort>) -> bool
+    ensures { result ≡ is_ref (option_map sort_value sort) }
 {
-    match e {
-        Expr::Named(_) | Expr::Variable(_) => true,
-        _ => sort_of(known, e).is_some(),
-    }
+    matches!(sort, Some(Sort::Ref))
 }
 
-/// Whether some name of an expression is not known.
-#[tactic(auto, using(crate::proofs::SortLemmas::name_rules))]
-pub(crate) fn has_unknown(known: &[Known], e: &Expr) -> bool
-    ensures { result ≡ has_unknown (scope_of known.now) (expr_tree e.now) }
+pub(crate) fn is_global(sort: Option<Sort>) -> bool
+    ensures { result ≡ is_global (option_map sort_value sort) }
 {
-    match e {
-        Expr::Number { .. } | Expr::Named(_) => false,
-        Expr::Variable(x) => sort_in(known, x).is_none(),
-        Expr::Prefix(_, a) | Expr::Paren(a) => has_unknown(known, a),
-        Expr::Binary(_, a, b) => has_unknown(known, a) || has_unknown(known, b),
-    }
+    matches!(sort, Some(Sort::Global))
 }
 
-/// Whether an expression is the constant NULL itself.
-pub(crate) fn is_null(e: &Expr) -> bool
-    ensures { result ≡ is_null (expr_tree e.now) }
+pub(crate) fn is_field(sort: Option<Sort>) -> bool
+    ensures { result ≡ is_field (option_map sort_value sort) }
 {
-    matches!(e, Expr::Named(Constant::Null))
+    matches!(sort, Some(Sort::FieldId))
 }
 
-/// Whether an expression is the bare name of a reference.
-#[tactic(auto, using(crate::proofs::SortLemmas::test_rules))]
-pub(crate) fn is_ref_name(known: &[Known], e: &Expr) -> bool
-    ensures { result ≡ is_ref (name_sort (scope_of known.now) (expr_tree e.now)) }
+/// What an index may be.
+pub(crate) fn is_index(sort: Option<Sort>) -> bool
+    ensures { result ≡ is_index (option_map sort_value sort) }
 {
-    match e {
-        Expr::Variable(x) => matches!(sort_in(known, x), Some(Sort::Ref)),
+    matches!(sort, Some(Sort::Word | Sort::Jint))
+}
+
+/// What a cast takes.
+pub(crate) fn is_castable(sort: Option<Sort>) -> bool
+    ensures { result ≡ is_castable (option_map sort_value sort) }
+{
+    matches!(sort, Some(Sort::Word | Sort::Jint | Sort::Flag))
+}
+
+/// A buffer or a local array.
+pub(crate) fn has_elements(sort: Option<Sort>) -> bool
+    ensures { result ≡ has_elements (option_map sort_value sort) }
+{
+    matches!(sort, Some(Sort::Buffer(..) | Sort::Array(..)))
+}
+
+/// What may be compared with NULL.
+pub(crate) fn is_nullable(sort: Option<Sort>) -> bool
+    ensures { result ≡ is_nullable (option_map sort_value sort) }
+{
+    matches!(
+        sort,
+        Some(Sort::Ref | Sort::Global | Sort::FieldId | Sort::Buffer(..))
+    )
+}
+
+/// A buffer that may not be written.
+pub(crate) fn is_read_only(sort: Option<Sort>) -> bool
+    ensures { result ≡ is_read_only (option_map sort_value sort) }
+{
+    matches!(sort, Some(Sort::Buffer(_, false)))
+}
+
+/// Whether two element types are the same.
+fn is_same_element(a: ElementType, b: ElementType) -> bool
+    ensures { result ≡ same_element (element_tree a) (element_tree b) }
+{
+    a == b
+}
+
+/// A local array of this type.
+pub(crate) fn is_array_of(element: ElementType, sort: Option<Sort>) -> bool
+    ensures { result ≡ is_array_of (element_tree element) (option_map sort_value sort) }
+{
+    match sort {
+        Some(Sort::Array(other, _)) => is_same_element(element, other),
         _ => false,
+    }
+}
+
+/// A buffer that this access may fill.
+pub(crate) fn is_buffer_for(access: Access, sort: Option<Sort>) -> bool
+    ensures { result ≡ is_buffer_for (access_value access) (option_map sort_value sort) }
+{
+    match sort {
+        Some(Sort::Buffer(element, true)) => match access {
+            Access::ElementsCopy(other) => is_same_element(other, element),
+            Access::ArrayView => true,
+            Access::CharsCopy => false,
+            Access::CharsView => false,
+        },
+        Some(Sort::Buffer(element, false)) => match access {
+            Access::ElementsCopy(_) => false,
+            Access::ArrayView => false,
+            Access::CharsCopy => is_same_element(ElementType::Jchar, element),
+            Access::CharsView => is_same_element(ElementType::Jchar, element),
+        },
+        _ => false,
+    }
+}
+
+/// The sort of a declared variable.
+pub(crate) fn variable_sort(kind: VariableType) -> Sort
+    ensures { sort_value result ≡ variable_sort (variable_type_tree kind) }
+{
+    match kind {
+        VariableType::Uint32 => Sort::Word,
+        VariableType::Jint | VariableType::Jsize => Sort::Jint,
+        VariableType::Jboolean => Sort::Flag,
+        VariableType::JfieldId => Sort::FieldId,
+        VariableType::Reference(_) => Sort::Ref,
+    }
+}
+
+/// The sort of a parameter.
+pub(crate) fn parameter_sort(kind: ParameterType) -> Sort
+    ensures { sort_value result ≡ parameter_sort (parameter_type_tree kind) }
+{
+    match kind {
+        ParameterType::Jint => Sort::Jint,
+        ParameterType::Reference(_) => Sort::Ref,
     }
 }

@@ -7,8 +7,8 @@ ghost use Rattle.types.specs.SortRules.{IsSorted};
 ghost use Rattle.types.specs.BuiltCalls.{calls_are_built, refused, first_refused};
 ghost use Rattle.types.specs.Faults.{Finds, IfBroken, fault_of};
 
-use crate::checker::check_items;
 use crate::fault::TypeFault;
+use crate::items::check_items;
 use std::alloc::Global;
 use std::marker::Model;
 use syntax::{Item, Unit};
@@ -66,8 +66,8 @@ fn check_unit(alloc: Global, unit: &Unit) -> Result<(), TypeFault>
 }
 
 /// The unit, where it keeps the rules on names and sorts, and calls functions that can be called today. A statement's
-/// expressions are read once for each rule; each name is compared with those that are known, which are 256 at most, and
-/// each function's name with those of the functions before it.
+/// expressions are read once for each rule; each name is compared with those that are known, which are 512 at most with
+/// the statics, and each item's name with those of the items before it.
 #[tactic(auto, using(crate::proofs::UnitLemmas::unit_rules))]
 pub fn type_unit(alloc: Global, unit: Unit) -> Result<Typed, TypeFault>
     // A unit that is answered is the one given, it is sorted, and each of its calls is of a function that is built.

@@ -1,6 +1,6 @@
-use Rattle.std.proofs.Common.{◌≡◌, drop, map}
+use Rattle.std.proofs.Common.{◌≡◌, drop}
 use Rattle.types.specs.SortRules.{has_repeated}
 use Rattle.types.proofs.scope.has_repeated.Given as goal
 
 abbrev pub invariant-loop-i : goal.invariant-loop-i
-invariant-loop-i l = has_repeated (map (λ p. p.name) (drop l.i l.parameters)) ≡ has_repeated (map (λ p. p.name) l.parameters)
+invariant-loop-i l = has_repeated (drop l.i l.names) ≡ has_repeated l.names

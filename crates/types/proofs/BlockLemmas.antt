@@ -1,0 +1,48 @@
+-- The statements of a block in memory, one after the other.
+use Rattle.std.proofs.Common.{◌≡◌, ℕ, suc, ◌+◌, ◌-◌, ◌<◌, List, [], ◌∷◌, ◌++◌, drop, length, get_or, refl, sym, ap, ap₂, ◌∙◌, add-one, append_assoc, length-append, arith, drop-cons}
+use Rattle.std.proofs.Math.Seq.{drop-append_seam}
+use Rattle.std.proofs.lemmas.List.Elements.{filter_map-append}
+use Rattle.base.specs.Bytes.{Identifier}
+use Rattle.syntax.specs.declared.stmt.Stmt.{Stmt as StmtInMemory}
+use Rattle.syntax.specs.Parts.{statements_of, statements_within, names_declared, declared_name}
+use Rattle.syntax.specs.Tree.{ResultType}
+use Rattle.syntax.specs.Views.{stmt_tree, statements_tree}
+use Rattle.types.specs.declared.scope.Known.{Known}
+use Rattle.types.specs.Sorts.{Scope}
+use Rattle.types.specs.SortRules.{places_of, with_declared}
+use Rattle.types.specs.BuiltCalls.{refused_at}
+use Rattle.types.specs.Faults.{IsAbove, found, statement_place, places_inside}
+use Rattle.types.proofs.PlaceLemmas.{found-statement}
+
+stmt_next : (items : List StmtInMemory) (i : ℕ) (s : StmtInMemory) → i < length items → s ≡ get_or items i s → drop i items ≡ s ∷ drop (i + 1) items
+stmt_next items i s h e = rw add-one (drop-cons items i s h ∙ ap (λ x. x ∷ drop (suc i) items) (sym e))
+
+-- what is refused at a statement and behind it
+pub found-rest : (returns : ResultType) (known : Scope) (taken : List Identifier) (items : List StmtInMemory) (i : ℕ) (s : StmtInMemory) (end_line : ℕ) → i < length items → s ≡ get_or items i s
+    → found (places_of returns known taken (statements_tree (drop i items) end_line))
+    ≡ (refused_at (statement_place returns known taken (stmt_tree s)) ++ found (places_inside returns known taken (stmt_tree s)))
+    ++ found (places_of returns (with_declared known (stmt_tree s)) (taken ++ names_declared (statements_within (stmt_tree s))) (statements_tree (drop (i + 1) items) end_line))
+found-rest returns known taken items i s end_line h e =
+    ap (λ rest. found (places_of returns known taken (statements_tree rest end_line))) (stmt_next items i s h e) ∙ found-statement returns known taken (stmt_tree s) _
+
+-- the names that it declares, and those declared behind it
+pub declared-rest : (taken : List Identifier) (items : List StmtInMemory) (i : ℕ) (s : StmtInMemory) (end_line : ℕ) → i < length items → s ≡ get_or items i s
+    → taken ++ names_declared (statements_of (statements_tree (drop i items) end_line))
+    ≡ (taken ++ names_declared (statements_within (stmt_tree s))) ++ names_declared (statements_of (statements_tree (drop (i + 1) items) end_line))
+declared-rest taken items i s end_line h e =
+    ap (λ rest. taken ++ names_declared (statements_of (statements_tree rest end_line))) (stmt_next items i s h e)
+    ∙ ap (λ names. taken ++ names) (filter_map-append declared_name (statements_within (stmt_tree s)) _)
+    ∙ sym (append_assoc taken _ _)
+
+-- ---- names that are known
+
+pub above-none : (known : List Known) → IsAbove known known
+above-none known = record { above = []; joined = refl }
+
+pub above-more : (more all below : List Known) → IsAbove more all → IsAbove all below → IsAbove more below
+above-more more all below h k = record { above = h.above ++ k.above; joined = h.joined ∙ ap (λ xs. h.above ++ xs) k.joined ∙ sym (append_assoc h.above k.above below) }
+
+pub forgotten : (all below : List Known) → IsAbove all below → drop (length all - length below) all ≡ below
+forgotten all below h =
+    let k : length all - length below ≡ length h.above = omega (arith, length-append h.above below, ap length h.joined) in
+    ap₂ (λ n xs. drop n xs) k h.joined ∙ drop-append_seam h.above below

@@ -1,0 +1,48 @@
+-- What is refused at places, one after the other.
+use Rattle.std.proofs.Common.{◌≡◌, ℕ, zero, suc, ◌≤◌, List, [], ◌∷◌, ◌++◌, drop, length, refl, ap, ◌∙◌, flat_map, arith}
+use Rattle.std.proofs.lemmas.Grind.{flat_map-append}
+use Rattle.base.specs.Bytes.{Identifier}
+use Rattle.syntax.specs.Parts.{statements_within, names_declared}
+use Rattle.syntax.specs.Tree.{ResultType, Stmt, If, IfElse, While, Block, Next}
+use Rattle.types.specs.Sorts.{Scope}
+use Rattle.types.specs.SortRules.{Place, places_of, places_within, with_declared}
+use Rattle.types.specs.BuiltCalls.{refused_at}
+use Rattle.types.specs.Faults.{Faults, found, statement_place, places_inside}
+
+pub found-none : found [] ≡ []
+unfolding found
+found-none = refl
+
+pub found-append : (xs ys : List Place) → found (xs ++ ys) ≡ found xs ++ found ys
+unfolding found
+found-append xs ys = flat_map-append refused_at xs ys
+
+pub found-next : (p : Place) (ps : List Place) → found (p ∷ ps) ≡ refused_at p ++ found ps
+unfolding found
+found-next p ps = refl
+
+-- a statement's own place is before those inside it
+own_first : (returns : ResultType) (known : Scope) (taken : List Identifier) (s : Stmt) → found (places_within returns known taken s) ≡ refused_at (statement_place returns known taken s) ++ found (places_inside returns known taken s)
+own_first returns known taken (If line test then') = found-next _ _
+own_first returns known taken (IfElse line test then' else') = found-next _ _
+own_first returns known taken (While line test body) = found-next _ _
+own_first returns known taken s = found-next _ _
+
+-- a statement before others
+pub found-statement : (returns : ResultType) (known : Scope) (taken : List Identifier) (s : Stmt) (rest : Block)
+    → found (places_of returns known taken (Next s rest)) ≡ (refused_at (statement_place returns known taken s) ++ found (places_inside returns known taken s)) ++ found (places_of returns (with_declared known s) (taken ++ names_declared (statements_within s)) rest)
+found-statement returns known taken s rest =
+    found-append (places_within returns known taken s) _ ∙ ap (λ xs. xs ++ found (places_of returns (with_declared known s) (taken ++ names_declared (statements_within s)) rest)) (own_first returns known taken s)
+
+pub ruleset place_rules = (found-none, found-append)
+
+pub found-is : (ps : List Place) → found ps ≡ flat_map refused_at ps
+unfolding found
+found-is ps = refl
+
+-- behind its end a list has nothing
+pub past : {A : Type 0} (i : ℕ) (xs : List A) → length xs ≤ i → drop i xs ≡ []
+past zero [] h = refl
+past zero (x ∷ xs) h = absurd (omega arith)
+past (suc i) [] h = refl
+past (suc i) (x ∷ xs) h = past i xs (omega arith)

@@ -1,0 +1,113 @@
+use Rattle.std.proofs.Common.{◌≡◌, ℕ, ◌+◌, List, [], ◌++◌, Result, Ok, Err, OnOk, drop, refl, sym, ap, ap₂, subst, ◌∙◌, append_assoc}
+use Rattle.std.proofs.lemmas.List.Elements.{filter_map-append}
+use Rattle.std.proofs.lemmas.Result.{err_from_is_err_and}
+use Rattle.base.specs.Bytes.{Identifier}
+use Rattle.syntax.specs.declared.stmt.Block.{out-Block}
+use Rattle.syntax.specs.Parts.{statements_of, statements_within, names_declared, declared_name}
+use Rattle.syntax.specs.Tree.{Test, Block, IfElse}
+use Rattle.syntax.specs.Views.{form_tree, stmt_tree, block_tree, statements_tree, result_tree, test_tree}
+use Rattle.syntax.proofs.Blocks.{block_is}
+use Rattle.types.specs.declared.fault.TypeFault.{TypeFault}
+use Rattle.types.specs.declared.scope.Known.{Known}
+use Rattle.types.specs.SortRules.{places_of}
+use Rattle.types.specs.BuiltCalls.{refused_at}
+use Rattle.types.specs.Faults.{Faults, Finds, Refuses, scope_of, found, statement_place}
+use Rattle.types.proofs.FindsLemmas.{Refuses-first}
+use Rattle.types.proofs.PlaceLemmas.{found-none, past}
+use Rattle.types.proofs.BlockLemmas.{found-rest, declared-rest, above-none, above-more}
+use Rattle.types.proofs.blocks.+blocks.Goals as goal
+
+nothing : (here inside rest : Faults) → here ≡ [] → inside ≡ [] → (here ++ inside) ++ rest ≡ rest
+nothing here inside rest h k = rw (h, k) refl
+
+-- a fault of the statement itself, and one inside it
+of_statement : {A : Type 0} (r : Result A TypeFault) (e : TypeFault) (all here inside rest : Faults) → r ≡ Err e → all ≡ (here ++ inside) ++ rest → Refuses e here → Finds r all
+of_statement r e all here inside rest was is h = rw (was, is) (Refuses-first e (here ++ inside) rest (Refuses-first e here inside h))
+
+of_inside : {A : Type 0} (r : Result A TypeFault) (e : TypeFault) (all here inside rest : Faults) → r ≡ Err e → all ≡ (here ++ inside) ++ rest → here ≡ [] → Refuses e inside → Finds r all
+of_inside r e all here inside rest was is none h = rw (was, is, none) (Refuses-first e inside rest h)
+
+on_ok : {A E : Type 0} (r : Result A E) (P Q : Type 0) → (P → Q) → OnOk r P → OnOk r Q
+on_ok (Ok x) P Q f h = f h
+on_ok (Err e) P Q f h = h
+
+two_blocks : (taken : List Identifier) (line : ℕ) (test : Test) (b d : Block) → (taken ++ names_declared (statements_of b)) ++ names_declared (statements_of d) ≡ taken ++ names_declared (statements_within (IfElse line test b d))
+two_blocks taken line test b d = append_assoc taken _ _ ∙ ap (λ names. taken ++ names) (sym (filter_map-append declared_name (statements_of b) (statements_of d)))
+
+-- ---- the loop over a block's statements
+
+pub check_block-loop-stmt-init : goal.check_block-loop-stmt-init
+check_block-loop-stmt-init t c =
+    let block = block_is c.args.block.now ∙ ap (λ items. statements_tree items (out-Block c.args.block.now).end_line) (sym c.deref-stmt-items.ensures.value) in
+    record {
+      finds = ap (λ b. found (places_of (result_tree c.args.returns) (scope_of c.args.known.now.items) c.args.taken.now.items b)) block;
+      taken = ap (λ b. c.args.taken.now.items ++ names_declared (statements_of b)) block;
+      above = above-none c.args.known.now.items;
+    }
+
+pub check_block-returns-in_err-check_statement-clause-finds : goal.check_block-returns-in_err-check_statement-clause-finds
+check_block-returns-in_err-check_statement-clause-finds t c =
+    let returned = result_tree c.args.returns in
+    let known = scope_of c.loop-stmt.known.items in
+    let taken = c.loop-stmt.taken.items in
+    let s = c.stmt-item.result in
+    let e = c.in_err-check_statement.field-0.0 in
+    let given = err_from_is_err_and c.from_residual.result c.from_residual.ensures.1 in
+    let here = ap₂ (λ (k : List Known) (names : List Identifier). refused_at (statement_place returned (scope_of k) names (stmt_tree s))) c.deref.ensures.value c.deref-in-loop-stmt.ensures.value in
+    of_statement c.from_residual.result e _ _ _ _ (given.1 ∙ ap Err given.2)
+    (c.loop-stmt.invariant.finds ∙ found-rest returned known taken c.deref-stmt-items.result.now c.loop-stmt.stmt-index s (out-Block c.args.block.now).end_line c.loop-stmt-test.true c.stmt-item.is)
+    (subst (λ xs. Refuses e xs) here c.in_err-check_statement.ensures)
+
+pub check_block-returns-in_err-check_inside-clause-finds : goal.check_block-returns-in_err-check_inside-clause-finds
+check_block-returns-in_err-check_inside-clause-finds t c =
+    let returned = result_tree c.args.returns in
+    let known = scope_of c.loop-stmt.known.items in
+    let taken = c.loop-stmt.taken.items in
+    let s = c.stmt-item.result in
+    let e = c.in_err-check_inside.field-0.0 in
+    let given = err_from_is_err_and c.from_residual-in_err-check_inside.result c.from_residual-in_err-check_inside.ensures.1 in
+    let here = ap₂ (λ (k : List Known) (names : List Identifier). refused_at (statement_place returned (scope_of k) names (stmt_tree s))) c.deref.ensures.value c.deref-in-loop-stmt.ensures.value in
+    of_inside c.from_residual-in_err-check_inside.result e _ _ _ _ (given.1 ∙ ap Err given.2)
+    (c.loop-stmt.invariant.finds ∙ found-rest returned known taken c.deref-stmt-items.result.now c.loop-stmt.stmt-index s (out-Block c.args.block.now).end_line c.loop-stmt-test.true c.stmt-item.is)
+    (sym here ∙ c.in_ok-check_statement.ensures)
+    (c.in_err-check_inside.ensures.finds s.line)
+
+pub check_block-loop-stmt-preserved : goal.check_block-loop-stmt-preserved
+check_block-loop-stmt-preserved t c =
+    let returned = result_tree c.args.returns in
+    let known = scope_of c.loop-stmt.known.items in
+    let taken = c.loop-stmt.taken.items in
+    let items = c.deref-stmt-items.result.now in
+    let i = c.loop-stmt.stmt-index in
+    let s = c.stmt-item.result in
+    let end_line = (out-Block c.args.block.now).end_line in
+    let here = ap₂ (λ (k : List Known) (names : List Identifier). refused_at (statement_place returned (scope_of k) names (stmt_tree s))) c.deref.ensures.value c.deref-in-loop-stmt.ensures.value in
+    let inside = c.in_ok-check_inside.ensures in
+    record {
+      finds =
+          c.loop-stmt.invariant.finds ∙ found-rest returned known taken items i s end_line c.loop-stmt-test.true c.stmt-item.is
+          ∙ nothing _ _ _ (sym here ∙ c.in_ok-check_statement.ensures) (inside.finds s.line)
+          ∙ ap₂ (λ k names. found (places_of returned k names (statements_tree (drop (i + 1) items) end_line))) (sym (inside.scope s.line)) (sym (inside.taken s.line));
+      taken =
+          c.loop-stmt.invariant.taken ∙ declared-rest taken items i s end_line c.loop-stmt-test.true c.stmt-item.is
+          ∙ ap (λ (names : List Identifier). names ++ names_declared (statements_of (statements_tree (drop (i + 1) items) end_line))) (sym (inside.taken s.line));
+      above = above-more _ _ _ inside.above c.loop-stmt.invariant.above;
+    }
+
+pub check_block-returns-clause-finds : goal.check_block-returns-clause-finds
+check_block-returns-clause-finds t c =
+    c.loop-stmt.invariant.finds
+    ∙ ap (λ items. found (places_of (result_tree c.args.returns) (scope_of c.loop-stmt.known.items) c.loop-stmt.taken.items (statements_tree items (out-Block c.args.block.now).end_line)))
+    (past c.loop-stmt.stmt-index c.deref-stmt-items.result.now c.loop-stmt-test.false)
+    ∙ found-none
+
+-- ---- what is inside a statement
+
+pub check_inside-returns-in_ok-check_block-in-IfElse-clause-taken : goal.check_inside-returns-in_ok-check_block-in-IfElse-clause-taken
+check_inside-returns-in_ok-check_block-in-IfElse-clause-taken t c =
+    on_ok c.check_block-in-IfElse-2.result _ _
+    (λ e line.
+    e ∙ ap (λ names. names ++ names_declared (statements_of (block_tree c.in-IfElse.d))) c.in_ok-check_block-in-IfElse.ensures.taken
+    ∙ two_blocks c.args.taken.now.items line (test_tree c.in-IfElse.field-0) (block_tree c.in-IfElse.b) (block_tree c.in-IfElse.d)
+    ∙ ap (λ f. c.args.taken.now.items ++ names_declared (statements_within (form_tree line f))) (sym c.in-IfElse.is))
+    c.check_block-in-IfElse-2.ensures.taken

@@ -1,0 +1,16 @@
+use Rattle.std.proofs.Common.{◌≡◌, ◌++◌, drop}
+use Rattle.syntax.specs.declared.stmt.Block.{out-Block}
+use Rattle.syntax.specs.Parts.{statements_of, names_declared}
+use Rattle.syntax.specs.Views.{block_tree, statements_tree, result_tree}
+use Rattle.types.specs.SortRules.{places_of}
+use Rattle.types.specs.Faults.{IsAbove, scope_of, found}
+use Rattle.types.proofs.blocks.+blocks.Given as goal
+
+abbrev pub invariant-check_block-loop-stmt : goal.invariant-check_block-loop-stmt
+invariant-check_block-loop-stmt l = record {
+  finds : found (places_of (result_tree l.returns) (scope_of l.fn.known.items) l.fn.taken.items (block_tree l.block))
+      ≡ found (places_of (result_tree l.returns) (scope_of l.known.items) l.taken.items (statements_tree (drop l.stmt-index l.stmt-items) (out-Block l.block).end_line));
+  taken : l.fn.taken.items ++ names_declared (statements_of (block_tree l.block))
+      ≡ l.taken.items ++ names_declared (statements_of (statements_tree (drop l.stmt-index l.stmt-items) (out-Block l.block).end_line));
+  above : IsAbove l.known.items l.fn.known.items;
+}

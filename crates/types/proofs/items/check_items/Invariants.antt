@@ -1,0 +1,10 @@
+use Rattle.std.proofs.Common.{◌≡◌, [], drop, map}
+use Rattle.syntax.specs.Views.{item_tree}
+use Rattle.types.specs.SortRules.{item_places}
+use Rattle.types.specs.Faults.{found, scope_of}
+use Rattle.types.proofs.items.check_items.Given as goal
+
+abbrev pub invariant-loop-item : goal.invariant-loop-item
+invariant-loop-item l =
+    found (item_places [] [] (map item_tree l.items))
+    ≡ found (item_places l.names.items (scope_of l.statics.items) (map item_tree (drop l.item-index l.items)))

@@ -1,0 +1,97 @@
+//! The check of blocks.
+
+ghost use Rattle.std.specs.Prelude.{◌≡◌, ℕ, [], ◌∷◌, ◌++◌, OnOk};
+ghost use Rattle.syntax.specs.Parts.{statements_of, statements_within, names_declared};
+ghost use Rattle.syntax.specs.Views.{form_tree, block_tree, result_tree};
+ghost use Rattle.types.specs.SortRules.{places_of, with_declared};
+ghost use Rattle.types.specs.Faults.{Finds, IsAbove, sort_value, scope_of, found, places_inside};
+
+use crate::fault::TypeFault;
+use crate::scope::{Known, forget, learn, take};
+use crate::sort::{Sort, variable_sort};
+use crate::statements::check_statement;
+use std::alloc::{AllocError, Global};
+use syntax::{Block, ElementType, Form, Name, ResultType};
+
+/// One name more is known and taken.
+fn add(
+    alloc: Global,
+    known: &mut Vec<Known>,
+    taken: &mut Vec<Name>,
+    name: &Name,
+    sort: Sort,
+) -> Result<(), AllocError>
+    ensures scope { OnOk result (scope_of known.new.items ≡ (name.now, sort_value sort) ∷ scope_of known.old.items) }
+    ensures above { OnOk result (IsAbove known.new.items known.old.items) }
+    ensures taken { OnOk result (taken.new.items ≡ taken.old.items ++ name.now ∷ []) }
+{
+    learn(alloc, known, name, sort)?;
+    take(alloc, taken, name)?;
+    Ok(())
+}
+
+/// The blocks inside a statement, and the name that it declares.
+#[tactic(auto, using(crate::proofs::PlaceLemmas::place_rules))]
+#[cycle(blocks)]
+fn check_inside(
+    alloc: Global,
+    known: &mut Vec<Known>,
+    taken: &mut Vec<Name>,
+    returns: ResultType,
+    form: &Form,
+) -> Result<(), TypeFault>
+    ensures finds { (line : ℕ) → Finds result (found (places_inside (result_tree returns) (scope_of known.old.items) taken.old.items (form_tree line form.now))) }
+    ensures scope { OnOk result ((line : ℕ) → scope_of known.new.items ≡ with_declared (scope_of known.old.items) (form_tree line form.now)) }
+    ensures above { OnOk result (IsAbove known.new.items known.old.items) }
+    ensures taken { OnOk result ((line : ℕ) → taken.new.items ≡ taken.old.items ++ names_declared (statements_within (form_tree line form.now))) }
+{
+    match form {
+        Form::Declare(t, x, _) => Ok(add(alloc, known, taken, x, variable_sort(*t))?),
+        Form::DeclareBuffer(t, x, _) => Ok(add(alloc, known, taken, x, Sort::Buffer(*t, true))?),
+        Form::DeclareChars(x, _) => {
+            Ok(add(
+                alloc,
+                known,
+                taken,
+                x,
+                Sort::Buffer(ElementType::Jchar, false),
+            )?)
+        }
+        Form::DeclareArray(t, x, size) => Ok(add(alloc, known, taken, x, Sort::Array(*t, *size))?),
+        Form::Assign(..) => Ok(()),
+        Form::AssignElement(..) => Ok(()),
+        Form::Perform(_) => Ok(()),
+        Form::PutJint(_) => Ok(()),
+        Form::If(_, b) => check_block(alloc, known, taken, returns, b),
+        Form::IfElse(_, b, d) => {
+            check_block(alloc, known, taken, returns, b)?;
+            check_block(alloc, known, taken, returns, d)
+        }
+        Form::While(_, b) => check_block(alloc, known, taken, returns, b),
+        Form::Return(None) => Ok(()),
+        Form::Return(Some(_)) => Ok(()),
+    }
+}
+
+/// A block of a function with this result, where these names are known and these are taken. Behind it the names that it
+/// declares are known no more, and stay taken.
+#[cycle(blocks)]
+pub(crate) fn check_block(
+    alloc: Global,
+    known: &mut Vec<Known>,
+    taken: &mut Vec<Name>,
+    returns: ResultType,
+    block: &Block,
+) -> Result<(), TypeFault>
+    ensures finds { Finds result (found (places_of (result_tree returns) (scope_of known.old.items) taken.old.items (block_tree block.now))) }
+    ensures restored { OnOk result (known.new.items ≡ known.old.items) }
+    ensures taken { OnOk result (taken.new.items ≡ taken.old.items ++ names_declared (statements_of (block_tree block.now))) }
+{
+    let outside = known.len();
+    for stmt in &block.statements {
+        check_statement(known, taken, returns, stmt)?;
+        check_inside(alloc, known, taken, returns, &stmt.form)?;
+    }
+    forget(known, outside);
+    Ok(())
+}

@@ -1,0 +1,395 @@
+//! The rules at a statement.
+
+ghost use Rattle.std.specs.Prelude.{◌≡◌, ℕ, [], ◌&&◌, Some};
+ghost use Rattle.std.specs.List.{list_all};
+ghost use Rattle.std.specs.Option.{option_map};
+ghost use Rattle.base.specs.Options.{some_passes};
+ghost use Rattle.syntax.specs.Parts.{own_expressions, own_call, declared_name, right_side_expressions, test_expressions, right_side};
+ghost use Rattle.syntax.specs.Tree.{Void};
+ghost use Rattle.syntax.specs.Views.{expr_tree, right_side_tree, test_tree, call_tree, form_tree, stmt_tree, result_tree};
+ghost use Rattle.types.specs.Sorts.{sort_in, sort_of, has_elements, is_index, is_jint};
+ghost use Rattle.types.specs.SortRules.{has_name, is_formed, value_sets, right_side_sets, buffer_begins, test_fits, return_fits, statement_fits, copies_reference, set_sort, SortMisfit, ReadOnlyWrite, breaks_sort_rule};
+ghost use Rattle.types.specs.BuiltCalls.{refused_at};
+ghost use Rattle.types.specs.Faults.{scope_of, sort_value, Finds, statement_place};
+ghost use Rattle.types.specs.Unknown.{right_unknown, test_unknown, uses_unknown};
+ghost use Rattle.types.specs.StatementFaults.{sort_faults, call_faults, use_faults, statement_faults, call_misfits, calls_unknown, call_miscounts, call_mistakes_mode};
+
+use crate::calls::{
+    call_arguments_fit, call_fits, call_formed, call_unknown, has_wrong_count, has_wrong_mode,
+    is_built, may_be_dropped, may_be_tested,
+};
+use crate::expressions::{has_unknown, is_formed, is_null, name_sort, sort_of};
+use crate::fault::{SortRule, TypeFault, refuse_if};
+use crate::scope::{Known, has_name, is_unknown, sort_in};
+use crate::sort::{
+    Sort, has_elements, is_flag, is_index, is_jint, is_read_only, is_ref, is_truth, is_word,
+    variable_sort,
+};
+use syntax::{Call, ElementType, Expr, Form, Name, ResultType, RightSide, Stmt, Test};
+
+/// The call that a statement makes.
+fn own_call(form: &Form) -> Option<&Call>
+    ensures { (line : ℕ) → option_map (λ c. call_tree c.now) result ≡ own_call (form_tree line form.now) }
+{
+    match form {
+        Form::Declare(_, _, RightSide::Call(c)) => Some(c),
+        Form::DeclareBuffer(_, _, RightSide::Call(c)) => Some(c),
+        Form::DeclareChars(_, RightSide::Call(c)) => Some(c),
+        Form::Assign(_, RightSide::Call(c)) => Some(c),
+        Form::Perform(c) => Some(c),
+        Form::If(Test::Call(c), _) => Some(c),
+        Form::IfElse(Test::Call(c), _, _) => Some(c),
+        _ => None,
+    }
+}
+
+/// Whether some name of a right side is not known.
+fn right_unknown(known: &[Known], right: &RightSide) -> bool
+    ensures { result ≡ right_unknown (scope_of known.now) (right_side_tree right.now) }
+{
+    match right {
+        RightSide::Expr(e) => has_unknown(known, e),
+        RightSide::Call(c) => call_unknown(known, c),
+    }
+}
+
+/// Whether some name of a test is not known.
+fn test_unknown(known: &[Known], test: &Test) -> bool
+    ensures { result ≡ test_unknown (scope_of known.now) (test_tree test.now) }
+{
+    match test {
+        Test::Expr(e) => has_unknown(known, e),
+        Test::Call(c) => call_unknown(known, c),
+    }
+}
+
+/// Whether some name that a statement uses or sets is not known.
+fn uses_unknown(known: &[Known], form: &Form) -> bool
+    ensures { (line : ℕ) → result ≡ uses_unknown (scope_of known.now) (form_tree line form.now) }
+{
+    match form {
+        Form::Declare(_, _, r) => right_unknown(known, r),
+        Form::DeclareBuffer(_, _, r) => right_unknown(known, r),
+        Form::DeclareChars(_, r) => right_unknown(known, r),
+        Form::DeclareArray(..) => false,
+        Form::Assign(x, r) => is_unknown(known, x) || right_unknown(known, r),
+        Form::AssignElement(x, i, e) => {
+            is_unknown(known, x) || has_unknown(known, i) || has_unknown(known, e)
+        }
+        Form::Perform(c) => call_unknown(known, c),
+        Form::PutJint(e) => has_unknown(known, e),
+        Form::If(test, _) => test_unknown(known, test),
+        Form::IfElse(test, _, _) => test_unknown(known, test),
+        Form::While(e, _) => has_unknown(known, e),
+        Form::Return(None) => false,
+        Form::Return(Some(e)) => has_unknown(known, e),
+    }
+}
+
+/// Whether a statement declares a name that is taken.
+fn declares_taken(taken: &[Name], form: &Form) -> bool
+    ensures { (line : ℕ) → result ≡ some_passes (has_name taken.now) (declared_name (form_tree line form.now)) }
+{
+    match form {
+        Form::Declare(_, x, _) => has_name(taken, x),
+        Form::DeclareBuffer(_, x, _) => has_name(taken, x),
+        Form::DeclareChars(x, _) => has_name(taken, x),
+        Form::DeclareArray(_, x, _) => has_name(taken, x),
+        Form::Assign(..) => false,
+        Form::AssignElement(..) => false,
+        Form::Perform(_) => false,
+        Form::PutJint(_) => false,
+        Form::If(..) => false,
+        Form::IfElse(..) => false,
+        Form::While(..) => false,
+        Form::Return(None) => false,
+        Form::Return(Some(_)) => false,
+    }
+}
+
+/// Whether the expressions of a right side are bare or have sorts.
+fn right_formed(known: &[Known], right: &RightSide) -> bool
+    ensures { result ≡ list_all (is_formed (scope_of known.now)) (right_side_expressions (right_side_tree right.now)) }
+{
+    match right {
+        RightSide::Expr(e) => is_formed(known, e),
+        RightSide::Call(c) => call_formed(known, c),
+    }
+}
+
+/// Whether the expressions of a test are bare or have sorts.
+fn test_formed(known: &[Known], test: &Test) -> bool
+    ensures { result ≡ list_all (is_formed (scope_of known.now)) (test_expressions (test_tree test.now)) }
+{
+    match test {
+        Test::Expr(e) => is_formed(known, e),
+        Test::Call(c) => call_formed(known, c),
+    }
+}
+
+/// Whether each expression of a statement is a bare name or constant, or has a sort.
+fn are_formed(known: &[Known], form: &Form) -> bool
+    ensures { (line : ℕ) → result ≡ list_all (is_formed (scope_of known.now)) (own_expressions (form_tree line form.now)) }
+{
+    match form {
+        Form::Declare(_, _, r) => right_formed(known, r),
+        Form::DeclareBuffer(_, _, r) => right_formed(known, r),
+        Form::DeclareChars(_, r) => right_formed(known, r),
+        Form::DeclareArray(..) => true,
+        Form::Assign(_, r) => right_formed(known, r),
+        Form::AssignElement(_, i, e) => is_formed(known, i) && is_formed(known, e),
+        Form::Perform(c) => call_formed(known, c),
+        Form::PutJint(e) => is_formed(known, e),
+        Form::If(test, _) => test_formed(known, test),
+        Form::IfElse(test, _, _) => test_formed(known, test),
+        Form::While(e, _) => is_formed(known, e),
+        Form::Return(None) => true,
+        Form::Return(Some(e)) => is_formed(known, e),
+    }
+}
+
+/// Whether a variable of a sort may be set to an expression. Of a known name in a local reference another rule speaks.
+fn value_sets(known: &[Known], sort: Option<Sort>, e: &Expr) -> bool
+    ensures { result ≡ value_sets (scope_of known.now) (option_map sort_value sort) (expr_tree e.now) }
+{
+    match sort {
+        Some(Sort::Word) => is_word(sort_of(known, e)),
+        Some(Sort::Jint) => is_jint(sort_of(known, e)),
+        Some(Sort::Flag) => is_flag(sort_of(known, e)),
+        Some(Sort::Ref) => is_null(e) || name_sort(known, e).is_some(),
+        Some(Sort::Global) => is_null(e),
+        Some(Sort::FieldId) => is_null(e),
+        Some(Sort::Truth) => false,
+        Some(Sort::Buffer(..)) => false,
+        Some(Sort::Array(..)) => false,
+        None => false,
+    }
+}
+
+/// Whether a variable of a sort may be set to a right side.
+fn right_side_sets(known: &[Known], sort: Option<Sort>, right: &RightSide) -> bool
+    ensures { result ≡ right_side_sets (scope_of known.now) (option_map sort_value sort) (right_side_tree right.now) }
+{
+    match right {
+        RightSide::Expr(e) => value_sets(known, sort, e),
+        RightSide::Call(c) => call_fits(sort, c),
+    }
+}
+
+/// Whether a buffer may begin as a right side.
+fn buffer_begins(known: &[Known], sort: Sort, right: &RightSide) -> bool
+    ensures { result ≡ buffer_begins (scope_of known.now) (sort_value sort) (right_side_tree right.now) }
+{
+    match right {
+        RightSide::Expr(e) => is_null(e),
+        RightSide::Call(c) => call_fits(Some(sort), c),
+    }
+}
+
+/// Whether an `if` may test this.
+fn test_fits(known: &[Known], test: &Test) -> bool
+    ensures { result ≡ test_fits (scope_of known.now) (test_tree test.now) }
+{
+    match test {
+        Test::Expr(e) => is_truth(sort_of(known, e)),
+        Test::Call(c) => may_be_tested(c),
+    }
+}
+
+/// Whether a function may return this.
+fn return_fits(known: &[Known], returns: ResultType, e: &Expr) -> bool
+    ensures { result ≡ return_fits (scope_of known.now) (result_tree returns) (expr_tree e.now) }
+{
+    match returns {
+        ResultType::Void => false,
+        ResultType::Jint => is_jint(sort_of(known, e)),
+        ResultType::Reference(_) => is_null(e) || is_ref(name_sort(known, e)),
+    }
+}
+
+/// Whether an element of a named buffer or array may be set.
+fn element_fits(known: &[Known], name: &Name, index: &Expr, value: &Expr) -> bool
+    ensures { result ≡ (has_elements (sort_in (scope_of known.now) name.now) && is_index (sort_of (scope_of known.now) (expr_tree index.now)) && is_jint (sort_of (scope_of known.now) (expr_tree value.now))) }
+{
+    has_elements(sort_in(known, name))
+        && is_index(sort_of(known, index))
+        && is_jint(sort_of(known, value))
+}
+
+/// Whether the parts of a statement fit one another, its call's arguments aside.
+fn statement_fits(known: &[Known], returns: ResultType, form: &Form) -> bool
+    ensures { (line : ℕ) → result ≡ statement_fits (scope_of known.now) (result_tree returns) (form_tree line form.now) }
+{
+    match form {
+        Form::Declare(t, _, r) => right_side_sets(known, Some(variable_sort(*t)), r),
+        Form::DeclareBuffer(t, _, r) => buffer_begins(known, Sort::Buffer(*t, true), r),
+        Form::DeclareChars(_, r) => {
+            buffer_begins(known, Sort::Buffer(ElementType::Jchar, false), r)
+        }
+        Form::DeclareArray(..) => true,
+        Form::Assign(x, r) => right_side_sets(known, sort_in(known, x), r),
+        Form::AssignElement(x, i, e) => element_fits(known, x, i, e),
+        Form::Perform(c) => may_be_dropped(c),
+        Form::PutJint(e) => is_jint(sort_of(known, e)),
+        Form::If(test, _) => test_fits(known, test),
+        Form::IfElse(test, _, _) => test_fits(known, test),
+        Form::While(e, _) => is_truth(sort_of(known, e)),
+        Form::Return(None) => matches!(returns, ResultType::Void),
+        Form::Return(Some(e)) => return_fits(known, returns, e),
+    }
+}
+
+/// Whether the arguments of a statement's call do not fit.
+fn call_misfits(known: &[Known], form: &Form) -> bool
+    ensures { (line : ℕ) → result ≡ call_misfits (scope_of known.now) (own_call (form_tree line form.now)) }
+{
+    match own_call(form) {
+        Some(call) => !call_arguments_fit(known, call),
+        None => false,
+    }
+}
+
+/// Whether a statement does not fit.
+fn misfits(known: &[Known], returns: ResultType, form: &Form) -> bool
+    ensures { (line : ℕ) → result ≡ breaks_sort_rule SortMisfit (scope_of known.now) [] (result_tree returns) (form_tree line form.now) }
+{
+    !are_formed(known, form) || !statement_fits(known, returns, form) || call_misfits(known, form)
+}
+
+/// Whether a statement calls a function that is not known, or can't be called today.
+fn calls_unknown(form: &Form) -> bool
+    ensures { (line : ℕ) → result ≡ calls_unknown (own_call (form_tree line form.now)) }
+{
+    match own_call(form) {
+        Some(call) => !is_built(call),
+        None => false,
+    }
+}
+
+/// Whether a statement's call has a wrong number of arguments.
+fn miscounts(form: &Form) -> bool
+    ensures { (line : ℕ) → result ≡ call_miscounts (own_call (form_tree line form.now)) }
+{
+    match own_call(form) {
+        Some(call) => has_wrong_count(call),
+        None => false,
+    }
+}
+
+/// Whether a statement's call has a mode that is none.
+fn mistakes_mode(form: &Form) -> bool
+    ensures { (line : ℕ) → result ≡ call_mistakes_mode (own_call (form_tree line form.now)) }
+{
+    match own_call(form) {
+        Some(call) => has_wrong_mode(call),
+        None => false,
+    }
+}
+
+/// Whether a known name is copied into a variable of a sort that is a local reference.
+fn copies(known: &[Known], sort: Option<Sort>, right: &RightSide) -> bool
+    ensures { result ≡ copies_reference (scope_of known.now) (option_map sort_value sort) (Some (right_side_tree right.now)) }
+{
+    match right {
+        RightSide::Expr(e) => is_ref(sort) && name_sort(known, e).is_some(),
+        RightSide::Call(_) => false,
+    }
+}
+
+/// Whether a statement copies a known name into a local reference.
+fn copies_reference(known: &[Known], form: &Form) -> bool
+    ensures { (line : ℕ) → result ≡ copies_reference (scope_of known.now) (set_sort (scope_of known.now) (form_tree line form.now)) (right_side (form_tree line form.now)) }
+{
+    match form {
+        Form::Declare(t, _, r) => copies(known, Some(variable_sort(*t)), r),
+        Form::DeclareBuffer(_, _, r) => copies(known, None, r),
+        Form::DeclareChars(_, r) => copies(known, None, r),
+        Form::DeclareArray(..) => false,
+        Form::Assign(x, r) => copies(known, sort_in(known, x), r),
+        Form::AssignElement(..) => false,
+        Form::Perform(_) => false,
+        Form::PutJint(_) => false,
+        Form::If(..) => false,
+        Form::IfElse(..) => false,
+        Form::While(..) => false,
+        Form::Return(None) => false,
+        Form::Return(Some(_)) => false,
+    }
+}
+
+/// Whether a statement writes to a buffer that may not be written.
+fn writes_read_only(known: &[Known], form: &Form) -> bool
+    ensures { (line : ℕ) → result ≡ breaks_sort_rule ReadOnlyWrite (scope_of known.now) [] Void (form_tree line form.now) }
+{
+    match form {
+        Form::AssignElement(x, _, _) => is_read_only(sort_in(known, x)),
+        _ => false,
+    }
+}
+
+/// The names and sorts of a statement.
+#[tactic(auto, using(crate::proofs::FindsLemmas::finds_rules))]
+fn check_sorts(
+    known: &[Known],
+    taken: &[Name],
+    returns: ResultType,
+    form: &Form,
+    line: usize,
+) -> Result<(), TypeFault>
+    ensures { Finds result (sort_faults (scope_of known.now) taken.now (result_tree returns) (form_tree line form.now) line) }
+{
+    refuse_if(uses_unknown(known, form), SortRule::UnknownName, line)?;
+    refuse_if(declares_taken(taken, form), SortRule::DeclaredTwice, line)?;
+    refuse_if(misfits(known, returns, form), SortRule::SortMisfit, line)
+}
+
+/// The function that a statement calls, and the number of its arguments.
+#[tactic(auto, using(crate::proofs::FindsLemmas::finds_rules))]
+fn check_call(form: &Form, line: usize) -> Result<(), TypeFault>
+    ensures { Finds result (call_faults (form_tree line form.now) line) }
+{
+    refuse_if(calls_unknown(form), SortRule::UnknownFunction, line)?;
+    refuse_if(miscounts(form), SortRule::ArgumentCount, line)
+}
+
+/// What a statement may not do although its sorts fit.
+#[tactic(auto, using(crate::proofs::FindsLemmas::finds_rules))]
+fn check_uses(known: &[Known], form: &Form, line: usize) -> Result<(), TypeFault>
+    ensures { Finds result (use_faults (scope_of known.now) (form_tree line form.now) line) }
+{
+    refuse_if(
+        copies_reference(known, form),
+        SortRule::ReferenceCopied,
+        line,
+    )?;
+    refuse_if(mistakes_mode(form), SortRule::BadMode, line)?;
+    refuse_if(writes_read_only(known, form), SortRule::ReadOnlyWrite, line)
+}
+
+/// A statement on this line, without the blocks inside it. All rules are judged, in the order of their numbers.
+#[tactic(auto, using(crate::proofs::FindsLemmas::finds_rules))]
+fn check_form(
+    known: &[Known],
+    taken: &[Name],
+    returns: ResultType,
+    form: &Form,
+    line: usize,
+) -> Result<(), TypeFault>
+    ensures { Finds result (statement_faults (scope_of known.now) taken.now (result_tree returns) (form_tree line form.now) line) }
+{
+    check_sorts(known, taken, returns, form, line)?;
+    check_call(form, line)?;
+    check_uses(known, form, line)
+}
+
+/// A statement of a function with this result, where these names are known and these are taken.
+pub(crate) fn check_statement(
+    known: &[Known],
+    taken: &[Name],
+    returns: ResultType,
+    stmt: &Stmt,
+) -> Result<(), TypeFault>
+    ensures { Finds result (refused_at (statement_place (result_tree returns) (scope_of known.now) taken.now (stmt_tree stmt.now))) }
+{
+    check_form(known, taken, returns, &stmt.form, stmt.line)
+}
