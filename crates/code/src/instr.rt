@@ -1,14 +1,76 @@
-//! The instructions.
+//! The instructions. Sections in brackets are those of ISO/IEC 9899:1999.
 
-/// An operator on two words of 32 bits (ISO/IEC 9899:1999, 6.5.5, 6.5.6 and 6.5.10 to 6.5.12, at `uint32_t`).
+/// An operator on two words that has a result for all of them, at `uint32_t`, or at `jint` where it says so. A comparison
+/// gives a truth, which is the word 1 or 0; the words of two `jint`s, or of two flags, are equal where these are.
 #[derive(Clone, Copy, Debug, PartialEq, Eq)]
 pub enum Operator {
+    /// `*` (6.5.5)
     Multiply,
+    /// `+` (6.5.6)
     Add,
+    /// `-` (6.5.6)
     Subtract,
+    /// `&` (6.5.10)
     And,
+    /// `^` (6.5.11)
     Xor,
+    /// `|` (6.5.12)
     Or,
+    /// `==` (6.5.9)
+    Equal,
+    /// `!=` (6.5.9)
+    NotEqual,
+    /// `<` (6.5.8)
+    Less,
+    /// `<=` (6.5.8)
+    LessEqual,
+    /// `>` (6.5.8)
+    Greater,
+    /// `>=` (6.5.8)
+    GreaterEqual,
+    /// `<` of two `jint`s (6.5.8)
+    SignedLess,
+    /// `<=` of two `jint`s (6.5.8)
+    SignedLessEqual,
+    /// `>` of two `jint`s (6.5.8)
+    SignedGreater,
+    /// `>=` of two `jint`s (6.5.8)
+    SignedGreaterEqual,
+}
+
+/// An operator on two words at `uint32_t` that has no result for some of them.
+#[derive(Clone, Copy, Debug, PartialEq, Eq)]
+pub enum TrappingOperator {
+    /// `/`, a trap by 0 (6.5.5)
+    Divide,
+    /// `%`, a trap by 0 (6.5.5)
+    Remainder,
+    /// `<<`, a trap by 32 or more (6.5.7)
+    ShiftLeft,
+    /// `>>`, a trap by 32 or more (6.5.7)
+    ShiftRight,
+}
+
+/// The type of an array's elements (JNI Specification, chapter 3, "Primitive Types").
+#[derive(Clone, Copy, Debug, PartialEq, Eq)]
+pub enum ElementType {
+    /// `jint`
+    Int,
+    /// `jshort`
+    Short,
+    /// `jbyte`
+    Byte,
+    /// `jchar`
+    Char,
+}
+
+/// An array of a function: number slots one behind another, each with an element as a `jint` (6.2.5).
+#[derive(Clone, Copy, Debug, PartialEq, Eq)]
+pub struct LocalArray {
+    /// The slot of the first element.
+    pub start: usize,
+    /// The number of elements, from 1 to 1,024.
+    pub len: usize,
 }
 
 /// Where an instruction finds a reference. Slots of references are counted from 0.
@@ -18,6 +80,19 @@ pub enum ReferenceOperand {
     Null,
     /// The local reference in this slot.
     Local(usize),
+}
+
+/// A variable that can be NULL. Slots of each kind, and statics, are counted from 0.
+#[derive(Clone, Copy, Debug, PartialEq, Eq)]
+pub enum NullableVariable {
+    /// The local reference in this slot.
+    Local(usize),
+    /// The global reference of this static.
+    Static(usize),
+    /// The field ID in this slot.
+    FieldId(usize),
+    /// The buffer in this slot.
+    Buffer(usize),
 }
 
 /// A function of the JNI with its arguments (JNI Specification, chapter 4).
@@ -43,35 +118,79 @@ pub struct Call {
     pub function: Callee,
 }
 
-/// One instruction, which is one step of the source. Slots of numbers are counted from 0.
+/// One instruction, which is one step of the source. Slots of numbers are counted from 0. The line of an instruction that
+/// can trap is its statement's, counted from 1; the trap is reported there. A jump skips so many instructions behind its
+/// own, or goes so many places back.
 #[derive(Clone, Copy, Debug, PartialEq, Eq)]
 pub enum Instr {
-    /// Puts a constant onto the stack.
+    /// Puts a constant onto the stack (6.4.4.1).
     Push(u32),
-    /// Puts the word of a number slot onto the stack.
+    /// Puts the word of a number slot onto the stack (6.5.1).
     Load(usize),
-    /// Takes a word into a number slot.
+    /// Takes a word into a number slot (6.5.16.1).
     Store(usize),
     /// The bitwise complement of the topmost word (6.5.3.3).
     Complement,
-    /// A conversion between `jint` and `uint32_t`, which keeps the word (6.3.1.3, in two's complement).
+    /// The other truth than the topmost word (6.5.3.3).
+    Not,
+    /// A conversion between `jint`, `uint32_t` and `jboolean`, which keeps the word (6.3.1.3, in two's complement).
     Convert,
     /// Takes the right operand, then the left, and puts the result.
     Operate(Operator),
+    /// Takes the right operand, then the left, and puts the result, or traps on this line.
+    OperateOrTrap(TrappingOperator, usize),
+    /// The truth 0 stays and the jump is made; the truth 1 is taken (`&&`, 6.5.13).
+    SkipUnless(usize),
+    /// The truth 1 stays and the jump is made; the truth 0 is taken (`||`, 6.5.14).
+    SkipIf(usize),
+    /// Takes a truth and jumps where it is 0 (6.8.4.1 and 6.8.5.1).
+    JumpUnless(usize),
+    /// Jumps over so many instructions (the end of an `if`'s way, 6.8.4.1).
+    GoOn(usize),
+    /// Jumps so many places back (the end of a loop's turn, 6.8.5.1).
+    GoBack(usize),
+    /// Takes an index and puts the element there, or traps on this line where there is none (6.5.2.1).
+    LoadElement(LocalArray, usize),
+    /// Takes a `jint`, then an index, and writes the element there, converted to its type, or traps on this line where there
+    /// is none (6.5.16.1 and 6.3.1.3, where the signed types wrap).
+    StoreElement(LocalArray, ElementType, usize),
+    /// Writes zeros into an array (6.7.8).
+    ClearArray(LocalArray),
+    /// Puts the truth whether a variable is NULL, or whether it isn't (6.5.9).
+    TestNull {
+        variable: NullableVariable,
+        equal: bool,
+    },
+    /// Makes a variable NULL (6.5.16.1).
+    StoreNull(NullableVariable),
     /// Takes a word and prints it as a `jint`.
     PutJint,
     /// Calls a function of the JNI.
     Call(Call),
-    /// Leaves the function without a result.
+    /// Leaves the function without a result (6.8.6.4).
     Return,
-    /// Takes a word and leaves the function with it.
+    /// Takes a word and leaves the function with it (6.8.6.4).
     ReturnJint,
+    /// Leaves the function with a reference (6.8.6.4).
+    ReturnReference(ReferenceOperand),
 }
 
-/// Where an instruction leads: to the next, to another, or to a trap.
+/// Why an instruction that works on the stack and the number slots alone has no result.
+#[derive(Clone, Copy, Debug, PartialEq, Eq)]
+pub enum PlainTrap {
+    /// A division or a remainder by zero.
+    DivisionByZero,
+    /// A shift by 32 or more.
+    ShiftTooFar,
+    /// An index at which an array has no element.
+    OutOfRange,
+}
+
+/// Where an instruction leads: to the next, over so many behind it, so many places back, or to a trap on a line.
 #[derive(Clone, Copy, Debug, PartialEq, Eq)]
 pub enum Plain {
     Next,
-    Jump(usize),
-    Trap(usize),
+    Skip(usize),
+    Back(usize),
+    Trap(PlainTrap, usize),
 }

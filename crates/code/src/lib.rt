@@ -3,8 +3,10 @@
 #![tactic(auto)]
 
 pub mod code;
+mod depth;
 pub mod instr;
 pub mod plain;
+pub mod slots;
 pub mod stack;
 #[cfg(test)]
 mod tests;

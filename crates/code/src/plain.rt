@@ -1,10 +1,12 @@
 //! Instructions that work on the operand stack and the number slots alone.
 
-ghost use Rattle.std.specs.Prelude.{◌≡◌, IsSome, Some, length};
+ghost use Rattle.std.specs.Prelude.{◌≡◌, ◌<◌, ◌^◌, ℕ, List, IsSome, Some, length, replicate};
+ghost use Rattle.code.specs.declared.instr.Instr.TheVariants.{Complement, Not, Operate, OperateOrTrap, SkipUnless, SkipIf, JumpUnless, LoadElement, StoreElement};
+ghost use Rattle.code.specs.declared.instr.Plain.TheVariants.{Next};
 ghost use Rattle.code.specs.Depth.{depth_after};
-ghost use Rattle.code.specs.Effect.{operate, plain_of};
+ghost use Rattle.code.specs.Effect.{truth_word, operate, operate_or_trap, element_word, plain_of};
 
-use crate::instr::{Instr, Operator, Plain};
+use crate::instr::{ElementType, Instr, LocalArray, Operator, Plain, PlainTrap, TrappingOperator};
 use crate::stack::Stack;
 
 /// Does an instruction that works on the stack and the number slots alone, and answers where it leads.
@@ -17,19 +19,56 @@ pub fn plain(instr: &Instr, stack: &mut Stack, numbers: &mut [u32]) -> Plain
         Instr::Push(word) => stack.push(*word),
         Instr::Load(slot) => stack.push(numbers[*slot]),
         Instr::Store(slot) => numbers[*slot] = stack.pop(),
-        Instr::Complement => {
-            let word = stack.pop();
-            stack.push(!word);
-        }
+        Instr::Complement => complement(stack),
+        Instr::Not => invert(stack),
         Instr::Convert => {}
-        Instr::Operate(operator) => {
-            let right = stack.pop();
-            let left = stack.pop();
-            stack.push(result_of(*operator, left, right));
+        Instr::Operate(operator) => operate(*operator, stack),
+        Instr::OperateOrTrap(operator, line) => return operate_or_trap(*operator, *line, stack),
+        Instr::SkipUnless(n) => return skip_unless(*n, stack),
+        Instr::SkipIf(n) => return skip_if(*n, stack),
+        Instr::JumpUnless(n) => return jump_unless(*n, stack),
+        Instr::GoOn(n) => return Plain::Skip(*n),
+        Instr::GoBack(n) => return Plain::Back(*n),
+        Instr::LoadElement(array, line) => return load_element(*array, *line, stack, numbers),
+        Instr::StoreElement(array, element, line) => {
+            return store_element(*array, *element, *line, stack, numbers);
         }
-        Instr::PutJint | Instr::Call(_) | Instr::Return | Instr::ReturnJint => unreachable!(),
+        Instr::ClearArray(array) => clear(&mut numbers[array.start..array.start + array.len]),
+        _ => unreachable!(),
     }
     Plain::Next
+}
+
+fn complement(stack: &mut Stack)
+    requires { 0 < length stack.old }
+    ensures { (numbers : List ℕ) → plain_of Complement stack.old numbers ≡ Some (Next, stack.new, numbers) }
+{
+    let word = stack.pop();
+    stack.push(!word);
+}
+
+fn invert(stack: &mut Stack)
+    requires { 0 < length stack.old }
+    ensures { (numbers : List ℕ) → plain_of Not stack.old numbers ≡ Some (Next, stack.new, numbers) }
+{
+    let word = stack.pop();
+    stack.push(truth_word(word == 0));
+}
+
+fn operate(operator: Operator, stack: &mut Stack)
+    requires { 1 < length stack.old }
+    ensures { (numbers : List ℕ) → plain_of (Operate operator) stack.old numbers ≡ Some (Next, stack.new, numbers) }
+{
+    let right = stack.pop();
+    let left = stack.pop();
+    stack.push(result_of(operator, left, right));
+}
+
+/// The word of a truth.
+fn truth_word(truth: bool) -> u32
+    ensures { result ≡ truth_word truth }
+{
+    u32::from(truth)
 }
 
 fn result_of(operator: Operator, left: u32, right: u32) -> u32
@@ -42,5 +81,138 @@ fn result_of(operator: Operator, left: u32, right: u32) -> u32
         Operator::And => left & right,
         Operator::Xor => left ^ right,
         Operator::Or => left | right,
+        Operator::Equal => truth_word(left == right),
+        Operator::NotEqual => truth_word(left != right),
+        Operator::Less => truth_word(left < right),
+        Operator::LessEqual => truth_word(left <= right),
+        Operator::Greater => truth_word(left > right),
+        Operator::GreaterEqual => truth_word(left >= right),
+        Operator::SignedLess => truth_word(left.cast_signed() < right.cast_signed()),
+        Operator::SignedLessEqual => truth_word(left.cast_signed() <= right.cast_signed()),
+        Operator::SignedGreater => truth_word(left.cast_signed() > right.cast_signed()),
+        Operator::SignedGreaterEqual => truth_word(left.cast_signed() >= right.cast_signed()),
     }
+}
+
+fn result_or_trap(operator: TrappingOperator, left: u32, right: u32) -> Result<u32, PlainTrap>
+    ensures { result ≡ operate_or_trap operator left right }
+{
+    match operator {
+        TrappingOperator::Divide if right == 0 => Err(PlainTrap::DivisionByZero),
+        TrappingOperator::Divide => Ok(left / right),
+        TrappingOperator::Remainder if right == 0 => Err(PlainTrap::DivisionByZero),
+        TrappingOperator::Remainder => Ok(left % right),
+        TrappingOperator::ShiftLeft if right < 32 => Ok(left << right),
+        TrappingOperator::ShiftRight if right < 32 => Ok(left >> right),
+        TrappingOperator::ShiftLeft | TrappingOperator::ShiftRight => Err(PlainTrap::ShiftTooFar),
+    }
+}
+
+/// A trap leaves the operands on the stack.
+fn operate_or_trap(operator: TrappingOperator, line: usize, stack: &mut Stack) -> Plain
+    requires { 1 < length stack.old }
+    ensures { (numbers : List ℕ) → plain_of (OperateOrTrap operator line) stack.old numbers ≡ Some (result, stack.new, numbers) }
+{
+    let right = stack.pop();
+    let left = stack.pop();
+    match result_or_trap(operator, left, right) {
+        Ok(word) => {
+            stack.push(word);
+            Plain::Next
+        }
+        Err(trap) => {
+            stack.push(left);
+            stack.push(right);
+            Plain::Trap(trap, line)
+        }
+    }
+}
+
+fn skip_unless(n: usize, stack: &mut Stack) -> Plain
+    requires { 0 < length stack.old }
+    ensures { (numbers : List ℕ) → plain_of (SkipUnless n) stack.old numbers ≡ Some (result, stack.new, numbers) }
+{
+    let word = stack.pop();
+    if word == 0 {
+        stack.push(word);
+        return Plain::Skip(n);
+    }
+    Plain::Next
+}
+
+fn skip_if(n: usize, stack: &mut Stack) -> Plain
+    requires { 0 < length stack.old }
+    ensures { (numbers : List ℕ) → plain_of (SkipIf n) stack.old numbers ≡ Some (result, stack.new, numbers) }
+{
+    let word = stack.pop();
+    if word == 0 {
+        return Plain::Next;
+    }
+    stack.push(word);
+    Plain::Skip(n)
+}
+
+fn jump_unless(n: usize, stack: &mut Stack) -> Plain
+    requires { 0 < length stack.old }
+    ensures { (numbers : List ℕ) → plain_of (JumpUnless n) stack.old numbers ≡ Some (result, stack.new, numbers) }
+{
+    if stack.pop() == 0 {
+        Plain::Skip(n)
+    } else {
+        Plain::Next
+    }
+}
+
+fn load_element(array: LocalArray, line: usize, stack: &mut Stack, numbers: &[u32]) -> Plain
+    requires { IsSome (plain_of (LoadElement array line) stack.old numbers.now) }
+    ensures { plain_of (LoadElement array line) stack.old numbers.now ≡ Some (result, stack.new, numbers.now) }
+{
+    let index = stack.pop();
+    if (index as usize) < array.len {
+        stack.push(numbers[array.start + index as usize]);
+        Plain::Next
+    } else {
+        stack.push(index);
+        Plain::Trap(PlainTrap::OutOfRange, line)
+    }
+}
+
+fn store_element(
+    array: LocalArray,
+    element: ElementType,
+    line: usize,
+    stack: &mut Stack,
+    numbers: &mut [u32],
+) -> Plain
+    requires { IsSome (plain_of (StoreElement array element line) stack.old numbers.old) }
+    ensures { plain_of (StoreElement array element line) stack.old numbers.old ≡ Some (result, stack.new, numbers.new) }
+{
+    let word = stack.pop();
+    let index = stack.pop();
+    if (index as usize) < array.len {
+        numbers[array.start + index as usize] = element_word(element, word);
+        Plain::Next
+    } else {
+        stack.push(index);
+        stack.push(word);
+        Plain::Trap(PlainTrap::OutOfRange, line)
+    }
+}
+
+/// What is left of a `jint` in an element (6.3.1.3), read again as a `jint`.
+fn element_word(element: ElementType, word: u32) -> u32
+    ensures { result ≡ element_word element word }
+{
+    match element {
+        ElementType::Int => word,
+        ElementType::Short => i32::from(((word % 65_536) as u16).cast_signed()).cast_unsigned(),
+        ElementType::Byte => i32::from(((word % 256) as u8).cast_signed()).cast_unsigned(),
+        ElementType::Char => word % 65_536,
+    }
+}
+
+fn clear(words: &mut [u32])
+    ensures { words.new ≡ replicate (length words.old) 0 }
+{
+    words.fill(0);
 }

@@ -1,0 +1,106 @@
+//! Whether the operand stack stays in its range, and jumps lead inside.
+
+ghost use Rattle.std.specs.Prelude.{◌≡◌, ◌+◌, ◌<◌, ◌≤◌, ◌↔◌, List, IsTrue, IsSome, IfSome, IfOk, length, slice_index};
+ghost use Rattle.code.specs.declared.instr.Instr.{Instr};
+ghost use Rattle.code.specs.Depth.{depth_after, depths, IsDepthTable, Leaves, EndsByLeaving, Lands, JumpsLand};
+
+use crate::instr::Instr;
+use std::alloc::{AllocError, Global};
+
+/// The number of words at each place of the code, or none where an instruction finds too few of them or no room.
+pub(crate) fn depth_table(alloc: Global, instrs: &[Instr]) -> Result<Option<Vec<usize>>, AllocError>
+    ensures table { IfOk result (λ found. IfSome found (λ table. IsDepthTable instrs.now table.items)) }
+    ensures stays { IfOk result (λ found. IsSome found ↔ IsSome (depths instrs.now 0)) }
+{
+    let mut table = Vec::new(alloc);
+    let mut depth = 0;
+    for instr in instrs {
+        table.push(depth)?;
+        match next_depth(instr, depth) {
+            Some(next) => depth = next,
+            None => return Ok(None),
+        }
+    }
+    Ok(Some(table))
+}
+
+fn next_depth(instr: &Instr, depth: usize) -> Option<usize>
+    requires { depth ≤ 64 }
+    ensures next { result ≡ depth_after instr.now depth }
+    ensures limit { IfSome result (λ d. d ≤ 64) }
+{
+    match instr {
+        Instr::Push(_) | Instr::Load(_) | Instr::TestNull { .. } => {
+            (depth < 64).then_some(depth + 1)
+        }
+        Instr::Complement | Instr::Not | Instr::Convert | Instr::LoadElement(..) => {
+            (depth > 0).then_some(depth)
+        }
+        Instr::Operate(_) | Instr::OperateOrTrap(..) => depth.checked_sub(1).filter(|d| *d > 0),
+        Instr::StoreElement(..) => depth.checked_sub(2),
+        Instr::Store(_)
+        | Instr::SkipUnless(_)
+        | Instr::SkipIf(_)
+        | Instr::JumpUnless(_)
+        | Instr::PutJint => depth.checked_sub(1),
+        Instr::ReturnJint => (depth > 0).then_some(0),
+        Instr::ClearArray(_) | Instr::StoreNull(_) | Instr::Call(_) => Some(depth),
+        Instr::GoOn(_) | Instr::GoBack(_) | Instr::Return | Instr::ReturnReference(_) => Some(0),
+    }
+}
+
+/// Whether the last instruction has nothing behind it.
+pub(crate) fn ends_by_leaving(instrs: &[Instr]) -> bool
+    ensures { IsTrue result ↔ EndsByLeaving instrs.now }
+{
+    instrs.last().is_some_and(leaves)
+}
+
+fn leaves(instr: &Instr) -> bool
+    ensures { IsTrue result ↔ Leaves instr.now }
+{
+    match instr {
+        Instr::GoOn(_)
+        | Instr::GoBack(_)
+        | Instr::Return
+        | Instr::ReturnJint
+        | Instr::ReturnReference(_) => true,
+        _ => false,
+    }
+}
+
+/// Whether each jump leads inside the code, to a place with as many words as it leaves.
+pub(crate) fn jumps_land(instrs: &[Instr], table: &[usize]) -> bool
+    requires { IsDepthTable instrs.now table.now }
+    ensures { IsTrue result ↔ JumpsLand instrs.now }
+{
+    for place in 0..instrs.len() {
+        if !lands(&instrs[place], place, table) {
+            return false;
+        }
+    }
+    true
+}
+
+fn lands(instr: &Instr, place: usize, table: &[usize]) -> bool
+    requires { place < length table.now }
+    ensures { (instrs : List Instr) → IsDepthTable instrs table.now → (IsTrue result ↔ Lands instrs place (slice_index table.now place) instr.now) }
+{
+    let depth = table[place];
+    match instr {
+        Instr::SkipUnless(n) | Instr::SkipIf(n) | Instr::GoOn(n) => {
+            has_depth(table, place, *n, depth)
+        }
+        Instr::JumpUnless(n) => has_depth(table, place, *n, depth.saturating_sub(1)),
+        Instr::GoBack(n) => *n <= place && table[place - *n] == depth,
+        _ => true,
+    }
+}
+
+/// Whether there are so many words behind the next `skipped` instructions.
+fn has_depth(table: &[usize], place: usize, skipped: usize, depth: usize) -> bool
+    requires { place < length table.now }
+    ensures { IsTrue result ↔ ((place + 1 + skipped < length table.now) × (slice_index table.now (place + 1 + skipped) ≡ depth)) }
+{
+    skipped < table.len() - place - 1 && table[place + 1 + skipped] == depth
+}

@@ -1,0 +1,90 @@
+//! The slots of code, and whether instructions find theirs.
+
+ghost use Rattle.std.specs.Prelude.{◌≡◌};
+ghost use Rattle.std.specs.List.{list_all};
+ghost use Rattle.code.specs.Depth.{within_slots, array_within, target_within, callee_within, operand_within, variable_within};
+
+use crate::instr::{Callee, Instr, LocalArray, NullableVariable, ReferenceOperand, Target};
+
+/// How many slots of each kind there are for code, and how many statics.
+#[derive(Clone, Copy, Debug, PartialEq, Eq)]
+pub struct SlotCounts {
+    /// Slots of numbers, the elements of local arrays among them.
+    pub numbers: usize,
+    /// Slots of local references.
+    pub references: usize,
+    /// Statics, each with a global reference.
+    pub statics: usize,
+    /// Slots of field IDs.
+    pub field_ids: usize,
+    /// Slots of buffers.
+    pub buffers: usize,
+}
+
+/// Whether all instructions find their slots.
+pub(crate) fn all_within(instrs: &[Instr], slots: SlotCounts) -> bool
+    ensures { result ≡ list_all (within_slots slots) instrs.now }
+{
+    instrs.iter().all(|instr| within_slots(instr, slots))
+}
+
+/// Whether an instruction finds its slots.
+fn within_slots(instr: &Instr, slots: SlotCounts) -> bool
+    ensures { result ≡ within_slots slots instr.now }
+{
+    match instr {
+        Instr::Load(slot) | Instr::Store(slot) => *slot < slots.numbers,
+        Instr::LoadElement(array, _)
+        | Instr::StoreElement(array, _, _)
+        | Instr::ClearArray(array) => array_within(*array, slots.numbers),
+        Instr::TestNull { variable, equal: _ } | Instr::StoreNull(variable) => {
+            variable_within(*variable, slots)
+        }
+        Instr::Call(call) => target_within(call.target, slots.numbers)
+            && callee_within(call.function, slots.references),
+        Instr::ReturnReference(operand) => operand_within(*operand, slots.references),
+        _ => true,
+    }
+}
+
+fn array_within(array: LocalArray, numbers: usize) -> bool
+    ensures { result ≡ array_within numbers array }
+{
+    0 < array.len && array.len <= 1024 && array.len <= numbers && array.start <= numbers - array.len
+}
+
+fn variable_within(variable: NullableVariable, slots: SlotCounts) -> bool
+    ensures { result ≡ variable_within slots variable }
+{
+    match variable {
+        NullableVariable::Local(slot) => slot < slots.references,
+        NullableVariable::Static(index) => index < slots.statics,
+        NullableVariable::FieldId(slot) => slot < slots.field_ids,
+        NullableVariable::Buffer(slot) => slot < slots.buffers,
+    }
+}
+
+fn target_within(target: Target, numbers: usize) -> bool
+    ensures { result ≡ target_within numbers target }
+{
+    match target {
+        Target::Number(slot) => slot < numbers,
+    }
+}
+
+fn callee_within(function: Callee, references: usize) -> bool
+    ensures { result ≡ callee_within references function }
+{
+    match function {
+        Callee::GetArrayLength(operand) => operand_within(operand, references),
+    }
+}
+
+fn operand_within(operand: ReferenceOperand, references: usize) -> bool
+    ensures { result ≡ operand_within references operand }
+{
+    match operand {
+        ReferenceOperand::Null => true,
+        ReferenceOperand::Local(slot) => slot < references,
+    }
+}
