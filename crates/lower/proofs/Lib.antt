@@ -1,0 +1,16 @@
+pub mod CodePlaces
+pub mod SlotLaws
+pub mod TermSteps
+pub mod ElementWords
+pub mod Layouts
+pub mod Bodies
+pub mod WaysReturn
+pub mod Steps
+pub mod BlockSteps
+pub mod EntryLaws
+pub mod EntryLayouts
+pub mod Validity
+pub mod Within
+pub mod Functions
+pub mod KnownNames
+pub mod Jumps

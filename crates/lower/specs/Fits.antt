@@ -1,5 +1,5 @@
 -- What lowering knows of the statements of an accepted function.
-use Rattle.std.specs.Prelude.{◌≡◌, ◌≢◌, ℕ, ◌+◌, ◌^◌, ◌<◌, ◌≤◌, ◌⊎◌, max, true, false, List, [], ◌∷◌, Option, Some, None}
+use Rattle.std.specs.Prelude.{◌≡◌, ◌≢◌, ℕ, ◌+◌, ◌^◌, ◌<◌, ◌≤◌, ◌⊎◌, max, true, false, List, [], ◌∷◌, length, Option, Some, None}
 use Rattle.base.specs.Bytes.{Identifier, lookup}
 use Rattle.base.specs.Element.{ElementType, JChar}
 use Rattle.syntax.specs.Tree as tree
@@ -118,6 +118,10 @@ IsOwn known x s = (y : Identifier) (t : Slot) → lookup y known ≡ Some t → 
 pub record IsLaidOut (known : Known) (slots : SlotCounts) : Type 0 where
   pub within : (x : Identifier) (s : Slot) → lookup x known ≡ Some s → IndexWithin slots s.sort s.index
   pub own : (x : Identifier) (s : Slot) → lookup x known ≡ Some s → IsOwn known x s
+
+-- slots of statics alone, counted from 0
+abbrev pub AreStatics : Known → Type 0
+AreStatics statics = (x : Identifier) (s : Slot) → lookup x statics ≡ Some s → (s.sort ≡ Global) × (s.index < length statics)
 
 -- as many of each kind at least; one number slot more is left
 pub record HasRoomFor (slots taken : SlotCounts) : Type 0 where

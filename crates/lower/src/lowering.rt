@@ -1,10 +1,11 @@
 //! From checked programs to code.
 
-ghost use Rattle.std.specs.Prelude.{◌≡◌, ◌<◌, [], length, Err, IfOk, OnOk};
+ghost use Rattle.std.specs.Prelude.{◌≡◌, ◌<◌, [], length, Err, IfOk, OnOk, IsTrue};
 ghost use Rattle.syntax.specs.Views.{static_tree, function_tree, unit_tree};
 ghost use Rattle.lower.specs.Layout.{with_static};
 ghost use Rattle.lower.specs.Coding.{function_code, instruction_limit, IsTooLong};
-ghost use Rattle.lower.specs.Fits.{FunctionFits};
+ghost use Rattle.lower.specs.Fits.{AreStatics, FunctionFits};
+ghost use Rattle.lower.specs.Stands.{block_returns};
 ghost use Rattle.lower.specs.Lowered.{IsCodeOf};
 ghost use Rattle.lower.specs.Names.{known_behind};
 
@@ -64,7 +65,9 @@ pub(crate) fn lower_function(
     statics: &[Known<'_>],
     function: &Function,
 ) -> Result<Code, LowerFault>
-    requires { FunctionFits (known_behind statics.now []) (function_tree function.now) }
+    requires statics { AreStatics (known_behind statics.now []) }
+    requires fits { FunctionFits (known_behind statics.now []) (function_tree function.now) }
+    requires returns { IsTrue (block_returns (function_tree function.now).body) }
     ensures ok { IfOk result (IsCodeOf (known_behind statics.now []) (function_tree function.now)) }
     ensures too_long { result ≡ Err LowerFault.TooLong → instruction_limit < length (function_code (known_behind statics.now []) (function_tree function.now)) }
 {

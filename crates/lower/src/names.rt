@@ -176,9 +176,9 @@ fn latest(known: &[Known<'_>], name: &Name, before: Option<Slot>) -> Option<Slot
     ensures { option_map slot_view result ≡ latest_of name.now known.now (option_map slot_view before) }
 {
     let mut found = before;
-    for known in known {
-        if name.is_same(known.name) {
-            found = Some(known.slot);
+    for entry in known {
+        if name.is_same(entry.name) {
+            found = Some(entry.slot);
         }
     }
     found

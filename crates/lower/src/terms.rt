@@ -146,25 +146,25 @@ fn emit_logical(
     code: &mut Vec<Instr>,
     names: &Names<'_>,
     line: usize,
-    and: bool,
+    conjunction: bool,
     left: &Expr,
     right: &Expr,
 ) -> Result<(), AllocError>
-    ensures { OnOk result (code.new.items ≡ code.old.items ++ logical_code and (expr_code names.now.known line (expr_tree left.now)) (expr_code names.now.known line (expr_tree right.now))) }
+    ensures { OnOk result (code.new.items ≡ code.old.items ++ logical_code conjunction (expr_code names.now.known line (expr_tree left.now)) (expr_code names.now.known line (expr_tree right.now))) }
 {
     emit_expr(code, names, line, left)?;
     let place = code.len();
-    emit(code, skip(and, 0))?;
+    emit(code, skip(conjunction, 0))?;
     emit_expr(code, names, line, right)?;
     let skipped = code.len() - place - 1;
-    replace(code, place, skip(and, skipped));
+    replace(code, place, skip(conjunction, skipped));
     Ok(())
 }
 
-fn skip(and: bool, skipped: usize) -> Instr
-    ensures { result ≡ skip_code and skipped }
+fn skip(conjunction: bool, skipped: usize) -> Instr
+    ensures { result ≡ skip_code conjunction skipped }
 {
-    if and {
+    if conjunction {
         Instr::SkipUnless(skipped)
     } else {
         Instr::SkipIf(skipped)

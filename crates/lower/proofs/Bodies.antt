@@ -1,0 +1,346 @@
+-- The code of a block stands for its statements, wherever it stands.
+use Rattle.std.proofs.Common.{◌≡◌, ℕ, ◌+◌, ◌<◌, ◌≤◌, ◌⊎◌, inl, inr, true, false, List, [], ◌∷◌, ◌++◌, length, Option, Some, None, refl, sym, ap, ◌∙◌, subst, arith, append_assoc, length-append}
+use Rattle.std.specs.Prelude.{slice_get}
+use Rattle.base.specs.Bytes.{Identifier, lookup}
+use Rattle.base.specs.Element.{ElementType, JChar}
+use Rattle.syntax.specs.Tree as tree
+use Rattle.syntax.specs.Tree.{Expr, Argument, RightSide, FromExpr, FromCall, Test, TestExpr, TestCall, Stmt, Block, End, Next, VariableType, BitOr}
+use Rattle.types.specs.JniFunction.{GetArrayLength}
+use Rattle.types.specs.Prototype.{function_named}
+use Rattle.types.specs.Sorts.{Sort, Jint, Ref, Global, FieldId, Buffer, Array}
+use Rattle.types.specs.Sorts as sort
+use Rattle.types.specs.SortRules.{variable_sort}
+use Rattle.code.specs.declared.instr.Callee.TheVariants as callee
+use Rattle.code.specs.declared.instr.NullableVariable.{NullableVariable}
+use Rattle.code.specs.declared.instr.NullableVariable.TheVariants as nullable
+use Rattle.code.specs.declared.instr.ReferenceOperand.TheVariants.{Null, Local}
+use Rattle.code.specs.declared.instr.Target.TheVariants as destination
+use Rattle.code.specs.declared.instr.Instr.{Instr}
+use Rattle.code.specs.declared.instr.Instr.TheVariants as instr
+use Rattle.code.specs.Depth.{Listing}
+use Rattle.regions.specs.Term as term
+use Rattle.regions.specs.Term.{Term, Done, Read, Binary, term_of}
+use Rattle.regions.specs.Task.{Task, SetScalar, Branch, ReturnValue, Target, Declared, Assigned, Dropped, ScalarKind, BufferKind, kind_of, set_task, invocation, call_task, right_side_task, if_task, task_of, tasks_of}
+use Rattle.lower.specs.Layout.{Slot, Known, Layout, new_slot, with_name, closed, layout_behind, block_layout}
+use Rattle.lower.specs.Coding.{nullable_of, store_of, element_of, write_code, of_slot, operand_of, term_code, expr_code, call_code, value_code, right_code, assign_code, returned_code, return_code, ways_code, turn_code, loop_code, if_code, stmt_code, block_code}
+use Rattle.lower.specs.Slots.{IsNumberSort}
+use Rattle.lower.specs.Fits.{IsIndexSort, IsUntouched, NumberFits, IndexWithin, IsLaidOut, HasRoomFor, ReferenceFits, ArgumentsFit, CallFits, ValueFits, RightFits, TestFits, ReturnFits, StmtFits, BlockFits}
+use Rattle.lower.specs.Stands.{held, IsBegun, IsUnderWay, HasAt, AreAmong, IsSlotOf, TargetStands, target_name, BlockStands, TasksStand}
+use Rattle.lower.proofs.SlotLaws.{known_among, new_among, all_among}
+use Rattle.lower.proofs.CodePlaces.{has_front, has_back}
+use Rattle.lower.proofs.TermSteps.{untouched_held, untouched_begun}
+use Rattle.lower.proofs.Layouts.{AtLeast, more_slots, stmt_grows, block_grows, room_before, room_at_least, index_more, laid_more, free_slot, declared_slot, variable_size, laid_behind, known_behind_stmt}
+
+-- ---- expressions
+
+pub number_begins : (known : Known) (t : Term) (s : Sort) → NumberFits known t s → IsUnderWay known s t []
+number_begins known t s h = record { sort = h.sort; begun = untouched_begun t h.untouched; operands = sym (untouched_held t h.untouched) }
+
+-- a number for a variable is worked out before the variable is set
+set_is : (known : Known) (line : ℕ) (target : Target) (x : Identifier) (e : Expr) (s : Sort) → NumberFits known (term_of e) s → set_task line target x e ≡ SetScalar line x (term_of e)
+set_is known line target x (tree.Named tree.Null) s h = absurd h.sort
+set_is known line target x e s h = refl
+
+pub value_is : (known : Known) (line : ℕ) (slot : Slot) (e : Expr) (s : Sort) → NumberFits known (term_of e) s → value_code known line slot e ≡ expr_code known line e ++ instr.Store slot.index ∷ []
+value_is known line slot (tree.Named tree.Null) s h = absurd h.sort
+value_is known line slot e s h = refl
+
+-- ---- right sides
+
+-- a variable that takes a call's result
+abbrev IsResultTarget : Target → Identifier → Type 0
+IsResultTarget target x = (target ≡ Declared ScalarKind x) ⊎ (target ≡ Assigned x)
+
+-- The names known at the place, and what comes behind: the rest of the tasks, where these names are known.
+module _ (code : Listing) (known : Known) (line place : ℕ) (tail : List Task) where
+  number_set : (target : Target) (x : Identifier) (slot : Slot) (e : Expr) (names : Known) → IsNumberSort slot.sort → NumberFits known (term_of e) slot.sort → HasAt code.instrs place (value_code known line slot e) → IsSlotOf code known x slot → AreAmong names ((x, slot) ∷ known)
+      → TasksStand code names (place + length (value_code known line slot e)) [] tail → TasksStand code known place [] (set_task line target x e ∷ tail)
+  number_set target x slot e names n fits at own among further =
+      let is = value_is known line slot e slot.sort fits in
+      let size : place + length (value_code known line slot e) ≡ place + length (expr_code known line e) + 1 = omega (arith, ap length is, length-append (expr_code known line e) (instr.Store slot.index ∷ [])) in
+      subst (λ task. TasksStand code known place [] (task ∷ tail)) (sym (set_is known line target x e slot.sort fits)) (record {
+        slot = slot;
+        number = n;
+        value = (number_begins known (term_of e) slot.sort fits, subst (HasAt code.instrs place) is at);
+        own = own;
+        further = (names, among, subst (λ p. TasksStand code names p [] tail) size further);
+      })
+
+  null_set : (target : Target) (x : Identifier) (slot : Slot) (e : Expr) (variable : NullableVariable) (names : Known) → e ≡ tree.Named tree.Null → nullable_of slot.sort slot.index ≡ Some variable → target_name target ≡ Some x → HasAt code.instrs place (value_code known line slot e)
+      → IsSlotOf code known x slot → AreAmong names ((x, slot) ∷ known) → TasksStand code names (place + length (value_code known line slot e)) [] tail → TasksStand code known place [] (set_task line target x e ∷ tail)
+  null_set target x slot e variable names null same name at own among further =
+      let is : value_code known line slot e ≡ instr.StoreNull variable ∷ [] = ap (λ (d : Expr). value_code known line slot d) null ∙ ap store_of same in
+      let there = subst (HasAt code.instrs place) is at in
+      let size : place + length (value_code known line slot e) ≡ place + 1 = omega (arith, ap length is) in
+      subst (λ (d : Expr). TasksStand code known place [] (set_task line target x d ∷ tail)) (sym null) (record {
+        empty = refl;
+        name = x;
+        is = name;
+        slot = slot;
+        variable = variable;
+        nullable = same;
+        at = there.0;
+        own = own;
+        further = (names, among, subst (λ p. TasksStand code names p [] tail) size further);
+      })
+
+  value_set : (target : Target) (x : Identifier) (kind : Sort) (i : ℕ) (e : Expr) (names : Known) → ValueFits known kind e → target_name target ≡ Some x → HasAt code.instrs place (value_code known line (record { sort = kind; index = i }) e) → IsSlotOf code known x (record { sort = kind; index = i })
+      → AreAmong names ((x, record { sort = kind; index = i }) ∷ known) → TasksStand code names (place + length (value_code known line (record { sort = kind; index = i }) e)) [] tail → TasksStand code known place [] (set_task line target x e ∷ tail)
+  value_set target x sort.Word i e names fits name at own among further = number_set target x (record { sort = sort.Word; index = i }) e names tt fits at own among further
+  value_set target x Jint i e names fits name at own among further = number_set target x (record { sort = Jint; index = i }) e names tt fits at own among further
+  value_set target x sort.Flag i e names fits name at own among further = number_set target x (record { sort = sort.Flag; index = i }) e names tt fits at own among further
+  value_set target x sort.Truth i e names fits name at own among further = absurd fits
+  value_set target x Ref i e names fits name at own among further = null_set target x (record { sort = Ref; index = i }) e (nullable.Local i) names fits refl name at own among further
+  value_set target x Global i e names fits name at own among further = null_set target x (record { sort = Global; index = i }) e (nullable.Static i) names fits refl name at own among further
+  value_set target x FieldId i e names fits name at own among further = null_set target x (record { sort = FieldId; index = i }) e (nullable.FieldId i) names fits refl name at own among further
+  value_set target x (Buffer t w) i e names fits name at own among further = null_set target x (record { sort = Buffer t w; index = i }) e (nullable.Buffer i) names fits refl name at own among further
+  value_set target x (Array t n) i e names fits name at own among further = absurd fits
+
+  -- the call's instruction stands at the place, and what comes behind it
+  reference_stands : (target : Target) (function : Identifier) (slot : ℕ) (e : Expr) → function_named function ≡ Some GetArrayLength → ReferenceFits known e → HasAt code.instrs place (call_code known line slot (tree.Value e ∷ []))
+      → TargetStands code known (λ p names. TasksStand code names p [] tail) (place + 1) (destination.Number slot) target → TasksStand code known place [] (call_task line target (record { function = function; arguments = tree.Value e ∷ [] }) ∷ tail)
+  reference_stands target function slot (tree.Named tree.Null) built fits at goes =
+      subst (λ o. TasksStand code known place [] (invocation line target (record { function = function; arguments = tree.Value (tree.Named tree.Null) ∷ [] }) o ∷ tail)) (sym built) (record {
+        call = record { line = line; target = destination.Number slot; function = callee.GetArrayLength Null };
+        at = at.0;
+        same_line = refl;
+        function = (refl, refl, inl refl);
+        goes = goes;
+      })
+  reference_stands target function slot (tree.Variable x) built (s, found, inl e) at goes =
+      let there : lookup x known ≡ Some (record { sort = Ref; index = s.index }) = found ∙ ap (λ (r : Sort). Some (record { sort = r; index = s.index })) e in
+      let operand : operand_of (lookup x known) ≡ Local s.index = ap operand_of there in
+      subst (λ o. TasksStand code known place [] (invocation line target (record { function = function; arguments = tree.Value (tree.Variable x) ∷ [] }) o ∷ tail)) (sym built) (record {
+        call = record { line = line; target = destination.Number slot; function = callee.GetArrayLength (Local s.index) };
+        at = at.0 ∙ ap (λ (r : _). Some (instr.Call (record { line = line; target = destination.Number slot; function = callee.GetArrayLength r }))) operand;
+        same_line = refl;
+        function = (refl, refl, (x, refl, there));
+        goes = goes;
+      })
+  reference_stands target function slot (tree.Variable x) built (s, found, inr e) at goes =
+      let there : lookup x known ≡ Some (record { sort = Global; index = s.index }) = found ∙ ap (λ (r : Sort). Some (record { sort = r; index = s.index })) e in
+      let operand : operand_of (lookup x known) ≡ Null = ap operand_of there in
+      subst (λ o. TasksStand code known place [] (invocation line target (record { function = function; arguments = tree.Value (tree.Variable x) ∷ [] }) o ∷ tail)) (sym built) (record {
+        call = record { line = line; target = destination.Number slot; function = callee.GetArrayLength Null };
+        at = at.0 ∙ ap (λ (r : _). Some (instr.Call (record { line = line; target = destination.Number slot; function = callee.GetArrayLength r }))) operand;
+        same_line = refl;
+        function = (refl, refl, inr (x, s.index, refl, there));
+        goes = goes;
+      })
+  reference_stands target function slot e built fits at goes = absurd fits
+
+  call_stands : (target : Target) (function : Identifier) (slot : ℕ) (arguments : List Argument) → function_named function ≡ Some GetArrayLength → ArgumentsFit known arguments → HasAt code.instrs place (call_code known line slot arguments)
+      → TargetStands code known (λ p names. TasksStand code names p [] tail) (place + 1) (destination.Number slot) target → TasksStand code known place [] (call_task line target (record { function = function; arguments = arguments }) ∷ tail)
+  call_stands target function slot (tree.Value e ∷ []) built fits at goes = reference_stands target function slot e built fits at goes
+  call_stands target function slot arguments built fits at goes = absurd fits
+
+  -- how many instructions a call with fitting arguments is
+  call_length : (slot : ℕ) (arguments : List Argument) → ArgumentsFit known arguments → length (call_code known line slot arguments) ≡ 1
+  call_length slot (tree.Value e ∷ []) fits = refl
+  call_length slot arguments fits = absurd fits
+
+  result_stands : (target : Target) (x : Identifier) (i : ℕ) (names : Known) → IsResultTarget target x → IsSlotOf code known x (record { sort = Jint; index = i }) → AreAmong names ((x, record { sort = Jint; index = i }) ∷ known) → TasksStand code names (place + 1) [] tail
+      → TargetStands code known (λ p names. TasksStand code names p [] tail) (place + 1) (destination.Number i) target
+  result_stands target x i names (inl e) own among further = subst (TargetStands code known (λ p names. TasksStand code names p [] tail) (place + 1) (destination.Number i)) (sym e) (record { own = own; further = (names, among, further) })
+  result_stands target x i names (inr e) own among further = subst (TargetStands code known (λ p names. TasksStand code names p [] tail) (place + 1) (destination.Number i)) (sym e) (record { own = own; further = (names, among, further) })
+
+  pub right_stands : (target : Target) (x : Identifier) (s : Slot) (r : RightSide) (names : Known) → RightFits known s.sort r → target_name target ≡ Some x → (s.sort ≡ Jint → IsResultTarget target x) → HasAt code.instrs place (right_code known line s r) → IsSlotOf code known x s
+      → AreAmong names ((x, s) ∷ known) → TasksStand code names (place + length (right_code known line s r)) [] tail → TasksStand code known place [] (right_side_task line target x r ∷ tail)
+  right_stands target x s (FromExpr e) names fits name result at own among further = value_set target x s.sort s.index e names fits name at own among further
+  right_stands target x s (FromCall c) names fits name result at own among further =
+      let is : s ≡ record { sort = Jint; index = s.index } = ap (λ (k : Sort). record { sort = k; index = s.index }) fits.0 in
+      let size : place + length (call_code known line s.index c.arguments) ≡ place + 1 = omega (arith, call_length s.index c.arguments fits.1.1) in
+      call_stands target c.function s.index c.arguments fits.1.0 fits.1.1 at
+      (result_stands target x s.index names (result fits.0) (subst (IsSlotOf code known x) is own) (subst (λ (k : Slot). AreAmong names ((x, k) ∷ known)) is among) (subst (λ p. TasksStand code names p [] tail) size further))
+
+-- ---- statements
+
+scalar_kind : (t : VariableType) (x : Identifier) → variable_sort t ≡ Jint → IsResultTarget (Declared (kind_of t) x) x
+scalar_kind tree.UInt32 x h = inl refl
+scalar_kind tree.JIntVariable x h = inl refl
+scalar_kind tree.JSize x h = inl refl
+scalar_kind tree.JBoolean x h = inl refl
+scalar_kind tree.JFieldId x h = absurd (cc)
+scalar_kind (tree.ReferenceVariable r) x h = absurd (cc)
+
+-- a declaration's name is known behind it, and what was known before
+self_among : (x : Identifier) (s : Slot) (known : Known) → AreAmong ((x, s) ∷ known) ((x, s) ∷ known)
+self_among x s known = all_among ((x, s) ∷ known)
+
+-- what a statement's code stands for, where the rest of the tasks stands behind it
+abbrev pub StmtBegins : Listing → Stmt → Type 0
+StmtBegins code s =
+    (l : Layout) (place : ℕ) (tail : List Task) → HasAt code.instrs place (stmt_code l s) → StmtFits l s → IsLaidOut l.known l.slots → HasRoomFor code.slots (layout_behind l s).slots
+    → TasksStand code (layout_behind l s).known (place + length (stmt_code l s)) [] tail → TasksStand code l.known place [] (task_of s ∷ tail)
+
+-- the code of both ways of an `if` behind its test
+branch_stands : (code : Listing) (line : ℕ) (e : Expr) (then' else' : Block) (l : Layout) (slots_else : _) (place : ℕ) (tail : List Task)
+    → HasAt code.instrs place (expr_code l.known line e ++ ways_code (block_code l then') (block_code (record { known = l.known; slots = slots_else }) else' ++ instr.GoOn 0 ∷ []))
+    → NumberFits l.known (term_of e) sort.Truth → BlockFits l then' → BlockFits (record { known = l.known; slots = slots_else }) else' → IsLaidOut l.known l.slots → IsLaidOut l.known slots_else
+    → HasRoomFor code.slots (block_layout l then').slots → HasRoomFor code.slots (block_layout (record { known = l.known; slots = slots_else }) else').slots
+    → TasksStand code l.known (place + length (expr_code l.known line e ++ ways_code (block_code l then') (block_code (record { known = l.known; slots = slots_else }) else' ++ instr.GoOn 0 ∷ []))) [] tail
+    → TasksStand code l.known place [] (Branch line (term_of e) then' else' ∷ tail)
+branch_stands code line e then' else' l slots_else place tail at test fits fits' laid laid' room room' further =
+    let T = expr_code l.known line e in
+    let A = block_code l then' in
+    let B = block_code (record { known = l.known; slots = slots_else }) else' in
+    let ways = has_back code.instrs place T (ways_code A (B ++ instr.GoOn 0 ∷ [])) at in
+    let behind = has_back code.instrs (place + length T + 1) A (instr.GoOn (length (B ++ instr.GoOn 0 ∷ [])) ∷ (B ++ instr.GoOn 0 ∷ [])) ways.1 in
+    let size : place + length (T ++ ways_code A (B ++ instr.GoOn 0 ∷ [])) ≡ place + length T + 1 + length A + 1 + length B + 1 =
+        omega (arith, length-append T (ways_code A (B ++ instr.GoOn 0 ∷ [])), length-append A (instr.GoOn (length (B ++ instr.GoOn 0 ∷ [])) ∷ (B ++ instr.GoOn 0 ∷ [])), length-append B (instr.GoOn 0 ∷ [])) in
+    record {
+      slots = l.slots;
+      slots_else = slots_else;
+      test = number_begins l.known (term_of e) sort.Truth test;
+      then_code = A;
+      then_is = refl;
+      else_code = B;
+      else_is = refl;
+      at = at;
+      first = record { at = has_front code.instrs (place + length T + 1) A (instr.GoOn (length (B ++ instr.GoOn 0 ∷ [])) ∷ (B ++ instr.GoOn 0 ∷ [])) ways.1; fits = fits; laid = laid; room = room };
+      second = record { at = has_front code.instrs (place + length T + 1 + length A + 1) B (instr.GoOn 0 ∷ []) behind.1; fits = fits'; laid = laid'; room = room' };
+      further = subst (λ p. TasksStand code l.known p [] tail) size further;
+    }
+
+if_stands : (code : Listing) (line : ℕ) (test : Test) (then' else' : Block) (l : Layout) (slots_else : _) (place : ℕ) (tail : List Task)
+    → HasAt code.instrs place (if_code l.known line test (block_code l then') (block_code (record { known = l.known; slots = slots_else }) else'))
+    → TestFits l.known test → BlockFits l then' → BlockFits (record { known = l.known; slots = slots_else }) else' → IsLaidOut l.known l.slots → IsLaidOut l.known slots_else
+    → HasRoomFor code.slots (block_layout l then').slots → HasRoomFor code.slots (block_layout (record { known = l.known; slots = slots_else }) else').slots
+    → TasksStand code l.known (place + length (if_code l.known line test (block_code l then') (block_code (record { known = l.known; slots = slots_else }) else'))) [] tail
+    → TasksStand code l.known place [] (if_task line test then' else' ∷ tail)
+if_stands code line (TestExpr e) then' else' l slots_else place tail at test fits fits' laid laid' room room' further = branch_stands code line e then' else' l slots_else place tail at test fits fits' laid laid' room room' further
+if_stands code line (TestCall c) then' else' l slots_else place tail at test fits fits' laid laid' room room' further = absurd test
+
+loop_stands : (code : Listing) (line : ℕ) (test : Expr) (body : Block) → StmtBegins code (tree.While line test body)
+loop_stands code line test body l place tail at fits laid room further =
+    let T = expr_code l.known line test in
+    let B = block_code l body in
+    let back = instr.GoBack (length T + 1 + length B) ∷ [] in
+    let turn = has_back code.instrs place T (turn_code T B) at in
+    let size : place + length (loop_code T B) ≡ place + length T + 1 + length B + 1 = omega (arith, length-append T (turn_code T B), length-append B back) in
+    record {
+      slots = l.slots;
+      start = place;
+      under_way = number_begins l.known (term_of test) sort.Truth fits.0;
+      fits = fits.0;
+      test_code = T;
+      test_is = refl;
+      body_code = B;
+      body_is = refl;
+      whole = at;
+      here = has_front code.instrs place T (turn_code T B) at;
+      meets = refl;
+      turn = record { at = has_front code.instrs (place + length T + 1) B back turn.1; fits = fits.1; laid = laid; room = room };
+      further = subst (λ p. TasksStand code l.known p [] tail) size further;
+    }
+
+-- the slots of a known name are there
+slot_within : (code : Listing) (l : Layout) (x : Identifier) (s : Slot) → lookup x l.known ≡ Some s → IsLaidOut l.known l.slots → HasRoomFor code.slots l.slots → IndexWithin code.slots s.sort s.index
+slot_within code l x s found laid room = index_more l.slots code.slots s.sort s.index (room_at_least code.slots l.slots room) (laid.within x s found)
+
+pair_begun : (a b : Term) → IsUntouched a → IsUntouched b → IsBegun (Binary BitOr a b)
+pair_begun a b h k = untouched_begun (Binary BitOr a b) (h, k)
+
+pair_held : (a b : Term) → IsUntouched a → IsUntouched b → [] ≡ held b ++ held a
+pair_held a b h k = sym (untouched_held (Binary BitOr a b) (h, k))
+
+element_set_stands : (code : Listing) (line : ℕ) (x : Identifier) (i e : Expr) → StmtBegins code (tree.AssignElement line x i e)
+element_set_stands code line x i e l place tail at fits laid room further =
+    let type = fits.0.0 in
+    let size = fits.0.1 in
+    let start = fits.0.2 in
+    let store = instr.StoreElement (record { start = start; len = size }) (element_of type) line ∷ [] in
+    let I = expr_code l.known line i in
+    let E = expr_code l.known line e in
+    let is : of_slot (write_code line) (lookup x l.known) ≡ store = ap (of_slot (write_code line)) fits.0.3 in
+    let there = subst (λ w. HasAt code.instrs place (I ++ (E ++ w))) is at in
+    let count : place + length (I ++ (E ++ of_slot (write_code line) (lookup x l.known))) ≡ place + (length I + length E) + 1 =
+        omega (arith, length-append I (E ++ of_slot (write_code line) (lookup x l.known)), length-append E (of_slot (write_code line) (lookup x l.known)), ap length is) in
+    record {
+      type = type;
+      size = size;
+      start = start;
+      array = fits.0.3;
+      own = record { within = slot_within code l x (record { sort = Array type size; index = start }) fits.0.3 laid room; own = laid.own x (record { sort = Array type size; index = start }) fits.0.3 };
+      index = (fits.1.0, fits.1.1, fits.1.2.sort);
+      value = fits.2.sort;
+      begun = pair_begun (term_of i) (term_of e) fits.1.2.untouched fits.2.untouched;
+      operands = pair_held (term_of i) (term_of e) fits.1.2.untouched fits.2.untouched;
+      at = there;
+      further = subst (λ p. TasksStand code l.known p [] tail) count further;
+    }
+
+returned_stands : (code : Listing) (line : ℕ) (t : Term) (l : Layout) (place : ℕ) (tail : List Task) → HasAt code.instrs place (return_code l.known line t) → ReturnFits l.known t → TasksStand code l.known place [] (ReturnValue line t ∷ tail)
+returned_stands code line (term.Named tree.Null) l place tail at fits = inr (inl (refl, at.0))
+returned_stands code line (Read x) l place tail at (s, found, inl e) =
+    let there : lookup x l.known ≡ Some (record { sort = Ref; index = s.index }) = found ∙ ap (λ (r : Sort). Some (record { sort = r; index = s.index })) e in
+    let one = subst (HasAt code.instrs place) (ap (of_slot returned_code) there) at in
+    inr (inr (x, s.index, refl, there, one.0))
+returned_stands code line (Read x) l place tail at (s, found, inr e) =
+    let there : lookup x l.known ≡ Some (record { sort = Jint; index = s.index }) = found ∙ ap (λ (r : Sort). Some (record { sort = r; index = s.index })) e in
+    let load : term_code l.known line (Read x) ++ instr.ReturnJint ∷ [] ≡ of_slot returned_code (lookup x l.known) = rw there refl in
+    inl (record { sort = (s.index, there, tt); begun = tt; operands = refl }, subst (HasAt code.instrs place) (sym load) at)
+returned_stands code line t l place tail at fits = inl (number_begins l.known t Jint fits, at)
+
+pub stmt_begins : (code : Listing) (s : Stmt) → StmtBegins code s
+stmt_begins code (tree.Declare line t x r) l place tail at fits laid room further =
+    right_stands code l.known line place tail (Declared (kind_of t) x) x (new_slot (variable_sort t) l) r ((x, new_slot (variable_sort t) l) ∷ l.known) fits.1 refl (scalar_kind t x) at (declared_slot code (variable_sort t) l x (variable_size t) laid room) (self_among x (new_slot (variable_sort t) l) l.known) further
+stmt_begins code (tree.DeclareBuffer line t x r) l place tail at fits laid room further =
+    right_stands code l.known line place tail (Declared (BufferKind t) x) x (new_slot (Buffer t true) l) r ((x, new_slot (Buffer t true) l) ∷ l.known) fits.1 refl (λ e. absurd (cc)) at (declared_slot code (Buffer t true) l x tt laid room) (self_among x (new_slot (Buffer t true) l) l.known) further
+stmt_begins code (tree.DeclareChars line x r) l place tail at fits laid room further =
+    right_stands code l.known line place tail (Declared (BufferKind JChar) x) x (new_slot (Buffer JChar false) l) r ((x, new_slot (Buffer JChar false) l) ∷ l.known) fits.1 refl (λ e. absurd (cc)) at (declared_slot code (Buffer JChar false) l x tt laid room) (self_among x (new_slot (Buffer JChar false) l) l.known) further
+stmt_begins code (tree.DeclareArray line t x size) l place tail at fits laid room further = record {
+  empty = refl;
+  start = l.slots.numbers;
+  at = at.0;
+  own = declared_slot code (Array t size) l x (fits.1, fits.2) laid room;
+  further = ((x, new_slot (Array t size) l) ∷ l.known, self_among x (new_slot (Array t size) l) l.known, further);
+}
+stmt_begins code (tree.Assign line x r) l place tail at fits laid room further =
+    let slot = fits.0 in
+    let found = fits.1 in
+    let there = subst (HasAt code.instrs place) (ap (λ (o : Option Slot). assign_code l.known line o r) found) at in
+    let own : IsSlotOf code l.known x slot = record { within = slot_within code l x slot found laid room; own = laid.own x slot found } in
+    right_stands code l.known line place tail (Assigned x) x slot r l.known fits.2 refl (λ e. inr refl) there own (known_among x slot l.known found)
+    (subst (λ c. TasksStand code l.known (place + length c) [] tail) (ap (λ (o : Option Slot). assign_code l.known line o r) found) further)
+stmt_begins code (tree.AssignElement line x i e) l place tail at fits laid room further = element_set_stands code line x i e l place tail at fits laid room further
+stmt_begins code (tree.Perform line c) l place tail at fits laid room further =
+    let size : place + length (call_code l.known line l.slots.numbers c.arguments) ≡ place + 1 = omega (arith, call_length code l.known line place tail l.slots.numbers c.arguments fits.1) in
+    call_stands code l.known line place tail Dropped c.function l.slots.numbers c.arguments fits.0 fits.1 at (record {
+      within = room.numbers;
+      free = free_slot l.known l.slots laid;
+      further = subst (λ p. TasksStand code l.known p [] tail) size further;
+    })
+stmt_begins code (tree.PutJint line e) l place tail at fits laid room further =
+    let size : place + length (expr_code l.known line e ++ instr.PutJint ∷ []) ≡ place + length (expr_code l.known line e) + 1 = omega (arith, length-append (expr_code l.known line e) (instr.PutJint ∷ [])) in
+    ((number_begins l.known (term_of e) Jint fits, at), subst (λ p. TasksStand code l.known p [] tail) size further)
+stmt_begins code (tree.If line test then') l place tail at fits laid room further =
+    let grown = block_grows then' l in
+    if_stands code line test then' (End line) l (block_layout l then').slots place tail at fits.0 fits.1 tt laid (laid_more l.known l.slots (block_layout l then').slots grown laid) room room further
+stmt_begins code (tree.IfElse line test then' else') l place tail at fits laid room further =
+    let first = closed l (block_layout l then') in
+    let grown = block_grows then' l in
+    let grown' = block_grows else' first in
+    if_stands code line test then' else' l first.slots place tail at fits.0 fits.1 fits.2 laid (laid_more l.known l.slots first.slots grown laid) (room_before code.slots first.slots (block_layout first else').slots grown' room) room further
+stmt_begins code (tree.While line test body) l place tail at fits laid room further = loop_stands code line test body l place tail at fits laid room further
+stmt_begins code (tree.Return line) l place tail at fits laid room further = (refl, at.0)
+stmt_begins code (tree.ReturnValue line e) l place tail at fits laid room further = returned_stands code line (term_of e) l place tail at fits
+
+-- ---- blocks
+
+-- Code that stands at a place stands for its statements and what is to do behind them, where all names are known that were
+-- known in front of the block.
+pub begins : (code : Listing) (b : Block) (l : Layout) (place : ℕ) (tail : List Task) → BlockStands code l place b
+    → ((names : Known) → AreAmong l.known names → TasksStand code names (place + length (block_code l b)) [] tail) → TasksStand code l.known place [] (tasks_of b ++ tail)
+begins code (End line) l place tail stands further =
+    let e : place + 0 ≡ place = omega arith in
+    subst (λ p. TasksStand code l.known p [] tail) e (further l.known (all_among l.known))
+begins code (Next s rest) l place tail stands further =
+    let own = stmt_code l s in
+    let next = layout_behind l s in
+    let others = block_code next rest in
+    let size : place + length own + length others ≡ place + length (own ++ others) = omega (arith, length-append own others) in
+    stmt_begins code s l place (tasks_of rest ++ tail) (has_front code.instrs place own others stands.at) stands.fits.0 stands.laid (room_before code.slots next.slots (block_layout next rest).slots (block_grows rest next) stands.room)
+    (begins code rest next (place + length own) tail
+    (record { at = has_back code.instrs place own others stands.at; fits = stands.fits.1; laid = laid_behind s l stands.fits.0 stands.laid; room = stands.room })
+    (λ names among. subst (λ p. TasksStand code names p [] tail) (sym size) (further names (λ x t h. among x t (known_behind_stmt s l stands.fits.0 x t h)))))

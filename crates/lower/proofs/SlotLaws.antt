@@ -1,0 +1,254 @@
+-- What the slots show once a variable is set.
+use Rattle.std.proofs.Common.{◌≡◌, ◌≢◌, ℕ, zero, suc, ℤ, pos, lit<, ◌+◌, ◌<◌, ◌≤◌, Bool, true, false, List, [], ◌∷◌, ◌++◌, length, Option, Some, None, refl, sym, ap, ◌∙◌, subst, arith, if◌then◌else◌}
+use Rattle.std.specs.Prelude.{slice_get, slice_set, nat_lt, ◌==◌, FitsSigned}
+use Rattle.std.specs.Int.{w32, cast_unsigned}
+use Rattle.std.specs.Str.{bytes_eq}
+use Rattle.std.proofs.lemmas.List.{length-set}
+use Rattle.std.proofs.lemmas.Bool.{ltb-true, ltb-false, eqb-true}
+use Rattle.std.proofs.lemmas.Slice.Eq.{bytes_eq-Decides}
+use Rattle.std.proofs.lemmas.Bool.Decides.{not_from_Decides, Decides-eqb}
+use Rattle.base.specs.Bytes.{Identifier, lookup}
+use Rattle.base.specs.Element.{ElementType}
+use Rattle.types.specs.Sorts.{Sort, Jint, Ref, Global, FieldId, Buffer, Array}
+use Rattle.types.specs.Sorts as sort
+use Rattle.world.specs.Object.{Reference}
+use Rattle.regions.specs.Value.{Value, Gives, convert}
+use Rattle.code.specs.declared.instr.LocalArray.{LocalArray}
+use Rattle.code.specs.declared.instr.NullableVariable.{NullableVariable}
+use Rattle.code.specs.declared.instr.NullableVariable.TheVariants as nullable
+use Rattle.code.specs.Depth.{Listing}
+use Rattle.code.specs.Effect.{cleared}
+use Rattle.code.proofs.Arrays.{cleared_element, cleared_before, cleared_behind}
+use Rattle.lower.specs.Layout.{Slot, Known, width}
+use Rattle.lower.specs.Coding.{nullable_of}
+use Rattle.lower.specs.Slots.{word_of, ValueHasSort, IsNumberSort, Visible, IsAsBefore, OthersStay, IsSet, IsNulled, IsMade, IsElementSet, Slots, ShowsNumber, ShowsElement, ShowsArray, ShowsSlot, Shows, with_null}
+use Rattle.lower.specs.Fits.{IsPlaceOf, AreApart, IsOwn, IndexWithin}
+use Rattle.lower.specs.Stands.{AreAmong, IsSlotOf}
+
+-- ---- a slot is written
+
+pub get-set_same : {A : Type 0} (xs : List A) (i : ℕ) (w : A) → i < length xs → slice_get (slice_set xs i w) i ≡ Some w
+get-set_same [] i w below = absurd (omega arith)
+get-set_same (x ∷ xs) zero w below = refl
+get-set_same (x ∷ xs) (suc i) w below = get-set_same xs i w (omega arith)
+
+pub get-set_other : {A : Type 0} (xs : List A) (i j : ℕ) (w : A) → j ≢ i → slice_get (slice_set xs i w) j ≡ slice_get xs j
+get-set_other [] i j w other = refl
+get-set_other (x ∷ xs) zero zero w other = absurd (other refl)
+get-set_other (x ∷ xs) zero (suc j) w other = refl
+get-set_other (x ∷ xs) (suc i) zero w other = refl
+get-set_other (x ∷ xs) (suc i) (suc j) w other = get-set_other xs i j w (λ e. other (ap suc e))
+
+-- ---- names
+
+-- the name that is looked for is the first, or it stands behind
+pub first_or_behind : (x y : Identifier) (s t : Slot) (known : Known) → (P : Type 0) → (y ≡ x → s ≡ t → P) → (y ≢ x → lookup y known ≡ Some t → P) → lookup y ((x, s) ∷ known) ≡ Some t → P
+first_or_behind x y s t known P here further at =
+    elim (bytes_eq y x) as (λ b. bytes_eq y x ≡ b → (if b then Some s else lookup y known) ≡ Some t → P) [
+      | true ↦ λ e h. here ((bytes_eq-Decides y x).0 e) cc
+      | false ↦ λ e h. further (not_from_Decides (bytes_eq y x) (bytes_eq-Decides y x) e) h
+    ] refl at
+
+-- a name that has the slot already is among the others
+pub known_among : (x : Identifier) (s : Slot) (known : Known) → lookup x known ≡ Some s → AreAmong known ((x, s) ∷ known)
+known_among x s known at y t h =
+    elim (bytes_eq y x) as (λ b. bytes_eq y x ≡ b → (if b then Some s else lookup y known) ≡ Some t) [
+      | true ↦ λ e. sym at ∙ ap (λ (z : Identifier). lookup z known) (sym ((bytes_eq-Decides y x).0 e)) ∙ h
+      | false ↦ λ e. h
+    ] refl
+
+-- so are names that have not this one
+pub new_among : (x : Identifier) (s : Slot) (known : Known) → lookup x known ≡ None → AreAmong known ((x, s) ∷ known)
+new_among x s known new y t h =
+    elim (bytes_eq y x) as (λ b. bytes_eq y x ≡ b → (if b then Some s else lookup y known) ≡ Some t) [
+      | true ↦ λ e. absurd (let none : lookup y known ≡ None = ap (λ (z : Identifier). lookup z known) ((bytes_eq-Decides y x).0 e) ∙ new in let c : Some t ≡ None = sym h ∙ none in cc)
+      | false ↦ λ e. h
+    ] refl
+
+pub all_among : (known : Known) → AreAmong known known
+all_among known x s h = h
+
+pub fewer_shown : (code : Listing) (names known : Known) (visible : Visible) (slots : Slots) → AreAmong names known → Shows code known visible slots → Shows code names visible slots
+fewer_shown code names known visible slots among shows = record { numbers = shows.numbers; references = shows.references; each = λ x s at. shows.each x s (among x s at) }
+
+-- ---- what stays
+
+number_place_at : (kind : Sort) (i : ℕ) → IsNumberSort kind → IsPlaceOf (record { sort = kind; index = i }) i
+number_place_at sort.Word i h = (omega arith, omega arith)
+number_place_at Jint i h = (omega arith, omega arith)
+number_place_at sort.Flag i h = (omega arith, omega arith)
+number_place_at kind i h = absurd h
+
+pub number_place : (s : Slot) → IsNumberSort s.sort → IsPlaceOf s s.index
+number_place s h = number_place_at s.sort s.index h
+
+module _ (old new : Visible) (x : Identifier) (slots slots' : Slots) (same : IsAsBefore old new x) where
+  number_stays : (kind : Sort) (i : ℕ) → slice_get slots'.numbers i ≡ slice_get slots.numbers i → ShowsNumber (old.sight.number x) slots.numbers (record { sort = kind; index = i }) → ShowsNumber (new.sight.number x) slots'.numbers (record { sort = kind; index = i })
+  number_stays kind i word h = record { value = h.value; is = same.number ∙ h.is; sort = h.sort; word = word ∙ h.word }
+
+  pub slot_stays : (kind : Sort) (i : ℕ) → ((k : ℕ) → IsPlaceOf (record { sort = kind; index = i }) k → slice_get slots'.numbers k ≡ slice_get slots.numbers k) → (kind ≡ Ref → slice_get slots'.references i ≡ slice_get slots.references i)
+      → ShowsSlot old x slots (record { sort = kind; index = i }) kind → ShowsSlot new x slots' (record { sort = kind; index = i }) kind
+  slot_stays sort.Word i numbers references h = number_stays sort.Word i (numbers i (omega arith, omega arith)) h
+  slot_stays Jint i numbers references h = number_stays Jint i (numbers i (omega arith, omega arith)) h
+  slot_stays sort.Flag i numbers references h = number_stays sort.Flag i (numbers i (omega arith, omega arith)) h
+  slot_stays sort.Truth i numbers references h = tt
+  slot_stays Ref i numbers references h = record { reference = h.reference; is = same.reference ∙ h.is; is_null = same.is_null ∙ h.is_null; no_number = same.number ∙ h.no_number; there = references refl ∙ h.there }
+  slot_stays Global i numbers references h = record { is_null = same.is_null ∙ h.is_null; reference = same.reference ∙ h.reference }
+  slot_stays FieldId i numbers references h = same.is_null ∙ h
+  slot_stays (Buffer t writable) i numbers references h = same.is_null ∙ h
+  slot_stays (Array t size) i numbers references h = record {
+    few = h.few;
+    array_type = same.array_type ∙ h.array_type;
+    elements = λ k below.
+        let element = h.elements k below in
+        record { number = element.number; is = same.element k ∙ element.is; fits = element.fits; word = numbers (i + k) (omega arith, omega arith) ∙ element.word };
+    past = λ k above. same.element k ∙ h.past k above;
+  }
+
+-- A name has this slot, which it shows, and the others are as they were.
+module _ (code : Listing) (known : Known) (old new : Visible) (slots slots' : Slots) (x : Identifier) (s : Slot) (shows : Shows code known old slots) (own : IsOwn known x s) (others : OthersStay old new x) where
+  pub with_changed : length slots'.numbers ≡ length slots.numbers → length slots'.references ≡ length slots.references → ((k : ℕ) → (IsPlaceOf s k → ⊥) → slice_get slots'.numbers k ≡ slice_get slots.numbers k)
+      → ((i : ℕ) → (s.sort ≡ Ref → i ≢ s.index) → slice_get slots'.references i ≡ slice_get slots.references i) → ShowsSlot new x slots' s s.sort → Shows code ((x, s) ∷ known) new slots'
+  with_changed numbers references number reference here = record {
+    numbers = numbers ∙ shows.numbers;
+    references = references ∙ shows.references;
+    each = λ y t at.
+        first_or_behind x y s t known (ShowsSlot new y slots' t t.sort)
+        (λ same is. subst (λ (z : Identifier). ShowsSlot new z slots' t t.sort) (sym same) (subst (λ (r : Slot). ShowsSlot new x slots' r r.sort) is here))
+        (λ other h.
+            let apart = own y t h other in
+            slot_stays old new y slots slots' (others y other) t.sort t.index
+            (λ k p. number k (λ q. apart.numbers k p q))
+            (λ e. reference t.index (λ e'. apart.references e e'))
+            (shows.each y t h)) at;
+  }
+
+-- ---- a number variable is set
+
+number_shown : (visible : Visible) (x : Identifier) (slots : Slots) (s : Slot) (kind : Sort) → IsNumberSort kind → ShowsNumber (visible.sight.number x) slots.numbers s → ShowsSlot visible x slots s kind
+number_shown visible x slots s sort.Word n h = h
+number_shown visible x slots s Jint n h = h
+number_shown visible x slots s sort.Flag n h = h
+number_shown visible x slots s kind n h = absurd n
+
+place_within : (code : Listing) (kind : Sort) (i : ℕ) → IsNumberSort kind → IndexWithin code.slots kind i → i < code.slots.numbers
+place_within code sort.Word i n h = h
+place_within code Jint i n h = h
+place_within code sort.Flag i n h = h
+place_within code kind i n h = absurd n
+
+pub number_below : (code : Listing) (known : Known) (x : Identifier) (s : Slot) → IsNumberSort s.sort → IsSlotOf code known x s → s.index < code.slots.numbers
+number_below code known x s n own = place_within code s.sort s.index n own.within
+
+pub shows_set : (code : Listing) (known : Known) (old new : Visible) (slots : Slots) (x : Identifier) (s : Slot) (v : Value) → Shows code known old slots → IsSlotOf code known x s → IsNumberSort s.sort → ValueHasSort v s.sort → IsSet old x v new
+    → Shows code ((x, s) ∷ known) new (record slots { numbers = slice_set slots.numbers s.index (word_of v) })
+shows_set code known old new slots x s v shows own n fits set =
+    let below : s.index < length slots.numbers = omega (arith, number_below code known x s n own, shows.numbers) in
+    with_changed code known old new slots (record slots { numbers = slice_set slots.numbers s.index (word_of v) }) x s shows own.own set.others
+    (length-set slots.numbers s.index (word_of v)) refl
+    (λ k outside. get-set_other slots.numbers s.index k (word_of v) (λ e. outside (subst (IsPlaceOf s) (sym e) (number_place s n))))
+    (λ i other. refl)
+    (number_shown new x (record slots { numbers = slice_set slots.numbers s.index (word_of v) }) s s.sort n (record { value = v; is = set.is; sort = fits; word = get-set_same slots.numbers s.index (word_of v) below }))
+
+-- ---- a variable is made NULL
+
+pub shows_nulled : (code : Listing) (known : Known) (old new : Visible) (slots : Slots) (x : Identifier) (kind : Sort) (i : ℕ) (variable : NullableVariable) → Shows code known old slots → IsSlotOf code known x (record { sort = kind; index = i }) → nullable_of kind i ≡ Some variable → IsNulled old x new
+    → Shows code ((x, record { sort = kind; index = i }) ∷ known) new (with_null variable slots)
+shows_nulled code known old new slots x Ref i variable shows own same set =
+    let is : nullable.Local i ≡ variable = cc in
+    let below : i < length slots.references = omega (arith, own.within, shows.references) in
+    subst (λ v. Shows code ((x, record { sort = Ref; index = i }) ∷ known) new (with_null v slots)) is
+    (with_changed code known old new slots (record slots { references = slice_set slots.references i None }) x (record { sort = Ref; index = i }) shows own.own set.others
+    refl (length-set slots.references i None) (λ k outside. refl) (λ j other. get-set_other slots.references i j None (other refl))
+    (record { reference = None; is = set.reference; is_null = set.is_null; no_number = set.number; there = get-set_same slots.references i None below }))
+shows_nulled code known old new slots x Global i variable shows own same set =
+    let is : nullable.Static i ≡ variable = cc in
+    subst (λ v. Shows code ((x, record { sort = Global; index = i }) ∷ known) new (with_null v slots)) is
+    (with_changed code known old new slots slots x (record { sort = Global; index = i }) shows own.own set.others refl refl (λ k outside. refl) (λ j other. refl) (record { is_null = set.is_null; reference = set.reference }))
+shows_nulled code known old new slots x FieldId i variable shows own same set =
+    let is : nullable.FieldId i ≡ variable = cc in
+    subst (λ v. Shows code ((x, record { sort = FieldId; index = i }) ∷ known) new (with_null v slots)) is
+    (with_changed code known old new slots slots x (record { sort = FieldId; index = i }) shows own.own set.others refl refl (λ k outside. refl) (λ j other. refl) set.is_null)
+shows_nulled code known old new slots x (Buffer t writable) i variable shows own same set =
+    let is : nullable.Buffer i ≡ variable = cc in
+    subst (λ v. Shows code ((x, record { sort = Buffer t writable; index = i }) ∷ known) new (with_null v slots)) is
+    (with_changed code known old new slots slots x (record { sort = Buffer t writable; index = i }) shows own.own set.others refl refl (λ k outside. refl) (λ j other. refl) set.is_null)
+shows_nulled code known old new slots x kind i variable shows own same set = absurd (cc)
+
+-- ---- a local array
+
+-- a slot that is none of an array's is in front of it or behind it
+outside_array : (t : ElementType) (size start k : ℕ) → (IsPlaceOf (record { sort = Array t size; index = start }) k → ⊥) → (b : Bool) → nat_lt k start ≡ b → start ≤ k → start + size ≤ k
+outside_array t size start k outside true h above = absurd (let below = ltb-true k start h in omega arith)
+outside_array t size start k outside false h above =
+    elim (nat_lt k (start + size)) as (λ b. nat_lt k (start + size) ≡ b → start + size ≤ k) [
+      | true ↦ λ e. absurd (outside (above, ltb-true k (start + size) e))
+      | false ↦ λ e. ltb-false k (start + size) e
+    ] refl
+
+cleared_outside : (t : ElementType) (size start k : ℕ) (numbers : List ℕ) → start + size ≤ length numbers → (IsPlaceOf (record { sort = Array t size; index = start }) k → ⊥) → (b : Bool) → nat_lt k start ≡ b
+    → slice_get (cleared (record { start = start; len = size }) numbers) k ≡ slice_get numbers k
+cleared_outside t size start k numbers inside outside true h = cleared_before (record { start = start; len = size }) numbers inside k (ltb-true k start h)
+cleared_outside t size start k numbers inside outside false h =
+    let above : start ≤ k = ltb-false k start h in
+    cleared_behind (record { start = start; len = size }) numbers inside k (outside_array t size start k outside false h above)
+
+pub shows_made : (code : Listing) (known : Known) (old new : Visible) (slots : Slots) (t : ElementType) (x : Identifier) (size start : ℕ) → Shows code known old slots → IsSlotOf code known x (record { sort = Array t size; index = start })
+    → length (cleared (record { start = start; len = size }) slots.numbers) ≡ length slots.numbers → IsMade old t x size new
+    → Shows code ((x, record { sort = Array t size; index = start }) ∷ known) new (record slots { numbers = cleared (record { start = start; len = size }) slots.numbers })
+shows_made code known old new slots t x size start shows own keeps made =
+    let inside : start + size ≤ length slots.numbers = omega (arith, own.within.2, shows.numbers) in
+    with_changed code known old new slots (record slots { numbers = cleared (record { start = start; len = size }) slots.numbers }) x (record { sort = Array t size; index = start }) shows own.own made.others
+    keeps refl
+    (λ k outside. cleared_outside t size start k slots.numbers inside outside (nat_lt k start) refl)
+    (λ i other. refl)
+    (record {
+      few = own.within.1;
+      array_type = made.array_type;
+      elements = λ k below. record { number = pos 0; is = made.zeros k below; fits = record { sfits = lit< tt }; word = cleared_element (record { start = start; len = size }) slots.numbers inside k below };
+      past = made.past;
+    })
+
+-- the element that is written, and another
+element_set : (old new : Visible) (numbers : List ℕ) (t : ElementType) (x : Identifier) (start index k : ℕ) (z : ℤ) (word : ℕ) → start + index < length numbers → word ≡ cast_unsigned w32 (convert t z) → FitsSigned w32 (convert t z) → IsElementSet old t x index z new
+    → ShowsElement (old.sight.element x k) numbers (start + k) → (b : Bool) → (k == index) ≡ b → ShowsElement (new.sight.element x k) (slice_set numbers (start + index) word) (start + k)
+element_set old new numbers t x start index k z word inside is fits set old_element true e =
+    let same : k ≡ index = eqb-true k index e in
+    subst (λ (n : ℕ). ShowsElement (new.sight.element x n) (slice_set numbers (start + index) word) (start + n)) (sym same)
+    (record { number = convert t z; is = set.is; fits = fits; word = get-set_same numbers (start + index) word inside ∙ ap (λ (w : ℕ). Some w) is })
+element_set old new numbers t x start index k z word inside is fits set old_element false e =
+    let other : k ≢ index = not_from_Decides (k == index) (Decides-eqb k index) e in
+    record { number = old_element.number; is = set.elements k other ∙ old_element.is; fits = old_element.fits; word = get-set_other numbers (start + index) (start + k) word (λ s. other (omega (arith, s))) ∙ old_element.word }
+
+-- an element is written
+pub shows_element_set : (code : Listing) (known : Known) (old new : Visible) (slots : Slots) (t : ElementType) (x : Identifier) (size start index : ℕ) (z : ℤ) (word : ℕ) → Shows code known old slots → lookup x known ≡ Some (record { sort = Array t size; index = start })
+    → IsSlotOf code known x (record { sort = Array t size; index = start }) → index < size → word ≡ cast_unsigned w32 (convert t z) → FitsSigned w32 (convert t z) → IsElementSet old t x index z new
+    → Shows code known new (record slots { numbers = slice_set slots.numbers (start + index) word })
+shows_element_set code known old new slots t x size start index z word shows at own below is fits set =
+    let array = shows.each x (record { sort = Array t size; index = start }) at in
+    let inside : start + index < length slots.numbers = omega (arith, own.within.2, shows.numbers, below) in
+    fewer_shown code known ((x, record { sort = Array t size; index = start }) ∷ known) new (record slots { numbers = slice_set slots.numbers (start + index) word }) (known_among x (record { sort = Array t size; index = start }) known at)
+    (with_changed code known old new slots (record slots { numbers = slice_set slots.numbers (start + index) word }) x (record { sort = Array t size; index = start }) shows own.own set.others
+    (length-set slots.numbers (start + index) word) refl
+    (λ k outside. get-set_other slots.numbers (start + index) k word (λ e. outside (omega (arith, e), omega (arith, e, below))))
+    (λ i other. refl)
+    (record {
+      few = array.few;
+      array_type = set.array_type ∙ array.array_type;
+      elements = λ k small. element_set old new slots.numbers t x start index k z word inside is fits set (array.elements k small) (k == index) refl;
+      past = λ k above. set.elements k (λ e. omega (arith, e, above, below)) ∙ array.past k above;
+    }))
+
+-- ---- a slot that no name has
+
+pub shows_dropped : (code : Listing) (known : Known) (visible : Visible) (slots : Slots) (i word : ℕ) → Shows code known visible slots → ((x : Identifier) (s : Slot) → lookup x known ≡ Some s → IsPlaceOf s i → ⊥)
+    → Shows code known visible (record slots { numbers = slice_set slots.numbers i word })
+shows_dropped code known visible slots i word shows free = record {
+  numbers = length-set slots.numbers i word ∙ shows.numbers;
+  references = shows.references;
+  each = λ x s at.
+      slot_stays visible visible x slots (record slots { numbers = slice_set slots.numbers i word }) (record { number = refl; is_null = refl; element = λ k. refl; reference = refl; array_type = refl }) s.sort s.index
+      (λ k p. get-set_other slots.numbers i k word (λ e. free x s at (subst (IsPlaceOf s) e p)))
+      (λ e. refl)
+      (shows.each x s at);
+}

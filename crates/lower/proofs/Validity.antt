@@ -1,0 +1,174 @@
+-- The code of a body keeps the stack in its range, and its jumps lead inside.
+use Rattle.std.proofs.Common.{◌≡◌, ℕ, suc, ◌+◌, ◌<◌, ◌≤◌, ◌⊎◌, inl, inr, Bool, true, false, List, [], ◌∷◌, ◌++◌, length, Option, Some, None, refl, sym, ap, ◌∙◌, subst, arith}
+use Rattle.std.proofs.lemmas.Bool.{lt-ltb}
+use Rattle.base.specs.Bytes.{Identifier, lookup}
+use Rattle.syntax.specs.Tree as tree
+use Rattle.syntax.specs.Tree.{PrefixOp, LogicalNot, Complement, ToWord, ToInt, BinaryOp, LogicalOr, LogicalAnd, BitOr, BitXor, BitAnd, Equal, NotEqual, Less, LessEqual, Greater, GreaterEqual, ShiftLeft, ShiftRight, Add, Subtract, Multiply, Divide, Remainder, Expr, Argument, RightSide, FromExpr, FromCall, Test, TestExpr, TestCall, Stmt, Block, End, Next}
+use Rattle.types.specs.Sorts.{Sort, Jint, Ref, Global, FieldId, Buffer, Array}
+use Rattle.types.specs.Sorts as sort
+use Rattle.code.specs.declared.instr.Instr.{Instr}
+use Rattle.code.specs.declared.instr.Instr.TheVariants as instr
+use Rattle.code.specs.Depth.{depth_after}
+use Rattle.code.proofs.Pieces.{IsPiece, piece_none, piece_append, piece_one, piece_and, piece_or, piece_if, piece_end, piece_loop}
+use Rattle.regions.specs.Term as term
+use Rattle.regions.specs.Term.{Term, Done, Read, IsNull, Prefix, And, Or, Binary, term_of}
+use Rattle.lower.specs.Layout.{Slot, Known, Layout, new_slot, closed, layout_behind, block_layout}
+use Rattle.lower.specs.Coding.{nullable_of, store_of, test_of, null_code, element_of, element_code, write_code, of_slot, load_code, prefix_code, operator_code, is_signed, skip_code, term_code, expr_code, call_code, value_code, right_code, assign_code, returned_code, return_code, test_code, ways_code, if_code, stmt_code, block_code}
+use Rattle.lower.specs.Fits.{IsNullable, TermHasSort, IsUntouched, term_height, NumberFits, ReferenceFits, ArgumentsFit, ValueFits, RightFits, TestFits, ReturnFits, StmtFits, BlockFits}
+use Rattle.lower.proofs.Bodies.{value_is}
+
+-- ---- instructions
+
+pushed : (n d : ℕ) → d < 64 → depth_after (instr.Push n) d ≡ Some (suc d)
+pushed n d h = rw (lt-ltb d 64 h) refl
+
+push_piece : (n d : ℕ) → d < 64 → IsPiece (instr.Push n ∷ []) d (suc d)
+push_piece n d h = piece_one (instr.Push n) d (suc d) (pushed n d h) tt
+
+load_piece : (i d : ℕ) → d < 64 → IsPiece (instr.Load i ∷ []) d (suc d)
+load_piece i d h = piece_one (instr.Load i) d (suc d) (rw (lt-ltb d 64 h) refl) tt
+
+null_piece : (equal : Bool) (s : Sort) (i d : ℕ) → IsNullable s → d < 64 → IsPiece (test_of equal (nullable_of s i)) d (suc d)
+null_piece equal Ref i d n h = piece_one (instr.TestNull _ equal) d (suc d) (rw (lt-ltb d 64 h) refl) tt
+null_piece equal Global i d n h = piece_one (instr.TestNull _ equal) d (suc d) (rw (lt-ltb d 64 h) refl) tt
+null_piece equal FieldId i d n h = piece_one (instr.TestNull _ equal) d (suc d) (rw (lt-ltb d 64 h) refl) tt
+null_piece equal (Buffer t w) i d n h = piece_one (instr.TestNull _ equal) d (suc d) (rw (lt-ltb d 64 h) refl) tt
+null_piece equal s i d n h = absurd n
+
+prefix_piece : (op : PrefixOp) (d : ℕ) → IsPiece (prefix_code op ∷ []) (suc d) (suc d)
+prefix_piece LogicalNot d = piece_one instr.Not (suc d) (suc d) refl tt
+prefix_piece Complement d = piece_one instr.Complement (suc d) (suc d) refl tt
+prefix_piece ToWord d = piece_one instr.Convert (suc d) (suc d) refl tt
+prefix_piece ToInt d = piece_one instr.Convert (suc d) (suc d) refl tt
+
+operator_piece : (line : ℕ) (signed : Bool) (op : BinaryOp) (d : ℕ) → IsPiece (operator_code line signed op ∷ []) (suc (suc d)) (suc d)
+operator_piece line signed LogicalOr d = piece_one (operator_code line signed LogicalOr) (suc (suc d)) (suc d) refl tt
+operator_piece line signed LogicalAnd d = piece_one (operator_code line signed LogicalAnd) (suc (suc d)) (suc d) refl tt
+operator_piece line signed BitOr d = piece_one (operator_code line signed BitOr) (suc (suc d)) (suc d) refl tt
+operator_piece line signed BitXor d = piece_one (operator_code line signed BitXor) (suc (suc d)) (suc d) refl tt
+operator_piece line signed BitAnd d = piece_one (operator_code line signed BitAnd) (suc (suc d)) (suc d) refl tt
+operator_piece line signed Equal d = piece_one (operator_code line signed Equal) (suc (suc d)) (suc d) refl tt
+operator_piece line signed NotEqual d = piece_one (operator_code line signed NotEqual) (suc (suc d)) (suc d) refl tt
+operator_piece line true Less d = piece_one (operator_code line true Less) (suc (suc d)) (suc d) refl tt
+operator_piece line false Less d = piece_one (operator_code line false Less) (suc (suc d)) (suc d) refl tt
+operator_piece line true LessEqual d = piece_one (operator_code line true LessEqual) (suc (suc d)) (suc d) refl tt
+operator_piece line false LessEqual d = piece_one (operator_code line false LessEqual) (suc (suc d)) (suc d) refl tt
+operator_piece line true Greater d = piece_one (operator_code line true Greater) (suc (suc d)) (suc d) refl tt
+operator_piece line false Greater d = piece_one (operator_code line false Greater) (suc (suc d)) (suc d) refl tt
+operator_piece line true GreaterEqual d = piece_one (operator_code line true GreaterEqual) (suc (suc d)) (suc d) refl tt
+operator_piece line false GreaterEqual d = piece_one (operator_code line false GreaterEqual) (suc (suc d)) (suc d) refl tt
+operator_piece line signed ShiftLeft d = piece_one (operator_code line signed ShiftLeft) (suc (suc d)) (suc d) refl tt
+operator_piece line signed ShiftRight d = piece_one (operator_code line signed ShiftRight) (suc (suc d)) (suc d) refl tt
+operator_piece line signed Add d = piece_one (operator_code line signed Add) (suc (suc d)) (suc d) refl tt
+operator_piece line signed Subtract d = piece_one (operator_code line signed Subtract) (suc (suc d)) (suc d) refl tt
+operator_piece line signed Multiply d = piece_one (operator_code line signed Multiply) (suc (suc d)) (suc d) refl tt
+operator_piece line signed Divide d = piece_one (operator_code line signed Divide) (suc (suc d)) (suc d) refl tt
+operator_piece line signed Remainder d = piece_one (operator_code line signed Remainder) (suc (suc d)) (suc d) refl tt
+
+-- ---- expressions
+
+pub term_piece : (known : Known) (line : ℕ) (t : Term) (s : Sort) (d : ℕ) → TermHasSort known t s → IsUntouched t → d + term_height t < 64 → IsPiece (term_code known line t) d (suc d)
+term_piece known line (Done v) s d sorted u h = absurd u
+term_piece known line (term.Number n signed) s d sorted u h = push_piece n d (omega arith)
+term_piece known line (term.Named tree.True) s d sorted u h = push_piece 1 d (omega arith)
+term_piece known line (term.Named tree.False) s d sorted u h = push_piece 0 d (omega arith)
+term_piece known line (term.Named c) s d sorted u h = absurd sorted
+term_piece known line (Read x) s d sorted u h = subst (λ c. IsPiece c d (suc d)) (sym (ap (of_slot load_code) sorted.1)) (load_piece sorted.0 d (omega arith))
+term_piece known line (term.Element x t) s d sorted u h =
+    let array = sorted.3 in
+    let element = instr.LoadElement (record { start = array.2; len = array.1 }) line in
+    piece_append (term_code known line t) (of_slot (element_code line) (lookup x known)) d (suc d) (suc d) (term_piece known line t sorted.0 d sorted.2 u (omega arith))
+    (subst (λ c. IsPiece c (suc d) (suc d)) (sym (ap (of_slot (element_code line)) array.3)) (piece_one element (suc d) (suc d) refl tt))
+term_piece known line (IsNull equal x) s d sorted u h =
+    let slot = sorted.0.0 in
+    subst (λ c. IsPiece c d (suc d)) (sym (ap (null_code equal) sorted.0.1)) (null_piece equal slot.sort slot.index d sorted.0.2 (omega arith))
+term_piece known line (Prefix LogicalNot t) s d sorted u h = piece_append (term_code known line t) (prefix_code LogicalNot ∷ []) d (suc d) (suc d) (term_piece known line t sort.Truth d sorted.0 u (omega arith)) (prefix_piece LogicalNot d)
+term_piece known line (Prefix Complement t) s d sorted u h = piece_append (term_code known line t) (prefix_code Complement ∷ []) d (suc d) (suc d) (term_piece known line t sort.Word d sorted.0 u (omega arith)) (prefix_piece Complement d)
+term_piece known line (Prefix ToWord t) s d sorted u h = piece_append (term_code known line t) (prefix_code ToWord ∷ []) d (suc d) (suc d) (term_piece known line t sorted.0 d sorted.2 u (omega arith)) (prefix_piece ToWord d)
+term_piece known line (Prefix ToInt t) s d sorted u h = piece_append (term_code known line t) (prefix_code ToInt ∷ []) d (suc d) (suc d) (term_piece known line t sorted.0 d sorted.2 u (omega arith)) (prefix_piece ToInt d)
+term_piece known line (And a b) s d sorted u h =
+    let right = term_piece known line b sort.Truth d sorted.1 u.1 (omega arith) in
+    piece_append (term_code known line a) (skip_code true (length (term_code known line b)) ∷ term_code known line b) d (suc d) (suc d) (term_piece known line a sort.Truth d sorted.0 u.0 (omega arith)) (piece_and (term_code known line b) d right)
+term_piece known line (Or a b) s d sorted u h =
+    let right = term_piece known line b sort.Truth d sorted.1 u.1 (omega arith) in
+    piece_append (term_code known line a) (skip_code false (length (term_code known line b)) ∷ term_code known line b) d (suc d) (suc d) (term_piece known line a sort.Truth d sorted.0 u.0 (omega arith)) (piece_or (term_code known line b) d right)
+term_piece known line (Binary op a b) s d sorted u h =
+    let last = operator_code line (is_signed known a) op ∷ [] in
+    let right = term_piece known line b sorted.0 (suc d) sorted.3 u.1 (omega arith) in
+    piece_append (term_code known line a) (term_code known line b ++ last) d (suc d) (suc d) (term_piece known line a sorted.0 d sorted.2 u.0 (omega arith))
+    (piece_append (term_code known line b) last (suc d) (suc (suc d)) (suc d) right (operator_piece line (is_signed known a) op d))
+
+-- an expression with so many words in front of it
+number_piece : (known : Known) (line : ℕ) (t : Term) (s : Sort) (d : ℕ) → NumberFits known t s → d ≤ 1 → IsPiece (term_code known line t) d (suc d)
+number_piece known line t s d h few = let low = h.low in term_piece known line t s d h.sort h.untouched (omega arith)
+
+-- an expression and the instruction that takes its value
+taken_piece : (known : Known) (line : ℕ) (t : Term) (s : Sort) (last : Instr) → NumberFits known t s → IsPiece (last ∷ []) 1 0 → IsPiece (term_code known line t ++ last ∷ []) 0 0
+taken_piece known line t s last h piece = piece_append (term_code known line t) (last ∷ []) 0 1 0 (number_piece known line t s 0 h (omega arith)) piece
+
+-- ---- statements
+
+call_piece : (known : Known) (line i : ℕ) (arguments : List Argument) → ArgumentsFit known arguments → IsPiece (call_code known line i arguments) 0 0
+call_piece known line i (tree.Value e ∷ []) fits = piece_one (instr.Call _) 0 0 refl tt
+call_piece known line i arguments fits = absurd fits
+
+value_piece : (known : Known) (line : ℕ) (kind : Sort) (i : ℕ) (e : Expr) → ValueFits known kind e → IsPiece (value_code known line (record { sort = kind; index = i }) e) 0 0
+value_piece known line sort.Word i e fits = subst (λ c. IsPiece c 0 0) (sym (value_is known line (record { sort = sort.Word; index = i }) e sort.Word fits)) (taken_piece known line (term_of e) sort.Word (instr.Store i) fits (piece_one (instr.Store i) 1 0 refl tt))
+value_piece known line Jint i e fits = subst (λ c. IsPiece c 0 0) (sym (value_is known line (record { sort = Jint; index = i }) e Jint fits)) (taken_piece known line (term_of e) Jint (instr.Store i) fits (piece_one (instr.Store i) 1 0 refl tt))
+value_piece known line sort.Flag i e fits = subst (λ c. IsPiece c 0 0) (sym (value_is known line (record { sort = sort.Flag; index = i }) e sort.Flag fits)) (taken_piece known line (term_of e) sort.Flag (instr.Store i) fits (piece_one (instr.Store i) 1 0 refl tt))
+value_piece known line sort.Truth i e fits = absurd fits
+value_piece known line Ref i e fits = subst (λ (d : Expr). IsPiece (value_code known line (record { sort = Ref; index = i }) d) 0 0) (sym fits) (piece_one (instr.StoreNull _) 0 0 refl tt)
+value_piece known line Global i e fits = subst (λ (d : Expr). IsPiece (value_code known line (record { sort = Global; index = i }) d) 0 0) (sym fits) (piece_one (instr.StoreNull _) 0 0 refl tt)
+value_piece known line FieldId i e fits = subst (λ (d : Expr). IsPiece (value_code known line (record { sort = FieldId; index = i }) d) 0 0) (sym fits) (piece_one (instr.StoreNull _) 0 0 refl tt)
+value_piece known line (Buffer t w) i e fits = subst (λ (d : Expr). IsPiece (value_code known line (record { sort = Buffer t w; index = i }) d) 0 0) (sym fits) (piece_one (instr.StoreNull _) 0 0 refl tt)
+value_piece known line (Array t n) i e fits = absurd fits
+
+right_piece : (known : Known) (line : ℕ) (s : Slot) (r : RightSide) → RightFits known s.sort r → IsPiece (right_code known line s r) 0 0
+right_piece known line s (FromExpr e) fits = value_piece known line s.sort s.index e fits
+right_piece known line s (FromCall c) fits = call_piece known line s.index c.arguments fits.1.1
+
+return_piece : (known : Known) (line : ℕ) (t : Term) → ReturnFits known t → IsPiece (return_code known line t) 0 0
+return_piece known line (term.Named tree.Null) fits = piece_one (instr.ReturnReference _) 0 0 refl tt
+return_piece known line (Read x) (s, found, inl e) =
+    subst (λ c. IsPiece c 0 0) (sym (ap (of_slot returned_code) (found ∙ ap (λ (r : Sort). Some (record { sort = r; index = s.index })) e))) (piece_one (instr.ReturnReference _) 0 0 refl tt)
+return_piece known line (Read x) (s, found, inr e) =
+    subst (λ c. IsPiece c 0 0) (sym (ap (of_slot returned_code) (found ∙ ap (λ (r : Sort). Some (record { sort = r; index = s.index })) e)))
+    (piece_append (instr.Load s.index ∷ []) (instr.ReturnJint ∷ []) 0 1 0 (load_piece s.index 0 (omega arith)) (piece_one instr.ReturnJint 1 0 refl tt))
+return_piece known line t fits = taken_piece known line t Jint instr.ReturnJint fits (piece_one instr.ReturnJint 1 0 refl tt)
+
+test_piece : (known : Known) (line : ℕ) (test : Test) → TestFits known test → IsPiece (test_code known line test) 0 1
+test_piece known line (TestExpr e) fits = number_piece known line (term_of e) sort.Truth 0 fits (omega arith)
+test_piece known line (TestCall c) fits = absurd fits
+
+if_piece : (known : Known) (line : ℕ) (test : Test) (then' else' : List Instr) → TestFits known test → IsPiece then' 0 0 → IsPiece else' 0 0 → IsPiece (if_code known line test then' else') 0 0
+if_piece known line test then' else' fits h k =
+    piece_append (test_code known line test) (ways_code then' (else' ++ instr.GoOn 0 ∷ [])) 0 1 0 (test_piece known line test fits) (piece_if then' (else' ++ instr.GoOn 0 ∷ []) h (piece_append else' (instr.GoOn 0 ∷ []) 0 0 0 k piece_end))
+
+write_piece : (l : Layout) (line : ℕ) (x : Identifier) (i e : Expr) → StmtFits l (tree.AssignElement line x i e) → IsPiece (stmt_code l (tree.AssignElement line x i e)) 0 0
+write_piece l line x i e fits =
+    let array = fits.0 in
+    let store = instr.StoreElement (record { start = array.2; len = array.1 }) (element_of array.0) line in
+    piece_append (expr_code l.known line i) (expr_code l.known line e ++ of_slot (write_code line) (lookup x l.known)) 0 1 0 (number_piece l.known line (term_of i) fits.1.0 0 fits.1.2 (omega arith))
+    (piece_append (expr_code l.known line e) (of_slot (write_code line) (lookup x l.known)) 1 2 0 (number_piece l.known line (term_of e) Jint 1 fits.2 (omega arith))
+    (subst (λ c. IsPiece c 2 0) (sym (ap (of_slot (write_code line)) array.3)) (piece_one store 2 0 refl tt)))
+
+mutual
+  pub stmt_piece : (s : Stmt) (l : Layout) → StmtFits l s → IsPiece (stmt_code l s) 0 0
+  stmt_piece (tree.Declare line t x r) l fits = right_piece l.known line (new_slot _ l) r fits.1
+  stmt_piece (tree.DeclareBuffer line t x r) l fits = right_piece l.known line (new_slot _ l) r fits.1
+  stmt_piece (tree.DeclareChars line x r) l fits = right_piece l.known line (new_slot _ l) r fits.1
+  stmt_piece (tree.DeclareArray line t x size) l fits = piece_one (instr.ClearArray _) 0 0 refl tt
+  stmt_piece (tree.Assign line x r) l fits = subst (λ (o : Option Slot). IsPiece (assign_code l.known line o r) 0 0) (sym fits.1) (right_piece l.known line fits.0 r fits.2)
+  stmt_piece (tree.AssignElement line x i e) l fits = write_piece l line x i e fits
+  stmt_piece (tree.Perform line c) l fits = call_piece l.known line l.slots.numbers c.arguments fits.1
+  stmt_piece (tree.PutJint line e) l fits = taken_piece l.known line (term_of e) Jint instr.PutJint fits (piece_one instr.PutJint 1 0 refl tt)
+  stmt_piece (tree.If line test then') l fits = if_piece l.known line test (block_code l then') [] fits.0 (block_piece then' l fits.1) (piece_none 0)
+  stmt_piece (tree.IfElse line test then' else') l fits =
+      if_piece l.known line test (block_code l then') (block_code (closed l (block_layout l then')) else') fits.0 (block_piece then' l fits.1) (block_piece else' (closed l (block_layout l then')) fits.2)
+  stmt_piece (tree.While line test body) l fits = piece_loop (expr_code l.known line test) (block_code l body) (number_piece l.known line (term_of test) sort.Truth 0 fits.0 (omega arith)) (block_piece body l fits.1)
+  stmt_piece (tree.Return line) l fits = piece_one instr.Return 0 0 refl tt
+  stmt_piece (tree.ReturnValue line e) l fits = return_piece l.known line (term_of e) fits
+
+  pub block_piece : (b : Block) (l : Layout) → BlockFits l b → IsPiece (block_code l b) 0 0
+  block_piece (End line) l fits = piece_none 0
+  block_piece (Next s rest) l fits = piece_append (stmt_code l s) (block_code (layout_behind l s) rest) 0 0 0 (stmt_piece s l fits.0) (block_piece rest (layout_behind l s) fits.1)
