@@ -143,22 +143,22 @@ module _ (code : Listing) (known : Known) (place : ℕ) (stack : List ℕ) (slot
       let d = h.stand in
       step_inside code known place stack slots visible shows line t sort.Truth [] (ways_code d.then_code (d.else_code ++ instr.GoOn 0 ∷ [])) (λ u. Branch line u then' else') rest tt d.test.sort d.test.begun (d.test.operands ∙ sym (append-nil (held t))) d.at (λ u. h.returns)
       (λ p u sorted begun at size.
-          let first : place + length (term_code known line t) + 1 ≡ p + length (term_code known line u) + 1 = omega (arith, size) in
-          let second : place + length (term_code known line t) + 1 + length d.then_code + 1 ≡ p + length (term_code known line u) + 1 + length d.then_code + 1 = omega (arith, size) in
-          let end : place + length (term_code known line t) + 1 + length d.then_code + 1 + length d.else_code + 1 ≡ p + length (term_code known line u) + 1 + length d.then_code + 1 + length d.else_code + 1 = omega (arith, size) in
-          record {
-            slots = d.slots;
-            slots_else = d.slots_else;
-            test = record { sort = sorted; begun = begun; operands = append-nil (held u) };
-            then_code = d.then_code;
-            then_is = d.then_is;
-            else_code = d.else_code;
-            else_is = d.else_is;
-            at = at;
-            first = subst (λ n. BlockStands code (record { known = known; slots = d.slots }) n then') first d.first;
-            second = subst (λ n. BlockStands code (record { known = known; slots = d.slots_else }) n else') second d.second;
-            further = subst (λ n. TasksStand code known n [] rest) end d.further;
-          })
+      let first : place + length (term_code known line t) + 1 ≡ p + length (term_code known line u) + 1 = omega (arith, size) in
+      let second : place + length (term_code known line t) + 1 + length d.then_code + 1 ≡ p + length (term_code known line u) + 1 + length d.then_code + 1 = omega (arith, size) in
+      let end : place + length (term_code known line t) + 1 + length d.then_code + 1 + length d.else_code + 1 ≡ p + length (term_code known line u) + 1 + length d.then_code + 1 + length d.else_code + 1 = omega (arith, size) in
+      record {
+        slots = d.slots;
+        slots_else = d.slots_else;
+        test = record { sort = sorted; begun = begun; operands = append-nil (held u) };
+        then_code = d.then_code;
+        then_is = d.then_is;
+        else_code = d.else_code;
+        else_is = d.else_is;
+        at = at;
+        first = subst (λ n. BlockStands code (record { known = known; slots = d.slots }) n then') first d.first;
+        second = subst (λ n. BlockStands code (record { known = known; slots = d.slots_else }) n else') second d.second;
+        further = subst (λ n. TasksStand code known n [] rest) end d.further;
+      })
 
   -- ---- `while`
 
@@ -294,15 +294,19 @@ module _ (code : Listing) (known : Known) (place : ℕ) (stack : List ℕ) (slot
       let element = shown.elements k small in
       let inside : d.start + k < length slots.numbers = omega (arith, d.own.within.2, shows.numbers, small) in
       let none : place + (0 + 0) + 1 ≡ place + 1 = omega arith in
-      rw (index, element.is) (d.type, shown.array_type, record {
-        here = instr.StoreElement (record { start = d.start; len = d.size }) (element_of d.type) line;
-        numbers = slice_set slots.numbers (d.start + k) (element_word (element_of d.type) (cast_unsigned w32 z));
-        at = d.at.0;
-        plain = rw (d.operands, word, below, lt-ltb (d.start + k) (length slots.numbers) inside) refl;
-        names = known;
-        shows = λ new set. shows_element_set code known visible new slots d.type x d.size d.start k z (element_word (element_of d.type) (cast_unsigned w32 z)) shows d.array d.own small (element_words d.type z d.value.0) (convert_fits d.type z) set;
-        stands = record { stand = subst (λ p. TasksStand code known p [] rest) none d.further; returns = returns };
-      })
+      rw (index, element.is) (
+        d.type,
+        shown.array_type,
+        record {
+          here = instr.StoreElement (record { start = d.start; len = d.size }) (element_of d.type) line;
+          numbers = slice_set slots.numbers (d.start + k) (element_word (element_of d.type) (cast_unsigned w32 z));
+          at = d.at.0;
+          plain = rw (d.operands, word, below, lt-ltb (d.start + k) (length slots.numbers) inside) refl;
+          names = known;
+          shows = λ new set. shows_element_set code known visible new slots d.type x d.size d.start k z (element_word (element_of d.type) (cast_unsigned w32 z)) shows d.array d.own small (element_words d.type z d.value.0) (convert_fits d.type z) set;
+          stands = record { stand = subst (λ p. TasksStand code known p [] rest) none d.further; returns = returns };
+        },
+      )
   element_written line x v z k rest d returns word index false below =
       let shown = shows.each x (record { sort = Array d.type d.size; index = d.start }) d.array in
       rw (index, shown.past k (ltb-false k d.size below)) (record {
@@ -338,40 +342,40 @@ module _ (code : Listing) (known : Known) (place : ℕ) (stack : List ℕ) (slot
       let d = h.stand in
       step_inside code known place stack slots visible shows line e Jint (word_of v ∷ []) (instr.StoreElement (record { start = d.start; len = d.size }) (element_of d.type) line ∷ []) (SetElement line x (Done v)) rest tt d.value d.begun d.operands d.at (λ u. h.returns)
       (λ p u sorted begun at size.
-          let end : place + (0 + length (term_code known line e)) + 1 ≡ p + (0 + length (term_code known line u)) + 1 = omega (arith, size) in
-          record {
-            type = d.type;
-            size = d.size;
-            start = d.start;
-            array = d.array;
-            own = d.own;
-            index = d.index;
-            value = sorted;
-            begun = begun;
-            operands = refl;
-            at = at;
-            further = subst (λ n. TasksStand code known n [] rest) end d.further;
-          })
+      let end : place + (0 + length (term_code known line e)) + 1 ≡ p + (0 + length (term_code known line u)) + 1 = omega (arith, size) in
+      record {
+        type = d.type;
+        size = d.size;
+        start = d.start;
+        array = d.array;
+        own = d.own;
+        index = d.index;
+        value = sorted;
+        begun = begun;
+        operands = refl;
+        at = at;
+        further = subst (λ n. TasksStand code known n [] rest) end d.further;
+      })
   element_step line x i e rest h =
       let d = h.stand in
       let parts = left_first BitOr i e tt d.begun in
       step_inside code known place stack slots visible shows line i d.index.0 [] (term_code known line e ++ instr.StoreElement (record { start = d.start; len = d.size }) (element_of d.type) line ∷ []) (λ u. SetElement line x u e) rest tt d.index.2 parts.0
       (d.operands ∙ ap (λ q. q ++ held i) (untouched_held e parts.1) ∙ sym (append-nil (held i))) d.at (λ u. h.returns)
       (λ p u sorted begun at size.
-          let end : place + (length (term_code known line i) + length (term_code known line e)) + 1 ≡ p + (length (term_code known line u) + length (term_code known line e)) + 1 = omega (arith, size) in
-          record {
-            type = d.type;
-            size = d.size;
-            start = d.start;
-            array = d.array;
-            own = d.own;
-            index = (d.index.0, d.index.1, sorted);
-            value = d.value;
-            begun = begun_left BitOr u e begun parts.1;
-            operands = append-nil (held u) ∙ sym (ap (λ q. q ++ held u) (untouched_held e parts.1));
-            at = at;
-            further = subst (λ n. TasksStand code known n [] rest) end d.further;
-          })
+      let end : place + (length (term_code known line i) + length (term_code known line e)) + 1 ≡ p + (length (term_code known line u) + length (term_code known line e)) + 1 = omega (arith, size) in
+      record {
+        type = d.type;
+        size = d.size;
+        start = d.start;
+        array = d.array;
+        own = d.own;
+        index = (d.index.0, d.index.1, sorted);
+        value = d.value;
+        begun = begun_left BitOr u e begun parts.1;
+        operands = append-nil (held u) ∙ sym (ap (λ q. q ++ held u) (untouched_held e parts.1));
+        at = at;
+        further = subst (λ n. TasksStand code known n [] rest) end d.further;
+      })
 
   -- ---- all tasks
 

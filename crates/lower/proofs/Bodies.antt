@@ -187,7 +187,7 @@ branch_stands code line e then' else' l slots_else place tail at test fits fits'
     let ways = has_back code.instrs place T (ways_code A (B ++ instr.GoOn 0 ∷ [])) at in
     let behind = has_back code.instrs (place + length T + 1) A (instr.GoOn (length (B ++ instr.GoOn 0 ∷ [])) ∷ (B ++ instr.GoOn 0 ∷ [])) ways.1 in
     let size : place + length (T ++ ways_code A (B ++ instr.GoOn 0 ∷ [])) ≡ place + length T + 1 + length A + 1 + length B + 1 =
-        omega (arith, length-append T (ways_code A (B ++ instr.GoOn 0 ∷ [])), length-append A (instr.GoOn (length (B ++ instr.GoOn 0 ∷ [])) ∷ (B ++ instr.GoOn 0 ∷ [])), length-append B (instr.GoOn 0 ∷ [])) in
+    omega (arith, length-append T (ways_code A (B ++ instr.GoOn 0 ∷ [])), length-append A (instr.GoOn (length (B ++ instr.GoOn 0 ∷ [])) ∷ (B ++ instr.GoOn 0 ∷ [])), length-append B (instr.GoOn 0 ∷ [])) in
     record {
       slots = l.slots;
       slots_else = slots_else;
@@ -255,7 +255,7 @@ element_set_stands code line x i e l place tail at fits laid room further =
     let is : of_slot (write_code line) (lookup x l.known) ≡ store = ap (of_slot (write_code line)) fits.0.3 in
     let there = subst (λ w. HasAt code.instrs place (I ++ (E ++ w))) is at in
     let count : place + length (I ++ (E ++ of_slot (write_code line) (lookup x l.known))) ≡ place + (length I + length E) + 1 =
-        omega (arith, length-append I (E ++ of_slot (write_code line) (lookup x l.known)), length-append E (of_slot (write_code line) (lookup x l.known)), ap length is) in
+    omega (arith, length-append I (E ++ of_slot (write_code line) (lookup x l.known)), length-append E (of_slot (write_code line) (lookup x l.known)), ap length is) in
     record {
       type = type;
       size = size;

@@ -92,13 +92,13 @@ front_own : (y : Identifier) (slot : Slot) (known : Known) → ((z : Identifier)
 front_own y slot known front own x s at z t at' other =
     first_or_behind y x slot s known (AreApart t s)
     (λ same is.
-        first_or_behind y z slot t known (AreApart t s)
-        (λ same' is'. absurd (other (same' ∙ sym same)))
-        (λ other' h'. subst (AreApart t) is (apart_back slot t (front z t h'))) at')
+    first_or_behind y z slot t known (AreApart t s)
+    (λ same' is'. absurd (other (same' ∙ sym same)))
+    (λ other' h'. subst (AreApart t) is (apart_back slot t (front z t h'))) at')
     (λ other' h.
-        first_or_behind y z slot t known (AreApart t s)
-        (λ same' is'. subst (λ (q : Slot). AreApart q s) is' (front x s h))
-        (λ other'' h'. own x s h z t h' other) at')
+    first_or_behind y z slot t known (AreApart t s)
+    (λ same' is'. subst (λ (q : Slot). AreApart q s) is' (front x s h))
+    (λ other'' h'. own x s h z t h' other) at')
     at
 
 parameters_own : (ps : List Parameter) (n r : ℕ) (x : Identifier) (s : Slot) → lookup x (parameter_slots ps n r) ≡ Some s → IsOwn (parameter_slots ps n r) x s

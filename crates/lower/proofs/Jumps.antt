@@ -22,7 +22,7 @@ ways_made old test then' else' end n at size =
     let back = else' ++ instr.GoOn 0 ∷ [] in
     let one : old ++ first_code test then' ≡ front ++ instr.GoOn 0 ∷ [] = ap (λ r. old ++ r) (sym (append_assoc test (jump ∷ then') (instr.GoOn 0 ∷ []))) ∙ sym (append_assoc old (test ++ (jump ∷ then')) (instr.GoOn 0 ∷ [])) in
     let all : ((old ++ first_code test then') ++ else') ++ instr.GoOn 0 ∷ [] ≡ front ++ instr.GoOn 0 ∷ back =
-        append_assoc (old ++ first_code test then') else' (instr.GoOn 0 ∷ []) ∙ ap (λ r. r ++ back) one ∙ append_assoc front (instr.GoOn 0 ∷ []) back in
+    append_assoc (old ++ first_code test then') else' (instr.GoOn 0 ∷ []) ∙ ap (λ r. r ++ back) one ∙ append_assoc front (instr.GoOn 0 ∷ []) back in
     let place : end ≡ length front = omega (arith, at, ap length one, length-append front (instr.GoOn 0 ∷ [])) in
     let far : n ≡ length back = omega (arith, size, length-append else' (instr.GoOn 0 ∷ [])) in
     ap (λ c. slice_set c end (instr.GoOn n)) all ∙ set_there front back end (instr.GoOn 0) (instr.GoOn n) place ∙ ap (λ m. front ++ instr.GoOn m ∷ back) far

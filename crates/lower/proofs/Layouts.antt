@@ -85,7 +85,7 @@ pub index_more : (a b : SlotCounts) (s : Sort) (i : ℕ) → AtLeast a b → Ind
 index_more a b Word i h k = omega (arith, h.numbers, k)
 index_more a b Jint i h k = omega (arith, h.numbers, k)
 index_more a b Flag i h k = omega (arith, h.numbers, k)
-index_more a b Truth i h k = tt
+index_more a b Truth i h k = absurd k
 index_more a b Ref i h k = omega (arith, h.references, k)
 index_more a b Global i h k = omega (arith, h.statics, k)
 index_more a b FieldId i h k = omega (arith, h.field_ids, k)
@@ -97,16 +97,17 @@ laid_more known a b h laid = record { within = λ x s at. index_more a b s.sort 
 
 -- ---- one name more
 
--- an array has some elements, and not too many
+-- an array has some elements, and not too many; no variable is a truth
 abbrev pub SizeFits : Sort → Type 0
 SizeFits (Array t n) = (0 < n) × (n ≤ 1024)
+SizeFits Truth = ⊥
 SizeFits s = Unit {0}
 
 new_within : (s : Sort) (c : SlotCounts) → SizeFits s → IndexWithin (slots_behind s c) s (next_index s c)
 new_within Word c h = omega arith
 new_within Jint c h = omega arith
 new_within Flag c h = omega arith
-new_within Truth c h = tt
+new_within Truth c h = absurd h
 new_within Ref c h = omega arith
 new_within Global c h = omega arith
 new_within FieldId c h = omega arith
@@ -128,7 +129,7 @@ place_below : (s : Sort) (i : ℕ) (c : SlotCounts) (k : ℕ) → IndexWithin c 
 place_below Word i c k w h = omega (arith, w, h.0, h.1)
 place_below Jint i c k w h = omega (arith, w, h.0, h.1)
 place_below Flag i c k w h = omega (arith, w, h.0, h.1)
-place_below Truth i c k w h = absurd (omega (arith, h.0, h.1))
+place_below Truth i c k w h = absurd w
 place_below Ref i c k w h = absurd (omega (arith, h.0, h.1))
 place_below Global i c k w h = absurd (omega (arith, h.0, h.1))
 place_below FieldId i c k w h = absurd (omega (arith, h.0, h.1))
@@ -172,13 +173,13 @@ laid_declared s l x size laid = record {
   own = λ y t at z u at' other.
       first_or_behind x y (new_slot s l) t l.known (AreApart u t)
       (λ same is.
-          first_or_behind x z (new_slot s l) u l.known (AreApart u t)
-          (λ same' is'. absurd (other (same' ∙ sym same)))
-          (λ other' h'. subst (AreApart u) is (new_apart s l z u laid h')) at')
+      first_or_behind x z (new_slot s l) u l.known (AreApart u t)
+      (λ same' is'. absurd (other (same' ∙ sym same)))
+      (λ other' h'. subst (AreApart u) is (new_apart s l z u laid h')) at')
       (λ other' h.
-          first_or_behind x z (new_slot s l) u l.known (AreApart u t)
-          (λ same' is'. subst (λ (r : Slot). AreApart r t) is' (apart_back t (new_slot s l) (new_apart s l y t laid h)))
-          (λ other'' h'. laid.own y t h z u h' other) at')
+      first_or_behind x z (new_slot s l) u l.known (AreApart u t)
+      (λ same' is'. subst (λ (r : Slot). AreApart r t) is' (apart_back t (new_slot s l) (new_apart s l y t laid h)))
+      (λ other'' h'. laid.own y t h z u h' other) at')
       at;
 }
 

@@ -116,11 +116,11 @@ module _ (code : Listing) (known : Known) (old new : Visible) (slots slots' : Sl
         first_or_behind x y s t known (ShowsSlot new y slots' t t.sort)
         (λ same is. subst (λ (z : Identifier). ShowsSlot new z slots' t t.sort) (sym same) (subst (λ (r : Slot). ShowsSlot new x slots' r r.sort) is here))
         (λ other h.
-            let apart = own y t h other in
-            slot_stays old new y slots slots' (others y other) t.sort t.index
-            (λ k p. number k (λ q. apart.numbers k p q))
-            (λ e. reference t.index (λ e'. apart.references e e'))
-            (shows.each y t h)) at;
+        let apart = own y t h other in
+        slot_stays old new y slots slots' (others y other) t.sort t.index
+        (λ k p. number k (λ q. apart.numbers k p q))
+        (λ e. reference t.index (λ e'. apart.references e e'))
+        (shows.each y t h)) at;
   }
 
 -- ---- a number variable is set

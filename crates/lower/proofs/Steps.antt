@@ -127,8 +127,8 @@ module _ (code : Listing) (known : Known) (place : ℕ) (stack : List ℕ) (slot
   put_step line t rest h =
       step_inside line t Jint [] (instr.PutJint ∷ []) (Print line) rest tt h.stand.0.0.sort h.stand.0.0.begun (alone t h.stand.0.0.operands) h.stand.0.1 (λ u. h.returns)
       (λ p u sorted begun at size.
-          let e : place + length (term_code known line t) + 1 ≡ p + length (term_code known line u) + 1 = omega (arith, size) in
-          ((under_way u Jint sorted begun, at), subst (λ n. TasksStand code known n [] rest) e h.stand.1))
+      let e : place + length (term_code known line t) + 1 ≡ p + length (term_code known line u) + 1 = omega (arith, size) in
+      ((under_way u Jint sorted begun, at), subst (λ n. TasksStand code known n [] rest) e h.stand.1))
 
   -- ---- variables that are set
 
@@ -152,14 +152,14 @@ module _ (code : Listing) (known : Known) (place : ℕ) (stack : List ℕ) (slot
       let d = h.stand in
       step_inside line t d.slot.sort [] (instr.Store d.slot.index ∷ []) (SetScalar line x) rest tt d.value.0.sort d.value.0.begun (alone t d.value.0.operands) d.value.1 (λ u. h.returns)
       (λ p u sorted begun at size.
-          let e : place + length (term_code known line t) + 1 ≡ p + length (term_code known line u) + 1 = omega (arith, size) in
-          record {
-            slot = d.slot;
-            number = d.number;
-            value = (under_way u d.slot.sort sorted begun, at);
-            own = d.own;
-            further = (d.further.0, d.further.1, subst (λ n. TasksStand code d.further.0 n [] rest) e d.further.2);
-          })
+      let e : place + length (term_code known line t) + 1 ≡ p + length (term_code known line u) + 1 = omega (arith, size) in
+      record {
+        slot = d.slot;
+        number = d.number;
+        value = (under_way u d.slot.sort sorted begun, at);
+        own = d.own;
+        further = (d.further.0, d.further.1, subst (λ n. TasksStand code d.further.0 n [] rest) e d.further.2);
+      })
 
   pub null_step : (target : Target) (rest : List Task) → StandsFor code known place stack (SetNull target ∷ rest) → DoesEffect code known place stack slots visible rest (effect_of visible.sight (SetNull target))
   null_step target rest h =
@@ -180,7 +180,7 @@ module _ (code : Listing) (known : Known) (place : ℕ) (stack : List ℕ) (slot
       let d = h.stand in
       let inside : d.start + size ≤ length slots.numbers = omega (arith, d.own.within.2, shows.numbers) in
       let clears : plain_of (instr.ClearArray (record { start = d.start; len = size })) stack slots.numbers ≡ Some (plain.Next, [], cleared (record { start = d.start; len = size }) slots.numbers) =
-          rw (d.empty, le-leb (d.start + size) (length slots.numbers) inside) refl in
+      rw (d.empty, le-leb (d.start + size) (length slots.numbers) inside) refl in
       record {
         here = instr.ClearArray (record { start = d.start; len = size });
         numbers = cleared (record { start = d.start; len = size }) slots.numbers;

@@ -170,7 +170,7 @@ module _ (slots : SlotCounts) where
       let second = both_within else' (instr.GoOn 0 ∷ []) k refl in
       both_within (test_code known line test) (ways_code then' (else' ++ instr.GoOn 0 ∷ [])) (test_within known line test all fits)
       (cons_within (instr.JumpUnless (length then' + 1)) (then' ++ instr.GoOn (length (else' ++ instr.GoOn 0 ∷ [])) ∷ (else' ++ instr.GoOn 0 ∷ [])) refl
-          (both_within then' (instr.GoOn (length (else' ++ instr.GoOn 0 ∷ [])) ∷ (else' ++ instr.GoOn 0 ∷ [])) h (cons_within (instr.GoOn (length (else' ++ instr.GoOn 0 ∷ []))) (else' ++ instr.GoOn 0 ∷ []) refl second)))
+      (both_within then' (instr.GoOn (length (else' ++ instr.GoOn 0 ∷ [])) ∷ (else' ++ instr.GoOn 0 ∷ [])) h (cons_within (instr.GoOn (length (else' ++ instr.GoOn 0 ∷ []))) (else' ++ instr.GoOn 0 ∷ []) refl second)))
 
   array_there : (known : Known) (x : Identifier) (t : _) (n i : ℕ) → AllThere known → lookup x known ≡ Some (record { sort = Array t n; index = i }) → IndexWithin slots (Array t n) i
   array_there known x t n i all found = all x (record { sort = Array t n; index = i }) found

@@ -91,9 +91,9 @@ pub record NumberFits (known : Known) (t : Term) (s : Sort) : Type 0 where
 
 -- ---- slots
 
--- a slot of this sort is there
+-- a slot of this sort is there; no variable is a truth
 abbrev pub IndexWithin : SlotCounts → Sort → ℕ → Type 0
-IndexWithin slots Truth i = Unit {0}
+IndexWithin slots Truth i = ⊥
 IndexWithin slots Ref i = i < slots.references
 IndexWithin slots Global i = i < slots.statics
 IndexWithin slots FieldId i = i < slots.field_ids

@@ -261,10 +261,12 @@ fn emit_write(
     ensures { OnOk result (code.new.items ≡ code.old.items ++ of_slot (write_code line) (lookup name.now names.now.known)) }
 {
     match names.slot_of(name) {
-        Some(Slot {
-            sort: Sort::Array(element, len),
-            index,
-        }) => {
+        Some(
+            Slot {
+                sort: Sort::Array(element, len),
+                index,
+            },
+        ) => {
             let array = LocalArray { start: index, len };
             emit(
                 code,
@@ -308,10 +310,12 @@ fn operand_of(names: &Names<'_>, argument: &Expr) -> ReferenceOperand
 {
     match argument {
         Expr::Variable(name) => match names.slot_of(name) {
-            Some(Slot {
-                sort: Sort::Reference,
-                index,
-            }) => ReferenceOperand::Local(index),
+            Some(
+                Slot {
+                    sort: Sort::Reference,
+                    index,
+                },
+            ) => ReferenceOperand::Local(index),
             _ => ReferenceOperand::Null,
         },
         _ => ReferenceOperand::Null,
@@ -341,18 +345,16 @@ fn emit_return(
 }
 
 /// A return of a name, a reference or a number.
-fn emit_returned(
-    code: &mut Vec<Instr>,
-    names: &Names<'_>,
-    name: &Name,
-) -> Result<(), AllocError>
+fn emit_returned(code: &mut Vec<Instr>, names: &Names<'_>, name: &Name) -> Result<(), AllocError>
     ensures { OnOk result (code.new.items ≡ code.old.items ++ of_slot returned_code (lookup name.now names.now.known)) }
 {
     match names.slot_of(name) {
-        Some(Slot {
-            sort: Sort::Reference,
-            index,
-        }) => emit(code, Instr::ReturnReference(ReferenceOperand::Local(index))),
+        Some(
+            Slot {
+                sort: Sort::Reference,
+                index,
+            },
+        ) => emit(code, Instr::ReturnReference(ReferenceOperand::Local(index))),
         Some(slot) => {
             emit(code, Instr::Load(slot.index))?;
             emit(code, Instr::ReturnJint)

@@ -71,10 +71,12 @@ fn emit_element(
     ensures { OnOk result (code.new.items ≡ code.old.items ++ of_slot (element_code line) (lookup name.now names.now.known)) }
 {
     match names.slot_of(name) {
-        Some(Slot {
-            sort: Sort::Array(_, len),
-            index,
-        }) => emit(
+        Some(
+            Slot {
+                sort: Sort::Array(_, len),
+                index,
+            },
+        ) => emit(
             code,
             Instr::LoadElement(LocalArray { start: index, len }, line),
         ),

@@ -29,17 +29,8 @@ fn number(value: u32) -> Expr {
     }
 }
 
-fn binary(
-    alloc: Global,
-    operator: BinaryOp,
-    left: Expr,
-    right: Expr,
-) -> Result<Expr, AllocError> {
-    Ok(Expr::Binary(
-        operator,
-        Box::new(alloc, left)?,
-        Box::new(alloc, right)?,
-    ))
+fn binary(alloc: Global, operator: BinaryOp, left: Expr, right: Expr) -> Result<Expr, AllocError> {
+    Ok(Expr::Binary(operator, Box::new(alloc, left)?, Box::new(alloc, right)?))
 }
 
 fn on_line(line: usize, form: Form) -> Stmt {
