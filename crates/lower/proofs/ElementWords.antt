@@ -21,7 +21,7 @@ element_words JByte z fits = refl
 element_words JChar z fits = refl
 
 pub convert_fits : (t : ElementType) (z : ℤ) → FitsSigned w32 (convert t z)
-convert_fits JInt z = let small = mod-lt (cast_unsigned w32 z) {2 ^ 32} (lit< tt) in sfits_to_z (Fits-of_lt small)
-convert_fits JShort z = let small = mod-lt (cast_unsigned w32 z) {2 ^ 16} (lit< tt) in let h = sfits_to_z {w = w16} (Fits-of_lt small) in record { sfits = omega (arith, h.sfits) }
-convert_fits JByte z = let small = mod-lt (cast_unsigned w32 z) {2 ^ 8} (lit< tt) in let h = sfits_to_z {w = w8} (Fits-of_lt small) in record { sfits = omega (arith, h.sfits) }
-convert_fits JChar z = let small = mod-lt (cast_unsigned w32 z) {2 ^ 16} (lit< tt) in record { sfits = omega arith }
+convert_fits JInt z = let small = mod-lt (cast_unsigned w32 z) {m = 2 ^ 32} (lit< tt) in sfits_to_z (Fits-of_lt small)
+convert_fits JShort z = let small = mod-lt (cast_unsigned w32 z) {m = 2 ^ 16} (lit< tt) in let h = sfits_to_z {w = w16} (Fits-of_lt small) in record { sfits = omega (arith, h.sfits) }
+convert_fits JByte z = let small = mod-lt (cast_unsigned w32 z) {m = 2 ^ 8} (lit< tt) in let h = sfits_to_z {w = w8} (Fits-of_lt small) in record { sfits = omega (arith, h.sfits) }
+convert_fits JChar z = let small = mod-lt (cast_unsigned w32 z) {m = 2 ^ 16} (lit< tt) in record { sfits = omega arith }

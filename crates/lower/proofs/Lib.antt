@@ -14,3 +14,5 @@ pub mod Within
 pub mod Functions
 pub mod KnownNames
 pub mod Jumps
+pub mod RegionFacts
+pub mod SortFacts
