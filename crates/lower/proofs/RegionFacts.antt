@@ -23,7 +23,7 @@ mutual
   stmt_way : (s : Stmt) (before : RegionState) → Keeps before s Returned → stmt_returns s ≡ true
   stmt_way (tree.If line test then') before (o, Returned, k, j) = absurd (cc)
   stmt_way (tree.If line test then') before (o, On a, k, j) = absurd (let e = j.1 in cc)
-  stmt_way (tree.IfElse line test then' else') before (o, Returned, no, k, k', j) =
+  stmt_way (tree.IfElse line test then' else') before (o, Returned, second, k, k', j) =
       both_true (block_returns then') (block_returns else') (block_way then' before _ k) (block_way else' before _ (subst (KeepsBlock before _ else') (sym j) k'))
   stmt_way (tree.IfElse line test then' else') before (o, On a, Returned, k, k', j) = absurd (cc)
   stmt_way (tree.IfElse line test then' else') before (o, On a, On b, k, k', j) = absurd (let e = j.1 in cc)

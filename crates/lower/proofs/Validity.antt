@@ -6,6 +6,8 @@ use Rattle.syntax.specs.Tree as tree
 use Rattle.syntax.specs.Tree.{PrefixOp, LogicalNot, Complement, ToWord, ToInt, BinaryOp, LogicalOr, LogicalAnd, BitOr, BitXor, BitAnd, Equal, NotEqual, Less, LessEqual, Greater, GreaterEqual, ShiftLeft, ShiftRight, Add, Subtract, Multiply, Divide, Remainder, Expr, Argument, RightSide, FromExpr, FromCall, Test, TestExpr, TestCall, Stmt, Block, End, Next}
 use Rattle.types.specs.Sorts.{Sort, Jint, Ref, Global, FieldId, Buffer, Array}
 use Rattle.types.specs.Sorts as sort
+use Rattle.types.specs.SortRules.{variable_sort}
+use Rattle.base.specs.Element.{JChar}
 use Rattle.code.specs.declared.instr.Instr.{Instr}
 use Rattle.code.specs.declared.instr.Instr.TheVariants as instr
 use Rattle.code.specs.Depth.{depth_after}
@@ -154,9 +156,9 @@ write_piece l line x i e fits =
 
 mutual
   pub stmt_piece : (s : Stmt) (l : Layout) → StmtFits l s → IsPiece (stmt_code l s) 0 0
-  stmt_piece (tree.Declare line t x r) l fits = right_piece l.known line (new_slot _ l) r fits.1
-  stmt_piece (tree.DeclareBuffer line t x r) l fits = right_piece l.known line (new_slot _ l) r fits.1
-  stmt_piece (tree.DeclareChars line x r) l fits = right_piece l.known line (new_slot _ l) r fits.1
+  stmt_piece (tree.Declare line t x r) l fits = right_piece l.known line (new_slot (variable_sort t) l) r fits.1
+  stmt_piece (tree.DeclareBuffer line t x r) l fits = right_piece l.known line (new_slot (Buffer t true) l) r fits.1
+  stmt_piece (tree.DeclareChars line x r) l fits = right_piece l.known line (new_slot (Buffer JChar false) l) r fits.1
   stmt_piece (tree.DeclareArray line t x size) l fits = piece_one (instr.ClearArray _) 0 0 refl tt
   stmt_piece (tree.Assign line x r) l fits = subst (λ (o : Option Slot). IsPiece (assign_code l.known line o r) 0 0) (sym fits.1) (right_piece l.known line fits.0 r fits.2)
   stmt_piece (tree.AssignElement line x i e) l fits = write_piece l line x i e fits
