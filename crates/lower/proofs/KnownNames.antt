@@ -33,7 +33,7 @@ latest-step x ks i k same found new below is decides e =
     ap (λ r. latest_of x r found) front ∙ ap (λ b. latest_of x (drop (i + 1) ks) (if b then Some (slot_view k.slot) else found)) test ∙ ap (latest_of x (drop (i + 1) ks)) (sym e)
 
 pub known_behind-length : (ks : List KnownInMemory) (known : Known) → length (known_behind ks known) ≡ length ks + length known
-known_behind-length [] known = refl
+known_behind-length [] known = omega arith
 known_behind-length (k ∷ ks) known = let further = known_behind-length ks (entry_view k ∷ known) in omega (arith, further)
 
 -- a name that is declared is the first, with the next slot
