@@ -68,7 +68,7 @@ pub(crate) fn emit_form<'a>(
             emit_block(alloc, code, names, second)?;
             emit_end(code, end)
         }
-        Form::While(test, body) => emit_loop(alloc, code, names, line, test, body),
+        Form::While(test, body) => emit_loop(alloc, code, names, line, body, test),
         Form::Return(None) => emit(code, Instr::Return),
         Form::Return(Some(value)) => emit_return(code, names, line, value),
     }
@@ -135,8 +135,8 @@ fn emit_loop<'a>(
     code: &mut Vec<Instr>,
     names: &mut Names<'a>,
     line: usize,
-    test: &Expr,
     body: &'a Block,
+    test: &Expr,
 ) -> Result<(), AllocError>
     ensures code { OnOk result (code.new.items ≡ code.old.items ++ loop_code (expr_code names.old.known line (expr_tree test.now)) (block_code names.old (block_tree body.now))) }
     ensures names { OnOk result (names.new ≡ closed names.old (block_layout names.old (block_tree body.now))) }
