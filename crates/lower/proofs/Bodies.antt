@@ -1,279 +1,346 @@
--- The code of a body stands for its statements, wherever it stands.
-use Rattle.std.proofs.Common.{◌≡◌, ℕ, ◌+◌, ◌<◌, ◌≤◌, true, false, List, [], ◌∷◌, ◌++◌, length, map, Some, None, refl, sym, ap, subst, arith, length-append, if◌then◌else◌}
-use Rattle.std.specs.Str.{bytes_eq}
+-- The code of a block stands for its statements, wherever it stands.
+use Rattle.std.proofs.Common.{◌≡◌, ℕ, ◌+◌, ◌<◌, ◌≤◌, ◌⊎◌, inl, inr, true, false, List, [], ◌∷◌, ◌++◌, length, Option, Some, None, refl, sym, ap, ◌∙◌, subst, arith, append_assoc, length-append}
+use Rattle.std.specs.Prelude.{slice_get}
 use Rattle.base.specs.Bytes.{Identifier, lookup}
-use Rattle.syntax.specs.declared.call.Argument.{Argument as ArgumentInMemory}
-use Rattle.syntax.specs.declared.call.Argument.TheVariants as argument
-use Rattle.syntax.specs.declared.call.RightSide.TheVariants as right
-use Rattle.syntax.specs.declared.declared_type.VariableType.TheVariants as variable
-use Rattle.syntax.specs.declared.expr.Constant.TheVariants as constant
-use Rattle.syntax.specs.declared.expr.Expr.{Expr}
-use Rattle.syntax.specs.declared.expr.Expr.TheVariants as expr
-use Rattle.syntax.specs.declared.expr.PrefixOp.TheVariants as prefix
-use Rattle.syntax.specs.declared.expr.BinaryOp.TheVariants as binary
-use Rattle.syntax.specs.declared.stmt.Stmt.{Stmt}
-use Rattle.syntax.specs.declared.stmt.Form.{Form}
-use Rattle.syntax.specs.declared.stmt.Form.TheVariants as form
-use Rattle.syntax.specs.Tree.{Value, Next, ResultType}
-use Rattle.syntax.specs.Views.{prefix_tree, expr_tree, argument_tree, form_tree, statements_tree}
+use Rattle.base.specs.Element.{ElementType, JChar}
+use Rattle.syntax.specs.Tree as tree
+use Rattle.syntax.specs.Tree.{Expr, Argument, RightSide, FromExpr, FromCall, Test, TestExpr, TestCall, Stmt, Block, End, Next, VariableType, BitOr}
 use Rattle.types.specs.JniFunction.{GetArrayLength}
 use Rattle.types.specs.Prototype.{function_named}
-use Rattle.types.specs.Sorts.{Sort, Jint, Flag, Truth, Ref, Global, FieldId, Buffer, Array, Scope, is_castable}
+use Rattle.types.specs.Sorts.{Sort, Jint, Ref, Global, FieldId, Buffer, Array}
 use Rattle.types.specs.Sorts as sort
+use Rattle.types.specs.SortRules.{variable_sort}
 use Rattle.code.specs.declared.instr.Callee.TheVariants as callee
+use Rattle.code.specs.declared.instr.NullableVariable.{NullableVariable}
+use Rattle.code.specs.declared.instr.NullableVariable.TheVariants as nullable
 use Rattle.code.specs.declared.instr.ReferenceOperand.TheVariants.{Null, Local}
 use Rattle.code.specs.declared.instr.Target.TheVariants as destination
 use Rattle.code.specs.declared.instr.Instr.{Instr}
 use Rattle.code.specs.declared.instr.Instr.TheVariants as instr
 use Rattle.code.specs.Depth.{Listing}
-use Rattle.regions.specs.Term.{term_of}
-use Rattle.regions.specs.Task.{Task, Target, Declared, ScalarKind, SetScalar, set_task, invocation, call_task, tasks_of}
-use Rattle.regions.specs.WellSorted as accepted
-use Rattle.regions.specs.WellSorted.{HasSort, IsReference, IsOneReference, BlockFits, EndsByReturn}
-use Rattle.lower.specs.Layout.{Slot, Known, Layout, prefix_code, expr_code, slot_operand, call_code, block_code, with_number, layout_behind, block_layout}
+use Rattle.regions.specs.Term as term
+use Rattle.regions.specs.Term.{Term, Done, Read, Binary, term_of}
+use Rattle.regions.specs.Task.{Task, SetScalar, Branch, ReturnValue, Target, Declared, Assigned, Dropped, ScalarKind, BufferKind, kind_of, set_task, invocation, call_task, right_side_task, if_task, task_of, tasks_of}
+use Rattle.lower.specs.Layout.{Slot, Known, Layout, new_slot, with_name, closed, layout_behind, block_layout}
+use Rattle.lower.specs.Coding.{nullable_of, store_of, element_of, write_code, of_slot, operand_of, term_code, expr_code, call_code, value_code, right_code, assign_code, returned_code, return_code, ways_code, turn_code, loop_code, if_code, stmt_code, block_code}
 use Rattle.lower.specs.Slots.{IsNumberSort}
-use Rattle.lower.specs.Stands.{term_code, TermHasSort, IsUntouched, IsNumber, HasAt, IsSlotOf, with_slot, NumberStands, StandsFor}
-use Rattle.lower.proofs.Terms.{untouched_begun, untouched_held}
-use Rattle.lower.proofs.Places.{has_front, has_back}
+use Rattle.lower.specs.Fits.{IsIndexSort, IsUntouched, NumberFits, IndexWithin, IsLaidOut, HasRoomFor, ReferenceFits, ArgumentsFit, CallFits, ValueFits, RightFits, TestFits, ReturnFits, StmtFits, BlockFits}
+use Rattle.lower.specs.Stands.{held, IsBegun, IsUnderWay, HasAt, AreAmong, IsSlotOf, TargetStands, target_name, BlockStands, TasksStand}
+use Rattle.lower.proofs.SlotLaws.{known_among, new_among, all_among}
+use Rattle.lower.proofs.CodePlaces.{has_front, has_back}
+use Rattle.lower.proofs.TermSteps.{untouched_held, untouched_begun}
+use Rattle.lower.proofs.Layouts.{AtLeast, more_slots, stmt_grows, block_grows, room_before, room_at_least, index_more, laid_more, free_slot, declared_slot, variable_size, laid_behind, known_behind_stmt}
 
--- ---- what is known, by its sorts and by its slots
+-- ---- expressions
 
--- the sorts of the known names
-abbrev pub scope_of : Known → Scope
-scope_of known = map (λ k. (k.0, k.1.sort)) known
+pub number_begins : (known : Known) (t : Term) (s : Sort) → NumberFits known t s → IsUnderWay known s t []
+number_begins known t s h = record { sort = h.sort; begun = untouched_begun t h.untouched; operands = sym (untouched_held t h.untouched) }
 
--- a name of a sort has a slot of that sort
-pub slot_of_name : (x : Identifier) (known : Known) (s : Sort) → lookup x (scope_of known) ≡ Some s → (i : ℕ) × (lookup x known ≡ Some (record { sort = s; index = i }))
-slot_of_name x [] s h = absurd cc
-slot_of_name x ((y, slot) ∷ rest) s h =
-    elim (bytes_eq x y) as (λ b. (if b then Some slot.sort else lookup x (scope_of rest)) ≡ Some s → (i : ℕ) × ((if b then Some slot else lookup x rest) ≡ Some (record { sort = s; index = i }))) [
-      | true ↦ λ e. let same : slot.sort ≡ s = cc in (slot.index, ap (λ (r : Sort). Some (record { sort = r; index = slot.index })) same)
-      | false ↦ λ e. slot_of_name x rest s e
-    ] h
+-- a number for a variable is worked out before the variable is set
+set_is : (known : Known) (line : ℕ) (target : Target) (x : Identifier) (e : Expr) (s : Sort) → NumberFits known (term_of e) s → set_task line target x e ≡ SetScalar line x (term_of e)
+set_is known line target x (tree.Named tree.Null) s h = absurd h.sort
+set_is known line target x e s h = refl
 
--- a slot of this sort is among so many of its kind
-abbrev pub IndexWithin : (numbers references : ℕ) → ℕ → Sort → Type 0
-IndexWithin numbers references i sort.Word = i < numbers
-IndexWithin numbers references i Jint = i < numbers
-IndexWithin numbers references i Flag = i < numbers
-IndexWithin numbers references i Ref = i < references
-IndexWithin numbers references i other = Unit {0}
+pub value_is : (known : Known) (line : ℕ) (slot : Slot) (e : Expr) (s : Sort) → NumberFits known (term_of e) s → value_code known line slot e ≡ expr_code known line e ++ instr.Store slot.index ∷ []
+value_is known line slot (tree.Named tree.Null) s h = absurd h.sort
+value_is known line slot e s h = refl
 
-pub index_within_more : (n n' r r' i : ℕ) (s : Sort) → n ≤ n' → r ≤ r' → IndexWithin n r i s → IndexWithin n' r' i s
-index_within_more n n' r r' i sort.Word more more' h = omega arith
-index_within_more n n' r r' i Jint more more' h = omega arith
-index_within_more n n' r r' i Flag more more' h = omega arith
-index_within_more n n' r r' i Truth more more' h = tt
-index_within_more n n' r r' i Ref more more' h = omega arith
-index_within_more n n' r r' i Global more more' h = tt
-index_within_more n n' r r' i FieldId more more' h = tt
-index_within_more n n' r r' i (Buffer t w) more more' h = tt
-index_within_more n n' r r' i (Array t m) more more' h = tt
+-- ---- right sides
 
-number_within : (n r i : ℕ) (s : Sort) → IsNumberSort s → IndexWithin n r i s → i < n
-number_within n r i sort.Word kind h = h
-number_within n r i Jint kind h = h
-number_within n r i Flag kind h = h
-number_within n r i s kind h = absurd kind
+-- a variable that takes a call's result
+abbrev IsResultTarget : Target → Identifier → Type 0
+IsResultTarget target x = (target ≡ Declared ScalarKind x) ⊎ (target ≡ Assigned x)
 
--- each known name has one of the slots that are taken
-abbrev pub AreWithin : Known → (numbers references : ℕ) → Type 0
-AreWithin known n r = (x : Identifier) (s : Slot) → lookup x known ≡ Some s → IndexWithin n r s.index s.sort
+-- The names known at the place, and what comes behind: the rest of the tasks, where these names are known.
+module _ (code : Listing) (known : Known) (line place : ℕ) (tail : List Task) where
+  number_set : (target : Target) (x : Identifier) (slot : Slot) (e : Expr) (names : Known) → IsNumberSort slot.sort → NumberFits known (term_of e) slot.sort → HasAt code.instrs place (value_code known line slot e) → IsSlotOf code known x slot → AreAmong names ((x, slot) ∷ known)
+      → TasksStand code names (place + length (value_code known line slot e)) [] tail → TasksStand code known place [] (set_task line target x e ∷ tail)
+  number_set target x slot e names n fits at own among further =
+      let is = value_is known line slot e slot.sort fits in
+      let size : place + length (value_code known line slot e) ≡ place + length (expr_code known line e) + 1 = omega (arith, ap length is, length-append (expr_code known line e) (instr.Store slot.index ∷ [])) in
+      subst (λ task. TasksStand code known place [] (task ∷ tail)) (sym (set_is known line target x e slot.sort fits)) (record {
+        slot = slot;
+        number = n;
+        value = (number_begins known (term_of e) slot.sort fits, subst (HasAt code.instrs place) is at);
+        own = own;
+        further = (names, among, subst (λ p. TasksStand code names p [] tail) size further);
+      })
 
-pub are_within_more : (known : Known) (n n' r r' : ℕ) → n ≤ n' → r ≤ r' → AreWithin known n r → AreWithin known n' r'
-are_within_more known n n' r r' more more' h x s at = index_within_more n n' r r' s.index s.sort more more' (h x s at)
+  null_set : (target : Target) (x : Identifier) (slot : Slot) (e : Expr) (variable : NullableVariable) (names : Known) → e ≡ tree.Named tree.Null → nullable_of slot.sort slot.index ≡ Some variable → target_name target ≡ Some x → HasAt code.instrs place (value_code known line slot e)
+      → IsSlotOf code known x slot → AreAmong names ((x, slot) ∷ known) → TasksStand code names (place + length (value_code known line slot e)) [] tail → TasksStand code known place [] (set_task line target x e ∷ tail)
+  null_set target x slot e variable names null same name at own among further =
+      let is : value_code known line slot e ≡ instr.StoreNull variable ∷ [] = ap (λ (d : Expr). value_code known line slot d) null ∙ ap store_of same in
+      let there = subst (HasAt code.instrs place) is at in
+      let size : place + length (value_code known line slot e) ≡ place + 1 = omega (arith, ap length is) in
+      subst (λ (d : Expr). TasksStand code known place [] (set_task line target x d ∷ tail)) (sym null) (record {
+        empty = refl;
+        name = x;
+        is = name;
+        slot = slot;
+        variable = variable;
+        nullable = same;
+        at = there.0;
+        own = own;
+        further = (names, among, subst (λ p. TasksStand code names p [] tail) size further);
+      })
 
--- one name more, whose slot is there
-pub one_within : (y : Identifier) (slot : Slot) (known : Known) (n r : ℕ) → IndexWithin n r slot.index slot.sort → AreWithin known n r → AreWithin ((y, slot) ∷ known) n r
-one_within y slot known n r own others x s at =
-    elim (bytes_eq x y) as (λ b. (if b then Some slot else lookup x known) ≡ Some s → IndexWithin n r s.index s.sort) [
-      | true ↦ λ e. let same : slot ≡ s = cc in subst (λ (t : Slot). IndexWithin n r t.index t.sort) same own
-      | false ↦ λ e. others x s e
-    ] at
+  value_set : (target : Target) (x : Identifier) (kind : Sort) (i : ℕ) (e : Expr) (names : Known) → ValueFits known kind e → target_name target ≡ Some x → HasAt code.instrs place (value_code known line (record { sort = kind; index = i }) e) → IsSlotOf code known x (record { sort = kind; index = i })
+      → AreAmong names ((x, record { sort = kind; index = i }) ∷ known) → TasksStand code names (place + length (value_code known line (record { sort = kind; index = i }) e)) [] tail → TasksStand code known place [] (set_task line target x e ∷ tail)
+  value_set target x sort.Word i e names fits name at own among further = number_set target x (record { sort = sort.Word; index = i }) e names tt fits at own among further
+  value_set target x Jint i e names fits name at own among further = number_set target x (record { sort = Jint; index = i }) e names tt fits at own among further
+  value_set target x sort.Flag i e names fits name at own among further = number_set target x (record { sort = sort.Flag; index = i }) e names tt fits at own among further
+  value_set target x sort.Truth i e names fits name at own among further = absurd fits
+  value_set target x Ref i e names fits name at own among further = null_set target x (record { sort = Ref; index = i }) e (nullable.Local i) names fits refl name at own among further
+  value_set target x Global i e names fits name at own among further = null_set target x (record { sort = Global; index = i }) e (nullable.Static i) names fits refl name at own among further
+  value_set target x FieldId i e names fits name at own among further = null_set target x (record { sort = FieldId; index = i }) e (nullable.FieldId i) names fits refl name at own among further
+  value_set target x (Buffer t w) i e names fits name at own among further = null_set target x (record { sort = Buffer t w; index = i }) e (nullable.Buffer i) names fits refl name at own among further
+  value_set target x (Array t n) i e names fits name at own among further = absurd fits
 
-pub number_declared : (x : Identifier) (l : Layout) → AreWithin l.known l.numbers l.references → AreWithin (with_number x l).known (with_number x l).numbers (with_number x l).references
-number_declared x l h =
-    one_within x (record { sort = Jint; index = l.numbers }) l.known (l.numbers + 1) l.references (omega arith) (are_within_more l.known l.numbers (l.numbers + 1) l.references l.references (omega arith) (omega arith) h)
+  -- the call's instruction stands at the place, and what comes behind it
+  reference_stands : (target : Target) (function : Identifier) (slot : ℕ) (e : Expr) → function_named function ≡ Some GetArrayLength → ReferenceFits known e → HasAt code.instrs place (call_code known line slot (tree.Value e ∷ []))
+      → TargetStands code known (λ p names. TasksStand code names p [] tail) (place + 1) (destination.Number slot) target → TasksStand code known place [] (call_task line target (record { function = function; arguments = tree.Value e ∷ [] }) ∷ tail)
+  reference_stands target function slot (tree.Named tree.Null) built fits at goes =
+      subst (λ o. TasksStand code known place [] (invocation line target (record { function = function; arguments = tree.Value (tree.Named tree.Null) ∷ [] }) o ∷ tail)) (sym built) (record {
+        call = record { line = line; target = destination.Number slot; function = callee.GetArrayLength Null };
+        at = at.0;
+        same_line = refl;
+        function = (refl, refl, inl refl);
+        goes = goes;
+      })
+  reference_stands target function slot (tree.Variable x) built (s, found, inl e) at goes =
+      let there : lookup x known ≡ Some (record { sort = Ref; index = s.index }) = found ∙ ap (λ (r : Sort). Some (record { sort = r; index = s.index })) e in
+      let operand : operand_of (lookup x known) ≡ Local s.index = ap operand_of there in
+      subst (λ o. TasksStand code known place [] (invocation line target (record { function = function; arguments = tree.Value (tree.Variable x) ∷ [] }) o ∷ tail)) (sym built) (record {
+        call = record { line = line; target = destination.Number slot; function = callee.GetArrayLength (Local s.index) };
+        at = at.0 ∙ ap (λ (r : _). Some (instr.Call (record { line = line; target = destination.Number slot; function = callee.GetArrayLength r }))) operand;
+        same_line = refl;
+        function = (refl, refl, (x, refl, there));
+        goes = goes;
+      })
+  reference_stands target function slot (tree.Variable x) built (s, found, inr e) at goes =
+      let there : lookup x known ≡ Some (record { sort = Global; index = s.index }) = found ∙ ap (λ (r : Sort). Some (record { sort = r; index = s.index })) e in
+      let operand : operand_of (lookup x known) ≡ Null = ap operand_of there in
+      subst (λ o. TasksStand code known place [] (invocation line target (record { function = function; arguments = tree.Value (tree.Variable x) ∷ [] }) o ∷ tail)) (sym built) (record {
+        call = record { line = line; target = destination.Number slot; function = callee.GetArrayLength Null };
+        at = at.0 ∙ ap (λ (r : _). Some (instr.Call (record { line = line; target = destination.Number slot; function = callee.GetArrayLength r }))) operand;
+        same_line = refl;
+        function = (refl, refl, inr (x, s.index, refl, there));
+        goes = goes;
+      })
+  reference_stands target function slot e built fits at goes = absurd fits
 
--- the next slot is that of no known name
-next_slot : (code : Listing) (x : Identifier) (l : Layout) → AreWithin l.known l.numbers l.references → l.numbers + 1 ≤ code.numbers → IsSlotOf code l.known x l.numbers
-next_slot code x l h room = record {
-  within = omega arith;
-  alone = λ y s at kind same. absurd (let below : s.index < l.numbers = number_within l.numbers l.references s.index s.sort kind (h y s at) in omega arith);
-}
+  call_stands : (target : Target) (function : Identifier) (slot : ℕ) (arguments : List Argument) → function_named function ≡ Some GetArrayLength → ArgumentsFit known arguments → HasAt code.instrs place (call_code known line slot arguments)
+      → TargetStands code known (λ p names. TasksStand code names p [] tail) (place + 1) (destination.Number slot) target → TasksStand code known place [] (call_task line target (record { function = function; arguments = arguments }) ∷ tail)
+  call_stands target function slot (tree.Value e ∷ []) built fits at goes = reference_stands target function slot e built fits at goes
+  call_stands target function slot arguments built fits at goes = absurd fits
 
--- ---- an expression in memory
+  -- how many instructions a call with fitting arguments is
+  call_length : (slot : ℕ) (arguments : List Argument) → ArgumentsFit known arguments → length (call_code known line slot arguments) ≡ 1
+  call_length slot (tree.Value e ∷ []) fits = refl
+  call_length slot arguments fits = absurd fits
 
-untouched : (e : Expr) → IsUntouched (term_of (expr_tree e))
-untouched (expr.Number n u) = tt
-untouched (expr.Named c) = tt
-untouched (expr.Variable x) = tt
-untouched (expr.Prefix' op p e) = untouched e
-untouched (expr.Binary' binary.BitOr p a q b) = (untouched a, untouched b)
-untouched (expr.Binary' binary.BitXor p a q b) = (untouched a, untouched b)
-untouched (expr.Binary' binary.BitAnd p a q b) = (untouched a, untouched b)
-untouched (expr.Binary' binary.Add p a q b) = (untouched a, untouched b)
-untouched (expr.Binary' binary.Subtract p a q b) = (untouched a, untouched b)
-untouched (expr.Binary' binary.Multiply p a q b) = (untouched a, untouched b)
-untouched (expr.Paren' p e) = untouched e
+  result_stands : (target : Target) (x : Identifier) (i : ℕ) (names : Known) → IsResultTarget target x → IsSlotOf code known x (record { sort = Jint; index = i }) → AreAmong names ((x, record { sort = Jint; index = i }) ∷ known) → TasksStand code names (place + 1) [] tail
+      → TargetStands code known (λ p names. TasksStand code names p [] tail) (place + 1) (destination.Number i) target
+  result_stands target x i names (inl e) own among further = subst (TargetStands code known (λ p names. TasksStand code names p [] tail) (place + 1) (destination.Number i)) (sym e) (record { own = own; further = (names, among, further) })
+  result_stands target x i names (inr e) own among further = subst (TargetStands code known (λ p names. TasksStand code names p [] tail) (place + 1) (destination.Number i)) (sym e) (record { own = own; further = (names, among, further) })
 
-same_code : (known : Known) (e : Expr) → term_code known (term_of (expr_tree e)) ≡ expr_code known (expr_tree e)
-same_code known (expr.Number n u) = refl
-same_code known (expr.Named c) = refl
-same_code known (expr.Variable x) = refl
-same_code known (expr.Prefix' op p e) = ap (λ c. c ++ prefix_code (prefix_tree op)) (same_code known e)
-same_code known (expr.Binary' binary.BitOr p a q b) = rw (same_code known a, same_code known b) refl
-same_code known (expr.Binary' binary.BitXor p a q b) = rw (same_code known a, same_code known b) refl
-same_code known (expr.Binary' binary.BitAnd p a q b) = rw (same_code known a, same_code known b) refl
-same_code known (expr.Binary' binary.Add p a q b) = rw (same_code known a, same_code known b) refl
-same_code known (expr.Binary' binary.Subtract p a q b) = rw (same_code known a, same_code known b) refl
-same_code known (expr.Binary' binary.Multiply p a q b) = rw (same_code known a, same_code known b) refl
-same_code known (expr.Paren' p e) = same_code known e
-
--- what a cast takes is in a number slot
-pub number_castable : (s : Sort) → is_castable (Some s) ≡ true → IsNumberSort s
-number_castable sort.Word h = tt
-number_castable Jint h = tt
-number_castable Flag h = tt
-number_castable Truth h = absurd cc
-number_castable Ref h = absurd cc
-number_castable Global h = absurd cc
-number_castable FieldId h = absurd cc
-number_castable (Buffer t w) h = absurd cc
-number_castable (Array t n) h = absurd cc
-
-term_sort : (known : Known) (e : Expr) (s : Sort) → IsNumberSort s → HasSort (scope_of known) (expr_tree e) s → TermHasSort known (term_of (expr_tree e)) s
-term_sort known (expr.Number n true) s kind h = h
-term_sort known (expr.Number n false) s kind h = h
-term_sort known (expr.Named c) s kind h = absurd h
-term_sort known (expr.Variable x) s kind h = let slot = slot_of_name x known s h in (slot.0, slot.1, kind)
-term_sort known (expr.Prefix' prefix.Complement p e) s kind h = (term_sort known e sort.Word tt h.0, h.1)
-term_sort known (expr.Prefix' prefix.ToWord p e) s kind h = (h.0, term_sort known e h.0 (number_castable h.0 h.2) h.1, h.3)
-term_sort known (expr.Prefix' prefix.ToInt p e) s kind h = (h.0, term_sort known e h.0 (number_castable h.0 h.2) h.1, h.3)
-term_sort known (expr.Binary' binary.BitOr p a q b) s kind h = (tt, term_sort known a sort.Word tt h.1, term_sort known b sort.Word tt h.2, h.3)
-term_sort known (expr.Binary' binary.BitXor p a q b) s kind h = (tt, term_sort known a sort.Word tt h.1, term_sort known b sort.Word tt h.2, h.3)
-term_sort known (expr.Binary' binary.BitAnd p a q b) s kind h = (tt, term_sort known a sort.Word tt h.1, term_sort known b sort.Word tt h.2, h.3)
-term_sort known (expr.Binary' binary.Add p a q b) s kind h = (tt, term_sort known a sort.Word tt h.1, term_sort known b sort.Word tt h.2, h.3)
-term_sort known (expr.Binary' binary.Subtract p a q b) s kind h = (tt, term_sort known a sort.Word tt h.1, term_sort known b sort.Word tt h.2, h.3)
-term_sort known (expr.Binary' binary.Multiply p a q b) s kind h = (tt, term_sort known a sort.Word tt h.1, term_sort known b sort.Word tt h.2, h.3)
-term_sort known (expr.Paren' p e) s kind h = term_sort known e s kind h
-
-number_begins : (known : Known) (e : Expr) → accepted.IsNumber (scope_of known) (expr_tree e) → IsNumber known Jint (term_of (expr_tree e)) []
-number_begins known e h = record {
-  sort = term_sort known e Jint tt h.0;
-  begun = untouched_begun (term_of (expr_tree e)) (untouched e);
-  operands = sym (untouched_held (term_of (expr_tree e)) (untouched e));
-}
+  pub right_stands : (target : Target) (x : Identifier) (s : Slot) (r : RightSide) (names : Known) → RightFits known s.sort r → target_name target ≡ Some x → (s.sort ≡ Jint → IsResultTarget target x) → HasAt code.instrs place (right_code known line s r) → IsSlotOf code known x s
+      → AreAmong names ((x, s) ∷ known) → TasksStand code names (place + length (right_code known line s r)) [] tail → TasksStand code known place [] (right_side_task line target x r ∷ tail)
+  right_stands target x s (FromExpr e) names fits name result at own among further = value_set target x s.sort s.index e names fits name at own among further
+  right_stands target x s (FromCall c) names fits name result at own among further =
+      let is : s ≡ record { sort = Jint; index = s.index } = ap (λ (k : Sort). record { sort = k; index = s.index }) fits.0 in
+      let size : place + length (call_code known line s.index c.arguments) ≡ place + 1 = omega (arith, call_length s.index c.arguments fits.1.1) in
+      call_stands target c.function s.index c.arguments fits.1.0 fits.1.1 at
+      (result_stands target x s.index names (result fits.0) (subst (IsSlotOf code known x) is own) (subst (λ (k : Slot). AreAmong names ((x, k) ∷ known)) is among) (subst (λ p. TasksStand code names p [] tail) size further))
 
 -- ---- statements
 
--- a number's code and the instruction behind it stand at the place, and the rest behind them
-number_stands : (code : Listing) (known : Known) (e : Expr) (last : Instr) (place : ℕ) (rest : List Instr) → accepted.IsNumber (scope_of known) (expr_tree e) → HasAt code.instrs place ((expr_code known (expr_tree e) ++ last ∷ []) ++ rest)
-    → NumberStands code known place [] Jint (term_of (expr_tree e)) last × HasAt code.instrs (place + length (term_code known (term_of (expr_tree e))) + 1) rest
-number_stands code known e last place rest number h =
-    let own = expr_code known (expr_tree e) ++ last ∷ [] in
-    let n : place + length own ≡ place + length (term_code known (term_of (expr_tree e))) + 1 = omega (arith, length-append (expr_code known (expr_tree e)) (last ∷ []), ap length (same_code known e)) in
-    ((number_begins known e number, rw (same_code known e) (has_front code.instrs place own rest h)), subst (λ m. HasAt code.instrs m rest) n (has_back code.instrs place own rest h))
+scalar_kind : (t : VariableType) (x : Identifier) → variable_sort t ≡ Jint → IsResultTarget (Declared (kind_of t) x) x
+scalar_kind tree.UInt32 x h = inl refl
+scalar_kind tree.JIntVariable x h = inl refl
+scalar_kind tree.JSize x h = inl refl
+scalar_kind tree.JBoolean x h = inl refl
+scalar_kind tree.JFieldId x h = absurd (cc)
+scalar_kind (tree.ReferenceVariable r) x h = absurd (cc)
 
--- a number for a variable is worked out before the variable is set
-set_is : (line : ℕ) (target : Target) (x : Identifier) (known : Scope) (e : Expr) (s : Sort) → HasSort known (expr_tree e) s → set_task line target x (expr_tree e) ≡ SetScalar line x (term_of (expr_tree e))
-set_is line target x known (expr.Number n u) s h = refl
-set_is line target x known (expr.Named c) s h = absurd h
-set_is line target x known (expr.Variable y) s h = refl
-set_is line target x known (expr.Prefix' op p e) s h = refl
-set_is line target x known (expr.Binary' op p a q b) s h = refl
-set_is line target x known (expr.Paren' p e) s h = refl
+-- a declaration's name is known behind it, and what was known before
+self_among : (x : Identifier) (s : Slot) (known : Known) → AreAmong ((x, s) ∷ known) ((x, s) ∷ known)
+self_among x s known = all_among ((x, s) ∷ known)
 
--- the call's instruction stands at the place, and what comes behind it
-reference_stands : (code : Listing) (l : Layout) (line : ℕ) (x function : Identifier) (e : Expr) (place : ℕ) (rest : List Task) → function_named function ≡ Some GetArrayLength → IsReference (scope_of l.known) (expr_tree e)
-    → HasAt code.instrs place (call_code l.known line (destination.Number l.numbers) (Value (expr_tree e) ∷ [])) → IsSlotOf code l.known x l.numbers → StandsFor code (with_slot x Jint l.numbers l.known) (place + 1) [] rest
-    → StandsFor code l.known place [] (call_task line (Declared ScalarKind x) (record { function = function; arguments = Value (expr_tree e) ∷ [] }) ∷ rest)
-reference_stands code l line x function (expr.Named constant.Null) place rest built reference h own further =
-    subst (λ o. StandsFor code l.known place [] (invocation line (Declared ScalarKind x) (record { function = function; arguments = Value (expr_tree (expr.Named constant.Null)) ∷ [] }) o ∷ rest)) (sym built) (record {
-      call = record { line = line; target = destination.Number l.numbers; function = callee.GetArrayLength Null };
-      at = h.0;
-      same_line = refl;
-      function = (refl, refl, refl);
-      goes = (own, further);
+-- what a statement's code stands for, where the rest of the tasks stands behind it
+abbrev pub StmtBegins : Listing → Stmt → Type 0
+StmtBegins code s =
+    (l : Layout) (place : ℕ) (tail : List Task) → HasAt code.instrs place (stmt_code l s) → StmtFits l s → IsLaidOut l.known l.slots → HasRoomFor code.slots (layout_behind l s).slots
+    → TasksStand code (layout_behind l s).known (place + length (stmt_code l s)) [] tail → TasksStand code l.known place [] (task_of s ∷ tail)
+
+-- the code of both ways of an `if` behind its test
+branch_stands : (code : Listing) (line : ℕ) (e : Expr) (then' else' : Block) (l : Layout) (slots_else : _) (place : ℕ) (tail : List Task)
+    → HasAt code.instrs place (expr_code l.known line e ++ ways_code (block_code l then') (block_code (record { known = l.known; slots = slots_else }) else' ++ instr.GoOn 0 ∷ []))
+    → NumberFits l.known (term_of e) sort.Truth → BlockFits l then' → BlockFits (record { known = l.known; slots = slots_else }) else' → IsLaidOut l.known l.slots → IsLaidOut l.known slots_else
+    → HasRoomFor code.slots (block_layout l then').slots → HasRoomFor code.slots (block_layout (record { known = l.known; slots = slots_else }) else').slots
+    → TasksStand code l.known (place + length (expr_code l.known line e ++ ways_code (block_code l then') (block_code (record { known = l.known; slots = slots_else }) else' ++ instr.GoOn 0 ∷ []))) [] tail
+    → TasksStand code l.known place [] (Branch line (term_of e) then' else' ∷ tail)
+branch_stands code line e then' else' l slots_else place tail at test fits fits' laid laid' room room' further =
+    let T = expr_code l.known line e in
+    let A = block_code l then' in
+    let B = block_code (record { known = l.known; slots = slots_else }) else' in
+    let ways = has_back code.instrs place T (ways_code A (B ++ instr.GoOn 0 ∷ [])) at in
+    let behind = has_back code.instrs (place + length T + 1) A (instr.GoOn (length (B ++ instr.GoOn 0 ∷ [])) ∷ (B ++ instr.GoOn 0 ∷ [])) ways.1 in
+    let size : place + length (T ++ ways_code A (B ++ instr.GoOn 0 ∷ [])) ≡ place + length T + 1 + length A + 1 + length B + 1 =
+    omega (arith, length-append T (ways_code A (B ++ instr.GoOn 0 ∷ [])), length-append A (instr.GoOn (length (B ++ instr.GoOn 0 ∷ [])) ∷ (B ++ instr.GoOn 0 ∷ [])), length-append B (instr.GoOn 0 ∷ [])) in
+    record {
+      slots = l.slots;
+      slots_else = slots_else;
+      test = number_begins l.known (term_of e) sort.Truth test;
+      then_code = A;
+      then_is = refl;
+      else_code = B;
+      else_is = refl;
+      at = at;
+      first = record { at = has_front code.instrs (place + length T + 1) A (instr.GoOn (length (B ++ instr.GoOn 0 ∷ [])) ∷ (B ++ instr.GoOn 0 ∷ [])) ways.1; fits = fits; laid = laid; room = room };
+      second = record { at = has_front code.instrs (place + length T + 1 + length A + 1) B (instr.GoOn 0 ∷ []) behind.1; fits = fits'; laid = laid'; room = room' };
+      further = subst (λ p. TasksStand code l.known p [] tail) size further;
+    }
+
+if_stands : (code : Listing) (line : ℕ) (test : Test) (then' else' : Block) (l : Layout) (slots_else : _) (place : ℕ) (tail : List Task)
+    → HasAt code.instrs place (if_code l.known line test (block_code l then') (block_code (record { known = l.known; slots = slots_else }) else'))
+    → TestFits l.known test → BlockFits l then' → BlockFits (record { known = l.known; slots = slots_else }) else' → IsLaidOut l.known l.slots → IsLaidOut l.known slots_else
+    → HasRoomFor code.slots (block_layout l then').slots → HasRoomFor code.slots (block_layout (record { known = l.known; slots = slots_else }) else').slots
+    → TasksStand code l.known (place + length (if_code l.known line test (block_code l then') (block_code (record { known = l.known; slots = slots_else }) else'))) [] tail
+    → TasksStand code l.known place [] (if_task line test then' else' ∷ tail)
+if_stands code line (TestExpr e) then' else' l slots_else place tail at test fits fits' laid laid' room room' further = branch_stands code line e then' else' l slots_else place tail at test fits fits' laid laid' room room' further
+if_stands code line (TestCall c) then' else' l slots_else place tail at test fits fits' laid laid' room room' further = absurd test
+
+loop_stands : (code : Listing) (line : ℕ) (test : Expr) (body : Block) → StmtBegins code (tree.While line test body)
+loop_stands code line test body l place tail at fits laid room further =
+    let T = expr_code l.known line test in
+    let B = block_code l body in
+    let back = instr.GoBack (length T + 1 + length B) ∷ [] in
+    let turn = has_back code.instrs place T (turn_code T B) at in
+    let size : place + length (loop_code T B) ≡ place + length T + 1 + length B + 1 = omega (arith, length-append T (turn_code T B), length-append B back) in
+    record {
+      slots = l.slots;
+      start = place;
+      under_way = number_begins l.known (term_of test) sort.Truth fits.0;
+      fits = fits.0;
+      test_code = T;
+      test_is = refl;
+      body_code = B;
+      body_is = refl;
+      whole = at;
+      here = has_front code.instrs place T (turn_code T B) at;
+      meets = refl;
+      turn = record { at = has_front code.instrs (place + length T + 1) B back turn.1; fits = fits.1; laid = laid; room = room };
+      further = subst (λ p. TasksStand code l.known p [] tail) size further;
+    }
+
+-- the slots of a known name are there
+slot_within : (code : Listing) (l : Layout) (x : Identifier) (s : Slot) → lookup x l.known ≡ Some s → IsLaidOut l.known l.slots → HasRoomFor code.slots l.slots → IndexWithin code.slots s.sort s.index
+slot_within code l x s found laid room = index_more l.slots code.slots s.sort s.index (room_at_least code.slots l.slots room) (laid.within x s found)
+
+pair_begun : (a b : Term) → IsUntouched a → IsUntouched b → IsBegun (Binary BitOr a b)
+pair_begun a b h k = untouched_begun (Binary BitOr a b) (h, k)
+
+pair_held : (a b : Term) → IsUntouched a → IsUntouched b → [] ≡ held b ++ held a
+pair_held a b h k = sym (untouched_held (Binary BitOr a b) (h, k))
+
+element_set_stands : (code : Listing) (line : ℕ) (x : Identifier) (i e : Expr) → StmtBegins code (tree.AssignElement line x i e)
+element_set_stands code line x i e l place tail at fits laid room further =
+    let type = fits.0.0 in
+    let size = fits.0.1 in
+    let start = fits.0.2 in
+    let store = instr.StoreElement (record { start = start; len = size }) (element_of type) line ∷ [] in
+    let I = expr_code l.known line i in
+    let E = expr_code l.known line e in
+    let is : of_slot (write_code line) (lookup x l.known) ≡ store = ap (of_slot (write_code line)) fits.0.3 in
+    let there = subst (λ w. HasAt code.instrs place (I ++ (E ++ w))) is at in
+    let count : place + length (I ++ (E ++ of_slot (write_code line) (lookup x l.known))) ≡ place + (length I + length E) + 1 =
+    omega (arith, length-append I (E ++ of_slot (write_code line) (lookup x l.known)), length-append E (of_slot (write_code line) (lookup x l.known)), ap length is) in
+    record {
+      type = type;
+      size = size;
+      start = start;
+      array = fits.0.3;
+      own = record { within = slot_within code l x (record { sort = Array type size; index = start }) fits.0.3 laid room; own = laid.own x (record { sort = Array type size; index = start }) fits.0.3 };
+      index = (fits.1.0, fits.1.1, fits.1.2.sort);
+      value = fits.2.sort;
+      begun = pair_begun (term_of i) (term_of e) fits.1.2.untouched fits.2.untouched;
+      operands = pair_held (term_of i) (term_of e) fits.1.2.untouched fits.2.untouched;
+      at = there;
+      further = subst (λ p. TasksStand code l.known p [] tail) count further;
+    }
+
+returned_stands : (code : Listing) (line : ℕ) (t : Term) (l : Layout) (place : ℕ) (tail : List Task) → HasAt code.instrs place (return_code l.known line t) → ReturnFits l.known t → TasksStand code l.known place [] (ReturnValue line t ∷ tail)
+returned_stands code line (term.Named tree.Null) l place tail at fits = inr (inl (refl, at.0))
+returned_stands code line (Read x) l place tail at (s, found, inl e) =
+    let there : lookup x l.known ≡ Some (record { sort = Ref; index = s.index }) = found ∙ ap (λ (r : Sort). Some (record { sort = r; index = s.index })) e in
+    let one = subst (HasAt code.instrs place) (ap (of_slot returned_code) there) at in
+    inr (inr (x, s.index, refl, there, one.0))
+returned_stands code line (Read x) l place tail at (s, found, inr e) =
+    let there : lookup x l.known ≡ Some (record { sort = Jint; index = s.index }) = found ∙ ap (λ (r : Sort). Some (record { sort = r; index = s.index })) e in
+    let load : term_code l.known line (Read x) ++ instr.ReturnJint ∷ [] ≡ of_slot returned_code (lookup x l.known) = rw there refl in
+    inl (record { sort = (s.index, there, tt); begun = tt; operands = refl }, subst (HasAt code.instrs place) (sym load) at)
+returned_stands code line t l place tail at fits = inl (number_begins l.known t Jint fits, at)
+
+pub stmt_begins : (code : Listing) (s : Stmt) → StmtBegins code s
+stmt_begins code (tree.Declare line t x r) l place tail at fits laid room further =
+    right_stands code l.known line place tail (Declared (kind_of t) x) x (new_slot (variable_sort t) l) r ((x, new_slot (variable_sort t) l) ∷ l.known) fits.1 refl (scalar_kind t x) at (declared_slot code (variable_sort t) l x (variable_size t) laid room) (self_among x (new_slot (variable_sort t) l) l.known) further
+stmt_begins code (tree.DeclareBuffer line t x r) l place tail at fits laid room further =
+    right_stands code l.known line place tail (Declared (BufferKind t) x) x (new_slot (Buffer t true) l) r ((x, new_slot (Buffer t true) l) ∷ l.known) fits.1 refl (λ e. absurd (cc)) at (declared_slot code (Buffer t true) l x tt laid room) (self_among x (new_slot (Buffer t true) l) l.known) further
+stmt_begins code (tree.DeclareChars line x r) l place tail at fits laid room further =
+    right_stands code l.known line place tail (Declared (BufferKind JChar) x) x (new_slot (Buffer JChar false) l) r ((x, new_slot (Buffer JChar false) l) ∷ l.known) fits.1 refl (λ e. absurd (cc)) at (declared_slot code (Buffer JChar false) l x tt laid room) (self_among x (new_slot (Buffer JChar false) l) l.known) further
+stmt_begins code (tree.DeclareArray line t x size) l place tail at fits laid room further = record {
+  empty = refl;
+  start = l.slots.numbers;
+  at = at.0;
+  own = declared_slot code (Array t size) l x (fits.1, fits.2) laid room;
+  further = ((x, new_slot (Array t size) l) ∷ l.known, self_among x (new_slot (Array t size) l) l.known, further);
+}
+stmt_begins code (tree.Assign line x r) l place tail at fits laid room further =
+    let slot = fits.0 in
+    let found = fits.1 in
+    let there = subst (HasAt code.instrs place) (ap (λ (o : Option Slot). assign_code l.known line o r) found) at in
+    let own : IsSlotOf code l.known x slot = record { within = slot_within code l x slot found laid room; own = laid.own x slot found } in
+    right_stands code l.known line place tail (Assigned x) x slot r l.known fits.2 refl (λ e. inr refl) there own (known_among x slot l.known found)
+    (subst (λ c. TasksStand code l.known (place + length c) [] tail) (ap (λ (o : Option Slot). assign_code l.known line o r) found) further)
+stmt_begins code (tree.AssignElement line x i e) l place tail at fits laid room further = element_set_stands code line x i e l place tail at fits laid room further
+stmt_begins code (tree.Perform line c) l place tail at fits laid room further =
+    let size : place + length (call_code l.known line l.slots.numbers c.arguments) ≡ place + 1 = omega (arith, call_length code l.known line place tail l.slots.numbers c.arguments fits.1) in
+    call_stands code l.known line place tail Dropped c.function l.slots.numbers c.arguments fits.0 fits.1 at (record {
+      within = room.numbers;
+      free = free_slot l.known l.slots laid;
+      further = subst (λ p. TasksStand code l.known p [] tail) size further;
     })
-reference_stands code l line x function (expr.Variable y) place rest built reference h own further =
-    let slot = slot_of_name y l.known Ref reference in
-    subst (λ o. StandsFor code l.known place [] (invocation line (Declared ScalarKind x) (record { function = function; arguments = Value (expr_tree (expr.Variable y)) ∷ [] }) o ∷ rest)) (sym built) (record {
-      call = record { line = line; target = destination.Number l.numbers; function = callee.GetArrayLength (Local slot.0) };
-      at = rw (ap slot_operand slot.1) at h.0;
-      same_line = refl;
-      function = (refl, refl, (y, refl, slot.1));
-      goes = (own, further);
-    })
-reference_stands code l line x function e place rest built reference h own further = absurd reference
+stmt_begins code (tree.PutJint line e) l place tail at fits laid room further =
+    let size : place + length (expr_code l.known line e ++ instr.PutJint ∷ []) ≡ place + length (expr_code l.known line e) + 1 = omega (arith, length-append (expr_code l.known line e) (instr.PutJint ∷ [])) in
+    ((number_begins l.known (term_of e) Jint fits, at), subst (λ p. TasksStand code l.known p [] tail) size further)
+stmt_begins code (tree.If line test then') l place tail at fits laid room further =
+    let grown = block_grows then' l in
+    if_stands code line test then' (End line) l (block_layout l then').slots place tail at fits.0 fits.1 tt laid (laid_more l.known l.slots (block_layout l then').slots grown laid) room room further
+stmt_begins code (tree.IfElse line test then' else') l place tail at fits laid room further =
+    let first = closed l (block_layout l then') in
+    let grown = block_grows then' l in
+    let grown' = block_grows else' first in
+    if_stands code line test then' else' l first.slots place tail at fits.0 fits.1 fits.2 laid (laid_more l.known l.slots first.slots grown laid) (room_before code.slots first.slots (block_layout first else').slots grown' room) room further
+stmt_begins code (tree.While line test body) l place tail at fits laid room further = loop_stands code line test body l place tail at fits laid room further
+stmt_begins code (tree.Return line) l place tail at fits laid room further = (refl, at.0)
+stmt_begins code (tree.ReturnValue line e) l place tail at fits laid room further = returned_stands code line (term_of e) l place tail at fits
 
-call_stands : (code : Listing) (l : Layout) (line : ℕ) (x function : Identifier) (arguments : List ArgumentInMemory) (place : ℕ) (rest : List Task) → function_named function ≡ Some GetArrayLength → IsOneReference (scope_of l.known) (map argument_tree arguments)
-    → HasAt code.instrs place (call_code l.known line (destination.Number l.numbers) (map argument_tree arguments)) → IsSlotOf code l.known x l.numbers → StandsFor code (with_slot x Jint l.numbers l.known) (place + 1) [] rest
-    → StandsFor code l.known place [] (call_task line (Declared ScalarKind x) (record { function = function; arguments = map argument_tree arguments }) ∷ rest)
-call_stands code l line x function [] place rest built references h own further = absurd references
-call_stands code l line x function (argument.Value e ∷ []) place rest built references h own further = reference_stands code l line x function e place rest built references h own further
-call_stands code l line x function (argument.Value e ∷ b ∷ more) place rest built references h own further = absurd references
+-- ---- blocks
 
--- how many instructions a call with fitting arguments is
-call_length : (l : Layout) (line : ℕ) (arguments : List ArgumentInMemory) → IsOneReference (scope_of l.known) (map argument_tree arguments) → length (call_code l.known line (destination.Number l.numbers) (map argument_tree arguments)) ≡ 1
-call_length l line [] references = absurd references
-call_length l line (argument.Value e ∷ []) references = refl
-call_length l line (argument.Value e ∷ b ∷ more) references = absurd references
-
--- slots that are taken stay taken
-pub form_layout : (f : Form) (line : ℕ) (l : Layout) → (l.numbers ≤ (layout_behind l (form_tree line f)).numbers) × (l.references ≤ (layout_behind l (form_tree line f)).references)
-form_layout (form.Declare variable.Jint x r) line l = (omega arith, omega arith)
-form_layout (form.PutJint e) line l = (omega arith, omega arith)
-form_layout (form.Return None) line l = (omega arith, omega arith)
-form_layout (form.Return (Some e)) line l = (omega arith, omega arith)
-
-pub layout_grows : (statements : List Stmt) (end_line : ℕ) (l : Layout)
-    → (l.numbers ≤ (block_layout l (statements_tree statements end_line)).numbers) × (l.references ≤ (block_layout l (statements_tree statements end_line)).references)
-layout_grows [] end_line l = (omega arith, omega arith)
-layout_grows (s ∷ rest) end_line l =
-    let own = form_layout s.form s.line l in
-    let further = layout_grows rest end_line (layout_behind l (form_tree s.line s.form)) in
-    (omega arith, omega arith)
-
--- the rest of a body, wherever its code stands, behind any declarations
-abbrev pub RestBegins : Listing → ResultType → List Stmt → ℕ → Type 0
-RestBegins code result statements end_line =
-    (l : Layout) (place : ℕ) → AreWithin l.known l.numbers l.references → (block_layout l (statements_tree statements end_line)).numbers ≤ code.numbers
-    → BlockFits result (scope_of l.known) (statements_tree statements end_line) → EndsByReturn (statements_tree statements end_line) → HasAt code.instrs place (block_code l (statements_tree statements end_line))
-    → StandsFor code l.known place [] (tasks_of (statements_tree statements end_line))
-
--- the number slot of the next declaration
-own_slot : (code : Listing) (x : Identifier) (l : Layout) (rest : List Stmt) (end_line : ℕ) → AreWithin l.known l.numbers l.references → (block_layout (with_number x l) (statements_tree rest end_line)).numbers ≤ code.numbers → IsSlotOf code l.known x l.numbers
-own_slot code x l rest end_line within few =
-    let grows = layout_grows rest end_line (with_number x l) in
-    let room : l.numbers + 1 ≤ code.numbers = omega arith in
-    next_slot code x l within room
-
-form_begins : (code : Listing) (result : ResultType) (f : Form) (line : ℕ) (rest : List Stmt) (end_line : ℕ) → RestBegins code result rest end_line
-    → (l : Layout) (place : ℕ) → AreWithin l.known l.numbers l.references → (block_layout l (Next (form_tree line f) (statements_tree rest end_line))).numbers ≤ code.numbers
-    → BlockFits result (scope_of l.known) (Next (form_tree line f) (statements_tree rest end_line)) → EndsByReturn (Next (form_tree line f) (statements_tree rest end_line)) → HasAt code.instrs place (block_code l (Next (form_tree line f) (statements_tree rest end_line)))
-    → StandsFor code l.known place [] (tasks_of (Next (form_tree line f) (statements_tree rest end_line)))
-form_begins code result (form.Declare variable.Jint x (right.Expr e)) line rest end_line further l place within few fits ends h =
-    let next = with_number x l in
-    let both = number_stands code l.known e (instr.Store l.numbers) place (block_code next (statements_tree rest end_line)) fits.0 h in
-    let behind = further next _ (number_declared x l within) few fits.2 ends both.1 in
-    subst (λ task. StandsFor code l.known place [] (task ∷ tasks_of (statements_tree rest end_line))) (sym (set_is line (Declared ScalarKind x) x (scope_of l.known) e Jint fits.0.0))
-    (l.numbers, both.0, own_slot code x l rest end_line within few, behind)
-form_begins code result (form.Declare variable.Jint x (right.Call c)) line rest end_line further l place within few fits ends h =
-    let next = with_number x l in
-    let own = call_code l.known line (destination.Number l.numbers) (map argument_tree c.arguments.items) in
-    let at = subst (λ n. HasAt code.instrs (place + n) (block_code next (statements_tree rest end_line))) (call_length l line c.arguments.items fits.0.1) (has_back code.instrs place own (block_code next (statements_tree rest end_line)) h) in
-    call_stands code l line x c.function c.arguments.items place (tasks_of (statements_tree rest end_line)) fits.0.0 fits.0.1 (has_front code.instrs place own (block_code next (statements_tree rest end_line)) h)
-    (own_slot code x l rest end_line within few) (further next (place + 1) (number_declared x l within) few fits.2 ends at)
-form_begins code result (form.PutJint e) line rest end_line further l place within few fits ends h =
-    let both = number_stands code l.known e instr.PutJint place (block_code l (statements_tree rest end_line)) fits.0 h in
-    (both.0, further l _ within few fits.1 ends both.1)
-form_begins code result (form.Return None) line rest end_line further l place within few fits ends h = (refl, has_front code.instrs place (instr.Return ∷ []) (block_code l (statements_tree rest end_line)) h)
-form_begins code result (form.Return (Some e)) line rest end_line further l place within few fits ends h =
-    (number_stands code l.known e instr.ReturnJint place (block_code l (statements_tree rest end_line)) fits.1 h).0
-
--- code that stands at a place stands for its statements
-pub begins : (code : Listing) (result : ResultType) (statements : List Stmt) (end_line : ℕ) → RestBegins code result statements end_line
-begins code result [] end_line l place within few fits ends h = absurd ends
-begins code result (s ∷ rest) end_line l place within few fits ends h =
-    form_begins code result s.form s.line rest end_line (begins code result rest end_line) l place within few fits ends h
+-- Code that stands at a place stands for its statements and what is to do behind them, where all names are known that were
+-- known in front of the block.
+pub begins : (code : Listing) (b : Block) (l : Layout) (place : ℕ) (tail : List Task) → BlockStands code l place b
+    → ((names : Known) → AreAmong l.known names → TasksStand code names (place + length (block_code l b)) [] tail) → TasksStand code l.known place [] (tasks_of b ++ tail)
+begins code (End line) l place tail stands further =
+    let e : place + 0 ≡ place = omega arith in
+    subst (λ p. TasksStand code l.known p [] tail) e (further l.known (all_among l.known))
+begins code (Next s rest) l place tail stands further =
+    let own = stmt_code l s in
+    let next = layout_behind l s in
+    let others = block_code next rest in
+    let size : place + length own + length others ≡ place + length (own ++ others) = omega (arith, length-append own others) in
+    stmt_begins code s l place (tasks_of rest ++ tail) (has_front code.instrs place own others stands.at) stands.fits.0 stands.laid (room_before code.slots next.slots (block_layout next rest).slots (block_grows rest next) stands.room)
+    (begins code rest next (place + length own) tail
+    (record { at = has_back code.instrs place own others stands.at; fits = stands.fits.1; laid = laid_behind s l stands.fits.0 stands.laid; room = stands.room })
+    (λ names among. subst (λ p. TasksStand code names p [] tail) (sym size) (further names (λ x t h. among x t (known_behind_stmt s l stands.fits.0 x t h)))))

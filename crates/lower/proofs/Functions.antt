@@ -1,96 +1,77 @@
 -- The code of a whole function.
-use Rattle.std.proofs.Common.{◌≡◌, ℕ, ◌≤◌, List, [], ◌∷◌, length, map, refl, ap, subst, sym, arith}
-use Rattle.syntax.specs.declared.unit.Function.{Function as FunctionInMemory}
+use Rattle.std.proofs.Common.{◌≡◌, ◌≢◌, ℕ, ◌+◌, ◌<◌, ◌≤◌, Bool, true, false, List, [], ◌∷◌, ◌++◌, length, Option, Some, None, refl, sym, ap, ◌∙◌, subst, arith, append_assoc, if◌then◌else◌}
+use Rattle.std.specs.Prelude.{IsTrue}
+use Rattle.std.specs.List.{list_any}
+use Rattle.std.specs.Str.{bytes_eq}
+use Rattle.std.proofs.lemmas.List.{append-nil}
+use Rattle.base.specs.Bytes.{Identifier, lookup}
 use Rattle.syntax.specs.Tree.{ParameterType, IntParameter, ReferenceParameter, Parameter, Function}
-use Rattle.syntax.specs.Views.{function_tree}
-use Rattle.types.specs.Sorts.{Ref, Scope}
-use Rattle.types.specs.SortRules.{parameter_sort}
-use Rattle.code.specs.Depth.{Listing, IsValid}
-use Rattle.regions.specs.WellSorted.{BlockFits, IsWellSorted, scope_at_entry}
-use Rattle.lower.specs.Layout.{parameter_slot, parameter_slots, numbers_behind, references_behind, numbers_of, references_of, entry_layout, block_layout, function_code, instruction_limit}
-use Rattle.lower.specs.Lowered.{IsCodeOf}
-use Rattle.lower.specs.Slots.{ArgumentsFit, HasRoom}
+use Rattle.types.specs.Sorts.{Sort, Jint, Ref, Global}
 use Rattle.world.specs.Object.{ObjectValue}
-use Rattle.lower.proofs.Bodies.{scope_of, IndexWithin, AreWithin, one_within, layout_grows, begins}
-use Rattle.lower.proofs.Places.{steps, has_all}
-use Rattle.lower.proofs.SlotLaws.{entry_shows, counts}
-use Rattle.lower.proofs.Validity.{body_moves, block_within}
-
--- ---- the parameters
-
-slot_sort : (type : ParameterType) (n r : ℕ) → (parameter_slot type n r).sort ≡ parameter_sort type
-slot_sort IntParameter n r = refl
-slot_sort (ReferenceParameter t) n r = refl
-
-parameter_sorts : (ps : List Parameter) (n r : ℕ) → scope_of (parameter_slots ps n r) ≡ map (λ p. (p.name, parameter_sort p.type)) ps
-parameter_sorts [] n r = refl
-parameter_sorts (p ∷ ps) n r = rw (slot_sort p.type n r, parameter_sorts ps (numbers_behind p.type n) (references_behind p.type r)) refl
-
-one_more : (type : ParameterType) (n r : ℕ) → (n ≤ numbers_behind type n) × (r ≤ references_behind type r)
-one_more IntParameter n r = (omega arith, omega arith)
-one_more (ReferenceParameter t) n r = (omega arith, omega arith)
-
-counts_grow : (ps : List Parameter) (n r : ℕ) → (n ≤ numbers_of ps n) × (r ≤ references_of ps r)
-counts_grow [] n r = (omega arith, omega arith)
-counts_grow (p ∷ ps) n r =
-    let own = one_more p.type n r in
-    let further = counts_grow ps (numbers_behind p.type n) (references_behind p.type r) in
-    (omega arith, omega arith)
-
-slot_within : (type : ParameterType) (n r n' r' : ℕ) → numbers_behind type n ≤ n' → references_behind type r ≤ r' → IndexWithin n' r' (parameter_slot type n r).index (parameter_slot type n r).sort
-slot_within IntParameter n r n' r' h k = omega arith
-slot_within (ReferenceParameter t) n r n' r' h k = omega arith
-
-parameters_within : (ps : List Parameter) (n r : ℕ) → AreWithin (parameter_slots ps n r) (numbers_of ps n) (references_of ps r)
-parameters_within [] n r = λ x s at. absurd (let e = at in cc)
-parameters_within (p ∷ ps) n r =
-    let further = counts_grow ps (numbers_behind p.type n) (references_behind p.type r) in
-    one_within p.name (parameter_slot p.type n r) (parameter_slots ps (numbers_behind p.type n) (references_behind p.type r)) (numbers_of (p ∷ ps) n) (references_of (p ∷ ps) r)
-    (slot_within p.type n r (numbers_of (p ∷ ps) n) (references_of (p ∷ ps) r) further.0 further.1)
-    (parameters_within ps (numbers_behind p.type n) (references_behind p.type r))
-
-entry_sorts : (f : Function) → scope_of (entry_layout f).known ≡ scope_at_entry f
-entry_sorts f = ap (λ (rest : Scope). (f.class_name, Ref) ∷ rest) (parameter_sorts f.parameters 0 1)
-
-entry_within : (f : Function) → AreWithin (entry_layout f).known (entry_layout f).numbers (entry_layout f).references
-entry_within f =
-    let further = counts_grow f.parameters 0 1 in
-    one_within f.class_name (record { sort = Ref; index = 0 }) (parameter_slots f.parameters 0 1) (numbers_of f.parameters 0) (references_of f.parameters 1) (omega arith) (parameters_within f.parameters 0 1)
-
--- ---- the code
+use Rattle.code.specs.declared.instr.Instr.TheVariants as instr
+use Rattle.code.specs.declared.slots.SlotCounts.{SlotCounts}
+use Rattle.code.specs.Depth.{Listing, IsValid}
+use Rattle.code.proofs.Pieces.{piece_moves, piece_jumps}
+use Rattle.regions.specs.Task.{tasks_of}
+use Rattle.lower.specs.Layout.{Slot, Known, Layout, parameter_slot, parameter_slots, numbers_behind, references_behind, numbers_of, references_of, entry_names, entry_layout, block_layout, function_slots}
+use Rattle.lower.specs.Coding.{block_code, function_code, instruction_limit}
+use Rattle.lower.specs.Slots.{ArgumentsFit, HasRoom}
+use Rattle.lower.specs.Fits.{HasRoomFor, AreStatics, FunctionFits}
+use Rattle.lower.specs.Stands.{TasksStand, StandsFor, task_returns, block_returns}
+use Rattle.lower.specs.Lowered.{IsCodeOf}
+use Rattle.lower.proofs.CodePlaces.{has_front, has_all}
+use Rattle.lower.proofs.SlotLaws.{first_or_behind}
+use Rattle.lower.proofs.Layouts.{AtLeast, block_grows}
+use Rattle.lower.proofs.Bodies.{begins}
+use Rattle.lower.proofs.BlockSteps.{steps}
+use Rattle.lower.proofs.WaysReturn.{block_tasks_return}
+use Rattle.lower.proofs.Validity.{block_piece}
+use Rattle.lower.proofs.Within.{both_within, block_within}
+use Rattle.lower.proofs.EntryLaws.{entry_shows, counts}
+use Rattle.lower.proofs.EntryLayouts.{entry_laid}
 
 -- the code of a function with its slots
-abbrev pub listing_of : Function → Listing
-listing_of f = record { instrs = function_code f; numbers = (block_layout (entry_layout f) f.body).numbers; references = (block_layout (entry_layout f) f.body).references }
+abbrev pub listing_of : Known → Function → Listing
+listing_of statics f = record { instrs = function_code statics f; slots = function_slots statics f }
 
-entry_fits : (f : Function) → IsWellSorted f → BlockFits f.result (scope_of (entry_layout f).known) f.body
-entry_fits f h = subst (λ scope. BlockFits f.result scope f.body) (sym (entry_sorts f)) h.fits
+room_for_all : (statics : Known) (f : Function) → HasRoomFor (function_slots statics f) (block_layout (entry_layout statics f) f.body).slots
+room_for_all statics f = record { numbers = omega arith; references = omega arith; statics = omega arith; field_ids = omega arith; buffers = omega arith }
 
-pub function_valid : (f : FunctionInMemory) → IsWellSorted (function_tree f) → IsValid (listing_of (function_tree f))
-function_valid f h =
-    let function = function_tree f in
-    let listing = listing_of function in
+pub function_valid : (statics : Known) (f : Function) → AreStatics statics → FunctionFits statics f → IsValid (listing_of statics f)
+function_valid statics f known fits =
+    let l = entry_layout statics f in
+    let body = block_code l f.body in
+    let slots = function_slots statics f in
+    let piece = block_piece f.body l fits in
     record {
-      moves = body_moves function.result f.body.statements.items f.body.end_line (entry_layout function) (entry_fits function h) h.ends;
-      slots = block_within listing.numbers listing.references f.body.statements.items f.body.end_line (entry_layout function) (entry_within function) (omega arith) (omega arith);
+      moves = piece_moves body 0 piece;
+      jumps = piece_jumps body 0 piece;
+      slots = both_within slots body (instr.Return ∷ []) (block_within slots f.body l fits (entry_laid statics f known) (room_for_all statics f)) refl;
     }
 
-function_room : (f : FunctionInMemory) (arguments : List ObjectValue) → ArgumentsFit (function_tree f).parameters arguments → HasRoom (listing_of (function_tree f)) arguments
-function_room f arguments fit =
-    let function = function_tree f in
-    let own = counts function.parameters arguments 0 1 fit in
-    let further = layout_grows f.body.statements.items f.body.end_line (entry_layout function) in
-    record { numbers = omega arith; references = omega arith }
+function_room : (statics : Known) (f : Function) (arguments : List ObjectValue) → ArgumentsFit f.parameters arguments → HasRoom (listing_of statics f) arguments
+function_room statics f arguments fit =
+    let own = counts f.parameters arguments 0 1 fit in
+    let further = block_grows f.body (entry_layout statics f) in
+    record { numbers = omega (arith, own.0, further.numbers); references = omega (arith, own.1, further.references) }
 
-pub is_code_of : (f : FunctionInMemory) → IsWellSorted (function_tree f) → length (function_code (function_tree f)) ≤ instruction_limit → IsCodeOf (function_tree f) (listing_of (function_tree f))
-is_code_of f h short =
-    let function = function_tree f in
-    let listing = listing_of function in
+function_begins : (statics : Known) (f : Function) → AreStatics statics → FunctionFits statics f → IsTrue (block_returns f.body) → StandsFor (listing_of statics f) (entry_layout statics f).known 0 [] (tasks_of f.body)
+function_begins statics f known fits returns =
+    let l = entry_layout statics f in
+    let body = block_code l f.body in
+    let code = listing_of statics f in
     record {
-      valid = function_valid f h;
-      short = short;
-      begins = begins listing function.result f.body.statements.items f.body.end_line (entry_layout function) 0 (entry_within function) (omega arith) (entry_fits function h) h.ends (has_all (function_code function) []);
-      room = function_room f;
-      shows = entry_shows function listing;
-      steps = λ sight known slots place stack task rest shows. steps listing known place stack slots sight shows task rest;
+      stand = subst (TasksStand code l.known 0 []) (append-nil (tasks_of f.body))
+          (begins code f.body l 0 [] (record { at = has_front (function_code statics f) 0 body (instr.Return ∷ []) (has_all (function_code statics f) []); fits = fits; laid = entry_laid statics f known; room = room_for_all statics f }) (λ names among. tt));
+      returns = block_tasks_return f.body returns;
     }
+
+pub is_code_of : (statics : Known) (f : Function) → AreStatics statics → FunctionFits statics f → IsTrue (block_returns f.body) → length (function_code statics f) ≤ instruction_limit → IsCodeOf statics f (listing_of statics f)
+is_code_of statics f known fits returns short = record {
+  valid = function_valid statics f known fits;
+  short = short;
+  begins = function_begins statics f known fits returns;
+  room = function_room statics f;
+  shows = entry_shows statics f (listing_of statics f) known;
+  steps = λ visible known slots place stack task rest shows stands. steps (listing_of statics f) known place stack slots visible shows task rest stands;
+}

@@ -1,214 +1,254 @@
--- What the slots show once a number variable is set, and at the entry of a function.
-use Rattle.std.proofs.Common.{◌≡◌, ◌≢◌, ℕ, zero, suc, ℤ, ◌+◌, ◌<◌, Bool, true, false, List, [], ◌∷◌, ◌++◌, length, filter_map, zip, Option, Some, refl, sym, ap, ◌∙◌, subst, arith, append_assoc, length-append, if◌then◌else◌}
-use Rattle.std.specs.Prelude.{slice_get, slice_set, FitsSigned}
+-- What the slots show once a variable is set.
+use Rattle.std.proofs.Common.{◌≡◌, ◌≢◌, ℕ, zero, suc, ℤ, pos, lit<, ◌+◌, ◌<◌, ◌≤◌, Bool, true, false, List, [], ◌∷◌, ◌++◌, length, Option, Some, None, refl, sym, ap, ◌∙◌, subst, arith, if◌then◌else◌}
+use Rattle.std.specs.Prelude.{slice_get, slice_set, nat_lt, ◌==◌, FitsSigned}
 use Rattle.std.specs.Int.{w32, cast_unsigned}
 use Rattle.std.specs.Str.{bytes_eq}
 use Rattle.std.proofs.lemmas.List.{length-set}
+use Rattle.std.proofs.lemmas.Bool.{ltb-true, ltb-false, eqb-true}
 use Rattle.std.proofs.lemmas.Slice.Eq.{bytes_eq-Decides}
-use Rattle.std.proofs.lemmas.Bool.Decides.{not_from_Decides}
+use Rattle.std.proofs.lemmas.Bool.Decides.{not_from_Decides, Decides-eqb}
 use Rattle.base.specs.Bytes.{Identifier, lookup}
-use Rattle.syntax.specs.Tree.{Parameter, ParameterType, IntParameter, ReferenceParameter, Function}
-use Rattle.types.specs.Sorts.{Sort, Jint, Flag, Truth, Ref, Global, FieldId, Buffer, Array}
+use Rattle.base.specs.Element.{ElementType}
+use Rattle.types.specs.Sorts.{Sort, Jint, Ref, Global, FieldId, Buffer, Array}
 use Rattle.types.specs.Sorts as sort
-use Rattle.world.specs.Object.{ObjectValue, Number, Refers, Reference}
-use Rattle.world.specs.World.{Invocation}
-use Rattle.regions.specs.Activation.{entered, parameter_variables}
-use Rattle.regions.specs.Sight.{Sight, scalar, held_reference}
-use Rattle.regions.specs.Thread.{Shared, Thread, sight_of}
-use Rattle.regions.specs.Value.{Value, Int, Outcome, Gives}
-use Rattle.regions.specs.Variable.{Variable, Scalar, LocalRef, StaticReference}
+use Rattle.world.specs.Object.{Reference}
+use Rattle.regions.specs.Value.{Value, Gives, convert}
+use Rattle.code.specs.declared.instr.LocalArray.{LocalArray}
+use Rattle.code.specs.declared.instr.NullableVariable.{NullableVariable}
+use Rattle.code.specs.declared.instr.NullableVariable.TheVariants as nullable
 use Rattle.code.specs.Depth.{Listing}
-use Rattle.lower.specs.Layout.{Slot, Known, parameter_slot, parameter_slots, numbers_behind, references_behind, entry_layout, numbers_of, references_of}
-use Rattle.lower.specs.Slots.{IsNumberSort, Slots, ShowsNumber, ShowsSlot, Shows, IsSet, ArgumentFits, ArgumentsFit, argument_word, argument_reference, EntrySlots}
-use Rattle.lower.specs.Stands.{IsSlotOf, with_slot}
+use Rattle.code.specs.Effect.{cleared}
+use Rattle.code.proofs.Arrays.{cleared_element, cleared_before, cleared_behind}
+use Rattle.lower.specs.Layout.{Slot, Known, width}
+use Rattle.lower.specs.Coding.{nullable_of}
+use Rattle.lower.specs.Slots.{word_of, ValueHasSort, IsNumberSort, Visible, IsAsBefore, OthersStay, IsSet, IsNulled, IsMade, IsElementSet, Slots, ShowsNumber, ShowsElement, ShowsArray, ShowsSlot, Shows, with_null}
+use Rattle.lower.specs.Fits.{IsPlaceOf, AreApart, IsOwn, IndexWithin}
+use Rattle.lower.specs.Stands.{AreAmong, IsSlotOf}
 
 -- ---- a slot is written
 
-get-set_same : (xs : List ℕ) (i w : ℕ) → i < length xs → slice_get (slice_set xs i w) i ≡ Some w
+pub get-set_same : {A : Type 0} (xs : List A) (i : ℕ) (w : A) → i < length xs → slice_get (slice_set xs i w) i ≡ Some w
 get-set_same [] i w below = absurd (omega arith)
 get-set_same (x ∷ xs) zero w below = refl
 get-set_same (x ∷ xs) (suc i) w below = get-set_same xs i w (omega arith)
 
-get-set_other : (xs : List ℕ) (i j w : ℕ) → j ≢ i → slice_get (slice_set xs i w) j ≡ slice_get xs j
+pub get-set_other : {A : Type 0} (xs : List A) (i j : ℕ) (w : A) → j ≢ i → slice_get (slice_set xs i w) j ≡ slice_get xs j
 get-set_other [] i j w other = refl
 get-set_other (x ∷ xs) zero zero w other = absurd (other refl)
 get-set_other (x ∷ xs) zero (suc j) w other = refl
 get-set_other (x ∷ xs) (suc i) zero w other = refl
 get-set_other (x ∷ xs) (suc i) (suc j) w other = get-set_other xs i j w (λ e. other (ap suc e))
 
--- another number is where it was
-number_stays : (given new : Outcome Value) (numbers : List ℕ) (i w : ℕ) (s : Slot) → new ≡ given → s.index ≢ i → ShowsNumber given numbers s → ShowsNumber new (slice_set numbers i w) s
-number_stays given new numbers i w s same other h = record { value = h.value; is = same ∙ h.is; sort = h.sort; word = get-set_other numbers i s.index w other ∙ h.word }
-
-slot_stays : (given new : Outcome Value) (before after : StaticReference) (slots : Slots) (i w : ℕ) (s : Slot) (kind : Sort) → new ≡ given → after ≡ before → (IsNumberSort kind → s.index ≢ i)
-    → ShowsSlot given before slots s kind → ShowsSlot new after (record slots { numbers = slice_set slots.numbers i w }) s kind
-slot_stays given new before after slots i w s sort.Word same same' other h = number_stays given new slots.numbers i w s same (other tt) h
-slot_stays given new before after slots i w s Jint same same' other h = number_stays given new slots.numbers i w s same (other tt) h
-slot_stays given new before after slots i w s Flag same same' other h = number_stays given new slots.numbers i w s same (other tt) h
-slot_stays given new before after slots i w s Truth same same' other h = tt
-slot_stays given new before after slots i w s Ref same same' other h = record { reference = h.reference; is = same' ∙ h.is; there = h.there }
-slot_stays given new before after slots i w s Global same same' other h = tt
-slot_stays given new before after slots i w s FieldId same same' other h = tt
-slot_stays given new before after slots i w s (Buffer t writable) same same' other h = tt
-slot_stays given new before after slots i w s (Array t n) same same' other h = tt
-
-module _ (code : Listing) (known : Known) (old new : Sight) (slots : Slots) (x : Identifier) (i : ℕ) (z : ℤ) (shows : Shows code known old slots) (own : IsSlotOf code known x i) (fits : FitsSigned w32 z) (set : IsSet old x (Int z) new) where
-  after : Slots
-  after = record slots { numbers = slice_set slots.numbers i (cast_unsigned w32 z) }
-
-  set_shows : (y : Identifier) (s : Slot) → y ≡ x → record { sort = Jint; index = i } ≡ s → ShowsSlot (new.number y) (new.reference y) (record slots { numbers = slice_set slots.numbers i (cast_unsigned w32 z) }) s s.sort
-  set_shows y s same is =
-      let below : i < length slots.numbers = omega (arith, own.within, shows.numbers) in
-      let shown : ShowsNumber (new.number y) (slice_set slots.numbers i (cast_unsigned w32 z)) (record { sort = Jint; index = i }) =
-      record { value = Int z; is = ap (λ n. new.number n) same ∙ set.is; sort = (fits, refl); word = get-set_same slots.numbers i (cast_unsigned w32 z) below } in
-      subst (λ (r : Slot). ShowsSlot (new.number y) (new.reference y) (record slots { numbers = slice_set slots.numbers i (cast_unsigned w32 z) }) r r.sort) is shown
-
-  others_show : (y : Identifier) (s : Slot) → y ≢ x → lookup y known ≡ Some s → ShowsSlot (new.number y) (new.reference y) (record slots { numbers = slice_set slots.numbers i (cast_unsigned w32 z) }) s s.sort
-  others_show y s other at =
-      slot_stays (old.number y) (new.number y) (old.reference y) (new.reference y) slots i (cast_unsigned w32 z) s s.sort (set.numbers y other) (set.references y other)
-      (λ kind e. other (own.alone y s at kind e)) (shows.each y s at)
-
-  -- once the word is in its slot, the slots show the variable
-  pub shows_set : Shows code (with_slot x Jint i known) new (record slots { numbers = slice_set slots.numbers i (cast_unsigned w32 z) })
-  shows_set = record {
-    numbers = length-set slots.numbers i (cast_unsigned w32 z) ∙ shows.numbers;
-    references = shows.references;
-    each = λ y s at.
-        elim (bytes_eq y x) as (λ b. bytes_eq y x ≡ b → (if b then Some (record { sort = Jint; index = i }) else lookup y known) ≡ Some s → ShowsSlot (new.number y) (new.reference y) (record slots { numbers = slice_set slots.numbers i (cast_unsigned w32 z) }) s s.sort) [
-          | true ↦ λ e h. set_shows y s ((bytes_eq-Decides y x).0 e) cc
-          | false ↦ λ e h. others_show y s (not_from_Decides (bytes_eq y x) (bytes_eq-Decides y x) e) h
-        ] refl at;
-  }
-
--- ---- the entry
-
--- the element just behind a list
-get-append_seam : {A : Type 0} (a b : List A) (i : A) → slice_get (a ++ i ∷ b) (length a) ≡ Some i
-get-append_seam [] b i = refl
-get-append_seam (x ∷ a) b i = get-append_seam a b i
-
--- the slots have these words and references from these places on
-record HasFrom (slots : Slots) (n r : ℕ) (words : List ℕ) (references : List Reference) : Type 0 where
-  numbers_front : List ℕ
-  numbers_back : List ℕ
-  numbers : slots.numbers ≡ numbers_front ++ (words ++ numbers_back)
-  numbers_count : length numbers_front ≡ n
-  references_front : List Reference
-  references_back : List Reference
-  held : slots.references ≡ references_front ++ (references ++ references_back)
-  references_count : length references_front ≡ r
-
--- what a variable shows in its slot, where a static may stand behind it
-abbrev VariableShows : Slots → Option StaticReference → Slot → Option Variable → Type 0
-VariableShows slots global s v = ShowsSlot (scalar v) (held_reference v global) slots s s.sort
-
-number_shows : (slots : Slots) (n r : ℕ) (z : ℤ) (words : List ℕ) (references : List Reference) → FitsSigned w32 z → HasFrom slots n r (cast_unsigned w32 z ∷ words) references → ShowsNumber (Gives (Int z)) slots.numbers (record { sort = Jint; index = n })
-number_shows slots n r z words references fits h = record {
-  value = Int z;
-  is = refl;
-  sort = (fits, refl);
-  word = rw (h.numbers, ← h.numbers_count) (get-append_seam h.numbers_front (words ++ h.numbers_back) (cast_unsigned w32 z));
-}
-
-behind_number : (slots : Slots) (n r w : ℕ) (words : List ℕ) (references : List Reference) → HasFrom slots n r (w ∷ words) references → HasFrom slots (n + 1) r words references
-behind_number slots n r w words references h = record {
-  numbers_front = h.numbers_front ++ w ∷ [];
-  numbers_back = h.numbers_back;
-  numbers = h.numbers ∙ sym (append_assoc h.numbers_front (w ∷ []) (words ++ h.numbers_back));
-  numbers_count = omega (arith, length-append h.numbers_front (w ∷ []), h.numbers_count);
-  references_front = h.references_front;
-  references_back = h.references_back;
-  held = h.held;
-  references_count = h.references_count;
-}
-
-behind_reference : (slots : Slots) (n r : ℕ) (q : Reference) (words : List ℕ) (references : List Reference) → HasFrom slots n r words (q ∷ references) → HasFrom slots n (r + 1) words references
-behind_reference slots n r q words references h = record {
-  numbers_front = h.numbers_front;
-  numbers_back = h.numbers_back;
-  numbers = h.numbers;
-  numbers_count = h.numbers_count;
-  references_front = h.references_front ++ q ∷ [];
-  references_back = h.references_back;
-  held = h.held ∙ sym (append_assoc h.references_front (q ∷ []) (references ++ h.references_back));
-  references_count = omega (arith, length-append h.references_front (q ∷ []), h.references_count);
-}
-
--- a number for a parameter, and what stands behind it
-number_argument : (slots : Slots) (n r : ℕ) (z : ℤ) (global : Option StaticReference) (words : List ℕ) (references : List Reference) (type : ParameterType) → ArgumentFits type (Number z) → HasFrom slots n r (cast_unsigned w32 z ∷ words) references
-    → VariableShows slots global (parameter_slot type n r) (Some (Scalar (Int z))) × HasFrom slots (numbers_behind type n) (references_behind type r) words references
-number_argument slots n r z global words references IntParameter fits h = (number_shows slots n r z words references fits h, behind_number slots n r (cast_unsigned w32 z) words references h)
-number_argument slots n r z global words references (ReferenceParameter t) fits h = absurd fits
-
--- a reference for a parameter, and what stands behind it
-reference_argument : (slots : Slots) (n r : ℕ) (q : Reference) (global : Option StaticReference) (words : List ℕ) (references : List Reference) (type : ParameterType) → ArgumentFits type (Refers q) → HasFrom slots n r words (q ∷ references)
-    → VariableShows slots global (parameter_slot type n r) (Some (LocalRef 1 q)) × HasFrom slots (numbers_behind type n) (references_behind type r) words references
-reference_argument slots n r q global words references IntParameter fits h = absurd fits
-reference_argument slots n r q global words references (ReferenceParameter t) fits h = (
-  record { reference = q; is = refl; there = rw (h.held, ← h.references_count) (get-append_seam h.references_front (references ++ h.references_back) q) },
-  behind_reference slots n r q words references h,
-)
+-- ---- names
 
 -- the name that is looked for is the first, or it stands behind
-at_name : (slots : Slots) (global : Option StaticReference) (b : Bool) (slot s : Slot) (v : Variable) (slot_behind : Option Slot) (variable_behind : Option Variable) → VariableShows slots global slot (Some v) → (slot_behind ≡ Some s → VariableShows slots global s variable_behind)
-    → (if b then Some slot else slot_behind) ≡ Some s → VariableShows slots global s (if b then Some v else variable_behind)
-at_name slots global true slot s v slot_behind variable_behind here further h = let same : slot ≡ s = cc in subst (λ (t : Slot). VariableShows slots global t (Some v)) same here
-at_name slots global false slot s v slot_behind variable_behind here further h = further h
+pub first_or_behind : (x y : Identifier) (s t : Slot) (known : Known) → (P : Type 0) → (y ≡ x → s ≡ t → P) → (y ≢ x → lookup y known ≡ Some t → P) → lookup y ((x, s) ∷ known) ≡ Some t → P
+first_or_behind x y s t known P here further at =
+    elim (bytes_eq y x) as (λ b. bytes_eq y x ≡ b → (if b then Some s else lookup y known) ≡ Some t → P) [
+      | true ↦ λ e h. here ((bytes_eq-Decides y x).0 e) cc
+      | false ↦ λ e h. further (not_from_Decides (bytes_eq y x) (bytes_eq-Decides y x) e) h
+    ] refl at
 
-parameters_show : (slots : Slots) (global : Option StaticReference) (x : Identifier) (s : Slot) (ps : List Parameter) (vs : List ObjectValue) (n r : ℕ) → ArgumentsFit ps vs → HasFrom slots n r (filter_map argument_word vs) (filter_map argument_reference vs)
-    → lookup x (parameter_slots ps n r) ≡ Some s → VariableShows slots global s (lookup x (parameter_variables (zip ps vs)))
-parameters_show slots global x s [] vs n r fit h at = absurd cc
-parameters_show slots global x s (p ∷ ps) [] n r fit h at = absurd fit
-parameters_show slots global x s (p ∷ ps) (Number z ∷ vs) n r fit h at =
-    let own = number_argument slots n r z global (filter_map argument_word vs) (filter_map argument_reference vs) p.type fit.0 h in
-    at_name slots global (bytes_eq x p.name) (parameter_slot p.type n r) s (Scalar (Int z)) (lookup x (parameter_slots ps (numbers_behind p.type n) (references_behind p.type r))) (lookup x (parameter_variables (zip ps vs)))
-    own.0 (parameters_show slots global x s ps vs (numbers_behind p.type n) (references_behind p.type r) fit.1 own.1) at
-parameters_show slots global x s (p ∷ ps) (Refers q ∷ vs) n r fit h at =
-    let own = reference_argument slots n r q global (filter_map argument_word vs) (filter_map argument_reference vs) p.type fit.0 h in
-    at_name slots global (bytes_eq x p.name) (parameter_slot p.type n r) s (LocalRef 1 q) (lookup x (parameter_slots ps (numbers_behind p.type n) (references_behind p.type r))) (lookup x (parameter_variables (zip ps vs)))
-    own.0 (parameters_show slots global x s ps vs (numbers_behind p.type n) (references_behind p.type r) fit.1 own.1) at
+-- a name that has the slot already is among the others
+pub known_among : (x : Identifier) (s : Slot) (known : Known) → lookup x known ≡ Some s → AreAmong known ((x, s) ∷ known)
+known_among x s known at y t h =
+    elim (bytes_eq y x) as (λ b. bytes_eq y x ≡ b → (if b then Some s else lookup y known) ≡ Some t) [
+      | true ↦ λ e. sym at ∙ ap (λ (z : Identifier). lookup z known) (sym ((bytes_eq-Decides y x).0 e)) ∙ h
+      | false ↦ λ e. h
+    ] refl
 
--- the slots at the entry show the class and the arguments
-pub entry_shows : (f : Function) (code : Listing) (shared : Shared) (thread : Thread) (calls : List Invocation) (class : ℕ) (arguments : List ObjectValue) (slots : Slots) → ArgumentsFit f.parameters arguments → EntrySlots code class arguments slots
-    → Shows code (entry_layout f).known (sight_of shared (entered thread calls f class arguments)) slots
-entry_shows f code shared thread calls class arguments slots fit entry = record {
-  numbers = entry.numbers;
-  references = entry.references;
+-- so are names that have not this one
+pub new_among : (x : Identifier) (s : Slot) (known : Known) → lookup x known ≡ None → AreAmong known ((x, s) ∷ known)
+new_among x s known new y t h =
+    elim (bytes_eq y x) as (λ b. bytes_eq y x ≡ b → (if b then Some s else lookup y known) ≡ Some t) [
+      | true ↦ λ e. absurd (let none : lookup y known ≡ None = ap (λ (z : Identifier). lookup z known) ((bytes_eq-Decides y x).0 e) ∙ new in let c : Some t ≡ None = sym h ∙ none in cc)
+      | false ↦ λ e. h
+    ] refl
+
+pub all_among : (known : Known) → AreAmong known known
+all_among known x s h = h
+
+pub fewer_shown : (code : Listing) (names known : Known) (visible : Visible) (slots : Slots) → AreAmong names known → Shows code known visible slots → Shows code names visible slots
+fewer_shown code names known visible slots among shows = record { numbers = shows.numbers; references = shows.references; each = λ x s at. shows.each x s (among x s at) }
+
+-- ---- what stays
+
+number_place_at : (kind : Sort) (i : ℕ) → IsNumberSort kind → IsPlaceOf (record { sort = kind; index = i }) i
+number_place_at sort.Word i h = (omega arith, omega arith)
+number_place_at Jint i h = (omega arith, omega arith)
+number_place_at sort.Flag i h = (omega arith, omega arith)
+number_place_at kind i h = absurd h
+
+pub number_place : (s : Slot) → IsNumberSort s.sort → IsPlaceOf s s.index
+number_place s h = number_place_at s.sort s.index h
+
+module _ (old new : Visible) (x : Identifier) (slots slots' : Slots) (same : IsAsBefore old new x) where
+  number_stays : (kind : Sort) (i : ℕ) → slice_get slots'.numbers i ≡ slice_get slots.numbers i → ShowsNumber (old.sight.number x) slots.numbers (record { sort = kind; index = i }) → ShowsNumber (new.sight.number x) slots'.numbers (record { sort = kind; index = i })
+  number_stays kind i word h = record { value = h.value; is = same.number ∙ h.is; sort = h.sort; word = word ∙ h.word }
+
+  pub slot_stays : (kind : Sort) (i : ℕ) → ((k : ℕ) → IsPlaceOf (record { sort = kind; index = i }) k → slice_get slots'.numbers k ≡ slice_get slots.numbers k) → (kind ≡ Ref → slice_get slots'.references i ≡ slice_get slots.references i)
+      → ShowsSlot old x slots (record { sort = kind; index = i }) kind → ShowsSlot new x slots' (record { sort = kind; index = i }) kind
+  slot_stays sort.Word i numbers references h = number_stays sort.Word i (numbers i (omega arith, omega arith)) h
+  slot_stays Jint i numbers references h = number_stays Jint i (numbers i (omega arith, omega arith)) h
+  slot_stays sort.Flag i numbers references h = number_stays sort.Flag i (numbers i (omega arith, omega arith)) h
+  slot_stays sort.Truth i numbers references h = tt
+  slot_stays Ref i numbers references h = record { reference = h.reference; is = same.reference ∙ h.is; is_null = same.is_null ∙ h.is_null; no_number = same.number ∙ h.no_number; there = references refl ∙ h.there }
+  slot_stays Global i numbers references h = record { is_null = same.is_null ∙ h.is_null; reference = same.reference ∙ h.reference }
+  slot_stays FieldId i numbers references h = same.is_null ∙ h
+  slot_stays (Buffer t writable) i numbers references h = same.is_null ∙ h
+  slot_stays (Array t size) i numbers references h = record {
+    few = h.few;
+    array_type = same.array_type ∙ h.array_type;
+    elements = λ k below.
+        let element = h.elements k below in
+        record { number = element.number; is = same.element k ∙ element.is; fits = element.fits; word = numbers (i + k) (omega arith, omega arith) ∙ element.word };
+    past = λ k above. same.element k ∙ h.past k above;
+  }
+
+-- A name has this slot, which it shows, and the others are as they were.
+module _ (code : Listing) (known : Known) (old new : Visible) (slots slots' : Slots) (x : Identifier) (s : Slot) (shows : Shows code known old slots) (own : IsOwn known x s) (others : OthersStay old new x) where
+  pub with_changed : length slots'.numbers ≡ length slots.numbers → length slots'.references ≡ length slots.references → ((k : ℕ) → (IsPlaceOf s k → ⊥) → slice_get slots'.numbers k ≡ slice_get slots.numbers k)
+      → ((i : ℕ) → (s.sort ≡ Ref → i ≢ s.index) → slice_get slots'.references i ≡ slice_get slots.references i) → ShowsSlot new x slots' s s.sort → Shows code ((x, s) ∷ known) new slots'
+  with_changed numbers references number reference here = record {
+    numbers = numbers ∙ shows.numbers;
+    references = references ∙ shows.references;
+    each = λ y t at.
+        first_or_behind x y s t known (ShowsSlot new y slots' t t.sort)
+        (λ same is. subst (λ (z : Identifier). ShowsSlot new z slots' t t.sort) (sym same) (subst (λ (r : Slot). ShowsSlot new x slots' r r.sort) is here))
+        (λ other h.
+        let apart = own y t h other in
+        slot_stays old new y slots slots' (others y other) t.sort t.index
+        (λ k p. number k (λ q. apart.numbers k p q))
+        (λ e. reference t.index (λ e'. apart.references e e'))
+        (shows.each y t h)) at;
+  }
+
+-- ---- a number variable is set
+
+number_shown : (visible : Visible) (x : Identifier) (slots : Slots) (s : Slot) (kind : Sort) → IsNumberSort kind → ShowsNumber (visible.sight.number x) slots.numbers s → ShowsSlot visible x slots s kind
+number_shown visible x slots s sort.Word n h = h
+number_shown visible x slots s Jint n h = h
+number_shown visible x slots s sort.Flag n h = h
+number_shown visible x slots s kind n h = absurd n
+
+place_within : (code : Listing) (kind : Sort) (i : ℕ) → IsNumberSort kind → IndexWithin code.slots kind i → i < code.slots.numbers
+place_within code sort.Word i n h = h
+place_within code Jint i n h = h
+place_within code sort.Flag i n h = h
+place_within code kind i n h = absurd n
+
+pub number_below : (code : Listing) (known : Known) (x : Identifier) (s : Slot) → IsNumberSort s.sort → IsSlotOf code known x s → s.index < code.slots.numbers
+number_below code known x s n own = place_within code s.sort s.index n own.within
+
+pub shows_set : (code : Listing) (known : Known) (old new : Visible) (slots : Slots) (x : Identifier) (s : Slot) (v : Value) → Shows code known old slots → IsSlotOf code known x s → IsNumberSort s.sort → ValueHasSort v s.sort → IsSet old x v new
+    → Shows code ((x, s) ∷ known) new (record slots { numbers = slice_set slots.numbers s.index (word_of v) })
+shows_set code known old new slots x s v shows own n fits set =
+    let below : s.index < length slots.numbers = omega (arith, number_below code known x s n own, shows.numbers) in
+    with_changed code known old new slots (record slots { numbers = slice_set slots.numbers s.index (word_of v) }) x s shows own.own set.others
+    (length-set slots.numbers s.index (word_of v)) refl
+    (λ k outside. get-set_other slots.numbers s.index k (word_of v) (λ e. outside (subst (IsPlaceOf s) (sym e) (number_place s n))))
+    (λ i other. refl)
+    (number_shown new x (record slots { numbers = slice_set slots.numbers s.index (word_of v) }) s s.sort n (record { value = v; is = set.is; sort = fits; word = get-set_same slots.numbers s.index (word_of v) below }))
+
+-- ---- a variable is made NULL
+
+pub shows_nulled : (code : Listing) (known : Known) (old new : Visible) (slots : Slots) (x : Identifier) (kind : Sort) (i : ℕ) (variable : NullableVariable) → Shows code known old slots → IsSlotOf code known x (record { sort = kind; index = i }) → nullable_of kind i ≡ Some variable → IsNulled old x new
+    → Shows code ((x, record { sort = kind; index = i }) ∷ known) new (with_null variable slots)
+shows_nulled code known old new slots x Ref i variable shows own same set =
+    let is : nullable.Local i ≡ variable = cc in
+    let below : i < length slots.references = omega (arith, own.within, shows.references) in
+    subst (λ v. Shows code ((x, record { sort = Ref; index = i }) ∷ known) new (with_null v slots)) is
+    (with_changed code known old new slots (record slots { references = slice_set slots.references i None }) x (record { sort = Ref; index = i }) shows own.own set.others
+    refl (length-set slots.references i None) (λ k outside. refl) (λ j other. get-set_other slots.references i j None (other refl))
+    (record { reference = None; is = set.reference; is_null = set.is_null; no_number = set.number; there = get-set_same slots.references i None below }))
+shows_nulled code known old new slots x Global i variable shows own same set =
+    let is : nullable.Static i ≡ variable = cc in
+    subst (λ v. Shows code ((x, record { sort = Global; index = i }) ∷ known) new (with_null v slots)) is
+    (with_changed code known old new slots slots x (record { sort = Global; index = i }) shows own.own set.others refl refl (λ k outside. refl) (λ j other. refl) (record { is_null = set.is_null; reference = set.reference }))
+shows_nulled code known old new slots x FieldId i variable shows own same set =
+    let is : nullable.FieldId i ≡ variable = cc in
+    subst (λ v. Shows code ((x, record { sort = FieldId; index = i }) ∷ known) new (with_null v slots)) is
+    (with_changed code known old new slots slots x (record { sort = FieldId; index = i }) shows own.own set.others refl refl (λ k outside. refl) (λ j other. refl) set.is_null)
+shows_nulled code known old new slots x (Buffer t writable) i variable shows own same set =
+    let is : nullable.Buffer i ≡ variable = cc in
+    subst (λ v. Shows code ((x, record { sort = Buffer t writable; index = i }) ∷ known) new (with_null v slots)) is
+    (with_changed code known old new slots slots x (record { sort = Buffer t writable; index = i }) shows own.own set.others refl refl (λ k outside. refl) (λ j other. refl) set.is_null)
+shows_nulled code known old new slots x kind i variable shows own same set = absurd (cc)
+
+-- ---- a local array
+
+-- a slot that is none of an array's is in front of it or behind it
+outside_array : (t : ElementType) (size start k : ℕ) → (IsPlaceOf (record { sort = Array t size; index = start }) k → ⊥) → (b : Bool) → nat_lt k start ≡ b → start ≤ k → start + size ≤ k
+outside_array t size start k outside true h above = absurd (let below = ltb-true k start h in omega arith)
+outside_array t size start k outside false h above =
+    elim (nat_lt k (start + size)) as (λ b. nat_lt k (start + size) ≡ b → start + size ≤ k) [
+      | true ↦ λ e. absurd (outside (above, ltb-true k (start + size) e))
+      | false ↦ λ e. ltb-false k (start + size) e
+    ] refl
+
+cleared_outside : (t : ElementType) (size start k : ℕ) (numbers : List ℕ) → start + size ≤ length numbers → (IsPlaceOf (record { sort = Array t size; index = start }) k → ⊥) → (b : Bool) → nat_lt k start ≡ b
+    → slice_get (cleared (record { start = start; len = size }) numbers) k ≡ slice_get numbers k
+cleared_outside t size start k numbers inside outside true h = cleared_before (record { start = start; len = size }) numbers inside k (ltb-true k start h)
+cleared_outside t size start k numbers inside outside false h =
+    let above : start ≤ k = ltb-false k start h in
+    cleared_behind (record { start = start; len = size }) numbers inside k (outside_array t size start k outside false h above)
+
+pub shows_made : (code : Listing) (known : Known) (old new : Visible) (slots : Slots) (t : ElementType) (x : Identifier) (size start : ℕ) → Shows code known old slots → IsSlotOf code known x (record { sort = Array t size; index = start })
+    → length (cleared (record { start = start; len = size }) slots.numbers) ≡ length slots.numbers → IsMade old t x size new
+    → Shows code ((x, record { sort = Array t size; index = start }) ∷ known) new (record slots { numbers = cleared (record { start = start; len = size }) slots.numbers })
+shows_made code known old new slots t x size start shows own keeps made =
+    let inside : start + size ≤ length slots.numbers = omega (arith, own.within.2, shows.numbers) in
+    with_changed code known old new slots (record slots { numbers = cleared (record { start = start; len = size }) slots.numbers }) x (record { sort = Array t size; index = start }) shows own.own made.others
+    keeps refl
+    (λ k outside. cleared_outside t size start k slots.numbers inside outside (nat_lt k start) refl)
+    (λ i other. refl)
+    (record {
+      few = own.within.1;
+      array_type = made.array_type;
+      elements = λ k below. record { number = pos 0; is = made.zeros k below; fits = record { sfits = lit< tt }; word = cleared_element (record { start = start; len = size }) slots.numbers inside k below };
+      past = made.past;
+    })
+
+-- the element that is written, and another
+element_set : (old new : Visible) (numbers : List ℕ) (t : ElementType) (x : Identifier) (start index k : ℕ) (z : ℤ) (word : ℕ) → start + index < length numbers → word ≡ cast_unsigned w32 (convert t z) → FitsSigned w32 (convert t z) → IsElementSet old t x index z new
+    → ShowsElement (old.sight.element x k) numbers (start + k) → (b : Bool) → (k == index) ≡ b → ShowsElement (new.sight.element x k) (slice_set numbers (start + index) word) (start + k)
+element_set old new numbers t x start index k z word inside is fits set old_element true e =
+    let same : k ≡ index = eqb-true k index e in
+    subst (λ (n : ℕ). ShowsElement (new.sight.element x n) (slice_set numbers (start + index) word) (start + n)) (sym same)
+    (record { number = convert t z; is = set.is; fits = fits; word = get-set_same numbers (start + index) word inside ∙ ap (λ (w : ℕ). Some w) is })
+element_set old new numbers t x start index k z word inside is fits set old_element false e =
+    let other : k ≢ index = not_from_Decides (k == index) (Decides-eqb k index) e in
+    record { number = old_element.number; is = set.elements k other ∙ old_element.is; fits = old_element.fits; word = get-set_other numbers (start + index) (start + k) word (λ s. other (omega (arith, s))) ∙ old_element.word }
+
+-- an element is written
+pub shows_element_set : (code : Listing) (known : Known) (old new : Visible) (slots : Slots) (t : ElementType) (x : Identifier) (size start index : ℕ) (z : ℤ) (word : ℕ) → Shows code known old slots → lookup x known ≡ Some (record { sort = Array t size; index = start })
+    → IsSlotOf code known x (record { sort = Array t size; index = start }) → index < size → word ≡ cast_unsigned w32 (convert t z) → FitsSigned w32 (convert t z) → IsElementSet old t x index z new
+    → Shows code known new (record slots { numbers = slice_set slots.numbers (start + index) word })
+shows_element_set code known old new slots t x size start index z word shows at own below is fits set =
+    let array = shows.each x (record { sort = Array t size; index = start }) at in
+    let inside : start + index < length slots.numbers = omega (arith, own.within.2, shows.numbers, below) in
+    fewer_shown code known ((x, record { sort = Array t size; index = start }) ∷ known) new (record slots { numbers = slice_set slots.numbers (start + index) word }) (known_among x (record { sort = Array t size; index = start }) known at)
+    (with_changed code known old new slots (record slots { numbers = slice_set slots.numbers (start + index) word }) x (record { sort = Array t size; index = start }) shows own.own set.others
+    (length-set slots.numbers (start + index) word) refl
+    (λ k outside. get-set_other slots.numbers (start + index) k word (λ e. outside (omega (arith, e), omega (arith, e, below))))
+    (λ i other. refl)
+    (record {
+      few = array.few;
+      array_type = set.array_type ∙ array.array_type;
+      elements = λ k small. element_set old new slots.numbers t x start index k z word inside is fits set (array.elements k small) (k == index) refl;
+      past = λ k above. set.elements k (λ e. omega (arith, e, above, below)) ∙ array.past k above;
+    }))
+
+-- ---- a slot that no name has
+
+pub shows_dropped : (code : Listing) (known : Known) (visible : Visible) (slots : Slots) (i word : ℕ) → Shows code known visible slots → ((x : Identifier) (s : Slot) → lookup x known ≡ Some s → IsPlaceOf s i → ⊥)
+    → Shows code known visible (record slots { numbers = slice_set slots.numbers i word })
+shows_dropped code known visible slots i word shows free = record {
+  numbers = length-set slots.numbers i word ∙ shows.numbers;
+  references = shows.references;
   each = λ x s at.
-      at_name slots (lookup x shared.statics) (bytes_eq x f.class_name) (record { sort = Ref; index = 0 }) s (LocalRef 1 (Some class)) (lookup x (parameter_slots f.parameters 0 1)) (lookup x (parameter_variables (zip f.parameters arguments)))
-      (record { reference = Some class; is = refl; there = ap (λ (q : List Reference). slice_get q 0) entry.given })
-      (parameters_show slots (lookup x shared.statics) x s f.parameters arguments 0 1 fit (record {
-        numbers_front = [];
-        numbers_back = entry.more_numbers;
-        numbers = entry.words;
-        numbers_count = refl;
-        references_front = Some class ∷ [];
-        references_back = entry.more_references;
-        held = entry.given;
-        references_count = refl;
-      })) at;
+      slot_stays visible visible x slots (record slots { numbers = slice_set slots.numbers i word }) (record { number = refl; is_null = refl; element = λ k. refl; reference = refl; array_type = refl }) s.sort s.index
+      (λ k p. get-set_other slots.numbers i k word (λ e. free x s at (subst (IsPlaceOf s) e p)))
+      (λ e. refl)
+      (shows.each x s at);
 }
-
--- ---- room for the arguments
-
-number_counts : (type : ParameterType) (z : ℤ) (n r : ℕ) → ArgumentFits type (Number z) → (numbers_behind type n ≡ n + 1) × (references_behind type r ≡ r)
-number_counts IntParameter z n r fits = (refl, refl)
-number_counts (ReferenceParameter t) z n r fits = absurd fits
-
-reference_counts : (type : ParameterType) (q : Reference) (n r : ℕ) → ArgumentFits type (Refers q) → (numbers_behind type n ≡ n) × (references_behind type r ≡ r + 1)
-reference_counts IntParameter q n r fits = absurd fits
-reference_counts (ReferenceParameter t) q n r fits = (refl, refl)
-
--- parameters take as many slots of each kind as there are arguments of it
-pub counts : (ps : List Parameter) (vs : List ObjectValue) (n r : ℕ) → ArgumentsFit ps vs → (numbers_of ps n ≡ n + length (filter_map argument_word vs)) × (references_of ps r ≡ r + length (filter_map argument_reference vs))
-counts [] [] n r fit = (omega arith, omega arith)
-counts [] (v ∷ vs) n r fit = absurd fit
-counts (p ∷ ps) [] n r fit = absurd fit
-counts (p ∷ ps) (Number z ∷ vs) n r fit =
-    let own = number_counts p.type z n r fit.0 in
-    let further = counts ps vs (numbers_behind p.type n) (references_behind p.type r) fit.1 in
-    (omega arith, omega arith)
-counts (p ∷ ps) (Refers q ∷ vs) n r fit =
-    let own = reference_counts p.type q n r fit.0 in
-    let further = counts ps vs (numbers_behind p.type n) (references_behind p.type r) fit.1 in
-    (omega arith, omega arith)

@@ -1,262 +1,176 @@
--- The code of a body keeps the stack in its range, finds its slots, and leaves.
-use Rattle.std.proofs.Common.{◌≡◌, ℕ, suc, ◌+◌, ◌-◌, ◌<◌, ◌≤◌, true, List, [], ◌∷◌, ◌++◌, length, map, Option, Some, None, refl, sym, ap, ◌∙◌, arith, append_assoc, length-append}
-use Rattle.std.specs.List.{list_all}
-use Rattle.std.specs.Option.{option_and_then}
-use Rattle.std.proofs.lemmas.List.{append-nil}
-use Rattle.std.proofs.lemmas.List.Folds.{list_all-append}
+-- The code of a body keeps the stack in its range, and its jumps lead inside.
+use Rattle.std.proofs.Common.{◌≡◌, ℕ, suc, ◌+◌, ◌<◌, ◌≤◌, ◌⊎◌, inl, inr, Bool, true, false, List, [], ◌∷◌, ◌++◌, length, Option, Some, None, refl, sym, ap, ◌∙◌, subst, arith}
 use Rattle.std.proofs.lemmas.Bool.{lt-ltb}
-use Rattle.base.specs.Bytes.{lookup}
-use Rattle.syntax.specs.declared.call.Argument.{Argument as ArgumentInMemory}
-use Rattle.syntax.specs.declared.call.Argument.TheVariants as argument
-use Rattle.syntax.specs.declared.call.RightSide.TheVariants as right
-use Rattle.syntax.specs.declared.declared_type.VariableType.TheVariants as variable
-use Rattle.syntax.specs.declared.expr.Expr.{Expr}
-use Rattle.syntax.specs.declared.expr.Expr.TheVariants as expr
-use Rattle.syntax.specs.declared.expr.PrefixOp.TheVariants as prefix
-use Rattle.syntax.specs.declared.expr.PrefixOp.{PrefixOp}
-use Rattle.syntax.specs.declared.expr.BinaryOp.TheVariants as binary
-use Rattle.syntax.specs.declared.expr.BinaryOp.{BinaryOp}
-use Rattle.syntax.specs.declared.stmt.Stmt.{Stmt}
-use Rattle.syntax.specs.declared.stmt.Form.{Form}
-use Rattle.syntax.specs.declared.stmt.Form.TheVariants as form
-use Rattle.syntax.specs.Limits.{height}
-use Rattle.syntax.specs.Tree.{Block, End, Next, ResultType}
-use Rattle.syntax.specs.Views.{prefix_tree, binary_tree, expr_tree, argument_tree, form_tree, statements_tree}
-use Rattle.types.specs.Sorts.{Sort, Word, Jint, Flag, Truth, Ref, Global, FieldId, Buffer, Array}
-use Rattle.code.specs.declared.instr.Target.TheVariants as destination
+use Rattle.base.specs.Bytes.{Identifier, lookup}
+use Rattle.syntax.specs.Tree as tree
+use Rattle.syntax.specs.Tree.{PrefixOp, LogicalNot, Complement, ToWord, ToInt, BinaryOp, LogicalOr, LogicalAnd, BitOr, BitXor, BitAnd, Equal, NotEqual, Less, LessEqual, Greater, GreaterEqual, ShiftLeft, ShiftRight, Add, Subtract, Multiply, Divide, Remainder, Expr, Argument, RightSide, FromExpr, FromCall, Test, TestExpr, TestCall, Stmt, Block, End, Next}
+use Rattle.types.specs.Sorts.{Sort, Jint, Ref, Global, FieldId, Buffer, Array}
+use Rattle.types.specs.Sorts as sort
+use Rattle.types.specs.SortRules.{variable_sort}
+use Rattle.base.specs.Element.{JChar}
 use Rattle.code.specs.declared.instr.Instr.{Instr}
 use Rattle.code.specs.declared.instr.Instr.TheVariants as instr
-use Rattle.code.specs.Depth.{depth_after, depths, Leaves, Moves, operand_within, within_slots}
-use Rattle.regions.specs.Regions.{IsEnd}
-use Rattle.regions.specs.WellSorted as accepted
-use Rattle.regions.specs.WellSorted.{HasSort, BlockFits, EndsByReturn}
-use Rattle.lower.specs.Layout.{Slot, Known, Layout, prefix_code, operator_code, load_of, load_code, expr_code, operand_of, slot_operand, operand_code, call_code, stmt_code, block_code, with_number, layout_behind, block_layout}
-use Rattle.lower.proofs.Terms.{one_load}
-use Rattle.lower.specs.Slots.{IsNumberSort}
-use Rattle.lower.proofs.Bodies.{number_castable, scope_of, slot_of_name, IndexWithin, AreWithin, are_within_more, number_declared, form_layout, layout_grows}
-use Rattle.lower.proofs.Places.{get-append_seam}
+use Rattle.code.specs.Depth.{depth_after}
+use Rattle.code.proofs.Pieces.{IsPiece, piece_none, piece_append, piece_one, piece_and, piece_or, piece_if, piece_end, piece_loop}
+use Rattle.regions.specs.Term as term
+use Rattle.regions.specs.Term.{Term, Done, Read, IsNull, Prefix, And, Or, Binary, term_of}
+use Rattle.lower.specs.Layout.{Slot, Known, Layout, new_slot, closed, layout_behind, block_layout}
+use Rattle.lower.specs.Coding.{nullable_of, store_of, test_of, null_code, element_of, element_code, write_code, of_slot, load_code, prefix_code, operator_code, is_signed, skip_code, term_code, expr_code, call_code, value_code, right_code, assign_code, returned_code, return_code, test_code, ways_code, if_code, stmt_code, block_code}
+use Rattle.lower.specs.Fits.{IsNullable, TermHasSort, IsUntouched, term_height, NumberFits, ReferenceFits, ArgumentsFit, ValueFits, RightFits, TestFits, ReturnFits, StmtFits, BlockFits}
+use Rattle.lower.proofs.Bodies.{value_is}
 
--- ---- the depths of the stack
-
-depths_on : (a b : List Instr) (e : ℕ) → ((k : ℕ) → depths a k ≡ Some e → depths (a ++ b) k ≡ depths b e) → (o : Option ℕ) → option_and_then (depths a) o ≡ Some e → option_and_then (depths (a ++ b)) o ≡ depths b e
-depths_on a b e each None h = absurd (cc)
-depths_on a b e each (Some k) h = each k h
-
-depths-append : (a b : List Instr) (d e : ℕ) → depths a d ≡ Some e → depths (a ++ b) d ≡ depths b e
-depths-append [] b d e h = ap (λ (o : Option ℕ). option_and_then (depths b) o) h
-depths-append (i ∷ a) b d e h = depths_on a b e (λ k. depths-append a b k e) (depth_after i d) h
+-- ---- instructions
 
 pushed : (n d : ℕ) → d < 64 → depth_after (instr.Push n) d ≡ Some (suc d)
 pushed n d h = rw (lt-ltb d 64 h) refl
 
-loaded : (i d : ℕ) → d < 64 → depth_after (instr.Load i) d ≡ Some (suc d)
-loaded i d h = rw (lt-ltb d 64 h) refl
+push_piece : (n d : ℕ) → d < 64 → IsPiece (instr.Push n ∷ []) d (suc d)
+push_piece n d h = piece_one (instr.Push n) d (suc d) (pushed n d h) tt
 
--- an operand's result takes its place
-after_prefix : (op : PrefixOp) (d : ℕ) → depths (prefix_code (prefix_tree op)) (suc d) ≡ Some (suc d)
-after_prefix prefix.Complement d = refl
-after_prefix prefix.ToWord d = refl
-after_prefix prefix.ToInt d = refl
+load_piece : (i d : ℕ) → d < 64 → IsPiece (instr.Load i ∷ []) d (suc d)
+load_piece i d h = piece_one (instr.Load i) d (suc d) (rw (lt-ltb d 64 h) refl) tt
 
--- two operands' result takes their place
-after_operator : (op : BinaryOp) (d : ℕ) → depths (operator_code (binary_tree op)) (suc (suc d)) ≡ Some (suc d)
-after_operator binary.BitOr d = refl
-after_operator binary.BitXor d = refl
-after_operator binary.BitAnd d = refl
-after_operator binary.Add d = refl
-after_operator binary.Subtract d = refl
-after_operator binary.Multiply d = refl
+null_piece : (equal : Bool) (s : Sort) (i d : ℕ) → IsNullable s → d < 64 → IsPiece (test_of equal (nullable_of s i)) d (suc d)
+null_piece equal Ref i d n h = piece_one (instr.TestNull _ equal) d (suc d) (rw (lt-ltb d 64 h) refl) tt
+null_piece equal Global i d n h = piece_one (instr.TestNull _ equal) d (suc d) (rw (lt-ltb d 64 h) refl) tt
+null_piece equal FieldId i d n h = piece_one (instr.TestNull _ equal) d (suc d) (rw (lt-ltb d 64 h) refl) tt
+null_piece equal (Buffer t w) i d n h = piece_one (instr.TestNull _ equal) d (suc d) (rw (lt-ltb d 64 h) refl) tt
+null_piece equal s i d n h = absurd n
 
-prefixed : (op : PrefixOp) (code : List Instr) (d : ℕ) → depths code d ≡ Some (suc d) → depths (code ++ prefix_code (prefix_tree op)) d ≡ Some (suc d)
-prefixed op code d h = depths-append code (prefix_code (prefix_tree op)) d (suc d) h ∙ after_prefix op d
+prefix_piece : (op : PrefixOp) (d : ℕ) → IsPiece (prefix_code op ∷ []) (suc d) (suc d)
+prefix_piece LogicalNot d = piece_one instr.Not (suc d) (suc d) refl tt
+prefix_piece Complement d = piece_one instr.Complement (suc d) (suc d) refl tt
+prefix_piece ToWord d = piece_one instr.Convert (suc d) (suc d) refl tt
+prefix_piece ToInt d = piece_one instr.Convert (suc d) (suc d) refl tt
 
-expr_depth : (known : Known) (e : Expr) (s : Sort) (d : ℕ) → IsNumberSort s → HasSort (scope_of known) (expr_tree e) s → d + height (expr_tree e) < 64 → depths (expr_code known (expr_tree e)) d ≡ Some (suc d)
-expr_depth known (expr.Number n u) s d kind sorted h = rw (pushed n d (omega arith)) refl
-expr_depth known (expr.Named c) s d kind sorted h = absurd sorted
-expr_depth known (expr.Variable x) s d kind sorted h =
-    let slot = slot_of_name x known s sorted in
-    ap (λ (o : Option Slot). depths (load_code o) d) slot.1 ∙ ap (λ code. depths code d) (one_load s slot.0 kind) ∙ ap (option_and_then (depths [])) (loaded slot.0 d (omega arith))
-expr_depth known (expr.Prefix' prefix.Complement p e) s d kind sorted h = prefixed prefix.Complement (expr_code known (expr_tree e)) d (expr_depth known e Word d tt sorted.0 (omega arith))
-expr_depth known (expr.Prefix' prefix.ToWord p e) s d kind sorted h = prefixed prefix.ToWord (expr_code known (expr_tree e)) d (expr_depth known e sorted.0 d (number_castable sorted.0 sorted.2) sorted.1 (omega arith))
-expr_depth known (expr.Prefix' prefix.ToInt p e) s d kind sorted h = prefixed prefix.ToInt (expr_code known (expr_tree e)) d (expr_depth known e sorted.0 d (number_castable sorted.0 sorted.2) sorted.1 (omega arith))
-expr_depth known (expr.Binary' op p a q b) s d kind sorted h =
-    depths-append (expr_code known (expr_tree a)) (expr_code known (expr_tree b) ++ operator_code (binary_tree op)) d (suc d) (expr_depth known a Word d tt sorted.1 (omega arith))
-    ∙ depths-append (expr_code known (expr_tree b)) (operator_code (binary_tree op)) (suc d) (suc (suc d)) (expr_depth known b Word (suc d) tt sorted.2 (omega arith))
-    ∙ after_operator op d
-expr_depth known (expr.Paren' p e) s d kind sorted h = expr_depth known e s d kind sorted (omega arith)
+operator_piece : (line : ℕ) (signed : Bool) (op : BinaryOp) (d : ℕ) → IsPiece (operator_code line signed op ∷ []) (suc (suc d)) (suc d)
+operator_piece line signed LogicalOr d = piece_one (operator_code line signed LogicalOr) (suc (suc d)) (suc d) refl tt
+operator_piece line signed LogicalAnd d = piece_one (operator_code line signed LogicalAnd) (suc (suc d)) (suc d) refl tt
+operator_piece line signed BitOr d = piece_one (operator_code line signed BitOr) (suc (suc d)) (suc d) refl tt
+operator_piece line signed BitXor d = piece_one (operator_code line signed BitXor) (suc (suc d)) (suc d) refl tt
+operator_piece line signed BitAnd d = piece_one (operator_code line signed BitAnd) (suc (suc d)) (suc d) refl tt
+operator_piece line signed Equal d = piece_one (operator_code line signed Equal) (suc (suc d)) (suc d) refl tt
+operator_piece line signed NotEqual d = piece_one (operator_code line signed NotEqual) (suc (suc d)) (suc d) refl tt
+operator_piece line true Less d = piece_one (operator_code line true Less) (suc (suc d)) (suc d) refl tt
+operator_piece line false Less d = piece_one (operator_code line false Less) (suc (suc d)) (suc d) refl tt
+operator_piece line true LessEqual d = piece_one (operator_code line true LessEqual) (suc (suc d)) (suc d) refl tt
+operator_piece line false LessEqual d = piece_one (operator_code line false LessEqual) (suc (suc d)) (suc d) refl tt
+operator_piece line true Greater d = piece_one (operator_code line true Greater) (suc (suc d)) (suc d) refl tt
+operator_piece line false Greater d = piece_one (operator_code line false Greater) (suc (suc d)) (suc d) refl tt
+operator_piece line true GreaterEqual d = piece_one (operator_code line true GreaterEqual) (suc (suc d)) (suc d) refl tt
+operator_piece line false GreaterEqual d = piece_one (operator_code line false GreaterEqual) (suc (suc d)) (suc d) refl tt
+operator_piece line signed ShiftLeft d = piece_one (operator_code line signed ShiftLeft) (suc (suc d)) (suc d) refl tt
+operator_piece line signed ShiftRight d = piece_one (operator_code line signed ShiftRight) (suc (suc d)) (suc d) refl tt
+operator_piece line signed Add d = piece_one (operator_code line signed Add) (suc (suc d)) (suc d) refl tt
+operator_piece line signed Subtract d = piece_one (operator_code line signed Subtract) (suc (suc d)) (suc d) refl tt
+operator_piece line signed Multiply d = piece_one (operator_code line signed Multiply) (suc (suc d)) (suc d) refl tt
+operator_piece line signed Divide d = piece_one (operator_code line signed Divide) (suc (suc d)) (suc d) refl tt
+operator_piece line signed Remainder d = piece_one (operator_code line signed Remainder) (suc (suc d)) (suc d) refl tt
 
--- a number's code and an instruction that takes it leave the stack empty
-number_depth : (known : Known) (e : Expr) (last : Instr) (rest : List Instr) → accepted.IsNumber (scope_of known) (expr_tree e) → depth_after last 1 ≡ Some 0 → depths ((expr_code known (expr_tree e) ++ last ∷ []) ++ rest) 0 ≡ depths rest 0
-number_depth known e last rest h k =
-    depths-append (expr_code known (expr_tree e) ++ last ∷ []) rest 0 0
-    (depths-append (expr_code known (expr_tree e)) (last ∷ []) 0 1 (expr_depth known e Jint 0 tt h.0 (omega (arith, h.1))) ∙ ap (option_and_then (depths [])) k)
+-- ---- expressions
 
-call_depth : (known : Known) (line i : ℕ) (arguments : List ArgumentInMemory) → depths (call_code known line (destination.Number i) (map argument_tree arguments)) 0 ≡ Some 0
-call_depth known line i [] = refl
-call_depth known line i (argument.Value e ∷ []) = refl
-call_depth known line i (argument.Value e ∷ b ∷ rest) = refl
+pub term_piece : (known : Known) (line : ℕ) (t : Term) (s : Sort) (d : ℕ) → TermHasSort known t s → IsUntouched t → d + term_height t < 64 → IsPiece (term_code known line t) d (suc d)
+term_piece known line (Done v) s d sorted u h = absurd u
+term_piece known line (term.Number n signed) s d sorted u h = push_piece n d (omega arith)
+term_piece known line (term.Named tree.True) s d sorted u h = push_piece 1 d (omega arith)
+term_piece known line (term.Named tree.False) s d sorted u h = push_piece 0 d (omega arith)
+term_piece known line (term.Named c) s d sorted u h = absurd sorted
+term_piece known line (Read x) s d sorted u h = subst (λ c. IsPiece c d (suc d)) (sym (ap (of_slot load_code) sorted.1)) (load_piece sorted.0 d (omega arith))
+term_piece known line (term.Element x t) s d sorted u h =
+    let array = sorted.3 in
+    let element = instr.LoadElement (record { start = array.2; len = array.1 }) line in
+    piece_append (term_code known line t) (of_slot (element_code line) (lookup x known)) d (suc d) (suc d) (term_piece known line t sorted.0 d sorted.2 u (omega arith))
+    (subst (λ c. IsPiece c (suc d) (suc d)) (sym (ap (of_slot (element_code line)) array.3)) (piece_one element (suc d) (suc d) refl tt))
+term_piece known line (IsNull equal x) s d sorted u h =
+    let slot = sorted.0.0 in
+    subst (λ c. IsPiece c d (suc d)) (sym (ap (null_code equal) sorted.0.1)) (null_piece equal slot.sort slot.index d sorted.0.2 (omega arith))
+term_piece known line (Prefix LogicalNot t) s d sorted u h = piece_append (term_code known line t) (prefix_code LogicalNot ∷ []) d (suc d) (suc d) (term_piece known line t sort.Truth d sorted.0 u (omega arith)) (prefix_piece LogicalNot d)
+term_piece known line (Prefix Complement t) s d sorted u h = piece_append (term_code known line t) (prefix_code Complement ∷ []) d (suc d) (suc d) (term_piece known line t sort.Word d sorted.0 u (omega arith)) (prefix_piece Complement d)
+term_piece known line (Prefix ToWord t) s d sorted u h = piece_append (term_code known line t) (prefix_code ToWord ∷ []) d (suc d) (suc d) (term_piece known line t sorted.0 d sorted.2 u (omega arith)) (prefix_piece ToWord d)
+term_piece known line (Prefix ToInt t) s d sorted u h = piece_append (term_code known line t) (prefix_code ToInt ∷ []) d (suc d) (suc d) (term_piece known line t sorted.0 d sorted.2 u (omega arith)) (prefix_piece ToInt d)
+term_piece known line (And a b) s d sorted u h =
+    let right = term_piece known line b sort.Truth d sorted.1 u.1 (omega arith) in
+    piece_append (term_code known line a) (skip_code true (length (term_code known line b)) ∷ term_code known line b) d (suc d) (suc d) (term_piece known line a sort.Truth d sorted.0 u.0 (omega arith)) (piece_and (term_code known line b) d right)
+term_piece known line (Or a b) s d sorted u h =
+    let right = term_piece known line b sort.Truth d sorted.1 u.1 (omega arith) in
+    piece_append (term_code known line a) (skip_code false (length (term_code known line b)) ∷ term_code known line b) d (suc d) (suc d) (term_piece known line a sort.Truth d sorted.0 u.0 (omega arith)) (piece_or (term_code known line b) d right)
+term_piece known line (Binary op a b) s d sorted u h =
+    let last = operator_code line (is_signed known a) op ∷ [] in
+    let right = term_piece known line b sorted.0 (suc d) sorted.3 u.1 (omega arith) in
+    piece_append (term_code known line a) (term_code known line b ++ last) d (suc d) (suc d) (term_piece known line a sorted.0 d sorted.2 u.0 (omega arith))
+    (piece_append (term_code known line b) last (suc d) (suc (suc d)) (suc d) right (operator_piece line (is_signed known a) op d))
 
--- what comes behind a form, whose code leaves the stack empty
-form_depth : (result : ResultType) (f : Form) (line : ℕ) (rest : List Stmt) (end_line : ℕ) (l : Layout) → ((m : Layout) → BlockFits result (scope_of m.known) (statements_tree rest end_line) → depths (block_code m (statements_tree rest end_line)) 0 ≡ Some 0)
-    → BlockFits result (scope_of l.known) (Next (form_tree line f) (statements_tree rest end_line)) → depths (block_code l (Next (form_tree line f) (statements_tree rest end_line))) 0 ≡ Some 0
-form_depth result (form.Declare variable.Jint x (right.Expr e)) line rest end_line l further fits =
-    number_depth l.known e (instr.Store l.numbers) (block_code (with_number x l) (statements_tree rest end_line)) fits.0 refl ∙ further (with_number x l) fits.2
-form_depth result (form.Declare variable.Jint x (right.Call c)) line rest end_line l further fits =
-    depths-append (call_code l.known line (destination.Number l.numbers) (map argument_tree c.arguments.items)) (block_code (with_number x l) (statements_tree rest end_line)) 0 0 (call_depth l.known line l.numbers c.arguments.items)
-    ∙ further (with_number x l) fits.2
-form_depth result (form.PutJint e) line rest end_line l further fits = number_depth l.known e instr.PutJint (block_code l (statements_tree rest end_line)) fits.0 refl ∙ further l fits.1
-form_depth result (form.Return None) line rest end_line l further fits = further l fits.1
-form_depth result (form.Return (Some e)) line rest end_line l further fits = number_depth l.known e instr.ReturnJint (block_code l (statements_tree rest end_line)) fits.1 refl ∙ further l fits.2
+-- an expression with so many words in front of it
+number_piece : (known : Known) (line : ℕ) (t : Term) (s : Sort) (d : ℕ) → NumberFits known t s → d ≤ 1 → IsPiece (term_code known line t) d (suc d)
+number_piece known line t s d h few = let low = h.low in term_piece known line t s d h.sort h.untouched (omega arith)
 
-block_depth : (result : ResultType) (statements : List Stmt) (end_line : ℕ) (l : Layout) → BlockFits result (scope_of l.known) (statements_tree statements end_line) → depths (block_code l (statements_tree statements end_line)) 0 ≡ Some 0
-block_depth result [] end_line l fits = refl
-block_depth result (s ∷ rest) end_line l fits = form_depth result s.form s.line rest end_line l (block_depth result rest end_line) fits
+-- an expression and the instruction that takes its value
+taken_piece : (known : Known) (line : ℕ) (t : Term) (s : Sort) (last : Instr) → NumberFits known t s → IsPiece (last ∷ []) 1 0 → IsPiece (term_code known line t ++ last ∷ []) 0 0
+taken_piece known line t s last h piece = piece_append (term_code known line t) (last ∷ []) 0 1 0 (number_piece known line t s 0 h (omega arith)) piece
 
--- ---- the last instruction leaves
+-- ---- statements
 
-record EndsByLeaving (code : List Instr) : Type 0 where
-  front : List Instr
-  last : Instr
-  is : code ≡ front ++ last ∷ []
-  leaves : Leaves last
+call_piece : (known : Known) (line i : ℕ) (arguments : List Argument) → ArgumentsFit known arguments → IsPiece (call_code known line i arguments) 0 0
+call_piece known line i (tree.Value e ∷ []) fits = piece_one (instr.Call _) 0 0 refl tt
+call_piece known line i arguments fits = absurd fits
 
-after_more : (a b : List Instr) → EndsByLeaving b → EndsByLeaving (a ++ b)
-after_more a b h = record { front = a ++ h.front; last = h.last; is = ap (λ c. a ++ c) h.is ∙ sym (append_assoc a h.front (h.last ∷ [])); leaves = h.leaves }
+value_piece : (known : Known) (line : ℕ) (kind : Sort) (i : ℕ) (e : Expr) → ValueFits known kind e → IsPiece (value_code known line (record { sort = kind; index = i }) e) 0 0
+value_piece known line sort.Word i e fits = subst (λ c. IsPiece c 0 0) (sym (value_is known line (record { sort = sort.Word; index = i }) e sort.Word fits)) (taken_piece known line (term_of e) sort.Word (instr.Store i) fits (piece_one (instr.Store i) 1 0 refl tt))
+value_piece known line Jint i e fits = subst (λ c. IsPiece c 0 0) (sym (value_is known line (record { sort = Jint; index = i }) e Jint fits)) (taken_piece known line (term_of e) Jint (instr.Store i) fits (piece_one (instr.Store i) 1 0 refl tt))
+value_piece known line sort.Flag i e fits = subst (λ c. IsPiece c 0 0) (sym (value_is known line (record { sort = sort.Flag; index = i }) e sort.Flag fits)) (taken_piece known line (term_of e) sort.Flag (instr.Store i) fits (piece_one (instr.Store i) 1 0 refl tt))
+value_piece known line sort.Truth i e fits = absurd fits
+value_piece known line Ref i e fits = subst (λ (d : Expr). IsPiece (value_code known line (record { sort = Ref; index = i }) d) 0 0) (sym fits) (piece_one (instr.StoreNull _) 0 0 refl tt)
+value_piece known line Global i e fits = subst (λ (d : Expr). IsPiece (value_code known line (record { sort = Global; index = i }) d) 0 0) (sym fits) (piece_one (instr.StoreNull _) 0 0 refl tt)
+value_piece known line FieldId i e fits = subst (λ (d : Expr). IsPiece (value_code known line (record { sort = FieldId; index = i }) d) 0 0) (sym fits) (piece_one (instr.StoreNull _) 0 0 refl tt)
+value_piece known line (Buffer t w) i e fits = subst (λ (d : Expr). IsPiece (value_code known line (record { sort = Buffer t w; index = i }) d) 0 0) (sym fits) (piece_one (instr.StoreNull _) 0 0 refl tt)
+value_piece known line (Array t n) i e fits = absurd fits
 
-end_code : (l : Layout) (b : Block) → IsEnd b → block_code l b ≡ []
-end_code l (End line) h = refl
-end_code l (Next s rest) h = absurd h
+right_piece : (known : Known) (line : ℕ) (s : Slot) (r : RightSide) → RightFits known s.sort r → IsPiece (right_code known line s r) 0 0
+right_piece known line s (FromExpr e) fits = value_piece known line s.sort s.index e fits
+right_piece known line s (FromCall c) fits = call_piece known line s.index c.arguments fits.1.1
 
-form_leaves : (f : Form) (line : ℕ) (rest : Block) (l : Layout) → ((m : Layout) → EndsByReturn rest → EndsByLeaving (block_code m rest)) → EndsByReturn (Next (form_tree line f) rest) → EndsByLeaving (block_code l (Next (form_tree line f) rest))
-form_leaves (form.Declare variable.Jint x r) line rest l further ends = after_more (stmt_code l (form_tree line (form.Declare variable.Jint x r))) (block_code (with_number x l) rest) (further (with_number x l) ends)
-form_leaves (form.PutJint e) line rest l further ends = after_more (expr_code l.known (expr_tree e) ++ instr.PutJint ∷ []) (block_code l rest) (further l ends)
-form_leaves (form.Return None) line rest l further ends = record { front = []; last = instr.Return; is = ap (λ c. instr.Return ∷ c) (end_code l rest ends); leaves = tt }
-form_leaves (form.Return (Some e)) line rest l further ends = record {
-  front = expr_code l.known (expr_tree e);
-  last = instr.ReturnJint;
-  is = ap (λ c. (expr_code l.known (expr_tree e) ++ instr.ReturnJint ∷ []) ++ c) (end_code l rest ends) ∙ append-nil (expr_code l.known (expr_tree e) ++ instr.ReturnJint ∷ []);
-  leaves = tt;
-}
+return_piece : (known : Known) (line : ℕ) (t : Term) → ReturnFits known t → IsPiece (return_code known line t) 0 0
+return_piece known line (term.Named tree.Null) fits = piece_one (instr.ReturnReference _) 0 0 refl tt
+return_piece known line (Read x) (s, found, inl e) =
+    subst (λ c. IsPiece c 0 0) (sym (ap (of_slot returned_code) (found ∙ ap (λ (r : Sort). Some (record { sort = r; index = s.index })) e))) (piece_one (instr.ReturnReference _) 0 0 refl tt)
+return_piece known line (Read x) (s, found, inr e) =
+    subst (λ c. IsPiece c 0 0) (sym (ap (of_slot returned_code) (found ∙ ap (λ (r : Sort). Some (record { sort = r; index = s.index })) e)))
+    (piece_append (instr.Load s.index ∷ []) (instr.ReturnJint ∷ []) 0 1 0 (load_piece s.index 0 (omega arith)) (piece_one instr.ReturnJint 1 0 refl tt))
+return_piece known line t fits = taken_piece known line t Jint instr.ReturnJint fits (piece_one instr.ReturnJint 1 0 refl tt)
 
-block_leaves : (statements : List Stmt) (end_line : ℕ) (l : Layout) → EndsByReturn (statements_tree statements end_line) → EndsByLeaving (block_code l (statements_tree statements end_line))
-block_leaves [] end_line l ends = absurd ends
-block_leaves (s ∷ rest) end_line l ends = form_leaves s.form s.line (statements_tree rest end_line) l (block_leaves rest end_line) ends
+test_piece : (known : Known) (line : ℕ) (test : Test) → TestFits known test → IsPiece (test_code known line test) 0 1
+test_piece known line (TestExpr e) fits = number_piece known line (term_of e) sort.Truth 0 fits (omega arith)
+test_piece known line (TestCall c) fits = absurd fits
 
-pub body_moves : (result : ResultType) (statements : List Stmt) (end_line : ℕ) (l : Layout) → BlockFits result (scope_of l.known) (statements_tree statements end_line) → EndsByReturn (statements_tree statements end_line) → Moves (block_code l (statements_tree statements end_line))
-body_moves result statements end_line l fits ends =
-    let last = block_leaves statements end_line l ends in
-    let n : length (last.front ++ last.last ∷ []) - 1 ≡ length last.front = omega (arith, length-append last.front (last.last ∷ [])) in
-    record {
-      depth = 0;
-      stays = block_depth result statements end_line l fits;
-      last = last.last;
-      ends = rw (last.is, n) (get-append_seam last.front [] last.last);
-      leaves = last.leaves;
-    }
+if_piece : (known : Known) (line : ℕ) (test : Test) (then' else' : List Instr) → TestFits known test → IsPiece then' 0 0 → IsPiece else' 0 0 → IsPiece (if_code known line test then' else') 0 0
+if_piece known line test then' else' fits h k =
+    piece_append (test_code known line test) (ways_code then' (else' ++ instr.GoOn 0 ∷ [])) 0 1 0 (test_piece known line test fits) (piece_if then' (else' ++ instr.GoOn 0 ∷ []) h (piece_append else' (instr.GoOn 0 ∷ []) 0 0 0 k piece_end))
 
--- ---- each instruction finds its slots
+write_piece : (l : Layout) (line : ℕ) (x : Identifier) (i e : Expr) → StmtFits l (tree.AssignElement line x i e) → IsPiece (stmt_code l (tree.AssignElement line x i e)) 0 0
+write_piece l line x i e fits =
+    let array = fits.0 in
+    let store = instr.StoreElement (record { start = array.2; len = array.1 }) (element_of array.0) line in
+    piece_append (expr_code l.known line i) (expr_code l.known line e ++ of_slot (write_code line) (lookup x l.known)) 0 1 0 (number_piece l.known line (term_of i) fits.1.0 0 fits.1.2 (omega arith))
+    (piece_append (expr_code l.known line e) (of_slot (write_code line) (lookup x l.known)) 1 2 0 (number_piece l.known line (term_of e) Jint 1 fits.2 (omega arith))
+    (subst (λ c. IsPiece c 2 0) (sym (ap (of_slot (write_code line)) array.3)) (piece_one store 2 0 refl tt)))
 
-module _ (numbers references : ℕ) where
-  abbrev AllWithin : List Instr → Type 0
-  AllWithin code = list_all (within_slots numbers references) code ≡ true
+mutual
+  pub stmt_piece : (s : Stmt) (l : Layout) → StmtFits l s → IsPiece (stmt_code l s) 0 0
+  stmt_piece (tree.Declare line t x r) l fits = right_piece l.known line (new_slot (variable_sort t) l) r fits.1
+  stmt_piece (tree.DeclareBuffer line t x r) l fits = right_piece l.known line (new_slot (Buffer t true) l) r fits.1
+  stmt_piece (tree.DeclareChars line x r) l fits = right_piece l.known line (new_slot (Buffer JChar false) l) r fits.1
+  stmt_piece (tree.DeclareArray line t x size) l fits = piece_one (instr.ClearArray _) 0 0 refl tt
+  stmt_piece (tree.Assign line x r) l fits = subst (λ (o : Option Slot). IsPiece (assign_code l.known line o r) 0 0) (sym fits.1) (right_piece l.known line fits.0 r fits.2)
+  stmt_piece (tree.AssignElement line x i e) l fits = write_piece l line x i e fits
+  stmt_piece (tree.Perform line c) l fits = call_piece l.known line l.slots.numbers c.arguments fits.1
+  stmt_piece (tree.PutJint line e) l fits = taken_piece l.known line (term_of e) Jint instr.PutJint fits (piece_one instr.PutJint 1 0 refl tt)
+  stmt_piece (tree.If line test then') l fits = if_piece l.known line test (block_code l then') [] fits.0 (block_piece then' l fits.1) (piece_none 0)
+  stmt_piece (tree.IfElse line test then' else') l fits =
+      if_piece l.known line test (block_code l then') (block_code (closed l (block_layout l then')) else') fits.0 (block_piece then' l fits.1) (block_piece else' (closed l (block_layout l then')) fits.2)
+  stmt_piece (tree.While line test body) l fits = piece_loop (expr_code l.known line test) (block_code l body) (number_piece l.known line (term_of test) sort.Truth 0 fits.0 (omega arith)) (block_piece body l fits.1)
+  stmt_piece (tree.Return line) l fits = piece_one instr.Return 0 0 refl tt
+  stmt_piece (tree.ReturnValue line e) l fits = return_piece l.known line (term_of e) fits
 
-  both_within : (a b : List Instr) → AllWithin a → AllWithin b → AllWithin (a ++ b)
-  both_within a b h k = list_all-append (within_slots numbers references) a b ∙ rw (h, k) refl
-
-  load_within : (i : ℕ) (s : Sort) → IndexWithin numbers references i s → AllWithin (load_of s i)
-  load_within i Word h = rw (lt-ltb i numbers h) refl
-  load_within i Jint h = rw (lt-ltb i numbers h) refl
-  load_within i Flag h = rw (lt-ltb i numbers h) refl
-  load_within i Truth h = refl
-  load_within i Ref h = refl
-  load_within i Global h = refl
-  load_within i FieldId h = refl
-  load_within i (Buffer t w) h = refl
-  load_within i (Array t n) h = refl
-
-  name_within : (o : Option Slot) → ((s : Slot) → o ≡ Some s → IndexWithin numbers references s.index s.sort) → AllWithin (load_code o)
-  name_within None each = refl
-  name_within (Some s) each = load_within s.index s.sort (each s refl)
-
-  prefix_within : (op : PrefixOp) → AllWithin (prefix_code (prefix_tree op))
-  prefix_within prefix.Complement = refl
-  prefix_within prefix.ToWord = refl
-  prefix_within prefix.ToInt = refl
-
-  operator_within : (op : BinaryOp) → AllWithin (operator_code (binary_tree op))
-  operator_within binary.BitOr = refl
-  operator_within binary.BitXor = refl
-  operator_within binary.BitAnd = refl
-  operator_within binary.Add = refl
-  operator_within binary.Subtract = refl
-  operator_within binary.Multiply = refl
-
-  expr_within : (known : Known) (e : Expr) → AreWithin known numbers references → AllWithin (expr_code known (expr_tree e))
-  expr_within known (expr.Number n u) h = refl
-  expr_within known (expr.Named c) h = refl
-  expr_within known (expr.Variable x) h = name_within (lookup x known) (h x)
-  expr_within known (expr.Prefix' op p e) h = both_within (expr_code known (expr_tree e)) (prefix_code (prefix_tree op)) (expr_within known e h) (prefix_within op)
-  expr_within known (expr.Binary' op p a q b) h =
-      both_within (expr_code known (expr_tree a)) (expr_code known (expr_tree b) ++ operator_code (binary_tree op)) (expr_within known a h)
-      (both_within (expr_code known (expr_tree b)) (operator_code (binary_tree op)) (expr_within known b h) (operator_within op))
-  expr_within known (expr.Paren' p e) h = expr_within known e h
-
-  reference_within : (i : ℕ) (s : Sort) → IndexWithin numbers references i s → operand_within references (operand_of s i) ≡ true
-  reference_within i Word h = refl
-  reference_within i Jint h = refl
-  reference_within i Flag h = refl
-  reference_within i Truth h = refl
-  reference_within i Ref h = lt-ltb i references h
-  reference_within i Global h = refl
-  reference_within i FieldId h = refl
-  reference_within i (Buffer t w) h = refl
-  reference_within i (Array t n) h = refl
-
-  name_operand_within : (o : Option Slot) → ((s : Slot) → o ≡ Some s → IndexWithin numbers references s.index s.sort) → operand_within references (slot_operand o) ≡ true
-  name_operand_within None each = refl
-  name_operand_within (Some s) each = reference_within s.index s.sort (each s refl)
-
-  argument_within : (known : Known) (e : Expr) → AreWithin known numbers references → operand_within references (operand_code known (expr_tree e)) ≡ true
-  argument_within known (expr.Number n u) h = refl
-  argument_within known (expr.Named c) h = refl
-  argument_within known (expr.Variable x) h = name_operand_within (lookup x known) (h x)
-  argument_within known (expr.Prefix' op p e) h = refl
-  argument_within known (expr.Binary' op p a q b) h = refl
-  argument_within known (expr.Paren' p e) h = refl
-
-  call_within : (known : Known) (line i : ℕ) (arguments : List ArgumentInMemory) → i < numbers → AreWithin known numbers references → AllWithin (call_code known line (destination.Number i) (map argument_tree arguments))
-  call_within known line i [] below h = refl
-  call_within known line i (argument.Value e ∷ []) below h = rw (lt-ltb i numbers below, argument_within known e h) refl
-  call_within known line i (argument.Value e ∷ b ∷ rest) below h = refl
-
-  number_code_within : (known : Known) (e : Expr) (last : Instr) → AreWithin known numbers references → within_slots numbers references last ≡ true → AllWithin (expr_code known (expr_tree e) ++ last ∷ [])
-  number_code_within known e last h k = both_within (expr_code known (expr_tree e)) (last ∷ []) (expr_within known e h) (rw k refl)
-
-  form_within : (f : Form) (line : ℕ) (l : Layout) → AreWithin l.known l.numbers l.references → (layout_behind l (form_tree line f)).numbers ≤ numbers → l.references ≤ references → AllWithin (stmt_code l (form_tree line f))
-  form_within (form.Declare variable.Jint x (right.Expr e)) line l h few few' =
-      let below : l.numbers < numbers = omega arith in
-      number_code_within l.known e (instr.Store l.numbers) (are_within_more l.known l.numbers numbers l.references references (omega arith) few' h) (lt-ltb l.numbers numbers below)
-  form_within (form.Declare variable.Jint x (right.Call c)) line l h few few' =
-      call_within l.known line l.numbers c.arguments.items (omega arith) (are_within_more l.known l.numbers numbers l.references references (omega arith) few' h)
-  form_within (form.PutJint e) line l h few few' = number_code_within l.known e instr.PutJint (are_within_more l.known l.numbers numbers l.references references few few' h) refl
-  form_within (form.Return None) line l h few few' = refl
-  form_within (form.Return (Some e)) line l h few few' = number_code_within l.known e instr.ReturnJint (are_within_more l.known l.numbers numbers l.references references few few' h) refl
-
-  -- the names that are known behind a form have their slots
-  behind_within : (f : Form) (line : ℕ) (l : Layout) → AreWithin l.known l.numbers l.references → AreWithin (layout_behind l (form_tree line f)).known (layout_behind l (form_tree line f)).numbers (layout_behind l (form_tree line f)).references
-  behind_within (form.Declare variable.Jint x r) line l h = number_declared x l h
-  behind_within (form.PutJint e) line l h = h
-  behind_within (form.Return None) line l h = h
-  behind_within (form.Return (Some e)) line l h = h
-
-  pub block_within : (statements : List Stmt) (end_line : ℕ) (l : Layout) → AreWithin l.known l.numbers l.references → (block_layout l (statements_tree statements end_line)).numbers ≤ numbers → (block_layout l (statements_tree statements end_line)).references ≤ references
-      → AllWithin (block_code l (statements_tree statements end_line))
-  block_within [] end_line l h few few' = refl
-  block_within (s ∷ rest) end_line l h few few' =
-      let behind = layout_behind l (form_tree s.line s.form) in
-      let own = form_layout s.form s.line l in
-      let further = layout_grows rest end_line behind in
-      let enough : behind.numbers ≤ numbers = omega arith in
-      let enough' : l.references ≤ references = omega arith in
-      both_within (stmt_code l (form_tree s.line s.form)) (block_code behind (statements_tree rest end_line)) (form_within s.form s.line l h enough enough')
-      (block_within rest end_line behind (behind_within s.form s.line l h) few few')
+  pub block_piece : (b : Block) (l : Layout) → BlockFits l b → IsPiece (block_code l b) 0 0
+  block_piece (End line) l fits = piece_none 0
+  block_piece (Next s rest) l fits = piece_append (stmt_code l s) (block_code (layout_behind l s) rest) 0 0 0 (stmt_piece s l fits.0) (block_piece rest (layout_behind l s) fits.1)

@@ -1,25 +1,16 @@
--- Which slots the names of a function have, and which instructions the parts of a program become. A form that has none yet
--- becomes nothing, and no place of a code stands for it (Stands).
-use Rattle.std.specs.Prelude.{ℕ, ◌+◌, List, [], ◌∷◌, ◌++◌, length, nat_lt, Option, Some, None, IsTrue}
-use Rattle.std.specs.List.{list_any}
-use Rattle.base.specs.Bytes.{Identifier, ByName, lookup}
-use Rattle.syntax.specs.Parts.{functions_of}
+-- Which slots the names of a function have.
+use Rattle.std.specs.Prelude.{ℕ, ◌+◌, true, false, List, [], ◌∷◌, ◌++◌, length}
+use Rattle.base.specs.Bytes.{Identifier, ByName}
+use Rattle.base.specs.Element.{JChar}
 use Rattle.syntax.specs.Tree as tree
-use Rattle.syntax.specs.Tree.{PrefixOp, Complement, ToWord, ToInt, BinaryOp, BitOr, BitXor, BitAnd, Add, Subtract, Multiply, Expr, Paren, Argument, JIntVariable, FromExpr, FromCall, Stmt, Block, End, Next, Parameter, ParameterType, IntParameter, ReferenceParameter, Function, SourceUnit}
-use Rattle.types.specs.Sorts.{Sort, Word, Jint, Flag, Ref}
-use Rattle.code.specs.declared.instr.Operator.TheVariants as operator
-use Rattle.code.specs.declared.instr.Callee.TheVariants as callee
-use Rattle.code.specs.declared.instr.ReferenceOperand.{ReferenceOperand}
-use Rattle.code.specs.declared.instr.ReferenceOperand.TheVariants.{Null, Local}
-use Rattle.code.specs.declared.instr.Target.{Target}
-use Rattle.code.specs.declared.instr.Target.TheVariants.{Number}
-use Rattle.code.specs.declared.instr.Instr.{Instr}
-use Rattle.code.specs.declared.instr.Instr.TheVariants.{Push, Load, Store, Convert, Operate, PutJint, Call, Return, ReturnJint}
-use Rattle.code.specs.declared.instr.Instr.TheVariants as instr
+use Rattle.syntax.specs.Tree.{Stmt, Block, End, Next, Parameter, ParameterType, IntParameter, ReferenceParameter, Function, Static}
+use Rattle.types.specs.Sorts.{Sort, Word, Jint, Flag, Ref, Global, FieldId, Buffer, Array}
+use Rattle.types.specs.SortRules.{variable_sort}
+use Rattle.code.specs.declared.slots.SlotCounts.{SlotCounts}
 
 -- ---- slots
 
--- a name's sort, and the place of its slot among those of numbers or of references, as the sort is
+-- a name's sort, and the place of its slot among those of its kind; of an array that of the first element
 pub record Slot : Type 0 where
   pub sort : Sort
   pub index : ℕ
@@ -31,8 +22,45 @@ Known = ByName Slot
 -- the names that are known, and how many slots of each kind are taken so far
 pub record Layout : Type 0 where
   pub known : Known
-  pub numbers : ℕ
-  pub references : ℕ
+  pub slots : SlotCounts
+
+-- how many number slots a variable of a sort takes
+abbrev pub width : Sort → ℕ
+width Word = 1
+width Jint = 1
+width Flag = 1
+width (Array t size) = size
+width s = 0
+
+-- the first slot of its kind that isn't taken
+abbrev pub next_index : Sort → SlotCounts → ℕ
+next_index Ref slots = slots.references
+next_index Global slots = slots.statics
+next_index FieldId slots = slots.field_ids
+next_index (Buffer t writable) slots = slots.buffers
+next_index s slots = slots.numbers
+
+-- the slots with those of one variable more
+abbrev pub slots_behind : Sort → SlotCounts → SlotCounts
+slots_behind Ref slots = record slots { references = slots.references + 1 }
+slots_behind Global slots = record slots { statics = slots.statics + 1 }
+slots_behind FieldId slots = record slots { field_ids = slots.field_ids + 1 }
+slots_behind (Buffer t writable) slots = record slots { buffers = slots.buffers + 1 }
+slots_behind s slots = record slots { numbers = slots.numbers + width s }
+
+-- the slot of a name that is declared next
+abbrev pub new_slot : Sort → Layout → Slot
+new_slot s l = record { sort = s; index = next_index s l.slots }
+
+-- one name more
+abbrev pub with_name : Identifier → Sort → Layout → Layout
+with_name x s l = record { known = (x, new_slot s l) ∷ l.known; slots = slots_behind s l.slots }
+
+-- ---- the entry
+
+-- the statics so far, with one more
+abbrev pub with_static : Static → Known → Known
+with_static s statics = (s.name, record { sort = Global; index = length statics }) ∷ statics
 
 -- the slot of a parameter, where so many are taken
 abbrev pub parameter_slot : ParameterType → (numbers references : ℕ) → Slot
@@ -64,114 +92,40 @@ abbrev pub references_of : List Parameter → ℕ → ℕ
 references_of [] r = r
 references_of (p ∷ rest) r = references_of rest (references_behind p.type r)
 
--- the slots at a function's first statement; the first reference is its class
-abbrev pub entry_layout : Function → Layout
-entry_layout f = record {
-  known = (f.class_name, record { sort = Ref; index = 0 }) ∷ parameter_slots f.parameters 0 1;
-  numbers = numbers_of f.parameters 0;
-  references = references_of f.parameters 1;
+-- the class, which is the first reference, and the parameters
+abbrev pub entry_names : Function → Known
+entry_names f = (f.class_name, record { sort = Ref; index = 0 }) ∷ parameter_slots f.parameters 0 1
+
+-- the slots at a function's first statement, behind these statics
+abbrev pub entry_layout : (statics : Known) → Function → Layout
+entry_layout statics f = record {
+  known = entry_names f ++ statics;
+  slots = record { numbers = numbers_of f.parameters 0; references = references_of f.parameters 1; statics = length statics; field_ids = 0; buffers = 0 };
 }
 
--- one number variable more
-abbrev pub with_number : Identifier → Layout → Layout
-with_number x l = record { known = (x, record { sort = Jint; index = l.numbers }) ∷ l.known; numbers = l.numbers + 1; references = l.references }
+-- ---- behind statements
 
--- the slots behind a statement
-abbrev pub layout_behind : Layout → Stmt → Layout
-layout_behind l (tree.Declare line JIntVariable x r) = with_number x l
-layout_behind l s = l
+-- behind a block its names are forgotten; its slots stay taken
+abbrev pub closed : (outer inner : Layout) → Layout
+closed outer inner = record { known = outer.known; slots = inner.slots }
 
--- the slots at the end of a block
-abbrev pub block_layout : Layout → Block → Layout
-block_layout l (End line) = l
-block_layout l (Next s rest) = block_layout (layout_behind l s) rest
+abbrev mutual
+  -- the slots behind a statement
+  pub layout_behind : Layout → Stmt → Layout
+  layout_behind l (tree.Declare line t x r) = with_name x (variable_sort t) l
+  layout_behind l (tree.DeclareBuffer line t x r) = with_name x (Buffer t true) l
+  layout_behind l (tree.DeclareChars line x r) = with_name x (Buffer JChar false) l
+  layout_behind l (tree.DeclareArray line t x size) = with_name x (Array t size) l
+  layout_behind l (tree.If line test then') = closed l (block_layout l then')
+  layout_behind l (tree.IfElse line test then' else') = closed l (block_layout (closed l (block_layout l then')) else')
+  layout_behind l (tree.While line test body) = closed l (block_layout l body)
+  layout_behind l s = l
 
--- ---- expressions
+  -- the slots at the end of a block
+  pub block_layout : Layout → Block → Layout
+  block_layout l (End line) = l
+  block_layout l (Next s rest) = block_layout (layout_behind l s) rest
 
--- a prefix operator behind its operand
-abbrev pub prefix_code : PrefixOp → List Instr
-prefix_code Complement = instr.Complement ∷ []
-prefix_code ToWord = Convert ∷ []
-prefix_code ToInt = Convert ∷ []
-prefix_code op = []
-
--- an operator behind its operands
-abbrev pub operator_code : BinaryOp → List Instr
-operator_code BitOr = Operate operator.Or ∷ []
-operator_code BitXor = Operate operator.Xor ∷ []
-operator_code BitAnd = Operate operator.And ∷ []
-operator_code Add = Operate operator.Add ∷ []
-operator_code Subtract = Operate operator.Subtract ∷ []
-operator_code Multiply = Operate operator.Multiply ∷ []
-operator_code op = []
-
--- the value of a number variable of this sort
-abbrev pub load_of : Sort → ℕ → List Instr
-load_of Word i = Load i ∷ []
-load_of Jint i = Load i ∷ []
-load_of Flag i = Load i ∷ []
-load_of s i = []
-
--- the value of a name
-abbrev pub load_code : Option Slot → List Instr
-load_code (Some s) = load_of s.sort s.index
-load_code None = []
-
--- an expression; its parentheses need no instruction
-abbrev pub expr_code : Known → Expr → List Instr
-expr_code known (tree.Number value unsigned) = Push value ∷ []
-expr_code known (tree.Variable x) = load_code (lookup x known)
-expr_code known (tree.Prefix op e) = expr_code known e ++ prefix_code op
-expr_code known (tree.Binary op a b) = expr_code known a ++ (expr_code known b ++ operator_code op)
-expr_code known (Paren e) = expr_code known e
-expr_code known e = []
-
--- ---- calls
-
--- a reference of this sort
-abbrev pub operand_of : Sort → ℕ → ReferenceOperand
-operand_of Ref i = Local i
-operand_of s i = Null
-
--- where a name's reference is
-abbrev pub slot_operand : Option Slot → ReferenceOperand
-slot_operand (Some s) = operand_of s.sort s.index
-slot_operand None = Null
-
--- where a reference argument is found
-abbrev pub operand_code : Known → Expr → ReferenceOperand
-operand_code known (tree.Variable x) = slot_operand (lookup x known)
-operand_code known e = Null
-
--- a call with these arguments; all are of GetArrayLength today
-abbrev pub call_code : Known → (line : ℕ) → Target → List Argument → List Instr
-call_code known line target (tree.Value e ∷ []) = Call (record { line = line; target = target; function = callee.GetArrayLength (operand_code known e) }) ∷ []
-call_code known line target arguments = []
-
--- ---- statements
-
--- a statement
-abbrev pub stmt_code : Layout → Stmt → List Instr
-stmt_code l (tree.Declare line JIntVariable x (FromExpr e)) = expr_code l.known e ++ Store l.numbers ∷ []
-stmt_code l (tree.Declare line JIntVariable x (FromCall c)) = call_code l.known line (Number l.numbers) c.arguments
-stmt_code l (tree.PutJint line e) = expr_code l.known e ++ PutJint ∷ []
-stmt_code l (tree.Return line) = Return ∷ []
-stmt_code l (tree.ReturnValue line e) = expr_code l.known e ++ ReturnJint ∷ []
-stmt_code l s = []
-
--- the statements of a block
-abbrev pub block_code : Layout → Block → List Instr
-block_code l (End line) = []
-block_code l (Next s rest) = stmt_code l s ++ block_code (layout_behind l s) rest
-
--- a function
-abbrev pub function_code : Function → List Instr
-function_code f = block_code (entry_layout f) f.body
-
--- how many instructions a function may have
-abbrev pub instruction_limit : ℕ
-instruction_limit = 65535
-
--- some function of the unit has more instructions
-abbrev pub IsTooLong : SourceUnit → Type 0
-IsTooLong unit = IsTrue (list_any (λ f. nat_lt instruction_limit (length (function_code f))) (functions_of unit))
+-- the slots of a function; the last number slot takes results that are dropped, where no other is free
+abbrev pub function_slots : (statics : Known) → Function → SlotCounts
+function_slots statics f = let slots = (block_layout (entry_layout statics f) f.body).slots in record slots { numbers = slots.numbers + 1 }

@@ -1,41 +1,103 @@
 -- What the slots of an activation hold of what can be seen.
-use Rattle.std.specs.Prelude.{◌≡◌, ◌≢◌, ℕ, ◌^◌, ◌<◌, ◌≤◌, List, [], ◌∷◌, ◌++◌, length, filter_map, slice_get, Option, Some, None, FitsSigned}
+use Rattle.std.specs.Prelude.{◌≡◌, ◌≢◌, ℕ, ◌+◌, ◌^◌, ◌<◌, ◌≤◌, Bool, true, ℤ, pos, List, [], ◌∷◌, ◌++◌, length, filter_map, is_none, slice_get, slice_set, Option, Some, None, FitsSigned}
 use Rattle.std.specs.Int.{w32, cast_unsigned}
+use Rattle.std.specs.Option.{option_map}
 use Rattle.base.specs.Bytes.{Identifier, lookup}
+use Rattle.base.specs.Element.{ElementType}
 use Rattle.syntax.specs.Tree.{ParameterType, IntParameter, ReferenceParameter, Parameter}
-use Rattle.types.specs.Sorts.{Sort, Jint, Flag, Ref}
+use Rattle.types.specs.Sorts.{Sort, Jint, Ref, Global, FieldId, Buffer, Array}
 use Rattle.types.specs.Sorts as sort
 use Rattle.world.specs.Object.{ObjectValue, Number, Refers, Reference}
 use Rattle.regions.specs.Sight.{Sight}
-use Rattle.regions.specs.Value.{Value, Word, Int, Outcome, Gives}
-use Rattle.regions.specs.Variable.{StaticReference, as_static}
+use Rattle.regions.specs.Thread.{Shared, Thread, sight_of}
+use Rattle.regions.specs.Value.{Value, Word, Int, Flag, Truth, OutOfRange, Outcome, Gives, Traps, Stuck, convert}
+use Rattle.regions.specs.Variable.{Variable, LocalArray, StaticReference, Empty, as_static}
+use Rattle.code.specs.declared.instr.NullableVariable.{NullableVariable}
+use Rattle.code.specs.declared.instr.NullableVariable.TheVariants as nullable
 use Rattle.code.specs.Depth.{Listing}
+use Rattle.code.specs.Effect.{truth_word}
 use Rattle.lower.specs.Layout.{Slot, Known}
 
 -- ---- values as words
 
--- the word of a value; a `jint` is kept as its two's complement
+-- the word of a value; a `jint` is kept as its two's complement, and a truth as 1 or 0
 abbrev pub word_of : Value → ℕ
 word_of (Word n) = n
 word_of (Int z) = cast_unsigned w32 z
-word_of v = 0
+word_of (Flag b) = truth_word b
+word_of (Truth b) = truth_word b
 
--- a word or a `jint`, in its range
+-- a value of this sort, in its range
 abbrev pub ValueHasSort : Value → Sort → Type 0
 ValueHasSort (Word n) s = (n < 2 ^ 32) × (s ≡ sort.Word)
 ValueHasSort (Int z) s = FitsSigned w32 z × (s ≡ Jint)
-ValueHasSort v s = ⊥
+ValueHasSort (Flag b) s = s ≡ sort.Flag
+ValueHasSort (Truth b) s = s ≡ sort.Truth
 
 -- the sorts whose values are in number slots
 abbrev pub IsNumberSort : Sort → Type 0
 IsNumberSort sort.Word = Unit {0}
 IsNumberSort Jint = Unit {0}
-IsNumberSort Flag = Unit {0}
+IsNumberSort sort.Flag = Unit {0}
 IsNumberSort s = ⊥
+
+-- ---- what can be seen
+
+-- what can be seen, and the element types of local arrays
+pub record Visible : Type 0 where
+  pub sight : Sight
+  pub array_type : Identifier → Option ElementType
+
+-- the element type of a local array
+abbrev pub type_of_array : Option Variable → Option ElementType
+type_of_array (Some (LocalArray t zs)) = Some t
+type_of_array v = None
+
+-- what a thread can see
+abbrev pub visible_to : Shared → Thread → Visible
+visible_to s t = record { sight = sight_of s t; array_type = λ x. type_of_array (lookup x t.variables) }
+
+-- a name shows what it did
+pub record IsAsBefore (old new : Visible) (x : Identifier) : Type 0 where
+  pub number : new.sight.number x ≡ old.sight.number x
+  pub is_null : new.sight.is_null x ≡ old.sight.is_null x
+  pub element : (i : ℕ) → new.sight.element x i ≡ old.sight.element x i
+  pub reference : new.sight.reference x ≡ old.sight.reference x
+  pub array_type : new.array_type x ≡ old.array_type x
+
+-- each other name shows what it did
+abbrev pub OthersStay : (old new : Visible) → Identifier → Type 0
+OthersStay old new x = (y : Identifier) → y ≢ x → IsAsBefore old new y
+
+-- a number variable has this value
+pub record IsSet (old : Visible) (x : Identifier) (v : Value) (new : Visible) : Type 0 where
+  pub is : new.sight.number x ≡ Gives v
+  pub others : OthersStay old new x
+
+-- a variable that can be NULL is NULL
+pub record IsNulled (old : Visible) (x : Identifier) (new : Visible) : Type 0 where
+  pub number : new.sight.number x ≡ Stuck
+  pub is_null : new.sight.is_null x ≡ Gives true
+  pub reference : new.sight.reference x ≡ Empty
+  pub others : OthersStay old new x
+
+-- a local array has so many zeros
+pub record IsMade (old : Visible) (t : ElementType) (x : Identifier) (size : ℕ) (new : Visible) : Type 0 where
+  pub array_type : new.array_type x ≡ Some t
+  pub zeros : (i : ℕ) → i < size → new.sight.element x i ≡ Gives (pos 0)
+  pub past : (i : ℕ) → size ≤ i → new.sight.element x i ≡ Traps OutOfRange
+  pub others : OthersStay old new x
+
+-- an element of a local array of this type is this number, converted
+pub record IsElementSet (old : Visible) (t : ElementType) (x : Identifier) (index : ℕ) (z : ℤ) (new : Visible) : Type 0 where
+  pub array_type : new.array_type x ≡ old.array_type x
+  pub is : new.sight.element x index ≡ Gives (convert t z)
+  pub elements : (i : ℕ) → i ≢ index → new.sight.element x i ≡ old.sight.element x i
+  pub others : OthersStay old new x
 
 -- ---- slots
 
--- the words of the number variables, and what the local references hold
+-- the words of the number variables and the elements of arrays, and what the local references hold
 pub record Slots : Type 0 where
   pub numbers : List ℕ
   pub references : List Reference
@@ -48,30 +110,61 @@ pub record ShowsNumber (given : Outcome Value) (numbers : List ℕ) (s : Slot) :
   pub word : slice_get numbers s.index ≡ Some (word_of value)
 
 -- what a local reference holds is in its slot
-pub record ShowsReference (given : StaticReference) (references : List Reference) (s : Slot) : Type 0 where
+pub record ShowsReference (sight : Sight) (x : Identifier) (references : List Reference) (i : ℕ) : Type 0 where
   pub reference : Reference
-  pub is : given ≡ as_static reference
-  pub there : slice_get references s.index ≡ Some reference
+  pub is : sight.reference x ≡ as_static reference
+  pub is_null : sight.is_null x ≡ Gives (is_none reference)
+  pub no_number : sight.number x ≡ Stuck
+  pub there : slice_get references i ≡ Some reference
 
--- what a slot of a sort shows of its variable, whose number or reference this is
-abbrev pub ShowsSlot : Outcome Value → StaticReference → Slots → Slot → Sort → Type 0
-ShowsSlot number reference slots s sort.Word = ShowsNumber number slots.numbers s
-ShowsSlot number reference slots s Jint = ShowsNumber number slots.numbers s
-ShowsSlot number reference slots s Flag = ShowsNumber number slots.numbers s
-ShowsSlot number reference slots s Ref = ShowsReference reference slots.references s
-ShowsSlot number reference slots s other = Unit {0}
+-- an element is in its slot, as a `jint`
+pub record ShowsElement (given : Outcome ℤ) (numbers : List ℕ) (i : ℕ) : Type 0 where
+  pub number : ℤ
+  pub is : given ≡ Gives number
+  pub fits : FitsSigned w32 number
+  pub word : slice_get numbers i ≡ Some (cast_unsigned w32 number)
 
--- each known name has its value or its reference in its slot, and there are as many slots of each kind as the code wants
-pub record Shows (code : Listing) (known : Known) (sight : Sight) (slots : Slots) : Type 0 where
-  pub numbers : length slots.numbers ≡ code.numbers
-  pub references : length slots.references ≡ code.references
-  pub each : (x : Identifier) (s : Slot) → lookup x known ≡ Some s → ShowsSlot (sight.number x) (sight.reference x) slots s s.sort
+-- the elements of an array are in their slots
+pub record ShowsArray (visible : Visible) (x : Identifier) (numbers : List ℕ) (t : ElementType) (size start : ℕ) : Type 0 where
+  pub few : size ≤ 1024
+  pub array_type : visible.array_type x ≡ Some t
+  pub elements : (i : ℕ) → i < size → ShowsElement (visible.sight.element x i) numbers (start + i)
+  pub past : (i : ℕ) → size ≤ i → visible.sight.element x i ≡ Traps OutOfRange
 
--- a number variable has this value, and other names show what they did
-pub record IsSet (old : Sight) (x : Identifier) (v : Value) (new : Sight) : Type 0 where
-  pub is : new.number x ≡ Gives v
-  pub numbers : (y : Identifier) → y ≢ x → new.number y ≡ old.number y
-  pub references : (y : Identifier) → y ≢ x → new.reference y ≡ old.reference y
+-- nothing but NULL is stored in a static yet
+pub record ShowsStatic (sight : Sight) (x : Identifier) : Type 0 where
+  pub is_null : sight.is_null x ≡ Gives true
+  pub reference : sight.reference x ≡ Empty
+
+-- what the slots show of a name with a slot of this sort; field IDs and buffers hold nothing but NULL yet
+abbrev pub ShowsSlot : Visible → Identifier → Slots → Slot → Sort → Type 0
+ShowsSlot visible x slots s sort.Word = ShowsNumber (visible.sight.number x) slots.numbers s
+ShowsSlot visible x slots s Jint = ShowsNumber (visible.sight.number x) slots.numbers s
+ShowsSlot visible x slots s sort.Flag = ShowsNumber (visible.sight.number x) slots.numbers s
+ShowsSlot visible x slots s sort.Truth = Unit {0}
+ShowsSlot visible x slots s Ref = ShowsReference visible.sight x slots.references s.index
+ShowsSlot visible x slots s Global = ShowsStatic visible.sight x
+ShowsSlot visible x slots s FieldId = visible.sight.is_null x ≡ Gives true
+ShowsSlot visible x slots s (Buffer t writable) = visible.sight.is_null x ≡ Gives true
+ShowsSlot visible x slots s (Array t size) = ShowsArray visible x slots.numbers t size s.index
+
+-- the slots show each known name, and there are as many of each kind as the code wants
+pub record Shows (code : Listing) (known : Known) (visible : Visible) (slots : Slots) : Type 0 where
+  pub numbers : length slots.numbers ≡ code.slots.numbers
+  pub references : length slots.references ≡ code.slots.references
+  pub each : (x : Identifier) (s : Slot) → lookup x known ≡ Some s → ShowsSlot visible x slots s s.sort
+
+-- ---- NULL
+
+-- whether a variable is NULL; a static, a field ID and a buffer are
+abbrev pub holds_null : Slots → NullableVariable → Option Bool
+holds_null slots (nullable.Local i) = option_map is_none (slice_get slots.references i)
+holds_null slots v = Some true
+
+-- the slots with NULL in a variable
+abbrev pub with_null : NullableVariable → Slots → Slots
+with_null (nullable.Local i) slots = record slots { references = slice_set slots.references i None }
+with_null v slots = slots
 
 -- ---- the entry of a function
 
@@ -101,14 +194,18 @@ argument_reference (Refers r) = Some r
 -- The slots at the entry: the words of the numbers, and the class and then the references, each kind in order. Behind them
 -- stands anything.
 pub record EntrySlots (code : Listing) (class : ℕ) (arguments : List ObjectValue) (slots : Slots) : Type 0 where
-  pub numbers : length slots.numbers ≡ code.numbers
+  pub numbers : length slots.numbers ≡ code.slots.numbers
   pub more_numbers : List ℕ
   pub words : slots.numbers ≡ filter_map argument_word arguments ++ more_numbers
-  pub references : length slots.references ≡ code.references
+  pub references : length slots.references ≡ code.slots.references
   pub more_references : List Reference
   pub given : slots.references ≡ Some class ∷ filter_map argument_reference arguments ++ more_references
 
 -- the code has slots for the class and these arguments
 pub record HasRoom (code : Listing) (arguments : List ObjectValue) : Type 0 where
-  pub numbers : length (filter_map argument_word arguments) ≤ code.numbers
-  pub references : length (filter_map argument_reference arguments) < code.references
+  pub numbers : length (filter_map argument_word arguments) ≤ code.slots.numbers
+  pub references : length (filter_map argument_reference arguments) < code.slots.references
+
+-- the statics are NULL
+abbrev pub AreNull : (statics : Known) → Shared → Type 0
+AreNull statics shared = (x : Identifier) (s : Slot) → lookup x statics ≡ Some s → lookup x shared.statics ≡ Some Empty

@@ -1,93 +1,56 @@
--- Which tasks a place of the code stands for, and what its instruction does.
-use Rattle.std.specs.Prelude.{◌≡◌, ℕ, ℤ, ◌+◌, ◌^◌, ◌<◌, true, false, List, [], ◌∷◌, ◌++◌, length, slice_get, slice_set, Some, FitsSigned}
-use Rattle.std.specs.Int.{w32, cast_signed}
+-- Which tasks a place of the code stands for.
+use Rattle.std.specs.Prelude.{◌≡◌, ◌≢◌, ℕ, ◌+◌, ◌-◌, ◌<◌, ◌≤◌, ◌⊎◌, Bool, true, false, ◌&&◌, ◌||◌, List, [], ◌∷◌, ◌++◌, length, slice_get, Option, Some, None, IsTrue}
+use Rattle.std.specs.List.{list_any}
 use Rattle.base.specs.Bytes.{Identifier, lookup}
+use Rattle.base.specs.Element.{ElementType}
 use Rattle.syntax.specs.Tree as tree
-use Rattle.syntax.specs.Tree.{Complement, ToWord, ToInt, BinaryOp, BitOr, BitXor, BitAnd, Add, Subtract, Multiply}
+use Rattle.syntax.specs.Tree.{BitOr, Expr, Stmt, Block, End, Next}
 use Rattle.types.specs.JniFunction.{JniFunction, GetArrayLength}
-use Rattle.types.specs.Sorts.{Sort, Jint, Ref}
-use Rattle.types.specs.Sorts as sort
-use Rattle.regions.specs.Arguments.{Actual, ReferenceActual}
-use Rattle.regions.specs.Effect.{Effect, Becomes, Sets, Prints, Calls, Returns}
-use Rattle.regions.specs.Sight.{Sight}
-use Rattle.regions.specs.Task.{Task, SetScalar, Invoke, Print, Return, ReturnValue, Target, Declared, ScalarKind, Operand, Given}
-use Rattle.regions.specs.Term.{Term, Done, Number, Read, Prefix, Binary}
-use Rattle.regions.specs.Value.{Value, Int}
-use Rattle.regions.specs.Variable.{Empty}
+use Rattle.types.specs.Sorts.{Sort, Jint, Truth, Ref, Global, Array}
+use Rattle.regions.specs.Task.{Task, SetScalar, SetElement, SetNull, MakeArray, Invoke, Print, Branch, EndIf, Loop, EndTurn, Return, ReturnValue, Impossible, Target, Declared, Assigned, Tested, Dropped, ScalarKind, Operand, Given}
+use Rattle.regions.specs.Term as term
+use Rattle.regions.specs.Term.{Term, Done, Read, And, Or, Prefix, Binary, term_of}
 use Rattle.code.specs.declared.instr.Call.{Call}
 use Rattle.code.specs.declared.instr.Callee.{Callee}
 use Rattle.code.specs.declared.instr.Callee.TheVariants as callee
+use Rattle.code.specs.declared.instr.NullableVariable.{NullableVariable}
 use Rattle.code.specs.declared.instr.ReferenceOperand.{ReferenceOperand}
 use Rattle.code.specs.declared.instr.ReferenceOperand.TheVariants.{Null, Local}
 use Rattle.code.specs.declared.instr.Target.{Target as Destination}
 use Rattle.code.specs.declared.instr.Target.TheVariants as destination
 use Rattle.code.specs.declared.instr.Instr.{Instr}
 use Rattle.code.specs.declared.instr.Instr.TheVariants as instr
-use Rattle.code.specs.declared.instr.Plain.TheVariants as plain
+use Rattle.code.specs.declared.slots.SlotCounts.{SlotCounts}
 use Rattle.code.specs.Depth.{Listing}
-use Rattle.code.specs.Effect.{plain_of}
-use Rattle.lower.specs.Layout.{Slot, Known, prefix_code, operator_code, load_code}
-use Rattle.lower.specs.Slots.{word_of, ValueHasSort, IsNumberSort, Slots, Shows, IsSet}
+use Rattle.lower.specs.Layout.{Slot, Known, Layout, closed, block_layout}
+use Rattle.lower.specs.Coding.{nullable_of, element_of, term_code, expr_code, ways_code, turn_code, block_code}
+use Rattle.lower.specs.Fits.{IsArray, IsIndexSort, TermHasSort, IsUntouched, NumberFits, IndexWithin, IsPlaceOf, IsOwn, IsLaidOut, HasRoomFor, BlockFits}
+use Rattle.lower.specs.Slots.{word_of, IsNumberSort}
 
 -- ---- terms
 
--- the words of the parts that have their values, the last first
+-- the words of the parts that have their values, the last first; of `&&` and `||` the right side has none yet
 abbrev pub held : Term → List ℕ
 held (Done v) = word_of v ∷ []
+held (term.Element x t) = held t
 held (Prefix op t) = held t
+held (And a b) = held a
+held (Or a b) = held a
 held (Binary op a b) = held b ++ held a
 held t = []
 
--- the instructions of the parts that have no value yet
-abbrev pub term_code : Known → Term → List Instr
-term_code known (Number value unsigned) = instr.Push value ∷ []
-term_code known (Read x) = load_code (lookup x known)
-term_code known (Prefix op t) = term_code known t ++ prefix_code op
-term_code known (Binary op a b) = term_code known a ++ (term_code known b ++ operator_code op)
-term_code known t = []
-
--- the operators that have an instruction
-abbrev pub HasInstruction : BinaryOp → Type 0
-HasInstruction BitOr = Unit {0}
-HasInstruction BitXor = Unit {0}
-HasInstruction BitAnd = Unit {0}
-HasInstruction Add = Unit {0}
-HasInstruction Subtract = Unit {0}
-HasInstruction Multiply = Unit {0}
-HasInstruction op = ⊥
-
--- a name that is known as a number variable of this sort
-abbrev pub IsVariable : Known → Identifier → Sort → Type 0
-IsVariable known x s = (i : ℕ) × (lookup x known ≡ Some (record { sort = s; index = i })) × IsNumberSort s
-
--- a term whose parts have the sorts that their operators ask for, and an instruction each
-abbrev pub TermHasSort : Known → Term → Sort → Type 0
-TermHasSort known (Done v) s = ValueHasSort v s
-TermHasSort known (Number value true) s = (value < 2 ^ 32) × (s ≡ sort.Word)
-TermHasSort known (Number value false) s = (value < 2 ^ 31) × (s ≡ Jint)
-TermHasSort known (Read x) s = IsVariable known x s
-TermHasSort known (Prefix Complement t) s = TermHasSort known t sort.Word × (s ≡ sort.Word)
-TermHasSort known (Prefix ToWord t) s = (r : Sort) × TermHasSort known t r × (s ≡ sort.Word)
-TermHasSort known (Prefix ToInt t) s = (r : Sort) × TermHasSort known t r × (s ≡ Jint)
-TermHasSort known (Binary op a b) s = HasInstruction op × TermHasSort known a sort.Word × TermHasSort known b sort.Word × (s ≡ sort.Word)
-TermHasSort known t s = ⊥
-
--- no part has its value yet
-abbrev pub IsUntouched : Term → Type 0
-IsUntouched (Done v) = ⊥
-IsUntouched (Prefix op t) = IsUntouched t
-IsUntouched (Binary op a b) = IsUntouched a × IsUntouched b
-IsUntouched t = Unit {0}
-
 -- the parts with their values are the leftmost
 abbrev pub IsBegun : Term → Type 0
+IsBegun (term.Element x t) = IsBegun t
 IsBegun (Prefix op t) = IsBegun t
+IsBegun (And a b) = IsBegun a × IsUntouched b
+IsBegun (Or a b) = IsBegun a × IsUntouched b
 IsBegun (Binary op (Done v) b) = IsBegun b
 IsBegun (Binary op a b) = IsBegun a × IsUntouched b
 IsBegun t = Unit {0}
 
--- a number of this sort on the way to its value, with its operands on the stack
-pub record IsNumber (known : Known) (s : Sort) (t : Term) (stack : List ℕ) : Type 0 where
+-- an expression of this sort on the way to its value, with its operands on the stack
+pub record IsUnderWay (known : Known) (s : Sort) (t : Term) (stack : List ℕ) : Type 0 where
   pub sort : TermHasSort known t s
   pub begun : IsBegun t
   pub operands : stack ≡ held t
@@ -99,22 +62,88 @@ abbrev pub HasAt : List Instr → (place : ℕ) → List Instr → Type 0
 HasAt instrs place [] = Unit {0}
 HasAt instrs place (i ∷ rest) = (slice_get instrs place ≡ Some i) × HasAt instrs (place + 1) rest
 
--- a number slot of the code that no known name but this has
-pub record IsSlotOf (code : Listing) (known : Known) (x : Identifier) (i : ℕ) : Type 0 where
-  pub within : i < code.numbers
-  pub alone : (y : Identifier) (s : Slot) → lookup y known ≡ Some s → IsNumberSort s.sort → s.index ≡ i → y ≡ x
-
--- the names that are known once a number variable is set
-abbrev pub with_slot : Identifier → Sort → ℕ → Known → Known
-with_slot x s i known = (x, record { sort = s; index = i }) ∷ known
+-- names that are known so among others too
+abbrev pub AreAmong : (fewer known : Known) → Type 0
+AreAmong fewer known = (x : Identifier) (s : Slot) → lookup x fewer ≡ Some s → lookup x known ≡ Some s
 
 -- what comes at a place with these names known
 abbrev pub Behind : Type 1
 Behind = (place : ℕ) → Known → Type 0
 
+-- it comes at a place with names that are known there
+abbrev pub ComesBehind : Behind → (place : ℕ) → Known → Type 0
+ComesBehind behind place known = (names : Known) × AreAmong names known × behind place names
+
+-- a slot of the code that no known name but this has
+pub record IsSlotOf (code : Listing) (known : Known) (x : Identifier) (s : Slot) : Type 0 where
+  pub within : IndexWithin code.slots s.sort s.index
+  pub own : IsOwn known x s
+
+-- an expression and the instructions behind it stand at the place
+abbrev pub NumberStands : Listing → Known → (place : ℕ) → (stack : List ℕ) → (line : ℕ) → Sort → Term → (behind : List Instr) → Type 0
+NumberStands code known place stack line s t behind = IsUnderWay known s t stack × HasAt code.instrs place (term_code known line t ++ behind)
+
+-- ---- variables
+
+-- a number variable is set by the instruction behind the number
+pub record SetStands (code : Listing) (known : Known) (place : ℕ) (stack : List ℕ) (behind : Behind) (line : ℕ) (x : Identifier) (t : Term) : Type 0 where
+  pub slot : Slot
+  pub number : IsNumberSort slot.sort
+  pub value : NumberStands code known place stack line slot.sort t (instr.Store slot.index ∷ [])
+  pub own : IsSlotOf code known x slot
+  pub further : ComesBehind behind (place + length (term_code known line t) + 1) ((x, slot) ∷ known)
+
+-- an element of an array is set by the instruction behind index and number, which are worked out like an operator's operands
+pub record SetElementStands (code : Listing) (known : Known) (place : ℕ) (stack : List ℕ) (behind : Behind) (line : ℕ) (x : Identifier) (i e : Term) : Type 0 where
+  pub type : ElementType
+  pub size : ℕ
+  pub start : ℕ
+  pub array : IsArray known x type size start
+  pub own : IsSlotOf code known x (record { sort = Array type size; index = start })
+  pub index : (r : Sort) × IsIndexSort r × TermHasSort known i r
+  pub value : TermHasSort known e Jint
+  pub begun : IsBegun (Binary BitOr i e)
+  pub operands : stack ≡ held e ++ held i
+  pub at : HasAt code.instrs place (term_code known line i ++ (term_code known line e ++ instr.StoreElement (record { start = start; len = size }) (element_of type) line ∷ []))
+  pub further : behind (place + (length (term_code known line i) + length (term_code known line e)) + 1) known
+
+-- the variable that a NULL goes to
+abbrev pub target_name : Target → Option Identifier
+target_name (Declared kind x) = Some x
+target_name (Assigned x) = Some x
+target_name target = None
+
+-- NULL is stored
+pub record SetNullStands (code : Listing) (known : Known) (place : ℕ) (stack : List ℕ) (behind : Behind) (target : Target) : Type 0 where
+  pub empty : stack ≡ []
+  pub name : Identifier
+  pub is : target_name target ≡ Some name
+  pub slot : Slot
+  pub variable : NullableVariable
+  pub nullable : nullable_of slot.sort slot.index ≡ Some variable
+  pub at : slice_get code.instrs place ≡ Some (instr.StoreNull variable)
+  pub own : IsSlotOf code known name slot
+  pub further : ComesBehind behind (place + 1) ((name, slot) ∷ known)
+
+-- a local array is made
+pub record MakeArrayStands (code : Listing) (known : Known) (place : ℕ) (stack : List ℕ) (behind : Behind) (t : ElementType) (x : Identifier) (size : ℕ) : Type 0 where
+  pub empty : stack ≡ []
+  pub start : ℕ
+  pub at : slice_get code.instrs place ≡ Some (instr.ClearArray (record { start = start; len = size }))
+  pub own : IsSlotOf code known x (record { sort = Array t size; index = start })
+  pub further : ComesBehind behind (place + 1) ((x, record { sort = Array t size; index = start }) ∷ known)
+
+-- ---- calls
+
+-- a reference argument that is NULL, as a static is yet
+abbrev pub IsNullOperand : Known → List Operand → Type 0
+IsNullOperand known operands =
+    (operands ≡ Given (tree.Value (tree.Named tree.Null)) ∷ [])
+    ⊎ ((x : Identifier) × (i : ℕ) × (operands ≡ Given (tree.Value (tree.Variable x)) ∷ []) × (lookup x known ≡ Some (record { sort = Global; index = i })))
+
 -- a reference argument, and where the instruction finds it
 abbrev pub OperandStands : Known → ReferenceOperand → List Operand → Type 0
-OperandStands known Null operands = operands ≡ Given (tree.Value (tree.Named tree.Null)) ∷ []
+OperandStands known Null operands = IsNullOperand known operands
 OperandStands known (Local i) operands =
     (x : Identifier) × (operands ≡ Given (tree.Value (tree.Variable x)) ∷ []) × (lookup x known ≡ Some (record { sort = Ref; index = i }))
 
@@ -122,9 +151,22 @@ OperandStands known (Local i) operands =
 abbrev pub CalleeStands : Known → (stack : List ℕ) → Callee → JniFunction → List Operand → Type 0
 CalleeStands known stack (callee.GetArrayLength operand) f operands = (stack ≡ []) × (f ≡ GetArrayLength) × OperandStands known operand operands
 
+-- a variable takes a call's result, and then this comes
+pub record ResultStands (code : Listing) (known : Known) (behind : Behind) (place i : ℕ) (x : Identifier) : Type 0 where
+  pub own : IsSlotOf code known x (record { sort = Jint; index = i })
+  pub further : ComesBehind behind place ((x, record { sort = Jint; index = i }) ∷ known)
+
+-- a slot that no known name has takes a result that is dropped
+pub record DroppedStands (code : Listing) (known : Known) (behind : Behind) (place i : ℕ) : Type 0 where
+  pub within : i < code.slots.numbers
+  pub free : (x : Identifier) (s : Slot) → lookup x known ≡ Some s → IsPlaceOf s i → ⊥
+  pub further : behind place known
+
 -- where a call's result goes, as an instruction has it, and then what comes
 abbrev pub TargetStands : Listing → Known → Behind → (place : ℕ) → Destination → Target → Type 0
-TargetStands code known behind place (destination.Number i) (Declared ScalarKind x) = IsSlotOf code known x i × behind place (with_slot x Jint i known)
+TargetStands code known behind place (destination.Number i) (Declared ScalarKind x) = ResultStands code known behind place i x
+TargetStands code known behind place (destination.Number i) (Assigned x) = ResultStands code known behind place i x
+TargetStands code known behind place (destination.Number i) Dropped = DroppedStands code known behind place i
 TargetStands code known behind place goes target = ⊥
 
 -- a call's instruction stands at the place, and then what comes
@@ -135,110 +177,123 @@ pub record InvokeStands (code : Listing) (known : Known) (place : ℕ) (stack : 
   pub function : CalleeStands known stack call.function f operands
   pub goes : TargetStands code known behind (place + 1) call.target target
 
--- a number of this sort and the instruction that takes it stand at the place
-abbrev pub NumberStands : Listing → Known → (place : ℕ) → (stack : List ℕ) → Sort → Term → (last : Instr) → Type 0
-NumberStands code known place stack s t last = IsNumber known s t stack × HasAt code.instrs place (term_code known t ++ last ∷ [])
+-- ---- blocks
 
--- a number variable is set by the instruction behind the number
-abbrev pub SetStands : Listing → Known → (place : ℕ) → (stack : List ℕ) → Behind → Identifier → Term → Type 0
-SetStands code known place stack behind x t =
-    (i : ℕ) × NumberStands code known place stack Jint t (instr.Store i) × IsSlotOf code known x i
-    × behind (place + length (term_code known t) + 1) (with_slot x Jint i known)
+-- the code of a block may stand here, with these slots
+pub record BlockStands (code : Listing) (l : Layout) (place : ℕ) (b : Block) : Type 0 where
+  pub at : HasAt code.instrs place (block_code l b)
+  pub fits : BlockFits l b
+  pub laid : IsLaidOut l.known l.slots
+  pub room : HasRoomFor code.slots (block_layout l b).slots
+
+-- an `if` whose test is under way, with its two ways, each of which ends by a jump
+pub record BranchStands (code : Listing) (known : Known) (place : ℕ) (stack : List ℕ) (behind : Behind) (line : ℕ) (t : Term) (then' else' : Block) : Type 0 where
+  pub slots : SlotCounts
+  pub slots_else : SlotCounts
+  pub test : IsUnderWay known Truth t stack
+  pub then_code : List Instr
+  pub then_is : then_code ≡ block_code (record { known = known; slots = slots }) then'
+  pub else_code : List Instr
+  pub else_is : else_code ≡ block_code (record { known = known; slots = slots_else }) else'
+  pub at : HasAt code.instrs place (term_code known line t ++ ways_code then_code (else_code ++ instr.GoOn 0 ∷ []))
+  pub first : BlockStands code (record { known = known; slots = slots }) (place + length (term_code known line t) + 1) then'
+  pub second : BlockStands code (record { known = known; slots = slots_else }) (place + length (term_code known line t) + 1 + length then_code + 1) else'
+  pub further : behind (place + length (term_code known line t) + 1 + length then_code + 1 + length else_code + 1) known
+
+-- the jump at the end of a way
+pub record EndStands (code : Listing) (known : Known) (place : ℕ) (stack : List ℕ) (behind : Behind) : Type 0 where
+  pub empty : stack ≡ []
+  pub skipped : ℕ
+  pub at : slice_get code.instrs place ≡ Some (instr.GoOn skipped)
+  pub further : ComesBehind behind (place + 1 + skipped) known
+
+-- a loop whose test is under way; its code begins at `start`
+pub record LoopStands (code : Listing) (known : Known) (place : ℕ) (stack : List ℕ) (behind : Behind) (line : ℕ) (test : Expr) (t : Term) (body : Block) : Type 0 where
+  pub slots : SlotCounts
+  pub start : ℕ
+  pub under_way : IsUnderWay known Truth t stack
+  pub fits : NumberFits known (term_of test) Truth
+  pub test_code : List Instr
+  pub test_is : test_code ≡ expr_code known line test
+  pub body_code : List Instr
+  pub body_is : body_code ≡ block_code (record { known = known; slots = slots }) body
+  pub whole : HasAt code.instrs start (test_code ++ turn_code test_code body_code)
+  pub here : HasAt code.instrs place (term_code known line t)
+  pub meets : place + length (term_code known line t) ≡ start + length test_code
+  pub turn : BlockStands code (record { known = known; slots = slots }) (start + length test_code + 1) body
+  pub further : behind (start + length test_code + 1 + length body_code + 1) known
+
+-- the jump at the end of a turn, back to the test
+pub record TurnStands (code : Listing) (known : Known) (place : ℕ) (stack : List ℕ) (behind : Behind) (line : ℕ) (test : Expr) (body : Block) : Type 0 where
+  pub empty : stack ≡ []
+  pub back : ℕ
+  pub at : slice_get code.instrs place ≡ Some (instr.GoBack back)
+  pub inside : back ≤ place
+  pub names : Known
+  pub among : AreAmong names known
+  pub loop : LoopStands code names (place - back) [] behind line test (term_of test) body
+
+-- ---- returns
+
+-- NULL or a local reference is returned
+abbrev pub ReferenceReturned : Listing → Known → (place : ℕ) → Term → Type 0
+ReferenceReturned code known place t =
+    ((t ≡ term.Named tree.Null) × (slice_get code.instrs place ≡ Some (instr.ReturnReference Null)))
+    ⊎ ((x : Identifier) × (i : ℕ) × (t ≡ Read x) × (lookup x known ≡ Some (record { sort = Ref; index = i })) × (slice_get code.instrs place ≡ Some (instr.ReturnReference (Local i))))
+
+-- a value is returned
+abbrev pub ReturnStands : Listing → Known → (place : ℕ) → (stack : List ℕ) → (line : ℕ) → Term → Type 0
+ReturnStands code known place stack line t = NumberStands code known place stack line Jint t (instr.ReturnJint ∷ []) ⊎ ReferenceReturned code known place t
+
+-- ---- tasks
 
 -- the place, with these names known and these operands, stands for a task, and the place behind it for what is to do then
 abbrev pub TaskStands : Listing → Known → (place : ℕ) → (stack : List ℕ) → Behind → Task → Type 0
-TaskStands code known place stack behind (SetScalar line x t) = SetStands code known place stack behind x t
+TaskStands code known place stack behind (SetScalar line x t) = SetStands code known place stack behind line x t
+TaskStands code known place stack behind (SetElement line x i e) = SetElementStands code known place stack behind line x i e
+TaskStands code known place stack behind (SetNull target) = SetNullStands code known place stack behind target
+TaskStands code known place stack behind (MakeArray t x size) = MakeArrayStands code known place stack behind t x size
 TaskStands code known place stack behind (Invoke line target f operands) = InvokeStands code known place stack behind line target f operands
-TaskStands code known place stack behind (Print line t) = NumberStands code known place stack Jint t instr.PutJint × behind (place + length (term_code known t) + 1) known
-TaskStands code known place stack behind Return = (stack ≡ []) × HasAt code.instrs place (instr.Return ∷ [])
-TaskStands code known place stack behind (ReturnValue line t) = NumberStands code known place stack Jint t instr.ReturnJint
-TaskStands code known place stack behind task = ⊥
+TaskStands code known place stack behind (Print line t) = NumberStands code known place stack line Jint t (instr.PutJint ∷ []) × behind (place + length (term_code known line t) + 1) known
+TaskStands code known place stack behind (Branch line t then' else') = BranchStands code known place stack behind line t then' else'
+TaskStands code known place stack behind EndIf = EndStands code known place stack behind
+TaskStands code known place stack behind (Loop line test t body) = LoopStands code known place stack behind line test t body
+TaskStands code known place stack behind (EndTurn line test body) = TurnStands code known place stack behind line test body
+TaskStands code known place stack behind Return = (stack ≡ []) × (slice_get code.instrs place ≡ Some instr.Return)
+TaskStands code known place stack behind (ReturnValue line t) = ReturnStands code known place stack line t
+TaskStands code known place stack behind Impossible = ⊥
 
--- The place stands for the tasks still to do from there on. What stands behind a return is never done, and no place
--- stands for nothing: every way returns.
-abbrev pub StandsFor : Listing → Known → (place : ℕ) → (stack : List ℕ) → List Task → Type 0
-StandsFor code known place stack [] = ⊥
-StandsFor code known place stack (task ∷ rest) = TaskStands code known place stack (λ p names. StandsFor code names p [] rest) task
+-- so it does for tasks one behind another; what stands behind a return is never done
+abbrev pub TasksStand : Listing → Known → (place : ℕ) → (stack : List ℕ) → List Task → Type 0
+TasksStand code known place stack [] = Unit {0}
+TasksStand code known place stack (task ∷ rest) = TaskStands code known place stack (λ p names. TasksStand code names p [] rest) task
 
--- ---- what the instruction at a place does
+-- ---- every way returns
 
--- the instructions that leave a function
-abbrev pub IsReturn : Instr → Type 0
-IsReturn instr.Return = Unit {0}
-IsReturn instr.ReturnJint = Unit {0}
-IsReturn i = ⊥
+abbrev mutual
+  -- whether each way through a statement returns
+  pub stmt_returns : Stmt → Bool
+  stmt_returns (tree.IfElse line test then' else') = block_returns then' && block_returns else'
+  stmt_returns (tree.Return line) = true
+  stmt_returns (tree.ReturnValue line e) = true
+  stmt_returns s = false
 
--- The place, with these names known, these operands and these slots, where this can be seen.
-module _ (code : Listing) (known : Known) (place : ℕ) (stack : List ℕ) (slots : Slots) (sight : Sight) where
-  -- it works on the stack alone, and the next place stands for these tasks
-  pub record GoesOn (tasks : List Task) : Type 0 where
-    pub here : Instr
-    pub after : List ℕ
-    pub at : slice_get code.instrs place ≡ Some here
-    pub plain : plain_of here stack slots.numbers ≡ Some (plain.Next, after, slots.numbers)
-    pub stands : StandsFor code known (place + 1) after tasks
+  -- the same of a block
+  pub block_returns : Block → Bool
+  block_returns (End line) = false
+  block_returns (Next s rest) = stmt_returns s || block_returns rest
 
-  -- it takes the one word on the stack into a slot, so that the slots show the variable with this value, and the next place
-  -- stands for these tasks
-  pub record SetsNumber (x : Identifier) (v : Value) (tasks : List Task) : Type 0 where
-    pub slot : ℕ
-    pub numbers : List ℕ
-    pub at : slice_get code.instrs place ≡ Some (instr.Store slot)
-    pub plain : plain_of (instr.Store slot) stack slots.numbers ≡ Some (plain.Next, [], numbers)
-    pub names : Known
-    pub shows : (new : Sight) → IsSet sight x v new → Shows code names new (record slots { numbers = numbers })
-    pub stands : StandsFor code names (place + 1) [] tasks
+-- the same of a task; what is impossible is followed by nothing
+abbrev pub task_returns : Task → Bool
+task_returns (Invoke line (Tested then' else') f operands) = block_returns then' && block_returns else'
+task_returns (Branch line t then' else') = block_returns then' && block_returns else'
+task_returns Return = true
+task_returns (ReturnValue line t) = true
+task_returns Impossible = true
+task_returns task = false
 
-  -- it prints the one word on the stack, which is this number
-  pub record PrintsTop (number : ℤ) (tasks : List Task) : Type 0 where
-    pub at : slice_get code.instrs place ≡ Some instr.PutJint
-    pub word : ℕ
-    pub top : stack ≡ word ∷ []
-    pub is : cast_signed w32 word ≡ number
-    pub stands : StandsFor code known (place + 1) [] tasks
-
-  -- a reference argument is NULL, or the one in the slot of a known name
-  abbrev pub IsOperand : ReferenceOperand → Actual → Type 0
-  IsOperand Null actual = actual ≡ ReferenceActual [] Empty
-  IsOperand (Local i) actual =
-      (x : Identifier) × (actual ≡ ReferenceActual x (sight.reference x)) × (lookup x known ≡ Some (record { sort = Ref; index = i }))
-
-  -- the instruction has this function and these arguments
-  abbrev pub IsCallee : Callee → JniFunction → List Actual → Type 0
-  IsCallee (callee.GetArrayLength operand) f args = (stack ≡ []) × (f ≡ GetArrayLength) × ((a : Actual) × (args ≡ a ∷ []) × IsOperand operand a)
-
-  -- A `jint` that the call gives goes into a slot: then the slots show the variable with it, and the next place stands for
-  -- these tasks.
-  pub record TakesNumber (i : ℕ) (x : Identifier) (tasks : List Task) : Type 0 where
-    pub within : i < length slots.numbers
-    pub names : Known
-    pub shows : (z : ℤ) (new : Sight) → FitsSigned w32 z → IsSet sight x (Int z) new → Shows code names new (record slots { numbers = slice_set slots.numbers i (word_of (Int z)) })
-    pub stands : StandsFor code names (place + 1) [] tasks
-
-  -- where the result of a call goes, and what comes then
-  abbrev pub TakesResult : Destination → Target → List Task → Type 0
-  TakesResult (destination.Number i) (Declared ScalarKind x) tasks = TakesNumber i x tasks
-  TakesResult goes target tasks = ⊥
-
-  -- it calls this function with these arguments
-  pub record CallsFunction (line : ℕ) (target : Target) (f : JniFunction) (args : List Actual) (tasks : List Task) : Type 0 where
-    pub call : Call
-    pub at : slice_get code.instrs place ≡ Some (instr.Call call)
-    pub same_line : call.line ≡ line
-    pub function : IsCallee call.function f args
-    pub goes : TakesResult call.target target tasks
-
-  -- it leaves the function
-  pub record LeavesCall : Type 0 where
-    pub here : Instr
-    pub at : slice_get code.instrs place ≡ Some here
-    pub returns : IsReturn here
-
-  -- the instruction at the place does what the first of the tasks does, whose effect is given; other effects have no instruction yet
-  abbrev pub DoesEffect : (rest : List Task) → Effect → Type 0
-  DoesEffect rest (Becomes tasks) = GoesOn (tasks ++ rest)
-  DoesEffect rest (Sets x v) = SetsNumber x v rest
-  DoesEffect rest (Prints z) = PrintsTop z rest
-  DoesEffect rest (Calls line target f args) = CallsFunction line target f args rest
-  DoesEffect rest Returns = LeavesCall
-  DoesEffect rest e = ⊥
+-- The place stands for the tasks still to do from there on, and every way through them returns. So no place stands for
+-- nothing.
+pub record StandsFor (code : Listing) (known : Known) (place : ℕ) (stack : List ℕ) (tasks : List Task) : Type 0 where
+  pub stand : TasksStand code known place stack tasks
+  pub returns : IsTrue (list_any task_returns tasks)

@@ -1,22 +1,24 @@
 //! From checked programs to code.
 
-ghost use Rattle.std.specs.Prelude.{◌≡◌, ◌<◌, [], ◌∷◌, ◌++◌, length, Err, IfOk, OnOk};
-ghost use Rattle.syntax.specs.Views.{prefix_tree, binary_tree, argument_tree, call_tree, expr_tree, stmt_tree, function_tree, unit_tree};
-ghost use Rattle.regions.specs.WellSorted.{IsWellSorted};
-ghost use Rattle.lower.specs.Layout.{prefix_code, operator_code, operand_code, expr_code, call_code, stmt_code, layout_behind, function_code, instruction_limit, IsTooLong};
+ghost use Rattle.std.specs.Prelude.{◌≡◌, ◌<◌, [], length, Err, IfOk, OnOk, IsTrue};
+ghost use Rattle.syntax.specs.Views.{static_tree, function_tree, unit_tree};
+ghost use Rattle.lower.specs.Layout.{with_static};
+ghost use Rattle.lower.specs.Coding.{function_code, instruction_limit, IsTooLong};
+ghost use Rattle.lower.specs.Fits.{AreStatics, FunctionFits};
+ghost use Rattle.lower.specs.Stands.{block_returns};
 ghost use Rattle.lower.specs.Lowered.{IsCodeOf};
+ghost use Rattle.lower.specs.Names.{known_behind};
 
+use crate::emitting::emit;
 use crate::fault::LowerFault;
-use crate::names::{Names, Slot};
+use crate::names::{Known, Names, Slot, Sort, with_spare};
 use crate::program::Program;
+use crate::statements::emit_block;
 use code::code::Code;
-use code::instr;
-use code::instr::{Callee, Instr, Operator, ReferenceOperand, Target};
+use code::instr::Instr;
 use regions::Checked;
 use std::alloc::{AllocError, Global};
-use syntax::{
-    Argument, BinaryOp, Call, Expr, Form, Function, Item, PrefixOp, RightSide, Stmt, VariableType,
-};
+use syntax::{Function, Item, Static};
 
 /// How many instructions a function has at most.
 const LIMIT: usize = 65535;
@@ -28,170 +30,56 @@ pub fn lower<'a>(alloc: Global, checked: &'a Checked) -> Result<Program<'a>, Low
     ensures ok { IfOk result (λ p. p.unit ≡ checked.now) }
     ensures too_long { result ≡ Err LowerFault.TooLong → IsTooLong (unit_tree checked.now) }
 {
+    let mut statics = Vec::new(alloc);
     let mut codes = Vec::new(alloc);
     for item in checked.items() {
-        match lower_function(alloc, function_of(item)) {
-            Ok(code) => codes.push(code)?,
-            Err(fault) => return Err(fault),
+        match item {
+            Item::Static(named) => learn(&mut statics, named)?,
+            Item::Function(function) => match lower_function(alloc, &statics, function) {
+                Ok(code) => codes.push(code)?,
+                Err(fault) => return Err(fault),
+            },
         }
     }
     Ok(Program::of(checked, codes))
 }
 
-fn function_of(item: &Item) -> &Function
-    ensures { item.now ≡ Item.Function result.now }
+/// One static more; their slots are counted in the order of the text.
+fn learn<'a>(statics: &mut Vec<Known<'a>>, named: &'a Static) -> Result<(), AllocError>
+    ensures { OnOk result (known_behind statics.new.items [] ≡ with_static (static_tree named.now) (known_behind statics.old.items [])) }
 {
-    match item {
-        Item::Function(function) => function,
-    }
+    let index = statics.len();
+    statics.push(Known {
+        name: &named.name,
+        slot: Slot {
+            sort: Sort::Static,
+            index,
+        },
+    })?;
+    Ok(())
 }
 
-fn lower_function(alloc: Global, function: &Function) -> Result<Code, LowerFault>
-    requires { IsWellSorted (function_tree function.now) }
-    ensures ok { IfOk result (IsCodeOf (function_tree function.now)) }
-    ensures too_long { result ≡ Err LowerFault.TooLong → instruction_limit < length (function_code (function_tree function.now)) }
+/// The code of a function behind these statics.
+pub(crate) fn lower_function(
+    alloc: Global,
+    statics: &[Known<'_>],
+    function: &Function,
+) -> Result<Code, LowerFault>
+    requires statics { AreStatics (known_behind statics.now []) }
+    requires fits { FunctionFits (known_behind statics.now []) (function_tree function.now) }
+    requires returns { IsTrue (block_returns (function_tree function.now).body) }
+    ensures ok { IfOk result (IsCodeOf (known_behind statics.now []) (function_tree function.now)) }
+    ensures too_long { result ≡ Err LowerFault.TooLong → instruction_limit < length (function_code (known_behind statics.now []) (function_tree function.now)) }
 {
-    let mut names = Names::of(alloc, function)?;
+    let mut names = Names::of(alloc, statics, function)?;
     let mut instrs = Vec::new(alloc);
-    for stmt in &function.body.statements {
-        emit_stmt(&mut instrs, &mut names, stmt)?;
-    }
+    emit_block(alloc, &mut instrs, &mut names, &function.body)?;
+    emit(&mut instrs, Instr::Return)?;
     if instrs.len() > LIMIT {
         return Err(LowerFault::TooLong);
     }
-    match Code::of(instrs, names.numbers(), names.references()) {
+    match Code::of(instrs, with_spare(names.slots())?)? {
         Some(code) => Ok(code),
         None => unreachable!(),
     }
-}
-
-/// A statement, with the names that are known behind it.
-pub(crate) fn emit_stmt<'a>(
-    code: &mut Vec<Instr>,
-    names: &mut Names<'a>,
-    stmt: &'a Stmt,
-) -> Result<(), AllocError>
-    ensures code { OnOk result (code.new.items ≡ code.old.items ++ stmt_code names.old (stmt_tree stmt.now)) }
-    ensures names { OnOk result (names.new ≡ layout_behind names.old (stmt_tree stmt.now)) }
-{
-    match &stmt.form {
-        Form::Declare(VariableType::Jint, name, RightSide::Expr(number)) => {
-            emit_expr(code, names, number)?;
-            let slot = names.declare_number(name)?;
-            emit(code, Instr::Store(slot))
-        }
-        Form::Declare(VariableType::Jint, name, RightSide::Call(call)) => {
-            emit_call(
-                code,
-                names,
-                stmt.line,
-                Target::Number(names.numbers()),
-                call,
-            )?;
-            let _ = names.declare_number(name)?;
-            Ok(())
-        }
-        Form::PutJint(number) => {
-            emit_expr(code, names, number)?;
-            emit(code, Instr::PutJint)
-        }
-        Form::Return(None) => emit(code, Instr::Return),
-        Form::Return(Some(number)) => {
-            emit_expr(code, names, number)?;
-            emit(code, Instr::ReturnJint)
-        }
-    }
-}
-
-/// A call of GetArrayLength, which is the only function that is called today.
-fn emit_call(
-    code: &mut Vec<Instr>,
-    names: &Names<'_>,
-    line: usize,
-    target: Target,
-    call: &Call,
-) -> Result<(), AllocError>
-    ensures { OnOk result (code.new.items ≡ code.old.items ++ call_code names.now.known line target (call_tree call.now).arguments) }
-{
-    match call.arguments.as_slice() {
-        [Argument::Value(reference)] => {
-            let function = Callee::GetArrayLength(operand_of(names, reference));
-            emit(
-                code,
-                Instr::Call(instr::Call {
-                    line,
-                    target,
-                    function,
-                }),
-            )
-        }
-        _ => Ok(()),
-    }
-}
-
-/// Where a reference argument is found.
-fn operand_of(names: &Names<'_>, argument: &Expr) -> ReferenceOperand
-    ensures { result ≡ operand_code names.now.known (expr_tree argument.now) }
-{
-    match argument {
-        Expr::Variable(name) => match names.slot_of(name) {
-            Some(Slot::Reference(slot)) => ReferenceOperand::Local(slot),
-            _ => ReferenceOperand::Null,
-        },
-        _ => ReferenceOperand::Null,
-    }
-}
-
-fn emit_expr(code: &mut Vec<Instr>, names: &Names<'_>, expr: &Expr) -> Result<(), AllocError>
-    ensures { OnOk result (code.new.items ≡ code.old.items ++ expr_code names.now.known (expr_tree expr.now)) }
-{
-    match expr {
-        Expr::Number { value, .. } => emit(code, Instr::Push(*value)),
-        // NULL is no number.
-        Expr::Named(_) => Ok(()),
-        Expr::Variable(name) => match names.slot_of(name) {
-            Some(Slot::Number(slot)) => emit(code, Instr::Load(slot)),
-            _ => Ok(()),
-        },
-        Expr::Prefix(operator, operand) => {
-            emit_expr(code, names, operand)?;
-            emit(code, prefix_instr(*operator))
-        }
-        Expr::Binary(operator, left, right) => {
-            emit_expr(code, names, left)?;
-            emit_expr(code, names, right)?;
-            emit(code, Instr::Operate(word_operator(*operator)))
-        }
-        Expr::Paren(inner) => emit_expr(code, names, inner),
-    }
-}
-
-fn prefix_instr(operator: PrefixOp) -> Instr
-    ensures { prefix_code (prefix_tree operator) ≡ result ∷ [] }
-{
-    match operator {
-        PrefixOp::Complement => Instr::Complement,
-        PrefixOp::ToWord | PrefixOp::ToInt => Instr::Convert,
-    }
-}
-
-fn word_operator(operator: BinaryOp) -> Operator
-    ensures { operator_code (binary_tree operator) ≡ Instr.Operate result ∷ [] }
-{
-    match operator {
-        BinaryOp::Multiply => Operator::Multiply,
-        BinaryOp::Add => Operator::Add,
-        BinaryOp::Subtract => Operator::Subtract,
-        BinaryOp::BitAnd => Operator::And,
-        BinaryOp::BitXor => Operator::Xor,
-        BinaryOp::BitOr => Operator::Or,
-    }
-}
-
-// One more instruction.
-fn emit(code: &mut Vec<Instr>, instr: Instr) -> Result<(), AllocError>
-    ensures { OnOk result (code.new.items ≡ code.old.items ++ instr ∷ []) }
-{
-    code.push(instr)?;
-    Ok(())
 }

@@ -1,83 +1,104 @@
 //! The slots of a function's names.
 
-ghost use Rattle.std.specs.Prelude.{◌≡◌, IfOk, OnOk};
+ghost use Rattle.std.specs.Prelude.{◌≡◌, ◌+◌, IfOk, OnOk};
 ghost use Rattle.std.specs.Option.{option_map};
 ghost use Rattle.base.specs.Bytes.{lookup};
-ghost use Rattle.syntax.specs.Views.{function_tree, parameter_type_tree};
-ghost use Rattle.lower.specs.Layout.{Layout, entry_layout, with_number, parameter_slot, numbers_behind, references_behind};
-ghost use Rattle.lower.specs.Names.{slot_view, known_behind};
+ghost use Rattle.syntax.specs.Views.{function_tree};
+ghost use Rattle.lower.specs.Layout.{new_slot, slots_behind, with_name, closed, entry_layout};
+ghost use Rattle.lower.specs.Names.{sort_view, slot_view, known_behind, latest_of};
 
+use code::slots::SlotCounts;
 use std::alloc::{AllocError, Global};
 use std::marker::Model;
-use syntax::{Function, Name, ParameterType};
+use syntax::{ElementType, Function, Name, ParameterType};
 
-/// Where the value of a name is, counted among the slots of its kind.
+/// What a name is.
 #[derive(Clone, Copy, Debug, PartialEq, Eq)]
-pub(crate) enum Slot {
-    Number(usize),
-    Reference(usize),
+pub(crate) enum Sort {
+    Word,
+    Jint,
+    Flag,
+    Reference,
+    Static,
+    FieldId,
+    /// Its elements, and whether they may be written.
+    Buffer(ElementType, bool),
+    /// Its elements, and how many there are.
+    Array(ElementType, usize),
+}
+
+/// A name's sort and where its value is, counted among the slots of its kind; the elements of an array begin there.
+#[derive(Clone, Copy, Debug, PartialEq, Eq)]
+pub(crate) struct Slot {
+    pub(crate) sort: Sort,
+    pub(crate) index: usize,
 }
 
 /// A name and its slot.
 #[derive(Clone, Copy, Debug)]
 pub(crate) struct Known<'a> {
-    name: &'a Name,
-    slot: Slot,
+    pub(crate) name: &'a Name,
+    pub(crate) slot: Slot,
 }
 
-/// The names of a function that are known at a place, and the numbers of slots taken so far.
+/// The names that are known at a place of a function, and how many slots are taken so far.
 #[derive(Debug, Drop)]
 pub(crate) struct Names<'a> {
-    /// The latest last.
+    /// The statics before the function, the latest last.
+    statics: &'a [Known<'a>],
+    /// The class, the parameters and the variables, the latest last.
     known: Vec<Known<'a>>,
-    numbers: usize,
-    references: usize,
+    slots: SlotCounts,
 }
 
 impl<'a> Model for Names<'a> {
-    ghost use Rattle.std.specs.Prelude.{[], ◌+◌, ◌≡◌, vec_len};
+    ghost use Rattle.std.specs.Prelude.{[]};
     ghost use Rattle.lower.specs.Layout.{Layout};
+    ghost use Rattle.lower.specs.Names.{known_behind};
 
     ghost Value = { Layout };
 
-    ghost use Rattle.lower.specs.Names.{known_behind};
-
-    ghost view = { λ n. record { known = known_behind n.known.items []; numbers = n.numbers; references = n.references } };
-
-    ghost invariant = { λ n. n.numbers + n.references ≡ vec_len n.known };
+    ghost view = { λ n. record { known = known_behind n.known.items (known_behind n.statics.now []); slots = n.slots } };
 }
 
 impl<'a> Names<'a> {
-    /// The class and the parameters of a function.
-    pub(crate) fn of(alloc: Global, function: &'a Function) -> Result<Names<'a>, AllocError>
-        ensures { IfOk result (λ n. n ≡ entry_layout (function_tree function.now)) }
+    ghost use Rattle.std.specs.Prelude.{[]};
+
+    /// The statics, the class and the parameters of a function.
+    pub(crate) fn of(
+        alloc: Global,
+        statics: &'a [Known<'a>],
+        function: &'a Function,
+    ) -> Result<Names<'a>, AllocError>
+        ensures { IfOk result (λ n. n ≡ entry_layout (known_behind statics.now []) (function_tree function.now)) }
     {
         let mut known = Vec::new(alloc);
-        known.push(Known {
-            name: &function.class_name,
-            slot: Slot::Reference(0),
-        })?;
+        known.push(known_as(&function.class_name, Sort::Reference, 0))?;
         let mut numbers = 0;
         let mut references = 1;
         for parameter in &function.parameters {
-            let slot = match parameter.kind {
-                ParameterType::Jint => Slot::Number(numbers),
-                ParameterType::Reference(_) => Slot::Reference(references),
-            };
-            known.push(Known {
-                name: &parameter.name,
-                slot,
-            })?;
-            match slot {
-                Slot::Number(_) => numbers += 1,
-                Slot::Reference(_) => references += 1,
+            match parameter.kind {
+                ParameterType::Jint => {
+                    known.push(known_as(&parameter.name, Sort::Jint, numbers))?;
+                    numbers = one_more(numbers)?;
+                }
+                ParameterType::Reference(_) => {
+                    known.push(known_as(&parameter.name, Sort::Reference, references))?;
+                    references = one_more(references)?;
+                }
             }
         }
         known.reverse();
         Ok(Names {
+            statics,
             known,
-            numbers,
-            references,
+            slots: SlotCounts {
+                numbers,
+                references,
+                statics: statics.len(),
+                field_ids: 0,
+                buffers: 0,
+            },
         })
     }
 
@@ -85,40 +106,121 @@ impl<'a> Names<'a> {
     pub(crate) fn slot_of(&self, name: &Name) -> Option<Slot>
         ensures { option_map slot_view result ≡ lookup name.now self.now.known }
     {
-        let mut found = None;
-        for known in &self.known {
-            if name.is_same(known.name) {
-                found = Some(known.slot);
-            }
+        let found = latest(self.statics, name, None);
+        latest(&self.known, name, found)
+    }
+
+    /// The slot of a name that is declared next.
+    pub(crate) fn new_slot(&self, sort: Sort) -> Slot
+        ensures { slot_view result ≡ new_slot (sort_view sort) self.now }
+    {
+        let index = match sort {
+            Sort::Reference => self.slots.references,
+            Sort::Static => self.slots.statics,
+            Sort::FieldId => self.slots.field_ids,
+            Sort::Buffer(..) => self.slots.buffers,
+            Sort::Word | Sort::Jint | Sort::Flag | Sort::Array(..) => self.slots.numbers,
+        };
+        Slot { sort, index }
+    }
+
+    /// Declares a name. More slots than can be counted are no memory.
+    pub(crate) fn declare(&mut self, name: &'a Name, sort: Sort) -> Result<(), AllocError>
+        ensures { OnOk result (self.new ≡ with_name name.now (sort_view sort) self.old) }
+    {
+        let slot = self.new_slot(sort);
+        let slots = slots_behind(self.slots, sort)?;
+        self.known.push(Known { name, slot })?;
+        self.slots = slots;
+        Ok(())
+    }
+
+    /// The same names and slots, for a block.
+    pub(crate) fn inside(&self, alloc: Global) -> Result<Names<'a>, AllocError>
+        ensures { IfOk result (λ inner. inner ≡ self.now) }
+    {
+        Ok(Names {
+            statics: self.statics,
+            known: Vec::from_slice(alloc, &self.known)?,
+            slots: self.slots,
+        })
+    }
+
+    /// Takes the slots that a block has taken. The names of the block are forgotten.
+    pub(crate) fn close(&mut self, inner: &Names<'_>)
+        ensures { self.new ≡ closed self.old inner.now }
+    {
+        self.slots = inner.slots;
+    }
+
+    /// How many slots are taken.
+    pub(crate) fn slots(&self) -> SlotCounts
+        ensures { result ≡ self.now.slots }
+    {
+        self.slots
+    }
+}
+
+fn known_as<'a>(name: &'a Name, sort: Sort, index: usize) -> Known<'a>
+    ensures slot { result.slot ≡ record { sort = sort; index = index } }
+    ensures name { result.name.now ≡ name.now }
+{
+    Known {
+        name,
+        slot: Slot { sort, index },
+    }
+}
+
+/// The latest of some names that is spelled so, or what was found before.
+fn latest(known: &[Known<'_>], name: &Name, before: Option<Slot>) -> Option<Slot>
+    ensures { option_map slot_view result ≡ latest_of name.now known.now (option_map slot_view before) }
+{
+    let mut found = before;
+    for entry in known {
+        if name.is_same(entry.name) {
+            found = Some(entry.slot);
         }
-        found
     }
+    found
+}
 
-    /// Declares a number variable, and answers its slot.
-    pub(crate) fn declare_number(&mut self, name: &'a Name) -> Result<usize, AllocError>
-        ensures slot { IfOk result (λ i. i ≡ self.old.numbers) }
-        ensures names { OnOk result (self.new ≡ with_number name.now self.old) }
-    {
-        let slot = self.numbers;
-        self.known.push(Known {
-            name,
-            slot: Slot::Number(slot),
-        })?;
-        self.numbers += 1;
-        Ok(slot)
-    }
+/// One more, where it can be counted.
+fn one_more(count: usize) -> Result<usize, AllocError>
+    ensures { IfOk result (λ n. n ≡ count + 1) }
+{
+    more(count, 1)
+}
 
-    /// How many slots of numbers are taken.
-    pub(crate) fn numbers(&self) -> usize
-        ensures { result ≡ self.now.numbers }
-    {
-        self.numbers
+fn more(count: usize, by: usize) -> Result<usize, AllocError>
+    ensures { IfOk result (λ n. n ≡ count + by) }
+{
+    match count.checked_add(by) {
+        Some(sum) => Ok(sum),
+        None => Err(AllocError),
     }
+}
 
-    /// How many slots of references are taken.
-    pub(crate) fn references(&self) -> usize
-        ensures { result ≡ self.now.references }
-    {
-        self.references
+/// The slots with those of one variable more.
+fn slots_behind(slots: SlotCounts, sort: Sort) -> Result<SlotCounts, AllocError>
+    ensures { IfOk result (λ s. s ≡ slots_behind (sort_view sort) slots) }
+{
+    let mut behind = slots;
+    match sort {
+        Sort::Reference => behind.references = one_more(slots.references)?,
+        Sort::Static => behind.statics = one_more(slots.statics)?,
+        Sort::FieldId => behind.field_ids = one_more(slots.field_ids)?,
+        Sort::Buffer(..) => behind.buffers = one_more(slots.buffers)?,
+        Sort::Word | Sort::Jint | Sort::Flag => behind.numbers = one_more(slots.numbers)?,
+        Sort::Array(_, len) => behind.numbers = more(slots.numbers, len)?,
     }
+    Ok(behind)
+}
+
+/// The slots of a function: one number slot more than its statements take, for results that are dropped.
+pub(crate) fn with_spare(slots: SlotCounts) -> Result<SlotCounts, AllocError>
+    ensures { IfOk result (λ s. s ≡ record slots { numbers = slots.numbers + 1 }) }
+{
+    let mut with_spare = slots;
+    with_spare.numbers = one_more(slots.numbers)?;
+    Ok(with_spare)
 }

@@ -1,58 +1,191 @@
-//! The code of a small program.
+//! The code of small programs.
 
 use crate::fault::LowerFault;
-use crate::lowering::{emit_stmt, lower};
-use crate::names::Names;
+use crate::lowering::lower;
+use crate::names::{Known, Names};
+use crate::statements::emit_block;
 use code::instr;
-use code::instr::{Callee, Instr, Operator, ReferenceOperand, Target};
+use code::instr::{
+    Callee, ElementType as ElementOfCode, Instr, LocalArray, NullableVariable, Operator,
+    ReferenceOperand, Target, TrappingOperator,
+};
 use regions::check;
+use std::alloc::{AllocError, Global};
 use std::test::Fail;
 use syntax::{
-    Argument, BinaryOp, Block, Call, Constant, Expr, Form, Function, Item, Name, Parameter,
-    ParameterType, PrefixOp, ReferenceType, ResultType, RightSide, Stmt, Unit, VariableType,
+    Argument, BinaryOp, Block, Call, Constant, ElementType, Expr, Form, Function, Item, Name,
+    Parameter, ParameterType, PrefixOp, ReferenceType, ResultType, RightSide, Stmt, Test, Unit,
 };
 use types::type_unit;
 
+fn variable(alloc: Global, name: &[u8]) -> Result<Expr, AllocError> {
+    Ok(Expr::Variable(Name::new(alloc, name)?))
+}
+
+fn number(value: u32) -> Expr {
+    Expr::Number {
+        value,
+        unsigned: false,
+    }
+}
+
+fn binary(alloc: Global, operator: BinaryOp, left: Expr, right: Expr) -> Result<Expr, AllocError> {
+    Ok(Expr::Binary(operator, Box::new(alloc, left)?, Box::new(alloc, right)?))
+}
+
+fn on_line(line: usize, form: Form) -> Stmt {
+    Stmt { line, form }
+}
+
+// jint f(jclass cls, jint n, jobject o) with this body.
+fn function(alloc: Global, statements: Vec<Stmt>) -> Result<Function, AllocError> {
+    let first = Parameter {
+        kind: ParameterType::Jint,
+        name: Name::new(alloc, b"n")?,
+    };
+    let second = Parameter {
+        kind: ParameterType::Reference(ReferenceType::Object),
+        name: Name::new(alloc, b"o")?,
+    };
+    Ok(Function {
+        line: 1,
+        result: ResultType::Jint,
+        name: Name::new(alloc, b"Java_A_f")?,
+        class_name: Name::new(alloc, b"cls")?,
+        parameters: vec![in alloc; first, second]?,
+        body: Block {
+            statements,
+            end_line: 9,
+        },
+    })
+}
+
+// if (n < 3 && o != NULL) { put_jint(n); } else { n = 1; }
 #[test]
-fn one_instruction_for_each_step(rt: HostRuntime) -> Result<(), Fail> {
+fn ways_of_an_if(rt: HostRuntime) -> Result<(), Fail> {
     let alloc = rt.alloc();
-    // put_jint((jint)(2u + 3u)); return;
-    let left = Expr::Number {
+    let less = binary(alloc, BinaryOp::Less, variable(alloc, b"n")?, number(3))?;
+    let there = binary(
+        alloc,
+        BinaryOp::NotEqual,
+        variable(alloc, b"o")?,
+        Expr::Named(Constant::Null),
+    )?;
+    let test = Test::Expr(binary(alloc, BinaryOp::LogicalAnd, less, there)?);
+    let put = on_line(2, Form::PutJint(variable(alloc, b"n")?));
+    let set = on_line(
+        2,
+        Form::Assign(Name::new(alloc, b"n")?, RightSide::Expr(number(1))),
+    );
+    let first = Block {
+        statements: vec![in alloc; put]?,
+        end_line: 2,
+    };
+    let second = Block {
+        statements: vec![in alloc; set]?,
+        end_line: 2,
+    };
+    let branch = on_line(2, Form::IfElse(test, first, second));
+    let function = function(alloc, vec![in alloc; branch]?)?;
+    let statics: Vec<Known<'_>> = Vec::new(alloc);
+    let mut names = Names::of(alloc, &statics, &function)?;
+    let mut code = Vec::new(alloc);
+    emit_block(alloc, &mut code, &mut names, &function.body)?;
+    match code.as_slice() {
+        [
+            Instr::Load(0),
+            Instr::Push(3),
+            Instr::Operate(Operator::SignedLess),
+            Instr::SkipUnless(1),
+            Instr::TestNull {
+                variable: NullableVariable::Local(1),
+                equal: false,
+            },
+            Instr::JumpUnless(3),
+            Instr::Load(0),
+            Instr::PutJint,
+            Instr::GoOn(3),
+            Instr::Push(1),
+            Instr::Store(0),
+            Instr::GoOn(0),
+        ] => {}
+        _ => assert!(rt; false),
+    }
+    Ok(())
+}
+
+// while ((uint32_t)(n) / 2u == 0u) { jshort a[4] = {0}; a[n] = n; GetArrayLength(o); }
+#[test]
+fn a_loop_and_an_array(rt: HostRuntime) -> Result<(), Fail> {
+    let alloc = rt.alloc();
+    let word = Expr::Prefix(
+        PrefixOp::ToWord,
+        Box::new(alloc, Expr::Paren(Box::new(alloc, variable(alloc, b"n")?)?))?,
+    );
+    let two = Expr::Number {
         value: 2,
         unsigned: true,
     };
-    let right = Expr::Number {
-        value: 3,
+    let zero = Expr::Number {
+        value: 0,
         unsigned: true,
     };
-    let sum = Expr::Binary(
-        BinaryOp::Add,
-        Box::new(alloc, left)?,
-        Box::new(alloc, right)?,
+    let half = binary(alloc, BinaryOp::Divide, word, two)?;
+    let test = binary(alloc, BinaryOp::Equal, half, zero)?;
+    let array = on_line(
+        4,
+        Form::DeclareArray(ElementType::Jshort, Name::new(alloc, b"a")?, 4),
     );
-    let number = Expr::Prefix(
-        PrefixOp::ToInt,
-        Box::new(alloc, Expr::Paren(Box::new(alloc, sum)?))?,
+    let write = on_line(
+        5,
+        Form::AssignElement(
+            Name::new(alloc, b"a")?,
+            variable(alloc, b"n")?,
+            variable(alloc, b"n")?,
+        ),
     );
-    let put = Stmt {
-        line: 1,
-        form: Form::PutJint(number),
+    let length = on_line(
+        6,
+        Form::Perform(Call {
+            function: Name::new(alloc, b"GetArrayLength")?,
+            arguments: vec![in alloc; Argument::Value(variable(alloc, b"o")?)]?,
+        }),
+    );
+    let body = Block {
+        statements: vec![in alloc; array, write, length]?,
+        end_line: 7,
     };
-    let back = Stmt {
-        line: 1,
-        form: Form::Return(None),
+    let turns = on_line(3, Form::While(test, body));
+    let function = function(alloc, vec![in alloc; turns]?)?;
+    let statics: Vec<Known<'_>> = Vec::new(alloc);
+    let mut names = Names::of(alloc, &statics, &function)?;
+    let mut code = Vec::new(alloc);
+    emit_block(alloc, &mut code, &mut names, &function.body)?;
+    assert_eq!(rt; names.slots().numbers, 5);
+    let elements = LocalArray { start: 1, len: 4 };
+    let call = instr::Call {
+        line: 6,
+        target: Target::Number(5),
+        function: Callee::GetArrayLength(ReferenceOperand::Local(1)),
     };
-    let function = Function {
-        line: 1,
-        result: ResultType::Void,
-        name: Name::new(alloc, b"Java_A_f")?,
-        class_name: Name::new(alloc, b"cls")?,
-        parameters: Vec::new(alloc),
-        body: Block {
-            statements: vec![in alloc; put, back]?,
-            end_line: 1,
-        },
-    };
+    assert_eq!(rt; code.len(), 13);
+    assert!(rt; code[3] == Instr::OperateOrTrap(TrappingOperator::Divide, 3));
+    assert!(rt; code[5] == Instr::Operate(Operator::Equal));
+    assert!(rt; code[6] == Instr::JumpUnless(6));
+    assert!(rt; code[7] == Instr::ClearArray(elements));
+    assert!(rt; code[10] == Instr::StoreElement(elements, ElementOfCode::Short, 5));
+    assert!(rt; code[11] == Instr::Call(call));
+    assert!(rt; code[12] == Instr::GoBack(12));
+    Ok(())
+}
+
+// void f(jclass cls, jint n, jobject o) { return; }
+#[test]
+fn one_instruction_for_each_step(rt: HostRuntime) -> Result<(), Fail> {
+    let alloc = rt.alloc();
+    let back = on_line(1, Form::Return(None));
+    let mut function = function(alloc, vec![in alloc; back]?)?;
+    function.result = ResultType::Void;
     let unit = Unit::new(vec![in alloc; Item::Function(function)]?);
     let checked = check(type_unit(alloc, unit)?)?;
     let program = lower(alloc, &checked)?;
@@ -61,136 +194,10 @@ fn one_instruction_for_each_step(rt: HostRuntime) -> Result<(), Fail> {
     let Some(code) = program.code(0) else {
         return Err(Fail::new("no code"));
     };
-    assert_eq!(rt; code.len(), 6);
-    assert!(rt; matches!(code.get(0), Some(Instr::Push(2))));
-    assert!(rt; matches!(code.get(1), Some(Instr::Push(3))));
-    assert!(rt; matches!(code.get(2), Some(Instr::Operate(Operator::Add))));
-    assert!(rt; matches!(code.get(3), Some(Instr::Convert)));
-    assert!(rt; matches!(code.get(4), Some(Instr::PutJint)));
-    assert!(rt; matches!(code.get(5), Some(Instr::Return)));
-    Ok(())
-}
-
-// void f(jobject a) { jint n = GetArrayLength(a); put_jint(n); return; }
-#[test]
-fn a_call_and_its_result(rt: HostRuntime) -> Result<(), Fail> {
-    let alloc = rt.alloc();
-    let parameter = Parameter {
-        kind: ParameterType::Reference(ReferenceType::Object),
-        name: Name::new(alloc, b"a")?,
-    };
-    let function = Function {
-        line: 1,
-        result: ResultType::Void,
-        name: Name::new(alloc, b"Java_A_f")?,
-        class_name: Name::new(alloc, b"cls")?,
-        parameters: vec![in alloc; parameter]?,
-        body: Block {
-            statements: Vec::new(alloc),
-            end_line: 5,
-        },
-    };
-    let length = Call {
-        function: Name::new(alloc, b"GetArrayLength")?,
-        arguments: vec![in alloc; Argument::Value(Expr::Variable(Name::new(alloc, b"a")?))]?,
-    };
-    let right = RightSide::Call(length);
-    let declare = Stmt {
-        line: 2,
-        form: Form::Declare(VariableType::Jint, Name::new(alloc, b"n")?, right),
-    };
-    let put = Stmt {
-        line: 3,
-        form: Form::PutJint(Expr::Variable(Name::new(alloc, b"n")?)),
-    };
-    let mut names = Names::of(alloc, &function)?;
-    let mut code = Vec::new(alloc);
-    emit_stmt(&mut code, &mut names, &declare)?;
-    emit_stmt(&mut code, &mut names, &put)?;
-    assert_eq!(rt; names.numbers(), 1);
-    assert_eq!(rt; names.references(), 2);
-    let call = instr::Call {
-        line: 2,
-        target: Target::Number(0),
-        function: Callee::GetArrayLength(ReferenceOperand::Local(1)),
-    };
-    match code.as_slice() {
-        [Instr::Call(c), Instr::Load(0), Instr::PutJint] => assert!(rt; *c == call),
-        _ => assert!(rt; false),
-    }
-    Ok(())
-}
-
-// jint g(jint a, jobject o, jint b) { jint n = GetArrayLength(NULL); jint m = b; return m; }
-#[test]
-fn slots_in_the_order_of_declarations(rt: HostRuntime) -> Result<(), Fail> {
-    let alloc = rt.alloc();
-    let length = Call {
-        function: Name::new(alloc, b"GetArrayLength")?,
-        arguments: vec![in alloc; Argument::Value(Expr::Named(Constant::Null))]?,
-    };
-    let call = Stmt {
-        line: 7,
-        form: Form::Declare(
-            VariableType::Jint,
-            Name::new(alloc, b"n")?,
-            RightSide::Call(length),
-        ),
-    };
-    let copy = Stmt {
-        line: 8,
-        form: Form::Declare(
-            VariableType::Jint,
-            Name::new(alloc, b"m")?,
-            RightSide::Expr(Expr::Variable(Name::new(alloc, b"b")?)),
-        ),
-    };
-    let back = Stmt {
-        line: 9,
-        form: Form::Return(Some(Expr::Variable(Name::new(alloc, b"m")?))),
-    };
-    let first = Parameter {
-        kind: ParameterType::Jint,
-        name: Name::new(alloc, b"a")?,
-    };
-    let second = Parameter {
-        kind: ParameterType::Reference(ReferenceType::Object),
-        name: Name::new(alloc, b"o")?,
-    };
-    let third = Parameter {
-        kind: ParameterType::Jint,
-        name: Name::new(alloc, b"b")?,
-    };
-    let function = Function {
-        line: 6,
-        result: ResultType::Jint,
-        name: Name::new(alloc, b"Java_A_g")?,
-        class_name: Name::new(alloc, b"cls")?,
-        parameters: vec![in alloc; first, second, third]?,
-        body: Block {
-            statements: vec![in alloc; call, copy, back]?,
-            end_line: 9,
-        },
-    };
-    let unit = Unit::new(vec![in alloc; Item::Function(function)]?);
-    let checked = check(type_unit(alloc, unit)?)?;
-    let program = lower(alloc, &checked)?;
-    let Some(code) = program.code(0) else {
-        return Err(Fail::new("no code"));
-    };
-    assert_eq!(rt; code.len(), 5);
-    assert_eq!(rt; code.numbers(), 4);
-    assert_eq!(rt; code.references(), 2);
-    let call = instr::Call {
-        line: 7,
-        target: Target::Number(2),
-        function: Callee::GetArrayLength(ReferenceOperand::Null),
-    };
-    assert!(rt; code.get(0) == Some(&Instr::Call(call)));
-    assert!(rt; matches!(code.get(1), Some(Instr::Load(1))));
-    assert!(rt; matches!(code.get(2), Some(Instr::Store(3))));
-    assert!(rt; matches!(code.get(3), Some(Instr::Load(3))));
-    assert!(rt; matches!(code.get(4), Some(Instr::ReturnJint)));
+    // The last instruction is for jumps to the end.
+    assert_eq!(rt; code.len(), 2);
+    assert!(rt; matches!(code.get(0), Some(Instr::Return)));
+    assert!(rt; matches!(code.get(1), Some(Instr::Return)));
     Ok(())
 }
 

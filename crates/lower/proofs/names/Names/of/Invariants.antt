@@ -1,4 +1,4 @@
-use Rattle.std.proofs.Common.{◌≡◌, ◌+◌, ◌∷◌, ◌++◌, drop, map, vec_len}
+use Rattle.std.proofs.Common.{◌≡◌, ◌∷◌, ◌++◌, drop, map}
 use Rattle.types.specs.Sorts.{Ref}
 use Rattle.syntax.specs.Views.{parameter_tree}
 use Rattle.lower.specs.Layout.{parameter_slots, numbers_of, references_of}
@@ -7,7 +7,6 @@ use Rattle.lower.proofs.names.Names.of.Given as goal
 
 abbrev pub invariant-loop-parameter : goal.invariant-loop-parameter
 invariant-loop-parameter l = record {
-  count : l.numbers + l.references ≡ vec_len l.known;
   known : (l.function.class_name, record { sort = Ref; index = 0 }) ∷ parameter_slots (map parameter_tree l.parameter-items) 0 1
       ≡ map entry_view l.known.items ++ parameter_slots (map parameter_tree (drop l.parameter-index l.parameter-items)) l.numbers l.references;
   numbers : numbers_of (map parameter_tree l.parameter-items) 0 ≡ numbers_of (map parameter_tree (drop l.parameter-index l.parameter-items)) l.numbers;

@@ -1,0 +1,396 @@
+-- The steps of `if`, `while`, elements and returns; then those of all tasks.
+use Rattle.std.proofs.Common.{◌≡◌, ℕ, ℤ, pos, negsuc, ◌+◌, ◌-◌, ◌<◌, ◌≤◌, ◌⊎◌, inl, inr, Bool, true, false, List, [], ◌∷◌, ◌++◌, length, Option, Some, None, refl, sym, ap, ◌∙◌, subst, arith, append_assoc, length-append}
+use Rattle.std.specs.Prelude.{slice_get, slice_set, nat_lt, IsTrue, FitsSigned}
+use Rattle.std.specs.List.{list_any}
+use Rattle.std.specs.Int.{w32, cast_unsigned}
+use Rattle.std.proofs.lemmas.List.{append-nil}
+use Rattle.std.proofs.lemmas.Bool.{ltb-true, ltb-false, lt-ltb}
+use Rattle.base.specs.Bytes.{Identifier, lookup}
+use Rattle.base.specs.Element.{ElementType}
+use Rattle.syntax.specs.Tree as tree
+use Rattle.syntax.specs.Tree.{Expr, Block, BitOr}
+use Rattle.types.specs.Sorts.{Sort, Jint, Ref, Array}
+use Rattle.types.specs.Sorts as sort
+use Rattle.code.specs.declared.instr.ReferenceOperand.TheVariants.{Null, Local}
+use Rattle.code.specs.declared.instr.Instr.{Instr}
+use Rattle.code.specs.declared.instr.Instr.TheVariants as instr
+use Rattle.code.specs.declared.instr.Plain.TheVariants as plain
+use Rattle.code.specs.declared.instr.PlainTrap.TheVariants as trap
+use Rattle.code.specs.Depth.{Listing}
+use Rattle.code.specs.Effect.{plain_of, element_word}
+use Rattle.regions.specs.Effect.{Effect, Returns, with_value, return_effect, element_effect, effect_of}
+use Rattle.regions.specs.Task.{Task, SetScalar, SetElement, SetNull, MakeArray, Invoke, Print, Branch, EndIf, Loop, EndTurn, Return, ReturnValue, Impossible, tasks_of}
+use Rattle.regions.specs.Term as term
+use Rattle.regions.specs.Term.{Term, Done, Read, term_of}
+use Rattle.regions.specs.Value.{Value, Word, Int, Flag, Truth, Gives}
+use Rattle.lower.specs.Layout.{Slot, Known, Layout}
+use Rattle.lower.specs.Coding.{element_of, term_code, expr_code, ways_code, turn_code, block_code}
+use Rattle.lower.specs.Slots.{word_of, Visible, Slots, Shows, ShowsArray}
+use Rattle.lower.specs.Fits.{IsIndexSort, TermHasSort}
+use Rattle.lower.specs.Stands.{held, IsBegun, HasAt, AreAmong, IsUnderWay, NumberStands, SetElementStands, BlockStands, LoopStands, TasksStand, StandsFor, ReferenceReturned, task_returns}
+use Rattle.lower.specs.Does.{DoesEffect}
+use Rattle.lower.proofs.SlotLaws.{all_among, fewer_shown, shows_element_set}
+use Rattle.lower.proofs.CodePlaces.{has_front, has_back}
+use Rattle.lower.proofs.TermSteps.{IsOpen, negative_past, shows_number, untouched_held, begun_left, left_first}
+use Rattle.lower.proofs.Bodies.{number_begins, begins}
+use Rattle.lower.proofs.ElementWords.{element_words, convert_fits}
+use Rattle.lower.proofs.WaysReturn.{then_returns, else_returns, any_behind}
+use Rattle.lower.proofs.Steps.{into_task, step_inside, put_step, set_step, null_step, made_step, call_step}
+
+-- The place, with these names known, these operands and these slots, which show what can be seen.
+module _ (code : Listing) (known : Known) (place : ℕ) (stack : List ℕ) (slots : Slots) (visible : Visible) (shows : Shows code known visible slots) where
+  -- ---- the end of a way
+
+  end_step : (rest : List Task) → StandsFor code known place stack (EndIf ∷ rest) → DoesEffect code known place stack slots visible rest (effect_of visible.sight EndIf)
+  end_step rest h =
+      let d = h.stand in
+      record {
+        here = instr.GoOn d.skipped;
+        way = plain.Skip d.skipped;
+        after = [];
+        at = d.at;
+        works = rw d.empty refl;
+        names = d.further.0;
+        shows = fewer_shown code d.further.0 known visible slots d.further.1 shows;
+        stands = record { stand = d.further.2; returns = h.returns };
+      }
+
+  turn_step : (line : ℕ) (test : Expr) (body : Block) (rest : List Task) → StandsFor code known place stack (EndTurn line test body ∷ rest) → DoesEffect code known place stack slots visible rest (effect_of visible.sight (EndTurn line test body))
+  turn_step line test body rest h =
+      let d = h.stand in
+      record {
+        here = instr.GoBack d.back;
+        way = plain.Back d.back;
+        after = [];
+        at = d.at;
+        works = rw d.empty refl;
+        names = d.names;
+        shows = fewer_shown code d.names known visible slots d.among shows;
+        stands = (d.inside, record { stand = d.loop; returns = h.returns });
+      }
+
+  -- ---- `if`
+
+  -- the block that is entered, and the jump at its end
+  way_taken : (b : Block) (l : Layout) (p skipped : ℕ) (rest : List Task) → l.known ≡ known → BlockStands code l p b → slice_get code.instrs (p + length (block_code l b)) ≡ Some (instr.GoOn skipped) → TasksStand code known (p + length (block_code l b) + 1 + skipped) [] rest
+      → TasksStand code known p [] (tasks_of b ++ EndIf ∷ rest)
+  way_taken b l p skipped rest same stands at further =
+      subst (λ names. TasksStand code names p [] (tasks_of b ++ EndIf ∷ rest)) same
+      (begins code b l p (EndIf ∷ rest) stands
+      (λ names among. record { empty = refl; skipped = skipped; at = at; further = (known, subst (λ k. AreAmong k names) same among, further) }))
+
+  branch_true : (line : ℕ) (then' else' : Block) (rest : List Task) → StandsFor code known place stack (Branch line (Done (Truth true)) then' else' ∷ rest) → DoesEffect code known place stack slots visible rest (effect_of visible.sight (Branch line (Done (Truth true)) then' else'))
+  branch_true line then' else' rest h =
+      let d = h.stand in
+      let A = d.then_code in
+      let B = d.else_code ++ instr.GoOn 0 ∷ [] in
+      let l : Layout = record { known = known; slots = d.slots } in
+      let start : place + 0 + 1 ≡ place + 1 = omega arith in
+      let own : BlockStands code l (place + 1) then' = subst (λ p. BlockStands code l p then') start d.first in
+      let jump = has_back code.instrs (place + 1) A (instr.GoOn (length B) ∷ B) d.at.1 in
+      let at = subst (λ c. slice_get code.instrs (place + 1 + length c) ≡ Some (instr.GoOn (length B))) d.then_is jump.0 in
+      let end : place + 0 + 1 + length A + 1 + length d.else_code + 1 ≡ place + 1 + length (block_code l then') + 1 + length B = omega (arith, ap length d.then_is, length-append d.else_code (instr.GoOn 0 ∷ [])) in
+      let further = subst (λ p. TasksStand code known p [] rest) end d.further in
+      record {
+        here = instr.JumpUnless (length A + 1);
+        way = plain.Next;
+        after = [];
+        at = d.at.0;
+        works = rw d.test.operands refl;
+        names = known;
+        shows = shows;
+        stands = rw (append_assoc (tasks_of then') (EndIf ∷ []) rest) (record {
+          stand = way_taken then' l (place + 1) (length B) rest refl own at further;
+          returns = then_returns then' else' rest (EndIf ∷ rest) (λ e. e) h.returns;
+        });
+      }
+
+  branch_false : (line : ℕ) (then' else' : Block) (rest : List Task) → StandsFor code known place stack (Branch line (Done (Truth false)) then' else' ∷ rest) → DoesEffect code known place stack slots visible rest (effect_of visible.sight (Branch line (Done (Truth false)) then' else'))
+  branch_false line then' else' rest h =
+      let d = h.stand in
+      let A = d.then_code in
+      let B = d.else_code ++ instr.GoOn 0 ∷ [] in
+      let l : Layout = record { known = known; slots = d.slots_else } in
+      let start : place + 0 + 1 + length A + 1 ≡ place + 1 + (length A + 1) = omega arith in
+      let own : BlockStands code l (place + 1 + (length A + 1)) else' = subst (λ p. BlockStands code l p else') start d.second in
+      let second = has_back code.instrs (place + 1) A (instr.GoOn (length B) ∷ B) d.at.1 in
+      let jump = has_back code.instrs (place + 1 + length A + 1) d.else_code (instr.GoOn 0 ∷ []) second.1 in
+      let there : place + 1 + length A + 1 + length d.else_code ≡ place + 1 + (length A + 1) + length (block_code l else') = omega (arith, ap length d.else_is) in
+      let at = subst (λ p. slice_get code.instrs p ≡ Some (instr.GoOn 0)) there jump.0 in
+      let end : place + 0 + 1 + length A + 1 + length d.else_code + 1 ≡ place + 1 + (length A + 1) + length (block_code l else') + 1 + 0 = omega (arith, ap length d.else_is) in
+      let further = subst (λ p. TasksStand code known p [] rest) end d.further in
+      record {
+        here = instr.JumpUnless (length A + 1);
+        way = plain.Skip (length A + 1);
+        after = [];
+        at = d.at.0;
+        works = rw d.test.operands refl;
+        names = known;
+        shows = shows;
+        stands = rw (append_assoc (tasks_of else') (EndIf ∷ []) rest) (record {
+          stand = way_taken else' l (place + 1 + (length A + 1)) 0 rest refl own at further;
+          returns = else_returns then' else' rest (EndIf ∷ rest) (λ e. e) h.returns;
+        });
+      }
+
+  branch_step : (line : ℕ) (t : Term) (then' else' : Block) (rest : List Task) → StandsFor code known place stack (Branch line t then' else' ∷ rest) → DoesEffect code known place stack slots visible rest (effect_of visible.sight (Branch line t then' else'))
+  branch_step line (Done (Truth true)) then' else' rest h = branch_true line then' else' rest h
+  branch_step line (Done (Truth false)) then' else' rest h = branch_false line then' else' rest h
+  branch_step line (Done (Word n)) then' else' rest h = absurd (let e : sort.Truth ≡ sort.Word = h.stand.test.sort.1 in cc)
+  branch_step line (Done (Int z)) then' else' rest h = absurd (let e : sort.Truth ≡ Jint = h.stand.test.sort.1 in cc)
+  branch_step line (Done (Flag b)) then' else' rest h = absurd (let e : sort.Truth ≡ sort.Flag = h.stand.test.sort in cc)
+  branch_step line t then' else' rest h =
+      let d = h.stand in
+      step_inside code known place stack slots visible shows line t sort.Truth [] (ways_code d.then_code (d.else_code ++ instr.GoOn 0 ∷ [])) (λ u. Branch line u then' else') rest tt d.test.sort d.test.begun (d.test.operands ∙ sym (append-nil (held t))) d.at (λ u. h.returns)
+      (λ p u sorted begun at size.
+      let first : place + length (term_code known line t) + 1 ≡ p + length (term_code known line u) + 1 = omega (arith, size) in
+      let second : place + length (term_code known line t) + 1 + length d.then_code + 1 ≡ p + length (term_code known line u) + 1 + length d.then_code + 1 = omega (arith, size) in
+      let end : place + length (term_code known line t) + 1 + length d.then_code + 1 + length d.else_code + 1 ≡ p + length (term_code known line u) + 1 + length d.then_code + 1 + length d.else_code + 1 = omega (arith, size) in
+      record {
+        slots = d.slots;
+        slots_else = d.slots_else;
+        test = record { sort = sorted; begun = begun; operands = append-nil (held u) };
+        then_code = d.then_code;
+        then_is = d.then_is;
+        else_code = d.else_code;
+        else_is = d.else_is;
+        at = at;
+        first = subst (λ n. BlockStands code (record { known = known; slots = d.slots }) n then') first d.first;
+        second = subst (λ n. BlockStands code (record { known = known; slots = d.slots_else }) n else') second d.second;
+        further = subst (λ n. TasksStand code known n [] rest) end d.further;
+      })
+
+  -- ---- `while`
+
+  -- the loop again, from its first instruction on
+  from_the_start : (line : ℕ) (test : Expr) (t : Term) (body : Block) (rest : List Task) (p : ℕ) → (d : LoopStands code known place stack (λ q names. TasksStand code names q [] rest) line test t body) → p ≡ d.start → TasksStand code known p [] (Loop line test (term_of test) body ∷ rest)
+  from_the_start line test t body rest p d same =
+      let code_is : d.test_code ≡ term_code known line (term_of test) = d.test_is in
+      subst (λ n. TasksStand code known n [] (Loop line test (term_of test) body ∷ rest)) (sym same) (record {
+        slots = d.slots;
+        start = d.start;
+        under_way = number_begins known (term_of test) sort.Truth d.fits;
+        fits = d.fits;
+        test_code = d.test_code;
+        test_is = d.test_is;
+        body_code = d.body_code;
+        body_is = d.body_is;
+        whole = d.whole;
+        here = subst (HasAt code.instrs d.start) code_is (has_front code.instrs d.start d.test_code (turn_code d.test_code d.body_code) d.whole);
+        meets = omega (arith, ap length code_is);
+        turn = d.turn;
+        further = d.further;
+      })
+
+  loop_true : (line : ℕ) (test : Expr) (body : Block) (rest : List Task) → StandsFor code known place stack (Loop line test (Done (Truth true)) body ∷ rest) → DoesEffect code known place stack slots visible rest (effect_of visible.sight (Loop line test (Done (Truth true)) body))
+  loop_true line test body rest h =
+      let d = h.stand in
+      let B = d.body_code in
+      let l : Layout = record { known = known; slots = d.slots } in
+      let turn = has_back code.instrs d.start d.test_code (turn_code d.test_code B) d.whole in
+      let here : d.start + length d.test_code ≡ place = omega (arith, d.meets) in
+      let start : d.start + length d.test_code + 1 ≡ place + 1 = omega (arith, d.meets) in
+      let own : BlockStands code l (place + 1) body = subst (λ p. BlockStands code l p body) start d.turn in
+      let jump = has_back code.instrs (d.start + length d.test_code + 1) B (instr.GoBack (length d.test_code + 1 + length B) ∷ []) turn.1 in
+      let there : d.start + length d.test_code + 1 + length B ≡ place + 1 + length (block_code l body) = omega (arith, d.meets, ap length d.body_is) in
+      let at = subst (λ p. slice_get code.instrs p ≡ Some (instr.GoBack (length d.test_code + 1 + length B))) there jump.0 in
+      let back : place + 1 + length (block_code l body) - (length d.test_code + 1 + length B) ≡ d.start = omega (arith, d.meets, ap length d.body_is) in
+      let inside : length d.test_code + 1 + length B ≤ place + 1 + length (block_code l body) = omega (arith, d.meets, ap length d.body_is) in
+      record {
+        here = instr.JumpUnless (length B + 1);
+        way = plain.Next;
+        after = [];
+        at = subst (λ p. slice_get code.instrs p ≡ Some (instr.JumpUnless (length B + 1))) here turn.0;
+        works = rw d.under_way.operands refl;
+        names = known;
+        shows = shows;
+        stands = rw (append_assoc (tasks_of body) (EndTurn line test body ∷ []) rest) (record {
+          stand = begins code body l (place + 1) (EndTurn line test body ∷ rest) own (λ names among. record {
+            empty = refl;
+            back = length d.test_code + 1 + length B;
+            at = at;
+            inside = inside;
+            names = known;
+            among = among;
+            loop = from_the_start line test (Done (Truth true)) body rest (place + 1 + length (block_code l body) - (length d.test_code + 1 + length B)) d back;
+          });
+          returns = any_behind body (EndTurn line test body ∷ rest) h.returns;
+        });
+      }
+
+  loop_false : (line : ℕ) (test : Expr) (body : Block) (rest : List Task) → StandsFor code known place stack (Loop line test (Done (Truth false)) body ∷ rest) → DoesEffect code known place stack slots visible rest (effect_of visible.sight (Loop line test (Done (Truth false)) body))
+  loop_false line test body rest h =
+      let d = h.stand in
+      let turn = has_back code.instrs d.start d.test_code (turn_code d.test_code d.body_code) d.whole in
+      let here : d.start + length d.test_code ≡ place = omega (arith, d.meets) in
+      let end : d.start + length d.test_code + 1 + length d.body_code + 1 ≡ place + 1 + (length d.body_code + 1) = omega (arith, d.meets) in
+      record {
+        here = instr.JumpUnless (length d.body_code + 1);
+        way = plain.Skip (length d.body_code + 1);
+        after = [];
+        at = subst (λ p. slice_get code.instrs p ≡ Some (instr.JumpUnless (length d.body_code + 1))) here turn.0;
+        works = rw d.under_way.operands refl;
+        names = known;
+        shows = shows;
+        stands = record { stand = subst (λ p. TasksStand code known p [] rest) end d.further; returns = h.returns };
+      }
+
+  loop_step : (line : ℕ) (test : Expr) (t : Term) (body : Block) (rest : List Task) → StandsFor code known place stack (Loop line test t body ∷ rest) → DoesEffect code known place stack slots visible rest (effect_of visible.sight (Loop line test t body))
+  loop_step line test (Done (Truth true)) body rest h = loop_true line test body rest h
+  loop_step line test (Done (Truth false)) body rest h = loop_false line test body rest h
+  loop_step line test (Done (Word n)) body rest h = absurd (let e : sort.Truth ≡ sort.Word = h.stand.under_way.sort.1 in cc)
+  loop_step line test (Done (Int z)) body rest h = absurd (let e : sort.Truth ≡ Jint = h.stand.under_way.sort.1 in cc)
+  loop_step line test (Done (Flag b)) body rest h = absurd (let e : sort.Truth ≡ sort.Flag = h.stand.under_way.sort in cc)
+  loop_step line test t body rest h =
+      let d = h.stand in
+      step_inside code known place stack slots visible shows line t sort.Truth [] [] (λ u. Loop line test u body) rest tt d.under_way.sort d.under_way.begun (d.under_way.operands ∙ sym (append-nil (held t)))
+      (subst (HasAt code.instrs place) (sym (append-nil (term_code known line t))) d.here) (λ u. h.returns)
+      (λ p u sorted begun at size. record {
+        slots = d.slots;
+        start = d.start;
+        under_way = record { sort = sorted; begun = begun; operands = append-nil (held u) };
+        fits = d.fits;
+        test_code = d.test_code;
+        test_is = d.test_is;
+        body_code = d.body_code;
+        body_is = d.body_is;
+        whole = d.whole;
+        here = subst (HasAt code.instrs p) (append-nil (term_code known line u)) at;
+        meets = size ∙ d.meets;
+        turn = d.turn;
+        further = d.further;
+      })
+
+  -- ---- returns
+
+  return_step : (line : ℕ) (t : Term) (rest : List Task) → NumberStands code known place stack line Jint t (instr.ReturnJint ∷ []) → IsTrue (list_any task_returns (ReturnValue line t ∷ rest)) → DoesEffect code known place stack slots visible rest (with_value visible.sight line (λ v. Returns) (ReturnValue line) t)
+  return_step line (Done v) rest h returns = record { here = instr.ReturnJint; at = h.1.0; returns = tt }
+  return_step line t rest h returns =
+      step_inside code known place stack slots visible shows line t Jint [] (instr.ReturnJint ∷ []) (ReturnValue line) rest tt h.0.sort h.0.begun (h.0.operands ∙ sym (append-nil (held t))) h.1 (λ u. refl)
+      (λ p u sorted begun at size. inl (record { sort = sorted; begun = begun; operands = append-nil (held u) }, at))
+
+  -- a `jint` is worked out before it is returned
+  returned_number : (line : ℕ) (t : Term) → TermHasSort known t Jint → return_effect visible.sight line t ≡ with_value visible.sight line (λ v. Returns) (ReturnValue line) t
+  returned_number line (term.Named tree.Null) h = absurd h
+  returned_number line (Read x) h = let shown = shows_number known line slots visible x (record { sort = Jint; index = h.0 }) Jint tt (shows.each x (record { sort = Jint; index = h.0 }) h.1) in rw shown.is refl
+  returned_number line t h = refl
+
+  returned_step : (line : ℕ) (t : Term) (rest : List Task) → NumberStands code known place stack line Jint t (instr.ReturnJint ∷ []) ⊎ ReferenceReturned code known place t → IsTrue (list_any task_returns (ReturnValue line t ∷ rest))
+      → DoesEffect code known place stack slots visible rest (return_effect visible.sight line t)
+  returned_step line t rest (inl h) returns = subst (DoesEffect code known place stack slots visible rest) (sym (returned_number line t h.0.sort)) (return_step line t rest h returns)
+  returned_step line t rest (inr (inl (is, at))) returns = subst (λ u. DoesEffect code known place stack slots visible rest (return_effect visible.sight line u)) (sym is) (record { here = instr.ReturnReference Null; at = at; returns = tt })
+  returned_step line t rest (inr (inr (x, i, is, found, at))) returns =
+      let shown = shows.each x (record { sort = Ref; index = i }) found in
+      subst (λ u. DoesEffect code known place stack slots visible rest (return_effect visible.sight line u)) (sym is) (rw shown.no_number (record { here = instr.ReturnReference (Local i); at = at; returns = tt }))
+
+  -- ---- elements
+
+  -- a number goes to an index that isn't negative
+  element_written : (line : ℕ) (x : Identifier) (v : Value) (z : ℤ) (k : ℕ) (rest : List Task) → (d : SetElementStands code known place stack (λ p names. TasksStand code names p [] rest) line x (Done v) (Done (Int z))) → IsTrue (list_any task_returns rest)
+      → word_of v ≡ k → term.index_of v ≡ Gives k → (b : Bool) → nat_lt k d.size ≡ b → DoesEffect code known place stack slots visible rest (element_effect visible.sight line x v (Int z))
+  element_written line x v z k rest d returns word index true below =
+      let shown = shows.each x (record { sort = Array d.type d.size; index = d.start }) d.array in
+      let small : k < d.size = ltb-true k d.size below in
+      let element = shown.elements k small in
+      let inside : d.start + k < length slots.numbers = omega (arith, d.own.within.2, shows.numbers, small) in
+      let none : place + (0 + 0) + 1 ≡ place + 1 = omega arith in
+      rw (index, element.is) (
+        d.type,
+        shown.array_type,
+        record {
+          here = instr.StoreElement (record { start = d.start; len = d.size }) (element_of d.type) line;
+          numbers = slice_set slots.numbers (d.start + k) (element_word (element_of d.type) (cast_unsigned w32 z));
+          at = d.at.0;
+          plain = rw (d.operands, word, below, lt-ltb (d.start + k) (length slots.numbers) inside) refl;
+          names = known;
+          shows = λ new set. shows_element_set code known visible new slots d.type x d.size d.start k z (element_word (element_of d.type) (cast_unsigned w32 z)) shows d.array d.own small (element_words d.type z d.value.0) (convert_fits d.type z) set;
+          stands = record { stand = subst (λ p. TasksStand code known p [] rest) none d.further; returns = returns };
+        },
+      )
+  element_written line x v z k rest d returns word index false below =
+      let shown = shows.each x (record { sort = Array d.type d.size; index = d.start }) d.array in
+      rw (index, shown.past k (ltb-false k d.size below)) (record {
+        here = instr.StoreElement (record { start = d.start; len = d.size }) (element_of d.type) line;
+        trap = trap.OutOfRange;
+        is = refl;
+        at = d.at.0;
+        plain = rw (d.operands, word, below) refl;
+      })
+
+  write_step : (line : ℕ) (x : Identifier) (v : Value) (z : ℤ) (rest : List Task) → (d : SetElementStands code known place stack (λ p names. TasksStand code names p [] rest) line x (Done v) (Done (Int z))) → IsTrue (list_any task_returns rest)
+      → DoesEffect code known place stack slots visible rest (element_effect visible.sight line x v (Int z))
+  write_step line x (Word n) z rest d returns = element_written line x (Word n) z n rest d returns refl refl (nat_lt n d.size) refl
+  write_step line x (Int (pos n)) z rest d returns = element_written line x (Int (pos n)) z n rest d returns refl refl (nat_lt n d.size) refl
+  write_step line x (Int (negsuc n)) z rest d returns =
+      let shown = shows.each x (record { sort = Array d.type d.size; index = d.start }) d.array in
+      record {
+        here = instr.StoreElement (record { start = d.start; len = d.size }) (element_of d.type) line;
+        trap = trap.OutOfRange;
+        is = refl;
+        at = d.at.0;
+        plain = rw (d.operands, negative_past n d.size d.index.2.0 shown.few) refl;
+      }
+  write_step line x (Flag b) z rest d returns = absurd (subst IsIndexSort d.index.2 d.index.1)
+  write_step line x (Truth b) z rest d returns = absurd (subst IsIndexSort d.index.2 d.index.1)
+
+  element_step : (line : ℕ) (x : Identifier) (i e : Term) (rest : List Task) → StandsFor code known place stack (SetElement line x i e ∷ rest) → DoesEffect code known place stack slots visible rest (effect_of visible.sight (SetElement line x i e))
+  element_step line x (Done v) (Done (Int z)) rest h = write_step line x v z rest h.stand h.returns
+  element_step line x (Done v) (Done (Word n)) rest h = absurd (let c : Jint ≡ sort.Word = h.stand.value.1 in cc)
+  element_step line x (Done v) (Done (Flag b)) rest h = absurd (let c : Jint ≡ sort.Flag = h.stand.value in cc)
+  element_step line x (Done v) (Done (Truth b)) rest h = absurd (let c : Jint ≡ sort.Truth = h.stand.value in cc)
+  element_step line x (Done v) e rest h =
+      let d = h.stand in
+      step_inside code known place stack slots visible shows line e Jint (word_of v ∷ []) (instr.StoreElement (record { start = d.start; len = d.size }) (element_of d.type) line ∷ []) (SetElement line x (Done v)) rest tt d.value d.begun d.operands d.at (λ u. h.returns)
+      (λ p u sorted begun at size.
+      let end : place + (0 + length (term_code known line e)) + 1 ≡ p + (0 + length (term_code known line u)) + 1 = omega (arith, size) in
+      record {
+        type = d.type;
+        size = d.size;
+        start = d.start;
+        array = d.array;
+        own = d.own;
+        index = d.index;
+        value = sorted;
+        begun = begun;
+        operands = refl;
+        at = at;
+        further = subst (λ n. TasksStand code known n [] rest) end d.further;
+      })
+  element_step line x i e rest h =
+      let d = h.stand in
+      let parts = left_first BitOr i e tt d.begun in
+      step_inside code known place stack slots visible shows line i d.index.0 [] (term_code known line e ++ instr.StoreElement (record { start = d.start; len = d.size }) (element_of d.type) line ∷ []) (λ u. SetElement line x u e) rest tt d.index.2 parts.0
+      (d.operands ∙ ap (λ q. q ++ held i) (untouched_held e parts.1) ∙ sym (append-nil (held i))) d.at (λ u. h.returns)
+      (λ p u sorted begun at size.
+      let end : place + (length (term_code known line i) + length (term_code known line e)) + 1 ≡ p + (length (term_code known line u) + length (term_code known line e)) + 1 = omega (arith, size) in
+      record {
+        type = d.type;
+        size = d.size;
+        start = d.start;
+        array = d.array;
+        own = d.own;
+        index = (d.index.0, d.index.1, sorted);
+        value = d.value;
+        begun = begun_left BitOr u e begun parts.1;
+        operands = append-nil (held u) ∙ sym (ap (λ q. q ++ held u) (untouched_held e parts.1));
+        at = at;
+        further = subst (λ n. TasksStand code known n [] rest) end d.further;
+      })
+
+  -- ---- all tasks
+
+  -- each instruction is one step of the source
+  pub steps : (task : Task) (rest : List Task) → StandsFor code known place stack (task ∷ rest) → DoesEffect code known place stack slots visible rest (effect_of visible.sight task)
+  steps (SetScalar line x t) rest h = set_step code known place stack slots visible shows line x t rest h
+  steps (SetElement line x i e) rest h = element_step line x i e rest h
+  steps (SetNull target) rest h = null_step code known place stack slots visible shows target rest h
+  steps (MakeArray t x size) rest h = made_step code known place stack slots visible shows t x size rest h
+  steps (Invoke line target f operands) rest h = call_step code known place stack slots visible shows line target f operands rest h.stand h.returns h.stand.call.function refl h.stand.function
+  steps (Print line t) rest h = put_step code known place stack slots visible shows line t rest h
+  steps (Branch line t then' else') rest h = branch_step line t then' else' rest h
+  steps EndIf rest h = end_step rest h
+  steps (Loop line test t body) rest h = loop_step line test t body rest h
+  steps (EndTurn line test body) rest h = turn_step line test body rest h
+  steps Return rest h = record { here = instr.Return; at = h.stand.1; returns = tt }
+  steps (ReturnValue line t) rest h = returned_step line t rest h.stand h.returns
+  steps Impossible rest h = absurd h.stand

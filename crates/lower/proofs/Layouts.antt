@@ -1,0 +1,215 @@
+-- Slots that are taken stay taken, and each known name has its own.
+use Rattle.std.proofs.Common.{◌≡◌, ◌≢◌, ℕ, ◌+◌, ◌<◌, ◌≤◌, true, false, List, [], ◌∷◌, Option, Some, None, refl, sym, ap, ◌∙◌, subst, arith}
+use Rattle.base.specs.Bytes.{Identifier, lookup}
+use Rattle.base.specs.Element.{JChar}
+use Rattle.syntax.specs.Tree as tree
+use Rattle.syntax.specs.Tree.{Stmt, Block, End, Next}
+use Rattle.types.specs.Sorts.{Sort, Word, Jint, Flag, Truth, Ref, Global, FieldId, Buffer, Array}
+use Rattle.types.specs.SortRules.{variable_sort}
+use Rattle.code.specs.declared.slots.SlotCounts.{SlotCounts}
+use Rattle.code.specs.Depth.{Listing}
+use Rattle.lower.specs.Layout.{Slot, Known, Layout, width, next_index, slots_behind, new_slot, with_name, closed, layout_behind, block_layout}
+use Rattle.lower.specs.Fits.{IndexWithin, IsPlaceOf, AreApart, IsOwn, IsLaidOut, HasRoomFor, StmtFits, BlockFits}
+use Rattle.lower.specs.Stands.{AreAmong, IsSlotOf}
+use Rattle.lower.proofs.SlotLaws.{first_or_behind, new_among, all_among}
+
+-- ---- slots grow
+
+-- as many of each kind at least
+pub record AtLeast (less more : SlotCounts) : Type 0 where
+  pub numbers : less.numbers ≤ more.numbers
+  pub references : less.references ≤ more.references
+  pub statics : less.statics ≤ more.statics
+  pub field_ids : less.field_ids ≤ more.field_ids
+  pub buffers : less.buffers ≤ more.buffers
+
+pub same_slots : (c : SlotCounts) → AtLeast c c
+same_slots c = record { numbers = omega arith; references = omega arith; statics = omega arith; field_ids = omega arith; buffers = omega arith }
+
+pub more_slots : (a b c : SlotCounts) → AtLeast a b → AtLeast b c → AtLeast a c
+more_slots a b c h k = record {
+  numbers = omega (arith, h.numbers, k.numbers);
+  references = omega (arith, h.references, k.references);
+  statics = omega (arith, h.statics, k.statics);
+  field_ids = omega (arith, h.field_ids, k.field_ids);
+  buffers = omega (arith, h.buffers, k.buffers);
+}
+
+pub slots_grow : (s : Sort) (c : SlotCounts) → AtLeast c (slots_behind s c)
+slots_grow Word c = record { numbers = omega arith; references = omega arith; statics = omega arith; field_ids = omega arith; buffers = omega arith }
+slots_grow Jint c = record { numbers = omega arith; references = omega arith; statics = omega arith; field_ids = omega arith; buffers = omega arith }
+slots_grow Flag c = record { numbers = omega arith; references = omega arith; statics = omega arith; field_ids = omega arith; buffers = omega arith }
+slots_grow Truth c = record { numbers = omega arith; references = omega arith; statics = omega arith; field_ids = omega arith; buffers = omega arith }
+slots_grow Ref c = record { numbers = omega arith; references = omega arith; statics = omega arith; field_ids = omega arith; buffers = omega arith }
+slots_grow Global c = record { numbers = omega arith; references = omega arith; statics = omega arith; field_ids = omega arith; buffers = omega arith }
+slots_grow FieldId c = record { numbers = omega arith; references = omega arith; statics = omega arith; field_ids = omega arith; buffers = omega arith }
+slots_grow (Buffer t w) c = record { numbers = omega arith; references = omega arith; statics = omega arith; field_ids = omega arith; buffers = omega arith }
+slots_grow (Array t n) c = record { numbers = omega arith; references = omega arith; statics = omega arith; field_ids = omega arith; buffers = omega arith }
+
+mutual
+  pub stmt_grows : (s : Stmt) (l : Layout) → AtLeast l.slots (layout_behind l s).slots
+  stmt_grows (tree.Declare line t x r) l = slots_grow (variable_sort t) l.slots
+  stmt_grows (tree.DeclareBuffer line t x r) l = slots_grow (Buffer t true) l.slots
+  stmt_grows (tree.DeclareChars line x r) l = slots_grow (Buffer JChar false) l.slots
+  stmt_grows (tree.DeclareArray line t x size) l = slots_grow (Array t size) l.slots
+  stmt_grows (tree.Assign line x r) l = same_slots l.slots
+  stmt_grows (tree.AssignElement line x i e) l = same_slots l.slots
+  stmt_grows (tree.Perform line c) l = same_slots l.slots
+  stmt_grows (tree.PutJint line e) l = same_slots l.slots
+  stmt_grows (tree.If line test then') l = block_grows then' l
+  stmt_grows (tree.IfElse line test then' else') l =
+      more_slots l.slots (block_layout l then').slots (block_layout (closed l (block_layout l then')) else').slots (block_grows then' l) (block_grows else' (closed l (block_layout l then')))
+  stmt_grows (tree.While line test body) l = block_grows body l
+  stmt_grows (tree.Return line) l = same_slots l.slots
+  stmt_grows (tree.ReturnValue line e) l = same_slots l.slots
+
+  pub block_grows : (b : Block) (l : Layout) → AtLeast l.slots (block_layout l b).slots
+  block_grows (End line) l = same_slots l.slots
+  block_grows (Next s rest) l = more_slots l.slots (layout_behind l s).slots (block_layout (layout_behind l s) rest).slots (stmt_grows s l) (block_grows rest (layout_behind l s))
+
+pub room_before : (slots a b : SlotCounts) → AtLeast a b → HasRoomFor slots b → HasRoomFor slots a
+room_before slots a b h k = record {
+  numbers = omega (arith, h.numbers, k.numbers);
+  references = omega (arith, h.references, k.references);
+  statics = omega (arith, h.statics, k.statics);
+  field_ids = omega (arith, h.field_ids, k.field_ids);
+  buffers = omega (arith, h.buffers, k.buffers);
+}
+
+pub room_at_least : (slots taken : SlotCounts) → HasRoomFor slots taken → AtLeast taken slots
+room_at_least slots taken h = record { numbers = omega (arith, h.numbers); references = h.references; statics = h.statics; field_ids = h.field_ids; buffers = h.buffers }
+
+-- ---- slots stay where they are
+
+pub index_more : (a b : SlotCounts) (s : Sort) (i : ℕ) → AtLeast a b → IndexWithin a s i → IndexWithin b s i
+index_more a b Word i h k = omega (arith, h.numbers, k)
+index_more a b Jint i h k = omega (arith, h.numbers, k)
+index_more a b Flag i h k = omega (arith, h.numbers, k)
+index_more a b Truth i h k = absurd k
+index_more a b Ref i h k = omega (arith, h.references, k)
+index_more a b Global i h k = omega (arith, h.statics, k)
+index_more a b FieldId i h k = omega (arith, h.field_ids, k)
+index_more a b (Buffer t w) i h k = omega (arith, h.buffers, k)
+index_more a b (Array t n) i h k = (k.0, k.1, omega (arith, h.numbers, k.2))
+
+pub laid_more : (known : Known) (a b : SlotCounts) → AtLeast a b → IsLaidOut known a → IsLaidOut known b
+laid_more known a b h laid = record { within = λ x s at. index_more a b s.sort s.index h (laid.within x s at); own = laid.own }
+
+-- ---- one name more
+
+-- an array has some elements, and not too many; no variable is a truth
+abbrev pub SizeFits : Sort → Type 0
+SizeFits (Array t n) = (0 < n) × (n ≤ 1024)
+SizeFits Truth = ⊥
+SizeFits s = Unit {0}
+
+new_within : (s : Sort) (c : SlotCounts) → SizeFits s → IndexWithin (slots_behind s c) s (next_index s c)
+new_within Word c h = omega arith
+new_within Jint c h = omega arith
+new_within Flag c h = omega arith
+new_within Truth c h = absurd h
+new_within Ref c h = omega arith
+new_within Global c h = omega arith
+new_within FieldId c h = omega arith
+new_within (Buffer t w) c h = omega arith
+new_within (Array t n) c h = (h.0, h.1, omega arith)
+
+new_above : (s : Sort) (c : SlotCounts) (k : ℕ) → IsPlaceOf (record { sort = s; index = next_index s c }) k → c.numbers ≤ k
+new_above Word c k h = h.0
+new_above Jint c k h = h.0
+new_above Flag c k h = h.0
+new_above Truth c k h = h.0
+new_above Ref c k h = absurd (omega (arith, h.0, h.1))
+new_above Global c k h = absurd (omega (arith, h.0, h.1))
+new_above FieldId c k h = absurd (omega (arith, h.0, h.1))
+new_above (Buffer t w) c k h = absurd (omega (arith, h.0, h.1))
+new_above (Array t n) c k h = h.0
+
+place_below : (s : Sort) (i : ℕ) (c : SlotCounts) (k : ℕ) → IndexWithin c s i → IsPlaceOf (record { sort = s; index = i }) k → k < c.numbers
+place_below Word i c k w h = omega (arith, w, h.0, h.1)
+place_below Jint i c k w h = omega (arith, w, h.0, h.1)
+place_below Flag i c k w h = omega (arith, w, h.0, h.1)
+place_below Truth i c k w h = absurd w
+place_below Ref i c k w h = absurd (omega (arith, h.0, h.1))
+place_below Global i c k w h = absurd (omega (arith, h.0, h.1))
+place_below FieldId i c k w h = absurd (omega (arith, h.0, h.1))
+place_below (Buffer t wr) i c k w h = absurd (omega (arith, h.0, h.1))
+place_below (Array t n) i c k w h = omega (arith, w.2, h.0, h.1)
+
+-- the slot behind those that are taken is no known name's
+pub free_slot : (known : Known) (slots : SlotCounts) → IsLaidOut known slots → (x : Identifier) (s : Slot) → lookup x known ≡ Some s → IsPlaceOf s slots.numbers → ⊥
+free_slot known slots laid x s at place = let below : slots.numbers < slots.numbers = place_below s.sort s.index slots slots.numbers (laid.within x s at) place in absurd (omega (arith, below))
+
+new_apart : (s : Sort) (l : Layout) (x : Identifier) (t : Slot) → IsLaidOut l.known l.slots → lookup x l.known ≡ Some t → AreApart t (new_slot s l)
+new_apart s l x t laid at = record {
+  numbers = λ k p q.
+      let below : k < l.slots.numbers = place_below t.sort t.index l.slots k (laid.within x t at) p in
+      let above : l.slots.numbers ≤ k = new_above s l.slots k q in
+      absurd (omega (arith, below, above));
+  references = λ e e' same.
+      let below : t.index < l.slots.references = subst (λ (r : Sort). IndexWithin l.slots r t.index) e (laid.within x t at) in
+      let next : next_index s l.slots ≡ l.slots.references = ap (λ (r : Sort). next_index r l.slots) e' in
+      absurd (omega (arith, below, next, same));
+}
+
+apart_back : (s t : Slot) → AreApart s t → AreApart t s
+apart_back s t h = record { numbers = λ k p q. h.numbers k q p; references = λ e e' same. h.references e' e (sym same) }
+
+pub new_own : (s : Sort) (l : Layout) (x : Identifier) → IsLaidOut l.known l.slots → IsOwn l.known x (new_slot s l)
+new_own s l x laid y t at other = new_apart s l y t laid at
+
+pub declared_slot : (code : Listing) (s : Sort) (l : Layout) (x : Identifier) → SizeFits s → IsLaidOut l.known l.slots → HasRoomFor code.slots (slots_behind s l.slots) → IsSlotOf code l.known x (new_slot s l)
+declared_slot code s l x size laid room = record {
+  within = index_more (slots_behind s l.slots) code.slots s (next_index s l.slots) (room_at_least code.slots (slots_behind s l.slots) room) (new_within s l.slots size);
+  own = new_own s l x laid;
+}
+
+pub laid_declared : (s : Sort) (l : Layout) (x : Identifier) → SizeFits s → IsLaidOut l.known l.slots → IsLaidOut (with_name x s l).known (with_name x s l).slots
+laid_declared s l x size laid = record {
+  within = λ y t at.
+      first_or_behind x y (new_slot s l) t l.known (IndexWithin (slots_behind s l.slots) t.sort t.index)
+      (λ same is. subst (λ (r : Slot). IndexWithin (slots_behind s l.slots) r.sort r.index) is (new_within s l.slots size))
+      (λ other h. index_more l.slots (slots_behind s l.slots) t.sort t.index (slots_grow s l.slots) (laid.within y t h)) at;
+  own = λ y t at z u at' other.
+      first_or_behind x y (new_slot s l) t l.known (AreApart u t)
+      (λ same is.
+      first_or_behind x z (new_slot s l) u l.known (AreApart u t)
+      (λ same' is'. absurd (other (same' ∙ sym same)))
+      (λ other' h'. subst (AreApart u) is (new_apart s l z u laid h')) at')
+      (λ other' h.
+      first_or_behind x z (new_slot s l) u l.known (AreApart u t)
+      (λ same' is'. subst (λ (r : Slot). AreApart r t) is' (apart_back t (new_slot s l) (new_apart s l y t laid h)))
+      (λ other'' h'. laid.own y t h z u h' other) at')
+      at;
+}
+
+-- ---- behind a statement
+
+scalar_size : (t : tree.VariableType) → SizeFits (variable_sort t)
+scalar_size tree.UInt32 = tt
+scalar_size tree.JIntVariable = tt
+scalar_size tree.JSize = tt
+scalar_size tree.JBoolean = tt
+scalar_size tree.JFieldId = tt
+scalar_size (tree.ReferenceVariable r) = tt
+
+pub variable_size : (t : tree.VariableType) → SizeFits (variable_sort t)
+variable_size t = scalar_size t
+
+pub laid_behind : (s : Stmt) (l : Layout) → StmtFits l s → IsLaidOut l.known l.slots → IsLaidOut (layout_behind l s).known (layout_behind l s).slots
+laid_behind (tree.Declare line t x r) l fits laid = laid_declared (variable_sort t) l x (variable_size t) laid
+laid_behind (tree.DeclareBuffer line t x r) l fits laid = laid_declared (Buffer t true) l x tt laid
+laid_behind (tree.DeclareChars line x r) l fits laid = laid_declared (Buffer JChar false) l x tt laid
+laid_behind (tree.DeclareArray line t x size) l fits laid = laid_declared (Array t size) l x (fits.1, fits.2) laid
+laid_behind (tree.If line test then') l fits laid = laid_more l.known l.slots (block_layout l then').slots (block_grows then' l) laid
+laid_behind (tree.IfElse line test then' else') l fits laid = laid_more l.known l.slots (layout_behind l (tree.IfElse line test then' else')).slots (stmt_grows (tree.IfElse line test then' else') l) laid
+laid_behind (tree.While line test body) l fits laid = laid_more l.known l.slots (block_layout l body).slots (block_grows body l) laid
+laid_behind s l fits laid = laid
+
+-- what was known before a statement is known behind it
+pub known_behind_stmt : (s : Stmt) (l : Layout) → StmtFits l s → AreAmong l.known (layout_behind l s).known
+known_behind_stmt (tree.Declare line t x r) l fits = new_among x (new_slot (variable_sort t) l) l.known fits.0
+known_behind_stmt (tree.DeclareBuffer line t x r) l fits = new_among x (new_slot (Buffer t true) l) l.known fits.0
+known_behind_stmt (tree.DeclareChars line x r) l fits = new_among x (new_slot (Buffer JChar false) l) l.known fits.0
+known_behind_stmt (tree.DeclareArray line t x size) l fits = new_among x (new_slot (Array t size) l) l.known fits.0
+known_behind_stmt s l fits = all_among l.known

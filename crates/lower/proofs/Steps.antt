@@ -1,0 +1,230 @@
+-- The instruction at a place does what the first task there does.
+use Rattle.std.proofs.Common.{◌≡◌, ℕ, ℤ, pos, negsuc, ◌+◌, ◌-◌, ◌<◌, ◌≤◌, ◌⊎◌, inl, inr, Bool, true, false, ◌&&◌, ◌||◌, List, [], ◌∷◌, ◌++◌, length, Option, Some, None, refl, sym, ap, ◌∙◌, subst, arith, append_assoc, length-append}
+use Rattle.std.specs.Prelude.{slice_get, slice_set, nat_lt, IsTrue, FitsSigned}
+use Rattle.std.specs.List.{list_any}
+use Rattle.std.specs.Int.{w32, cast_unsigned}
+use Rattle.std.proofs.Math.Facts.{to_z-of_z}
+use Rattle.std.proofs.lemmas.List.{append-nil}
+use Rattle.std.proofs.lemmas.Bool.{lt-ltb, le-leb}
+use Rattle.base.specs.Bytes.{Identifier, lookup}
+use Rattle.syntax.specs.Tree as tree
+use Rattle.syntax.specs.Tree.{Expr, Block, BitOr}
+use Rattle.types.specs.JniFunction.{JniFunction}
+use Rattle.types.specs.Sorts.{Sort, Jint, Ref, Global, Array}
+use Rattle.types.specs.Sorts as sort
+use Rattle.code.specs.declared.instr.Callee.{Callee}
+use Rattle.code.specs.declared.instr.Callee.TheVariants as callee
+use Rattle.code.specs.declared.instr.ReferenceOperand.{ReferenceOperand}
+use Rattle.code.specs.declared.instr.ReferenceOperand.TheVariants.{Null, Local}
+use Rattle.code.specs.declared.instr.Target.{Target as Destination}
+use Rattle.code.specs.declared.instr.Target.TheVariants as destination
+use Rattle.code.specs.declared.instr.Instr.{Instr}
+use Rattle.code.specs.declared.instr.Instr.TheVariants as instr
+use Rattle.code.specs.declared.instr.Plain.{Plain}
+use Rattle.code.specs.declared.instr.Plain.TheVariants as plain
+use Rattle.code.specs.declared.instr.PlainTrap.TheVariants as trap
+use Rattle.code.specs.Depth.{Listing}
+use Rattle.code.specs.Effect.{plain_of, cleared, element_word}
+use Rattle.code.proofs.Effects.{KeepsSlots, plain_keeps}
+use Rattle.regions.specs.Effect.{Effect, Returns, goes_on, with_value, return_effect, call_effect_of, effect_of}
+use Rattle.regions.specs.Arguments.{ReferenceActual}
+use Rattle.regions.specs.Sight.{Sight}
+use Rattle.regions.specs.Task.{Task, SetScalar, SetElement, SetNull, MakeArray, Invoke, Print, Branch, EndIf, Loop, EndTurn, Return, ReturnValue, Impossible, Target, Declared, Assigned, Dropped, ScalarKind, Operand}
+use Rattle.regions.specs.Term as term
+use Rattle.regions.specs.Term.{Term, Done, Read, reduce}
+use Rattle.regions.specs.Value.{Value, Word, Int, Flag, Truth}
+use Rattle.lower.specs.Layout.{Slot, Known}
+use Rattle.lower.specs.Coding.{term_code}
+use Rattle.lower.specs.Slots.{word_of, IsNumberSort, Visible, Slots, Shows}
+use Rattle.lower.specs.Fits.{TermHasSort}
+use Rattle.lower.specs.Stands.{held, IsBegun, HasAt, AreAmong, IsUnderWay, NumberStands, CalleeStands, TargetStands, InvokeStands, TasksStand, StandsFor, task_returns}
+use Rattle.lower.specs.Does.{AtEnd, Works, TakesResult, DoesEffect}
+use Rattle.lower.proofs.SlotLaws.{fewer_shown, number_below, shows_set, shows_nulled, shows_made, shows_dropped}
+use Rattle.lower.proofs.CodePlaces.{has_back}
+use Rattle.lower.proofs.TermSteps.{IsOpen, LeadsOver, TermGoes, TermTraps, StepsTerm, steps_term, shows_number}
+
+-- a term without a value takes its step inside its task
+pub into_task : (sight : Sight) (line : ℕ) (f : Value → Effect) (task : Term → Task) (t : Term) → IsOpen t → with_value sight line f task t ≡ goes_on line task (reduce sight t)
+into_task sight line f task (Done v) o = absurd o
+into_task sight line f task t o = refl
+
+-- where a way over these instructions leads
+pub at_way : (P : ℕ → Type 0) (place : ℕ) (way : Plain) (skipped : List Instr) → LeadsOver way skipped → P (place + 1 + length skipped) → AtEnd P place way
+at_way P place plain.Next skipped h k = let e : place + 1 + length skipped ≡ place + 1 = omega (arith, ap length h) in subst P e k
+at_way P place (plain.Skip n) skipped h k = subst (λ m. P (place + 1 + m)) (sym h) k
+at_way P place (plain.Back n) skipped h k = absurd h
+at_way P place (plain.Trap t line) skipped h k = absurd h
+
+-- The place, with these names known, these operands and these slots, which show what can be seen.
+module _ (code : Listing) (known : Known) (place : ℕ) (stack : List ℕ) (slots : Slots) (visible : Visible) (shows : Shows code known visible slots) where
+  -- ---- a step inside an expression
+
+  -- The expression is on the stack in front of `base`, and its instructions stand in front of `behind`.
+  module _ (line : ℕ) (t : Term) (s : Sort) (base : List ℕ) (behind : List Instr) (task : Term → Task) (rest : List Task) where
+    -- what stands at the place that a step leads to
+    abbrev Further : Type 0
+    Further =
+        (p : ℕ) (u : Term) → TermHasSort known u s → IsBegun u → HasAt code.instrs p (term_code known line u ++ behind) → p + length (term_code known line u) ≡ place + length (term_code known line t)
+        → TasksStand code known p (held u ++ base) (task u ∷ rest)
+
+    outcome_does : (here : Instr) (more : List Instr) → term_code known line t ≡ here ∷ more → stack ≡ held t ++ base → HasAt code.instrs place (term_code known line t ++ behind) → ((u : Term) → IsTrue (list_any task_returns (task u ∷ rest))) → Further
+        → TermGoes known line slots visible t s here more ⊎ TermTraps known line slots visible t here → DoesEffect code known place stack slots visible rest (goes_on line task (reduce visible.sight t))
+    outcome_does here more is operands at returns further (inl g) =
+        let whole : HasAt code.instrs place ((here ∷ more) ++ behind) = subst (λ c. HasAt code.instrs place (c ++ behind)) is at in
+        let cut : HasAt code.instrs (place + 1) ((g.skipped ++ term_code known line g.next) ++ behind) = subst (λ c. HasAt code.instrs (place + 1) (c ++ behind)) g.code whole.1 in
+        let moved : HasAt code.instrs (place + 1) (g.skipped ++ (term_code known line g.next ++ behind)) = subst (HasAt code.instrs (place + 1)) (append_assoc g.skipped (term_code known line g.next) behind) cut in
+        let there = has_back code.instrs (place + 1) g.skipped (term_code known line g.next ++ behind) moved in
+        let size : place + 1 + length g.skipped + length (term_code known line g.next) ≡ place + length (term_code known line t) = omega (arith, ap length is, ap length g.code, length-append g.skipped (term_code known line g.next)) in
+        subst (λ r. DoesEffect code known place stack slots visible rest (goes_on line task r)) (sym g.is) (record {
+          here = here;
+          way = g.way;
+          after = held g.next ++ base;
+          at = whole.0;
+          works = subst (λ a. Works slots here a g.way (held g.next ++ base)) (sym operands) (g.works base);
+          names = known;
+          shows = shows;
+          stands = at_way (λ p. StandsFor code known p (held g.next ++ base) (task g.next ∷ rest)) place g.way g.skipped g.leads (record { stand = further (place + 1 + length g.skipped) g.next g.sort g.begun there size; returns = returns g.next });
+        })
+    outcome_does here more is operands at returns further (inr g) =
+        let whole : HasAt code.instrs place ((here ∷ more) ++ behind) = subst (λ c. HasAt code.instrs place (c ++ behind)) is at in
+        subst (λ r. DoesEffect code known place stack slots visible rest (goes_on line task r)) (sym g.is) (record {
+          here = here;
+          trap = g.trap;
+          is = refl;
+          at = whole.0;
+          plain = subst (λ a. plain_of here a slots.numbers ≡ Some (plain.Trap g.trap line, a, slots.numbers)) (sym operands) (g.plain base);
+        })
+
+    pub step_inside : IsOpen t → TermHasSort known t s → IsBegun t → stack ≡ held t ++ base → HasAt code.instrs place (term_code known line t ++ behind) → ((u : Term) → IsTrue (list_any task_returns (task u ∷ rest))) → Further
+        → DoesEffect code known place stack slots visible rest (goes_on line task (reduce visible.sight t))
+    step_inside o sorted begun operands at returns further =
+        let st = steps_term known line slots visible shows.each t s o sorted begun in
+        outcome_does st.here st.more st.code operands at returns further st.outcome
+
+  -- the same where the expression is alone on the stack
+  alone : (t : Term) → stack ≡ held t → stack ≡ held t ++ []
+  alone t h = h ∙ sym (append-nil (held t))
+
+  under_way : (t : Term) (s : Sort) → TermHasSort known t s → IsBegun t → IsUnderWay known s t (held t ++ [])
+  under_way t s sorted begun = record { sort = sorted; begun = begun; operands = append-nil (held t) }
+
+  none_left : place + 0 + 1 ≡ place + 1
+  none_left = omega arith
+
+  -- ---- numbers that are printed
+
+  pub put_step : (line : ℕ) (t : Term) (rest : List Task) → StandsFor code known place stack (Print line t ∷ rest) → DoesEffect code known place stack slots visible rest (effect_of visible.sight (Print line t))
+  put_step line (Done (Int z)) rest h = record {
+    at = h.stand.0.1.0;
+    word = cast_unsigned w32 z;
+    top = h.stand.0.0.operands;
+    is = to_z-of_z h.stand.0.0.sort.0;
+    stands = record { stand = subst (λ n. TasksStand code known n [] rest) none_left h.stand.1; returns = h.returns };
+  }
+  put_step line (Done (Word n)) rest h = absurd (let e : Jint ≡ sort.Word = h.stand.0.0.sort.1 in cc)
+  put_step line (Done (Flag b)) rest h = absurd (let e : Jint ≡ sort.Flag = h.stand.0.0.sort in cc)
+  put_step line (Done (Truth b)) rest h = absurd (let e : Jint ≡ sort.Truth = h.stand.0.0.sort in cc)
+  put_step line t rest h =
+      step_inside line t Jint [] (instr.PutJint ∷ []) (Print line) rest tt h.stand.0.0.sort h.stand.0.0.begun (alone t h.stand.0.0.operands) h.stand.0.1 (λ u. h.returns)
+      (λ p u sorted begun at size.
+      let e : place + length (term_code known line t) + 1 ≡ p + length (term_code known line u) + 1 = omega (arith, size) in
+      ((under_way u Jint sorted begun, at), subst (λ n. TasksStand code known n [] rest) e h.stand.1))
+
+  -- ---- variables that are set
+
+  set_value : (line : ℕ) (x : Identifier) (v : Value) (rest : List Task) → StandsFor code known place stack (SetScalar line x (Done v) ∷ rest) → DoesEffect code known place stack slots visible rest (effect_of visible.sight (SetScalar line x (Done v)))
+  set_value line x v rest h =
+      let d = h.stand in
+      let below : d.slot.index < length slots.numbers = omega (arith, number_below code known x d.slot d.number d.own, shows.numbers) in
+      record {
+        here = instr.Store d.slot.index;
+        numbers = slice_set slots.numbers d.slot.index (word_of v);
+        at = d.value.1.0;
+        plain = rw (d.value.0.operands, lt-ltb d.slot.index (length slots.numbers) below) refl;
+        names = d.further.0;
+        shows = λ new set. fewer_shown code d.further.0 ((x, d.slot) ∷ known) new (record slots { numbers = slice_set slots.numbers d.slot.index (word_of v) }) d.further.1 (shows_set code known visible new slots x d.slot v shows d.own d.number d.value.0.sort set);
+        stands = record { stand = subst (λ n. TasksStand code d.further.0 n [] rest) none_left d.further.2; returns = h.returns };
+      }
+
+  pub set_step : (line : ℕ) (x : Identifier) (t : Term) (rest : List Task) → StandsFor code known place stack (SetScalar line x t ∷ rest) → DoesEffect code known place stack slots visible rest (effect_of visible.sight (SetScalar line x t))
+  set_step line x (Done v) rest h = set_value line x v rest h
+  set_step line x t rest h =
+      let d = h.stand in
+      step_inside line t d.slot.sort [] (instr.Store d.slot.index ∷ []) (SetScalar line x) rest tt d.value.0.sort d.value.0.begun (alone t d.value.0.operands) d.value.1 (λ u. h.returns)
+      (λ p u sorted begun at size.
+      let e : place + length (term_code known line t) + 1 ≡ p + length (term_code known line u) + 1 = omega (arith, size) in
+      record {
+        slot = d.slot;
+        number = d.number;
+        value = (under_way u d.slot.sort sorted begun, at);
+        own = d.own;
+        further = (d.further.0, d.further.1, subst (λ n. TasksStand code d.further.0 n [] rest) e d.further.2);
+      })
+
+  pub null_step : (target : Target) (rest : List Task) → StandsFor code known place stack (SetNull target ∷ rest) → DoesEffect code known place stack slots visible rest (effect_of visible.sight (SetNull target))
+  null_step target rest h =
+      let d = h.stand in
+      record {
+        empty = d.empty;
+        name = d.name;
+        is = d.is;
+        variable = d.variable;
+        at = d.at;
+        names = d.further.0;
+        shows = λ new set. fewer_shown code d.further.0 ((d.name, d.slot) ∷ known) new _ d.further.1 (shows_nulled code known visible new slots d.name d.slot.sort d.slot.index d.variable shows d.own d.nullable set);
+        stands = record { stand = d.further.2; returns = h.returns };
+      }
+
+  pub made_step : (t : _) (x : Identifier) (size : ℕ) (rest : List Task) → StandsFor code known place stack (MakeArray t x size ∷ rest) → DoesEffect code known place stack slots visible rest (effect_of visible.sight (MakeArray t x size))
+  made_step t x size rest h =
+      let d = h.stand in
+      let inside : d.start + size ≤ length slots.numbers = omega (arith, d.own.within.2, shows.numbers) in
+      let clears : plain_of (instr.ClearArray (record { start = d.start; len = size })) stack slots.numbers ≡ Some (plain.Next, [], cleared (record { start = d.start; len = size }) slots.numbers) =
+      rw (d.empty, le-leb (d.start + size) (length slots.numbers) inside) refl in
+      record {
+        here = instr.ClearArray (record { start = d.start; len = size });
+        numbers = cleared (record { start = d.start; len = size }) slots.numbers;
+        at = d.at;
+        plain = clears;
+        names = d.further.0;
+        shows = λ new made. fewer_shown code d.further.0 ((x, record { sort = Array t size; index = d.start }) ∷ known) new _ d.further.1
+            (shows_made code known visible new slots t x size d.start shows d.own (subst (KeepsSlots slots.numbers) clears (plain_keeps (instr.ClearArray (record { start = d.start; len = size })) stack slots.numbers)) made);
+        stands = record { stand = d.further.2; returns = h.returns };
+      }
+
+  -- ---- calls
+
+  takes_result : (line : ℕ) (f : JniFunction) (operands : List Operand) (goes : Destination) (target : Target) (rest : List Task) → TargetStands code known (λ p names. TasksStand code names p [] rest) (place + 1) goes target
+      → IsTrue (list_any task_returns (Invoke line target f operands ∷ rest)) → TakesResult code known place stack slots visible goes target rest
+  takes_result line f operands (destination.Number i) (Declared ScalarKind x) rest h returns = record {
+    within = omega (arith, h.own.within, shows.numbers);
+    names = h.further.0;
+    shows = λ z new fits set. fewer_shown code h.further.0 ((x, record { sort = Jint; index = i }) ∷ known) new (record slots { numbers = slice_set slots.numbers i (word_of (Int z)) }) h.further.1 (shows_set code known visible new slots x (record { sort = Jint; index = i }) (Int z) shows h.own tt (fits, refl) set);
+    stands = record { stand = h.further.2; returns = returns };
+  }
+  takes_result line f operands (destination.Number i) (Assigned x) rest h returns = record {
+    within = omega (arith, h.own.within, shows.numbers);
+    names = h.further.0;
+    shows = λ z new fits set. fewer_shown code h.further.0 ((x, record { sort = Jint; index = i }) ∷ known) new (record slots { numbers = slice_set slots.numbers i (word_of (Int z)) }) h.further.1 (shows_set code known visible new slots x (record { sort = Jint; index = i }) (Int z) shows h.own tt (fits, refl) set);
+    stands = record { stand = h.further.2; returns = returns };
+  }
+  takes_result line f operands (destination.Number i) Dropped rest h returns = record {
+    within = omega (arith, h.within, shows.numbers);
+    shows = λ word. shows_dropped code known visible slots i word shows h.free;
+    stands = record { stand = h.further; returns = returns };
+  }
+  takes_result line f operands goes target rest h returns = absurd h
+
+  -- a call whose reference is looked up in its own step
+  pub call_step : (line : ℕ) (target : Target) (f : JniFunction) (operands : List Operand) (rest : List Task) → (c : InvokeStands code known place stack (λ p names. TasksStand code names p [] rest) line target f operands) → IsTrue (list_any task_returns (Invoke line target f operands ∷ rest))
+      → (function : Callee) → c.call.function ≡ function → CalleeStands known stack function f operands → DoesEffect code known place stack slots visible rest (call_effect_of visible.sight line target f operands)
+  call_step line target f operands rest c returns (callee.GetArrayLength Null) is (empty, same, inl given) =
+      let goes = takes_result line f operands c.call.target target rest c.goes returns in
+      rw (same, given) (record { call = c.call; at = c.at; same_line = c.same_line; function = rw is (empty, refl, (_, refl, (_, refl))); goes = goes })
+  call_step line target f operands rest c returns (callee.GetArrayLength Null) is (empty, same, inr (x, i, given, found)) =
+      let goes = takes_result line f operands c.call.target target rest c.goes returns in
+      let shown = shows.each x (record { sort = Global; index = i }) found in
+      rw (same, given) (record { call = c.call; at = c.at; same_line = c.same_line; function = rw is (empty, refl, (_, refl, (x, ap (λ r. ReferenceActual x r) shown.reference))); goes = goes })
+  call_step line target f operands rest c returns (callee.GetArrayLength (Local i)) is h =
+      let goes = takes_result line f operands c.call.target target rest c.goes returns in
+      rw (h.1, h.2.1) (record { call = c.call; at = c.at; same_line = c.same_line; function = rw is (h.0, refl, (_, refl, (h.2.0, refl, h.2.2))); goes = goes })

@@ -1,0 +1,226 @@
+-- Each instruction of a body finds its slots.
+use Rattle.std.proofs.Common.{◌≡◌, ℕ, ◌+◌, ◌<◌, ◌≤◌, ◌⊎◌, inl, inr, Bool, true, false, List, [], ◌∷◌, ◌++◌, length, Option, Some, None, refl, sym, ap, ◌∙◌, subst, arith}
+use Rattle.std.specs.List.{list_all}
+use Rattle.std.proofs.lemmas.List.Folds.{list_all-append}
+use Rattle.std.proofs.lemmas.Bool.{lt-ltb, le-leb}
+use Rattle.base.specs.Bytes.{Identifier, lookup}
+use Rattle.syntax.specs.Tree as tree
+use Rattle.syntax.specs.Tree.{BinaryOp, LogicalOr, LogicalAnd, BitOr, BitXor, BitAnd, Equal, NotEqual, Less, LessEqual, Greater, GreaterEqual, ShiftLeft, ShiftRight, Add, Subtract, Multiply, Divide, Remainder, PrefixOp, LogicalNot, Complement, ToWord, ToInt, Expr, Argument, RightSide, FromExpr, FromCall, Test, TestExpr, TestCall, Stmt, Block, End, Next}
+use Rattle.types.specs.Sorts.{Sort, Jint, Ref, Global, FieldId, Buffer, Array}
+use Rattle.types.specs.Sorts as sort
+use Rattle.types.specs.SortRules.{variable_sort}
+use Rattle.base.specs.Element.{JChar}
+use Rattle.code.specs.declared.instr.ReferenceOperand.TheVariants.{Null, Local}
+use Rattle.code.specs.declared.instr.Instr.{Instr}
+use Rattle.code.specs.declared.instr.Instr.TheVariants as instr
+use Rattle.code.specs.declared.slots.SlotCounts.{SlotCounts}
+use Rattle.code.specs.Depth.{operand_within, within_slots}
+use Rattle.regions.specs.Term as term
+use Rattle.regions.specs.Term.{Term, Done, Read, IsNull, Prefix, And, Or, Binary, term_of}
+use Rattle.lower.specs.Layout.{Slot, Known, Layout, next_index, slots_behind, new_slot, with_name, closed, layout_behind, block_layout}
+use Rattle.lower.specs.Coding.{nullable_of, test_of, null_code, element_of, element_code, write_code, of_slot, load_code, prefix_code, operator_code, is_signed, skip_code, term_code, expr_code, operand_of, operand_code, call_code, value_code, right_code, assign_code, returned_code, return_code, test_code, ways_code, turn_code, if_code, stmt_code, block_code}
+use Rattle.lower.specs.Fits.{IsNullable, TermHasSort, NumberFits, IndexWithin, IsLaidOut, HasRoomFor, ReferenceFits, ArgumentsFit, ValueFits, RightFits, TestFits, ReturnFits, StmtFits, BlockFits}
+use Rattle.lower.specs.Slots.{IsNumberSort}
+use Rattle.lower.proofs.Bodies.{value_is}
+use Rattle.lower.proofs.Layouts.{SizeFits, index_more, room_before, room_at_least, declared_slot, laid_behind, laid_more, variable_size, block_grows, stmt_grows}
+
+-- ---- instructions in these slots
+
+module _ (slots : SlotCounts) where
+  abbrev pub AllWithin : List Instr → Type 0
+  AllWithin code = list_all (within_slots slots) code ≡ true
+
+  -- the slots of each known name are there
+  abbrev pub AllThere : Known → Type 0
+  AllThere known = (x : Identifier) (s : Slot) → lookup x known ≡ Some s → IndexWithin slots s.sort s.index
+
+  pub both_within : (a b : List Instr) → AllWithin a → AllWithin b → AllWithin (a ++ b)
+  both_within a b h k = list_all-append (within_slots slots) a b ∙ rw (h, k) refl
+
+  cons_within : (i : Instr) (b : List Instr) → within_slots slots i ≡ true → AllWithin b → AllWithin (i ∷ b)
+  cons_within i b h k = rw (h, k) refl
+
+  number_there : (s : Sort) (i : ℕ) → IsNumberSort s → IndexWithin slots s i → i < slots.numbers
+  number_there sort.Word i n h = h
+  number_there Jint i n h = h
+  number_there sort.Flag i n h = h
+  number_there s i n h = absurd n
+
+  load_within : (i : ℕ) → i < slots.numbers → AllWithin (instr.Load i ∷ [])
+  load_within i h = rw (lt-ltb i slots.numbers h) refl
+
+  null_within : (equal : Bool) (s : Sort) (i : ℕ) → IsNullable s → IndexWithin slots s i → AllWithin (test_of equal (nullable_of s i))
+  null_within equal Ref i n h = rw (lt-ltb i slots.references h) refl
+  null_within equal Global i n h = rw (lt-ltb i slots.statics h) refl
+  null_within equal FieldId i n h = rw (lt-ltb i slots.field_ids h) refl
+  null_within equal (Buffer t w) i n h = rw (lt-ltb i slots.buffers h) refl
+  null_within equal s i n h = absurd n
+
+  prefix_within : (op : PrefixOp) → AllWithin (prefix_code op ∷ [])
+  prefix_within LogicalNot = refl
+  prefix_within Complement = refl
+  prefix_within ToWord = refl
+  prefix_within ToInt = refl
+
+  operator_within : (line : ℕ) (signed : Bool) (op : BinaryOp) → AllWithin (operator_code line signed op ∷ [])
+  operator_within line signed LogicalOr = refl
+  operator_within line signed LogicalAnd = refl
+  operator_within line signed BitOr = refl
+  operator_within line signed BitXor = refl
+  operator_within line signed BitAnd = refl
+  operator_within line signed Equal = refl
+  operator_within line signed NotEqual = refl
+  operator_within line true Less = refl
+  operator_within line false Less = refl
+  operator_within line true LessEqual = refl
+  operator_within line false LessEqual = refl
+  operator_within line true Greater = refl
+  operator_within line false Greater = refl
+  operator_within line true GreaterEqual = refl
+  operator_within line false GreaterEqual = refl
+  operator_within line signed ShiftLeft = refl
+  operator_within line signed ShiftRight = refl
+  operator_within line signed Add = refl
+  operator_within line signed Subtract = refl
+  operator_within line signed Multiply = refl
+  operator_within line signed Divide = refl
+  operator_within line signed Remainder = refl
+
+  term_within : (known : Known) (line : ℕ) (t : Term) (s : Sort) → AllThere known → TermHasSort known t s → AllWithin (term_code known line t)
+  term_within known line (Done v) s all h = refl
+  term_within known line (term.Number n signed) s all h = refl
+  term_within known line (term.Named tree.True) s all h = refl
+  term_within known line (term.Named tree.False) s all h = refl
+  term_within known line (term.Named c) s all h = absurd h
+  term_within known line (Read x) s all h = subst AllWithin (sym (ap (of_slot load_code) h.1)) (load_within h.0 (number_there s h.0 h.2 (all x (record { sort = s; index = h.0 }) h.1)))
+  term_within known line (term.Element x t) s all h =
+      let array = h.3 in
+      let there = all x (record { sort = Array array.0 array.1; index = array.2 }) array.3 in
+      both_within (term_code known line t) (of_slot (element_code line) (lookup x known)) (term_within known line t h.0 all h.2)
+      (subst AllWithin (sym (ap (of_slot (element_code line)) array.3)) (rw (lt-ltb 0 array.1 there.0, le-leb array.1 1024 there.1, le-leb (array.2 + array.1) slots.numbers there.2) refl))
+  term_within known line (IsNull equal x) s all h = subst AllWithin (sym (ap (null_code equal) h.0.1)) (null_within equal h.0.0.sort h.0.0.index h.0.2 (all x h.0.0 h.0.1))
+  term_within known line (Prefix LogicalNot t) s all h = both_within (term_code known line t) (prefix_code LogicalNot ∷ []) (term_within known line t sort.Truth all h.0) refl
+  term_within known line (Prefix Complement t) s all h = both_within (term_code known line t) (prefix_code Complement ∷ []) (term_within known line t sort.Word all h.0) refl
+  term_within known line (Prefix ToWord t) s all h = both_within (term_code known line t) (prefix_code ToWord ∷ []) (term_within known line t h.0 all h.2) refl
+  term_within known line (Prefix ToInt t) s all h = both_within (term_code known line t) (prefix_code ToInt ∷ []) (term_within known line t h.0 all h.2) refl
+  term_within known line (And a b) s all h =
+      both_within (term_code known line a) (skip_code true (length (term_code known line b)) ∷ term_code known line b) (term_within known line a sort.Truth all h.0) (cons_within (skip_code true (length (term_code known line b))) (term_code known line b) refl (term_within known line b sort.Truth all h.1))
+  term_within known line (Or a b) s all h =
+      both_within (term_code known line a) (skip_code false (length (term_code known line b)) ∷ term_code known line b) (term_within known line a sort.Truth all h.0) (cons_within (skip_code false (length (term_code known line b))) (term_code known line b) refl (term_within known line b sort.Truth all h.1))
+  term_within known line (Binary op a b) s all h =
+      both_within (term_code known line a) (term_code known line b ++ operator_code line (is_signed known a) op ∷ []) (term_within known line a h.0 all h.2)
+      (both_within (term_code known line b) (operator_code line (is_signed known a) op ∷ []) (term_within known line b h.0 all h.3) (operator_within line (is_signed known a) op))
+
+  taken_within : (known : Known) (line : ℕ) (t : Term) (s : Sort) (last : Instr) → AllThere known → NumberFits known t s → within_slots slots last ≡ true → AllWithin (term_code known line t ++ last ∷ [])
+  taken_within known line t s last all h k = both_within (term_code known line t) (last ∷ []) (term_within known line t s all h.sort) (rw k refl)
+
+  -- ---- statements
+
+  local_within : (s : Sort) (i : ℕ) → IndexWithin slots s i → operand_within slots.references (operand_of (Some (record { sort = s; index = i }))) ≡ true
+  local_within sort.Word i h = refl
+  local_within Jint i h = refl
+  local_within sort.Flag i h = refl
+  local_within sort.Truth i h = refl
+  local_within Ref i h = lt-ltb i slots.references h
+  local_within Global i h = refl
+  local_within FieldId i h = refl
+  local_within (Buffer t w) i h = refl
+  local_within (Array t n) i h = refl
+
+  reference_within : (known : Known) (e : Expr) → AllThere known → ReferenceFits known e → operand_within slots.references (operand_code known e) ≡ true
+  reference_within known (tree.Named tree.Null) all h = refl
+  reference_within known (tree.Variable x) all h = ap (λ (o : Option Slot). operand_within slots.references (operand_of o)) h.1 ∙ local_within h.0.sort h.0.index (all x h.0 h.1)
+  reference_within known e all h = absurd h
+
+  call_within : (known : Known) (line i : ℕ) (arguments : List Argument) → i < slots.numbers → AllThere known → ArgumentsFit known arguments → AllWithin (call_code known line i arguments)
+  call_within known line i (tree.Value e ∷ []) below all h = rw (lt-ltb i slots.numbers below, reference_within known e all h) refl
+  call_within known line i arguments below all h = absurd h
+
+  value_within : (known : Known) (line : ℕ) (kind : Sort) (i : ℕ) (e : Expr) → AllThere known → IndexWithin slots kind i → ValueFits known kind e → AllWithin (value_code known line (record { sort = kind; index = i }) e)
+  value_within known line sort.Word i e all there fits = subst AllWithin (sym (value_is known line (record { sort = sort.Word; index = i }) e sort.Word fits)) (taken_within known line (term_of e) sort.Word (instr.Store i) all fits (lt-ltb i slots.numbers there))
+  value_within known line Jint i e all there fits = subst AllWithin (sym (value_is known line (record { sort = Jint; index = i }) e Jint fits)) (taken_within known line (term_of e) Jint (instr.Store i) all fits (lt-ltb i slots.numbers there))
+  value_within known line sort.Flag i e all there fits = subst AllWithin (sym (value_is known line (record { sort = sort.Flag; index = i }) e sort.Flag fits)) (taken_within known line (term_of e) sort.Flag (instr.Store i) all fits (lt-ltb i slots.numbers there))
+  value_within known line sort.Truth i e all there fits = absurd fits
+  value_within known line Ref i e all there fits = subst (λ (d : Expr). AllWithin (value_code known line (record { sort = Ref; index = i }) d)) (sym fits) (rw (lt-ltb i slots.references there) refl)
+  value_within known line Global i e all there fits = subst (λ (d : Expr). AllWithin (value_code known line (record { sort = Global; index = i }) d)) (sym fits) (rw (lt-ltb i slots.statics there) refl)
+  value_within known line FieldId i e all there fits = subst (λ (d : Expr). AllWithin (value_code known line (record { sort = FieldId; index = i }) d)) (sym fits) (rw (lt-ltb i slots.field_ids there) refl)
+  value_within known line (Buffer t w) i e all there fits = subst (λ (d : Expr). AllWithin (value_code known line (record { sort = Buffer t w; index = i }) d)) (sym fits) (rw (lt-ltb i slots.buffers there) refl)
+  value_within known line (Array t n) i e all there fits = absurd fits
+
+  right_within : (known : Known) (line : ℕ) (s : Slot) (r : RightSide) → AllThere known → IndexWithin slots s.sort s.index → RightFits known s.sort r → AllWithin (right_code known line s r)
+  right_within known line s (FromExpr e) all there fits = value_within known line s.sort s.index e all there fits
+  right_within known line s (FromCall c) all there fits = call_within known line s.index c.arguments (subst (λ (k : Sort). IndexWithin slots k s.index) fits.0 there) all fits.1.1
+
+  return_within : (known : Known) (line : ℕ) (t : Term) → AllThere known → ReturnFits known t → AllWithin (return_code known line t)
+  return_within known line (term.Named tree.Null) all fits = refl
+  return_within known line (Read x) all (s, found, inl e) =
+      let there : lookup x known ≡ Some (record { sort = Ref; index = s.index }) = found ∙ ap (λ (r : Sort). Some (record { sort = r; index = s.index })) e in
+      subst AllWithin (sym (ap (of_slot returned_code) there)) (rw (lt-ltb s.index slots.references (all x (record { sort = Ref; index = s.index }) there)) refl)
+  return_within known line (Read x) all (s, found, inr e) =
+      let there : lookup x known ≡ Some (record { sort = Jint; index = s.index }) = found ∙ ap (λ (r : Sort). Some (record { sort = r; index = s.index })) e in
+      subst AllWithin (sym (ap (of_slot returned_code) there)) (rw (lt-ltb s.index slots.numbers (all x (record { sort = Jint; index = s.index }) there)) refl)
+  return_within known line t all fits = taken_within known line t Jint instr.ReturnJint all fits refl
+
+  test_within : (known : Known) (line : ℕ) (test : Test) → AllThere known → TestFits known test → AllWithin (test_code known line test)
+  test_within known line (TestExpr e) all fits = term_within known line (term_of e) sort.Truth all fits.sort
+  test_within known line (TestCall c) all fits = absurd fits
+
+  if_within : (known : Known) (line : ℕ) (test : Test) (then' else' : List Instr) → AllThere known → TestFits known test → AllWithin then' → AllWithin else' → AllWithin (if_code known line test then' else')
+  if_within known line test then' else' all fits h k =
+      let second = both_within else' (instr.GoOn 0 ∷ []) k refl in
+      both_within (test_code known line test) (ways_code then' (else' ++ instr.GoOn 0 ∷ [])) (test_within known line test all fits)
+      (cons_within (instr.JumpUnless (length then' + 1)) (then' ++ instr.GoOn (length (else' ++ instr.GoOn 0 ∷ [])) ∷ (else' ++ instr.GoOn 0 ∷ [])) refl
+      (both_within then' (instr.GoOn (length (else' ++ instr.GoOn 0 ∷ [])) ∷ (else' ++ instr.GoOn 0 ∷ [])) h (cons_within (instr.GoOn (length (else' ++ instr.GoOn 0 ∷ []))) (else' ++ instr.GoOn 0 ∷ []) refl second)))
+
+  array_there : (known : Known) (x : Identifier) (t : _) (n i : ℕ) → AllThere known → lookup x known ≡ Some (record { sort = Array t n; index = i }) → IndexWithin slots (Array t n) i
+  array_there known x t n i all found = all x (record { sort = Array t n; index = i }) found
+
+  write_within : (l : Layout) (line : ℕ) (x : Identifier) (i e : Expr) → AllThere l.known → StmtFits l (tree.AssignElement line x i e) → AllWithin (stmt_code l (tree.AssignElement line x i e))
+  write_within l line x i e all fits =
+      let array = fits.0 in
+      let there = array_there l.known x array.0 array.1 array.2 all array.3 in
+      both_within (expr_code l.known line i) (expr_code l.known line e ++ of_slot (write_code line) (lookup x l.known)) (term_within l.known line (term_of i) fits.1.0 all fits.1.2.sort)
+      (both_within (expr_code l.known line e) (of_slot (write_code line) (lookup x l.known)) (term_within l.known line (term_of e) Jint all fits.2.sort)
+      (subst AllWithin (sym (ap (of_slot (write_code line)) array.3)) (rw (lt-ltb 0 array.1 there.0, le-leb array.1 1024 there.1, le-leb (array.2 + array.1) slots.numbers there.2) refl)))
+
+  -- the new slot of a declaration is there
+  new_there : (s : Sort) (l : Layout) (x : Identifier) → SizeFits s → IsLaidOut l.known l.slots → HasRoomFor slots (slots_behind s l.slots) → IndexWithin slots s (next_index s l.slots)
+  new_there s l x size laid room = (declared_slot (record { instrs = []; slots = slots }) s l x size laid room).within
+
+  all_there : (l : Layout) → IsLaidOut l.known l.slots → HasRoomFor slots l.slots → AllThere l.known
+  all_there l laid room x s at = index_more l.slots slots s.sort s.index (room_at_least slots l.slots room) (laid.within x s at)
+
+  mutual
+    stmt_within : (s : Stmt) (l : Layout) → StmtFits l s → IsLaidOut l.known l.slots → HasRoomFor slots (layout_behind l s).slots → AllThere l.known → AllWithin (stmt_code l s)
+    stmt_within (tree.Declare line t x r) l fits laid room all = right_within l.known line (new_slot (variable_sort t) l) r all (new_there (variable_sort t) l x (variable_size t) laid room) fits.1
+    stmt_within (tree.DeclareBuffer line t x r) l fits laid room all = right_within l.known line (new_slot (Buffer t true) l) r all (new_there (Buffer t true) l x tt laid room) fits.1
+    stmt_within (tree.DeclareChars line x r) l fits laid room all = right_within l.known line (new_slot (Buffer JChar false) l) r all (new_there (Buffer JChar false) l x tt laid room) fits.1
+    stmt_within (tree.DeclareArray line t x size) l fits laid room all =
+        let there = new_there (Array t size) l x (fits.1, fits.2) laid room in
+        rw (lt-ltb 0 size there.0, le-leb size 1024 there.1, le-leb (l.slots.numbers + size) slots.numbers there.2) refl
+    stmt_within (tree.Assign line x r) l fits laid room all = subst (λ (o : Option Slot). AllWithin (assign_code l.known line o r)) (sym fits.1) (right_within l.known line fits.0 r all (all x fits.0 fits.1) fits.2)
+    stmt_within (tree.AssignElement line x i e) l fits laid room all = write_within l line x i e all fits
+    stmt_within (tree.Perform line c) l fits laid room all = call_within l.known line l.slots.numbers c.arguments room.numbers all fits.1
+    stmt_within (tree.PutJint line e) l fits laid room all = taken_within l.known line (term_of e) Jint instr.PutJint all fits refl
+    stmt_within (tree.If line test then') l fits laid room all = if_within l.known line test (block_code l then') [] all fits.0 (block_within then' l fits.1 laid room) refl
+    stmt_within (tree.IfElse line test then' else') l fits laid room all =
+        let first = closed l (block_layout l then') in
+        if_within l.known line test (block_code l then') (block_code first else') all fits.0
+        (block_within then' l fits.1 laid (room_before slots first.slots (block_layout first else').slots (block_grows else' first) room))
+        (block_within else' first fits.2 (laid_more l.known l.slots first.slots (block_grows then' l) laid) room)
+    stmt_within (tree.While line test body) l fits laid room all =
+        let T = expr_code l.known line test in
+        let B = block_code l body in
+        let back = instr.GoBack (length T + 1 + length B) in
+        both_within T (turn_code T B) (term_within l.known line (term_of test) sort.Truth all fits.0.sort)
+        (cons_within (instr.JumpUnless (length B + 1)) (B ++ back ∷ []) refl (both_within B (back ∷ []) (block_within body l fits.1 laid room) refl))
+    stmt_within (tree.Return line) l fits laid room all = refl
+    stmt_within (tree.ReturnValue line e) l fits laid room all = return_within l.known line (term_of e) all fits
+
+    pub block_within : (b : Block) (l : Layout) → BlockFits l b → IsLaidOut l.known l.slots → HasRoomFor slots (block_layout l b).slots → AllWithin (block_code l b)
+    block_within (End line) l fits laid room = refl
+    block_within (Next s rest) l fits laid room =
+        let next = layout_behind l s in
+        let enough = room_before slots next.slots (block_layout next rest).slots (block_grows rest next) room in
+        let before = room_before slots l.slots next.slots (stmt_grows s l) enough in
+        both_within (stmt_code l s) (block_code next rest) (stmt_within s l fits.0 laid enough (all_there l laid before)) (block_within rest next fits.1 (laid_behind s l fits.0 laid) room)

@@ -1,0 +1,11 @@
+use Rattle.std.proofs.Common.{◌≡◌, ℕ, [], ◌∷◌, ◌∙◌, ap, arith}
+use Rattle.types.specs.Sorts.{Global}
+use Rattle.lower.specs.Names.{known_behind}
+use Rattle.lower.proofs.KnownNames.{known_behind-append, known_behind-length}
+use Rattle.lower.proofs.lowering.learn.Goals as goal
+
+pub returns : goal.returns
+returns c =
+    rw c.in_ok-push.ensures.items
+    (known_behind-append c.args.statics.now.items _ []
+    ∙ ap (λ (n : ℕ). (c.args.named.now.name, record { sort = Global; index = n }) ∷ known_behind c.args.statics.now.items []) (omega (arith, c.len-index.ensures, c.args.statics.now.ok, known_behind-length c.args.statics.now.items [])))

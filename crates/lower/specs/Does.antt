@@ -1,0 +1,167 @@
+-- What the instruction at a place does.
+use Rattle.std.specs.Prelude.{◌≡◌, ℕ, ℤ, ◌+◌, ◌-◌, ◌<◌, ◌≤◌, Bool, List, [], ◌∷◌, ◌++◌, length, slice_get, slice_set, Option, Some, None, FitsSigned}
+use Rattle.std.specs.Bool.{beq}
+use Rattle.std.specs.Int.{w32, cast_signed}
+use Rattle.base.specs.Bytes.{Identifier, lookup}
+use Rattle.base.specs.Element.{ElementType}
+use Rattle.types.specs.JniFunction.{JniFunction, GetArrayLength}
+use Rattle.types.specs.Sorts.{Ref}
+use Rattle.regions.specs.Arguments.{Actual, ReferenceActual}
+use Rattle.regions.specs.Effect.{Effect, Becomes, Sets, SetsNull, SetsElement, MakesArray, Prints, Calls, Returns, TrapsAt, NoEffect}
+use Rattle.regions.specs.Task.{Task, Target, Declared, Assigned, Dropped, ScalarKind}
+use Rattle.regions.specs.Value.{Trap, Int}
+use Rattle.regions.specs.Value as value
+use Rattle.regions.specs.Variable.{Empty}
+use Rattle.code.specs.declared.instr.Call.{Call}
+use Rattle.code.specs.declared.instr.Callee.{Callee}
+use Rattle.code.specs.declared.instr.Callee.TheVariants as callee
+use Rattle.code.specs.declared.instr.NullableVariable.{NullableVariable}
+use Rattle.code.specs.declared.instr.ReferenceOperand.{ReferenceOperand}
+use Rattle.code.specs.declared.instr.ReferenceOperand.TheVariants.{Null, Local}
+use Rattle.code.specs.declared.instr.Target.{Target as Destination}
+use Rattle.code.specs.declared.instr.Target.TheVariants as destination
+use Rattle.code.specs.declared.instr.Instr.{Instr}
+use Rattle.code.specs.declared.instr.Instr.TheVariants as instr
+use Rattle.code.specs.declared.instr.Plain.{Plain}
+use Rattle.code.specs.declared.instr.Plain.TheVariants as plain
+use Rattle.code.specs.declared.instr.PlainTrap.{PlainTrap}
+use Rattle.code.specs.declared.instr.PlainTrap.TheVariants as trap
+use Rattle.code.specs.Depth.{Listing}
+use Rattle.code.specs.Effect.{truth_word, plain_of}
+use Rattle.lower.specs.Layout.{Known}
+use Rattle.lower.specs.Slots.{word_of, Visible, Slots, Shows, IsSet, IsNulled, IsMade, IsElementSet, holds_null, with_null}
+use Rattle.lower.specs.Stands.{target_name, StandsFor}
+
+-- the instructions that leave a function
+abbrev pub IsReturn : Instr → Type 0
+IsReturn instr.Return = Unit {0}
+IsReturn instr.ReturnJint = Unit {0}
+IsReturn (instr.ReturnReference operand) = Unit {0}
+IsReturn i = ⊥
+
+-- the trap of an instruction
+abbrev pub trap_of : PlainTrap → Trap
+trap_of trap.DivisionByZero = value.DivisionByZero
+trap_of trap.ShiftTooFar = value.ShiftTooFar
+trap_of trap.OutOfRange = value.OutOfRange
+
+-- an instruction works on the stack alone: where it leads, and the stack after it; a null test looks at the slots too
+abbrev pub Works : Slots → Instr → (stack : List ℕ) → Plain → (after : List ℕ) → Type 0
+Works slots (instr.TestNull variable equal) stack way after =
+    (null : Bool) × (holds_null slots variable ≡ Some null) × (way ≡ plain.Next) × (after ≡ truth_word (beq null equal) ∷ stack)
+Works slots i stack way after = plain_of i stack slots.numbers ≡ Some (way, after, slots.numbers)
+
+-- what holds at the place that a way leads to
+abbrev pub AtEnd : (ℕ → Type 0) → (place : ℕ) → Plain → Type 0
+AtEnd P place plain.Next = P (place + 1)
+AtEnd P place (plain.Skip n) = P (place + 1 + n)
+AtEnd P place (plain.Back n) = (n ≤ place) × P (place - n)
+AtEnd P place (plain.Trap t line) = ⊥
+
+-- The place, with these names known, these operands and these slots, where this can be seen.
+module _ (code : Listing) (known : Known) (place : ℕ) (stack : List ℕ) (slots : Slots) (visible : Visible) where
+  -- it works on the stack alone, and the place that it leads to stands for these tasks
+  pub record GoesOn (tasks : List Task) : Type 0 where
+    pub here : Instr
+    pub way : Plain
+    pub after : List ℕ
+    pub at : slice_get code.instrs place ≡ Some here
+    pub works : Works slots here stack way after
+    pub names : Known
+    pub shows : Shows code names visible slots
+    pub stands : AtEnd (λ p. StandsFor code names p after tasks) place way
+
+  -- it writes number slots, so that they show what is changed, and the next place stands for these tasks
+  pub record Writes (changed : Visible → Type 0) (tasks : List Task) : Type 0 where
+    pub here : Instr
+    pub numbers : List ℕ
+    pub at : slice_get code.instrs place ≡ Some here
+    pub plain : plain_of here stack slots.numbers ≡ Some (plain.Next, [], numbers)
+    pub names : Known
+    pub shows : (new : Visible) → changed new → Shows code names new (record slots { numbers = numbers })
+    pub stands : StandsFor code names (place + 1) [] tasks
+
+  -- it makes a variable NULL, and the next place stands for these tasks
+  pub record StoresNull (target : Target) (tasks : List Task) : Type 0 where
+    pub empty : stack ≡ []
+    pub name : Identifier
+    pub is : target_name target ≡ Some name
+    pub variable : NullableVariable
+    pub at : slice_get code.instrs place ≡ Some (instr.StoreNull variable)
+    pub names : Known
+    pub shows : (new : Visible) → IsNulled visible name new → Shows code names new (with_null variable slots)
+    pub stands : StandsFor code names (place + 1) [] tasks
+
+  -- it prints the one word on the stack, which is this number
+  pub record PrintsTop (number : ℤ) (tasks : List Task) : Type 0 where
+    pub at : slice_get code.instrs place ≡ Some instr.PutJint
+    pub word : ℕ
+    pub top : stack ≡ word ∷ []
+    pub is : cast_signed w32 word ≡ number
+    pub stands : StandsFor code known (place + 1) [] tasks
+
+  -- a reference argument is NULL, or the one in the slot of a known name
+  abbrev pub IsOperand : ReferenceOperand → Actual → Type 0
+  IsOperand Null actual = (x : Identifier) × (actual ≡ ReferenceActual x Empty)
+  IsOperand (Local i) actual =
+      (x : Identifier) × (actual ≡ ReferenceActual x (visible.sight.reference x)) × (lookup x known ≡ Some (record { sort = Ref; index = i }))
+
+  -- the instruction has this function and these arguments
+  abbrev pub IsCallee : Callee → JniFunction → List Actual → Type 0
+  IsCallee (callee.GetArrayLength operand) f args = (stack ≡ []) × (f ≡ GetArrayLength) × ((a : Actual) × (args ≡ a ∷ []) × IsOperand operand a)
+
+  -- A `jint` that the call gives goes into a slot: then the slots show the variable with it, and the next place stands for
+  -- these tasks.
+  pub record TakesNumber (i : ℕ) (x : Identifier) (tasks : List Task) : Type 0 where
+    pub within : i < length slots.numbers
+    pub names : Known
+    pub shows : (z : ℤ) (new : Visible) → FitsSigned w32 z → IsSet visible x (Int z) new → Shows code names new (record slots { numbers = slice_set slots.numbers i (word_of (Int z)) })
+    pub stands : StandsFor code names (place + 1) [] tasks
+
+  -- it goes into a slot that shows nothing
+  pub record DropsNumber (i : ℕ) (tasks : List Task) : Type 0 where
+    pub within : i < length slots.numbers
+    pub shows : (word : ℕ) → Shows code known visible (record slots { numbers = slice_set slots.numbers i word })
+    pub stands : StandsFor code known (place + 1) [] tasks
+
+  -- where the result of a call goes, and what comes then
+  abbrev pub TakesResult : Destination → Target → List Task → Type 0
+  TakesResult (destination.Number i) (Declared ScalarKind x) tasks = TakesNumber i x tasks
+  TakesResult (destination.Number i) (Assigned x) tasks = TakesNumber i x tasks
+  TakesResult (destination.Number i) Dropped tasks = DropsNumber i tasks
+  TakesResult goes target tasks = ⊥
+
+  -- it calls this function with these arguments
+  pub record CallsFunction (line : ℕ) (target : Target) (f : JniFunction) (args : List Actual) (tasks : List Task) : Type 0 where
+    pub call : Call
+    pub at : slice_get code.instrs place ≡ Some (instr.Call call)
+    pub same_line : call.line ≡ line
+    pub function : IsCallee call.function f args
+    pub goes : TakesResult call.target target tasks
+
+  -- it leaves the function
+  pub record LeavesCall : Type 0 where
+    pub here : Instr
+    pub at : slice_get code.instrs place ≡ Some here
+    pub returns : IsReturn here
+
+  -- it traps on a line, and leaves stack and slots as they were
+  pub record Stops (reason : Trap) (line : ℕ) : Type 0 where
+    pub here : Instr
+    pub trap : PlainTrap
+    pub is : trap_of trap ≡ reason
+    pub at : slice_get code.instrs place ≡ Some here
+    pub plain : plain_of here stack slots.numbers ≡ Some (plain.Trap trap line, stack, slots.numbers)
+
+  -- the instruction at the place does what the first of the tasks does, whose effect is given
+  abbrev pub DoesEffect : (rest : List Task) → Effect → Type 0
+  DoesEffect rest (Becomes tasks) = GoesOn (tasks ++ rest)
+  DoesEffect rest (Sets x v) = Writes (IsSet visible x v) rest
+  DoesEffect rest (SetsNull target) = StoresNull target rest
+  DoesEffect rest (SetsElement x index z) = (t : ElementType) × (visible.array_type x ≡ Some t) × Writes (IsElementSet visible t x index z) rest
+  DoesEffect rest (MakesArray t x size) = Writes (IsMade visible t x size) rest
+  DoesEffect rest (Prints z) = PrintsTop z rest
+  DoesEffect rest (Calls line target f args) = CallsFunction line target f args rest
+  DoesEffect rest Returns = LeavesCall
+  DoesEffect rest (TrapsAt reason line) = Stops reason line
+  DoesEffect rest NoEffect = ⊥

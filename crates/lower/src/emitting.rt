@@ -1,0 +1,22 @@
+//! One instruction behind another.
+
+ghost use Rattle.std.specs.Prelude.{◌≡◌, ◌<◌, [], ◌∷◌, ◌++◌, OnOk, vec_len, slice_set};
+
+use code::instr::Instr;
+use std::alloc::AllocError;
+
+/// One more instruction.
+pub(crate) fn emit(code: &mut Vec<Instr>, instr: Instr) -> Result<(), AllocError>
+    ensures { OnOk result (code.new.items ≡ code.old.items ++ instr ∷ []) }
+{
+    code.push(instr)?;
+    Ok(())
+}
+
+/// Another instruction at a place: a jump, once it is known how far it leads.
+pub(crate) fn replace(code: &mut Vec<Instr>, place: usize, instr: Instr)
+    requires { place < vec_len code.old }
+    ensures { code.new.items ≡ slice_set code.old.items place instr }
+{
+    code[place] = instr;
+}
