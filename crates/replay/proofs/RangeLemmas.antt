@@ -90,8 +90,7 @@ statements_in_range : (statements : List Stmt) (end_line : ℕ) → BlockInRange
 statements_in_range [] end_line h = tt
 statements_in_range (s ∷ rest) end_line h =
     let numbers = first has_numbers_in_range (stmt_tree s) (statements_of (statements_tree rest end_line)) h.numbers in
-    let calls = first calls_built (stmt_tree s) (statements_of (statements_tree rest end_line)) h.built in
-    (
+    let calls = first calls_built (stmt_tree s) (statements_of (statements_tree rest end_line)) h.built in (
       record { numbers = numbers.0; built = calls.0; inside = inside_in_range (stmt_tree s) numbers.1 calls.1 },
       statements_in_range rest end_line (record { numbers = numbers.2; built = calls.2 }),
     )

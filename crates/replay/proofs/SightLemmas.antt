@@ -47,5 +47,7 @@ not_null (Traps trap) = refl
 not_null Stuck = refl
 
 pub ruleset null_rules = (not_null)
+
 pub ruleset place_rules = (not_null)
+
 pub ruleset element_rules = (not_null)

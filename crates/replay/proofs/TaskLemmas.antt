@@ -1,14 +1,20 @@
 -- What a task's step in memory does is what the task's step does.
 use Rattle.std.proofs.Common.{◌≡◌, ℕ, List, [], ◌∷◌, ◌++◌, Option, Some, refl, sym, ap, ◌∙◌, subst}
+use Rattle.std.specs.Borrow.{Bor}
+use Rattle.base.specs.Bytes.{Identifier}
+use Rattle.syntax.specs.declared.expr.Constant.{Constant}
+use Rattle.syntax.specs.declared.expr.Constant.TheVariants as constant
+use Rattle.syntax.specs.declared.expr.Expr.{Expr as ExprInMemory}
 use Rattle.syntax.specs.declared.stmt.Block.{Block as BlockInMemory, out-Block}
+use Rattle.syntax.specs.declared.stmt.Stmt.{Stmt as StmtInMemory}
 use Rattle.syntax.specs.Tree.{Block}
-use Rattle.syntax.specs.Views.{block_tree}
+use Rattle.syntax.specs.Views.{constant_tree, expr_tree, block_tree}
 use Rattle.syntax.proofs.Blocks.{block_is}
 use Rattle.world.specs.World.{World}
-use Rattle.regions.specs.Effect.{Effect, Becomes, goes_on, with_value, effect_of}
+use Rattle.regions.specs.Effect.{Effect, Becomes, Sets, goes_on, with_value, print_effect, branch_effect, loop_effect, element_effect, return_effect, effect_of}
 use Rattle.regions.specs.Heap.{Heap}
 use Rattle.regions.specs.Sight.{Sight, seen}
-use Rattle.regions.specs.Task.{Task, tasks_of}
+use Rattle.regions.specs.Task.{Task, SetScalar, SetElement, Print, Branch, Loop, ReturnValue, tasks_of}
 use Rattle.regions.specs.Term as tree
 use Rattle.regions.specs.Term.{reduce}
 use Rattle.regions.specs.Thread.{Thread, Shared, Lent, sight_of, Trapped, Advances}
@@ -24,8 +30,9 @@ use Rattle.replay.specs.declared.term.Term.TheVariants as term
 use Rattle.replay.specs.declared.value.Value.{Value as ValueInMemory}
 use Rattle.replay.specs.declared.task.Task.{Task as TaskInMemory}
 use Rattle.replay.specs.Steps.{effect_by, HasEffect, Sees, left_by, Does, worked}
-use Rattle.replay.specs.Tasks.{task_view, tasks_of_statements}
-use Rattle.replay.specs.Views.{term_view, trap_view, Reduces}
+use Rattle.replay.specs.declared.task.Task.TheVariants as task
+use Rattle.replay.specs.Tasks.{task_view, else_tree, tasks_of_statements, OutcomeInRange}
+use Rattle.replay.specs.Views.{value_view, term_view, trap_view, Reduces}
 use Rattle.replay.proofs.RangeLemmas.{tasks_of-statements}
 
 -- what a thread can see, where these are its variables
@@ -94,3 +101,69 @@ works vs ss line at whole is old new reduction.Stuck goes step = λ heap. goes h
 -- the tasks of a block are those of its statements
 pub block_tasks : (b : BlockInMemory) → tasks_of_statements (out-Block b).statements.items ≡ tasks_of (block_tree b)
 block_tasks b = tasks_of-statements (out-Block b).statements.items (out-Block b).end_line ∙ ap tasks_of (sym (block_is b))
+
+-- a way that is entered
+pub way_entered : (statements : List StmtInMemory) (b : Block) (end' : Task) → tasks_of_statements statements ≡ tasks_of b → Becomes (tasks_of b ++ end' ∷ []) ≡ Becomes (tasks_of_statements statements ++ end' ∷ [])
+way_entered statements b end' same = ap (λ (ts : List Task). Becomes (ts ++ end' ∷ [])) (sym same)
+
+-- what was worked out leads into no block
+pub worked_in_range : (line : ℕ) (took : Reduction) → OutcomeInRange (worked line took)
+worked_in_range line reduction.Reduced = tt
+worked_in_range line (reduction.Trapped trap) = tt
+worked_in_range line reduction.Stuck = tt
+
+-- a constant that isn't NULL is worked out
+constant_worked_out : (sight : Sight) (line : ℕ) (c : Constant) → (c ≡ constant.Null → ⊥) → return_effect sight line (tree.Named (constant_tree c)) ≡ goes_on line (ReturnValue line) (reduce sight (tree.Named (constant_tree c)))
+constant_worked_out sight line constant.True no_null = refl
+constant_worked_out sight line constant.False no_null = refl
+constant_worked_out sight line constant.Commit no_null = refl
+constant_worked_out sight line constant.Abort no_null = refl
+constant_worked_out sight line constant.Null no_null = absurd (no_null refl)
+
+-- so is all else but a name
+worked_out : (sight : Sight) (line : ℕ) (t : Term) → ((v : ValueInMemory) → t ≡ term.Done v → ⊥) → (t ≡ term.Named constant.Null → ⊥) → ((x : List ℕ) → t ≡ term.Read x → ⊥)
+    → return_effect sight line (term_view t) ≡ goes_on line (ReturnValue line) (reduce sight (term_view t))
+worked_out sight line (term.Done v) none no_null no_name = absurd (none v refl)
+worked_out sight line (term.Number n unsigned) none no_null no_name = refl
+worked_out sight line (term.Named c) none no_null no_name = constant_worked_out sight line c (λ e. no_null (ap term.Named e))
+worked_out sight line (term.Read x) none no_null no_name = absurd (no_name x refl)
+worked_out sight line (term.Element' x p i) none no_null no_name = refl
+worked_out sight line (term.IsNull wanted x) none no_null no_name = refl
+worked_out sight line (term.Prefix' op p t) none no_null no_name = refl
+worked_out sight line (term.And' p s q t) none no_null no_name = refl
+worked_out sight line (term.Or' p s q t) none no_null no_name = refl
+worked_out sight line (term.Binary' op p s q t) none no_null no_name = refl
+
+-- ---- tasks at terms
+
+module _ (vs : Variables) (ss : Statics) (line : ℕ) (old new : Term) (took : Reduction) (none : (v : ValueInMemory) → old ≡ term.Done v → ⊥) (step : Reduces vs ss old took new) where
+  pub print_works : HasEffect vs ss (task.Print line old) (worked line took) (task.Print line new)
+  print_works = works vs ss line (task.Print line) (Print line) (λ t. refl) old new took (λ heap. no_value old none (seen vs ss heap) line print_effect (Print line)) step
+
+  pub set_works : (x : Bor Identifier) → HasEffect vs ss (task.Set line x old) (worked line took) (task.Set line x new)
+  set_works x = works vs ss line (task.Set line x) (SetScalar line x.now) (λ t. refl) old new took (λ heap. no_value old none (seen vs ss heap) line (Sets x.now) (SetScalar line x.now)) step
+
+  pub index_works : (x : Bor Identifier) (t : Term) → HasEffect vs ss (task.SetElement line x old t) (worked line took) (task.SetElement line x new t)
+  index_works x t =
+      works vs ss line (λ u. task.SetElement line x u t) (λ u. SetElement line x.now u (term_view t)) (λ u. refl) old new took
+      (λ heap. no_value old none (seen vs ss heap) line
+      (λ v. with_value (seen vs ss heap) line (element_effect (seen vs ss heap) line x.now v) (SetElement line x.now (tree.Done v)) (term_view t)) (λ u. SetElement line x.now u (term_view t))) step
+
+  pub element_works : (x : Bor Identifier) (i : ValueInMemory) → HasEffect vs ss (task.SetElement line x (term.Done i) old) (worked line took) (task.SetElement line x (term.Done i) new)
+  element_works x i =
+      works vs ss line (task.SetElement line x (term.Done i)) (SetElement line x.now (tree.Done (value_view i))) (λ u. refl) old new took
+      (λ heap. no_value old none (seen vs ss heap) line (element_effect (seen vs ss heap) line x.now (value_view i)) (SetElement line x.now (tree.Done (value_view i)))) step
+
+  pub branch_works : (b : Bor BlockInMemory) (other : Option (Bor BlockInMemory)) → HasEffect vs ss (task.Branch line old b other) (worked line took) (task.Branch line new b other)
+  branch_works b other =
+      works vs ss line (λ u. task.Branch line u b other) (λ u. Branch line u (block_tree b.now) (else_tree line other)) (λ u. refl) old new took
+      (λ heap. no_value old none (seen vs ss heap) line (branch_effect (block_tree b.now) (else_tree line other)) (λ u. Branch line u (block_tree b.now) (else_tree line other))) step
+
+  pub loop_works : (test : Bor ExprInMemory) (body : Bor BlockInMemory) → HasEffect vs ss (task.Loop line test old body) (worked line took) (task.Loop line test new body)
+  loop_works test body =
+      works vs ss line (λ u. task.Loop line test u body) (λ u. Loop line (expr_tree test.now) u (block_tree body.now)) (λ u. refl) old new took
+      (λ heap. no_value old none (seen vs ss heap) line (loop_effect line (expr_tree test.now) (block_tree body.now)) (λ u. Loop line (expr_tree test.now) u (block_tree body.now))) step
+
+  pub return_works : (old ≡ term.Named constant.Null → ⊥) → ((x : List ℕ) → old ≡ term.Read x → ⊥) → HasEffect vs ss (task.ReturnValue line old) (worked line took) (task.ReturnValue line new)
+  return_works no_null no_name =
+      works vs ss line (task.ReturnValue line) (ReturnValue line) (λ t. refl) old new took (λ heap. worked_out (seen vs ss heap) line old none no_null no_name) step

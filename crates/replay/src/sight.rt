@@ -135,7 +135,8 @@ fn numbers_in<'v>(variables: &'v [Variable<'_>], name: &Name) -> Option<&'v [i32
         None => None,
         Some(content) => match content {
             Content::Array(_, numbers) => Some(numbers.as_slice()),
-            Content::Number(_) | Content::Reference(_) | Content::Field | Content::Buffer(_) => None,
+            Content::Number(_) | Content::Reference(_) | Content::Field | Content::Buffer(_) =>
+                None,
         },
     }
 }

@@ -115,7 +115,13 @@ pub(crate) fn task_of(alloc: Global, s: &Stmt) -> Result<Task<'_>, AllocError>
             declaration(alloc, line, VariableKind::Buffer(*t), x, right)?
         }
         Form::DeclareChars(x, right) => {
-            declaration(alloc, line, VariableKind::Buffer(ElementType::Jchar), x, right)?
+            declaration(
+                alloc,
+                line,
+                VariableKind::Buffer(ElementType::Jchar),
+                x,
+                right,
+            )?
         }
         Form::DeclareArray(t, x, size) => Task::MakeArray(*t, x, *size),
         Form::Assign(x, right) => set_task(alloc, line, Target::Assigned(x), x, right)?,

@@ -84,7 +84,8 @@ pub(crate) fn prefix_value(op: PrefixOp, v: Value) -> Evaluated
         (PrefixOp::ToInt, Value::Int(z)) => Evaluated::Gives(Value::Int(z)),
         (PrefixOp::ToInt, Value::Flag(b)) => Evaluated::Gives(Value::Int(i32::from(b))),
         (PrefixOp::LogicalNot, Value::Word(_) | Value::Int(_) | Value::Flag(_)) => Evaluated::Stuck,
-        (PrefixOp::Complement, Value::Int(_) | Value::Flag(_) | Value::Truth(_)) => Evaluated::Stuck,
+        (PrefixOp::Complement, Value::Int(_) | Value::Flag(_) | Value::Truth(_)) =>
+            Evaluated::Stuck,
         (PrefixOp::ToWord | PrefixOp::ToInt, Value::Truth(_)) => Evaluated::Stuck,
     }
 }
