@@ -52,7 +52,7 @@ thread_is s t a event tasks vs left same =
     ap (λ (ts : List Task). let u : Thread = record t { tasks = Some ts; variables = variables_view vs } in thread.Advances s u event) (sym left)
     ∙ ap (λ (us : List VariableInMemory). let u : Thread = record t { tasks = Some (tasks_left a); variables = variables_view us } in thread.Advances s u event) (sym same)
 
-with_event : Event → Advance → Advance
+abbrev with_event : Event → Advance → Advance
 with_event event (thread.Advances s t other) = thread.Advances s t event
 with_event event NoAdvance = NoAdvance
 

@@ -5,6 +5,7 @@ use Rattle.std.specs.Borrow.{Bor}
 use Rattle.std.specs.Str.{bytes_eq}
 use Rattle.std.proofs.lemmas.Slice.Eq.{bytes_eq-Decides}
 use Rattle.base.specs.Bytes.{Identifier, ByName, lookup}
+use Rattle.syntax.specs.Views.{element_tree}
 use Rattle.syntax.specs.Parts.{statics_of}
 use Rattle.syntax.specs.Tree.{Static, SourceUnit}
 use Rattle.regions.specs.CallEffects.{CallResult, NullResult, ScalarResult}
@@ -13,7 +14,8 @@ use Rattle.regions.specs.Start.{null_static, null_statics}
 use Rattle.regions.specs.Task.{VariableKind, Declared, Assigned}
 use Rattle.regions.specs.Thread.{Thread, Shared, Quiet, Advance, Advances, NoAdvance}
 use Rattle.regions.specs.ThreadStep.{set_variable, set_element}
-use Rattle.regions.specs.Variable.{Variable, Variables, StaticReference, Empty, Statics, assign}
+use Rattle.regions.specs.Value.{convert}
+use Rattle.regions.specs.Variable.{Variable, LocalArray, Variables, StaticReference, Empty, Statics, assign}
 use Rattle.replay.specs.declared.outcome.Outcome.TheVariants as outcome
 use Rattle.replay.specs.declared.put.Given.{Given}
 use Rattle.replay.specs.declared.put.Given.TheVariants as given
@@ -71,11 +73,8 @@ module _ (ss : Statics) (old new : List VariableInMemory) where
   array_set x i z (content.Reference r) v is s t = absurd (cc)
   array_set x i z content.Field v is s t = absurd (cc)
   array_set x i z (content.Buffer T) v is s t = absurd (cc)
-  array_set x i z (content.Array T numbers) v is s t = let same : written i z (content_view (content.Array T numbers)) ≡ Some v = is in ap (λ (o : Option Variable). set_or_none s t x o) same
-    where
-      set_or_none : Shared → Thread → Identifier → Option Variable → Advance
-      set_or_none s t x (Some w) = set_variable s t x w
-      set_or_none s t x None = NoAdvance
+  array_set x i z (content.Array T numbers) v is s t =
+      let same : LocalArray (element_tree T) (slice_set numbers.items i (convert (element_tree T) z)) ≡ v = cc in ap (set_variable s t x) same
 
   no_array : (x : Identifier) (i : ℕ) (z : ℤ) (c : Content) → written i z (content_view c) ≡ None → (s : Shared) (t : Thread) → set_element s t x i z (Some (content_view c)) ≡ NoAdvance
   no_array x i z (content.Number n) is s t = refl

@@ -7,7 +7,7 @@ use Rattle.syntax.specs.Tree.{Static}
 use Rattle.regions.specs.Sight.{static_is_null, held_reference, holds_null, variable_is_null}
 use Rattle.regions.specs.Start.{null_static}
 use Rattle.regions.specs.Value.{Value, Truth, Outcome, Gives, Traps, Stuck, outcome_map}
-use Rattle.regions.specs.Variable.{Variable, StaticReference, Empty, Statics}
+use Rattle.regions.specs.Variable.{Variable, Scalar, LocalRef, FieldHandle, Elements, LocalArray, StaticReference, Empty, Statics}
 use Rattle.replay.specs.Views.{negated}
 
 -- each static is NULL
@@ -30,10 +30,11 @@ static_missing (Some r) there = absurd (cc)
 
 -- what a static refers to is NULL, and so nothing
 pub held_in_none : (x : Identifier) (gs : List Static) (v : Option Variable) → held_reference v (lookup x (map null_static gs)) ≡ held_reference v None
-held_in_none x gs (Some v) = variable_held v
-  where
-    variable_held : (v : Variable) → held_reference (Some v) (lookup x (map null_static gs)) ≡ held_reference (Some v) None
-    variable_held v = refl
+held_in_none x gs (Some (Scalar v)) = refl
+held_in_none x gs (Some (LocalRef level r)) = refl
+held_in_none x gs (Some (FieldHandle f)) = refl
+held_in_none x gs (Some (Elements T b)) = refl
+held_in_none x gs (Some (LocalArray T zs)) = refl
 held_in_none x gs None = by_found (lookup x (map null_static gs)) refl
   where
     by_found : (o : Option StaticReference) → lookup x (map null_static gs) ≡ o → held_reference None o ≡ Empty

@@ -25,4 +25,6 @@ pub use fault::ReplayFault;
 pub use journal::replay;
 
 #[cfg(test)]
+mod row_tests;
+#[cfg(test)]
 mod tests;
