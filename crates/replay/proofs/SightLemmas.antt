@@ -3,21 +3,22 @@ use Rattle.std.proofs.Common.{◌≡◌, ℕ, ◌<◌, ◌≤◌, ℤ, Bool, tru
 use Rattle.std.specs.Prelude.{is_some, not}
 use Rattle.std.specs.Str.{bytes_eq}
 use Rattle.base.specs.Bytes.{Identifier, lookup}
-use Rattle.syntax.specs.Tree.{Static}
+use Rattle.syntax.specs.Parts.{statics_of}
+use Rattle.syntax.specs.Tree.{Static, SourceUnit}
 use Rattle.regions.specs.Sight.{static_is_null, held_reference, holds_null, variable_is_null}
-use Rattle.regions.specs.Start.{null_static}
+use Rattle.regions.specs.Start.{null_static, null_statics}
 use Rattle.regions.specs.Value.{Value, Truth, Outcome, Gives, Traps, Stuck, outcome_map}
-use Rattle.regions.specs.Variable.{Variable, Scalar, LocalRef, FieldHandle, Elements, LocalArray, StaticReference, Empty, Statics}
+use Rattle.regions.specs.Variable.{Variable, Scalar, LocalRef, FieldHandle, Elements, LocalArray, StaticReference, Empty, Variables, Statics}
 use Rattle.replay.specs.Views.{negated}
 
 -- each static is NULL
+empty_by_name : (b : Bool) (later : Option StaticReference) (r : StaticReference) → cond b (Some Empty) later ≡ Some r → (later ≡ Some r → r ≡ Empty) → r ≡ Empty
+empty_by_name true later r is further = cc
+empty_by_name false later r is further = further is
+
 pub static_empty : (x : Identifier) (gs : List Static) (r : StaticReference) → lookup x (map null_static gs) ≡ Some r → r ≡ Empty
 static_empty x [] r e = absurd (cc)
-static_empty x (g ∷ gs) r e = by_name (bytes_eq x g.name) e
-  where
-    by_name : (b : Bool) → cond b (Some Empty) (lookup x (map null_static gs)) ≡ Some r → r ≡ Empty
-    by_name true is = cc
-    by_name false is = static_empty x gs r is
+static_empty x (g ∷ gs) r e = empty_by_name (bytes_eq x g.name) (lookup x (map null_static gs)) r e (static_empty x gs r)
 
 -- whether a static is NULL
 pub static_there : (o : Option StaticReference) → ((r : StaticReference) → o ≡ Some r → r ≡ Empty) → is_some o ≡ true → static_is_null o ≡ Gives true
@@ -46,6 +47,13 @@ pub not_null : (o : Outcome Bool) → negated (outcome_map Truth o) ≡ outcome_
 not_null (Gives b) = refl
 not_null (Traps trap) = refl
 not_null Stuck = refl
+
+-- a static without a variable of its name
+pub static_null : (x : Identifier) (vs : Variables) (unit : SourceUnit) → lookup x vs ≡ None → is_some (lookup x (null_statics unit)) ≡ true
+    → outcome_map Truth (holds_null (lookup x vs) (lookup x (null_statics unit))) ≡ Gives (Truth true)
+static_null x vs unit none there =
+    ap (λ (o : Option Variable). outcome_map Truth (holds_null o (lookup x (null_statics unit)))) none
+    ∙ ap (outcome_map Truth) (static_there (lookup x (null_statics unit)) (static_empty x (statics_of unit)) there)
 
 pub ruleset null_rules = (not_null)
 

@@ -1,10 +1,11 @@
 -- A variable is assigned at the first place of its name.
-use Rattle.std.proofs.Common.{◌≡◌, ℕ, zero, suc, ◌+◌, ◌<◌, ◌≤◌, Bool, true, false, cond, List, [], ◌∷◌, ◌++◌, length, Option, Some, None, refl, sym, ap, ◌∙◌, arith, append_assoc}
+use Rattle.std.proofs.Common.{◌≡◌, ℕ, zero, suc, ◌+◌, ◌<◌, ◌≤◌, Bool, true, false, cond, List, [], ◌∷◌, ◌++◌, length, Option, Some, None, refl, sym, ap, ◌∙◌, arith, append_assoc, get_or}
 use Rattle.std.specs.Prelude.{position, slice_get, slice_set, nat_lt, not}
 use Rattle.std.specs.List.{position_or_len}
 use Rattle.std.specs.Str.{bytes_eq}
 use Rattle.std.proofs.lemmas.List.{map-append}
 use Rattle.std.proofs.lemmas.Bool.Decides.{nat_tests}
+use Rattle.std.proofs.lemmas.Option.{slice_get_read}
 use Rattle.std.proofs.lemmas.Slice.Eq.{bytes_eq-Decides}
 use Rattle.base.specs.Bytes.{Identifier, lookup}
 use Rattle.regions.specs.Variable.{Variable as Content, Variables, assign}
@@ -91,6 +92,13 @@ module _ (x : Identifier) (content : Content) where
   variable_missing vs none =
       let past : nat_lt (position_or_len named vs) (length vs) ≡ false = no_place (position_or_len named vs) (nat_lt (position_or_len named vs) (length vs)) none in
       missing_there vs (grind (arith, nat_tests, past))
+
+  -- the variable at the place of the name
+  pub variable_at : (vs : List Variable) (i : ℕ) (w : Variable) → position named vs ≡ Some i → w ≡ get_or vs i w → slice_get vs i ≡ Some w
+  variable_at vs i w at h =
+      let here = place (position_or_len named vs) i (nat_lt (position_or_len named vs) (length vs)) at in
+      let low : position_or_len named vs < length vs = grind (arith, nat_tests, here.0) in
+      slice_get_read vs (length vs) i w refl (omega (arith, here.1)) h
 
   pub assigned_new : (vs : List Variable) (v : Variable) → position named vs ≡ None → variable_view v ≡ (x, content) → variables_view (vs ++ v ∷ []) ≡ assign x content (variables_view vs)
   assigned_new vs v none is =

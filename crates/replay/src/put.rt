@@ -99,12 +99,12 @@ fn put<'a>(
 /// Writes an element of the array of this name, if it is one.
 #[tactic(auto, using(crate::proofs::PutLemmas::element_rules))]
 fn set_element<'a>(
-    variables: &mut [Variable<'a>],
+    variables: &mut Vec<Variable<'a>>,
     name: &'a Name,
     index: usize,
     number: i32,
 ) -> bool
-    ensures { (statics : Statics) → LeavesIf statics variables.old (variable_step (outcome.SetsElement name.entry index number)) result variables.new }
+    ensures { (statics : Statics) → LeavesIf statics variables.old.items (variable_step (outcome.SetsElement name.entry index number)) result variables.new.items }
 {
     match place_of(variables, name) {
         Some(place) => {
