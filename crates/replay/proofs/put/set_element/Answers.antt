@@ -12,7 +12,7 @@ returns-in-Some c = λ statics.
     let there = variable_at c.args.name.now (content_view v.content) old c.in-Some.place v (search rules) (search rules) in
     element_leaves statics old _ c.args.name c.args.index c.args.number v.content c.write_content.new.content c.write_content.result
     (variable_found c.args.name.now (content_view v.content) old c.in-Some.place v (search rules) there).0
-    c.write_content.ensures
+    (search rules)
     (content_set c.args.name.now old c.in-Some.place v c.write_content.new.content (search rules) there)
 
 pub returns-in-None : goal.returns-in-None
