@@ -1,6 +1,6 @@
 //! Steps of tasks.
 
-ghost use Rattle.std.specs.Prelude.{◌≡◌, IfOk};
+ghost use Rattle.std.specs.Prelude.{◌≡◌, IfOk, ℕ};
 ghost use Rattle.syntax.specs.Views.{expr_tree, block_tree, unit_tree};
 ghost use Rattle.world.specs.SceneWorld.{world_of_scene};
 ghost use Rattle.regions.specs.Start.{null_statics};
