@@ -118,9 +118,9 @@ fn set_element<'a>(
 
 /// The statements of a block; none where an `else` is missing.
 fn statements_of<'a>(block: Option<&'a Block>) -> &'a [Stmt]
-    requires { ElseInRange block.entry }
-    ensures view { (line : ℕ) → tasks_of_statements result.entry.now ≡ tasks_of (else_tree line block.entry) }
-    ensures range { StatementsInRange result.entry.now }
+    requires { ElseInRange block }
+    ensures view { (line : ℕ) → tasks_of_statements result.now ≡ tasks_of (else_tree line block) }
+    ensures range { StatementsInRange result.now }
 {
     match block {
         Some(block) => &block.statements,
@@ -139,8 +139,8 @@ fn branch<'a>(
 ) -> Outcome<'a>
     requires numbers { NumbersInRange t.old }
     requires then { BlockInRange (block_tree then.now) }
-    requires otherwise { ElseInRange otherwise.entry }
-    ensures step { HasEffect (variables_view variables.now) (null_statics (unit_tree items.now)) (task.Branch line t.old then.entry otherwise.entry) result (task.Branch line t.new then.entry otherwise.entry) }
+    requires otherwise { ElseInRange otherwise }
+    ensures step { HasEffect (variables_view variables.now) (null_statics (unit_tree items.now)) (task.Branch line t.old then.entry otherwise) result (task.Branch line t.new then.entry otherwise) }
     ensures numbers { NumbersInRange t.new }
     ensures range { OutcomeInRange result }
 {

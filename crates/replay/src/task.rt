@@ -77,8 +77,8 @@ fn if_task<'a>(
 ) -> Result<Task<'a>, AllocError>
     requires test { TestInRange (test_tree test.now) }
     requires then { BlockInRange (block_tree then.now) }
-    requires otherwise { ElseInRange otherwise.entry }
-    ensures view { IfOk result (λ t. task_view t ≡ if_task line (test_tree test.entry.now) (block_tree then.entry.now) (else_tree line otherwise.entry)) }
+    requires otherwise { ElseInRange otherwise }
+    ensures view { IfOk result (λ t. task_view t ≡ if_task line (test_tree test.entry.now) (block_tree then.entry.now) (else_tree line otherwise)) }
     ensures range { IfOk result TaskInRange }
 {
     match test {
