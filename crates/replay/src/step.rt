@@ -119,7 +119,7 @@ fn set_element<'a>(
 /// The statements of a block; none where an `else` is missing.
 fn statements_of<'a>(block: Option<&'a Block>) -> &'a [Stmt]
     requires { ElseInRange block }
-    ensures view { (line : ℕ) → tasks_of_statements result.now ≡ tasks_of (else_tree line block) }
+    ensures view { (line : ℕ) → tasks_of_statements result.now ≡ tasks_of (else_tree line block.entry) }
     ensures range { StatementsInRange result.now }
 {
     match block {
@@ -140,7 +140,7 @@ fn branch<'a>(
     requires numbers { NumbersInRange t.old }
     requires then { BlockInRange (block_tree then.now) }
     requires otherwise { ElseInRange otherwise }
-    ensures step { HasEffect (variables_view variables.now) (null_statics (unit_tree items.now)) (task.Branch line t.old then.entry otherwise) result (task.Branch line t.new then.entry otherwise) }
+    ensures step { HasEffect (variables_view variables.now) (null_statics (unit_tree items.now)) (task.Branch line t.old then.entry otherwise.entry) result (task.Branch line t.new then.entry otherwise.entry) }
     ensures numbers { NumbersInRange t.new }
     ensures range { OutcomeInRange result }
 {

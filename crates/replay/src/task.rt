@@ -78,7 +78,7 @@ fn if_task<'a>(
     requires test { TestInRange (test_tree test.now) }
     requires then { BlockInRange (block_tree then.now) }
     requires otherwise { ElseInRange otherwise }
-    ensures view { IfOk result (λ t. task_view t ≡ if_task line (test_tree test.entry.now) (block_tree then.entry.now) (else_tree line otherwise)) }
+    ensures view { IfOk result (λ t. task_view t ≡ if_task line (test_tree test.entry.now) (block_tree then.entry.now) (else_tree line otherwise.entry)) }
     ensures range { IfOk result TaskInRange }
 {
     match test {
