@@ -1,77 +1,190 @@
 -- A call in progress takes the step of its first task.
-use Rattle.std.proofs.Common.{◌≡◌, ℕ, false, List, [], ◌∷◌, Option, Some, None, refl, sym, ap, ◌∙◌}
+use Rattle.std.proofs.Common.{◌≡◌, ℕ, true, false, List, [], ◌∷◌, ◌++◌, Option, Some, None, refl, sym, ap, ◌∙◌, append_assoc}
 use Rattle.std.specs.Borrow.{Bor}
 use Rattle.std.specs.Global.{Vec}
 use Rattle.syntax.specs.declared.stmt.Stmt.{Stmt}
-use Rattle.base.specs.Bytes.{Identifier}
+use Rattle.syntax.specs.Tree.{SourceUnit}
 use Rattle.world.specs.World.{World}
-use Rattle.regions.specs.Task.{Task}
-use Rattle.regions.specs.Thread.{Thread, Shared, Lent, Quiet, PrintedNumber, Trapped, Event, Advance}
+use Rattle.regions.specs.Start.{null_statics}
+use Rattle.regions.specs.Task.{Task, Loop}
+use Rattle.regions.specs.Thread.{Thread, Shared, Lent, Event, Quiet, PrintedNumber, Trapped, Advance, NoAdvance}
 use Rattle.regions.specs.Thread as thread
 use Rattle.regions.specs.ThreadStep.{step_within, with_tasks}
-use Rattle.regions.specs.Variable.{Variable, Variables, Scalar, assign}
 use Rattle.replay.specs.declared.activation.Activation.{Activation}
+use Rattle.replay.specs.declared.activation.Outer.{Outer}
+use Rattle.replay.specs.declared.outcome.End.{End}
+use Rattle.replay.specs.declared.outcome.End.TheVariants as end
+use Rattle.replay.specs.declared.outcome.Outcome.{Outcome}
+use Rattle.replay.specs.declared.outcome.Outcome.TheVariants as outcome
 use Rattle.replay.specs.declared.task.Task.{Task as TaskInMemory}
-use Rattle.replay.specs.declared.task.Outcome.{Outcome}
-use Rattle.replay.specs.declared.task.Outcome.TheVariants as outcome
 use Rattle.replay.specs.declared.variable.Variable.{Variable as VariableInMemory}
-use Rattle.replay.specs.Views.{value_view, variables_view}
-use Rattle.replay.specs.Tasks.{task_view, tasks_of_statements, Sees, Does, left_by, trap_view}
-use Rattle.replay.specs.Activations.{tasks_from, tasks_left, thread_in, advance_by, Advances, IsApplied}
+use Rattle.replay.specs.Activations.{tasks_from, tasks_around, tasks_behind, tasks_left, thread_in, advance_by, Advances, AreSet, OuterInRange}
+use Rattle.replay.specs.Outcomes.{variable_step, Holds, LeavesVariables, LeavesIf}
+use Rattle.replay.specs.Steps.{Sees, Does, left_by}
+use Rattle.replay.specs.Tasks.{task_view, end_view, tasks_of_statements, EndInRange, StatementsInRange}
+use Rattle.replay.specs.Views.{variables_view, trap_view}
+
+-- ---- blocks around the one in progress
+
+-- the innermost is told last
+pub around_more : (behind : List Task) (os : List Outer) (o : Outer) → tasks_around behind (os ++ o ∷ []) ≡ end_view o.end ∷ tasks_of_statements o.rest.now ++ tasks_around behind os
+around_more behind [] o = refl
+around_more behind (p ∷ os) o = around_more (end_view p.end ∷ tasks_of_statements p.rest.now ++ behind) os o
+
+pub outer_parts : (os : List Outer) (o : Outer) → OuterInRange (os ++ o ∷ []) → OuterInRange os × EndInRange o.end × StatementsInRange o.rest.now
+outer_parts [] o h = (tt, h.0, h.1)
+outer_parts (p ∷ os) o h = let parts = outer_parts os o h.2 in ((h.0, h.1, parts.0), parts.1, parts.2)
+
+pub outer_joined : (os : List Outer) (o : Outer) → OuterInRange os → EndInRange o.end → StatementsInRange o.rest.now → OuterInRange (os ++ o ∷ [])
+outer_joined [] o h e r = (e, r, tt)
+outer_joined (p ∷ os) o h e r = (h.0, h.1, outer_joined os o h.2 e r)
+
+left_is : (a : Activation) (o : Option TaskInMemory) (rest : List Stmt) (os : List Outer) → a.task ≡ o → a.rest.now ≡ rest → a.outer.items ≡ os → tasks_left a ≡ tasks_from o (tasks_behind rest os)
+left_is a o rest os task behind outer =
+    ap (λ (p : Option TaskInMemory). tasks_from p (tasks_behind a.rest.now a.outer.items)) task
+    ∙ ap (λ (b : List Stmt). tasks_from o (tasks_behind b a.outer.items)) behind
+    ∙ ap (λ (ps : List Outer). tasks_from o (tasks_behind rest ps)) outer
 
 -- a thread with other tasks, and the variables that it has
-thread_is : (t : Thread) (tasks : List Task) (vs : Variables) → t.variables ≡ vs → with_tasks t tasks ≡ record t { tasks = Some tasks; variables = vs }
-thread_is t tasks vs same = ap (λ (us : Variables). let u : Thread = record t { tasks = Some tasks; variables = us } in u) same
+thread_is : (s : Shared) (t : Thread) (a : Activation) (event : Event) (tasks : List Task) (vs : List VariableInMemory) → tasks_left a ≡ tasks → a.variables.items ≡ vs
+    → thread.Advances s (record t { tasks = Some tasks; variables = variables_view vs }) event ≡ thread.Advances s (thread_in t a) event
+thread_is s t a event tasks vs left same =
+    ap (λ (ts : List Task). let u : Thread = record t { tasks = Some ts; variables = variables_view vs } in thread.Advances s u event) (sym left)
+    ∙ ap (λ (us : List VariableInMemory). let u : Thread = record t { tasks = Some (tasks_left a); variables = variables_view us } in thread.Advances s u event) (sym same)
 
--- without a task there is no step
-pub nothing_to_do : (w : World) (old new : Activation) → tasks_left old ≡ [] → Advances w old outcome.Nothing new
-nothing_to_do w old new none = λ unit lent k s t sees has. ap (λ (tasks : List Task). step_within unit w.classes lent k s t false (Some tasks)) none
+abbrev with_event : Event → Advance → Advance
+with_event event (thread.Advances s t other) = thread.Advances s t event
+with_event event NoAdvance = NoAdvance
 
-module _ (w : World) (old begun new : Activation) (task after : TaskInMemory) where
+-- ---- the step of a task
+
+module _ (unit : SourceUnit) (w : World) (old begun : Activation) (task after : TaskInMemory) (variables : Vec VariableInMemory) (new : Activation)
+    (tasks : tasks_left begun ≡ tasks_left old) (same : begun.variables ≡ old.variables) (is : begun.task ≡ Some task) where
   abbrev rest : List Task
-  rest = tasks_of_statements begun.rest.now
+  rest = tasks_behind begun.rest.now begun.outer.items
 
-  module _ (k : ℕ) (s : Shared) (t : Thread) (same : begun.variables ≡ old.variables) (sees : t.variables ≡ variables_view old.variables.items) where
+  first : tasks_left old ≡ task_view task ∷ rest
+  first = sym tasks ∙ ap (λ (o : Option TaskInMemory). tasks_from o rest) is
+
+  seen : (s : Shared) (t : Thread) → Sees w (variables_view old.variables.items) (null_statics unit) s t → Sees w (variables_view begun.variables.items) (null_statics unit) s t
+  seen s t sees = record {
+    variables = sees.variables ∙ ap (λ (v : Vec VariableInMemory). variables_view v.items) (sym same);
+    frames = sees.frames;
+    pending = sees.pending;
+    heap = sees.heap;
+    statics = sees.statics;
+  }
+
+  holds : (s : Shared) (t : Thread) (ts : List Task) → Sees w (variables_view begun.variables.items) (null_statics unit) s t → Holds (null_statics unit) begun.variables.items s (with_tasks t ts)
+  holds s t ts sees = record { variables = sees.variables; frames = sees.frames; statics = sees.statics }
+
+  stepped : (took : Outcome) → Does w (variables_view begun.variables.items) (null_statics unit) task took after
+      → ((k : ℕ) (s : Shared) (t : Thread) → Sees w (variables_view begun.variables.items) (null_statics unit) s t → left_by k s t rest took after ≡ advance_by k s t new outcome.Nothing) → Advances unit w old outcome.Nothing new
+  stepped took does left = λ lent k s t sees has.
+      ap (λ (ts : List Task). step_within unit w.classes lent k s t false (Some ts)) first
+      ∙ does lent k s t rest (seen s t sees) (has ∙ ap (λ (ts : List Task). let o : Option (List Task) = Some ts in o) first)
+      ∙ left k s t (seen s t sees)
+
+  -- a step that isn't possible
+  pub fails : (took : Outcome) → Does w (variables_view begun.variables.items) (null_statics unit) task took after
+      → LeavesIf (null_statics unit) begun.variables.items (variable_step took) false variables.items → Advances unit w old outcome.Nothing new
+  fails took does none = stepped took does (by_outcome took none)
+    where
+      by_outcome : (took : Outcome) → LeavesIf (null_statics unit) begun.variables.items (variable_step took) false variables.items
+          → (k : ℕ) (s : Shared) (t : Thread) → Sees w (variables_view begun.variables.items) (null_statics unit) s t → left_by k s t rest took after ≡ NoAdvance
+      by_outcome outcome.Stays none k s t sees = absurd (let bad = none s (with_tasks t rest) (holds s t rest sees) in cc)
+      by_outcome (outcome.Printed z) none k s t sees = absurd (let bad = none s (with_tasks t rest) (holds s t rest sees) in cc)
+      by_outcome (outcome.Sets x v) none k s t sees = none s (with_tasks t rest) (holds s t rest sees)
+      by_outcome (outcome.SetsNull to) none k s t sees = none s (with_tasks t rest) (holds s t rest sees)
+      by_outcome (outcome.Puts to z) none k s t sees = none s (with_tasks t rest) (holds s t rest sees)
+      by_outcome (outcome.SetsElement x i z) none k s t sees = none s (with_tasks t rest) (holds s t rest sees)
+      by_outcome (outcome.Makes T x n) none k s t sees = none s (with_tasks t rest) (holds s t rest sees)
+      by_outcome (outcome.Enters statements e) none k s t sees = absurd (let bad = none s (with_tasks t rest) (holds s t rest sees) in cc)
+      by_outcome outcome.Over none k s t sees = absurd (let bad = none s (with_tasks t rest) (holds s t rest sees) in cc)
+      by_outcome outcome.Returned none k s t sees = absurd (let bad = none s (with_tasks t rest) (holds s t rest sees) in cc)
+      by_outcome (outcome.Trapped trap line) none k s t sees = absurd (let bad = none s (with_tasks t rest) (holds s t rest sees) in cc)
+      by_outcome outcome.Nothing none k s t sees = refl
+
+  module _ (k : ℕ) (s : Shared) (t : Thread) (sees : Sees w (variables_view begun.variables.items) (null_statics unit) s t) where
     -- the variables are those before
-    kept : new.variables.items ≡ begun.variables.items → t.variables ≡ variables_view new.variables.items
-    kept is = sees ∙ ap (λ (v : Vec VariableInMemory). variables_view v.items) (sym same) ∙ ap variables_view (sym is)
+    kept : (event : Event) (ts : List Task) → LeavesVariables (null_statics unit) begun.variables.items (λ s' t'. thread.Advances s' t' Quiet) variables.items → tasks_left new ≡ ts → new.variables ≡ variables
+        → thread.Advances s (with_tasks t ts) event ≡ thread.Advances s (thread_in t new) event
+    kept event ts leaves left vs =
+        ap (with_event event) (leaves s (with_tasks t ts) (holds s t ts sees))
+        ∙ thread_is s t new event ts variables.items left (ap (λ (v : Vec VariableInMemory). v.items) vs)
 
-    tasks_are : (task : Option TaskInMemory) → new.task ≡ task → new.rest ≡ begun.rest → tasks_left new ≡ tasks_from task begun.rest.now
-    tasks_are o is behind = ap (λ (p : Option TaskInMemory). tasks_from p new.rest.now) is ∙ ap (λ (b : Bor (List Stmt)). tasks_from o b.now) behind
+    set : (took : Outcome) → LeavesVariables (null_statics unit) begun.variables.items (variable_step took) variables.items → tasks_left new ≡ rest → new.variables ≡ variables
+        → variable_step took s (with_tasks t rest) ≡ thread.Advances s (thread_in t new) Quiet
+    set took leaves left vs =
+        leaves s (with_tasks t rest) (holds s t rest sees)
+        ∙ thread_is s t new Quiet rest variables.items left (ap (λ (v : Vec VariableInMemory). v.items) vs)
 
-    moves : (task : Option TaskInMemory) (event : Event) → new.task ≡ task → new.rest ≡ begun.rest → new.variables.items ≡ begun.variables.items
-        → thread.Advances s (with_tasks t (tasks_from task begun.rest.now)) event ≡ thread.Advances s (thread_in t new) event
-    moves o event is behind vs =
-        ap (λ (tasks : List Task). thread.Advances s (with_tasks t tasks) event) (sym (tasks_are o is behind))
-        ∙ ap (λ (u : Thread). thread.Advances s u event) (thread_is t (tasks_left new) (variables_view new.variables.items) (kept vs))
+    left_with : (o : Option TaskInMemory) → new.task ≡ o → new.rest ≡ begun.rest → new.outer.items ≡ begun.outer.items → tasks_left new ≡ tasks_from o rest
+    left_with o task' rest' outer' = left_is new o begun.rest.now begun.outer.items task' (ap (λ (b : Bor (List Stmt)). b.now) rest') outer'
 
-    sets : (x : Identifier) (v : Variable) → new.task ≡ None → new.rest ≡ begun.rest → variables_view new.variables.items ≡ assign x v (variables_view begun.variables.items)
-        → thread.Advances s (record t { tasks = Some rest; variables = assign x v t.variables }) Quiet ≡ thread.Advances s (thread_in t new) Quiet
-    sets x v is behind vs =
-        let assigned : assign x v t.variables ≡ variables_view new.variables.items =
-        ap (assign x v) (sees ∙ ap (λ (u : Vec VariableInMemory). variables_view u.items) (sym same)) ∙ sym vs in
-        ap (λ (us : Variables). let u : Thread = record t { tasks = Some rest; variables = us } in thread.Advances s u Quiet) assigned
-        ∙ ap (λ (tasks : List Task). let u : Thread = record t { tasks = Some tasks; variables = variables_view new.variables.items } in thread.Advances s u Quiet) (sym (tasks_are None is behind))
+    entered : (statements : Bor (List Stmt)) (e : End) → new.task ≡ None → new.rest ≡ statements → new.outer.items ≡ begun.outer.items ++ record { end = e; rest = begun.rest } ∷ []
+        → tasks_left new ≡ (tasks_of_statements statements.now ++ end_view e ∷ []) ++ rest
+    entered statements e task' rest' outer' =
+        left_is new None statements.now (begun.outer.items ++ record { end = e; rest = begun.rest } ∷ []) task' (ap (λ (b : Bor (List Stmt)). b.now) rest') outer'
+        ∙ ap (λ (ts : List Task). tasks_of_statements statements.now ++ ts) (around_more [] begun.outer.items (record { end = e; rest = begun.rest }))
+        ∙ sym (append_assoc (tasks_of_statements statements.now) (end_view e ∷ []) rest)
 
-    left_in : (took : Outcome) → IsApplied (record begun { task = Some after }) took new → left_by k s t rest took after ≡ advance_by k s t new took
-    left_in outcome.Stays a = moves (Some after) Quiet a.task a.rest a.variables
-    left_in (outcome.Printed z) a = moves None (PrintedNumber z) a.task a.rest a.variables
-    left_in (outcome.Sets x v) a = sets x.now (Scalar (value_view v)) a.task a.rest a.variables
-    left_in outcome.Returned a = refl
-    left_in (outcome.Trapped trap line) a = moves (Some after) (Trapped (trap_view trap) line) a.task a.rest a.variables
-    left_in outcome.Nothing a = refl
+    left_in : (took : Outcome) → LeavesVariables (null_statics unit) begun.variables.items (variable_step took) variables.items → AreSet (record begun { task = Some after; variables = variables }) took new
+        → left_by k s t rest took after ≡ advance_by k s t new took
+    left_in outcome.Stays leaves a = kept Quiet (task_view after ∷ rest) leaves (left_with (Some after) a.task a.rest a.outer) a.variables
+    left_in (outcome.Printed z) leaves a = kept (PrintedNumber z) rest leaves (left_with None a.task a.rest a.outer) a.variables
+    left_in (outcome.Sets x v) leaves a = set (outcome.Sets x v) leaves (left_with None a.task a.rest a.outer) a.variables
+    left_in (outcome.SetsNull to) leaves a = set (outcome.SetsNull to) leaves (left_with None a.task a.rest a.outer) a.variables
+    left_in (outcome.Puts to z) leaves a = set (outcome.Puts to z) leaves (left_with None a.task a.rest a.outer) a.variables
+    left_in (outcome.SetsElement x i z) leaves a = set (outcome.SetsElement x i z) leaves (left_with None a.task a.rest a.outer) a.variables
+    left_in (outcome.Makes T x n) leaves a = set (outcome.Makes T x n) leaves (left_with None a.task a.rest a.outer) a.variables
+    left_in (outcome.Enters statements e) leaves a = kept Quiet ((tasks_of_statements statements.now ++ end_view e ∷ []) ++ rest) leaves (entered statements e a.task a.rest a.outer) a.variables
+    left_in outcome.Over leaves a = kept Quiet rest leaves (left_with None a.task a.rest a.outer) a.variables
+    left_in outcome.Returned leaves a = refl
+    left_in (outcome.Trapped trap line) leaves a = kept (Trapped (trap_view trap) line) (task_view after ∷ rest) leaves (left_with (Some after) a.task a.rest a.outer) a.variables
+    left_in outcome.Nothing leaves a = refl
 
   -- what the task's step does is done to the call
-  pub advances : (took : Outcome) → tasks_left begun ≡ tasks_left old → begun.variables ≡ old.variables → begun.task ≡ Some task
-      → Does w (variables_view begun.variables.items) task took after → IsApplied (record begun { task = Some after }) took new → Advances w old took new
-  advances took tasks same is does applied = λ unit lent k s t sees has.
-      let first : tasks_left old ≡ task_view task ∷ rest = sym tasks ∙ ap (λ (o : Option TaskInMemory). tasks_from o begun.rest.now) is in
-      let seen : Sees w (variables_view begun.variables.items) s t = record {
-        variables = sees.variables ∙ ap (λ (v : Vec VariableInMemory). variables_view v.items) (sym same);
-        pending = sees.pending;
-        heap = sees.heap;
-        statics = sees.statics;
-      } in
+  pub advances : (took : Outcome) → Does w (variables_view begun.variables.items) (null_statics unit) task took after
+      → LeavesVariables (null_statics unit) begun.variables.items (variable_step took) variables.items → AreSet (record begun { task = Some after; variables = variables }) took new → Advances unit w old took new
+  advances took does leaves applied = λ lent k s t sees has.
       ap (λ (ts : List Task). step_within unit w.classes lent k s t false (Some ts)) first
-      ∙ does lent k s t rest seen (has ∙ ap (λ (ts : List Task). let o : Option (List Task) = Some ts in o) first)
-      ∙ left_in k s t same sees.variables took applied
+      ∙ does lent k s t rest (seen s t sees) (has ∙ ap (λ (ts : List Task). let o : Option (List Task) = Some ts in o) first)
+      ∙ left_in k s t (seen s t sees) took leaves applied
+
+-- ---- the end of a block
+
+module _ (unit : SourceUnit) (w : World) (old new : Activation) (idle : old.task ≡ None) (done : old.rest.now ≡ []) where
+  -- no task is left
+  pub nothing_to_do : old.outer.items ≡ [] → Advances unit w old outcome.Nothing new
+  nothing_to_do none = λ lent k s t sees has. ap (λ (tasks : List Task). step_within unit w.classes lent k s t false (Some tasks)) (left_is old None [] [] idle done none)
+
+  module _ (os : List Outer) (o : Outer) (outer : old.outer.items ≡ os ++ o ∷ []) (rest : new.rest ≡ o.rest) (behind : new.outer.items ≡ os) (same : new.variables ≡ old.variables) where
+    abbrev after : List Task
+    after = tasks_behind o.rest.now os
+
+    at_end : tasks_left old ≡ end_view o.end ∷ after
+    at_end = left_is old None [] (os ++ o ∷ []) idle done outer ∙ around_more [] os o
+
+    goes : (tasks : List Task) (s : Shared) (t : Thread) → t.variables ≡ variables_view old.variables.items → tasks_left new ≡ tasks → thread.Advances s (with_tasks t tasks) Quiet ≡ thread.Advances s (thread_in t new) Quiet
+    goes tasks s t sees left =
+        ap (λ us. let u : Thread = record t { tasks = Some tasks; variables = us } in thread.Advances s u Quiet) sees
+        ∙ thread_is s t new Quiet tasks old.variables.items left (ap (λ (v : Vec VariableInMemory). v.items) same)
+
+    left : (p : Option TaskInMemory) → new.task ≡ p → tasks_left new ≡ tasks_from p after
+    left p task = left_is new p o.rest.now os task (ap (λ (b : Bor (List Stmt)). b.now) rest) behind
+
+    -- behind an `if`
+    pub if_over : o.end ≡ end.If → new.task ≡ None → Advances unit w old outcome.Over new
+    if_over is task = λ lent k s t sees has.
+        ap (λ (ts : List Task). step_within unit w.classes lent k s t false (Some ts)) (at_end ∙ ap (λ (e : End). end_view e ∷ after) is)
+        ∙ goes after s t sees.variables (left None task)
+
+    -- at a loop's test
+    pub turn_over : (e : End) (loop : TaskInMemory) → o.end ≡ e → new.task ≡ Some loop
+        → ((lent : Lent) (k : ℕ) (s : Shared) (t : Thread) → step_within unit w.classes lent k s t false (Some (end_view e ∷ after)) ≡ thread.Advances s (with_tasks t (task_view loop ∷ after)) Quiet)
+        → Advances unit w old outcome.Stays new
+    turn_over e loop is task steps = λ lent k s t sees has.
+        ap (λ (ts : List Task). step_within unit w.classes lent k s t false (Some ts)) (at_end ∙ ap (λ (f : End). end_view f ∷ after) is)
+        ∙ steps lent k s t
+        ∙ goes (task_view loop ∷ after) s t sees.variables (left (Some loop) task)

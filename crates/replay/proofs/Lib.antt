@@ -1,6 +1,9 @@
+mod TermLemmas
+mod VariableLemmas
+mod SightLemmas
+mod PutLemmas
 mod LoadedObjects
 mod HeapLemmas
-mod VariableLemmas
 mod TaskLemmas
 mod CallLemmas
 mod ActivationLemmas

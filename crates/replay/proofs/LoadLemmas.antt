@@ -13,7 +13,7 @@ use Rattle.regions.specs.Start.{waiting_thread}
 use Rattle.replay.specs.declared.thread.Thread.{Thread as ThreadInMemory}
 use Rattle.replay.specs.Loading.{refused_calls, first_line, IsWaiting, AreWaiting}
 use Rattle.replay.specs.States.{ThreadsStand}
-use Rattle.replay.specs.Threads.{ThreadStands, VariablesIn, tasks_in, ending_in}
+use Rattle.replay.specs.Threads.{ThreadStands, VariablesIn, FramesIn, tasks_in, ending_in}
 use Rattle.replay.specs.declared.activation.Activation.{Activation}
 
 -- the calls of each thread
@@ -88,6 +88,7 @@ module _ (unit : SourceUnit) (classes : Classes) where
     loads = subst (λ (cs : List CallScene). IsTrue (list_all (call_loads unit classes) (map invocation_of cs))) (sym h.same) (all_pass (call_loads unit classes) (map invocation_of calls) none);
     tasks = ap tasks_in (sym h.idle);
     variables = subst (λ (o : Option Activation). VariablesIn o []) (sym h.idle) tt;
+    frames = subst (λ (o : Option Activation). FramesIn o []) (sym h.idle) tt;
     pending = refl;
     ending = ap ending_in (sym h.unended);
   }

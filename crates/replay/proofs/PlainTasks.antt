@@ -1,47 +1,44 @@
 -- No task of a thread in memory makes an object or waits for a monitor.
-use Rattle.std.proofs.Common.{◌≡◌, ℕ, Bool, true, false, cond, List, [], ◌∷◌, Option, Some, None, refl, sym, ap, ◌∙◌, subst, IsTrue}
+use Rattle.std.proofs.Common.{◌≡◌, ℕ, ℤ, Bool, true, false, cond, List, [], ◌∷◌, ◌++◌, Option, Some, None, refl, sym, ap, ◌∙◌, subst, IsTrue}
 use Rattle.std.specs.Prelude.{not}
 use Rattle.base.specs.Bytes.{Identifier}
-use Rattle.syntax.specs.declared.expr.Expr.{Expr as ExprInMemory}
-use Rattle.syntax.specs.declared.expr.Expr.TheVariants as expr
-use Rattle.syntax.specs.declared.expr.Constant.TheVariants as constant
-use Rattle.syntax.specs.declared.call.RightSide.TheVariants as right
-use Rattle.syntax.specs.declared.stmt.Form.{Form}
-use Rattle.syntax.specs.declared.stmt.Form.TheVariants as form
+use Rattle.base.specs.Element.{JChar}
+use Rattle.base.specs.Options.{some_passes}
 use Rattle.syntax.specs.declared.stmt.Stmt.{Stmt as StmtInMemory}
-use Rattle.syntax.specs.Tree.{SourceUnit, Call, True, False, Commit, Abort, Null}
-use Rattle.syntax.specs.Views.{expr_tree, call_tree, variable_type_tree, form_tree}
+use Rattle.syntax.specs.Parts.{call_of_right_side}
+use Rattle.syntax.specs.Tree as tree
+use Rattle.syntax.specs.Tree.{SourceUnit, Call, Expr, Block, True, False, Commit, Abort, Null}
+use Rattle.syntax.specs.Views.{stmt_tree, call_tree}
 use Rattle.classes.specs.Class.{Classes}
-use Rattle.types.specs.BuiltCalls.{is_built_call, calls_unbuilt}
+use Rattle.types.specs.BuiltCalls.{is_built_call}
 use Rattle.types.specs.JniFunction.{JniFunction, GetArrayLength}
 use Rattle.regions.specs.Arguments.{Actual, actuals}
 use Rattle.regions.specs.CallStep.{waits_with, call_step, after_refusal, makes_objects, checked, trap_of_call}
 use Rattle.regions.specs.CallTable.{call_effect}
-use Rattle.regions.specs.Effect.{Effect, Becomes, Sets, SetsNull, SetsElement, MakesArray, Prints, Calls, Returns, TrapsAt, NoEffect, goes_on, with_value, print_effect, returned_name, return_effect, effect_of, is_ready, reduce_first}
+use Rattle.regions.specs.Effect.{Effect, Becomes, Sets, SetsNull, SetsElement, MakesArray, Prints, Calls, Returns, TrapsAt, NoEffect, at_line, goes_on, with_value, print_effect, branch_effect, loop_effect, element_effect, returned_name, return_effect, effect_of, is_ready, reduce_first}
 use Rattle.regions.specs.Sight.{Sight}
-use Rattle.regions.specs.Task.{Task, SetScalar, SetElement, SetNull, MakeArray, Invoke, Print, Branch, EndIf, Loop, EndTurn, Return, ReturnValue, Impossible, Operand, Target, Declared, ScalarKind, kind_of, set_task, invocation, call_task, task_of}
-use Rattle.regions.specs.Term.{Term, Done, Number, Named, Read, Element, IsNull, Prefix, And, Or, Binary, reduce}
+use Rattle.regions.specs.Task.{Task, SetScalar, SetElement, SetNull, MakeArray, Invoke, Print, Branch, EndIf, Loop, EndTurn, Return, ReturnValue, Impossible, Operand, Target, Declared, Assigned, Tested, Dropped, BufferKind, kind_of, set_task, right_side_task, invocation, call_task, task_of}
+use Rattle.regions.specs.Term.{Term, Done, Number, Named, Read, Element, IsNull, Prefix, And, Or, Binary, index_of, reduce}
 use Rattle.regions.specs.Thread.{Thread, Shared, Lent, NoAdvance, sight_of}
 use Rattle.regions.specs.ThreadStep.{thread_step, step_within, after_refused_effect, next_effect, waits}
 use Rattle.regions.specs.Value.{Value, Word, Int, Flag, Truth, Trap, Outcome, Gives, Traps, Stuck}
-use Rattle.replay.specs.Activations.{tasks_from, tasks_left, StatementsInRange, BegunInRange}
-use Rattle.replay.specs.Tasks.{task_view, TaskInRange}
+use Rattle.replay.specs.Activations.{tasks_from, tasks_around, tasks_behind, tasks_left, BegunInRange}
+use Rattle.replay.specs.Outcomes.{target_view}
+use Rattle.replay.specs.Tasks.{task_view, end_view, tasks_of_statements, calls_built, StatementsInRange, TaskInRange}
 use Rattle.replay.specs.Threads.{ThreadStands, tasks_in, WorkInRange}
 use Rattle.replay.specs.declared.activation.Activation.{Activation}
+use Rattle.replay.specs.declared.activation.Outer.{Outer}
+use Rattle.replay.specs.declared.outcome.End.{End}
+use Rattle.replay.specs.declared.outcome.End.TheVariants as end
 use Rattle.replay.specs.declared.task.Task.{Task as TaskInMemory}
 use Rattle.replay.specs.declared.task.Task.TheVariants as task
 use Rattle.replay.specs.declared.thread.Thread.{Thread as ThreadInMemory}
 use Rattle.replay.proofs.CallLemmas.{is_length}
 
--- the tasks of a thread in memory
+-- the tasks of a thread in memory, which call GetArrayLength alone
 abbrev IsPlain : Task → Type 0
-IsPlain (SetScalar line x e) = Unit {0}
-IsPlain (SetNull target) = Unit {0}
 IsPlain (Invoke line target f operands) = f ≡ GetArrayLength
-IsPlain (Print line e) = Unit {0}
-IsPlain Return = Unit {0}
-IsPlain (ReturnValue line e) = Unit {0}
-IsPlain t = ⊥
+IsPlain t = Unit {0}
 
 abbrev BeginsPlain : List Task → Type 0
 BeginsPlain [] = Unit {0}
@@ -77,6 +74,33 @@ print-none (Int z) = tt
 print-none (Flag b) = tt
 print-none (Truth b) = tt
 
+branch-none : (a b : Block) (v : Value) → CallsNone (branch_effect a b v)
+branch-none a b (Word n) = tt
+branch-none a b (Int z) = tt
+branch-none a b (Flag c) = tt
+branch-none a b (Truth true) = tt
+branch-none a b (Truth false) = tt
+
+loop-none : (line : ℕ) (test : Expr) (body : Block) (v : Value) → CallsNone (loop_effect line test body v)
+loop-none line test body (Word n) = tt
+loop-none line test body (Int z) = tt
+loop-none line test body (Flag c) = tt
+loop-none line test body (Truth true) = tt
+loop-none line test body (Truth false) = tt
+
+at_line-none : {A : Type 0} (line : ℕ) (effect : A → Effect) (o : Outcome A) → ((a : A) → CallsNone (effect a)) → CallsNone (at_line line effect o)
+at_line-none line effect (Gives a) h = h a
+at_line-none line effect (Traps trap) h = tt
+at_line-none line effect Stuck h = tt
+
+element-none : (sight : Sight) (line : ℕ) (x : Identifier) (i v : Value) → CallsNone (element_effect sight line x i v)
+element-none sight line x i (Word n) = tt
+element-none sight line x i (Int z) =
+    at_line-none line (λ n. at_line line (λ (old : ℤ). SetsElement x n z) (sight.element x n)) (index_of i)
+    (λ n. at_line-none line (λ (old : ℤ). SetsElement x n z) (sight.element x n) (λ old. tt))
+element-none sight line x i (Flag b) = tt
+element-none sight line x i (Truth b) = tt
+
 name-none : (line : ℕ) (o : Outcome Value) → CallsNone (returned_name line o)
 name-none line (Gives v) = tt
 name-none line (Traps trap) = tt
@@ -107,55 +131,88 @@ by_ready false line target f args Stuck h = tt
 -- the effect of a plain task is no other call
 effect-none : (sight : Sight) (t : Task) → IsPlain t → CallsNone (effect_of sight t)
 effect-none sight (SetScalar line x e) h = with_value-none sight line (Sets x) (SetScalar line x) e (λ v. tt)
-effect-none sight (SetElement line x i e) h = absurd h
+effect-none sight (SetElement line x i e) h =
+    with_value-none sight line (λ v. with_value sight line (element_effect sight line x v) (SetElement line x (Done v)) e) (λ u. SetElement line x u e) i
+    (λ v. with_value-none sight line (element_effect sight line x v) (SetElement line x (Done v)) e (element-none sight line x v))
 effect-none sight (SetNull target) h = tt
-effect-none sight (MakeArray T x n) h = absurd h
+effect-none sight (MakeArray T x n) h = tt
 effect-none sight (Invoke line target f operands) h = by_ready (is_ready operands) line target f (actuals sight f operands) (reduce_first sight operands) h
 effect-none sight (Print line e) h = with_value-none sight line print_effect (Print line) e print-none
-effect-none sight (Branch line e a b) h = absurd h
-effect-none sight EndIf h = absurd h
-effect-none sight (Loop line test e body) h = absurd h
-effect-none sight (EndTurn line test body) h = absurd h
+effect-none sight (Branch line e a b) h = with_value-none sight line (branch_effect a b) (λ u. Branch line u a b) e (branch-none a b)
+effect-none sight EndIf h = tt
+effect-none sight (Loop line test e body) h = with_value-none sight line (loop_effect line test body) (λ u. Loop line test u body) e (loop-none line test body)
+effect-none sight (EndTurn line test body) h = tt
 effect-none sight Return h = tt
 effect-none sight (ReturnValue line e) h = return-none sight line e
-effect-none sight Impossible h = absurd h
+effect-none sight Impossible h = tt
 
 -- ---- tasks
 
 call-plain : (line : ℕ) (target : Target) (c : Call) → IsTrue (is_built_call c) → IsPlain (call_task line target c)
 call-plain line target c built = subst (λ (o : Option JniFunction). IsPlain (invocation line target c o)) (sym (is_length c built)) refl
 
-expr-plain : (line : ℕ) (target : Target) (x : Identifier) (e : ExprInMemory) → IsPlain (set_task line target x (expr_tree e))
-expr-plain line target x (expr.Number n u) = tt
-expr-plain line target x (expr.Named constant.Null) = tt
-expr-plain line target x (expr.Variable y) = tt
-expr-plain line target x (expr.Prefix' op p a) = tt
-expr-plain line target x (expr.Binary' op p a q b) = tt
-expr-plain line target x (expr.Paren' p a) = tt
+expr-plain : (line : ℕ) (target : Target) (x : Identifier) (e : Expr) → IsPlain (set_task line target x e)
+expr-plain line target x (tree.Number n u) = tt
+expr-plain line target x (tree.Named True) = tt
+expr-plain line target x (tree.Named False) = tt
+expr-plain line target x (tree.Named Commit) = tt
+expr-plain line target x (tree.Named Abort) = tt
+expr-plain line target x (tree.Named Null) = tt
+expr-plain line target x (tree.Variable y) = tt
+expr-plain line target x (tree.Element y i) = tt
+expr-plain line target x (tree.Prefix op a) = tt
+expr-plain line target x (tree.Binary op a b) = tt
+expr-plain line target x (tree.Paren a) = tt
 
 unnot : (b : Bool) → not (not b) ≡ true → b ≡ true
 unnot true h = refl
 unnot false h = absurd (cc)
 
-statement-plain : (line : ℕ) (f : Form) → IsTrue (not (calls_unbuilt (form_tree line f))) → IsPlain (task_of (form_tree line f))
-statement-plain line (form.Declare t x (right.Expr e)) built = expr-plain line (Declared (kind_of (variable_type_tree t)) x) x e
-statement-plain line (form.Declare t x (right.Call c)) built = call-plain line (Declared (kind_of (variable_type_tree t)) x) (call_tree c) (unnot (is_built_call (call_tree c)) built)
-statement-plain line (form.PutJint e) built = tt
-statement-plain line (form.Return None) built = tt
-statement-plain line (form.Return (Some e)) built = tt
+right-plain : (line : ℕ) (target : Target) (x : Identifier) (r : tree.RightSide) → IsTrue (not (some_passes (λ c. not (is_built_call c)) (call_of_right_side (Some r)))) → IsPlain (right_side_task line target x r)
+right-plain line target x (tree.FromExpr e) built = expr-plain line target x e
+right-plain line target x (tree.FromCall c) built = call-plain line target c (unnot (is_built_call c) built)
+
+statement-plain : (s : tree.Stmt) → IsTrue (calls_built s) → IsPlain (task_of s)
+statement-plain (tree.Declare line t x r) built = right-plain line (Declared (kind_of t) x) x r built
+statement-plain (tree.DeclareBuffer line t x r) built = right-plain line (Declared (BufferKind t) x) x r built
+statement-plain (tree.DeclareChars line x r) built = right-plain line (Declared (BufferKind JChar) x) x r built
+statement-plain (tree.DeclareArray line t x size) built = tt
+statement-plain (tree.Assign line x r) built = right-plain line (Assigned x) x r built
+statement-plain (tree.AssignElement line x i e) built = tt
+statement-plain (tree.Perform line c) built = call-plain line Dropped c (unnot (is_built_call c) built)
+statement-plain (tree.PutJint line e) built = tt
+statement-plain (tree.If line (tree.TestExpr e) b) built = tt
+statement-plain (tree.If line (tree.TestCall c) b) built = call-plain line (Tested b (tree.End line)) c (unnot (is_built_call c) built)
+statement-plain (tree.IfElse line (tree.TestExpr e) b d) built = tt
+statement-plain (tree.IfElse line (tree.TestCall c) b d) built = call-plain line (Tested b d) c (unnot (is_built_call c) built)
+statement-plain (tree.While line test body) built = tt
+statement-plain (tree.Return line) built = tt
+statement-plain (tree.ReturnValue line e) built = tt
 
 task-plain : (t : TaskInMemory) → TaskInRange t → IsPlain (task_view t)
 task-plain (task.Print line e) h = tt
 task-plain (task.Set line x e) h = tt
-task-plain (task.SetNull x) h = tt
-task-plain (task.Invoke line x c) h = call-plain line (Declared ScalarKind x.now) (call_tree c.now) h
+task-plain (task.SetElement line x i e) h = tt
+task-plain (task.SetNull to) h = tt
+task-plain (task.MakeArray T x n) h = tt
+task-plain (task.Invoke line to c) h = call-plain line (target_view to) (call_tree c.now) h
+task-plain (task.Branch line e b other) h = tt
+task-plain (task.Loop line test e body) h = tt
 task-plain task.Return h = tt
 task-plain (task.ReturnValue line e) h = tt
 
-begins-plain : (o : Option TaskInMemory) (rest : List StmtInMemory) → BegunInRange o → StatementsInRange rest → BeginsPlain (tasks_from o rest)
-begins-plain None [] h r = tt
-begins-plain None (s ∷ rest) h r = statement-plain s.line s.form r.0.built
-begins-plain (Some t) rest h r = task-plain t h
+end-plain : (e : End) → IsPlain (end_view e)
+end-plain end.If = tt
+end-plain (end.Turn line test body) = tt
+
+around-plain : (behind : List Task) (os : List Outer) → BeginsPlain behind → BeginsPlain (tasks_around behind os)
+around-plain behind [] h = h
+around-plain behind (o ∷ os) h = around-plain (end_view o.end ∷ tasks_of_statements o.rest.now ++ behind) os (end-plain o.end)
+
+begins-plain : (o : Option TaskInMemory) (rest : List StmtInMemory) (os : List Outer) → BegunInRange o → StatementsInRange rest → BeginsPlain (tasks_from o (tasks_behind rest os))
+begins-plain None [] os h r = around-plain [] os tt
+begins-plain None (s ∷ rest) os h r = statement-plain (stmt_tree s) r.0.built
+begins-plain (Some t) rest os h r = task-plain t h
 
 -- ---- threads
 
@@ -187,7 +244,7 @@ module _ (unit : SourceUnit) (classes : Classes) (shared : Shared) (lent : Lent)
 
   refused_work : (s : Thread) (o : Option Activation) → WorkInRange o → step_within unit classes lent k shared s true (tasks_in o) ≡ NoAdvance
   refused_work s None r = refl
-  refused_work s (Some a) r = refused_tasks s (tasks_left a) (begins-plain a.task a.rest.now r.begun r.rest)
+  refused_work s (Some a) r = refused_tasks s (tasks_left a) (begins-plain a.task a.rest.now a.outer.items r.begun r.rest)
 
   -- no step makes an object, so none can be refused one
   pub refused_none : (t : ThreadInMemory) (s : Thread) → ThreadStands unit classes t s → WorkInRange t.activation → thread_step unit classes lent k shared s true ≡ NoAdvance
@@ -212,7 +269,7 @@ module _ (unit : SourceUnit) (classes : Classes) (shared : Shared) (k : ℕ) whe
 
   free_work : (s : Thread) (o : Option Activation) → WorkInRange o → waits_with classes k shared s (next_effect shared s (tasks_in o)) ≡ false
   free_work s None r = refl
-  free_work s (Some a) r = free_tasks s (tasks_left a) (begins-plain a.task a.rest.now r.begun r.rest)
+  free_work s (Some a) r = free_tasks s (tasks_left a) (begins-plain a.task a.rest.now a.outer.items r.begun r.rest)
 
   -- no thread waits for a monitor
   pub waits_none : (t : ThreadInMemory) (s : Thread) → ThreadStands unit classes t s → WorkInRange t.activation → waits classes k shared s ≡ false

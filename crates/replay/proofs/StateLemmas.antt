@@ -4,11 +4,7 @@ use Rattle.std.specs.Prelude.{slice_get, slice_set, ◌&&◌, not, is_none, ◌=
 use Rattle.std.specs.List.{enumerate_from}
 use Rattle.std.specs.Borrow.{Bor}
 use Rattle.std.specs.Option.{option_map, is_some}
-use Rattle.syntax.specs.Parts.{statics_of}
-use Rattle.syntax.specs.Tree.{Static, SourceUnit}
-use Rattle.syntax.specs.declared.unit.Item.{Item}
-use Rattle.syntax.specs.declared.unit.Item.TheVariants as item
-use Rattle.syntax.specs.Views.{unit_tree}
+use Rattle.syntax.specs.Tree.{SourceUnit}
 use Rattle.classes.specs.Class.{Classes}
 use Rattle.world.specs.declared.journal.Entry.{Entry}
 use Rattle.world.specs.declared.report.Printed.{Printed}
@@ -26,8 +22,6 @@ use Rattle.regions.specs.State.{State, thread_at, set_thread, lent, with_event, 
 use Rattle.regions.specs.Step.{world_step, can_step, step_of, is_blocked, is_live, is_unfinished, is_waiting}
 use Rattle.regions.specs.Thread.{Thread, Shared, Unfinished, Quiet, PrintedNumber, Trapped, Advance}
 use Rattle.regions.specs.ThreadStep.{thread_step}
-use Rattle.regions.specs.Start.{null_static}
-use Rattle.regions.specs.Variable.{Statics}
 use Rattle.regions.proofs.StepLaws.{Steps, steps, step-thread}
 use Rattle.replay.specs.declared.state.State.{State as StateInMemory}
 use Rattle.replay.specs.declared.thread.Thread.{Thread as ThreadInMemory}
@@ -35,7 +29,7 @@ use Rattle.replay.specs.declared.thread.Step.{Step}
 use Rattle.replay.specs.declared.thread.Step.TheVariants as step
 use Rattle.replay.specs.declared.state.Stop.{Stop as StopInMemory}
 use Rattle.replay.specs.Rows.{rows_of}
-use Rattle.replay.specs.Tasks.{trap_view}
+use Rattle.replay.specs.Views.{trap_view}
 use Rattle.replay.specs.States.{ThreadsStand, AreInRange, Stands, stop_view, printed_after, stop_after, is_possible, Leads, standing_by, standing_of, standings_of}
 use Rattle.replay.specs.Threads.{ThreadStands, WorkInRange, IsAsLoaded, ending_in, StepIs, TakesStep}
 use Rattle.replay.proofs.PlainTasks.{refused_none, waits_none}
@@ -109,10 +103,10 @@ entry_is e k same possible = ap (λ (r : Bool). record { thread = e.thread; refu
 
 module _ (unit : SourceUnit) (w : World) (m : StateInMemory) (s : State) (h : Stands unit w m s) (range : AreInRange m.threads.items) where
   -- what all threads share is as at the start
-  as_loaded : statics_of unit ≡ [] → IsAsLoaded w s.shared
-  as_loaded none = record {
+  as_loaded : IsAsLoaded unit w s.shared
+  as_loaded = record {
     heap = ap (λ (x : Shared). x.heap) h.shared;
-    statics = ap (λ (x : Shared). x.statics) h.shared ∙ ap (λ (gs : List Static). let ss : Statics = map null_static gs in ss) none;
+    statics = ap (λ (x : Shared). x.statics) h.shared;
     monitors = ap (λ (x : Shared). x.monitors) h.shared;
   }
 
@@ -181,7 +175,7 @@ module _ (unit : SourceUnit) (w : World) (m : StateInMemory) (s : State) (h : St
   blocked_none : (k : ℕ) → is_blocked w.classes s k ≡ false
   blocked_none k = waiting_none k (thread_at s k) refl
 
-  module _ (i : ℕ) (t after : ThreadInMemory) (at : slice_get m.threads.items i ≡ Some t) (live : t.ended ≡ false) (none : statics_of unit ≡ []) (runs : is_some m.stop ≡ false)
+  module _ (i : ℕ) (t after : ThreadInMemory) (at : slice_get m.threads.items i ≡ Some t) (live : t.ended ≡ false) (runs : is_some m.stop ≡ false)
       (new : StateInMemory) (world : new.world ≡ m.world) (threads : new.threads.items ≡ slice_set m.threads.items i after) where
     the_thread : Found unit w.classes t s.threads i
     the_thread = found unit w.classes m.threads.items s.threads i t h.threads at
@@ -234,16 +228,16 @@ module _ (unit : SourceUnit) (w : World) (m : StateInMemory) (s : State) (h : St
 
     takes_at : (took : Step) → TakesStep unit w t took after → new.printed.items ≡ printed_after m.printed.items (suc i) took → new.stop ≡ stop_after m.stop (suc i) took
         → Leads unit w s (record { thread = suc i; refused = false }) new (is_possible took)
-    takes_at took step printed stop = by_step took (step the_thread.source s.shared (lent s) (suc i) the_thread.stands unended (as_loaded none)) printed stop
+    takes_at took step printed stop = by_step took (step the_thread.source s.shared (lent s) (suc i) the_thread.stands unended as_loaded) printed stop
 
   -- an entry is possible as far as its thread's step is
   pub takes : (e : Entry) (i : ℕ) (t after : ThreadInMemory) (took : Step) (new : StateInMemory) → e.thread ≡ suc i → e.refused ≡ false → slice_get m.threads.items i ≡ Some t → t.ended ≡ false
-      → statics_of unit ≡ [] → is_some m.stop ≡ false → TakesStep unit w t took after → new.world ≡ m.world → new.threads.items ≡ slice_set m.threads.items i after
+      → is_some m.stop ≡ false → TakesStep unit w t took after → new.world ≡ m.world → new.threads.items ≡ slice_set m.threads.items i after
       → new.printed.items ≡ printed_after m.printed.items e.thread took → new.stop ≡ stop_after m.stop e.thread took
       → Leads unit w s e new (is_possible took)
-  takes e i t after took new counted possible at live none runs step world threads printed stop =
+  takes e i t after took new counted possible at live runs step world threads printed stop =
       subst (λ x. Leads unit w s x new (is_possible took)) (sym (entry_is e (suc i) counted possible))
-      (takes_at i t after at live none runs new world threads took step (printed ∙ ap (λ k. printed_after m.printed.items k took) counted) (stop ∙ ap (λ k. stop_after m.stop k took) counted))
+      (takes_at i t after at live runs new world threads took step (printed ∙ ap (λ k. printed_after m.printed.items k took) counted) (stop ∙ ap (λ k. stop_after m.stop k took) counted))
 
   -- ---- the report
 
@@ -293,8 +287,3 @@ module _ (unit : SourceUnit) (w : World) (m : StateInMemory) (s : State) (h : St
       let objects = rows_same w h.world (ap (λ (x : Shared). x.heap) h.shared) in
       let standings = standings_same 1 m.threads.items s.threads h.threads in
       rw (objects, standings, h.printed) refl
-
--- a unit in memory has no statics
-pub no_statics : (items : List Item) → statics_of (unit_tree items) ≡ []
-no_statics [] = refl
-no_statics (item.Function f ∷ items) = no_statics items

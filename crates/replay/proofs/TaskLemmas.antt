@@ -1,92 +1,169 @@
 -- What a task's step in memory does is what the task's step does.
-use Rattle.std.proofs.Common.{◌≡◌, ℕ, Bool, true, false, List, [], Option, Some, refl, sym, ap, ◌∙◌, subst}
+use Rattle.std.proofs.Common.{◌≡◌, ℕ, List, [], ◌∷◌, ◌++◌, Option, Some, refl, sym, ap, ◌∙◌, subst}
 use Rattle.std.specs.Borrow.{Bor}
+use Rattle.base.specs.Bytes.{Identifier}
 use Rattle.syntax.specs.declared.expr.Constant.{Constant}
+use Rattle.syntax.specs.declared.expr.Constant.TheVariants as constant
+use Rattle.syntax.specs.declared.expr.Expr.{Expr as ExprInMemory}
+use Rattle.syntax.specs.declared.stmt.Block.{Block as BlockInMemory, out-Block}
+use Rattle.syntax.specs.declared.stmt.Stmt.{Stmt as StmtInMemory}
+use Rattle.syntax.specs.Tree.{Block}
+use Rattle.syntax.specs.Views.{constant_tree, expr_tree, block_tree}
+use Rattle.syntax.proofs.Blocks.{block_is}
 use Rattle.world.specs.World.{World}
-use Rattle.regions.specs.Effect.{goes_on, effect_of}
+use Rattle.regions.specs.Effect.{Effect, Becomes, Sets, goes_on, with_value, print_effect, branch_effect, loop_effect, element_effect, return_effect, effect_of}
 use Rattle.regions.specs.Heap.{Heap}
 use Rattle.regions.specs.Sight.{Sight, seen}
-use Rattle.regions.specs.Task.{Task, Print, ReturnValue, SetScalar}
-use Rattle.regions.specs.Thread.{Thread, Shared, Lent, sight_of}
+use Rattle.regions.specs.Task.{Task, SetScalar, SetElement, Print, Branch, Loop, ReturnValue, tasks_of}
+use Rattle.regions.specs.Term as tree
+use Rattle.regions.specs.Term.{reduce}
+use Rattle.regions.specs.Thread.{Thread, Shared, Lent, sight_of, Trapped, Advances}
 use Rattle.regions.specs.ThreadStep.{after_effect, with_tasks}
-use Rattle.regions.specs.Variable.{Variables}
-use Rattle.replay.specs.declared.term.Value.{Value}
+use Rattle.regions.specs.Value.{Value}
+use Rattle.regions.specs.Variable.{Variables, Statics}
+use Rattle.replay.specs.declared.outcome.Outcome.{Outcome}
+use Rattle.replay.specs.declared.outcome.Outcome.TheVariants as outcome
+use Rattle.replay.specs.declared.reduce.Reduction.{Reduction}
+use Rattle.replay.specs.declared.reduce.Reduction.TheVariants as reduction
 use Rattle.replay.specs.declared.term.Term.{Term}
 use Rattle.replay.specs.declared.term.Term.TheVariants as term
+use Rattle.replay.specs.declared.value.Value.{Value as ValueInMemory}
 use Rattle.replay.specs.declared.task.Task.{Task as TaskInMemory}
+use Rattle.replay.specs.Steps.{effect_by, HasEffect, Sees, left_by, Does, worked}
 use Rattle.replay.specs.declared.task.Task.TheVariants as task
-use Rattle.replay.specs.declared.task.Outcome.{Outcome}
-use Rattle.replay.specs.declared.task.Outcome.TheVariants as outcome
-use Rattle.replay.specs.Views.{Reduces}
-use Rattle.replay.specs.Tasks.{task_view, effect_by, HasEffect, Sees, left_by, Does, worked}
+use Rattle.replay.specs.Tasks.{task_view, else_tree, tasks_of_statements, OutcomeInRange}
+use Rattle.replay.specs.Views.{value_view, term_view, trap_view, Reduces}
+use Rattle.replay.proofs.RangeLemmas.{tasks_of-statements}
 
 -- what a thread can see, where these are its variables
-pub sees_so : (w : World) (vs : Variables) (s : Shared) (t : Thread) → Sees w vs s t → sight_of s t ≡ seen vs [] s.heap
-sees_so w vs s t sees = rw (sees.variables, sees.statics) refl
+pub sees_so : (w : World) (vs : Variables) (ss : Statics) (s : Shared) (t : Thread) → Sees w vs ss s t → sight_of s t ≡ seen vs ss s.heap
+sees_so w vs ss s t sees = rw (sees.variables, sees.statics) refl
 
 -- a thread that has these tasks
 pub same_thread : (t : Thread) (tasks : List Task) → t.tasks ≡ Some tasks → t ≡ with_tasks t tasks
 same_thread t tasks has = ap (λ (o : Option (List Task)). let u : Thread = record t { tasks = o } in u) has
 
-module _ (w : World) (vs : Variables) (old new : TaskInMemory) where
-  by_effect : (took : Outcome) → ((heap : Heap) → effect_of (seen vs [] heap) (task_view old) ≡ effect_by took new)
-      → ((lent : Lent) (k : ℕ) (s : Shared) (t : Thread) (rest : List Task) → after_effect w.classes lent k s t rest (effect_by took new) ≡ left_by k s t rest took new) → Does w vs old took new
+module _ (w : World) (vs : Variables) (ss : Statics) (old new : TaskInMemory) where
+  by_effect : (took : Outcome) → ((heap : Heap) → effect_of (seen vs ss heap) (task_view old) ≡ effect_by took new)
+      → ((lent : Lent) (k : ℕ) (s : Shared) (t : Thread) (rest : List Task) → t.tasks ≡ Some (task_view old ∷ rest) → after_effect w.classes lent k s t rest (effect_by took new) ≡ left_by k s t rest took new) → Does w vs ss old took new
   by_effect took h left = λ lent k s t rest sees has.
-      ap (λ (sight : Sight). after_effect w.classes lent k s t rest (effect_of sight (task_view old))) (sees_so w vs s t sees)
+      ap (λ (sight : Sight). after_effect w.classes lent k s t rest (effect_of sight (task_view old))) (sees_so w vs ss s t sees)
       ∙ ap (after_effect w.classes lent k s t rest) (h s.heap)
-      ∙ left lent k s t rest
+      ∙ left lent k s t rest has
 
   -- a task does what its effect does
-  pub does : (took : Outcome) → HasEffect vs old took new → Does w vs old took new
-  does outcome.Stays h = by_effect outcome.Stays h (λ lent k s t rest. refl)
-  does (outcome.Printed z) h = by_effect (outcome.Printed z) h (λ lent k s t rest. refl)
-  does (outcome.Sets x v) h = by_effect (outcome.Sets x v) h (λ lent k s t rest. refl)
-  does outcome.Returned h = by_effect outcome.Returned h (λ lent k s t rest. refl)
-  does (outcome.Trapped trap line) h = absurd h
-  does outcome.Nothing h = by_effect outcome.Nothing h (λ lent k s t rest. refl)
+  pub does : (took : Outcome) → HasEffect vs ss old took new → Does w vs ss old took new
+  does outcome.Stays h = by_effect outcome.Stays h (λ lent k s t rest has. refl)
+  does (outcome.Printed z) h = by_effect (outcome.Printed z) h (λ lent k s t rest has. refl)
+  does (outcome.Sets x v) h = by_effect (outcome.Sets x v) h (λ lent k s t rest has. refl)
+  does (outcome.SetsNull to) h = by_effect (outcome.SetsNull to) h (λ lent k s t rest has. refl)
+  does (outcome.Puts to z) h = absurd h
+  does (outcome.SetsElement x i z) h = by_effect (outcome.SetsElement x i z) h (λ lent k s t rest has. refl)
+  does (outcome.Makes T x n) h = by_effect (outcome.Makes T x n) h (λ lent k s t rest has. refl)
+  does (outcome.Enters statements e) h = by_effect (outcome.Enters statements e) h (λ lent k s t rest has. refl)
+  does outcome.Over h = by_effect outcome.Over h (λ lent k s t rest has. refl)
+  does outcome.Returned h = by_effect outcome.Returned h (λ lent k s t rest has. refl)
+  does (outcome.Trapped trap line) h = by_effect (outcome.Trapped trap line) h.0 (λ lent k s t rest has.
+      ap (λ (u : Thread). Advances s u (Trapped (trap_view trap) line)) (same_thread t (task_view old ∷ rest) has)
+      ∙ ap (λ (u : TaskInMemory). Advances s (with_tasks t (task_view u ∷ rest)) (Trapped (trap_view trap) line)) (sym h.1))
+  does outcome.Nothing h = by_effect outcome.Nothing h (λ lent k s t rest has. refl)
 
 -- the same of a task that is written another way
-pub does_as : (w : World) (vs : Variables) (old written new : TaskInMemory) (took : Outcome) → old ≡ written → HasEffect vs written took new → Does w vs old took new
-does_as w vs old written new took same h = subst (λ (u : TaskInMemory). Does w vs u took new) (sym same) (does w vs written new took h)
+pub does_as : (w : World) (vs : Variables) (ss : Statics) (old written new : TaskInMemory) (took : Outcome) → old ≡ written → HasEffect vs ss written took new → Does w vs ss old took new
+does_as w vs ss old written new took same h = subst (λ (u : TaskInMemory). Does w vs ss u took new) (sym same) (does w vs ss written new took h)
 
 -- ---- a term that has no value yet
 
-module _ (vs : Variables) (line : ℕ) where
-  pub print_works : (old new : Term) (reduced : Bool) → ((v : Value) → old ≡ term.Done v → ⊥) → Reduces vs old reduced new → HasEffect vs (task.Print line old) (worked reduced) (task.Print line new)
-  print_works (term.Done v) new reduced no_value step = absurd (no_value v refl)
-  print_works (term.Number n unsigned) new true no_value step = λ heap. ap (goes_on line (Print line)) (step heap)
-  print_works (term.Number n unsigned) new false no_value step = λ heap. ap (goes_on line (Print line)) (step heap)
-  print_works (term.Named c) new true no_value step = λ heap. ap (goes_on line (Print line)) (step heap)
-  print_works (term.Named c) new false no_value step = λ heap. ap (goes_on line (Print line)) (step heap)
-  print_works (term.Read x) new true no_value step = λ heap. ap (goes_on line (Print line)) (step heap)
-  print_works (term.Read x) new false no_value step = λ heap. ap (goes_on line (Print line)) (step heap)
-  print_works (term.Prefix' op p t) new true no_value step = λ heap. ap (goes_on line (Print line)) (step heap)
-  print_works (term.Prefix' op p t) new false no_value step = λ heap. ap (goes_on line (Print line)) (step heap)
-  print_works (term.Binary' op p s q t) new true no_value step = λ heap. ap (goes_on line (Print line)) (step heap)
-  print_works (term.Binary' op p s q t) new false no_value step = λ heap. ap (goes_on line (Print line)) (step heap)
+-- it takes its step inside the task
+pub no_value : (t : Term) → ((v : ValueInMemory) → t ≡ term.Done v → ⊥) → (sight : Sight) (line : ℕ) (use_value : Value → Effect) (whole : tree.Term → Task)
+    → with_value sight line use_value whole (term_view t) ≡ goes_on line whole (reduce sight (term_view t))
+no_value (term.Done v) none sight line use_value whole = absurd (none v refl)
+no_value (term.Number n unsigned) none sight line use_value whole = refl
+no_value (term.Named c) none sight line use_value whole = refl
+no_value (term.Read x) none sight line use_value whole = refl
+no_value (term.Element' x p i) none sight line use_value whole = refl
+no_value (term.IsNull wanted x) none sight line use_value whole = refl
+no_value (term.Prefix' op p t) none sight line use_value whole = refl
+no_value (term.And' p s q t) none sight line use_value whole = refl
+no_value (term.Or' p s q t) none sight line use_value whole = refl
+no_value (term.Binary' op p s q t) none sight line use_value whole = refl
 
-  module _ (x : Bor (List ℕ)) where
-    pub set_works : (old new : Term) (reduced : Bool) → ((v : Value) → old ≡ term.Done v → ⊥) → Reduces vs old reduced new → HasEffect vs (task.Set line x old) (worked reduced) (task.Set line x new)
-    set_works (term.Done v) new reduced no_value step = absurd (no_value v refl)
-    set_works (term.Number n unsigned) new true no_value step = λ heap. ap (goes_on line (SetScalar line x.now)) (step heap)
-    set_works (term.Number n unsigned) new false no_value step = λ heap. ap (goes_on line (SetScalar line x.now)) (step heap)
-    set_works (term.Named c) new true no_value step = λ heap. ap (goes_on line (SetScalar line x.now)) (step heap)
-    set_works (term.Named c) new false no_value step = λ heap. ap (goes_on line (SetScalar line x.now)) (step heap)
-    set_works (term.Read y) new true no_value step = λ heap. ap (goes_on line (SetScalar line x.now)) (step heap)
-    set_works (term.Read y) new false no_value step = λ heap. ap (goes_on line (SetScalar line x.now)) (step heap)
-    set_works (term.Prefix' op p t) new true no_value step = λ heap. ap (goes_on line (SetScalar line x.now)) (step heap)
-    set_works (term.Prefix' op p t) new false no_value step = λ heap. ap (goes_on line (SetScalar line x.now)) (step heap)
-    set_works (term.Binary' op p s q t) new true no_value step = λ heap. ap (goes_on line (SetScalar line x.now)) (step heap)
-    set_works (term.Binary' op p s q t) new false no_value step = λ heap. ap (goes_on line (SetScalar line x.now)) (step heap)
+-- the task at a term works as the term does
+pub works : (vs : Variables) (ss : Statics) (line : ℕ) (at : Term → TaskInMemory) (whole : tree.Term → Task) → ((t : Term) → task_view (at t) ≡ whole (term_view t))
+    → (old new : Term) (took : Reduction) → ((heap : Heap) → effect_of (seen vs ss heap) (task_view (at old)) ≡ goes_on line whole (reduce (seen vs ss heap) (term_view old)))
+    → Reduces vs ss old took new → HasEffect vs ss (at old) (worked line took) (at new)
+works vs ss line at whole is old new reduction.Reduced goes step = λ heap. goes heap ∙ ap (goes_on line whole) (step heap) ∙ ap (λ (u : Task). Becomes (u ∷ [])) (sym (is new))
+works vs ss line at whole is old new (reduction.Trapped trap) goes step = (λ heap. goes heap ∙ ap (goes_on line whole) (step.0 heap), ap at step.1)
+works vs ss line at whole is old new reduction.Stuck goes step = λ heap. goes heap ∙ ap (goes_on line whole) (step heap)
 
-  pub return_works : (old new : Term) (reduced : Bool) → ((v : Value) → old ≡ term.Done v → ⊥) → ((c : Constant) → old ≡ term.Named c → ⊥) → ((x : List ℕ) → old ≡ term.Read x → ⊥) → Reduces vs old reduced new
-      → HasEffect vs (task.ReturnValue line old) (worked reduced) (task.ReturnValue line new)
-  return_works (term.Done v) new reduced no_value no_constant no_name step = absurd (no_value v refl)
-  return_works (term.Named c) new reduced no_value no_constant no_name step = absurd (no_constant c refl)
-  return_works (term.Read x) new reduced no_value no_constant no_name step = absurd (no_name x refl)
-  return_works (term.Number n unsigned) new true no_value no_constant no_name step = λ heap. ap (goes_on line (ReturnValue line)) (step heap)
-  return_works (term.Number n unsigned) new false no_value no_constant no_name step = λ heap. ap (goes_on line (ReturnValue line)) (step heap)
-  return_works (term.Prefix' op p t) new true no_value no_constant no_name step = λ heap. ap (goes_on line (ReturnValue line)) (step heap)
-  return_works (term.Prefix' op p t) new false no_value no_constant no_name step = λ heap. ap (goes_on line (ReturnValue line)) (step heap)
-  return_works (term.Binary' op p s q t) new true no_value no_constant no_name step = λ heap. ap (goes_on line (ReturnValue line)) (step heap)
-  return_works (term.Binary' op p s q t) new false no_value no_constant no_name step = λ heap. ap (goes_on line (ReturnValue line)) (step heap)
+-- ---- blocks
+
+-- the tasks of a block are those of its statements
+pub block_tasks : (b : BlockInMemory) → tasks_of_statements (out-Block b).statements.items ≡ tasks_of (block_tree b)
+block_tasks b = tasks_of-statements (out-Block b).statements.items (out-Block b).end_line ∙ ap tasks_of (sym (block_is b))
+
+-- a way that is entered
+pub way_entered : (statements : List StmtInMemory) (b : Block) (end' : Task) → tasks_of_statements statements ≡ tasks_of b → Becomes (tasks_of b ++ end' ∷ []) ≡ Becomes (tasks_of_statements statements ++ end' ∷ [])
+way_entered statements b end' same = ap (λ (ts : List Task). Becomes (ts ++ end' ∷ [])) (sym same)
+
+-- what was worked out leads into no block
+pub worked_in_range : (line : ℕ) (took : Reduction) → OutcomeInRange (worked line took)
+worked_in_range line reduction.Reduced = tt
+worked_in_range line (reduction.Trapped trap) = tt
+worked_in_range line reduction.Stuck = tt
+
+-- a constant that isn't NULL is worked out
+constant_worked_out : (sight : Sight) (line : ℕ) (c : Constant) → (c ≡ constant.Null → ⊥) → return_effect sight line (tree.Named (constant_tree c)) ≡ goes_on line (ReturnValue line) (reduce sight (tree.Named (constant_tree c)))
+constant_worked_out sight line constant.True no_null = refl
+constant_worked_out sight line constant.False no_null = refl
+constant_worked_out sight line constant.Commit no_null = refl
+constant_worked_out sight line constant.Abort no_null = refl
+constant_worked_out sight line constant.Null no_null = absurd (no_null refl)
+
+-- so is all else but a name
+worked_out : (sight : Sight) (line : ℕ) (t : Term) → ((v : ValueInMemory) → t ≡ term.Done v → ⊥) → (t ≡ term.Named constant.Null → ⊥) → ((x : List ℕ) → t ≡ term.Read x → ⊥)
+    → return_effect sight line (term_view t) ≡ goes_on line (ReturnValue line) (reduce sight (term_view t))
+worked_out sight line (term.Done v) none no_null no_name = absurd (none v refl)
+worked_out sight line (term.Number n unsigned) none no_null no_name = refl
+worked_out sight line (term.Named c) none no_null no_name = constant_worked_out sight line c (λ e. no_null (ap term.Named e))
+worked_out sight line (term.Read x) none no_null no_name = absurd (no_name x refl)
+worked_out sight line (term.Element' x p i) none no_null no_name = refl
+worked_out sight line (term.IsNull wanted x) none no_null no_name = refl
+worked_out sight line (term.Prefix' op p t) none no_null no_name = refl
+worked_out sight line (term.And' p s q t) none no_null no_name = refl
+worked_out sight line (term.Or' p s q t) none no_null no_name = refl
+worked_out sight line (term.Binary' op p s q t) none no_null no_name = refl
+
+-- ---- tasks at terms
+
+module _ (vs : Variables) (ss : Statics) (line : ℕ) (old new : Term) (took : Reduction) (none : (v : ValueInMemory) → old ≡ term.Done v → ⊥) (step : Reduces vs ss old took new) where
+  pub print_works : HasEffect vs ss (task.Print line old) (worked line took) (task.Print line new)
+  print_works = works vs ss line (task.Print line) (Print line) (λ t. refl) old new took (λ heap. no_value old none (seen vs ss heap) line print_effect (Print line)) step
+
+  pub set_works : (x : Bor Identifier) → HasEffect vs ss (task.Set line x old) (worked line took) (task.Set line x new)
+  set_works x = works vs ss line (task.Set line x) (SetScalar line x.now) (λ t. refl) old new took (λ heap. no_value old none (seen vs ss heap) line (Sets x.now) (SetScalar line x.now)) step
+
+  pub index_works : (x : Bor Identifier) (t : Term) → HasEffect vs ss (task.SetElement line x old t) (worked line took) (task.SetElement line x new t)
+  index_works x t =
+      works vs ss line (λ u. task.SetElement line x u t) (λ u. SetElement line x.now u (term_view t)) (λ u. refl) old new took
+      (λ heap. no_value old none (seen vs ss heap) line
+      (λ v. with_value (seen vs ss heap) line (element_effect (seen vs ss heap) line x.now v) (SetElement line x.now (tree.Done v)) (term_view t)) (λ u. SetElement line x.now u (term_view t))) step
+
+  pub element_works : (x : Bor Identifier) (i : ValueInMemory) → HasEffect vs ss (task.SetElement line x (term.Done i) old) (worked line took) (task.SetElement line x (term.Done i) new)
+  element_works x i =
+      works vs ss line (task.SetElement line x (term.Done i)) (SetElement line x.now (tree.Done (value_view i))) (λ u. refl) old new took
+      (λ heap. no_value old none (seen vs ss heap) line (element_effect (seen vs ss heap) line x.now (value_view i)) (SetElement line x.now (tree.Done (value_view i)))) step
+
+  pub branch_works : (b : Bor BlockInMemory) (other : Option (Bor BlockInMemory)) → HasEffect vs ss (task.Branch line old b other) (worked line took) (task.Branch line new b other)
+  branch_works b other =
+      works vs ss line (λ u. task.Branch line u b other) (λ u. Branch line u (block_tree b.now) (else_tree line other)) (λ u. refl) old new took
+      (λ heap. no_value old none (seen vs ss heap) line (branch_effect (block_tree b.now) (else_tree line other)) (λ u. Branch line u (block_tree b.now) (else_tree line other))) step
+
+  pub loop_works : (test : Bor ExprInMemory) (body : Bor BlockInMemory) → HasEffect vs ss (task.Loop line test old body) (worked line took) (task.Loop line test new body)
+  loop_works test body =
+      works vs ss line (λ u. task.Loop line test u body) (λ u. Loop line (expr_tree test.now) u (block_tree body.now)) (λ u. refl) old new took
+      (λ heap. no_value old none (seen vs ss heap) line (loop_effect line (expr_tree test.now) (block_tree body.now)) (λ u. Loop line (expr_tree test.now) u (block_tree body.now))) step
+
+  pub return_works : (old ≡ term.Named constant.Null → ⊥) → ((x : List ℕ) → old ≡ term.Read x → ⊥) → HasEffect vs ss (task.ReturnValue line old) (worked line took) (task.ReturnValue line new)
+  return_works no_null no_name =
+      works vs ss line (task.ReturnValue line) (ReturnValue line) (λ t. refl) old new took (λ heap. worked_out (seen vs ss heap) line old none no_null no_name) step

@@ -8,10 +8,8 @@ use Rattle.std.proofs.Common.{subst, arith, ne_eqb}
 use Rattle.std.proofs.lemmas.Bool.{and_parts}
 use Rattle.std.specs.Borrow.{Bor}
 use Rattle.syntax.specs.Tree.{Function, SourceUnit}
-use Rattle.syntax.specs.declared.stmt.Stmt.{Stmt}
-use Rattle.syntax.specs.Views.{stmt_tree, statements_tree}
-use Rattle.regions.specs.Task.{task_of, tasks_of}
-use Rattle.replay.specs.Tasks.{tasks_of_statements}
+use Rattle.regions.specs.Start.{null_statics}
+use Rattle.regions.specs.Task.{tasks_of}
 use Rattle.classes.specs.Class.{Classes}
 use Rattle.world.specs.Scene.{CallScene}
 use Rattle.world.specs.SceneWorld.{invocation_of}
@@ -21,20 +19,15 @@ use Rattle.regions.specs.Activation.{return_step, enter, entered, entry_advance,
 use Rattle.regions.specs.ThreadStep.{thread_step, step_within}
 use Rattle.replay.specs.declared.activation.Activation.{Activation}
 use Rattle.replay.specs.declared.thread.Thread.{Thread as ThreadInMemory}
-use Rattle.replay.specs.declared.task.Outcome.TheVariants as outcome
+use Rattle.replay.specs.declared.outcome.Outcome.TheVariants as outcome
 use Rattle.replay.specs.Activations.{tasks_left, thread_in, advance_by, Advances}
-use Rattle.replay.specs.Tasks.{Sees, trap_view}
-use Rattle.replay.specs.Views.{variables_view}
+use Rattle.replay.specs.Steps.{Sees}
+use Rattle.replay.specs.Views.{variables_view, trap_view}
 use Rattle.regions.specs.Activation.{parameter_variables}
 use Rattle.regions.specs.Variable.{LocalRef}
 use Rattle.std.specs.Prelude.{zip}
-use Rattle.replay.specs.declared.task.Outcome.{Outcome}
-use Rattle.replay.specs.Threads.{ThreadStands, VariablesIn, IsAsLoaded, Leaves, StepIs, step_of, tasks_in, ending_in}
-
--- the tasks of statements, by their tree
-pub tasks_of-statements : (statements : List Stmt) (end_line : ℕ) → tasks_of_statements statements ≡ tasks_of (statements_tree statements end_line)
-tasks_of-statements [] end_line = refl
-tasks_of-statements (s ∷ rest) end_line = ap (λ (ts : List Task). task_of (stmt_tree s) ∷ ts) (tasks_of-statements rest end_line)
+use Rattle.replay.specs.declared.outcome.Outcome.{Outcome}
+use Rattle.replay.specs.Threads.{ThreadStands, VariablesIn, FramesIn, IsAsLoaded, Leaves, StepIs, step_of, tasks_in, ending_in}
 
 module _ (unit : SourceUnit) (w : World) (shared : Shared) (lent : Lent) (k : ℕ) where
   abbrev classes : Classes
@@ -57,23 +50,24 @@ module _ (unit : SourceUnit) (w : World) (shared : Shared) (lent : Lent) (k : �
   stands_after : (t : ThreadInMemory) (calls : List CallScene) → t.calls.now ≡ calls → IsTrue (list_all (call_loads unit classes) (map invocation_of calls))
       → ThreadStands unit classes (record t { activation = None; ended = length calls == 0 }) (thread_after calls)
   unfolding thread_after
-  stands_after t [] is loads = record { calls = ap (map invocation_of) (sym is); loads = rw is loads; tasks = refl; variables = tt; pending = refl; ending = refl }
-  stands_after t (c ∷ calls) is loads = record { calls = ap (map invocation_of) (sym is); loads = rw is loads; tasks = refl; variables = tt; pending = refl; ending = ap ending_in (sym (some_are c calls)) }
+  stands_after t [] is loads = record { calls = ap (map invocation_of) (sym is); loads = rw is loads; tasks = refl; variables = tt; frames = tt; pending = refl; ending = refl }
+  stands_after t (c ∷ calls) is loads = record { calls = ap (map invocation_of) (sym is); loads = rw is loads; tasks = refl; variables = tt; frames = tt; pending = refl; ending = ap ending_in (sym (some_are c calls)) }
 
-  module _ (t : ThreadInMemory) (a new : Activation) (s : Thread) (is : t.activation ≡ Some a) (h : ThreadStands unit classes t s) (loaded : IsAsLoaded w shared) where
+  module _ (t : ThreadInMemory) (a new : Activation) (s : Thread) (is : t.activation ≡ Some a) (h : ThreadStands unit classes t s) (loaded : IsAsLoaded unit w shared) where
     has_tasks : s.tasks ≡ Some (tasks_left a)
     has_tasks = h.tasks ∙ ap tasks_in is
 
-    sees : Sees w (variables_view a.variables.items) shared s
+    sees : Sees w (variables_view a.variables.items) (null_statics unit) shared s
     sees = record {
       variables = subst (λ (o : Option Activation). VariablesIn o s.variables) is h.variables;
+      frames = subst (λ (o : Option Activation). FramesIn o s.frames) is h.frames;
       pending = h.pending;
       heap = loaded.heap;
       statics = loaded.statics;
     }
 
-    advances_so : (o : Outcome) → Advances w a o new → thread_step unit classes lent k shared s false ≡ advance_by k shared s new o
-    advances_so o does = ap (step_within unit classes lent k shared s false) has_tasks ∙ does unit lent k shared s sees has_tasks
+    advances_so : (o : Outcome) → Advances unit w a o new → thread_step unit classes lent k shared s false ≡ advance_by k shared s new o
+    advances_so o does = ap (step_within unit classes lent k shared s false) has_tasks ∙ does lent k shared s sees has_tasks
 
     -- the call goes on
     on : (event : Event) → thread_step unit classes lent k shared s false ≡ AdvancesTo shared (thread_in s new) event
@@ -81,20 +75,26 @@ module _ (unit : SourceUnit) (w : World) (shared : Shared) (lent : Lent) (k : �
     on event does = record {
       next = thread_in s new;
       advances = does;
-      stands = record { calls = h.calls; loads = h.loads; tasks = refl; variables = refl; pending = h.pending; ending = h.ending };
+      stands = record { calls = h.calls; loads = h.loads; tasks = refl; variables = refl; frames = sees.frames; pending = h.pending; ending = h.ending };
     }
 
-    pub goes : (o : Outcome) → (o ≡ outcome.Returned → ⊥) → Advances w a o new
+    pub goes : (o : Outcome) → (o ≡ outcome.Returned → ⊥) → Advances unit w a o new
         → StepIs unit classes shared (record t { activation = Some new }) (step_of o) (thread_step unit classes lent k shared s false)
     goes outcome.Stays other does = on Quiet (advances_so outcome.Stays does)
     goes (outcome.Printed z) other does = on (PrintedNumber z) (advances_so (outcome.Printed z) does)
     goes (outcome.Sets x v) other does = on Quiet (advances_so (outcome.Sets x v) does)
+    goes (outcome.SetsNull to) other does = on Quiet (advances_so (outcome.SetsNull to) does)
+    goes (outcome.Puts to z) other does = on Quiet (advances_so (outcome.Puts to z) does)
+    goes (outcome.SetsElement x i z) other does = on Quiet (advances_so (outcome.SetsElement x i z) does)
+    goes (outcome.Makes T x n) other does = on Quiet (advances_so (outcome.Makes T x n) does)
+    goes (outcome.Enters statements e) other does = on Quiet (advances_so (outcome.Enters statements e) does)
+    goes outcome.Over other does = on Quiet (advances_so outcome.Over does)
     goes outcome.Returned other does = absurd (other refl)
     goes (outcome.Trapped trap line) other does = on (Trapped (trap_view trap) line) (advances_so (outcome.Trapped trap line) does)
     goes outcome.Nothing other does = advances_so outcome.Nothing does
 
     -- the call is over
-    pub returns : Advances w a outcome.Returned new
+    pub returns : Advances unit w a outcome.Returned new
         → Leaves unit classes shared (record t { activation = None; ended = length t.calls.now == 0 }) Quiet (thread_step unit classes lent k shared s false)
     returns does = record {
       next = thread_after t.calls.now;
@@ -120,6 +120,7 @@ module _ (unit : SourceUnit) (w : World) (shared : Shared) (lent : Lent) (k : �
       loads = subst (λ (cs : List CallScene). IsTrue (list_all (call_loads unit classes) (map invocation_of cs))) (sym is) parts.1;
       tasks = ap Some (sym tasks);
       variables = sym variables;
+      frames = refl;
       pending = h.pending;
       ending = h.ending;
     };

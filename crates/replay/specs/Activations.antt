@@ -1,42 +1,57 @@
 -- The tasks of a call in progress, and what a step of it does.
-use Rattle.std.specs.Prelude.{◌≡◌, ℕ, false, List, [], ◌∷◌, Option, Some, None}
+use Rattle.std.specs.Prelude.{◌≡◌, ℕ, false, List, [], ◌∷◌, ◌++◌, Option, Some, None}
+use Rattle.std.specs.Borrow.{Bor}
 use Rattle.syntax.specs.declared.stmt.Stmt.{Stmt as StmtInMemory}
 use Rattle.syntax.specs.Tree.{SourceUnit}
 use Rattle.world.specs.World.{World}
 use Rattle.regions.specs.Activation.{return_step}
+use Rattle.regions.specs.Start.{null_statics}
 use Rattle.regions.specs.Task.{Task}
 use Rattle.regions.specs.Thread.{Thread, Shared, Lent, Quiet, PrintedNumber, Trapped, Advance, NoAdvance}
 use Rattle.regions.specs.Thread as thread
 use Rattle.regions.specs.ThreadStep.{step_within}
-use Rattle.regions.specs.Variable.{Scalar, assign}
 use Rattle.replay.specs.declared.activation.Activation.{Activation}
+use Rattle.replay.specs.declared.activation.Outer.{Outer}
+use Rattle.replay.specs.declared.outcome.Outcome.{Outcome}
+use Rattle.replay.specs.declared.outcome.Outcome.TheVariants as outcome
 use Rattle.replay.specs.declared.task.Task.{Task as TaskInMemory}
-use Rattle.replay.specs.declared.task.Outcome.{Outcome}
-use Rattle.replay.specs.declared.task.Outcome.TheVariants as outcome
-use Rattle.replay.specs.declared.variable.Variable.{Variable as VariableInMemory}
-use Rattle.replay.specs.Views.{value_view, variables_view}
-use Rattle.replay.specs.Tasks.{task_view, tasks_of_statements, StatementInRange, TaskInRange, Sees, trap_view}
+use Rattle.replay.specs.Steps.{Sees}
+use Rattle.replay.specs.Tasks.{task_view, end_view, tasks_of_statements, StatementsInRange, TaskInRange, EndInRange}
+use Rattle.replay.specs.Views.{variables_view, trap_view}
 
--- the task that is begun, if there is one, and those of the statements behind it
-abbrev pub tasks_from : Option TaskInMemory → List StmtInMemory → List Task
-tasks_from None rest = tasks_of_statements rest
-tasks_from (Some task) rest = task_view task ∷ tasks_of_statements rest
+-- the task that is begun, if there is one, and those behind it
+abbrev pub tasks_from : Option TaskInMemory → List Task → List Task
+tasks_from None rest = rest
+tasks_from (Some task) rest = task_view task ∷ rest
+
+-- the tasks around a block, of which these are behind the outermost that is told
+abbrev pub tasks_around : List Task → List Outer → List Task
+tasks_around behind [] = behind
+tasks_around behind (o ∷ inner) = tasks_around (end_view o.end ∷ tasks_of_statements o.rest.now ++ behind) inner
+
+-- the tasks behind the one that is begun
+abbrev pub tasks_behind : List StmtInMemory → List Outer → List Task
+tasks_behind rest outer = tasks_of_statements rest ++ tasks_around [] outer
 
 abbrev pub tasks_left : Activation → List Task
-tasks_left a = tasks_from a.task a.rest.now
+tasks_left a = tasks_from a.task (tasks_behind a.rest.now a.outer.items)
 
--- what is known of these statements, as they stand in an accepted program
-abbrev pub StatementsInRange : List StmtInMemory → Type 0
-StatementsInRange [] = Unit {0}
-StatementsInRange (s ∷ rest) = StatementInRange s × StatementsInRange rest
+-- ---- what is known of accepted programs
 
 abbrev pub BegunInRange : Option TaskInMemory → Type 0
 BegunInRange None = Unit {0}
 BegunInRange (Some task) = TaskInRange task
 
+abbrev pub OuterInRange : List Outer → Type 0
+OuterInRange [] = Unit {0}
+OuterInRange (o ∷ inner) = EndInRange o.end × StatementsInRange o.rest.now × OuterInRange inner
+
 pub record IsInRange (a : Activation) : Type 0 where
   pub begun : BegunInRange a.task
   pub rest : StatementsInRange a.rest.now
+  pub outer : OuterInRange a.outer.items
+
+-- ---- a step
 
 -- the thread with the tasks and the variables of a call in progress
 abbrev pub thread_in : Thread → Activation → Thread
@@ -44,32 +59,39 @@ thread_in t a = record t { tasks = Some (tasks_left a); variables = variables_vi
 
 -- what a step leaves of thread k, whose call is then as it is in memory
 abbrev pub advance_by : (k : ℕ) → Shared → Thread → Activation → Outcome → Advance
-advance_by k s t a outcome.Stays = thread.Advances s (thread_in t a) Quiet
 advance_by k s t a (outcome.Printed z) = thread.Advances s (thread_in t a) (PrintedNumber z)
-advance_by k s t a (outcome.Sets x v) = thread.Advances s (thread_in t a) Quiet
 advance_by k s t a outcome.Returned = return_step k s t
 advance_by k s t a (outcome.Trapped trap line) = thread.Advances s (thread_in t a) (Trapped (trap_view trap) line)
 advance_by k s t a outcome.Nothing = NoAdvance
+advance_by k s t a took = thread.Advances s (thread_in t a) Quiet
 
 -- what a step in memory did is the step of each thread that has these tasks and sees these variables
-abbrev pub Advances : World → Activation → Outcome → Activation → Type 0
-Advances w old took new =
-    (unit : SourceUnit) (lent : Lent) (k : ℕ) (s : Shared) (t : Thread) → Sees w (variables_view old.variables.items) s t → t.tasks ≡ Some (tasks_left old)
+abbrev pub Advances : SourceUnit → World → Activation → Outcome → Activation → Type 0
+Advances unit w old took new =
+    (lent : Lent) (k : ℕ) (s : Shared) (t : Thread) → Sees w (variables_view old.variables.items) (null_statics unit) s t → t.tasks ≡ Some (tasks_left old)
     → step_within unit w.classes lent k s t false (Some (tasks_left old)) ≡ advance_by k s t new took
 
 -- the task that is begun, after a step
 abbrev pub task_after : Option TaskInMemory → Outcome → Option TaskInMemory
-task_after task (outcome.Printed z) = None
-task_after task (outcome.Sets x v) = None
-task_after task took = task
+task_after task outcome.Stays = task
+task_after task outcome.Returned = task
+task_after task (outcome.Trapped trap line) = task
+task_after task outcome.Nothing = task
+task_after task took = None
 
--- the variables after it
-abbrev pub VariablesAfter : List VariableInMemory → Outcome → List VariableInMemory → Type 0
-VariablesAfter old (outcome.Sets x v) new = variables_view new ≡ assign x.now (Scalar (value_view v)) (variables_view old)
-VariablesAfter old took new = new ≡ old
+-- the statements behind it
+abbrev pub rest_after : Bor (List StmtInMemory) → Outcome → Bor (List StmtInMemory)
+rest_after rest (outcome.Enters statements e) = statements
+rest_after rest took = rest
 
--- what a step did to its task was done to a call in progress
-pub record IsApplied (old : Activation) (took : Outcome) (new : Activation) : Type 0 where
+-- what is to do around their block
+abbrev pub outer_after : Bor (List StmtInMemory) → List Outer → Outcome → List Outer
+outer_after rest outer (outcome.Enters statements e) = outer ++ record { end = e; rest = rest } ∷ []
+outer_after rest outer took = outer
+
+-- what a step did to its task was done to a call in progress, but for its variables
+pub record AreSet (old : Activation) (took : Outcome) (new : Activation) : Type 0 where
   pub task : new.task ≡ task_after old.task took
-  pub rest : new.rest ≡ old.rest
-  pub variables : VariablesAfter old.variables.items took new.variables.items
+  pub rest : new.rest ≡ rest_after old.rest took
+  pub outer : new.outer.items ≡ outer_after old.rest old.outer.items took
+  pub variables : new.variables ≡ old.variables

@@ -1,7 +1,9 @@
 pub mod Views
 pub mod Objects
 pub mod Rows
+pub mod Outcomes
 pub mod Tasks
+pub mod Steps
 pub mod Activations
 pub mod Threads
 pub mod States

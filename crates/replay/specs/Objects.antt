@@ -11,7 +11,7 @@ use Rattle.regions.specs.Variable.{StaticReference, Empty, Variables}
 abbrev pub array_length : Classes → Heap → ℕ → Option ℕ
 array_length classes heap n = if is_plain (class_kind classes (class_of heap n)) then None else Some (length (values_of heap n))
 
--- what an argument refers to, where there are no statics
+-- what an argument refers to, where each static is NULL
 abbrev pub reference_of : Variables → Expr → StaticReference
 reference_of vs (Variable x) = held_reference (lookup x vs) None
 reference_of vs e = Empty

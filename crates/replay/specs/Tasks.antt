@@ -1,43 +1,45 @@
--- Tasks that lie in memory, as those of the language, and what a step of one does.
-use Rattle.std.specs.Prelude.{◌≡◌, ℕ, Bool, not, pos, List, [], ◌∷◌, if◌then◌else◌, Option, Some, None, IsTrue}
+-- Tasks that lie in memory, as those of the language, and what is known of them in accepted programs.
+use Rattle.std.specs.Prelude.{ℕ, Bool, not, List, [], ◌∷◌, Option, Some, None, IsTrue}
 use Rattle.std.specs.List.{list_all}
 use Rattle.std.specs.Borrow.{Bor}
-use Rattle.base.specs.Bytes.{Identifier}
 use Rattle.base.specs.Options.{some_passes}
+use Rattle.syntax.specs.declared.stmt.Block.{Block as BlockInMemory}
 use Rattle.syntax.specs.declared.stmt.Stmt.{Stmt as StmtInMemory}
 use Rattle.syntax.specs.Limits.{numbers_in_range}
-use Rattle.syntax.specs.Parts.{own_expressions, right_side_expressions, call_of_right_side}
-use Rattle.syntax.specs.declared.call.Argument.{Argument as ArgumentInMemory}
-use Rattle.syntax.specs.declared.call.Argument.TheVariants as argument
-use Rattle.syntax.specs.Tree.{Expr, RightSide}
-use Rattle.syntax.specs.Views.{expr_tree, stmt_tree, call_tree}
+use Rattle.syntax.specs.Parts.{statements_of, own_expressions, right_side_expressions, test_expressions, call_of_right_side}
+use Rattle.syntax.specs.Tree.{Expr, RightSide, Test, Stmt, If, IfElse, While, Block, End}
+use Rattle.syntax.specs.Views.{expr_tree, element_tree, stmt_tree, call_tree, block_tree}
 use Rattle.types.specs.BuiltCalls.{is_built_call, calls_unbuilt}
-use Rattle.world.specs.World.{World, loaded_objects}
-use Rattle.regions.specs.Activation.{return_step}
-use Rattle.regions.specs.Effect.{Effect, Becomes, Sets, Prints, Returns, NoEffect, effect_of}
-use Rattle.regions.specs.Heap.{Heap}
-use Rattle.regions.specs.Sight.{seen}
-use Rattle.regions.specs.Task.{Task, SetScalar, SetNull, Print, Return, ReturnValue, Declared, ScalarKind, call_task, task_of}
-use Rattle.regions.specs.Thread.{Thread, Shared, Lent, Quiet, PrintedNumber, Trapped, Advance, Advances, NoAdvance, sight_of}
-use Rattle.regions.specs.ThreadStep.{after_effect, set_variable, with_tasks}
-use Rattle.regions.specs.Value.{Trap, NullReference, WrongObject}
-use Rattle.regions.specs.Variable.{Scalar, Variables}
-use Rattle.replay.specs.Views.{value_view, term_view, NumbersInRange}
-use Rattle.replay.specs.declared.term.Value.TheVariants as value
-use Rattle.replay.specs.declared.task.Trap.{Trap as TrapInMemory}
-use Rattle.replay.specs.declared.task.Trap.TheVariants as trap
+use Rattle.regions.specs.Task.{Task, SetScalar, SetElement, SetNull, MakeArray, Print, Branch, EndIf, Loop, EndTurn, Return, ReturnValue, call_task, task_of}
+use Rattle.replay.specs.declared.outcome.End.{End as EndInMemory}
+use Rattle.replay.specs.declared.outcome.End.TheVariants as end
+use Rattle.replay.specs.declared.outcome.Outcome.{Outcome}
+use Rattle.replay.specs.declared.outcome.Outcome.TheVariants as outcome
 use Rattle.replay.specs.declared.task.Task.{Task as TaskInMemory}
 use Rattle.replay.specs.declared.task.Task.TheVariants as task
-use Rattle.replay.specs.declared.task.Outcome.{Outcome}
-use Rattle.replay.specs.declared.task.Outcome.TheVariants as outcome
+use Rattle.replay.specs.Outcomes.{target_view}
+use Rattle.replay.specs.Views.{term_view, NumbersInRange}
+
+-- the block of an `else`, which may be missing in an `if` of this line
+abbrev pub else_tree : ℕ → Option (Bor BlockInMemory) → Block
+else_tree line None = End line
+else_tree line (Some b) = block_tree b.now
 
 abbrev pub task_view : TaskInMemory → Task
 task_view (task.Print line t) = Print line (term_view t)
 task_view (task.Set line x t) = SetScalar line x.now (term_view t)
-task_view (task.SetNull x) = SetNull (Declared ScalarKind x.now)
-task_view (task.Invoke line x c) = call_task line (Declared ScalarKind x.now) (call_tree c.now)
+task_view (task.SetElement line x i t) = SetElement line x.now (term_view i) (term_view t)
+task_view (task.SetNull to) = SetNull (target_view to)
+task_view (task.MakeArray T x n) = MakeArray (element_tree T) x.now n
+task_view (task.Invoke line to c) = call_task line (target_view to) (call_tree c.now)
+task_view (task.Branch line t b other) = Branch line (term_view t) (block_tree b.now) (else_tree line other)
+task_view (task.Loop line test t body) = Loop line (expr_tree test.now) (term_view t) (block_tree body.now)
 task_view task.Return = Return
 task_view (task.ReturnValue line t) = ReturnValue line (term_view t)
+
+abbrev pub end_view : EndInMemory → Task
+end_view end.If = EndIf
+end_view (end.Turn line test body) = EndTurn line (expr_tree test.now) (block_tree body.now)
 
 -- the statements before their first steps
 abbrev pub tasks_of_statements : List StmtInMemory → List Task
@@ -46,77 +48,69 @@ tasks_of_statements (s ∷ rest) = task_of (stmt_tree s) ∷ tasks_of_statements
 
 -- ---- what is known of accepted programs
 
--- each number is in the range of its type, and a call is of a function that can be called
+-- each number is in the range of its type
+abbrev pub ExprInRange : Expr → Type 0
+ExprInRange e = IsTrue (numbers_in_range e)
+
+-- the same of those that a statement evaluates itself
+abbrev pub has_numbers_in_range : Stmt → Bool
+has_numbers_in_range s = list_all numbers_in_range (own_expressions s)
+
+-- a call is of a function that can be called
+abbrev pub calls_built : Stmt → Bool
+calls_built s = not (calls_unbuilt s)
+
+-- both, of each statement in a block and inside it
+pub record BlockInRange (b : Block) : Type 0 where
+  pub numbers : IsTrue (list_all has_numbers_in_range (statements_of b))
+  pub built : IsTrue (list_all calls_built (statements_of b))
+
+-- the same of the blocks inside a statement
+abbrev pub InsideInRange : Stmt → Type 0
+InsideInRange (If line test b) = BlockInRange b
+InsideInRange (IfElse line test b d) = BlockInRange b × BlockInRange d
+InsideInRange (While line test body) = BlockInRange body
+InsideInRange s = Unit {0}
+
+-- the same of a statement with them
+pub record StatementInRange (s : StmtInMemory) : Type 0 where
+  pub numbers : IsTrue (has_numbers_in_range (stmt_tree s))
+  pub built : IsTrue (calls_built (stmt_tree s))
+  pub inside : InsideInRange (stmt_tree s)
+
+abbrev pub StatementsInRange : List StmtInMemory → Type 0
+StatementsInRange [] = Unit {0}
+StatementsInRange (s ∷ rest) = StatementInRange s × StatementsInRange rest
+
+-- the same of parts of statements
 pub record RightSideInRange (right : RightSide) : Type 0 where
   pub numbers : IsTrue (list_all numbers_in_range (right_side_expressions right))
   pub built : IsTrue (not (some_passes (λ c. not (is_built_call c)) (call_of_right_side (Some right))))
 
--- the same of a statement
-pub record StatementInRange (s : StmtInMemory) : Type 0 where
-  pub numbers : IsTrue (list_all numbers_in_range (own_expressions (stmt_tree s)))
-  pub built : IsTrue (not (calls_unbuilt (stmt_tree s)))
+abbrev pub TestInRange : Test → Type 0
+TestInRange test = IsTrue (list_all numbers_in_range (test_expressions test))
 
--- the same of a task
+abbrev pub ElseInRange : Option (Bor BlockInMemory) → Type 0
+ElseInRange None = Unit {0}
+ElseInRange (Some b) = BlockInRange (block_tree b.now)
+
+-- the same of tasks, of what stands at the end of a block, and of what a step leads into
 abbrev pub TaskInRange : TaskInMemory → Type 0
 TaskInRange (task.Print line t) = NumbersInRange t
 TaskInRange (task.Set line x t) = NumbersInRange t
-TaskInRange (task.SetNull x) = Unit {0}
-TaskInRange (task.Invoke line x c) = IsTrue (is_built_call (call_tree c.now))
+TaskInRange (task.SetElement line x i t) = NumbersInRange i × NumbersInRange t
+TaskInRange (task.SetNull to) = Unit {0}
+TaskInRange (task.MakeArray T x n) = Unit {0}
+TaskInRange (task.Invoke line to c) = IsTrue (is_built_call (call_tree c.now))
+TaskInRange (task.Branch line t b other) = NumbersInRange t × BlockInRange (block_tree b.now) × ElseInRange other
+TaskInRange (task.Loop line test t body) = ExprInRange (expr_tree test.now) × NumbersInRange t × BlockInRange (block_tree body.now)
 TaskInRange task.Return = Unit {0}
 TaskInRange (task.ReturnValue line t) = NumbersInRange t
 
--- ---- a task's step
+abbrev pub EndInRange : EndInMemory → Type 0
+EndInRange end.If = Unit {0}
+EndInRange (end.Turn line test body) = ExprInRange (expr_tree test.now) × BlockInRange (block_tree body.now)
 
--- the first argument of a call
-abbrev pub first_expression : List ArgumentInMemory → Option Expr
-first_expression [] = None
-first_expression (argument.Value e ∷ more) = Some (expr_tree e)
-
--- what a number of elements, or none, is for a variable
-abbrev pub length_outcome : ℕ → Bor Identifier → Option ℕ → Outcome
-length_outcome line x None = outcome.Trapped trap.WrongObject line
-length_outcome line x (Some n) = outcome.Sets x (value.Int (pos n))
-
-abbrev pub trap_view : TrapInMemory → Trap
-trap_view trap.NullReference = NullReference
-trap_view trap.WrongObject = WrongObject
-
--- what was done of a term that has no value yet
-abbrev pub worked : Bool → Outcome
-worked reduced = if reduced then outcome.Stays else outcome.Nothing
-
--- the effect of a step that left this task
-abbrev pub effect_by : Outcome → TaskInMemory → Effect
-effect_by outcome.Stays new = Becomes (task_view new ∷ [])
-effect_by (outcome.Printed z) new = Prints z
-effect_by (outcome.Sets x v) new = Sets x.now (value_view v)
-effect_by outcome.Returned new = Returns
-effect_by (outcome.Trapped trap line) new = NoEffect
-effect_by outcome.Nothing new = NoEffect
-
--- with these variables, what a step in memory did is the effect of the task, which is no call and no trap
-abbrev pub HasEffect : Variables → TaskInMemory → Outcome → TaskInMemory → Type 0
-HasEffect vs old (outcome.Trapped trap line) new = ⊥
-HasEffect vs old took new = (heap : Heap) → effect_of (seen vs [] heap) (task_view old) ≡ effect_by took new
-
--- a thread sees these variables, and a world's objects as they are made at load
-pub record Sees (w : World) (vs : Variables) (s : Shared) (t : Thread) : Type 0 where
-  pub variables : t.variables ≡ vs
-  pub pending : t.pending ≡ None
-  pub heap : s.heap ≡ loaded_objects w
-  pub statics : s.statics ≡ []
-
--- what a step leaves of thread k that has this task and then the rest to do
-abbrev pub left_by : (k : ℕ) → Shared → Thread → List Task → Outcome → TaskInMemory → Advance
-left_by k s t rest outcome.Stays new = Advances s (with_tasks t (task_view new ∷ rest)) Quiet
-left_by k s t rest (outcome.Printed z) new = Advances s (with_tasks t rest) (PrintedNumber z)
-left_by k s t rest (outcome.Sets x v) new = set_variable s (with_tasks t rest) x.now (Scalar (value_view v))
-left_by k s t rest outcome.Returned new = return_step k s t
-left_by k s t rest (outcome.Trapped trap line) new = Advances s (with_tasks t (task_view new ∷ rest)) (Trapped (trap_view trap) line)
-left_by k s t rest outcome.Nothing new = NoAdvance
-
--- what a step in memory did is what the task's step does to each thread that it stands in
-abbrev pub Does : World → Variables → TaskInMemory → Outcome → TaskInMemory → Type 0
-Does w vs old took new =
-    (lent : Lent) (k : ℕ) (s : Shared) (t : Thread) (rest : List Task) → Sees w vs s t → t.tasks ≡ Some (task_view old ∷ rest)
-    → after_effect w.classes lent k s t rest (effect_of (sight_of s t) (task_view old)) ≡ left_by k s t rest took new
+abbrev pub OutcomeInRange : Outcome → Type 0
+OutcomeInRange (outcome.Enters statements e) = StatementsInRange statements.now × EndInRange e
+OutcomeInRange took = Unit {0}

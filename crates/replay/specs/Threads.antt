@@ -1,5 +1,5 @@
 -- Threads that lie in memory, as those of the language, and what a step of one does.
-use Rattle.std.specs.Prelude.{◌≡◌, ℕ, Bool, true, false, List, [], map, Option, Some, None, IsTrue}
+use Rattle.std.specs.Prelude.{◌≡◌, ℕ, Bool, true, false, List, [], map, length, Option, Some, None, IsTrue}
 use Rattle.std.specs.List.{list_all}
 use Rattle.syntax.specs.Tree.{SourceUnit}
 use Rattle.classes.specs.Class.{Classes}
@@ -7,20 +7,20 @@ use Rattle.world.specs.Object.{ObjectValue, Number, Refers}
 use Rattle.world.specs.SceneWorld.{invocation_of}
 use Rattle.world.specs.World.{World, loaded_objects}
 use Rattle.regions.specs.Load.{call_loads}
+use Rattle.regions.specs.Start.{null_statics}
 use Rattle.regions.specs.Task.{Task}
-use Rattle.regions.specs.Thread.{Ending, Unfinished, Ended, Thread, Shared, Lent, Event, Quiet, PrintedNumber, Trapped, Advance, Advances, NoAdvance}
+use Rattle.regions.specs.Thread.{Frame, Ending, Unfinished, Ended, Thread, Shared, Lent, Event, Quiet, PrintedNumber, Trapped, Advance, Advances, NoAdvance}
 use Rattle.regions.specs.ThreadStep.{thread_step}
 use Rattle.regions.specs.Value.{Int}
 use Rattle.regions.specs.Variable.{Variable, Scalar, LocalRef, Variables}
 use Rattle.replay.specs.declared.activation.Activation.{Activation}
-use Rattle.replay.specs.declared.task.Outcome.{Outcome}
-use Rattle.replay.specs.declared.task.Outcome.TheVariants as outcome
+use Rattle.replay.specs.declared.outcome.Outcome.{Outcome}
+use Rattle.replay.specs.declared.outcome.Outcome.TheVariants as outcome
 use Rattle.replay.specs.declared.thread.Thread.{Thread as ThreadInMemory}
 use Rattle.replay.specs.declared.thread.Step.{Step}
 use Rattle.replay.specs.declared.thread.Step.TheVariants as step
 use Rattle.replay.specs.Activations.{tasks_left, IsInRange}
-use Rattle.replay.specs.Tasks.{trap_view}
-use Rattle.replay.specs.Views.{variables_view}
+use Rattle.replay.specs.Views.{variables_view, trap_view}
 
 -- the tasks of the call in progress, if there is one
 abbrev pub tasks_in : Option Activation → Option (List Task)
@@ -31,6 +31,11 @@ tasks_in (Some a) = Some (tasks_left a)
 abbrev pub VariablesIn : Option Activation → Variables → Type 0
 VariablesIn None vs = Unit {0}
 VariablesIn (Some a) vs = vs ≡ variables_view a.variables.items
+
+-- a call in progress is in its first frame
+abbrev pub FramesIn : Option Activation → List Frame → Type 0
+FramesIn None frames = Unit {0}
+FramesIn (Some a) frames = length frames ≡ 1
 
 abbrev pub WorkInRange : Option Activation → Type 0
 WorkInRange None = Unit {0}
@@ -47,19 +52,18 @@ argument_content (Refers r) = LocalRef 1 r
 
 -- what others see of what a call in progress did
 abbrev pub step_of : Outcome → Step
-step_of outcome.Stays = step.Quiet
 step_of (outcome.Printed z) = step.Printed z
-step_of (outcome.Sets x v) = step.Quiet
-step_of outcome.Returned = step.Quiet
 step_of (outcome.Trapped trap line) = step.Trapped trap line
 step_of outcome.Nothing = step.Nothing
+step_of took = step.Quiet
 
--- a thread in memory stands for one of the language; frames aren't stored, as nothing reads them yet
+-- a thread in memory stands for one of the language; frames aren't stored, as no function that can be called reads them
 pub record ThreadStands (unit : SourceUnit) (classes : Classes) (t : ThreadInMemory) (s : Thread) : Type 0 where
   pub calls : s.calls ≡ map invocation_of t.calls.now
   pub loads : IsTrue (list_all (call_loads unit classes) (map invocation_of t.calls.now))
   pub tasks : s.tasks ≡ tasks_in t.activation
   pub variables : VariablesIn t.activation s.variables
+  pub frames : FramesIn t.activation s.frames
   pub pending : s.pending ≡ None
   pub ending : s.ending ≡ ending_in t.ended
 
@@ -76,14 +80,14 @@ StepIs unit classes shared t (step.Printed z) advance = Leaves unit classes shar
 StepIs unit classes shared t (step.Trapped trap line) advance = Leaves unit classes shared t (Trapped (trap_view trap) line) advance
 StepIs unit classes shared t step.Nothing advance = advance ≡ NoAdvance
 
--- the objects are those made at load, there are no statics, and nobody owns a monitor
-pub record IsAsLoaded (w : World) (shared : Shared) : Type 0 where
+-- the objects are those made at load, each static is NULL, and nobody owns a monitor
+pub record IsAsLoaded (unit : SourceUnit) (w : World) (shared : Shared) : Type 0 where
   pub heap : shared.heap ≡ loaded_objects w
-  pub statics : shared.statics ≡ []
+  pub statics : shared.statics ≡ null_statics unit
   pub monitors : shared.monitors ≡ []
 
 -- the same for each thread that it stands for
 abbrev pub TakesStep : SourceUnit → World → ThreadInMemory → Step → ThreadInMemory → Type 0
 TakesStep unit w old took new =
-    (s : Thread) (shared : Shared) (lent : Lent) (k : ℕ) → ThreadStands unit w.classes old s → s.ending ≡ Unfinished → IsAsLoaded w shared
+    (s : Thread) (shared : Shared) (lent : Lent) (k : ℕ) → ThreadStands unit w.classes old s → s.ending ≡ Unfinished → IsAsLoaded unit w shared
     → StepIs unit w.classes shared new took (thread_step unit w.classes lent k shared s false)

@@ -1,32 +1,46 @@
 //! Activations: calls in progress.
 
-ghost use Rattle.std.specs.Prelude.{◌≡◌, IfOk, Some, None, []};
+ghost use Rattle.std.specs.Prelude.{◌≡◌, IfOk, None, []};
+ghost use Rattle.syntax.specs.Tree.{SourceUnit};
+ghost use Rattle.syntax.specs.Views.{unit_tree};
 ghost use Rattle.world.specs.SceneWorld.{world_of_scene};
-ghost use Rattle.replay.specs.Activations.{tasks_left, StatementsInRange, IsInRange, IsApplied, Advances};
-ghost use Rattle.replay.specs.Tasks.{task_view, tasks_of_statements, TaskInRange, Does};
+ghost use Rattle.world.specs.World.{World as WorldOfTree};
+ghost use Rattle.replay.specs.Activations.{tasks_left, IsInRange, AreSet, Advances};
 
-use crate::task::{Outcome, Task, step, task_of};
-use crate::variable::{Content, Variable, assign};
+use crate::outcome::{End, Outcome};
+use crate::put::set_variables;
+use crate::step::step;
+use crate::task::{Task, task_of};
+use crate::term::term_of;
+use crate::variable::Variable;
 use std::alloc::{AllocError, Global};
-use syntax::Stmt;
+use syntax::{Item, Stmt};
 use world::World;
 
-/// A call in progress: the task that is begun, the statements behind it, and the variables, in the order in which they
-/// came to be.
+/// What is still to do around a block: what stands at the block's end, and the statements behind it.
+#[derive(Clone, Copy, Debug)]
+pub(crate) struct Outer<'a> {
+    pub end: End<'a>,
+    pub rest: &'a [Stmt],
+}
+
+/// A call in progress: the task that is begun, the statements behind it in its block, what is to do around the block,
+/// the outermost first, and the variables, in the order in which they came to be.
 #[derive(Debug, Drop)]
 pub(crate) struct Activation<'a> {
     pub task: Option<Task<'a>>,
     pub rest: &'a [Stmt],
+    pub outer: Vec<Outer<'a>>,
     pub variables: Vec<Variable<'a>>,
 }
 
-/// Begins the next statement's task, where none is begun.
+/// Begins the block's next statement, where none is begun.
 fn begin<'a>(alloc: Global, activation: &mut Activation<'a>) -> Result<(), AllocError>
     requires { IsInRange activation.old }
     ensures tasks { IfOk result (λ _. tasks_left activation.new ≡ tasks_left activation.old) }
     ensures range { IfOk result (λ _. IsInRange activation.new) }
     ensures variables { IfOk result (λ _. activation.new.variables ≡ activation.old.variables) }
-    ensures begun { IfOk result (λ _. activation.new.task ≡ None → tasks_left activation.old ≡ []) }
+    ensures begun { IfOk result (λ _. activation.new.task ≡ None → activation.new.rest.now ≡ []) }
 {
     if activation.task.is_some() {
         return Ok(());
@@ -40,17 +54,46 @@ fn begin<'a>(alloc: Global, activation: &mut Activation<'a>) -> Result<(), Alloc
     Ok(())
 }
 
-/// Does what a step did to the task that is begun and to the variables.
-fn apply<'a>(activation: &mut Activation<'a>, outcome: Outcome<'a>) -> Result<(), AllocError>
-    ensures { IfOk result (λ _. IsApplied activation.old outcome.entry activation.new) }
+/// Goes on behind a block whose statements are all done: behind an `if`, or with its loop's test.
+fn leave_block<'a>(
+    alloc: Global,
+    activation: &mut Activation<'a>,
+) -> Result<Outcome<'a>, AllocError>
+    requires range { IsInRange activation.old }
+    requires task { activation.old.task ≡ None }
+    requires rest { activation.old.rest.now ≡ [] }
+    ensures step { IfOk result (λ o. (unit : SourceUnit) (w : WorldOfTree) → Advances unit w activation.old o activation.new) }
+    ensures range { IfOk result (λ _. IsInRange activation.new) }
+{
+    let Some(outer) = activation.outer.pop() else {
+        return Ok(Outcome::Nothing);
+    };
+    activation.rest = outer.rest;
+    match outer.end {
+        End::If => Ok(Outcome::Over),
+        End::Turn(line, test, body) => {
+            let term = term_of(alloc, test)?;
+            activation.task = Some(Task::Loop(line, test, term, body));
+            Ok(Outcome::Stays)
+        }
+    }
+}
+
+/// Does what a step did to the tasks.
+fn set_tasks<'a>(activation: &mut Activation<'a>, outcome: Outcome<'a>) -> Result<(), AllocError>
+    ensures { IfOk result (λ _. AreSet activation.old outcome.entry activation.new) }
 {
     match outcome {
-        Outcome::Printed(_) => activation.task = None,
-        Outcome::Sets(name, value) => {
+        Outcome::Stays | Outcome::Returned | Outcome::Trapped(_, _) | Outcome::Nothing => {}
+        Outcome::Enters(statements, end) => {
+            let rest = activation.rest;
+            activation.outer.push(Outer { end, rest })?;
             activation.task = None;
-            assign(&mut activation.variables, name, Content::Number(value))?;
+            activation.rest = statements;
         }
-        _ => {}
+        Outcome::Printed(_) | Outcome::Sets(_, _) | Outcome::SetsNull(_) => activation.task = None,
+        Outcome::Puts(_, _) | Outcome::SetsElement(_, _, _) => activation.task = None,
+        Outcome::Makes(_, _, _) | Outcome::Over => activation.task = None,
     }
     Ok(())
 }
@@ -58,18 +101,23 @@ fn apply<'a>(activation: &mut Activation<'a>, outcome: Outcome<'a>) -> Result<()
 /// Lets an activation take its next step.
 pub(crate) fn advance<'a>(
     alloc: Global,
+    items: &'a [Item],
     world: &World,
     activation: &mut Activation<'a>,
 ) -> Result<Outcome<'a>, AllocError>
     requires { IsInRange activation.old }
-    ensures step { IfOk result (λ o. Advances (world_of_scene world.now) activation.old o activation.new) }
+    ensures step { IfOk result (λ o. Advances (unit_tree items.now) (world_of_scene world.now) activation.old o activation.new) }
     ensures range { IfOk result (λ _. IsInRange activation.new) }
 {
     begin(alloc, activation)?;
     let Some(task) = &mut activation.task else {
-        return Ok(Outcome::Nothing);
+        return leave_block(alloc, activation);
     };
-    let outcome = step(world, &activation.variables, task)?;
-    apply(activation, outcome)?;
+    let outcome = step(items, world, &activation.variables, task)?;
+    let done = set_variables(alloc, items, &mut activation.variables, outcome)?;
+    if !done {
+        return Ok(Outcome::Nothing);
+    }
+    set_tasks(activation, outcome)?;
     Ok(outcome)
 }

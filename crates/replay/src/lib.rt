@@ -4,17 +4,27 @@
 mod activation;
 mod fault;
 mod heap;
+mod invoke;
 mod journal;
 mod load;
+mod outcome;
+mod put;
+mod reduce;
 mod rows;
+mod sight;
 mod state;
+mod step;
 mod task;
 mod term;
 mod thread;
+mod trap;
+mod value;
 mod variable;
 
 pub use fault::ReplayFault;
 pub use journal::replay;
 
+#[cfg(test)]
+mod row_tests;
 #[cfg(test)]
 mod tests;

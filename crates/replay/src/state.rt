@@ -4,12 +4,10 @@ ghost use Rattle.std.specs.Prelude.{◌≡◌, IfOk, IsTrue};
 ghost use Rattle.syntax.specs.Limits.{IsTree};
 ghost use Rattle.syntax.specs.Views.{unit_tree};
 ghost use Rattle.types.specs.BuiltCalls.{calls_are_built};
-ghost use Rattle.regions.specs.Value.{trap_number};
 ghost use Rattle.replay.specs.States.{AreInRange, TakesEntry, IsNoted, is_possible, standing_of, standings_of};
-ghost use Rattle.replay.specs.Tasks.{trap_view};
 
-use crate::task::Trap;
 use crate::thread::{Step, Thread, take_step};
+use crate::trap::{Trap, trap_number};
 use std::alloc::{AllocError, Global};
 use syntax::Item;
 use world::{Entry, Printed, Standing, World};
@@ -91,16 +89,6 @@ pub(crate) fn take_entry<'a>(
     let step = take_step(alloc, items, state.world, thread)?;
     let possible = note(state, entry.thread, step)?;
     Ok(possible)
-}
-
-/// The number under which a trap is reported.
-fn trap_number(trap: Trap) -> u8
-    ensures { result ≡ trap_number (trap_view trap) }
-{
-    match trap {
-        Trap::NullReference => 4,
-        Trap::WrongObject => 6,
-    }
 }
 
 /// How thread `k` stands.

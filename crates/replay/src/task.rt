@@ -1,238 +1,140 @@
-//! Tasks: statements still to do, of which the first may be begun.
+//! Tasks: statements that are begun.
 
-ghost use Rattle.std.specs.Prelude.{◌≡◌, IfOk, IsTrue};
-ghost use Rattle.std.specs.Option.{option_map};
-ghost use Rattle.syntax.specs.Views.{stmt_tree, expr_tree, call_tree, right_side_tree};
-ghost use Rattle.types.specs.BuiltCalls.{is_built_call};
-ghost use Rattle.world.specs.SceneWorld.{world_of_scene};
-ghost use Rattle.regions.specs.Task.{Declared, ScalarKind, right_side_task, task_of};
-ghost use Rattle.regions.specs.Variable.{as_static};
-ghost use Rattle.replay.specs.declared.task.Task.TheVariants as task;
-ghost use Rattle.world.specs.World.{loaded_objects};
-ghost use Rattle.replay.specs.Objects.{array_length, reference_of};
-ghost use Rattle.replay.specs.Tasks.{task_view, RightSideInRange, StatementInRange, TaskInRange, HasEffect, Does, worked, first_expression, length_outcome};
-ghost use Rattle.replay.specs.Views.{NumbersInRange, variables_view};
+ghost use Rattle.std.specs.Prelude.{◌≡◌, IfOk};
+ghost use Rattle.syntax.specs.Views.{stmt_tree, expr_tree, right_side_tree, test_tree, block_tree};
+ghost use Rattle.regions.specs.Task.{Declared, set_task, right_side_task, if_task, task_of};
+ghost use Rattle.replay.specs.Outcomes.{kind_view, target_view};
+ghost use Rattle.replay.specs.Tasks.{task_view, else_tree, ExprInRange, RightSideInRange, TestInRange, BlockInRange, ElseInRange, StatementInRange, TaskInRange};
 
-use crate::heap::array_length;
-use crate::term::{Term, Value, number_in, reduce, term_of};
-use crate::variable::{Content, Variable, content_of};
+use crate::outcome::{Target, VariableKind, kind_of};
+use crate::term::{Term, term_of};
 use std::alloc::{AllocError, Global};
-use syntax::{Argument, Call, Constant, Expr, Form, Name, RightSide, Stmt, VariableType};
-use world::World;
-
-/// Why a run stops (JNI Specification, chapter 2, "Reporting Programming Errors").
-#[derive(Clone, Copy, Debug, PartialEq, Eq)]
-pub(crate) enum Trap {
-    /// NULL stands where an object is asked for.
-    NullReference,
-    /// An object of another kind stands there.
-    WrongObject,
-}
+use syntax::{Block, Call, Constant, ElementType, Expr, Form, Name, RightSide, Stmt, Test};
 
 /// A statement still to do, with its line.
 #[derive(Debug, Drop)]
 pub(crate) enum Task<'a> {
     Print(usize, Term),
-    /// A number for a variable.
+    /// A value for a variable.
     Set(usize, &'a Name, Term),
-    /// NULL for a number variable, as in no accepted program.
-    SetNull(&'a Name),
-    /// The result of a call for a variable; its arguments are looked up in its one step.
-    Invoke(usize, &'a Name, &'a Call),
+    /// A number for an element, behind its index.
+    SetElement(usize, &'a Name, Term, Term),
+    SetNull(Target<'a>),
+    MakeArray(ElementType, &'a Name, u32),
+    /// A call; its arguments are looked up in its one step.
+    Invoke(usize, Target<'a>, &'a Call),
+    /// An `if`, with its two ways.
+    Branch(usize, Term, &'a Block, Option<&'a Block>),
+    /// A loop, with its test, the test's term, and the body.
+    Loop(usize, &'a Expr, Term, &'a Block),
     Return,
     ReturnValue(usize, Term),
 }
 
-/// What a step of a task did.
-#[derive(Clone, Copy, Debug)]
-pub(crate) enum Outcome<'a> {
-    /// A part of it was worked out.
-    Stays,
-    /// It is over, and this number was printed.
-    Printed(i32),
-    /// It is over, and the variable has this number.
-    Sets(&'a Name, Value),
-    /// The call is over.
-    Returned,
-    /// The machine stops, by a statement of this line.
-    Trapped(Trap, usize),
-    /// It can take no step.
-    Nothing,
+/// The task that gives a variable the value of an expression.
+fn value_task<'a>(
+    alloc: Global,
+    line: usize,
+    target: Target<'a>,
+    name: &'a Name,
+    e: &'a Expr,
+) -> Result<Task<'a>, AllocError>
+    requires { ExprInRange (expr_tree e.now) }
+    ensures view { IfOk result (λ t. task_view t ≡ set_task line (target_view target.entry) name.entry.now (expr_tree e.entry.now)) }
+    ensures range { IfOk result TaskInRange }
+{
+    if let Expr::Named(Constant::Null) = e {
+        return Ok(Task::SetNull(target));
+    }
+    Ok(Task::Set(line, name, term_of(alloc, e)?))
 }
 
-/// The task that sets a number variable.
+/// The task that sets a variable.
 fn set_task<'a>(
     alloc: Global,
     line: usize,
+    target: Target<'a>,
     name: &'a Name,
     right: &'a RightSide,
 ) -> Result<Task<'a>, AllocError>
     requires { RightSideInRange (right_side_tree right.now) }
-    ensures view { IfOk result (λ t. task_view t ≡ right_side_task line (Declared ScalarKind name.entry.now) name.entry.now (right_side_tree right.entry.now)) }
-    ensures numbers { IfOk result TaskInRange }
+    ensures view { IfOk result (λ t. task_view t ≡ right_side_task line (target_view target.entry) name.entry.now (right_side_tree right.entry.now)) }
+    ensures range { IfOk result TaskInRange }
 {
-    let task = match right {
-        RightSide::Expr(Expr::Named(Constant::Null)) => Task::SetNull(name),
-        RightSide::Expr(e) => Task::Set(line, name, term_of(alloc, e)?),
-        RightSide::Call(call) => Task::Invoke(line, name, call),
-    };
-    Ok(task)
+    match right {
+        RightSide::Expr(e) => value_task(alloc, line, target, name, e),
+        RightSide::Call(call) => Ok(Task::Invoke(line, target, call)),
+    }
+}
+
+/// The task of an `if`. No function that can be called today stands in a test.
+fn if_task<'a>(
+    alloc: Global,
+    line: usize,
+    test: &'a Test,
+    then: &'a Block,
+    otherwise: Option<&'a Block>,
+) -> Result<Task<'a>, AllocError>
+    requires test { TestInRange (test_tree test.now) }
+    requires then { BlockInRange (block_tree then.now) }
+    requires otherwise { ElseInRange otherwise }
+    ensures view { IfOk result (λ t. task_view t ≡ if_task line (test_tree test.entry.now) (block_tree then.entry.now) (else_tree line otherwise.entry)) }
+    ensures range { IfOk result TaskInRange }
+{
+    match test {
+        Test::Expr(e) => Ok(Task::Branch(line, term_of(alloc, e)?, then, otherwise)),
+        Test::Call(_) => Err(AllocError),
+    }
+}
+
+/// The task that a declaration begins as.
+fn declaration<'a>(
+    alloc: Global,
+    line: usize,
+    kind: VariableKind,
+    name: &'a Name,
+    right: &'a RightSide,
+) -> Result<Task<'a>, AllocError>
+    requires { RightSideInRange (right_side_tree right.now) }
+    ensures view { IfOk result (λ t. task_view t ≡ right_side_task line (Declared (kind_view kind) name.entry.now) name.entry.now (right_side_tree right.entry.now)) }
+    ensures range { IfOk result TaskInRange }
+{
+    set_task(alloc, line, Target::Declared(kind, name), name, right)
 }
 
 /// The task that a statement begins as.
 pub(crate) fn task_of(alloc: Global, s: &Stmt) -> Result<Task<'_>, AllocError>
     requires { StatementInRange s.now }
     ensures view { IfOk result (λ t. task_view t ≡ task_of (stmt_tree s.now)) }
-    ensures numbers { IfOk result TaskInRange }
+    ensures range { IfOk result TaskInRange }
 {
+    let line = s.line;
     let task = match &s.form {
-        Form::Declare(VariableType::Jint, name, right) => set_task(alloc, s.line, name, right)?,
-        Form::PutJint(e) => Task::Print(s.line, term_of(alloc, e)?),
+        Form::Declare(t, x, right) => declaration(alloc, line, kind_of(*t), x, right)?,
+        Form::DeclareBuffer(t, x, right) => {
+            declaration(alloc, line, VariableKind::Buffer(*t), x, right)?
+        }
+        Form::DeclareChars(x, right) => {
+            declaration(
+                alloc,
+                line,
+                VariableKind::Buffer(ElementType::Jchar),
+                x,
+                right,
+            )?
+        }
+        Form::DeclareArray(t, x, size) => Task::MakeArray(*t, x, *size),
+        Form::Assign(x, right) => set_task(alloc, line, Target::Assigned(x), x, right)?,
+        Form::AssignElement(x, i, e) => {
+            Task::SetElement(line, x, term_of(alloc, i)?, term_of(alloc, e)?)
+        }
+        Form::Perform(call) => Task::Invoke(line, Target::Dropped, call),
+        Form::PutJint(e) => Task::Print(line, term_of(alloc, e)?),
+        Form::If(test, then) => if_task(alloc, line, test, then, None)?,
+        Form::IfElse(test, then, other) => if_task(alloc, line, test, then, Some(other))?,
+        Form::While(test, body) => Task::Loop(line, test, term_of(alloc, test)?, body),
         Form::Return(None) => Task::Return,
-        Form::Return(Some(e)) => Task::ReturnValue(s.line, term_of(alloc, e)?),
+        Form::Return(Some(e)) => Task::ReturnValue(line, term_of(alloc, e)?),
     };
     Ok(task)
-}
-
-/// What was done of a term that has no value yet.
-fn worked<'a>(reduced: bool) -> Outcome<'a>
-    ensures { result ≡ worked reduced }
-{
-    if reduced {
-        Outcome::Stays
-    } else {
-        Outcome::Nothing
-    }
-}
-
-/// Works a number out, or prints it.
-fn print<'a>(variables: &[Variable<'_>], line: usize, t: &mut Term) -> Outcome<'a>
-    requires { NumbersInRange t.old }
-    ensures step { HasEffect (variables_view variables.now) (task.Print line t.old) result (task.Print line t.new) }
-    ensures numbers { NumbersInRange t.new }
-{
-    match t {
-        Term::Done(v) => match v {
-            Value::Int(z) => Outcome::Printed(*z),
-            Value::Word(_) => Outcome::Nothing,
-        },
-        t => worked(reduce(variables, t)),
-    }
-}
-
-/// Works a number out, or sets a variable to it.
-fn set<'a>(variables: &[Variable<'_>], line: usize, name: &'a Name, t: &mut Term) -> Outcome<'a>
-    requires { NumbersInRange t.old }
-    ensures step { HasEffect (variables_view variables.now) (task.Set line name.entry t.old) result (task.Set line name.entry t.new) }
-    ensures numbers { NumbersInRange t.new }
-{
-    match t {
-        Term::Done(v) => Outcome::Sets(name, *v),
-        t => worked(reduce(variables, t)),
-    }
-}
-
-/// Works a value out, or returns it. A name of a number is worked out, and one of a reference is returned as it is.
-fn return_value<'a>(variables: &[Variable<'_>], line: usize, t: &mut Term) -> Outcome<'a>
-    requires { NumbersInRange t.old }
-    ensures step { HasEffect (variables_view variables.now) (task.ReturnValue line t.old) result (task.ReturnValue line t.new) }
-    ensures numbers { NumbersInRange t.new }
-{
-    match t {
-        Term::Done(_) | Term::Named(_) => Outcome::Returned,
-        Term::Read(name) => match number_in(variables, name) {
-            Some(value) => {
-                *t = Term::Done(value);
-                Outcome::Stays
-            }
-            None => Outcome::Returned,
-        },
-        t => worked(reduce(variables, t)),
-    }
-}
-
-/// The object that an argument is, or NULL.
-fn object_of(variables: &[Variable<'_>], e: &Expr) -> Option<usize>
-    ensures { as_static result ≡ reference_of (variables_view variables.now) (expr_tree e.now) }
-{
-    let Expr::Variable(name) = e else {
-        return None;
-    };
-    match content_of(variables, name) {
-        Some(Content::Reference(object)) => object,
-        _ => None,
-    }
-}
-
-/// The first argument of a call.
-fn first_argument(call: &Call) -> Option<&Expr>
-    ensures { option_map (λ e. expr_tree e.now) result ≡ first_expression call.now.arguments.items }
-{
-    match call.arguments.as_slice() {
-        [] => None,
-        [Argument::Value(e), ..] => Some(e),
-    }
-}
-
-/// The number of elements of this object, for a variable.
-fn set_length<'a>(
-    world: &World,
-    line: usize,
-    name: &'a Name,
-    object: usize,
-) -> Result<Outcome<'a>, AllocError>
-    ensures { IfOk result (λ o. o ≡ length_outcome line name.entry
-        (array_length (world_of_scene world.now).classes (loaded_objects (world_of_scene world.now)) object)) }
-{
-    match array_length(world, object) {
-        None => Ok(Outcome::Trapped(Trap::WrongObject, line)),
-        Some(length) => {
-            // No array of a world is as long.
-            if length > 2_147_483_647 {
-                return Err(AllocError);
-            }
-            Ok(Outcome::Sets(name, Value::Int(length as i32)))
-        }
-    }
-}
-
-/// The step of a call of `GetArrayLength`, the one function that can be called today (JNI Specification, chapter 4,
-/// "Array Operations"). No accepted program leaves its argument out.
-fn invoke<'a>(
-    world: &World,
-    variables: &[Variable<'_>],
-    line: usize,
-    name: &'a Name,
-    call: &'a Call,
-) -> Result<Outcome<'a>, AllocError>
-    requires { IsTrue (is_built_call (call_tree call.now)) }
-    ensures { IfOk result (λ o. Does (world_of_scene world.now) (variables_view variables.now) (task.Invoke line name.entry call.entry) o (task.Invoke line name.entry call.entry)) }
-{
-    match first_argument(call) {
-        None => Ok(Outcome::Trapped(Trap::WrongObject, line)),
-        Some(e) => match object_of(variables, e) {
-            None => Ok(Outcome::Trapped(Trap::NullReference, line)),
-            Some(object) => set_length(world, line, name, object),
-        },
-    }
-}
-
-/// Lets a task take its next step.
-pub(crate) fn step<'a>(
-    world: &World,
-    variables: &[Variable<'_>],
-    task: &mut Task<'a>,
-) -> Result<Outcome<'a>, AllocError>
-    requires { TaskInRange task.old }
-    ensures step { IfOk result (λ o. Does (world_of_scene world.now) (variables_view variables.now) task.old o task.new) }
-    ensures numbers { IfOk result (λ _. TaskInRange task.new) }
-{
-    match task {
-        Task::Print(line, t) => Ok(print(variables, *line, t)),
-        Task::Set(line, name, t) => Ok(set(variables, *line, name, t)),
-        Task::SetNull(name) => Ok(Outcome::Sets(name, Value::Int(0))),
-        Task::Invoke(line, name, call) => invoke(world, variables, *line, name, call),
-        Task::Return => Ok(Outcome::Returned),
-        Task::ReturnValue(line, t) => Ok(return_value(variables, *line, t)),
-    }
 }

@@ -2,7 +2,6 @@
 
 ghost use Rattle.std.specs.Prelude.{◌≡◌, ◌++◌, ◌∷◌, IfOk, IsTrue, Some, None, map, zip, length, ◌==◌};
 ghost use Rattle.std.specs.Option.{option_map};
-ghost use Rattle.syntax.specs.declared.unit.Item.TheVariants as form;
 ghost use Rattle.syntax.specs.Limits.{IsTree};
 ghost use Rattle.syntax.specs.Views.{function_tree, parameter_tree, unit_tree};
 ghost use Rattle.types.specs.BuiltCalls.{calls_are_built};
@@ -14,8 +13,9 @@ ghost use Rattle.replay.specs.Threads.{argument_content, TakesStep, WorkInRange,
 ghost use Rattle.replay.specs.Views.{content_view, variables_view};
 
 use crate::activation::{Activation, advance};
-use crate::task::{Outcome, Trap};
-use crate::term::Value;
+use crate::outcome::Outcome;
+use crate::trap::Trap;
+use crate::value::Value;
 use crate::variable::{Content, Variable};
 use classes::mangling::unmangle;
 use std::alloc::{AllocError, Global};
@@ -41,22 +41,18 @@ pub(crate) enum Step {
     Nothing,
 }
 
-/// The function of an item.
-fn function_of(item: &Item) -> &Function
-    ensures { item.now ≡ form.Function result.now }
-{
-    let Item::Function(function) = item;
-    function
-}
-
 /// The function of this name; it compares the name with each.
 pub(crate) fn function_at<'a>(items: &'a [Item], name: &[u8]) -> Option<&'a Function>
     ensures { option_map (λ f. function_tree f.now) result ≡ function_at (unit_tree items.now) name.now }
 {
     for item in items {
-        let function = function_of(item);
-        if function.name.as_bytes() == name {
-            return Some(function);
+        match item {
+            Item::Static(_) => {}
+            Item::Function(function) => {
+                if function.name.as_bytes() == name {
+                    return Some(function);
+                }
+            }
         }
     }
     None
@@ -158,6 +154,7 @@ fn enter<'a>(
     thread.activation = Some(Activation {
         task: None,
         rest: &function.body.statements,
+        outer: Vec::new(alloc),
         variables,
     });
     Ok(Step::Quiet)
@@ -168,7 +165,10 @@ fn step_of(outcome: Outcome<'_>) -> Step
     ensures { result ≡ step_of outcome.entry }
 {
     match outcome {
-        Outcome::Stays | Outcome::Sets(_, _) | Outcome::Returned => Step::Quiet,
+        Outcome::Stays | Outcome::Sets(_, _) | Outcome::SetsNull(_) => Step::Quiet,
+        Outcome::Puts(_, _) | Outcome::SetsElement(_, _, _) => Step::Quiet,
+        Outcome::Makes(_, _, _) | Outcome::Enters(_, _) => Step::Quiet,
+        Outcome::Over | Outcome::Returned => Step::Quiet,
         Outcome::Printed(z) => Step::Printed(z),
         Outcome::Trapped(trap, line) => Step::Trapped(trap, line),
         Outcome::Nothing => Step::Nothing,
@@ -199,7 +199,7 @@ pub(crate) fn take_step<'a>(
     let Some(activation) = &mut thread.activation else {
         return enter(alloc, items, world, thread);
     };
-    match advance(alloc, world, activation)? {
+    match advance(alloc, items, world, activation)? {
         Outcome::Returned => {
             leave(thread);
             Ok(Step::Quiet)

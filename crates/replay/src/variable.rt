@@ -1,33 +1,41 @@
 //! The variables of a call in progress.
 
-ghost use Rattle.std.specs.Prelude.{◌≡◌, IfOk, position};
+ghost use Rattle.std.specs.Prelude.{◌≡◌, IfOk, Some, None, pos, position, replicate, slice_set, if◌then◌else◌};
 ghost use Rattle.std.specs.Option.{option_map};
 ghost use Rattle.std.specs.Str.{bytes_eq};
 ghost use Rattle.base.specs.Bytes.{lookup};
+ghost use Rattle.syntax.specs.Views.{element_tree};
+ghost use Rattle.regions.specs.Value.{convert};
 ghost use Rattle.regions.specs.Variable.{assign};
-ghost use Rattle.replay.specs.Views.{content_view, variables_view};
+ghost use Rattle.replay.specs.Views.{content_view, written, variables_view};
 
-use crate::term::Value;
-use std::alloc::AllocError;
-use syntax::Name;
+use crate::value::{Value, convert};
+use std::alloc::{AllocError, Global};
+use syntax::{ElementType, Name};
 
 /// What a variable holds.
-#[derive(Clone, Copy, Debug, PartialEq, Eq)]
+#[derive(Debug, Drop)]
 pub(crate) enum Content {
     Number(Value),
     /// NULL or an object, by its name.
     Reference(Option<usize>),
+    /// A field ID, which is NULL: no function gives another today.
+    Field,
+    /// A buffer, which is NULL: no function gives another today.
+    Buffer(ElementType),
+    /// A local array.
+    Array(ElementType, Vec<i32>),
 }
 
 /// A variable with its name.
-#[derive(Clone, Copy, Debug)]
+#[derive(Debug, Drop)]
 pub(crate) struct Variable<'a> {
     pub name: &'a Name,
     pub content: Content,
 }
 
 /// The place of the first variable of this name. It compares the name with each: a function knows 256 names at most.
-fn place_of(variables: &[Variable<'_>], name: &Name) -> Option<usize>
+pub(crate) fn place_of(variables: &[Variable<'_>], name: &Name) -> Option<usize>
     ensures { result ≡ position (λ v. bytes_eq name.now v.name.now) variables.now }
 {
     variables
@@ -36,12 +44,12 @@ fn place_of(variables: &[Variable<'_>], name: &Name) -> Option<usize>
 }
 
 /// What the variable of this name holds. It compares the name with each.
-pub(crate) fn content_of(variables: &[Variable<'_>], name: &Name) -> Option<Content>
-    ensures { option_map content_view result ≡ lookup name.now (variables_view variables.now) }
+pub(crate) fn content_of<'v>(variables: &'v [Variable<'_>], name: &Name) -> Option<&'v Content>
+    ensures { option_map (λ c. content_view c.now) result ≡ lookup name.now (variables_view variables.now) }
 {
     for variable in variables {
         if name.as_bytes() == variable.name.as_bytes() {
-            return Some(variable.content);
+            return Some(&variable.content);
         }
     }
     None
@@ -66,5 +74,36 @@ pub(crate) fn assign<'a>(
             variables.push(variable)?;
             Ok(())
         }
+    }
+}
+
+/// So many zeros.
+pub(crate) fn zeros(alloc: Global, size: u32) -> Result<Vec<i32>, AllocError>
+    ensures { IfOk result (λ numbers. numbers.items ≡ replicate size (pos 0)) }
+{
+    let mut numbers = Vec::new(alloc);
+    numbers.resize(size as usize, 0)?;
+    Ok(numbers)
+}
+
+/// Writes an element that is there, converted to its type.
+fn write(kind: ElementType, numbers: &mut [i32], index: usize, number: i32)
+    ensures { numbers.new ≡ slice_set numbers.old index (convert (element_tree kind) number) }
+{
+    if index < numbers.len() {
+        numbers[index] = convert(kind, number);
+    }
+}
+
+/// Writes an element of what a variable holds; false where it is no array.
+pub(crate) fn write_content(content: &mut Content, index: usize, number: i32) -> bool
+    ensures { written index number (content_view content.old) ≡ if result then Some (content_view content.new) else None }
+{
+    match content {
+        Content::Array(kind, numbers) => {
+            write(*kind, numbers, index, number);
+            true
+        }
+        Content::Number(_) | Content::Reference(_) | Content::Field | Content::Buffer(_) => false,
     }
 }

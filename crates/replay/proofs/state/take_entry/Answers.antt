@@ -8,7 +8,7 @@ use Rattle.regions.specs.State.{thread_at}
 use Rattle.replay.specs.declared.thread.Thread.{Thread}
 use Rattle.replay.specs.States.{AreInRange}
 use Rattle.replay.specs.Threads.{TakesStep}
-use Rattle.replay.proofs.StateLemmas.{stopped, no_statics, refused, not_there, past_the_end, ended, takes, range_at, range_set}
+use Rattle.replay.proofs.StateLemmas.{stopped, refused, not_there, past_the_end, ended, takes, range_at, range_set}
 use Rattle.replay.proofs.state.take_entry.Goals as goal
 
 pub returns-then-entry-clause-step : goal.returns-then-entry-clause-step
@@ -42,7 +42,7 @@ returns-clause-step c = λ w s h.
     let at = thread_there c.args.state.now.threads c.from-k.result c.len.result c.index_mut-thread.result.now c.if-k-eq0.false c.if-len-k.false c.len.ensures c.index_mut-thread.ensures.value in
     let step = subst (λ (v : World). TakesStep (unit_tree c.args.items.now) v c.index_mut-thread.result.now c.in_ok-step.step c.take_step.new.thread) (sym h.world) c.in_ok-step.ensures.step in
     rw c.in_ok-possible.ensures.possible (takes (unit_tree c.args.items.now) w c.args.state.now s h c.requires.range c.args.entry (c.from-k.result - 1) c.index_mut-thread.result.now c.take_step.new.thread c.in_ok-step.step c.note.new.state
-    (omega arith) c.if-entry.false at c.if-thread.false (no_statics c.args.items.now) (sym c.is_some.ensures ∙ c.if-is_some.false) step
+    (omega arith) c.if-entry.false at c.if-thread.false (sym c.is_some.ensures ∙ c.if-is_some.false) step
     c.in_ok-possible.ensures.noted.world (ap (λ (v : Vec Thread). v.items) c.in_ok-possible.ensures.noted.threads) c.in_ok-possible.ensures.noted.printed c.in_ok-possible.ensures.noted.stop)
 
 pub returns-clause-range : goal.returns-clause-range

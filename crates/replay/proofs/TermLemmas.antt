@@ -1,0 +1,160 @@
+-- Terms: how they begin, and what a step of one does.
+use Rattle.std.proofs.Common.{◌≡◌, Option, Some, None, refl, sym, ap, ◌∙◌}
+use Rattle.base.specs.Bytes.{Identifier}
+use Rattle.syntax.specs.declared.expr.BinaryOp.{BinaryOp}
+use Rattle.syntax.specs.declared.expr.BinaryOp.TheVariants as binary
+use Rattle.syntax.specs.declared.expr.Constant.{Constant}
+use Rattle.syntax.specs.declared.expr.Constant.TheVariants as constant
+use Rattle.syntax.specs.declared.expr.Expr.{Expr as ExprInMemory}
+use Rattle.syntax.specs.declared.expr.Expr.TheVariants as expr
+use Rattle.syntax.specs.Parts.{null_tested}
+use Rattle.syntax.specs.Tree.{Expr, Variable, Binary}
+use Rattle.syntax.specs.Views.{expr_tree, constant_tree, binary_tree}
+use Rattle.regions.specs.Heap.{Heap}
+use Rattle.regions.specs.Sight.{seen}
+use Rattle.regions.specs.Term as tree
+use Rattle.regions.specs.Term.{Reduction, binary_term, with_part, done, reduce}
+use Rattle.regions.specs.Value.{Value, Gives, outcome_map}
+use Rattle.regions.specs.Variable.{Variables, Statics}
+use Rattle.replay.specs.declared.reduce.Reduction.{Reduction as ReductionInMemory}
+use Rattle.replay.specs.declared.reduce.Reduction.TheVariants as reduction
+use Rattle.replay.specs.declared.term.Term.{Term}
+use Rattle.replay.specs.declared.term.Term.TheVariants as term
+use Rattle.replay.specs.declared.value.Evaluated.{Evaluated}
+use Rattle.replay.specs.declared.value.Evaluated.TheVariants as evaluated
+use Rattle.replay.specs.declared.value.Value.{Value as ValueInMemory}
+use Rattle.replay.specs.Views.{value_view, evaluated_view, term_view, IsReplaced, Reduces}
+
+-- ---- comparisons with NULL
+
+-- other operators compare nothing with NULL
+pub not_compared : (op : BinaryOp) → (op ≡ binary.Equal → ⊥) → (op ≡ binary.NotEqual → ⊥) → (a b : Expr) → null_tested (Binary (binary_tree op) a b) ≡ None
+not_compared binary.LogicalOr no_equal no_other a b = refl
+not_compared binary.LogicalAnd no_equal no_other a b = refl
+not_compared binary.BitOr no_equal no_other a b = refl
+not_compared binary.BitXor no_equal no_other a b = refl
+not_compared binary.BitAnd no_equal no_other a b = refl
+not_compared binary.Equal no_equal no_other a b = absurd (no_equal refl)
+not_compared binary.NotEqual no_equal no_other a b = absurd (no_other refl)
+not_compared binary.Less no_equal no_other a b = refl
+not_compared binary.LessEqual no_equal no_other a b = refl
+not_compared binary.Greater no_equal no_other a b = refl
+not_compared binary.GreaterEqual no_equal no_other a b = refl
+not_compared binary.ShiftLeft no_equal no_other a b = refl
+not_compared binary.ShiftRight no_equal no_other a b = refl
+not_compared binary.Add no_equal no_other a b = refl
+not_compared binary.Subtract no_equal no_other a b = refl
+not_compared binary.Multiply no_equal no_other a b = refl
+not_compared binary.Divide no_equal no_other a b = refl
+not_compared binary.Remainder no_equal no_other a b = refl
+
+equal_to_no_name : (a : ExprInMemory) (b : Expr) → ((x : Identifier) → a ≡ expr.Variable x → ⊥) → null_tested (Binary (binary_tree binary.Equal) (expr_tree a) b) ≡ None
+equal_to_no_name (expr.Number n u) b h = refl
+equal_to_no_name (expr.Named c) b h = refl
+equal_to_no_name (expr.Variable x) b h = absurd (h x refl)
+equal_to_no_name (expr.Element' x p i) b h = refl
+equal_to_no_name (expr.Prefix' op p a) b h = refl
+equal_to_no_name (expr.Binary' op p a q c) b h = refl
+equal_to_no_name (expr.Paren' p a) b h = refl
+
+equal_to_constant : (x : Identifier) (c : Constant) → (c ≡ constant.Null → ⊥) → null_tested (Binary (binary_tree binary.Equal) (Variable x) (expr_tree (expr.Named c))) ≡ None
+equal_to_constant x constant.True h = refl
+equal_to_constant x constant.False h = refl
+equal_to_constant x constant.Commit h = refl
+equal_to_constant x constant.Abort h = refl
+equal_to_constant x constant.Null h = absurd (h refl)
+
+equal_to_no_null : (x : Identifier) (b : ExprInMemory) → (b ≡ expr.Named constant.Null → ⊥) → null_tested (Binary (binary_tree binary.Equal) (Variable x) (expr_tree b)) ≡ None
+equal_to_no_null x (expr.Number n u) h = refl
+equal_to_no_null x (expr.Named c) h = equal_to_constant x c (λ e. h (ap expr.Named e))
+equal_to_no_null x (expr.Variable y) h = refl
+equal_to_no_null x (expr.Element' y p i) h = refl
+equal_to_no_null x (expr.Prefix' op p a) h = refl
+equal_to_no_null x (expr.Binary' op p a q c) h = refl
+equal_to_no_null x (expr.Paren' p a) h = refl
+
+unequal_to_no_name : (a : ExprInMemory) (b : Expr) → ((x : Identifier) → a ≡ expr.Variable x → ⊥) → null_tested (Binary (binary_tree binary.NotEqual) (expr_tree a) b) ≡ None
+unequal_to_no_name (expr.Number n u) b h = refl
+unequal_to_no_name (expr.Named c) b h = refl
+unequal_to_no_name (expr.Variable x) b h = absurd (h x refl)
+unequal_to_no_name (expr.Element' x p i) b h = refl
+unequal_to_no_name (expr.Prefix' op p a) b h = refl
+unequal_to_no_name (expr.Binary' op p a q c) b h = refl
+unequal_to_no_name (expr.Paren' p a) b h = refl
+
+unequal_to_constant : (x : Identifier) (c : Constant) → (c ≡ constant.Null → ⊥) → null_tested (Binary (binary_tree binary.NotEqual) (Variable x) (expr_tree (expr.Named c))) ≡ None
+unequal_to_constant x constant.True h = refl
+unequal_to_constant x constant.False h = refl
+unequal_to_constant x constant.Commit h = refl
+unequal_to_constant x constant.Abort h = refl
+unequal_to_constant x constant.Null h = absurd (h refl)
+
+unequal_to_no_null : (x : Identifier) (b : ExprInMemory) → (b ≡ expr.Named constant.Null → ⊥) → null_tested (Binary (binary_tree binary.NotEqual) (Variable x) (expr_tree b)) ≡ None
+unequal_to_no_null x (expr.Number n u) h = refl
+unequal_to_no_null x (expr.Named c) h = unequal_to_constant x c (λ e. h (ap expr.Named e))
+unequal_to_no_null x (expr.Variable y) h = refl
+unequal_to_no_null x (expr.Element' y p i) h = refl
+unequal_to_no_null x (expr.Prefix' op p a) h = refl
+unequal_to_no_null x (expr.Binary' op p a q c) h = refl
+unequal_to_no_null x (expr.Paren' p a) h = refl
+
+pub ruleset comparison_rules = (not_compared)
+
+-- ---- operators
+
+-- an operator that isn't `&&` or `||`
+pub operator_term : (op : BinaryOp) → (op ≡ binary.LogicalAnd → ⊥) → (op ≡ binary.LogicalOr → ⊥) → (s t : tree.Term) → binary_term (binary_tree op) None s t ≡ tree.Binary (binary_tree op) s t
+operator_term binary.LogicalOr no_and no_or s t = absurd (no_or refl)
+operator_term binary.LogicalAnd no_and no_or s t = absurd (no_and refl)
+operator_term binary.BitOr no_and no_or s t = refl
+operator_term binary.BitXor no_and no_or s t = refl
+operator_term binary.BitAnd no_and no_or s t = refl
+operator_term binary.Equal no_and no_or s t = refl
+operator_term binary.NotEqual no_and no_or s t = refl
+operator_term binary.Less no_and no_or s t = refl
+operator_term binary.LessEqual no_and no_or s t = refl
+operator_term binary.Greater no_and no_or s t = refl
+operator_term binary.GreaterEqual no_and no_or s t = refl
+operator_term binary.ShiftLeft no_and no_or s t = refl
+operator_term binary.ShiftRight no_and no_or s t = refl
+operator_term binary.Add no_and no_or s t = refl
+operator_term binary.Subtract no_and no_or s t = refl
+operator_term binary.Multiply no_and no_or s t = refl
+operator_term binary.Divide no_and no_or s t = refl
+operator_term binary.Remainder no_and no_or s t = refl
+
+pub ruleset operator_rules = (operator_term)
+
+-- ---- steps
+
+-- a part that has no value yet takes its step inside the whole
+pub inside : (t : Term) → ((v : ValueInMemory) → t ≡ term.Done v → ⊥) → (use_value : Value → Reduction) (whole : tree.Term → tree.Term) (step : Reduction)
+    → with_part use_value whole (term_view t) step ≡ outcome_map whole step
+inside (term.Done v) no_value use_value whole step = absurd (no_value v refl)
+inside (term.Number n unsigned) no_value use_value whole step = refl
+inside (term.Named c) no_value use_value whole step = refl
+inside (term.Read x) no_value use_value whole step = refl
+inside (term.Element' x p i) no_value use_value whole step = refl
+inside (term.IsNull wanted x) no_value use_value whole step = refl
+inside (term.Prefix' op p t) no_value use_value whole step = refl
+inside (term.And' p s q t) no_value use_value whole step = refl
+inside (term.Or' p s q t) no_value use_value whole step = refl
+inside (term.Binary' op p s q t) no_value use_value whole step = refl
+
+module _ (vs : Variables) (ss : Statics) where
+  -- what was worked out stands in its place
+  pub replaced : (old new : Term) (value : Evaluated) (took : ReductionInMemory) → IsReplaced old value took new
+      → ((heap : Heap) → reduce (seen vs ss heap) (term_view old) ≡ done (evaluated_view value)) → Reduces vs ss old took new
+  replaced old new (evaluated.Gives v) took is value = rw (is.0, is.1) value
+  replaced old new (evaluated.Traps trap) took is value = rw (is.0, is.1) (value, refl)
+  replaced old new evaluated.Stuck took is value = rw is.0 value
+
+  -- a part has taken its step
+  pub part_stepped : (old new : Term) (whole_old whole_new : Term) (whole : tree.Term → tree.Term) (took : ReductionInMemory) → Reduces vs ss old took new
+      → ((heap : Heap) → reduce (seen vs ss heap) (term_view whole_old) ≡ outcome_map whole (reduce (seen vs ss heap) (term_view old)))
+      → term_view whole_new ≡ whole (term_view new) → (new ≡ old → whole_new ≡ whole_old) → Reduces vs ss whole_old took whole_new
+  part_stepped old new whole_old whole_new whole reduction.Reduced step at is same = λ heap. at heap ∙ ap (outcome_map whole) (step heap) ∙ ap Gives (sym is)
+  part_stepped old new whole_old whole_new whole (reduction.Trapped trap) step at is same = (λ heap. at heap ∙ ap (outcome_map whole) (step.0 heap), same step.1)
+  part_stepped old new whole_old whole_new whole reduction.Stuck step at is same = λ heap. at heap ∙ ap (outcome_map whole) (step heap)
+
+pub ruleset reduction_rules = (replaced)

@@ -1,0 +1,238 @@
+//! Steps of tasks.
+
+ghost use Rattle.std.specs.Prelude.{◌≡◌, IfOk, ℕ};
+ghost use Rattle.syntax.specs.Views.{expr_tree, block_tree, unit_tree};
+ghost use Rattle.world.specs.SceneWorld.{world_of_scene};
+ghost use Rattle.regions.specs.Start.{null_statics};
+ghost use Rattle.regions.specs.Task.{tasks_of};
+ghost use Rattle.regions.specs.Variable.{Statics};
+ghost use Rattle.replay.specs.declared.task.Task.TheVariants as task;
+ghost use Rattle.replay.specs.declared.term.Term.TheVariants as term;
+ghost use Rattle.replay.specs.Steps.{HasEffect, Does, worked};
+ghost use Rattle.replay.specs.Tasks.{else_tree, tasks_of_statements, ExprInRange, BlockInRange, ElseInRange, StatementsInRange, TaskInRange, OutcomeInRange};
+ghost use Rattle.replay.specs.Views.{NumbersInRange, variables_view};
+
+use crate::invoke::invoke;
+use crate::outcome::{End, Outcome};
+use crate::reduce::{Reduction, reduce};
+use crate::sight::{Indexed, number_in, place_in};
+use crate::task::Task;
+use crate::term::Term;
+use crate::value::{Evaluated, Value};
+use crate::variable::Variable;
+use std::alloc::AllocError;
+use syntax::{Block, Constant, Expr, Item, Name, Stmt};
+use world::World;
+
+/// What was done of a term that has no value yet.
+fn worked<'a>(line: usize, reduction: Reduction) -> Outcome<'a>
+    ensures { result ≡ worked line reduction }
+{
+    match reduction {
+        Reduction::Reduced => Outcome::Stays,
+        Reduction::Trapped(trap) => Outcome::Trapped(trap, line),
+        Reduction::Stuck => Outcome::Nothing,
+    }
+}
+
+/// Works a number out, or prints it.
+fn print<'a>(items: &[Item], variables: &[Variable<'_>], line: usize, t: &mut Term) -> Outcome<'a>
+    requires { NumbersInRange t.old }
+    ensures step { HasEffect (variables_view variables.now) (null_statics (unit_tree items.now)) (task.Print line t.old) result (task.Print line t.new) }
+    ensures numbers { NumbersInRange t.new }
+    ensures range { OutcomeInRange result }
+{
+    match t {
+        Term::Done(v) => match v {
+            Value::Int(z) => Outcome::Printed(*z),
+            Value::Word(_) | Value::Flag(_) | Value::Truth(_) => Outcome::Nothing,
+        },
+        t => worked(line, reduce(items, variables, t)),
+    }
+}
+
+/// Works a value out, or sets a variable to it.
+fn set<'a>(
+    items: &[Item],
+    variables: &[Variable<'_>],
+    line: usize,
+    name: &'a Name,
+    t: &mut Term,
+) -> Outcome<'a>
+    requires { NumbersInRange t.old }
+    ensures step { HasEffect (variables_view variables.now) (null_statics (unit_tree items.now)) (task.Set line name.entry t.old) result (task.Set line name.entry t.new) }
+    ensures numbers { NumbersInRange t.new }
+    ensures range { OutcomeInRange result }
+{
+    match t {
+        Term::Done(v) => Outcome::Sets(name, *v),
+        t => worked(line, reduce(items, variables, t)),
+    }
+}
+
+/// Sets an element whose index and number are worked out.
+fn write<'a>(
+    variables: &[Variable<'_>],
+    line: usize,
+    name: &'a Name,
+    index: Value,
+    number: Value,
+) -> Outcome<'a>
+    ensures step { (statics : Statics) → HasEffect (variables_view variables.now) statics (task.SetElement line name.entry (term.Done index) (term.Done number)) result (task.SetElement line name.entry (term.Done index) (term.Done number)) }
+    ensures range { OutcomeInRange result }
+{
+    match number {
+        Value::Int(z) => match place_in(variables, name, index) {
+            Indexed::At(i) => Outcome::SetsElement(name, i, z),
+            Indexed::Traps(trap) => Outcome::Trapped(trap, line),
+            Indexed::Stuck => Outcome::Nothing,
+        },
+        Value::Word(_) | Value::Flag(_) | Value::Truth(_) => Outcome::Nothing,
+    }
+}
+
+/// Works the index or the number of an element out, or sets it.
+fn set_element<'a>(
+    items: &[Item],
+    variables: &[Variable<'_>],
+    line: usize,
+    name: &'a Name,
+    i: &mut Term,
+    t: &mut Term,
+) -> Outcome<'a>
+    requires index { NumbersInRange i.old }
+    requires number { NumbersInRange t.old }
+    ensures step { HasEffect (variables_view variables.now) (null_statics (unit_tree items.now)) (task.SetElement line name.entry i.old t.old) result (task.SetElement line name.entry i.new t.new) }
+    ensures index { NumbersInRange i.new }
+    ensures number { NumbersInRange t.new }
+    ensures range { OutcomeInRange result }
+{
+    match i {
+        Term::Done(index) => match t {
+            Term::Done(number) => write(variables, line, name, *index, *number),
+            t => worked(line, reduce(items, variables, t)),
+        },
+        i => worked(line, reduce(items, variables, i)),
+    }
+}
+
+/// The statements of a block; none where an `else` is missing.
+fn statements_of<'a>(block: Option<&'a Block>) -> &'a [Stmt]
+    requires { ElseInRange block }
+    ensures view { (line : ℕ) → tasks_of_statements result.now ≡ tasks_of (else_tree line block.entry) }
+    ensures range { StatementsInRange result.now }
+{
+    match block {
+        Some(block) => &block.statements,
+        None => &[],
+    }
+}
+
+/// Works the test of an `if` out, or takes a way.
+fn branch<'a>(
+    items: &[Item],
+    variables: &[Variable<'_>],
+    line: usize,
+    t: &mut Term,
+    then: &'a Block,
+    otherwise: Option<&'a Block>,
+) -> Outcome<'a>
+    requires numbers { NumbersInRange t.old }
+    requires then { BlockInRange (block_tree then.now) }
+    requires otherwise { ElseInRange otherwise }
+    ensures step { HasEffect (variables_view variables.now) (null_statics (unit_tree items.now)) (task.Branch line t.old then.entry otherwise.entry) result (task.Branch line t.new then.entry otherwise.entry) }
+    ensures numbers { NumbersInRange t.new }
+    ensures range { OutcomeInRange result }
+{
+    match t {
+        Term::Done(v) => match v {
+            Value::Truth(true) => Outcome::Enters(statements_of(Some(then)), End::If),
+            Value::Truth(false) => Outcome::Enters(statements_of(otherwise), End::If),
+            Value::Word(_) | Value::Int(_) | Value::Flag(_) => Outcome::Nothing,
+        },
+        t => worked(line, reduce(items, variables, t)),
+    }
+}
+
+/// Works the test of a loop out, or takes a turn, or goes on behind it.
+fn turn<'a>(
+    items: &[Item],
+    variables: &[Variable<'_>],
+    line: usize,
+    test: &'a Expr,
+    t: &mut Term,
+    body: &'a Block,
+) -> Outcome<'a>
+    requires test { ExprInRange (expr_tree test.now) }
+    requires numbers { NumbersInRange t.old }
+    requires body { BlockInRange (block_tree body.now) }
+    ensures step { HasEffect (variables_view variables.now) (null_statics (unit_tree items.now)) (task.Loop line test.entry t.old body.entry) result (task.Loop line test.entry t.new body.entry) }
+    ensures numbers { NumbersInRange t.new }
+    ensures range { OutcomeInRange result }
+{
+    match t {
+        Term::Done(v) => match v {
+            Value::Truth(true) => {
+                Outcome::Enters(statements_of(Some(body)), End::Turn(line, test, body))
+            }
+            Value::Truth(false) => Outcome::Over,
+            Value::Word(_) | Value::Int(_) | Value::Flag(_) => Outcome::Nothing,
+        },
+        t => worked(line, reduce(items, variables, t)),
+    }
+}
+
+/// Works a value out, or returns it. A name of a number is worked out, and one of a reference is returned as it is.
+fn return_value<'a>(
+    items: &[Item],
+    variables: &[Variable<'_>],
+    line: usize,
+    t: &mut Term,
+) -> Outcome<'a>
+    requires { NumbersInRange t.old }
+    ensures step { HasEffect (variables_view variables.now) (null_statics (unit_tree items.now)) (task.ReturnValue line t.old) result (task.ReturnValue line t.new) }
+    ensures numbers { NumbersInRange t.new }
+    ensures range { OutcomeInRange result }
+{
+    match t {
+        Term::Done(_) | Term::Named(Constant::Null) => Outcome::Returned,
+        Term::Read(name) => match number_in(variables, name) {
+            Evaluated::Gives(value) => {
+                *t = Term::Done(value);
+                Outcome::Stays
+            }
+            Evaluated::Traps(_) | Evaluated::Stuck => Outcome::Returned,
+        },
+        t => worked(line, reduce(items, variables, t)),
+    }
+}
+
+/// Lets a task take its next step.
+pub(crate) fn step<'a>(
+    items: &[Item],
+    world: &World,
+    variables: &[Variable<'_>],
+    task: &mut Task<'a>,
+) -> Result<Outcome<'a>, AllocError>
+    requires { TaskInRange task.old }
+    ensures step { IfOk result (λ o. Does (world_of_scene world.now) (variables_view variables.now) (null_statics (unit_tree items.now)) task.old o task.new) }
+    ensures task { IfOk result (λ _. TaskInRange task.new) }
+    ensures range { IfOk result OutcomeInRange }
+{
+    match task {
+        Task::Print(line, t) => Ok(print(items, variables, *line, t)),
+        Task::Set(line, name, t) => Ok(set(items, variables, *line, name, t)),
+        Task::SetElement(line, name, i, t) => {
+            Ok(set_element(items, variables, *line, name, i, t))
+        }
+        Task::SetNull(target) => Ok(Outcome::SetsNull(*target)),
+        Task::MakeArray(kind, name, size) => Ok(Outcome::Makes(*kind, name, *size)),
+        Task::Invoke(line, target, call) => invoke(world, variables, *line, *target, call),
+        Task::Branch(line, t, then, otherwise) => {
+            Ok(branch(items, variables, *line, t, then, *otherwise))
+        }
+        Task::Loop(line, test, t, body) => Ok(turn(items, variables, *line, test, t, body)),
+        Task::Return => Ok(Outcome::Returned),
+        Task::ReturnValue(line, t) => Ok(return_value(items, variables, *line, t)),
+    }
+}
