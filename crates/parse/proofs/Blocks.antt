@@ -13,7 +13,7 @@ use Rattle.parse.specs.declared.words.Word.TheVariants as words
 use Rattle.parse.specs.declared.lexemes.Fixed.TheVariants as fixed
 use Rattle.parse.specs.Results.{◌>>=◌, Fails}
 use Rattle.parse.specs.Lexemes.{Lexed, line_at, fault_at}
-use Rattle.parse.specs.Reading.{starts_with, behind, statement_at, is_return, names_of, block_at, function_at, items_at}
+use Rattle.parse.specs.Reading.{starts_with, behind, statement_at, is_return, ReadBlock, block_at, function_at, items_at}
 use Rattle.parse.proofs.Sentences.{statement_takes}
 use Rattle.parse.proofs.Programs.{function_takes}
 
@@ -30,34 +30,34 @@ pub before_end : (ss : List StmtInMemory) (line : ℕ) → before ss (End line) 
 before_end [] line = refl
 before_end (s ∷ ss) line = ap (λ (c : Block). Next (stmt_tree s) c) (before_end ss line)
 
-abbrev pub with_before : List StmtInMemory → Result (Block × List Lexed) ParseFault → Result (Block × List Lexed) ParseFault
-with_before ss read = read >>= λ b. Ok (before ss b.0, b.1)
+abbrev pub with_before : List StmtInMemory → Result ReadBlock ParseFault → Result ReadBlock ParseFault
+with_before ss read = read >>= λ b. Ok (before ss b.0, b.1, b.2)
 
 -- What is read from here, behind the statements so far, is all that is read.
-pub record Fills (room free : ℕ) (ss : List StmtInMemory) (returned : Bool) (ls : List Lexed) (total : Result (Block × List Lexed) ParseFault) : Type 0 where
+pub record Fills (room free : ℕ) (ss : List StmtInMemory) (returned : Bool) (ls : List Lexed) (total : Result ReadBlock ParseFault) : Type 0 where
   pub steps : ℕ
   pub enough : length ls ≤ steps
   pub same : with_before ss (block_at room free (suc steps) returned ls) ≡ total
 
-abbrev given : Block → List Lexed → Result (Block × List Lexed) ParseFault
-given b ls = Ok (b, ls)
+abbrev given : ℕ → List Lexed → Block → Result ReadBlock ParseFault
+given free ls b = Ok (b, free, ls)
 
-no_before : (read : Result (Block × List Lexed) ParseFault) → with_before [] read ≡ read
+no_before : (read : Result ReadBlock ParseFault) → with_before [] read ≡ read
 no_before (Ok x) = refl
 no_before (Err f) = refl
 
 pub fills_start : (room free : ℕ) (ls : List Lexed) → Fills room free [] false ls (block_at room free (length ls + 1) false ls)
 fills_start room free ls = record { steps = length ls; enough = omega arith; same = no_before (block_at room free (suc (length ls)) false ls) ∙ sym (ap (λ n. block_at room free n false ls) (add-one (length ls))) }
 
-regroup : (ss : List StmtInMemory) (s : StmtInMemory) (read : Result (Block × List Lexed) ParseFault) → with_before (ss ++ s ∷ []) read ≡ with_before ss (read >>= λ b. Ok (Next (stmt_tree s) b.0, b.1))
-regroup ss s (Ok x) = ap (λ (b : Block). given b x.1) (before_push ss s x.0)
+regroup : (ss : List StmtInMemory) (s : StmtInMemory) (read : Result ReadBlock ParseFault) → with_before (ss ++ s ∷ []) read ≡ with_before ss (read >>= λ b. Ok (Next (stmt_tree s) b.0, b.1, b.2))
+regroup ss s (Ok x) = ap (given x.1 x.2) (before_push ss s x.0)
 regroup ss s (Err e) = refl
 
-module _ (room free : ℕ) (ss : List StmtInMemory) (returned : Bool) (ls : List Lexed) (total : Result (Block × List Lexed) ParseFault) (f : Fills room free ss returned ls total) where
-  pub fills_done : starts_with (fixed.Mark marks.CloseBrace) ls ≡ true → total ≡ Ok (statements_tree ss (line_at ls), behind ls)
+module _ (room free : ℕ) (ss : List StmtInMemory) (returned : Bool) (ls : List Lexed) (total : Result ReadBlock ParseFault) (f : Fills room free ss returned ls total) where
+  pub fills_done : starts_with (fixed.Mark marks.CloseBrace) ls ≡ true → total ≡ Ok (statements_tree ss (line_at ls), free, behind ls)
   unfolding block_at
   fills_done s =
-      let one : with_before ss (block_at room free (suc f.steps) returned ls) ≡ Ok (statements_tree ss (line_at ls), behind ls) = rw s (ap (λ (b : Block). given b (behind ls)) (before_end ss (line_at ls))) in
+      let one : with_before ss (block_at room free (suc f.steps) returned ls) ≡ Ok (statements_tree ss (line_at ls), free, behind ls) = rw s (ap (given free (behind ls)) (before_end ss (line_at ls))) in
       sym f.same ∙ one
 
   pub fills_refuses : starts_with (fixed.Mark marks.CloseBrace) ls ≡ false → returned ≡ true → total ≡ Err (fault_at NoForm ls)
@@ -73,18 +73,18 @@ module _ (room free : ℕ) (ss : List StmtInMemory) (returned : Bool) (ls : List
       let one : with_before ss (block_at room free (suc f.steps) returned ls) ≡ Err (Found fault line) = rw (s, r, h) refl in
       sym f.same ∙ one
 
-  pub fills_on : (s : StmtInMemory) (now_free : ℕ) (now_returned : Bool) (after : List Lexed) → starts_with (fixed.Mark marks.CloseBrace) ls ≡ false → returned ≡ false → statement_at room free ls ≡ Ok (stmt_tree s, after) → now_free ≡ free - names_of (stmt_tree s) → now_returned ≡ is_return (stmt_tree s) → Fills room now_free (ss ++ s ∷ []) now_returned after total
+  pub fills_on : (s : StmtInMemory) (left : ℕ) (now_returned : Bool) (after : List Lexed) → starts_with (fixed.Mark marks.CloseBrace) ls ≡ false → returned ≡ false → statement_at room free ls ≡ Ok (stmt_tree s, left, after) → now_returned ≡ is_return (stmt_tree s) → Fills room left (ss ++ s ∷ []) now_returned after total
   unfolding block_at
-  fills_on s now_free now_returned after no_close r h is_free is =
+  fills_on s left now_returned after no_close r h is =
       go f.steps f.enough f.same
     where
       short : length after < length ls
-      short = (statement_takes room free ls (stmt_tree s, after) h).shorter
+      short = (statement_takes room free ls (stmt_tree s, left, after) h).shorter
 
-      go : (steps : ℕ) → length ls ≤ steps → with_before ss (block_at room free (suc steps) returned ls) ≡ total → Fills room now_free (ss ++ s ∷ []) now_returned after total
+      go : (steps : ℕ) → length ls ≤ steps → with_before ss (block_at room free (suc steps) returned ls) ≡ total → Fills room left (ss ++ s ∷ []) now_returned after total
       go zero enough same = absurd (omega (arith, short))
       go (suc steps) enough same =
-          let one : with_before ss (block_at room free (suc (suc steps)) returned ls) ≡ with_before (ss ++ s ∷ []) (block_at room now_free (suc steps) now_returned after) = rw (no_close, r, h, is_free, is) (sym (regroup ss s (block_at room (free - names_of (stmt_tree s)) (suc steps) (is_return (stmt_tree s)) after))) in
+          let one : with_before ss (block_at room free (suc (suc steps)) returned ls) ≡ with_before (ss ++ s ∷ []) (block_at room left (suc steps) now_returned after) = rw (no_close, r, h, is) (sym (regroup ss s (block_at room left (suc steps) (is_return (stmt_tree s)) after))) in
           record { steps = steps; enough = omega (arith, short); same = sym one ∙ same }
 
 abbrev pub with_items : (List Item) → Result (List Item) ParseFault → Result (List Item) ParseFault

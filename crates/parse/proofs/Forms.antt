@@ -4,17 +4,17 @@ use Rattle.std.specs.Prelude.{IsTrue}
 use Rattle.syntax.specs.Tree.{Expr, Number, Named, Variable, Element, Prefix, Binary, Paren, Argument, Value, Text, AddressOf, RightSide, FromExpr, FromCall, Stmt, Declare, PutJint, Return, ReturnValue, Block, End, Next, Function, Item, StaticItem, FunctionItem}
 use Rattle.syntax.specs.Parts.{statements_of, names_declared}
 use Rattle.syntax.specs.Limits.{operator_level, prefix_level, height}
-use Rattle.parse.specs.Built.{is_built_constant, is_built_prefix, is_built_operator, is_built_variable, is_built_result}
+use Rattle.parse.specs.Built.{is_built_variable, is_built_result}
 use Rattle.parse.specs.Reading.{is_return}
 
 -- The expression stands where operators of this level or tighter do. All associate to the left.
 abbrev pub IsLevelled : ℕ → Expr → Type 0
 IsLevelled least (Number value unsigned) = Unit {0}
-IsLevelled least (Named c) = IsTrue (is_built_constant c)
+IsLevelled least (Named c) = Unit {0}
 IsLevelled least (Variable x) = Unit {0}
-IsLevelled least (Element x i) = ⊥
-IsLevelled least (Prefix op e) = IsTrue (is_built_prefix op) × IsLevelled prefix_level e
-IsLevelled least (Binary op a b) = (least ≤ operator_level op) × IsTrue (is_built_operator op) × IsLevelled (operator_level op) a × IsLevelled (operator_level op + 1) b
+IsLevelled least (Element x i) = IsLevelled 0 i
+IsLevelled least (Prefix op e) = IsLevelled prefix_level e
+IsLevelled least (Binary op a b) = (least ≤ operator_level op) × IsLevelled (operator_level op) a × IsLevelled (operator_level op + 1) b
 IsLevelled least (Paren e) = IsLevelled 0 e
 
 -- levelled, and no higher than there is room
@@ -24,8 +24,8 @@ pub record IsExpr (room : ℕ) (e : Expr) : Type 0 where
 
 abbrev pub IsArgument : ℕ → Argument → Type 0
 IsArgument room (Value e) = IsExpr room e
-IsArgument room (Text bytes) = ⊥
-IsArgument room (AddressOf x) = ⊥
+IsArgument room (Text bytes) = Unit {0}
+IsArgument room (AddressOf x) = Unit {0}
 
 abbrev pub AreArguments : ℕ → List Argument → Type 0
 AreArguments room [] = Unit {0}

@@ -1,20 +1,20 @@
 -- Calls and right sides: what is read is spelled so, and what is spelled so is read.
-use Rattle.std.proofs.Common.{◌≡◌, ℕ, zero, suc, ◌+◌, ◌<◌, ◌≤◌, true, false, List, [], ◌∷◌, ◌++◌, length, None, Result, Ok, refl, ap, subst, ◌∙◌, arith, add-one, inl, inr}
+use Rattle.std.proofs.Common.{◌≡◌, ℕ, zero, suc, ◌+◌, ◌<◌, ◌≤◌, true, false, List, [], ◌∷◌, ◌++◌, length, Option, Some, None, Result, Ok, refl, sym, ap, subst, ◌∙◌, arith, add-one, inl, inr}
 use Rattle.std.specs.Prelude.{flat_map}
 use Rattle.scan.specs.declared.token.Mark.TheVariants as marks
-use Rattle.syntax.specs.Tree.{Argument, Value, Text, AddressOf, Call, RightSide, FromExpr, FromCall}
+use Rattle.syntax.specs.Tree.{LogicalNot, Complement, ToWord, ToInt, Expr, Number, Named, Variable, Element, Prefix, Binary, Paren, Argument, Value, Text, AddressOf, Call, RightSide, FromExpr, FromCall}
 use Rattle.parse.specs.declared.fault.ParseFault.{ParseFault}
 use Rattle.parse.specs.declared.words.Word.TheVariants as words
 use Rattle.parse.specs.declared.lexemes.Fixed.TheVariants as fixed
 use Rattle.parse.specs.Results.{◌>>=◌}
-use Rattle.parse.specs.Meaning.{Fixed', Name'}
+use Rattle.parse.specs.Meaning.{Meaning, Fixed', Name', Number', Text'}
 use Rattle.parse.specs.Lexemes.{Lexed, expect, name_at}
-use Rattle.parse.specs.Spelling.{Spelled, Anywhere, mark, word, argument, call, right}
-use Rattle.parse.specs.Reading.{starts_with, behind, operator_at, expr_at, interface_at, argument_at, arguments_at, call_at, starts_call, right_at}
+use Rattle.parse.specs.Spelling.{Spelled, Anywhere, mark, word, constant_word, operator_mark, expression, argument, call, right}
+use Rattle.parse.specs.Reading.{starts_with, behind, expr_at, interface_at, text_of, text_at, value_at, argument_by, argument_at, arguments_at, call_at, starts_call, right_at}
 use Rattle.parse.proofs.Forms.{IsArgument, AreArguments, IsRight}
 use Rattle.parse.proofs.Singles.{Begins, bind_ok, ok_is, chosen, begins_append, begins_split, begins_length, shortens, first_takes, first_rest, first_is, starts_takes, expect_takes, expect_again, then_takes, name_takes, name_again}
-use Rattle.parse.proofs.Table.{operator_first}
-use Rattle.parse.proofs.Levels.{no_call, expr_reads, expr_reads_again}
+use Rattle.parse.proofs.Table.{Closes, closes_mark}
+use Rattle.parse.proofs.Levels.{index_tokens, no_first, no_first_mark, no_call, expr_reads, expr_reads_again}
 
 -- (*env)->
 abbrev interface_tokens : List Spelled
@@ -41,12 +41,38 @@ interface_takes ls rest h =
 abbrev TakesArgument : ℕ → List Lexed → Argument × List Lexed → Type 0
 TakesArgument room ls x = Begins (argument x.0) ls x.1 × IsArgument room x.0
 
+value_takes : (room : ℕ) (ls : List Lexed) (x : Argument × List Lexed) → value_at room ls ≡ Ok x → TakesArgument room ls x
+unfolding value_at
+value_takes room ls x h =
+    elim (chosen (starts_with (fixed.Mark marks.Ampersand) ls) _ _ (Ok x) h) [
+      | inl w ↦
+          let a = bind_ok (name_at (behind ls)) (λ name. Ok (AddressOf name.0, name.1)) x w.1 in
+          let made : Argument × List Lexed = (AddressOf a.0.0, a.0.1) in
+          let parts = first_takes (Fixed' (fixed.Mark marks.Ampersand)) (Anywhere (Name' a.0.0) ∷ []) ls a.0.1 (starts_takes (fixed.Mark marks.Ampersand) ls w.0) (name_takes (behind ls) a.0 a.1) in
+          subst (λ (y : Argument × List Lexed). TakesArgument room ls y) (ok_is made x a.2) (parts, tt)
+      | inr w ↦
+          let a = bind_ok (expr_at room 0 ls) (λ e. Ok (Value e.0, e.2)) x w.1 in
+          let made : Argument × List Lexed = (Value a.0.0, a.0.2) in
+          subst (λ (y : Argument × List Lexed). TakesArgument room ls y) (ok_is made x a.2) (expr_reads room ls a.0 a.1)
+    ]
+
+text_meaning : (m : Meaning) (bytes : List ℕ) → text_of m ≡ Some bytes → m ≡ Text' bytes
+text_meaning (Text' found) bytes e = let f : found ≡ bytes = cc in ap (λ (b : List ℕ). Text' b) f
+text_meaning (Fixed' found) bytes e = absurd cc
+text_meaning (Name' found) bytes e = absurd cc
+text_meaning (Number' value unsigned) bytes e = absurd cc
+
+text_takes : (bytes : List ℕ) (ls : List Lexed) → text_at ls ≡ Some bytes → Begins (Anywhere (Text' bytes) ∷ []) ls (behind ls)
+text_takes bytes [] e = absurd cc
+text_takes bytes (l ∷ ls) e = (text_meaning l.meaning bytes e, refl)
+
+argument_by_takes : (room : ℕ) (o : Option (List ℕ)) (ls : List Lexed) (x : Argument × List Lexed) → text_at ls ≡ o → argument_by room o ls ≡ Ok x → TakesArgument room ls x
+argument_by_takes room None ls x same e = value_takes room ls x e
+argument_by_takes room (Some bytes) ls x same e = subst (λ (y : Argument × List Lexed). TakesArgument room ls y) (ok_is (Text bytes, behind ls) x e) (text_takes bytes ls same, tt)
+
 argument_takes : (room : ℕ) (ls : List Lexed) (x : Argument × List Lexed) → argument_at room ls ≡ Ok x → TakesArgument room ls x
 unfolding argument_at
-argument_takes room ls x h =
-    let a = bind_ok (expr_at room 0 ls) (λ e. Ok (Value e.0, e.2)) x h in
-    let made : Argument × List Lexed = (Value a.0.0, a.0.2) in
-    subst (λ (y : Argument × List Lexed). TakesArgument room ls y) (ok_is made x a.2) (expr_reads room ls a.0 a.1)
+argument_takes room ls x h = argument_by_takes room (text_at ls) ls x refl h
 
 -- an argument with its comma
 argument_with_comma : (room : ℕ) (ls : List Lexed) (x : Argument × List Lexed) → starts_with (fixed.Mark marks.Comma) ls ≡ true → argument_at room (behind ls) ≡ Ok x → Begins (mark marks.Comma ∷ argument x.0) ls x.1
@@ -152,32 +178,63 @@ interface_again es ls rest h =
     let e = expect_again (fixed.Mark marks.Arrow) es d.0 rest d.2 in
     (e.0, rw (a.1, b.1, c.1, d.1) e.1, e.2)
 
-argument_again : (room : ℕ) (a : Argument) (ls rest : List Lexed) → Begins (argument a) ls rest → IsArgument room a → operator_at rest ≡ None → argument_at room ls ≡ Ok (a, rest)
-unfolding argument_at
-argument_again room (Value e) ls rest h is none = rw (expr_reads_again room ls rest e h is none) refl
-argument_again room (Text bytes) ls rest h is none = absurd is
-argument_again room (AddressOf x) ls rest h is none = absurd is
+first_no_text : (m : Meaning) → text_of m ≡ None → (es : List Spelled) (ls rest : List Lexed) → Begins (Anywhere m ∷ es) ls rest → text_at ls ≡ None
+first_no_text m other es [] rest h = absurd h
+first_no_text m other es (l ∷ ls) rest h = ap text_of h.0 ∙ other
 
--- no operator stands before arguments
-none_before : (arguments : List Argument) (ls rest : List Lexed) → Begins (argument_tokens arguments) ls rest → operator_at rest ≡ None → operator_at ls ≡ None
-none_before [] ls rest h none = ap operator_at h ∙ none
-none_before (a ∷ more) ls rest h none = operator_first (Fixed' (fixed.Mark marks.Comma)) (argument a ++ argument_tokens more) ls rest h
+-- no expression begins with a string
+no_text : (e : Expr) (ls rest : List Lexed) → Begins (expression e) ls rest → text_at ls ≡ None
+no_text (Number value unsigned) ls rest h = first_no_text (Number' value unsigned) refl [] ls rest h
+no_text (Named c) ls rest h = first_no_text (Fixed' (fixed.Word (constant_word c))) refl [] ls rest h
+no_text (Variable x) ls rest h = first_no_text (Name' x) refl [] ls rest h
+no_text (Element x i) ls rest h = first_no_text (Name' x) refl (index_tokens i) ls rest h
+no_text (Prefix LogicalNot e) ls rest h = first_no_text (Fixed' (fixed.Mark marks.Exclamation)) refl (expression e) ls rest h
+no_text (Prefix Complement e) ls rest h = first_no_text (Fixed' (fixed.Mark marks.Tilde)) refl (expression e) ls rest h
+no_text (Prefix ToWord e) ls rest h = first_no_text (Fixed' (fixed.Mark marks.OpenParen)) refl (word words.Uint32 ∷ mark marks.CloseParen ∷ expression e) ls rest h
+no_text (Prefix ToInt e) ls rest h = first_no_text (Fixed' (fixed.Mark marks.OpenParen)) refl (word words.Jint ∷ mark marks.CloseParen ∷ expression e) ls rest h
+no_text (Binary op a b) ls rest h = let parts = begins_split (expression a) (mark (operator_mark op) ∷ expression b) ls rest h in no_text a ls parts.0 parts.1
+no_text (Paren e) ls rest h = first_no_text (Fixed' (fixed.Mark marks.OpenParen)) refl (expression e ++ mark marks.CloseParen ∷ []) ls rest h
+
+text_again : (bytes : List ℕ) (ls rest : List Lexed) → Begins (Anywhere (Text' bytes) ∷ []) ls rest → text_at ls ≡ Some bytes
+text_again bytes [] rest h = absurd h
+text_again bytes (l ∷ ls) rest h = ap text_of h.0
+
+abbrev argument_read : Argument → List Lexed → Result (Argument × List Lexed) ParseFault
+argument_read a ls = Ok (a, ls)
+
+argument_again : (room : ℕ) (a : Argument) (ls rest : List Lexed) → Begins (argument a) ls rest → IsArgument room a → Closes rest → argument_at room ls ≡ Ok (a, rest)
+unfolding argument_at value_at
+argument_again room (Value e) ls rest h is closed =
+    let s = no_first (fixed.Mark marks.Ampersand) (no_first_mark marks.Ampersand refl refl refl) 0 e is.levelled ls rest h in
+    rw (no_text e ls rest h, s, expr_reads_again room ls rest e h is closed) refl
+argument_again room (Text bytes) ls rest h is closed = rw (text_again bytes ls rest h) (ap (argument_read (Text bytes)) (first_rest (Anywhere (Text' bytes)) [] ls rest h))
+argument_again room (AddressOf x) ls rest h is closed =
+    let es : List Spelled = Anywhere (Name' x) ∷ [] in
+    let t = first_no_text (Fixed' (fixed.Mark marks.Ampersand)) refl es ls rest h in
+    let s = first_is (Fixed' (fixed.Mark marks.Ampersand)) es ls rest (fixed.Mark marks.Ampersand) h in
+    let within = first_rest (mark marks.Ampersand) es ls rest h in
+    rw (t, s, name_again x [] (behind ls) rest within) (ap (argument_read (AddressOf x)) (first_rest (Anywhere (Name' x)) [] (behind ls) rest within))
+
+-- nothing before arguments goes on from an expression
+closed_before : (arguments : List Argument) (ls rest : List Lexed) → Begins (argument_tokens arguments) ls rest → Closes rest → Closes ls
+closed_before [] ls rest h closed = subst Closes (sym h) closed
+closed_before (a ∷ more) ls rest h closed = closes_mark marks.Comma refl refl (argument a ++ argument_tokens more) ls rest h
 
 abbrev arguments_read : List Argument → List Lexed → Result (List Argument × List Lexed) ParseFault
 arguments_read arguments ls = Ok (arguments, ls)
 
-arguments_again : (room : ℕ) (arguments : List Argument) (steps : ℕ) (ls rest : List Lexed) → length ls ≤ steps → Begins (argument_tokens arguments) ls rest → AreArguments room arguments → starts_with (fixed.Mark marks.Comma) rest ≡ false → operator_at rest ≡ None → arguments_at room (suc steps) ls ≡ Ok (arguments, rest)
+arguments_again : (room : ℕ) (arguments : List Argument) (steps : ℕ) (ls rest : List Lexed) → length ls ≤ steps → Begins (argument_tokens arguments) ls rest → AreArguments room arguments → starts_with (fixed.Mark marks.Comma) rest ≡ false → Closes rest → arguments_at room (suc steps) ls ≡ Ok (arguments, rest)
 unfolding arguments_at
-arguments_again room [] steps ls rest enough h is comma none = rw (ap (starts_with (fixed.Mark marks.Comma)) h ∙ comma) (ap (arguments_read []) h)
-arguments_again room (a ∷ more) zero ls rest enough h is comma none =
+arguments_again room [] steps ls rest enough h is comma closed = rw (ap (starts_with (fixed.Mark marks.Comma)) h ∙ comma) (ap (arguments_read []) h)
+arguments_again room (a ∷ more) zero ls rest enough h is comma closed =
     let p = begins_length (mark marks.Comma ∷ (argument a ++ argument_tokens more)) ls rest h in
     absurd (omega (arith, enough, p))
-arguments_again room (a ∷ more) (suc steps) ls rest enough h is comma none =
+arguments_again room (a ∷ more) (suc steps) ls rest enough h is comma closed =
     let parts = begins_split (mark marks.Comma ∷ argument a) (argument_tokens more) ls rest h in
     let s = first_is (Fixed' (fixed.Mark marks.Comma)) (argument a) ls parts.0 (fixed.Mark marks.Comma) parts.1 in
-    let one = argument_again room a (behind ls) parts.0 (first_rest (mark marks.Comma) (argument a) ls parts.0 parts.1) is.0 (none_before more parts.0 rest parts.2 none) in
+    let one = argument_again room a (behind ls) parts.0 (first_rest (mark marks.Comma) (argument a) ls parts.0 parts.1) is.0 (closed_before more parts.0 rest parts.2 closed) in
     let p = shortens (mark marks.Comma) (argument a) ls parts.0 parts.1 in
-    let others = arguments_again room more steps parts.0 rest (omega (arith, enough, p)) parts.2 is.1 comma none in
+    let others = arguments_again room more steps parts.0 rest (omega (arith, enough, p)) parts.2 is.1 comma closed in
     rw (s, one, others) refl
 
 abbrev call_read : Call → List Lexed → Read
@@ -197,8 +254,8 @@ call_again room c ls rest h is =
     let d = expect_again (fixed.Word words.Env) es5 b.0 rest b.2 in
     let parts = begins_split (argument_tokens c.arguments) closing d.0 rest d.2 in
     let comma = first_is (Fixed' (fixed.Mark marks.CloseParen)) [] parts.0 rest (fixed.Mark marks.Comma) parts.2 in
-    let none = operator_first (Fixed' (fixed.Mark marks.CloseParen)) [] parts.0 rest parts.2 in
-    let e = arguments_again room c.arguments (length d.0) d.0 parts.0 (omega arith) parts.1 is comma none in
+    let closed = closes_mark marks.CloseParen refl refl [] parts.0 rest parts.2 in
+    let e = arguments_again room c.arguments (length d.0) d.0 parts.0 (omega arith) parts.1 is comma closed in
     let f = expect_again (fixed.Mark marks.CloseParen) [] parts.0 rest parts.2 in
     rw (a.1, n, b.1, d.1, add-one (length d.0), e, f.1) (ap (call_read c) f.2)
 
@@ -212,7 +269,7 @@ call_starts es ls rest h =
     let t = first_is (Fixed' (fixed.Mark marks.Star)) es (behind ls) rest (fixed.Mark marks.Star) (first_rest (mark marks.OpenParen) (mark marks.Star ∷ es) ls rest h) in
     rw (s, t) refl
 
-pub right_again : (room : ℕ) (r : RightSide) (ls rest : List Lexed) → Begins (right r) ls rest → IsRight room r → operator_at rest ≡ None → right_at room ls ≡ Ok (r, rest)
+pub right_again : (room : ℕ) (r : RightSide) (ls rest : List Lexed) → Begins (right r) ls rest → IsRight room r → Closes rest → right_at room ls ≡ Ok (r, rest)
 unfolding right_at
-right_again room (FromExpr e) ls rest h is none = rw (no_call 0 e is.levelled ls rest h, expr_reads_again room ls rest e h is none) refl
-right_again room (FromCall c) ls rest h is none = rw (call_starts (call_behind c) ls rest h, call_again room c ls rest h is) refl
+right_again room (FromExpr e) ls rest h is closed = rw (no_call 0 e is.levelled ls rest h, expr_reads_again room ls rest e h is closed) refl
+right_again room (FromCall c) ls rest h is closed = rw (call_starts (call_behind c) ls rest h, call_again room c ls rest h is) refl

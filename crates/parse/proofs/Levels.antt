@@ -1,6 +1,6 @@
 -- Expressions: what is read is spelled so, and what is spelled so is read. Nothing here names an operator or its level.
 use Rattle.std.proofs.Common.{◌≡◌, ℕ, zero, suc, ◌+◌, ◌<◌, ◌≤◌, max, true, false, List, [], ◌∷◌, ◌++◌, Option, Some, None, Result, Ok, refl, sym, ap, subst, ◌∙◌, append_assoc, arith, inl, inr}
-use Rattle.std.specs.Prelude.{nat_lt, ◌==◌, IsTrue}
+use Rattle.std.specs.Prelude.{nat_lt, ◌==◌}
 use Rattle.std.proofs.lemmas.Bool.{le-ltb, lt-ltb, ltb-true, ltb-false, ne_eqb}
 use Rattle.std.proofs.lemmas.List.{append-nil}
 use Rattle.scan.specs.declared.token.Mark.{Mark}
@@ -14,14 +14,13 @@ use Rattle.parse.specs.declared.lexemes.Fixed.{Fixed}
 use Rattle.parse.specs.declared.lexemes.Fixed.TheVariants as fixed
 use Rattle.parse.specs.Results.{◌>>=◌}
 use Rattle.parse.specs.Meaning.{Meaning, Fixed', Name', Number', Text'}
-use Rattle.parse.specs.Lexemes.{Lexed, same_mark, same_fixed, is_fixed_meaning, expect}
-use Rattle.parse.specs.Built.{is_built_prefix}
+use Rattle.parse.specs.Lexemes.{Lexed, same_mark, same_fixed, is_fixed_meaning, expect, name_at}
 use Rattle.parse.specs.Spelling.{Spelled, Anywhere, mark, word, constant_word, operator_mark, prefix_tokens, expression}
-use Rattle.parse.specs.Reading.{Reader, ReadExpr, starts_with, behind, operator_at, climb, climb_step, under_prefix, in_parens, behind_paren, constant_of_word, named_of, primary_of, primary_at, operand_by, expr_by, deeper, expr_at, starts_call}
+use Rattle.parse.specs.Reading.{Reader, ReadExpr, starts_with, behind, operator_at, climb, climb_step, under_prefix, in_parens, behind_paren, index_by, index_at, starts_element, element_by, constant_of_word, named_of, primary_of, primary_at, operand_by, expr_by, deeper, expr_at, starts_name, starts_call}
 use Rattle.parse.proofs.Forms.{IsLevelled, IsExpr}
-use Rattle.parse.proofs.Singles.{Begins, bind_ok, ok_is, chosen, begins_append, begins_split, first_takes, first_rest, first_is, starts_takes, expect_takes, expect_again}
-use Rattle.parse.proofs.TypeWords.{constant_again, constant_is, constant_built}
-use Rattle.parse.proofs.Table.{operator_is, operator_built, operator_again, operator_first, level_small}
+use Rattle.parse.proofs.Singles.{Begins, bind_ok, ok_is, chosen, begins_append, begins_split, first_takes, first_rest, first_is, starts_takes, expect_takes, expect_again, then_takes, name_takes, name_again, starts_name_again, first_no_name}
+use Rattle.parse.proofs.TypeWords.{constant_again, constant_is}
+use Rattle.parse.proofs.Table.{operator_is, operator_again, operator_first, operator_no_index, level_small, NoIndex, Closes, closes_mark}
 
 -- an expression that stands at a operator_level stands at a looser one
 pub weaker : (e : Expr) (m n : ℕ) → n ≤ m → IsLevelled m e → IsLevelled n e
@@ -30,7 +29,7 @@ weaker (Named c) m n le h = h
 weaker (Variable x) m n le h = tt
 weaker (Element x i) m n le h = h
 weaker (Prefix op e) m n le h = h
-weaker (Binary op a b) m n le h = (omega (arith, h.0), h.1, h.2, h.3)
+weaker (Binary op a b) m n le h = (omega (arith, h.0), h.1, h.2)
 weaker (Paren e) m n le h = h
 
 -- no operator of this operator_level or tighter comes Next
@@ -65,6 +64,16 @@ record TakesOperand (room : ℕ) (ls : List Lexed) (x : ReadExpr) : Type 0 where
   high : x.1 ≡ height x.0
   low : height x.0 ≤ room
 
+-- an index in its brackets
+abbrev pub index_tokens : Expr → List Spelled
+index_tokens i = mark marks.OpenBracket ∷ (expression i ++ mark marks.CloseBracket ∷ [])
+
+pub record TakesIndex (room : ℕ) (ls : List Lexed) (x : ReadExpr) : Type 0 where
+  pub parts : Begins (index_tokens x.0) ls x.2
+  pub levelled : IsLevelled 0 x.0
+  pub high : x.1 ≡ height x.0
+  pub low : height x.0 < room
+
 -- an expression that goes on from left
 record TakesMore (room least : ℕ) (left : Expr) (ls : List Lexed) (x : ReadExpr) : Type 0 where
   more : List Spelled
@@ -76,15 +85,15 @@ record TakesMore (room least : ℕ) (left : Expr) (ls : List Lexed) (x : ReadExp
   stops : Stops least x.2
 
 module _ (deep : Reader) (room : ℕ) (all : AllTakes deep room) where
-  prefix_takes : (op : PrefixOp) → IsTrue (is_built_prefix op) → (before : List Spelled) (ls mid : List Lexed) (x : ReadExpr) → prefix_tokens op ≡ before → Begins before ls mid → under_prefix deep op mid ≡ Ok x → TakesOperand room ls x
+  prefix_takes : (op : PrefixOp) (before : List Spelled) (ls mid : List Lexed) (x : ReadExpr) → prefix_tokens op ≡ before → Begins before ls mid → under_prefix deep op mid ≡ Ok x → TakesOperand room ls x
   unfolding under_prefix
-  prefix_takes op built before ls mid x is h e =
+  prefix_takes op before ls mid x is h e =
       let a = bind_ok (deep prefix_level mid) (λ y. Ok (Prefix op y.0, 1 + y.1, y.2)) x e in
       let t = all prefix_level mid a.0 a.1 in
       let made : ReadExpr = (Prefix op a.0.0, 1 + a.0.1, a.0.2) in
       subst (λ (y : ReadExpr). TakesOperand room ls y) (ok_is made x a.2) (record {
         parts = begins_append (prefix_tokens op) (expression a.0.0) ls mid a.0.2 (subst (λ (b : List Spelled). Begins b ls mid) (sym is) h) t.0.parts;
-        levelled = λ least. (built, t.0.levelled);
+        levelled = λ least. t.0.levelled;
         high = ap (λ n. 1 + n) t.0.high;
         low = omega (arith, t.1);
       })
@@ -103,18 +112,18 @@ module _ (deep : Reader) (room : ℕ) (all : AllTakes deep room) where
         low = omega (arith, t.1);
       })
 
-  cast_takes : (op : PrefixOp) → IsTrue (is_built_prefix op) → (w : Fixed) (ls : List Lexed) (x : ReadExpr) → prefix_tokens op ≡ mark marks.OpenParen ∷ Anywhere (Fixed' w) ∷ mark marks.CloseParen ∷ [] → Begins (mark marks.OpenParen ∷ []) ls (behind ls) → starts_with w (behind ls) ≡ true → (expect (fixed.Mark marks.CloseParen) (behind (behind ls)) >>= λ after. under_prefix deep op after) ≡ Ok x → TakesOperand room ls x
-  cast_takes op built w ls x is h s e =
+  cast_takes : (op : PrefixOp) (w : Fixed) (ls : List Lexed) (x : ReadExpr) → prefix_tokens op ≡ mark marks.OpenParen ∷ Anywhere (Fixed' w) ∷ mark marks.CloseParen ∷ [] → Begins (mark marks.OpenParen ∷ []) ls (behind ls) → starts_with w (behind ls) ≡ true → (expect (fixed.Mark marks.CloseParen) (behind (behind ls)) >>= λ after. under_prefix deep op after) ≡ Ok x → TakesOperand room ls x
+  cast_takes op w ls x is h s e =
       let a = bind_ok (expect (fixed.Mark marks.CloseParen) (behind (behind ls))) (λ after. under_prefix deep op after) x e in
-      prefix_takes op built (mark marks.OpenParen ∷ Anywhere (Fixed' w) ∷ mark marks.CloseParen ∷ []) ls a.0 x is (first_takes (Fixed' (fixed.Mark marks.OpenParen)) (Anywhere (Fixed' w) ∷ mark marks.CloseParen ∷ []) ls a.0 h (first_takes (Fixed' w) (mark marks.CloseParen ∷ []) (behind ls) a.0 (starts_takes w (behind ls) s) (expect_takes _ (behind (behind ls)) a.0 a.1))) a.2
+      prefix_takes op (mark marks.OpenParen ∷ Anywhere (Fixed' w) ∷ mark marks.CloseParen ∷ []) ls a.0 x is (first_takes (Fixed' (fixed.Mark marks.OpenParen)) (Anywhere (Fixed' w) ∷ mark marks.CloseParen ∷ []) ls a.0 h (first_takes (Fixed' w) (mark marks.CloseParen ∷ []) (behind ls) a.0 (starts_takes w (behind ls) s) (expect_takes _ (behind (behind ls)) a.0 a.1))) a.2
 
   paren_takes : (ls : List Lexed) (x : ReadExpr) → Begins (mark marks.OpenParen ∷ []) ls (behind ls) → behind_paren deep (behind ls) ≡ Ok x → TakesOperand room ls x
   unfolding behind_paren
   paren_takes ls x h e =
       elim (chosen (starts_with (fixed.Word words.Uint32) (behind ls)) _ _ (Ok x) e) [
-        | inl w ↦ cast_takes ToWord refl (fixed.Word words.Uint32) ls x refl h w.0 w.1
+        | inl w ↦ cast_takes ToWord (fixed.Word words.Uint32) ls x refl h w.0 w.1
         | inr w ↦ elim (chosen (starts_with (fixed.Word words.Jint) (behind ls)) _ _ (Ok x) w.1) [
-          | inl v ↦ cast_takes ToInt refl (fixed.Word words.Jint) ls x refl h v.0 v.1
+          | inl v ↦ cast_takes ToInt (fixed.Word words.Jint) ls x refl h v.0 v.1
           | inr v ↦ parens_take ls x h v.1
         ]
       ]
@@ -123,7 +132,7 @@ module _ (deep : Reader) (room : ℕ) (all : AllTakes deep room) where
   named_takes l ls x w None is same e = absurd cc
   named_takes l ls x w (Some c) is same e =
       let made : ReadExpr = (Named c, 0, ls) in
-      subst (λ (y : ReadExpr). TakesOperand room (l ∷ ls) y) (ok_is made x e) (record { parts = (is ∙ ap (λ (v : Word). Fixed' (fixed.Word v)) (constant_is w c same), refl); levelled = λ least. constant_built w c same; high = refl; low = omega arith })
+      subst (λ (y : ReadExpr). TakesOperand room (l ∷ ls) y) (ok_is made x e) (record { parts = (is ∙ ap (λ (v : Word). Fixed' (fixed.Word v)) (constant_is w c same), refl); levelled = λ least. tt; high = refl; low = omega arith })
 
   primary_of_takes : (l : Lexed) (ls : List Lexed) (x : ReadExpr) (m : Meaning) → l.meaning ≡ m → primary_of m (l ∷ ls) ls ≡ Ok x → TakesOperand room (l ∷ ls) x
   primary_of_takes l ls x (Number' value unsigned) is e =
@@ -142,20 +151,62 @@ module _ (deep : Reader) (room : ℕ) (all : AllTakes deep room) where
   primary_takes [] x e = absurd cc
   primary_takes (l ∷ ls) x e = primary_of_takes l ls x l.meaning refl e
 
+  index_takes : (ls : List Lexed) (x : ReadExpr) → index_by room deep ls ≡ Ok x → TakesIndex room ls x
+  unfolding index_by
+  index_takes ls x e =
+      elim (chosen (room == 0) _ _ (Ok x) e) [
+        | inl w ↦ absurd cc
+        | inr w ↦
+            let a = bind_ok (expect (fixed.Mark marks.OpenBracket) ls) (λ within. deep 0 within >>= λ i. expect (fixed.Mark marks.CloseBracket) i.2 >>= λ after. Ok (i.0, i.1, after)) x w.1 in
+            let b = bind_ok (deep 0 a.0) (λ i. expect (fixed.Mark marks.CloseBracket) i.2 >>= λ after. Ok (i.0, i.1, after)) x a.2 in
+            let c = bind_ok (expect (fixed.Mark marks.CloseBracket) b.0.2) (λ after. Ok (b.0.0, b.0.1, after)) x b.2 in
+            let t = all 0 a.0 b.0 b.1 in
+            let made : ReadExpr = (b.0.0, b.0.1, c.0) in
+            subst (λ (y : ReadExpr). TakesIndex room ls y) (ok_is made x c.2) (record {
+              parts = then_takes (fixed.Mark marks.OpenBracket) (expression b.0.0 ++ mark marks.CloseBracket ∷ []) ls a.0 c.0 a.1 (begins_append (expression b.0.0) (mark marks.CloseBracket ∷ []) a.0 b.0.2 c.0 t.0.parts (expect_takes (fixed.Mark marks.CloseBracket) b.0.2 c.0 c.1));
+              levelled = t.0.levelled;
+              high = t.0.high;
+              low = t.1;
+            })
+      ]
+
+  element_takes : (ls : List Lexed) (x : ReadExpr) → element_by room deep ls ≡ Ok x → TakesOperand room ls x
+  unfolding element_by
+  element_takes ls x e =
+      let a = bind_ok (name_at ls) (λ name. index_by room deep name.1 >>= λ i. Ok (Element name.0 i.0, 1 + i.1, i.2)) x e in
+      let b = bind_ok (index_by room deep a.0.1) (λ i. Ok (Element a.0.0 i.0, 1 + i.1, i.2)) x a.2 in
+      let t = index_takes a.0.1 b.0 b.1 in
+      let made : ReadExpr = (Element a.0.0 b.0.0, 1 + b.0.1, b.0.2) in
+      subst (λ (y : ReadExpr). TakesOperand room ls y) (ok_is made x b.2) (record {
+        parts = begins_append (Anywhere (Name' a.0.0) ∷ []) (index_tokens b.0.0) ls a.0.1 b.0.2 (name_takes ls a.0 a.1) t.parts;
+        levelled = λ least. t.levelled;
+        high = ap (λ n. 1 + n) t.high;
+        low = let low = t.low in omega (arith, low);
+      })
+
   operand_takes : (ls : List Lexed) (x : ReadExpr) → operand_by room deep ls ≡ Ok x → TakesOperand room ls x
   unfolding operand_by
   operand_takes ls x e =
       elim (chosen (starts_with (fixed.Mark marks.Tilde) ls) _ _ (Ok x) e) [
         | inl w ↦ elim (chosen (room == 0) _ _ (Ok x) w.1) [
           | inl v ↦ absurd cc
-          | inr v ↦ prefix_takes Complement refl (mark marks.Tilde ∷ []) ls (behind ls) x refl (starts_takes (fixed.Mark marks.Tilde) ls w.0) v.1
+          | inr v ↦ prefix_takes Complement (mark marks.Tilde ∷ []) ls (behind ls) x refl (starts_takes (fixed.Mark marks.Tilde) ls w.0) v.1
         ]
-        | inr w ↦ elim (chosen (starts_with (fixed.Mark marks.OpenParen) ls) _ _ (Ok x) w.1) [
+        | inr w ↦ elim (chosen (starts_with (fixed.Mark marks.Exclamation) ls) _ _ (Ok x) w.1) [
           | inl v ↦ elim (chosen (room == 0) _ _ (Ok x) v.1) [
             | inl u ↦ absurd cc
-            | inr u ↦ paren_takes ls x (starts_takes (fixed.Mark marks.OpenParen) ls v.0) u.1
+            | inr u ↦ prefix_takes LogicalNot (mark marks.Exclamation ∷ []) ls (behind ls) x refl (starts_takes (fixed.Mark marks.Exclamation) ls v.0) u.1
           ]
-          | inr v ↦ primary_takes ls x v.1
+          | inr v ↦ elim (chosen (starts_with (fixed.Mark marks.OpenParen) ls) _ _ (Ok x) v.1) [
+            | inl u ↦ elim (chosen (room == 0) _ _ (Ok x) u.1) [
+              | inl q ↦ absurd cc
+              | inr q ↦ paren_takes ls x (starts_takes (fixed.Mark marks.OpenParen) ls u.0) q.1
+            ]
+            | inr u ↦ elim (chosen (starts_element ls) _ _ (Ok x) u.1) [
+              | inl q ↦ element_takes ls x q.1
+              | inr q ↦ primary_takes ls x q.1
+            ]
+          ]
         ]
       ]
 
@@ -182,10 +233,9 @@ module _ (deep : Reader) (room : ℕ) (all : AllTakes deep room) where
                   let lt = ltb-true high room v.0 in
                   let a = bind_ok (deep (operator_level op + 1) (behind ls)) (λ r. climb deep room least steps (Binary op left r.0) (1 + max high r.1) r.2) x v.1 in
                   let t = all (operator_level op + 1) (behind ls) a.0 a.1 in
-                  let built = operator_built op ls o in
                   let now_high : 1 + max high a.0.1 ≡ height (Binary op left a.0.0) = omega (arith, t.0.high) in
                   let now_low : height (Binary op left a.0.0) ≤ room = omega (arith, t.1) in
-                  let m = rec (Binary op left a.0.0) (1 + max high a.0.1) a.0.2 x now_high now_low (le, built, takeable op o, t.0.levelled) (λ other same. (let n = t.0.stops other same in omega (arith, n), built, takeable op o, t.0.levelled)) a.2 in
+                  let m = rec (Binary op left a.0.0) (1 + max high a.0.1) a.0.2 x now_high now_low (le, takeable op o, t.0.levelled) (λ other same. (let n = t.0.stops other same in omega (arith, n), takeable op o, t.0.levelled)) a.2 in
                   record {
                     more = (mark (operator_mark op) ∷ expression a.0.0) ++ m.more;
                     spelled = m.spelled ∙ append_assoc (expression left) (mark (operator_mark op) ∷ expression a.0.0) m.more;
@@ -216,16 +266,13 @@ deeper_takes (suc room) = λ least ls x e.
 -- ---- what is spelled so is read
 
 abbrev pub AllAgain : Reader → ℕ → Type 0
-AllAgain deep room = (least : ℕ) (ls rest : List Lexed) (e : Expr) → Begins (expression e) ls rest → IsLevelled least e → height e < room → Stops least rest → deep least ls ≡ Ok (e, height e, rest)
+AllAgain deep room = (least : ℕ) (ls rest : List Lexed) (e : Expr) → Begins (expression e) ls rest → IsLevelled least e → height e < room → Stops least rest → NoIndex rest → deep least ls ≡ Ok (e, height e, rest)
 
 -- An expression that is spelled here is read, and then what goes on from it.
 record Climbed (deep : Reader) (room least : ℕ) (ls : List Lexed) (e : Expr) (rest : List Lexed) : Type 0 where
   steps : ℕ
   enough : room < height e + steps
   same : expr_by room deep least ls ≡ climb deep room least steps e (height e) rest
-
-not_built : false ≡ true → ⊥
-not_built e = cc
 
 -- what stands one deeper is lower
 under : (n room : ℕ) → 1 + n ≤ room → n < room
@@ -234,6 +281,7 @@ under n room le = omega (arith, le)
 -- no expression begins with another fixed token than these
 pub record IsNoFirst (f : Fixed) : Type 0 where
   pub tilde : same_fixed (fixed.Mark marks.Tilde) f ≡ false
+  pub exclamation : same_fixed (fixed.Mark marks.Exclamation) f ≡ false
   pub paren : same_fixed (fixed.Mark marks.OpenParen) f ≡ false
   pub constant : (c : Constant) → same_fixed (fixed.Word (constant_word c)) f ≡ false
 
@@ -241,19 +289,19 @@ pub no_first : (f : Fixed) → IsNoFirst f → (least : ℕ) (e : Expr) → IsLe
 no_first f is least (Number value unsigned) levelled ls rest h = first_is (Number' value unsigned) [] ls rest f h
 no_first f is least (Named c) levelled ls rest h = first_is (Fixed' (fixed.Word (constant_word c))) [] ls rest f h ∙ is.constant c
 no_first f is least (Variable x) levelled ls rest h = first_is (Name' x) [] ls rest f h
-no_first f is least (Element x i) levelled ls rest h = absurd levelled
-no_first f is least (Prefix LogicalNot e) levelled ls rest h = absurd (not_built levelled.0)
+no_first f is least (Element x i) levelled ls rest h = first_is (Name' x) (index_tokens i) ls rest f h
+no_first f is least (Prefix LogicalNot e) levelled ls rest h = first_is (Fixed' (fixed.Mark marks.Exclamation)) (expression e) ls rest f h ∙ is.exclamation
 no_first f is least (Prefix Complement e) levelled ls rest h = first_is (Fixed' (fixed.Mark marks.Tilde)) (expression e) ls rest f h ∙ is.tilde
 no_first f is least (Prefix ToWord e) levelled ls rest h = first_is (Fixed' (fixed.Mark marks.OpenParen)) (word words.Uint32 ∷ mark marks.CloseParen ∷ expression e) ls rest f h ∙ is.paren
 no_first f is least (Prefix ToInt e) levelled ls rest h = first_is (Fixed' (fixed.Mark marks.OpenParen)) (word words.Jint ∷ mark marks.CloseParen ∷ expression e) ls rest f h ∙ is.paren
-no_first f is least (Binary op a b) levelled ls rest h = let parts = begins_split (expression a) (mark (operator_mark op) ∷ expression b) ls rest h in no_first f is (operator_level op) a levelled.2 ls parts.0 parts.1
+no_first f is least (Binary op a b) levelled ls rest h = let parts = begins_split (expression a) (mark (operator_mark op) ∷ expression b) ls rest h in no_first f is (operator_level op) a levelled.1 ls parts.0 parts.1
 no_first f is least (Paren e) levelled ls rest h = first_is (Fixed' (fixed.Mark marks.OpenParen)) (expression e ++ mark marks.CloseParen ∷ []) ls rest f h ∙ is.paren
 
-pub no_first_mark : (m : Mark) → same_mark marks.Tilde m ≡ false → same_mark marks.OpenParen m ≡ false → IsNoFirst (fixed.Mark m)
-no_first_mark m tilde paren = record { tilde = tilde; paren = paren; constant = λ c. refl }
+pub no_first_mark : (m : Mark) → same_mark marks.Tilde m ≡ false → same_mark marks.Exclamation m ≡ false → same_mark marks.OpenParen m ≡ false → IsNoFirst (fixed.Mark m)
+no_first_mark m tilde exclamation paren = record { tilde = tilde; exclamation = exclamation; paren = paren; constant = λ c. refl }
 
 no_uint32 : IsNoFirst (fixed.Word words.Uint32)
-no_uint32 = record { tilde = refl; paren = refl; constant = other }
+no_uint32 = record { tilde = refl; exclamation = refl; paren = refl; constant = other }
   where
     other : (c : Constant) → same_fixed (fixed.Word (constant_word c)) (fixed.Word words.Uint32) ≡ false
     other True = refl
@@ -263,7 +311,7 @@ no_uint32 = record { tilde = refl; paren = refl; constant = other }
     other Null = refl
 
 no_jint : IsNoFirst (fixed.Word words.Jint)
-no_jint = record { tilde = refl; paren = refl; constant = other }
+no_jint = record { tilde = refl; exclamation = refl; paren = refl; constant = other }
   where
     other : (c : Constant) → same_fixed (fixed.Word (constant_word c)) (fixed.Word words.Jint) ≡ false
     other True = refl
@@ -286,16 +334,23 @@ pub no_call : (least : ℕ) (e : Expr) → IsLevelled least e → (ls rest : Lis
 no_call least (Number value unsigned) levelled ls rest h = not_paren ls (first_is (Number' value unsigned) [] ls rest (fixed.Mark marks.OpenParen) h)
 no_call least (Named c) levelled ls rest h = not_paren ls (first_is (Fixed' (fixed.Word (constant_word c))) [] ls rest (fixed.Mark marks.OpenParen) h)
 no_call least (Variable x) levelled ls rest h = not_paren ls (first_is (Name' x) [] ls rest (fixed.Mark marks.OpenParen) h)
-no_call least (Element x i) levelled ls rest h = absurd levelled
-no_call least (Prefix LogicalNot e) levelled ls rest h = absurd (not_built levelled.0)
+no_call least (Element x i) levelled ls rest h = not_paren ls (first_is (Name' x) (index_tokens i) ls rest (fixed.Mark marks.OpenParen) h)
+no_call least (Prefix LogicalNot e) levelled ls rest h = not_paren ls (first_is (Fixed' (fixed.Mark marks.Exclamation)) (expression e) ls rest (fixed.Mark marks.OpenParen) h)
 no_call least (Prefix Complement e) levelled ls rest h = not_paren ls (first_is (Fixed' (fixed.Mark marks.Tilde)) (expression e) ls rest (fixed.Mark marks.OpenParen) h)
 no_call least (Prefix ToWord e) levelled ls rest h = cast_no_call words.Uint32 (mark marks.CloseParen ∷ expression e) ls rest h
 no_call least (Prefix ToInt e) levelled ls rest h = cast_no_call words.Jint (mark marks.CloseParen ∷ expression e) ls rest h
-no_call least (Binary op a b) levelled ls rest h = let parts = begins_split (expression a) (mark (operator_mark op) ∷ expression b) ls rest h in no_call (operator_level op) a levelled.2 ls parts.0 parts.1
+no_call least (Binary op a b) levelled ls rest h = let parts = begins_split (expression a) (mark (operator_mark op) ∷ expression b) ls rest h in no_call (operator_level op) a levelled.1 ls parts.0 parts.1
 no_call least (Paren e) levelled ls rest h =
     let es : List Spelled = expression e ++ mark marks.CloseParen ∷ [] in
     let parts = begins_split (expression e) (mark marks.CloseParen ∷ []) (behind ls) rest (first_rest (mark marks.OpenParen) es ls rest h) in
-    not_star ls (first_is (Fixed' (fixed.Mark marks.OpenParen)) es ls rest (fixed.Mark marks.OpenParen) h) (no_first (fixed.Mark marks.Star) (no_first_mark marks.Star refl refl) 0 e levelled (behind ls) parts.0 parts.1)
+    not_star ls (first_is (Fixed' (fixed.Mark marks.OpenParen)) es ls rest (fixed.Mark marks.OpenParen) h) (no_first (fixed.Mark marks.Star) (no_first_mark marks.Star refl refl refl) 0 e levelled (behind ls) parts.0 parts.1)
+
+-- no name with an index comes next
+no_element : (ls : List Lexed) → starts_name ls ≡ false → starts_element ls ≡ false
+no_element ls e = rw e refl
+
+no_index : (ls : List Lexed) → starts_name ls ≡ true → starts_with (fixed.Mark marks.OpenBracket) (behind ls) ≡ false → starts_element ls ≡ false
+no_index ls e f = rw (e, f) refl
 
 abbrev IsOperand : Expr → Type 0
 IsOperand (Number value unsigned) = Unit {0}
@@ -317,62 +372,88 @@ climb_ends deep room (suc steps) least e high rest low enough stops = ended (ope
     ended (Some op) is = rw (lt-ltb (operator_level op) least (stops op is)) refl
 
 module _ (deep : Reader) (room : ℕ) (all : AllAgain deep room) where
-  prefix_again : (op : PrefixOp) (e : Expr) (ls rest : List Lexed) → Begins (expression e) ls rest → IsLevelled prefix_level e → height e < room → under_prefix deep op ls ≡ Ok (Prefix op e, 1 + height e, rest)
+  prefix_again : (op : PrefixOp) (e : Expr) (ls rest : List Lexed) → Begins (expression e) ls rest → IsLevelled prefix_level e → height e < room → NoIndex rest → under_prefix deep op ls ≡ Ok (Prefix op e, 1 + height e, rest)
   unfolding under_prefix
-  prefix_again op e ls rest h levelled low = rw (all prefix_level ls rest e h levelled low (λ other same. level_small other)) refl
+  prefix_again op e ls rest h levelled low bare = rw (all prefix_level ls rest e h levelled low (λ other same. level_small other) bare) refl
 
   room_left : (e : Expr) → height e < room → (room == 0) ≡ false
   room_left e low = ne_eqb room 0 (omega arith)
 
-  cast_again : (op : PrefixOp) (w : Fixed) (e : Expr) (ls rest : List Lexed) → Begins (Anywhere (Fixed' w) ∷ mark marks.CloseParen ∷ expression e) ls rest → IsLevelled prefix_level e → height e < room → (expect (fixed.Mark marks.CloseParen) (behind ls) >>= λ after. under_prefix deep op after) ≡ Ok (Prefix op e, 1 + height e, rest)
-  cast_again op w e ls rest h levelled low =
+  cast_again : (op : PrefixOp) (w : Fixed) (e : Expr) (ls rest : List Lexed) → Begins (Anywhere (Fixed' w) ∷ mark marks.CloseParen ∷ expression e) ls rest → IsLevelled prefix_level e → height e < room → NoIndex rest → (expect (fixed.Mark marks.CloseParen) (behind ls) >>= λ after. under_prefix deep op after) ≡ Ok (Prefix op e, 1 + height e, rest)
+  cast_again op w e ls rest h levelled low bare =
       let a = expect_again (fixed.Mark marks.CloseParen) (expression e) (behind ls) rest (first_rest (Anywhere (Fixed' w)) (mark marks.CloseParen ∷ expression e) ls rest h) in
-      rw a.1 (prefix_again op e a.0 rest a.2 levelled low)
+      rw a.1 (prefix_again op e a.0 rest a.2 levelled low bare)
 
-  primary_again : (m : Meaning) (e : Expr) → is_fixed_meaning m (fixed.Mark marks.Tilde) ≡ false → is_fixed_meaning m (fixed.Mark marks.OpenParen) ≡ false → ((from after : List Lexed) → primary_of m from after ≡ answer (e, 0, after)) → (ls rest : List Lexed) → Begins (Anywhere m ∷ []) ls rest → operand_by room deep ls ≡ Ok (e, 0, rest)
+  primary_again : (m : Meaning) (e : Expr) → is_fixed_meaning m (fixed.Mark marks.Tilde) ≡ false → is_fixed_meaning m (fixed.Mark marks.Exclamation) ≡ false → is_fixed_meaning m (fixed.Mark marks.OpenParen) ≡ false → ((from after : List Lexed) → primary_of m from after ≡ answer (e, 0, after)) → (ls rest : List Lexed) → Begins (Anywhere m ∷ []) ls rest → starts_element ls ≡ false → operand_by room deep ls ≡ Ok (e, 0, rest)
   unfolding operand_by primary_at
-  primary_again m e tilde paren so [] rest h = absurd h
-  primary_again m e tilde paren so (l ∷ ls) rest h = rw (h.0, tilde, paren, so (record { meaning = m; line = l.line } ∷ ls) ls) (ap (λ (r : List Lexed). answer (e, 0, r)) h.1)
+  primary_again m e tilde exclamation paren so [] rest h bare = absurd h
+  primary_again m e tilde exclamation paren so (l ∷ ls) rest h bare = rw (bare, h.0, tilde, exclamation, paren, so (record { meaning = m; line = l.line } ∷ ls) ls) (ap (λ (r : List Lexed). answer (e, 0, r)) h.1)
+
+  -- an index
+  pub index_again : (i : Expr) (ls rest : List Lexed) → Begins (index_tokens i) ls rest → IsLevelled 0 i → height i < room → index_by room deep ls ≡ Ok (i, height i, rest)
+  unfolding index_by
+  index_again i ls rest h levelled low =
+      let closing : List Spelled = mark marks.CloseBracket ∷ [] in
+      let a = expect_again (fixed.Mark marks.OpenBracket) (expression i ++ closing) ls rest h in
+      let parts = begins_split (expression i) closing a.0 rest a.2 in
+      let closed = closes_mark marks.CloseBracket refl refl [] parts.0 rest parts.2 in
+      let d = all 0 a.0 parts.0 i parts.1 levelled low (λ op same. let g : None ≡ Some op = sym closed.none ∙ same in absurd cc) closed.index in
+      let c = expect_again (fixed.Mark marks.CloseBracket) [] parts.0 rest parts.2 in
+      rw (room_left i low, a.1, d, c.1) (ap (λ (r : List Lexed). answer (i, height i, r)) c.2)
 
   -- each operand
-  operand_again : (e : Expr) (ls rest : List Lexed) → IsOperand e → Begins (expression e) ls rest → IsLevelled 0 e → height e ≤ room → operand_by room deep ls ≡ Ok (e, height e, rest)
-  unfolding operand_by behind_paren in_parens
-  operand_again (Number value unsigned) ls rest is h levelled low = primary_again (Number' value unsigned) (Number value unsigned) refl refl (λ from after. refl) ls rest h
-  operand_again (Named c) ls rest is h levelled low = primary_again (Fixed' (fixed.Word (constant_word c))) (Named c) refl refl (λ from after. rw (constant_again c levelled) refl) ls rest h
-  operand_again (Variable x) ls rest is h levelled low = primary_again (Name' x) (Variable x) refl refl (λ from after. refl) ls rest h
-  operand_again (Element x i) ls rest is h levelled low = absurd levelled
-  operand_again (Prefix LogicalNot e) ls rest is h levelled low = absurd (not_built levelled.0)
-  operand_again (Prefix Complement e) ls rest is h levelled low =
+  operand_again : (e : Expr) (ls rest : List Lexed) → IsOperand e → Begins (expression e) ls rest → IsLevelled 0 e → height e ≤ room → NoIndex rest → operand_by room deep ls ≡ Ok (e, height e, rest)
+  unfolding operand_by behind_paren in_parens element_by
+  operand_again (Number value unsigned) ls rest is h levelled low bare = primary_again (Number' value unsigned) (Number value unsigned) refl refl refl (λ from after. refl) ls rest h (no_element ls (first_no_name (Number' value unsigned) refl [] ls rest h))
+  operand_again (Named c) ls rest is h levelled low bare = primary_again (Fixed' (fixed.Word (constant_word c))) (Named c) refl refl refl (λ from after. rw (constant_again c) refl) ls rest h (no_element ls (first_no_name (Fixed' (fixed.Word (constant_word c))) refl [] ls rest h))
+  operand_again (Variable x) ls rest is h levelled low bare = primary_again (Name' x) (Variable x) refl refl refl (λ from after. refl) ls rest h (no_index ls (starts_name_again x [] ls rest h) (ap (starts_with (fixed.Mark marks.OpenBracket)) (first_rest (Anywhere (Name' x)) [] ls rest h) ∙ bare))
+  operand_again (Element x i) ls rest is h levelled low bare =
+      let es = index_tokens i in
+      let t = first_is (Name' x) es ls rest (fixed.Mark marks.Tilde) h in
+      let e = first_is (Name' x) es ls rest (fixed.Mark marks.Exclamation) h in
+      let f = first_is (Name' x) es ls rest (fixed.Mark marks.OpenParen) h in
+      let within = first_rest (Anywhere (Name' x)) es ls rest h in
+      let s = starts_name_again x es ls rest h in
+      let b = first_is (Fixed' (fixed.Mark marks.OpenBracket)) (expression i ++ mark marks.CloseBracket ∷ []) (behind ls) rest (fixed.Mark marks.OpenBracket) within in
+      rw (t, e, f, s, b, name_again x es ls rest h, index_again i (behind ls) rest within levelled (under _ room low)) refl
+  operand_again (Prefix LogicalNot e) ls rest is h levelled low bare =
+      let t = first_is (Fixed' (fixed.Mark marks.Exclamation)) (expression e) ls rest (fixed.Mark marks.Tilde) h in
+      let f = first_is (Fixed' (fixed.Mark marks.Exclamation)) (expression e) ls rest (fixed.Mark marks.Exclamation) h in
+      rw (t, f, room_left e (under _ room low)) (prefix_again LogicalNot e (behind ls) rest (first_rest (mark marks.Exclamation) (expression e) ls rest h) levelled (under _ room low) bare)
+  operand_again (Prefix Complement e) ls rest is h levelled low bare =
       let f = first_is (Fixed' (fixed.Mark marks.Tilde)) (expression e) ls rest (fixed.Mark marks.Tilde) h in
-      rw (f, room_left e (under _ room low)) (prefix_again Complement e (behind ls) rest (first_rest (mark marks.Tilde) (expression e) ls rest h) levelled.1 (under _ room low))
-  operand_again (Prefix ToWord e) ls rest is h levelled low =
+      rw (f, room_left e (under _ room low)) (prefix_again Complement e (behind ls) rest (first_rest (mark marks.Tilde) (expression e) ls rest h) levelled (under _ room low) bare)
+  operand_again (Prefix ToWord e) ls rest is h levelled low bare =
       let es : List Spelled = word words.Uint32 ∷ mark marks.CloseParen ∷ expression e in
       let inside = first_rest (mark marks.OpenParen) es ls rest h in
       let t = first_is (Fixed' (fixed.Mark marks.OpenParen)) es ls rest (fixed.Mark marks.Tilde) h in
+      let q = first_is (Fixed' (fixed.Mark marks.OpenParen)) es ls rest (fixed.Mark marks.Exclamation) h in
       let f = first_is (Fixed' (fixed.Mark marks.OpenParen)) es ls rest (fixed.Mark marks.OpenParen) h in
       let g = first_is (Fixed' (fixed.Word words.Uint32)) (mark marks.CloseParen ∷ expression e) (behind ls) rest (fixed.Word words.Uint32) inside in
-      rw (t, f, room_left e (under _ room low), g) (cast_again ToWord (fixed.Word words.Uint32) e (behind ls) rest inside levelled.1 (under _ room low))
-  operand_again (Prefix ToInt e) ls rest is h levelled low =
+      rw (t, q, f, room_left e (under _ room low), g) (cast_again ToWord (fixed.Word words.Uint32) e (behind ls) rest inside levelled (under _ room low) bare)
+  operand_again (Prefix ToInt e) ls rest is h levelled low bare =
       let es : List Spelled = word words.Jint ∷ mark marks.CloseParen ∷ expression e in
       let inside = first_rest (mark marks.OpenParen) es ls rest h in
       let t = first_is (Fixed' (fixed.Mark marks.OpenParen)) es ls rest (fixed.Mark marks.Tilde) h in
+      let q = first_is (Fixed' (fixed.Mark marks.OpenParen)) es ls rest (fixed.Mark marks.Exclamation) h in
       let f = first_is (Fixed' (fixed.Mark marks.OpenParen)) es ls rest (fixed.Mark marks.OpenParen) h in
       let u = first_is (Fixed' (fixed.Word words.Jint)) (mark marks.CloseParen ∷ expression e) (behind ls) rest (fixed.Word words.Uint32) inside in
       let g = first_is (Fixed' (fixed.Word words.Jint)) (mark marks.CloseParen ∷ expression e) (behind ls) rest (fixed.Word words.Jint) inside in
-      rw (t, f, room_left e (under _ room low), u, g) (cast_again ToInt (fixed.Word words.Jint) e (behind ls) rest inside levelled.1 (under _ room low))
-  operand_again (Binary op a b) ls rest is h levelled low = absurd is
-  operand_again (Paren e) ls rest is h levelled low =
+      rw (t, q, f, room_left e (under _ room low), u, g) (cast_again ToInt (fixed.Word words.Jint) e (behind ls) rest inside levelled (under _ room low) bare)
+  operand_again (Binary op a b) ls rest is h levelled low bare = absurd is
+  operand_again (Paren e) ls rest is h levelled low bare =
       let es : List Spelled = expression e ++ mark marks.CloseParen ∷ [] in
       let inside = first_rest (mark marks.OpenParen) es ls rest h in
       let t = first_is (Fixed' (fixed.Mark marks.OpenParen)) es ls rest (fixed.Mark marks.Tilde) h in
+      let q = first_is (Fixed' (fixed.Mark marks.OpenParen)) es ls rest (fixed.Mark marks.Exclamation) h in
       let f = first_is (Fixed' (fixed.Mark marks.OpenParen)) es ls rest (fixed.Mark marks.OpenParen) h in
       let parts = begins_split (expression e) (mark marks.CloseParen ∷ []) (behind ls) rest inside in
       let u = no_first (fixed.Word words.Uint32) no_uint32 0 e levelled (behind ls) parts.0 parts.1 in
       let v = no_first (fixed.Word words.Jint) no_jint 0 e levelled (behind ls) parts.0 parts.1 in
-      let closed = operator_first (Fixed' (fixed.Mark marks.CloseParen)) [] parts.0 rest parts.2 in
-      let d = all 0 (behind ls) parts.0 e parts.1 levelled (under _ room low) (λ op same. let g : None ≡ Some op = sym closed ∙ same in absurd cc) in
+      let closed = closes_mark marks.CloseParen refl refl [] parts.0 rest parts.2 in
+      let d = all 0 (behind ls) parts.0 e parts.1 levelled (under _ room low) (λ op same. let g : None ≡ Some op = sym closed.none ∙ same in absurd cc) closed.index in
       let a = expect_again (fixed.Mark marks.CloseParen) [] parts.0 rest parts.2 in
-      rw (t, f, room_left e (under _ room low), u, v, d, a.1) (ap (λ (r : List Lexed). answer (Paren e, 1 + height e, r)) a.2)
+      rw (t, q, f, room_left e (under _ room low), u, v, d, a.1) (ap (λ (r : List Lexed). answer (Paren e, 1 + height e, r)) a.2)
 
   from_operand : (e : Expr) (least : ℕ) (ls rest : List Lexed) → operand_by room deep ls ≡ Ok (e, height e, rest) → Climbed deep room least ls e rest
   unfolding expr_by
@@ -384,32 +465,32 @@ module _ (deep : Reader) (room : ℕ) (all : AllAgain deep room) where
   climb_next (suc s) least op a b mid rest low enough le o d =
       (s, omega arith, rw (o, le-ltb (operator_level op) least le, lt-ltb (height a) room low, d) refl)
 
-  climbed : (e : Expr) (least : ℕ) (ls rest : List Lexed) → Begins (expression e) ls rest → IsLevelled least e → height e ≤ room → Takeable e rest → Climbed deep room least ls e rest
-  climbed (Number value unsigned) least ls rest h levelled low takeable = from_operand _ least ls rest (operand_again (Number value unsigned) ls rest tt h levelled low)
-  climbed (Named c) least ls rest h levelled low takeable = from_operand _ least ls rest (operand_again (Named c) ls rest tt h levelled low)
-  climbed (Variable x) least ls rest h levelled low takeable = from_operand _ least ls rest (operand_again (Variable x) ls rest tt h levelled low)
-  climbed (Element x i) least ls rest h levelled low takeable = absurd levelled
-  climbed (Prefix op e) least ls rest h levelled low takeable = from_operand _ least ls rest (operand_again (Prefix op e) ls rest tt h levelled low)
-  climbed (Paren e) least ls rest h levelled low takeable = from_operand _ least ls rest (operand_again (Paren e) ls rest tt h levelled low)
-  climbed (Binary op a b) least ls rest h levelled low takeable =
+  climbed : (e : Expr) (least : ℕ) (ls rest : List Lexed) → Begins (expression e) ls rest → IsLevelled least e → height e ≤ room → Takeable e rest → NoIndex rest → Climbed deep room least ls e rest
+  climbed (Number value unsigned) least ls rest h levelled low takeable bare = from_operand _ least ls rest (operand_again (Number value unsigned) ls rest tt h levelled low bare)
+  climbed (Named c) least ls rest h levelled low takeable bare = from_operand _ least ls rest (operand_again (Named c) ls rest tt h levelled low bare)
+  climbed (Variable x) least ls rest h levelled low takeable bare = from_operand _ least ls rest (operand_again (Variable x) ls rest tt h levelled low bare)
+  climbed (Element x i) least ls rest h levelled low takeable bare = from_operand _ least ls rest (operand_again (Element x i) ls rest tt h levelled low bare)
+  climbed (Prefix op e) least ls rest h levelled low takeable bare = from_operand _ least ls rest (operand_again (Prefix op e) ls rest tt h levelled low bare)
+  climbed (Paren e) least ls rest h levelled low takeable bare = from_operand _ least ls rest (operand_again (Paren e) ls rest tt h levelled low bare)
+  climbed (Binary op a b) least ls rest h levelled low takeable bare =
       let parts = begins_split (expression a) (mark (operator_mark op) ∷ expression b) ls rest h in
-      let o = operator_again op levelled.1 (expression b) parts.0 rest parts.2 in
+      let o = operator_again op (expression b) parts.0 rest parts.2 in
       let low_a : height a < room = omega arith in
       let low_b : height b < room = omega arith in
-      let first = climbed a least ls parts.0 parts.1 (weaker a (operator_level op) least levelled.0 levelled.2) (omega (arith, low_a)) (λ other same. subst (λ (q : BinaryOp). IsLevelled (operator_level q) a) (same_op (operator_at parts.0) op other o same) levelled.2) in
-      let d = all (operator_level op + 1) (behind parts.0) rest b (first_rest (mark (operator_mark op)) (expression b) parts.0 rest parts.2) levelled.3 low_b (λ other same. let q = takeable other same in omega (arith, q.0)) in
+      let first = climbed a least ls parts.0 parts.1 (weaker a (operator_level op) least levelled.0 levelled.1) (omega (arith, low_a)) (λ other same. subst (λ (q : BinaryOp). IsLevelled (operator_level q) a) (same_op (operator_at parts.0) op other o same) levelled.1) (operator_no_index op parts.0 o) in
+      let d = all (operator_level op + 1) (behind parts.0) rest b (first_rest (mark (operator_mark op)) (expression b) parts.0 rest parts.2) levelled.2 low_b (λ other same. let q = takeable other same in omega (arith, q.0)) bare in
       let more = climb_next first.steps least op a b parts.0 rest low_a first.enough levelled.0 o d in
       record { steps = more.0; enough = more.1; same = first.same ∙ more.2 }
 
-  pub expr_again : (least : ℕ) (ls rest : List Lexed) (e : Expr) → Begins (expression e) ls rest → IsLevelled least e → height e ≤ room → Stops least rest → expr_by room deep least ls ≡ Ok (e, height e, rest)
-  expr_again least ls rest e h levelled low stops =
-      let c = climbed e least ls rest h levelled low (λ op same. weaker e least (operator_level op) (let lt = stops op same in omega (arith, lt)) levelled) in
+  pub expr_again : (least : ℕ) (ls rest : List Lexed) (e : Expr) → Begins (expression e) ls rest → IsLevelled least e → height e ≤ room → Stops least rest → NoIndex rest → expr_by room deep least ls ≡ Ok (e, height e, rest)
+  expr_again least ls rest e h levelled low stops bare =
+      let c = climbed e least ls rest h levelled low (λ op same. weaker e least (operator_level op) (let lt = stops op same in omega (arith, lt)) levelled) bare in
       c.same ∙ climb_ends deep room c.steps least e (height e) rest low c.enough stops
 
 pub deeper_again : (room : ℕ) → AllAgain (deeper room) room
 unfolding deeper
-deeper_again zero = λ least ls rest e h levelled low stops. absurd (omega (arith, low))
-deeper_again (suc room) = λ least ls rest e h levelled low stops. expr_again (deeper room) room (deeper_again room) least ls rest e h levelled (omega (arith, low)) stops
+deeper_again zero = λ least ls rest e h levelled low stops bare. absurd (omega (arith, low))
+deeper_again (suc room) = λ least ls rest e h levelled low stops bare. expr_again (deeper room) room (deeper_again room) least ls rest e h levelled (omega (arith, low)) stops bare
 
 -- ---- whole expressions
 
@@ -418,6 +499,12 @@ expr_reads room ls y e =
     let t = expr_takes (deeper room) room (deeper_takes room) 0 ls y e in
     (t.0.parts, record { levelled = t.0.levelled; low = t.1 })
 
-pub expr_reads_again : (room : ℕ) (ls rest : List Lexed) (e : Expr) → Begins (expression e) ls rest → IsExpr room e → operator_at rest ≡ None → expr_at room 0 ls ≡ Ok (e, height e, rest)
-expr_reads_again room ls rest e h is none =
-    expr_again (deeper room) room (deeper_again room) 0 ls rest e h is.levelled is.low (λ op same. let f : None ≡ Some op = sym none ∙ same in absurd cc)
+pub expr_reads_again : (room : ℕ) (ls rest : List Lexed) (e : Expr) → Begins (expression e) ls rest → IsExpr room e → Closes rest → expr_at room 0 ls ≡ Ok (e, height e, rest)
+expr_reads_again room ls rest e h is closed =
+    expr_again (deeper room) room (deeper_again room) 0 ls rest e h is.levelled is.low (λ op same. let f : None ≡ Some op = sym closed.none ∙ same in absurd cc) closed.index
+
+pub index_reads : (room : ℕ) (ls : List Lexed) (y : ReadExpr) → index_at room ls ≡ Ok y → TakesIndex room ls y
+index_reads room ls y e = index_takes (deeper room) room (deeper_takes room) ls y e
+
+pub index_reads_again : (room : ℕ) (i : Expr) (ls rest : List Lexed) → Begins (index_tokens i) ls rest → IsLevelled 0 i → height i < room → index_at room ls ≡ Ok (i, height i, rest)
+index_reads_again room i ls rest h levelled low = index_again (deeper room) room (deeper_again room) i ls rest h levelled low

@@ -120,15 +120,18 @@ record TakesBody (free : ℕ) (ls : List Lexed) (x : Block × List Lexed) : Type
 body_takes : (free : ℕ) (ls : List Lexed) (x : Block × List Lexed) → body_at free ls ≡ Ok x → TakesBody free ls x
 unfolding body_at
 body_takes free ls x h =
-    let a = bind_ok (expect (fixed.Mark marks.CloseParen) ls) (λ a. expect (fixed.Mark marks.OpenBrace) a >>= λ b. block_at 31 free (length b + 1) false b) x h in
-    let b = bind_ok (expect (fixed.Mark marks.OpenBrace) a.0) (λ b. block_at 31 free (length b + 1) false b) x a.2 in
-    let t = block_takes 31 free (length b.0 + 1) false b.0 x b.2 in
-    let within = then_takes (fixed.Mark marks.OpenBrace) (inside x.0) a.0 b.0 x.1 b.1 t.parts in
-    record {
-      parts = then_takes (fixed.Mark marks.CloseParen) (mark marks.OpenBrace ∷ inside x.0) ls a.0 x.1 a.1 within;
+    let a = bind_ok (expect (fixed.Mark marks.CloseParen) ls) (λ a. expect (fixed.Mark marks.OpenBrace) a >>= λ b. block_at 31 free (length b + 1) false b >>= λ body. Ok (body.0, body.2)) x h in
+    let b = bind_ok (expect (fixed.Mark marks.OpenBrace) a.0) (λ b. block_at 31 free (length b + 1) false b >>= λ body. Ok (body.0, body.2)) x a.2 in
+    let c = bind_ok (block_at 31 free (length b.0 + 1) false b.0) (λ body. Ok (body.0, body.2)) x b.2 in
+    let t = block_takes 31 free (length b.0 + 1) false b.0 c.0 c.1 in
+    let within = then_takes (fixed.Mark marks.OpenBrace) (inside c.0.0) a.0 b.0 c.0.2 b.1 t.parts in
+    let count = t.count in
+    let made : Block × List Lexed = (c.0.0, c.0.2) in
+    subst (λ (y : Block × List Lexed). TakesBody free ls y) (ok_is made x c.2) (record {
+      parts = then_takes (fixed.Mark marks.CloseParen) (mark marks.OpenBrace ∷ inside c.0.0) ls a.0 c.0.2 a.1 within;
       formed = t.formed;
-      few = t.few;
-    }
+      few = omega (arith, count);
+    })
 
 -- the first lexeme, with its line
 on_expected : (f : Fixed) (ls rest : List Lexed) → expect f ls ≡ Ok rest → Begins (OnLine (line_at ls) (Fixed' f) ∷ []) ls rest

@@ -15,7 +15,7 @@ use Rattle.parse.specs.Results.{◌>>=◌}
 use Rattle.parse.specs.Meaning.{Fixed', Name'}
 use Rattle.parse.specs.Lexemes.{Lexed, line_at, expect, name_at}
 use Rattle.parse.specs.Spelling.{Spelled, Anywhere, OnLine, mark, variable_word, expression, right, setting, statement, inside}
-use Rattle.parse.specs.Reading.{starts_with, behind, expr_at, variable_type_at, right_at, put_at, return_at, setting_at, declared_at, statement_at, is_return, names_of, block_at}
+use Rattle.parse.specs.Reading.{starts_with, behind, expr_at, variable_type_at, right_at, put_at, return_at, plain_at, setting_at, ReadStmt, declared_at, typed_at, statement_at, is_return, ReadBlock, block_at}
 use Rattle.parse.proofs.Forms.{IsExpr, IsRight, IsForm, MayFollow, IsBlock}
 use Rattle.parse.proofs.Singles.{Begins, bind_ok, ok_is, chosen, begins_append, starts_takes, expect_takes, then_takes, name_takes, shortens, on_takes}
 use Rattle.parse.proofs.TypeWords.{variable_type_takes, variable_type_built}
@@ -103,84 +103,110 @@ setting_takes room ls x h =
     let made : Setting = (a.0.0, c.0.0, d.0) in
     subst (λ (y : Setting). TakesSetting room ls y) (ok_is made x d.2) (t0, t.1)
 
-pub record TakesStmt (room free : ℕ) (ls : List Lexed) (x : Stmt × List Lexed) : Type 0 where
-  pub parts : Begins (statement x.0) ls x.1
-  pub formed : IsForm room x.0
-  pub few : names_of x.0 ≤ free
-  pub shorter : length x.1 < length ls
+-- how many names a statement declares, and a block
+abbrev pub names_of : Stmt → ℕ
+names_of s = length (names_declared (statements_within s))
 
-return_stmt : (room free line : ℕ) (o : Option Expr) (ls rest : List Lexed) → IsOperandExpr room o → Begins (OnLine line (Fixed' (fixed.Word words.Return)) ∷ (operand_tokens o ++ mark marks.Semicolon ∷ [])) ls rest → TakesStmt room free ls (return_of line o, rest)
-return_stmt room free line None ls rest is h = record { parts = h; formed = tt; few = omega arith; shorter = shortens (OnLine line (Fixed' (fixed.Word words.Return))) (mark marks.Semicolon ∷ []) ls rest h }
-return_stmt room free line (Some e) ls rest is h = record { parts = h; formed = is; few = omega arith; shorter = shortens (OnLine line (Fixed' (fixed.Word words.Return))) (expression e ++ mark marks.Semicolon ∷ []) ls rest h }
+abbrev pub names_in : Block → ℕ
+names_in b = length (names_declared (statements_of b))
 
-declared_takes : (room free : ℕ) (o : Option VariableType) (ls : List Lexed) (x : Stmt × List Lexed) → variable_type_at ls ≡ o → declared_at room free o ls ≡ Ok x → TakesStmt room free ls x
-unfolding declared_at
-declared_takes room free None ls x same e = absurd cc
-declared_takes room free (Some t) ls x same e =
-    elim (chosen (free == 0) _ _ (Ok x) e) [
-      | inl w ↦ absurd cc
-      | inr w ↦
-          let a = bind_ok (setting_at room (behind ls)) (λ s. Ok (Declare (line_at ls) t s.0 s.1, s.2)) x w.1 in
-          let s = setting_takes room (behind ls) a.0 a.1 in
-          let parts = variable_type_takes t (setting a.0.0 a.0.1) ls a.0.2 same s.0 in
-          let other : free ≢ 0 = eqb-false free 0 w.0 in
-          let made : Stmt × List Lexed = (Declare (line_at ls) t a.0.0 a.0.1, a.0.2) in
-          subst (λ (y : Stmt × List Lexed). TakesStmt room free ls y) (ok_is made x a.2) (record {
-            parts = parts;
-            formed = (variable_type_built t ls same, s.1);
-            few = omega (arith, other);
-            shorter = shortens (OnLine (line_at ls) (Fixed' (fixed.Word (variable_word t)))) (setting a.0.0 a.0.1) ls a.0.2 parts;
-          })
-    ]
+-- a statement that declares nothing
+record TakesPlain (room : ℕ) (ls : List Lexed) (x : Stmt × List Lexed) : Type 0 where
+  parts : Begins (statement x.0) ls x.1
+  formed : IsForm room x.0
+  none : names_of x.0 ≡ 0
+  shorter : length x.1 < length ls
 
-pub statement_takes : (room free : ℕ) (ls : List Lexed) (x : Stmt × List Lexed) → statement_at room free ls ≡ Ok x → TakesStmt room free ls x
-unfolding statement_at
-statement_takes room free ls x e =
+return_stmt : (room line : ℕ) (o : Option Expr) (ls rest : List Lexed) → IsOperandExpr room o → Begins (OnLine line (Fixed' (fixed.Word words.Return)) ∷ (operand_tokens o ++ mark marks.Semicolon ∷ [])) ls rest → TakesPlain room ls (return_of line o, rest)
+return_stmt room line None ls rest is h = record { parts = h; formed = tt; none = refl; shorter = shortens (OnLine line (Fixed' (fixed.Word words.Return))) (mark marks.Semicolon ∷ []) ls rest h }
+return_stmt room line (Some e) ls rest is h = record { parts = h; formed = is; none = refl; shorter = shortens (OnLine line (Fixed' (fixed.Word words.Return))) (expression e ++ mark marks.Semicolon ∷ []) ls rest h }
+
+plain_takes : (room : ℕ) (ls : List Lexed) (x : Stmt × List Lexed) → plain_at room ls ≡ Ok x → TakesPlain room ls x
+unfolding plain_at
+plain_takes room ls x e =
     elim (chosen (starts_with (fixed.Word words.PutJint) ls) _ _ (Ok x) e) [
       | inl w ↦
           let t = put_takes room (line_at ls) (behind ls) x w.1 in
           let es : List Spelled = mark marks.OpenParen ∷ (expression t.0 ++ (mark marks.CloseParen ∷ mark marks.Semicolon ∷ [])) in
           let parts = on_takes (fixed.Word words.PutJint) es ls x.1 w.0 t.3 in
-          subst (λ (s : Stmt). TakesStmt room free ls (s, x.1)) t.1 (record { parts = parts; formed = t.2; few = omega arith; shorter = shortens (OnLine (line_at ls) (Fixed' (fixed.Word words.PutJint))) es ls x.1 parts })
+          subst (λ (s : Stmt). TakesPlain room ls (s, x.1)) t.1 (record { parts = parts; formed = t.2; none = refl; shorter = shortens (OnLine (line_at ls) (Fixed' (fixed.Word words.PutJint))) es ls x.1 parts })
       | inr v ↦ elim (chosen (starts_with (fixed.Word words.Return) ls) _ _ (Ok x) v.1) [
         | inl w ↦
             let t = return_takes room (line_at ls) (behind ls) x w.1 in
             let parts = on_takes (fixed.Word words.Return) (operand_tokens t.0 ++ mark marks.Semicolon ∷ []) ls x.1 w.0 t.3 in
-            subst (λ (s : Stmt). TakesStmt room free ls (s, x.1)) t.1 (return_stmt room free (line_at ls) t.0 ls x.1 t.2 parts)
-        | inr w ↦ declared_takes room free (variable_type_at ls) ls x refl w.1
+            subst (λ (s : Stmt). TakesPlain room ls (s, x.1)) t.1 (return_stmt room (line_at ls) t.0 ls x.1 t.2 parts)
+        | inr w ↦ absurd cc
       ]
     ]
+
+pub record TakesStmt (room free : ℕ) (ls : List Lexed) (x : ReadStmt) : Type 0 where
+  pub parts : Begins (statement x.0) ls x.2
+  pub formed : IsForm room x.0
+  pub count : names_of x.0 + x.1 ≡ free
+  pub shorter : length x.2 < length ls
+
+declared_takes : (room free : ℕ) (t : VariableType) (ls : List Lexed) (x : ReadStmt) → variable_type_at ls ≡ Some t → declared_at room free t ls ≡ Ok x → TakesStmt room free ls x
+unfolding declared_at
+declared_takes room free t ls x same e =
+    elim (chosen (free == 0) _ _ (Ok x) e) [
+      | inl w ↦ absurd cc
+      | inr w ↦
+          let a = bind_ok (setting_at room (behind ls)) (λ s. Ok (Declare (line_at ls) t s.0 s.1, free - 1, s.2)) x w.1 in
+          let s = setting_takes room (behind ls) a.0 a.1 in
+          let parts = variable_type_takes t (setting a.0.0 a.0.1) ls a.0.2 same s.0 in
+          let other : free ≢ 0 = eqb-false free 0 w.0 in
+          let made : ReadStmt = (Declare (line_at ls) t a.0.0 a.0.1, free - 1, a.0.2) in
+          subst (λ (y : ReadStmt). TakesStmt room free ls y) (ok_is made x a.2) (record {
+            parts = parts;
+            formed = (variable_type_built t ls same, s.1);
+            count = omega (arith, other);
+            shorter = shortens (OnLine (line_at ls) (Fixed' (fixed.Word (variable_word t)))) (setting a.0.0 a.0.1) ls a.0.2 parts;
+          })
+    ]
+
+typed_takes : (room free : ℕ) (o : Option VariableType) (ls : List Lexed) (x : ReadStmt) → variable_type_at ls ≡ o → typed_at room free o ls ≡ Ok x → TakesStmt room free ls x
+typed_takes room free (Some t) ls x same e = declared_takes room free t ls x same e
+typed_takes room free None ls x same e =
+    let a = bind_ok (plain_at room ls) (λ s. Ok (s.0, free, s.1)) x e in
+    let t = plain_takes room ls a.0 a.1 in
+    let none = t.none in
+    let made : ReadStmt = (a.0.0, free, a.0.1) in
+    subst (λ (y : ReadStmt). TakesStmt room free ls y) (ok_is made x a.2) (record { parts = t.parts; formed = t.formed; count = omega (arith, none); shorter = t.shorter })
+
+pub statement_takes : (room free : ℕ) (ls : List Lexed) (x : ReadStmt) → statement_at room free ls ≡ Ok x → TakesStmt room free ls x
+unfolding statement_at
+statement_takes room free ls x e = typed_takes room free (variable_type_at ls) ls x refl e
 
 -- the names of statements one behind the other
 pub names_split : (a b : List Stmt) → length (names_declared (a ++ b)) ≡ length (names_declared a) + length (names_declared b)
 names_split a b = ap length (filter_map-append declared_name a b) ∙ length-append (names_declared a) (names_declared b)
 
-pub record TakesBlock (room free : ℕ) (returned : Bool) (ls : List Lexed) (x : Block × List Lexed) : Type 0 where
-  pub parts : Begins (inside x.0) ls x.1
+pub record TakesBlock (room free : ℕ) (returned : Bool) (ls : List Lexed) (x : ReadBlock) : Type 0 where
+  pub parts : Begins (inside x.0) ls x.2
   pub formed : IsBlock room x.0
   pub follows : MayFollow returned x.0
-  pub few : length (names_declared (statements_of x.0)) ≤ free
+  pub count : names_in x.0 + x.1 ≡ free
 
-pub block_takes : (room free steps : ℕ) (returned : Bool) (ls : List Lexed) (x : Block × List Lexed) → block_at room free steps returned ls ≡ Ok x → TakesBlock room free returned ls x
+pub block_takes : (room free steps : ℕ) (returned : Bool) (ls : List Lexed) (x : ReadBlock) → block_at room free steps returned ls ≡ Ok x → TakesBlock room free returned ls x
 unfolding block_at
 block_takes room free zero returned ls x e = absurd cc
 block_takes room free (suc steps) returned ls x e =
     elim (chosen (starts_with (fixed.Mark marks.CloseBrace) ls) _ _ (Ok x) e) [
-      | inl w ↦ subst (λ (y : Block × List Lexed). TakesBlock room free returned ls y) (ok_is (End (line_at ls), behind ls) x w.1) (record { parts = on_takes (fixed.Mark marks.CloseBrace) [] ls (behind ls) w.0 refl; formed = tt; follows = may_end returned; few = omega arith })
+      | inl w ↦ subst (λ (y : ReadBlock). TakesBlock room free returned ls y) (ok_is (End (line_at ls), free, behind ls) x w.1) (record { parts = on_takes (fixed.Mark marks.CloseBrace) [] ls (behind ls) w.0 refl; formed = tt; follows = may_end returned; count = omega arith })
       | inr v ↦ elim (chosen returned _ _ (Ok x) v.1) [
         | inl w ↦ absurd cc
         | inr w ↦
-            let a = bind_ok (statement_at room free ls) (λ s. block_at room (free - names_of s.0) steps (is_return s.0) s.1 >>= λ b. Ok (Next s.0 b.0, b.1)) x w.1 in
-            let b = bind_ok (block_at room (free - names_of a.0.0) steps (is_return a.0.0) a.0.1) (λ b. Ok (Next a.0.0 b.0, b.1)) x a.2 in
+            let a = bind_ok (statement_at room free ls) (λ s. block_at room s.1 steps (is_return s.0) s.2 >>= λ b. Ok (Next s.0 b.0, b.1, b.2)) x w.1 in
+            let b = bind_ok (block_at room a.0.1 steps (is_return a.0.0) a.0.2) (λ b. Ok (Next a.0.0 b.0, b.1, b.2)) x a.2 in
             let t = statement_takes room free ls a.0 a.1 in
-            let r = block_takes room (free - names_of a.0.0) steps (is_return a.0.0) a.0.1 b.0 b.1 in
+            let r = block_takes room a.0.1 steps (is_return a.0.0) a.0.2 b.0 b.1 in
             let follows : MayFollow returned (Next a.0.0 b.0.0) = rw w.0 tt in
-            let count = names_split (statements_within a.0.0) (statements_of b.0.0) in
-            subst (λ (y : Block × List Lexed). TakesBlock room free returned ls y) (ok_is (Next a.0.0 b.0.0, b.0.1) x b.2) (record {
-              parts = begins_append (statement a.0.0) (inside b.0.0) ls a.0.1 b.0.1 t.parts r.parts;
+            let split = names_split (statements_within a.0.0) (statements_of b.0.0) in
+            subst (λ (y : ReadBlock). TakesBlock room free returned ls y) (ok_is (Next a.0.0 b.0.0, b.0.1, b.0.2) x b.2) (record {
+              parts = begins_append (statement a.0.0) (inside b.0.0) ls a.0.2 b.0.2 t.parts r.parts;
               formed = (t.formed, r.follows, r.formed);
               follows = follows;
-              few = omega (arith, count, t.few, r.few);
+              count = omega (arith, split, t.count, r.count);
             })
       ]
     ]

@@ -15,7 +15,7 @@ use Rattle.parse.specs.Results.{◌>>=◌}
 use Rattle.parse.specs.Meaning.{Meaning, Fixed', Name', Number', Text'}
 use Rattle.parse.specs.Lexemes.{Lexed, mark_code, word_code, same_mark, same_word, same_fixed, is_fixed_meaning, is_fixed, line_at, expect, name_in, name_at}
 use Rattle.parse.specs.Spelling.{Spelled, Anywhere, OnLine}
-use Rattle.parse.specs.Reading.{starts_with, behind}
+use Rattle.parse.specs.Reading.{starts_with, behind, is_name, starts_name}
 
 -- ---- results
 
@@ -239,6 +239,15 @@ pub name_takes : (ls : List Lexed) (x : List ℕ × List Lexed) → name_at ls �
 unfolding name_at
 name_takes [] x e = absurd cc
 name_takes (l ∷ ls) x e = name_in_takes l ls x l.meaning refl e
+
+-- a name comes next
+pub starts_name_again : (n : List ℕ) (es : List Spelled) (ls rest : List Lexed) → Begins (Anywhere (Name' n) ∷ es) ls rest → starts_name ls ≡ true
+starts_name_again n es [] rest h = absurd h
+starts_name_again n es (l ∷ ls) rest h = ap is_name h.0
+
+pub first_no_name : (m : Meaning) → is_name m ≡ false → (es : List Spelled) (ls rest : List Lexed) → Begins (Anywhere m ∷ es) ls rest → starts_name ls ≡ false
+first_no_name m other es [] rest h = absurd h
+first_no_name m other es (l ∷ ls) rest h = ap is_name h.0 ∙ other
 
 pub name_again : (n : List ℕ) (es : List Spelled) (ls rest : List Lexed) → Begins (Anywhere (Name' n) ∷ es) ls rest → name_at ls ≡ Ok (n, behind ls)
 unfolding name_at

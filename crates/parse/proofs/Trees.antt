@@ -8,7 +8,7 @@ use Rattle.scan.specs.declared.token.Mark.TheVariants as marks
 use Rattle.syntax.specs.Tree.{Expr, Number, Named, Variable, Element, Prefix, Binary, Paren, Argument, Value, Text, AddressOf, RightSide, FromExpr, FromCall, Stmt, Declare, DeclareBuffer, DeclareChars, DeclareArray, Assign, AssignElement, Perform, PutJint, If, IfElse, While, Return, ReturnValue, Block, End, Next, Function, Item, StaticItem, FunctionItem, SourceUnit}
 use Rattle.syntax.specs.Parts.{functions_of, statics_of, statements_within, statements_of, argument_expressions, right_side_expressions, own_expressions, names_declared, parameter_names}
 use Rattle.syntax.specs.Limits.{operator_level, prefix_level, level, levelled, numbers_in_range, height, highest, statement_height, block_height, block_well_formed, IsTree}
-use Rattle.parse.specs.Built.{is_built_prefix, is_built_operator, is_built_expression, is_built_argument, is_built_right, is_built_variable, is_built_statement, is_built_block, is_built_result, is_built_item, is_built}
+use Rattle.parse.specs.Built.{is_built_statement, is_built_block, is_built_result, is_built_item, is_built}
 use Rattle.parse.specs.Spelling.{mark, expression, right, statement, inside, parameters, function, item, spell}
 use Rattle.parse.specs.Reading.{is_return}
 use Rattle.parse.proofs.Forms.{IsLevelled, AreArguments, IsRight, IsForm, MayFollow, IsBlock, IsFunction, AreItems}
@@ -25,7 +25,7 @@ level_of : (least : ℕ) (e : Expr) → least ≤ prefix_level → IsLevelled le
 level_of least (Number value unsigned) le h = omega (arith, le)
 level_of least (Named c) le h = omega (arith, le)
 level_of least (Variable x) le h = omega (arith, le)
-level_of least (Element x i) le h = absurd h
+level_of least (Element x i) le h = omega (arith, le)
 level_of least (Prefix op e) le h = le
 level_of least (Binary op a b) le h = h.0
 level_of least (Paren e) le h = omega (arith, le)
@@ -34,43 +34,31 @@ levelled_of : (least : ℕ) (e : Expr) → IsLevelled least e → levelled e ≡
 levelled_of least (Number value unsigned) h = refl
 levelled_of least (Named c) h = refl
 levelled_of least (Variable x) h = refl
-levelled_of least (Element x i) h = absurd h
-levelled_of least (Prefix op e) h = and_from (nat_le prefix_level (level e)) (levelled e) (le-leb prefix_level (level e) (level_of prefix_level e (omega arith) h.1)) (levelled_of prefix_level e h.1)
+levelled_of least (Element x i) h = levelled_of 0 i h
+levelled_of least (Prefix op e) h = and_from (nat_le prefix_level (level e)) (levelled e) (le-leb prefix_level (level e) (level_of prefix_level e (omega arith) h)) (levelled_of prefix_level e h)
 levelled_of least (Binary op a b) h =
     let small = level_small op in
-    let left = le-leb (operator_level op) (level a) (level_of (operator_level op) a (omega (arith, small)) h.2) in
-    let tighter : operator_level op + 1 ≤ level b = level_of (operator_level op + 1) b (omega (arith, small)) h.3 in
+    let left = le-leb (operator_level op) (level a) (level_of (operator_level op) a (omega (arith, small)) h.1) in
+    let tighter : operator_level op + 1 ≤ level b = level_of (operator_level op + 1) b (omega (arith, small)) h.2 in
     let right = lt-ltb (operator_level op) (level b) (omega (arith, tighter)) in
-    and_from _ (levelled b) (and_from _ (levelled a) (and_from _ _ left right) (levelled_of (operator_level op) a h.2)) (levelled_of (operator_level op + 1) b h.3)
+    and_from _ (levelled b) (and_from _ (levelled a) (and_from _ _ left right) (levelled_of (operator_level op) a h.1)) (levelled_of (operator_level op + 1) b h.2)
 levelled_of least (Paren e) h = levelled_of 0 e h
 
-built_of : (least : ℕ) (e : Expr) → IsLevelled least e → is_built_expression e ≡ true
-built_of least (Number value unsigned) h = refl
-built_of least (Named c) h = h
-built_of least (Variable x) h = refl
-built_of least (Element x i) h = absurd h
-built_of least (Prefix op e) h = and_from (is_built_prefix op) (is_built_expression e) h.0 (built_of prefix_level e h.1)
-built_of least (Binary op a b) h = and_from _ (is_built_expression b) (and_from (is_built_operator op) (is_built_expression a) h.1 (built_of (operator_level op) a h.2)) (built_of (operator_level op + 1) b h.3)
-built_of least (Paren e) h = built_of 0 e h
-
-to_levelled : (e : Expr) (least : ℕ) → levelled e ≡ true → is_built_expression e ≡ true → least ≤ level e → IsLevelled least e
-to_levelled (Number value unsigned) least h built le = tt
-to_levelled (Named c) least h built le = built
-to_levelled (Variable x) least h built le = tt
-to_levelled (Element x i) least h built le = absurd (false_true built)
-to_levelled (Prefix op e) least h built le =
+to_levelled : (e : Expr) (least : ℕ) → levelled e ≡ true → least ≤ level e → IsLevelled least e
+to_levelled (Number value unsigned) least h le = tt
+to_levelled (Named c) least h le = tt
+to_levelled (Variable x) least h le = tt
+to_levelled (Element x i) least h le = to_levelled i 0 h (omega arith)
+to_levelled (Prefix op e) least h le =
     let p = and_parts (nat_le prefix_level (level e)) (levelled e) h in
-    let q = and_parts (is_built_prefix op) (is_built_expression e) built in
-    (q.0, to_levelled e prefix_level p.1 q.1 (leb-true prefix_level (level e) p.0))
-to_levelled (Binary op a b) least h built le =
+    to_levelled e prefix_level p.1 (leb-true prefix_level (level e) p.0)
+to_levelled (Binary op a b) least h le =
     let p = and_parts (nat_le (operator_level op) (level a) && nat_lt (operator_level op) (level b) && levelled a) (levelled b) h in
     let q = and_parts (nat_le (operator_level op) (level a) && nat_lt (operator_level op) (level b)) (levelled a) p.0 in
     let r = and_parts (nat_le (operator_level op) (level a)) (nat_lt (operator_level op) (level b)) q.0 in
-    let u = and_parts (is_built_operator op && is_built_expression a) (is_built_expression b) built in
-    let v = and_parts (is_built_operator op) (is_built_expression a) u.0 in
     let tighter = ltb-true (operator_level op) (level b) r.1 in
-    (le, v.0, to_levelled a (operator_level op) q.1 v.1 (leb-true (operator_level op) (level a) r.0), to_levelled b (operator_level op + 1) p.1 u.1 (omega (arith, tighter)))
-to_levelled (Paren e) least h built le = to_levelled e 0 h built (omega arith)
+    (le, to_levelled a (operator_level op) q.1 (leb-true (operator_level op) (level a) r.0), to_levelled b (operator_level op + 1) p.1 (omega (arith, tighter)))
+to_levelled (Paren e) least h le = to_levelled e 0 h (omega arith)
 
 -- ---- arguments and right sides
 
@@ -81,10 +69,9 @@ record ArgumentFacts (room : ℕ) (arguments : List Argument) : Type 0 where
   levels : list_all levelled (expressions_of arguments) ≡ true
   numbers : AreInRange (argument_tokens arguments) → list_all numbers_in_range (expressions_of arguments) ≡ true
   low : highest (map height (expressions_of arguments)) ≤ room
-  built : list_all is_built_argument arguments ≡ true
 
 argument_facts : (room : ℕ) (arguments : List Argument) → AreArguments room arguments → ArgumentFacts room arguments
-argument_facts room [] is = record { levels = refl; numbers = λ h. refl; low = omega arith; built = refl }
+argument_facts room [] is = record { levels = refl; numbers = λ h. refl; low = omega arith }
 argument_facts room (Value e ∷ more) is =
     let facts = argument_facts room more is.1 in
     let high = is.0.low in
@@ -93,32 +80,32 @@ argument_facts room (Value e ∷ more) is =
       levels = and_from (levelled e) _ (levelled_of 0 e is.0.levelled) facts.levels;
       numbers = λ h. and_from (numbers_in_range e) _ (numbers_of e (range_left (expression e) (argument_tokens more) h.1)) (facts.numbers (range_right (expression e) (argument_tokens more) h.1));
       low = omega (arith, high, high_more);
-      built = and_from (is_built_expression e) _ (built_of 0 e is.0.levelled) facts.built;
     }
-argument_facts room (Text bytes ∷ more) is = absurd is.0
-argument_facts room (AddressOf x ∷ more) is = absurd is.0
+argument_facts room (Text bytes ∷ more) is =
+    let facts = argument_facts room more is.1 in
+    record { levels = facts.levels; numbers = λ h. facts.numbers h.1.1; low = facts.low }
+argument_facts room (AddressOf x ∷ more) is =
+    let facts = argument_facts room more is.1 in
+    record { levels = facts.levels; numbers = λ h. facts.numbers h.1.1.1; low = facts.low }
 
-to_arguments : (room : ℕ) (arguments : List Argument) → list_all is_built_argument arguments ≡ true → list_all levelled (expressions_of arguments) ≡ true → highest (map height (expressions_of arguments)) ≤ room → AreArguments room arguments
-to_arguments room [] built h low = tt
-to_arguments room (Value e ∷ more) built h low =
+to_arguments : (room : ℕ) (arguments : List Argument) → list_all levelled (expressions_of arguments) ≡ true → highest (map height (expressions_of arguments)) ≤ room → AreArguments room arguments
+to_arguments room [] h low = tt
+to_arguments room (Value e ∷ more) h low =
     let p = and_parts (levelled e) (list_all levelled (expressions_of more)) h in
-    let q = and_parts (is_built_expression e) (list_all is_built_argument more) built in
-    (record { levelled = to_levelled e 0 p.0 q.0 (omega arith); low = omega (arith, low) }, to_arguments room more q.1 p.1 (omega (arith, low)))
-to_arguments room (Text bytes ∷ more) built h low = absurd (false_true built)
-to_arguments room (AddressOf x ∷ more) built h low = absurd (false_true built)
+    (record { levelled = to_levelled e 0 p.0 (omega arith); low = omega (arith, low) }, to_arguments room more p.1 (omega (arith, low)))
+to_arguments room (Text bytes ∷ more) h low = (tt, to_arguments room more h low)
+to_arguments room (AddressOf x ∷ more) h low = (tt, to_arguments room more h low)
 
 record RightFacts (room : ℕ) (r : RightSide) : Type 0 where
   levels : list_all levelled (right_side_expressions r) ≡ true
   numbers : AreInRange (right r) → list_all numbers_in_range (right_side_expressions r) ≡ true
   low : highest (map height (right_side_expressions r)) ≤ room
-  built : is_built_right r ≡ true
 
 right_facts : (room : ℕ) (r : RightSide) → IsRight room r → RightFacts room r
 right_facts room (FromExpr e) is = record {
   levels = and_from (levelled e) true (levelled_of 0 e is.levelled) refl;
   numbers = λ h. and_from (numbers_in_range e) true (numbers_of e h) refl;
   low = let low = is.low in omega (arith, low);
-  built = built_of 0 e is.levelled;
 }
 right_facts room (FromCall c) is =
     let facts = argument_facts room c.arguments is in
@@ -126,12 +113,11 @@ right_facts room (FromCall c) is =
       levels = facts.levels;
       numbers = λ h. facts.numbers (range_left (argument_tokens c.arguments) (mark marks.CloseParen ∷ []) h.1.1.1.1.1.1.1.1);
       low = facts.low;
-      built = facts.built;
     }
 
-to_right : (room : ℕ) (r : RightSide) → is_built_right r ≡ true → list_all levelled (right_side_expressions r) ≡ true → highest (map height (right_side_expressions r)) ≤ room → IsRight room r
-to_right room (FromExpr e) built h low = record { levelled = to_levelled e 0 (and_parts (levelled e) true h).0 built (omega arith); low = omega (arith, low) }
-to_right room (FromCall c) built h low = to_arguments room c.arguments built h low
+to_right : (room : ℕ) (r : RightSide) → list_all levelled (right_side_expressions r) ≡ true → highest (map height (right_side_expressions r)) ≤ room → IsRight room r
+to_right room (FromExpr e) h low = record { levelled = to_levelled e 0 (and_parts (levelled e) true h).0 (omega arith); low = omega (arith, low) }
+to_right room (FromCall c) h low = to_arguments room c.arguments h low
 
 -- ---- statements
 
@@ -148,7 +134,7 @@ form_facts room (PutJint line e) is = record {
   levels = and_from (levelled e) true (levelled_of 0 e is.levelled) refl;
   numbers = λ h. and_from (numbers_in_range e) true (numbers_of e (range_left (expression e) (mark marks.CloseParen ∷ mark marks.Semicolon ∷ []) h.1.1)) refl;
   low = let low = is.low in omega (arith, low);
-  built = built_of 0 e is.levelled;
+  built = refl;
 }
 form_facts room (Return line) is = record { within = refl; levels = refl; numbers = λ h. refl; low = omega arith; built = refl }
 form_facts room (ReturnValue line e) is = record {
@@ -156,7 +142,7 @@ form_facts room (ReturnValue line e) is = record {
   levels = and_from (levelled e) true (levelled_of 0 e is.levelled) refl;
   numbers = λ h. and_from (numbers_in_range e) true (numbers_of e (range_left (expression e) (mark marks.Semicolon ∷ []) h.1)) refl;
   low = let low = is.low in omega (arith, low);
-  built = built_of 0 e is.levelled;
+  built = refl;
 }
 form_facts room (Declare line t x r) is =
     let facts = right_facts room r is.1 in
@@ -165,7 +151,7 @@ form_facts room (Declare line t x r) is =
       levels = facts.levels;
       numbers = λ h. facts.numbers (range_left (right r) (mark marks.Semicolon ∷ []) h.1.1.1);
       low = facts.low;
-      built = and_from (is_built_variable t) (is_built_right r) is.0 facts.built;
+      built = is.0;
     }
 form_facts room (DeclareBuffer line t x r) is = absurd is
 form_facts room (DeclareChars line x r) is = absurd is
@@ -211,10 +197,10 @@ within_one (IfElse line test b d) built = absurd (false_true built)
 within_one (While line test b) built = absurd (false_true built)
 
 to_form : (room : ℕ) (s : Stmt) → is_built_statement s ≡ true → list_all levelled (own_expressions s) ≡ true → statement_height s ≤ room → IsForm room s
-to_form room (PutJint line e) built h low = record { levelled = to_levelled e 0 (and_parts (levelled e) true h).0 built (omega arith); low = omega (arith, low) }
+to_form room (PutJint line e) built h low = record { levelled = to_levelled e 0 (and_parts (levelled e) true h).0 (omega arith); low = omega (arith, low) }
 to_form room (Return line) built h low = tt
-to_form room (ReturnValue line e) built h low = record { levelled = to_levelled e 0 (and_parts (levelled e) true h).0 built (omega arith); low = omega (arith, low) }
-to_form room (Declare line t x r) built h low = let p = and_parts (is_built_variable t) (is_built_right r) built in (p.0, to_right room r p.1 h low)
+to_form room (ReturnValue line e) built h low = record { levelled = to_levelled e 0 (and_parts (levelled e) true h).0 (omega arith); low = omega (arith, low) }
+to_form room (Declare line t x r) built h low = (built, to_right room r h low)
 to_form room (DeclareBuffer line t x r) built h low = absurd (false_true built)
 to_form room (DeclareChars line x r) built h low = absurd (false_true built)
 to_form room (DeclareArray line t x size) built h low = absurd (false_true built)

@@ -9,26 +9,26 @@ use Rattle.parse.specs.declared.lexemes.Fixed.TheVariants as fixed
 use Rattle.parse.specs.Meaning.{Meaning, Fixed', Name', Number', Text'}
 use Rattle.parse.specs.Lexemes.{Lexed, same_word, line_at}
 use Rattle.parse.specs.Spelling.{Spelled, OnLine, word, reference_word, constant_word, variable_word, parameter_word}
-use Rattle.parse.specs.Built.{is_built_constant, is_built_variable}
+use Rattle.parse.specs.Built.{is_built_variable}
 use Rattle.parse.specs.Reading.{behind, constant_of_word, word_in, word_at, reference_of_word, parameter_of_word, variable_of_word, parameter_type_at, variable_type_at}
 use Rattle.parse.proofs.Singles.{Begins, chosen, word_is}
 
 -- ---- constants
 
-pub constant_again : (c : Constant) → IsTrue (is_built_constant c) → constant_of_word (constant_word c) ≡ Some c
-constant_again True built = absurd cc
-constant_again False built = absurd cc
-constant_again Commit built = absurd cc
-constant_again Abort built = absurd cc
-constant_again Null built = refl
+pub constant_again : (c : Constant) → constant_of_word (constant_word c) ≡ Some c
+constant_again True = refl
+constant_again False = refl
+constant_again Commit = refl
+constant_again Abort = refl
+constant_again Null = refl
 
 pub constant_is : (w : Word) (c : Constant) → constant_of_word w ≡ Some c → w ≡ constant_word c
+constant_is words.JniTrue c e = let f : True ≡ c = cc in ap constant_word f
+constant_is words.JniFalse c e = let f : False ≡ c = cc in ap constant_word f
+constant_is words.JniCommit c e = let f : Commit ≡ c = cc in ap constant_word f
+constant_is words.JniAbort c e = let f : Abort ≡ c = cc in ap constant_word f
 constant_is words.Null c e = let f : Null ≡ c = cc in ap constant_word f
 constant_is _ c e = absurd cc
-
-pub constant_built : (w : Word) (c : Constant) → constant_of_word w ≡ Some c → is_built_constant c ≡ true
-constant_built words.Null c e = let f : Null ≡ c = cc in ap is_built_constant (sym f)
-constant_built _ c e = absurd cc
 
 -- ---- types
 
@@ -121,6 +121,11 @@ pub variable_type_takes : (t : VariableType) (es : List Spelled) (ls rest : List
 variable_type_takes t es ls rest e h =
     let w = flat_some variable_of_word (word_at ls) t e in
     word_on (variable_word t) es ls rest (w.1 ∙ ap (λ (v : Word). Some v) (variable_is w.0 t w.2)) h
+
+-- where a statement begins with no type's word
+pub first_no_type : (line : ℕ) (m : Meaning) (es : List Spelled) (ls rest : List Lexed) → Begins (OnLine line m ∷ es) ls rest → option_flatten (option_map variable_of_word (word_in m)) ≡ None → variable_type_at ls ≡ None
+first_no_type line m es [] rest h none = absurd h
+first_no_type line m es (l ∷ ls) rest h none = ap (λ (x : Meaning). option_flatten (option_map variable_of_word (word_in x))) h.0.0 ∙ none
 
 pub variable_type_built : (t : VariableType) (ls : List Lexed) → variable_type_at ls ≡ Some t → is_built_variable t ≡ true
 variable_type_built t ls e = let w = flat_some variable_of_word (word_at ls) t e in variable_built w.0 t w.2

@@ -4,8 +4,7 @@ use Rattle.std.specs.Option.{option_map, option_flatten}
 use Rattle.scan.specs.declared.token.Mark.{Mark}
 use Rattle.scan.specs.declared.token.Mark.TheVariants as marks
 use Rattle.base.specs.Bytes.{Identifier}
-use Rattle.syntax.specs.Tree.{ReferenceType, JObject, JClass, JString, JArray, JThrowable, JIntArray, JShortArray, JByteArray, JCharArray, JObjectArray, Constant, Null, ParameterType, IntParameter, ReferenceParameter, VariableType, JIntVariable, PrefixOp, Complement, ToWord, ToInt, BinaryOp, BitOr, BitXor, BitAnd, Add, Subtract, Multiply, Expr, Number, Named, Variable, Prefix, Binary, Paren, Argument, Value, Call, RightSide, FromExpr, FromCall, Stmt, Declare, PutJint, Return, ReturnValue, Block, End, Next, ResultType, Void, IntResult, Parameter, Function, Item, FunctionItem, SourceUnit}
-use Rattle.syntax.specs.Parts.{statements_within, names_declared}
+use Rattle.syntax.specs.Tree.{ReferenceType, JObject, JClass, JString, JArray, JThrowable, JIntArray, JShortArray, JByteArray, JCharArray, JObjectArray, Constant, True, False, Commit, Abort, Null, ParameterType, IntParameter, ReferenceParameter, VariableType, JIntVariable, PrefixOp, LogicalNot, Complement, ToWord, ToInt, BinaryOp, LogicalOr, LogicalAnd, BitOr, BitXor, BitAnd, Equal, NotEqual, Less, LessEqual, Greater, GreaterEqual, ShiftLeft, ShiftRight, Add, Subtract, Multiply, Divide, Remainder, Expr, Number, Named, Variable, Element, Prefix, Binary, Paren, Argument, Value, Text, AddressOf, Call, RightSide, FromExpr, FromCall, Stmt, Declare, PutJint, Return, ReturnValue, Block, End, Next, ResultType, Void, IntResult, Parameter, Function, Item, FunctionItem, SourceUnit}
 use Rattle.syntax.specs.Limits.{operator_level, prefix_level}
 use Rattle.parse.specs.declared.fault.Fault.TheVariants.{NoForm, TooHigh, TooMany}
 use Rattle.parse.specs.declared.fault.ParseFault.{ParseFault}
@@ -29,12 +28,24 @@ behind (l ∷ ls) = ls
 -- ---- expressions
 
 abbrev pub binary_of_mark : Mark → Option BinaryOp
-binary_of_mark marks.Star = Some Multiply
+binary_of_mark marks.LogicalOr = Some LogicalOr
+binary_of_mark marks.LogicalAnd = Some LogicalAnd
+binary_of_mark marks.Bar = Some BitOr
+binary_of_mark marks.Caret = Some BitXor
+binary_of_mark marks.Ampersand = Some BitAnd
+binary_of_mark marks.Equal = Some Equal
+binary_of_mark marks.NotEqual = Some NotEqual
+binary_of_mark marks.Less = Some Less
+binary_of_mark marks.LessEqual = Some LessEqual
+binary_of_mark marks.Greater = Some Greater
+binary_of_mark marks.GreaterEqual = Some GreaterEqual
+binary_of_mark marks.ShiftLeft = Some ShiftLeft
+binary_of_mark marks.ShiftRight = Some ShiftRight
 binary_of_mark marks.Plus = Some Add
 binary_of_mark marks.Minus = Some Subtract
-binary_of_mark marks.Ampersand = Some BitAnd
-binary_of_mark marks.Caret = Some BitXor
-binary_of_mark marks.Bar = Some BitOr
+binary_of_mark marks.Star = Some Multiply
+binary_of_mark marks.Slash = Some Divide
+binary_of_mark marks.Percent = Some Remainder
 binary_of_mark _ = None
 
 abbrev pub binary_of : Meaning → Option BinaryOp
@@ -92,7 +103,38 @@ behind_paren deep ls =
     else if starts_with (fixed.Word words.Jint) ls then (expect (fixed.Mark marks.CloseParen) (behind ls) >>= λ after. under_prefix deep ToInt after)
     else in_parens deep ls
 
+-- an index in its brackets
+unfoldable pub index_by : ℕ → Reader → List Lexed → Result ReadExpr ParseFault
+index_by room deep ls =
+    if room == 0 then Err (fault_at TooHigh ls)
+    else (expect (fixed.Mark marks.OpenBracket) ls >>= λ within. deep 0 within >>= λ i. expect (fixed.Mark marks.CloseBracket) i.2 >>= λ after. Ok (i.0, i.1, after))
+
+abbrev pub is_name : Meaning → Bool
+is_name (Name' bytes) = true
+is_name (Fixed' found) = false
+is_name (Number' value unsigned) = false
+is_name (Text' bytes) = false
+
+-- whether a name comes next
+abbrev pub starts_name : List Lexed → Bool
+starts_name [] = false
+starts_name (l ∷ ls) = is_name l.meaning
+
+-- whether a name with an index comes next
+abbrev pub starts_element : List Lexed → Bool
+starts_element ls = if starts_name ls then starts_with (fixed.Mark marks.OpenBracket) (behind ls) else false
+
+unfoldable pub element_by : ℕ → Reader → List Lexed → Result ReadExpr ParseFault
+element_by room deep ls = do
+  name ← name_at ls
+  i ← index_by room deep name.1
+  Ok (Element name.0 i.0, 1 + i.1, i.2)
+
 abbrev pub constant_of_word : Word → Option Constant
+constant_of_word words.JniTrue = Some True
+constant_of_word words.JniFalse = Some False
+constant_of_word words.JniCommit = Some Commit
+constant_of_word words.JniAbort = Some Abort
 constant_of_word words.Null = Some Null
 constant_of_word _ = None
 
@@ -113,11 +155,13 @@ unfoldable pub primary_at : List Lexed → Result ReadExpr ParseFault
 primary_at [] = Err (Found NoForm 0)
 primary_at (l ∷ after) = primary_of l.meaning (l ∷ after) after
 
--- a prefix with its operand, parentheses, or what holds best
+-- a prefix with its operand, parentheses, an element, or what holds best
 unfoldable pub operand_by : ℕ → Reader → List Lexed → Result ReadExpr ParseFault
 operand_by room deep ls =
     if starts_with (fixed.Mark marks.Tilde) ls then (if room == 0 then Err (fault_at TooHigh ls) else under_prefix deep Complement (behind ls))
+    else if starts_with (fixed.Mark marks.Exclamation) ls then (if room == 0 then Err (fault_at TooHigh ls) else under_prefix deep LogicalNot (behind ls))
     else if starts_with (fixed.Mark marks.OpenParen) ls then (if room == 0 then Err (fault_at TooHigh ls) else behind_paren deep (behind ls))
+    else if starts_element ls then element_by room deep ls
     else primary_at ls
 
 unfoldable pub expr_by : ℕ → Reader → ℕ → List Lexed → Result ReadExpr ParseFault
@@ -134,6 +178,10 @@ operand_at room ls = operand_by room (deeper room) ls
 -- the expression of this level or tighter, no higher than there is room
 abbrev pub expr_at : ℕ → ℕ → List Lexed → Result ReadExpr ParseFault
 expr_at room least ls = expr_by room (deeper room) least ls
+
+-- an index that stands where there is this room
+abbrev pub index_at : ℕ → List Lexed → Result ReadExpr ParseFault
+index_at room ls = index_by room (deeper room) ls
 
 -- ---- words of types
 
@@ -193,10 +241,29 @@ interface_at ls = do
   d ← expect (fixed.Mark marks.CloseParen) c
   expect (fixed.Mark marks.Arrow) d
 
+abbrev pub text_of : Meaning → Option (List ℕ)
+text_of (Text' bytes) = Some bytes
+text_of (Fixed' found) = None
+text_of (Name' bytes) = None
+text_of (Number' value unsigned) = None
+
+-- the string that comes next
+abbrev pub text_at : List Lexed → Option (List ℕ)
+text_at [] = None
+text_at (l ∷ ls) = text_of l.meaning
+
+-- an argument that is no string
+unfoldable pub value_at : ℕ → List Lexed → Result (Argument × List Lexed) ParseFault
+value_at room ls =
+    if starts_with (fixed.Mark marks.Ampersand) ls then (name_at (behind ls) >>= λ name. Ok (AddressOf name.0, name.1))
+    else (expr_at room 0 ls >>= λ e. Ok (Value e.0, e.2))
+
+abbrev pub argument_by : ℕ → Option (List ℕ) → List Lexed → Result (Argument × List Lexed) ParseFault
+argument_by room None ls = value_at room ls
+argument_by room (Some bytes) ls = Ok (Text bytes, behind ls)
+
 unfoldable pub argument_at : ℕ → List Lexed → Result (Argument × List Lexed) ParseFault
-argument_at room ls = do
-  e ← expr_at room 0 ls
-  Ok (Value e.0, e.2)
+argument_at room ls = argument_by room (text_at ls) ls
 
 -- arguments, each with the comma before it, of which there are fewer than steps
 unfoldable pub arguments_at : (room steps : ℕ) → List Lexed → Result (List Argument × List Lexed) ParseFault
@@ -240,6 +307,13 @@ return_at room line ls =
     if starts_with (fixed.Mark marks.Semicolon) ls then Ok (Return line, behind ls)
     else (expr_at room 0 ls >>= λ e. expect (fixed.Mark marks.Semicolon) e.2 >>= λ rest. Ok (ReturnValue line e.0, rest))
 
+-- a statement that declares no name and has no block
+unfoldable pub plain_at : ℕ → List Lexed → Result (Stmt × List Lexed) ParseFault
+plain_at room ls =
+    if starts_with (fixed.Word words.PutJint) ls then put_at room (line_at ls) (behind ls)
+    else if starts_with (fixed.Word words.Return) ls then return_at room (line_at ls) (behind ls)
+    else Err (fault_at NoForm ls)
+
 -- a name, and what it is set to
 unfoldable pub setting_at : ℕ → List Lexed → Result (Identifier × RightSide × List Lexed) ParseFault
 setting_at room ls = do
@@ -249,36 +323,41 @@ setting_at room ls = do
   rest ← expect (fixed.Mark marks.Semicolon) right.1
   Ok (name.0, right.0, rest)
 
+-- a statement, how many more names may be declared behind it, and what stands behind it
+abbrev pub ReadStmt : Type 0
+ReadStmt = Stmt × ℕ × List Lexed
+
 -- a declaration, where so many more names may be declared
-unfoldable pub declared_at : (room free : ℕ) → Option VariableType → List Lexed → Result (Stmt × List Lexed) ParseFault
-declared_at room free None ls = Err (fault_at NoForm ls)
-declared_at room free (Some t) ls =
+unfoldable pub declared_at : (room free : ℕ) → VariableType → List Lexed → Result ReadStmt ParseFault
+declared_at room free t ls =
     if free == 0 then Err (fault_at TooMany ls)
-    else (setting_at room (behind ls) >>= λ s. Ok (Declare (line_at ls) t s.0 s.1, s.2))
+    else (setting_at room (behind ls) >>= λ s. Ok (Declare (line_at ls) t s.0 s.1, free - 1, s.2))
 
-unfoldable pub statement_at : (room free : ℕ) → List Lexed → Result (Stmt × List Lexed) ParseFault
-statement_at room free ls =
-    if starts_with (fixed.Word words.PutJint) ls then put_at room (line_at ls) (behind ls)
-    else if starts_with (fixed.Word words.Return) ls then return_at room (line_at ls) (behind ls)
-    else declared_at room free (variable_type_at ls) ls
+-- a statement that begins with this type, or with none
+abbrev pub typed_at : (room free : ℕ) → Option VariableType → List Lexed → Result ReadStmt ParseFault
+typed_at room free (Some t) ls = declared_at room free t ls
+typed_at room free None ls = plain_at room ls >>= λ s. Ok (s.0, free, s.1)
 
--- how many names a statement declares
-abbrev pub names_of : Stmt → ℕ
-names_of s = length (names_declared (statements_within s))
+unfoldable pub statement_at : (room free : ℕ) → List Lexed → Result ReadStmt ParseFault
+statement_at room free ls = typed_at room free (variable_type_at ls) ls
 
 abbrev pub is_return : Stmt → Bool
 is_return (Return line) = true
 is_return (ReturnValue line e) = true
 is_return s = false
 
+-- a block, how many more names may be declared behind it, and what stands behind it
+abbrev pub ReadBlock : Type 0
+ReadBlock = Block × ℕ × List Lexed
+
 -- statements up to the closing brace, of which there are fewer than steps, where so many more names
 -- may be declared; none stands behind a return
-unfoldable pub block_at : (room free steps : ℕ) → Bool → List Lexed → Result (Block × List Lexed) ParseFault
+unfoldable pub block_at : (room free steps : ℕ) → Bool → List Lexed → Result ReadBlock ParseFault
 block_at room free zero returned ls = Err (fault_at NoForm ls)
 block_at room free (suc steps) returned ls =
-    if starts_with (fixed.Mark marks.CloseBrace) ls then Ok (End (line_at ls), behind ls)
+    if starts_with (fixed.Mark marks.CloseBrace) ls then Ok (End (line_at ls), free, behind ls)
     else if returned then Err (fault_at NoForm ls)
-    else (statement_at room free ls >>= λ s. block_at room (free - names_of s.0) steps (is_return s.0) s.1 >>= λ b. Ok (Next s.0 b.0, b.1))
+    else (statement_at room free ls >>= λ s. block_at room s.1 steps (is_return s.0) s.2 >>= λ b. Ok (Next s.0 b.0, b.1, b.2))
 
 -- ---- functions
 
@@ -317,7 +396,8 @@ unfoldable pub body_at : ℕ → List Lexed → Result (Block × List Lexed) Par
 body_at free ls = do
   a ← expect (fixed.Mark marks.CloseParen) ls
   b ← expect (fixed.Mark marks.OpenBrace) a
-  block_at 31 free (length b + 1) false b
+  body ← block_at 31 free (length b + 1) false b
+  Ok (body.0, body.2)
 
 -- a function; behind the class it may have 255 more names
 unfoldable pub function_at : List Lexed → Result (Function × List Lexed) ParseFault

@@ -4,11 +4,11 @@ ghost use Rattle.std.specs.Prelude.{◌≡◌, ◌≤◌, ◌+◌, length, map};
 ghost use Rattle.syntax.specs.Views.{argument_tree, call_tree, right_side_tree};
 ghost use Rattle.parse.specs.Results.{Gives};
 ghost use Rattle.parse.specs.Lexemes.{views};
-ghost use Rattle.parse.specs.Reading.{interface_at, argument_at, arguments_at, call_at, starts_call, right_at};
+ghost use Rattle.parse.specs.Reading.{interface_at, value_at, argument_at, arguments_at, call_at, starts_call, right_at};
 
 use crate::expressions::expression;
 use crate::fault::ParseFault;
-use crate::lexemes::{Fixed, Lexeme, behind, expect, name_at, starts_with};
+use crate::lexemes::{Fixed, Lexeme, behind, expect, name_at, starts_with, text_at};
 use crate::words::Word;
 use scan::Mark;
 use std::alloc::Global;
@@ -26,6 +26,20 @@ fn interface(lexemes: &[Lexeme]) -> Result<&[Lexeme], ParseFault>
     expect(Fixed::Mark(Mark::Arrow), rest)
 }
 
+/// An argument that is no string.
+#[tactic(auto, unfolding(crate::specs::Reading::value_at))]
+fn value(alloc: Global, room: u32, lexemes: &[Lexeme]) -> Result<(Argument, &[Lexeme]), ParseFault>
+    requires { room ≤ 32 }
+    ensures { Gives (λ x. (argument_tree x.0, views x.1.now)) result (value_at room (views lexemes.now)) }
+{
+    if starts_with(Fixed::Mark(Mark::Ampersand), lexemes) {
+        let (name, rest) = name_at(behind(lexemes))?;
+        return Ok((Argument::AddressOf(Name::new(alloc, name)?), rest));
+    }
+    let (value, _, rest) = expression(alloc, room, 0, lexemes)?;
+    Ok((Argument::Value(value), rest))
+}
+
 /// An argument.
 #[tactic(auto, unfolding(crate::specs::Reading::argument_at))]
 fn argument(
@@ -36,8 +50,13 @@ fn argument(
     requires { room ≤ 32 }
     ensures { Gives (λ x. (argument_tree x.0, views x.1.now)) result (argument_at room (views lexemes.now)) }
 {
-    let (value, _, rest) = expression(alloc, room, 0, lexemes)?;
-    Ok((Argument::Value(value), rest))
+    match text_at(lexemes) {
+        Some(bytes) => {
+            let bytes = Vec::from_slice(alloc, bytes)?;
+            Ok((Argument::Text(bytes), behind(lexemes)))
+        }
+        None => value(alloc, room, lexemes),
+    }
 }
 
 /// Arguments, each with the comma before it.

@@ -1,15 +1,17 @@
 //! Expressions, by the levels of their operators (ISO/IEC 9899:1999, 6.5).
 
-ghost use Rattle.std.specs.Prelude.{◌≡◌, ◌≤◌, IfOk};
+ghost use Rattle.std.specs.Prelude.{◌≡◌, ◌≤◌, ◌<◌, IfOk};
 ghost use Rattle.std.specs.Option.{option_map};
 ghost use Rattle.syntax.specs.Limits.{operator_level};
 ghost use Rattle.syntax.specs.Views.{constant_tree, prefix_tree, binary_tree, expr_tree};
 ghost use Rattle.parse.specs.Results.{Gives};
 ghost use Rattle.parse.specs.Lexemes.{views};
-ghost use Rattle.parse.specs.Reading.{operator_at, binary_of_mark, constant_of_word, primary_at, operand_at, expr_at, under_prefix, deeper};
+ghost use Rattle.parse.specs.Reading.{operator_at, binary_of_mark, constant_of_word, primary_at, starts_element, index_at, operand_at, expr_at, under_prefix, deeper};
 
 use crate::fault::{Fault, ParseFault};
-use crate::lexemes::{Fixed, Lexeme, Shape, behind, expect, fault_at, starts_with, unexpected};
+use crate::lexemes::{
+    Fixed, Lexeme, Shape, behind, expect, fault_at, name_at, starts_name, starts_with, unexpected,
+};
 use crate::words::Word;
 use scan::Mark;
 use std::alloc::Global;
@@ -26,11 +28,16 @@ fn level(op: BinaryOp) -> u32
     ensures { result ≡ operator_level (binary_tree op) }
 {
     match op {
+        BinaryOp::LogicalOr => 1,
+        BinaryOp::LogicalAnd => 2,
         BinaryOp::BitOr => 3,
         BinaryOp::BitXor => 4,
         BinaryOp::BitAnd => 5,
+        BinaryOp::Equal | BinaryOp::NotEqual => 6,
+        BinaryOp::Less | BinaryOp::LessEqual | BinaryOp::Greater | BinaryOp::GreaterEqual => 7,
+        BinaryOp::ShiftLeft | BinaryOp::ShiftRight => 8,
         BinaryOp::Add | BinaryOp::Subtract => 9,
-        BinaryOp::Multiply => 10,
+        BinaryOp::Multiply | BinaryOp::Divide | BinaryOp::Remainder => 10,
     }
 }
 
@@ -39,12 +46,24 @@ fn binary_of(mark: Mark) -> Option<BinaryOp>
     ensures { option_map binary_tree result ≡ binary_of_mark mark }
 {
     match mark {
-        Mark::Star => Some(BinaryOp::Multiply),
+        Mark::LogicalOr => Some(BinaryOp::LogicalOr),
+        Mark::LogicalAnd => Some(BinaryOp::LogicalAnd),
+        Mark::Bar => Some(BinaryOp::BitOr),
+        Mark::Caret => Some(BinaryOp::BitXor),
+        Mark::Ampersand => Some(BinaryOp::BitAnd),
+        Mark::Equal => Some(BinaryOp::Equal),
+        Mark::NotEqual => Some(BinaryOp::NotEqual),
+        Mark::Less => Some(BinaryOp::Less),
+        Mark::LessEqual => Some(BinaryOp::LessEqual),
+        Mark::Greater => Some(BinaryOp::Greater),
+        Mark::GreaterEqual => Some(BinaryOp::GreaterEqual),
+        Mark::ShiftLeft => Some(BinaryOp::ShiftLeft),
+        Mark::ShiftRight => Some(BinaryOp::ShiftRight),
         Mark::Plus => Some(BinaryOp::Add),
         Mark::Minus => Some(BinaryOp::Subtract),
-        Mark::Ampersand => Some(BinaryOp::BitAnd),
-        Mark::Caret => Some(BinaryOp::BitXor),
-        Mark::Bar => Some(BinaryOp::BitOr),
+        Mark::Star => Some(BinaryOp::Multiply),
+        Mark::Slash => Some(BinaryOp::Divide),
+        Mark::Percent => Some(BinaryOp::Remainder),
         _ => None,
     }
 }
@@ -65,6 +84,10 @@ fn constant_of(word: Word) -> Option<Constant>
     ensures { option_map constant_tree result ≡ constant_of_word word }
 {
     match word {
+        Word::JniTrue => Some(Constant::True),
+        Word::JniFalse => Some(Constant::False),
+        Word::JniCommit => Some(Constant::Commit),
+        Word::JniAbort => Some(Constant::Abort),
         Word::Null => Some(Constant::Null),
         _ => None,
     }
@@ -91,6 +114,13 @@ fn primary(alloc: Global, lexemes: &[Lexeme]) -> Result<ReadExpr<'_>, ParseFault
         },
         _ => Err(unexpected(lexemes)),
     }
+}
+
+/// Whether a name with an index comes next.
+fn starts_element(lexemes: &[Lexeme]) -> bool
+    ensures { result ≡ starts_element (views lexemes.now) }
+{
+    starts_name(lexemes) && starts_with(Fixed::Mark(Mark::OpenBracket), behind(lexemes))
 }
 
 /// An expression of this level or tighter, no higher than there is room.
@@ -127,9 +157,9 @@ pub(crate) fn expression(
     Ok((left, height, rest))
 }
 
-/// A prefix with its operand, parentheses, or what holds best.
+/// A prefix with its operand, parentheses, an element, or what holds best.
 #[cycle(expressions)]
-#[tactic(auto, using(crate::proofs::Climbing::deeps), unfolding(crate::specs::Reading::operand_by, crate::specs::Reading::behind_paren, crate::specs::Reading::in_parens))]
+#[tactic(auto, using(crate::proofs::Climbing::deeps), unfolding(crate::specs::Reading::operand_by, crate::specs::Reading::behind_paren, crate::specs::Reading::in_parens, crate::specs::Reading::element_by))]
 fn operand(alloc: Global, room: u32, lexemes: &[Lexeme]) -> Result<ReadExpr<'_>, ParseFault>
     requires { room ≤ 32 }
     ensures low { IfOk result (λ x. x.1 ≤ room) }
@@ -140,6 +170,12 @@ fn operand(alloc: Global, room: u32, lexemes: &[Lexeme]) -> Result<ReadExpr<'_>,
             return Err(fault_at(Fault::TooHigh, lexemes));
         }
         return prefixed(alloc, room, PrefixOp::Complement, behind(lexemes));
+    }
+    if starts_with(Fixed::Mark(Mark::Exclamation), lexemes) {
+        if room == 0 {
+            return Err(fault_at(Fault::TooHigh, lexemes));
+        }
+        return prefixed(alloc, room, PrefixOp::LogicalNot, behind(lexemes));
     }
     if starts_with(Fixed::Mark(Mark::OpenParen), lexemes) {
         if room == 0 {
@@ -158,7 +194,38 @@ fn operand(alloc: Global, room: u32, lexemes: &[Lexeme]) -> Result<ReadExpr<'_>,
         let rest = expect(Fixed::Mark(Mark::CloseParen), rest)?;
         return Ok((Expr::Paren(Box::new(alloc, inside)?), 1 + height, rest));
     }
+    if starts_element(lexemes) {
+        let (name, rest) = name_at(lexemes)?;
+        let (index, height, rest) = index(alloc, room, rest)?;
+        let name = Name::new(alloc, name)?;
+        return Ok((
+            Expr::Element(name, Box::new(alloc, index)?),
+            1 + height,
+            rest,
+        ));
+    }
     primary(alloc, lexemes)
+}
+
+/// An index in its brackets, which counts one.
+#[cycle(expressions)]
+#[tactic(auto, using(crate::proofs::Climbing::deeps), unfolding(crate::specs::Reading::index_by))]
+pub(crate) fn index(
+    alloc: Global,
+    room: u32,
+    lexemes: &[Lexeme],
+) -> Result<ReadExpr<'_>, ParseFault>
+    requires { room ≤ 32 }
+    ensures low { IfOk result (λ x. x.1 < room) }
+    ensures gives { Gives (λ x. (expr_tree x.0, x.1, views x.2.now)) result (index_at room (views lexemes.now)) }
+{
+    if room == 0 {
+        return Err(fault_at(Fault::TooHigh, lexemes));
+    }
+    let rest = expect(Fixed::Mark(Mark::OpenBracket), lexemes)?;
+    let (index, height, rest) = expression(alloc, room - 1, 0, rest)?;
+    let rest = expect(Fixed::Mark(Mark::CloseBracket), rest)?;
+    Ok((index, height, rest))
 }
 
 /// What a prefix stands before.

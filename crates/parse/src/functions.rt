@@ -61,7 +61,8 @@ fn body(alloc: Global, free: usize, lexemes: &[Lexeme]) -> Result<(Block, &[Lexe
 {
     let rest = expect(Fixed::Mark(Mark::CloseParen), lexemes)?;
     let rest = expect(Fixed::Mark(Mark::OpenBrace), rest)?;
-    block(alloc, ROOM, free, rest)
+    let (body, _, rest) = block(alloc, ROOM, free, rest)?;
+    Ok((body, rest))
 }
 
 /// A function (JNI Specification, chapter 2, "Native Method Arguments").

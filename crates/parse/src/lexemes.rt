@@ -5,7 +5,8 @@ ghost use Rattle.parse.specs.declared.fault.Fault.TheVariants.{NoForm};
 ghost use Rattle.parse.specs.Meaning.{between_quotes, token_meaning};
 ghost use Rattle.parse.specs.Results.{Gives};
 ghost use Rattle.parse.specs.Lexemes.{IsInside, AreInOrder, line_ends, lexemes, expect, same_mark, same_word, is_fixed, name_at, fault_at, line_at, view_shape, view, views};
-ghost use Rattle.parse.specs.Reading.{behind, starts_with, word_at};
+ghost use Rattle.std.specs.Option.{option_map};
+ghost use Rattle.parse.specs.Reading.{behind, starts_with, starts_name, text_at, word_at};
 
 use crate::fault::{Fault, ParseFault};
 use crate::words::{Word, word_of};
@@ -191,6 +192,27 @@ pub(crate) fn word_at(rest: &[Lexeme]) -> Option<Word>
     let (first, _) = rest.split_first()?;
     match &first.shape {
         Shape::Fixed(Fixed::Word(word)) => Some(*word),
+        _ => None,
+    }
+}
+
+/// Whether a name comes next.
+pub(crate) fn starts_name(rest: &[Lexeme]) -> bool
+    ensures { result ≡ starts_name (views rest.now) }
+{
+    match rest {
+        [first, ..] => matches!(first.shape, Shape::Name(_)),
+        [] => false,
+    }
+}
+
+/// The string that comes next.
+pub(crate) fn text_at(rest: &[Lexeme]) -> Option<&[u8]>
+    ensures { option_map (λ bytes. bytes.now) result ≡ text_at (views rest.now) }
+{
+    let (first, _) = rest.split_first()?;
+    match &first.shape {
+        Shape::Text(bytes) => Some(bytes.as_slice()),
         _ => None,
     }
 }

@@ -2,10 +2,9 @@
 
 ghost use Rattle.std.specs.Prelude.{◌≡◌, ◌≤◌, ◌+◌, length, false};
 ghost use Rattle.syntax.specs.Views.{variable_type_tree, right_side_tree, stmt_tree, block_tree};
-ghost use Rattle.std.specs.Option.{option_map};
 ghost use Rattle.parse.specs.Results.{Gives};
 ghost use Rattle.parse.specs.Lexemes.{views};
-ghost use Rattle.parse.specs.Reading.{put_at, return_at, setting_at, declared_at, statement_at, is_return, names_of, block_at};
+ghost use Rattle.parse.specs.Reading.{put_at, return_at, plain_at, setting_at, declared_at, statement_at, is_return, block_at};
 
 use crate::calls::right_side;
 use crate::expressions::expression;
@@ -76,21 +75,21 @@ fn setting(
     Ok((Name::new(alloc, name)?, right, rest))
 }
 
+/// A statement, how many more names may be declared behind it, and what stands behind it.
+type ReadStmt<'t> = (Stmt, usize, &'t [Lexeme]);
+
 /// A declaration that begins with this type, where so many more names may be declared.
 #[tactic(auto, unfolding(crate::specs::Reading::declared_at))]
 fn declared(
     alloc: Global,
     room: u32,
     free: usize,
-    kind: Option<VariableType>,
+    kind: VariableType,
     lexemes: &[Lexeme],
-) -> Result<(Stmt, &[Lexeme]), ParseFault>
+) -> Result<ReadStmt<'_>, ParseFault>
     requires { room ≤ 32 }
-    ensures { Gives (λ x. (stmt_tree x.0, views x.1.now)) result (declared_at room free (option_map variable_type_tree kind) (views lexemes.now)) }
+    ensures { Gives (λ x. (stmt_tree x.0, x.1, views x.2.now)) result (declared_at room free (variable_type_tree kind) (views lexemes.now)) }
 {
-    let Some(kind) = kind else {
-        return Err(unexpected(lexemes));
-    };
     if free == 0 {
         return Err(fault_at(Fault::TooMany, lexemes));
     }
@@ -99,7 +98,23 @@ fn declared(
         line: line_at(lexemes),
         form: Form::Declare(kind, name, right),
     };
-    Ok((stmt, rest))
+    Ok((stmt, free - 1, rest))
+}
+
+/// A statement that declares no name and has no block.
+#[tactic(auto, unfolding(crate::specs::Reading::plain_at))]
+fn plain(alloc: Global, room: u32, lexemes: &[Lexeme]) -> Result<(Stmt, &[Lexeme]), ParseFault>
+    requires { room ≤ 32 }
+    ensures { Gives (λ x. (stmt_tree x.0, views x.1.now)) result (plain_at room (views lexemes.now)) }
+{
+    let line = line_at(lexemes);
+    if starts_with(Fixed::Word(Word::PutJint), lexemes) {
+        return put(alloc, room, line, behind(lexemes));
+    }
+    if starts_with(Fixed::Word(Word::Return), lexemes) {
+        return returned(alloc, room, line, behind(lexemes));
+    }
+    Err(unexpected(lexemes))
 }
 
 /// A statement, where so many more names may be declared.
@@ -109,19 +124,15 @@ fn statement(
     room: u32,
     free: usize,
     lexemes: &[Lexeme],
-) -> Result<(Stmt, &[Lexeme]), ParseFault>
+) -> Result<ReadStmt<'_>, ParseFault>
     requires { room ≤ 32 }
-    ensures { Gives (λ x. (stmt_tree x.0, views x.1.now)) result (statement_at room free (views lexemes.now)) }
+    ensures { Gives (λ x. (stmt_tree x.0, x.1, views x.2.now)) result (statement_at room free (views lexemes.now)) }
 {
-    let line = line_at(lexemes);
-    if starts_with(Fixed::Word(Word::PutJint), lexemes) {
-        return put(alloc, room, line, behind(lexemes));
+    if let Some(kind) = variable_type(lexemes) {
+        return declared(alloc, room, free, kind, lexemes);
     }
-    if starts_with(Fixed::Word(Word::Return), lexemes) {
-        return returned(alloc, room, line, behind(lexemes));
-    }
-    let kind = variable_type(lexemes);
-    declared(alloc, room, free, kind, lexemes)
+    let (stmt, rest) = plain(alloc, room, lexemes)?;
+    Ok((stmt, free, rest))
 }
 
 /// Whether a statement is a return, which ends its block.
@@ -131,25 +142,15 @@ fn is_return(stmt: &Stmt) -> bool
     matches!(stmt.form, Form::Return(_))
 }
 
-/// How many names a statement declares.
-fn names_of(stmt: &Stmt) -> usize
-    ensures { result ≡ names_of (stmt_tree stmt.now) }
-{
-    match stmt.form {
-        Form::Declare(..) => 1,
-        Form::PutJint(_) | Form::Return(_) => 0,
-    }
-}
-
 /// Statements up to the closing brace, where so many names may be declared.
 pub(crate) fn block(
     alloc: Global,
     room: u32,
     names: usize,
     lexemes: &[Lexeme],
-) -> Result<(Block, &[Lexeme]), ParseFault>
+) -> Result<(Block, usize, &[Lexeme]), ParseFault>
     requires { room ≤ 32 }
-    ensures { Gives (λ x. (block_tree x.0, views x.1.now)) result (block_at room names (length (views lexemes.now) + 1) false (views lexemes.now)) }
+    ensures { Gives (λ x. (block_tree x.0, x.1, views x.2.now)) result (block_at room names (length (views lexemes.now) + 1) false (views lexemes.now)) }
 {
     let mut statements = Vec::new(alloc);
     let mut rest = lexemes;
@@ -159,9 +160,9 @@ pub(crate) fn block(
         if returned {
             return Err(unexpected(rest));
         }
-        let (stmt, after) = statement(alloc, room, free, rest)?;
+        let (stmt, left, after) = statement(alloc, room, free, rest)?;
         returned = is_return(&stmt);
-        free -= names_of(&stmt);
+        free = left;
         statements.push(stmt)?;
         rest = after;
     }
@@ -170,5 +171,5 @@ pub(crate) fn block(
         statements,
         end_line,
     };
-    Ok((block, behind(rest)))
+    Ok((block, free, behind(rest)))
 }

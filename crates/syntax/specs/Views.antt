@@ -1,5 +1,6 @@
 -- The trees that lie in memory, as trees of the language.
 use Rattle.std.specs.Prelude.{ℕ, List, [], ◌∷◌, map, Option, Some, None}
+use Rattle.base.specs.Element.{ElementType, JInt, JShort, JByte, JChar}
 use Rattle.syntax.specs.declared.expr.Expr.{Expr as ExprInMemory}
 use Rattle.syntax.specs.declared.expr.Expr.TheVariants as expr
 use Rattle.syntax.specs.declared.expr.Constant.{Constant as ConstantInMemory}
@@ -13,8 +14,12 @@ use Rattle.syntax.specs.declared.call.Argument.{Argument as ArgumentInMemory}
 use Rattle.syntax.specs.declared.call.Argument.TheVariants as argument
 use Rattle.syntax.specs.declared.call.RightSide.{RightSide as RightSideInMemory}
 use Rattle.syntax.specs.declared.call.RightSide.TheVariants as right
+use Rattle.syntax.specs.declared.call.Test.{Test as TestInMemory}
+use Rattle.syntax.specs.declared.call.Test.TheVariants as test
 use Rattle.syntax.specs.declared.declared_type.ReferenceType.{ReferenceType as ReferenceInMemory}
 use Rattle.syntax.specs.declared.declared_type.ReferenceType.TheVariants as reference
+use Rattle.syntax.specs.declared.declared_type.ElementType.{ElementType as ElementInMemory}
+use Rattle.syntax.specs.declared.declared_type.ElementType.TheVariants as element
 use Rattle.syntax.specs.declared.declared_type.ParameterType.{ParameterType as ParameterTypeInMemory}
 use Rattle.syntax.specs.declared.declared_type.ParameterType.TheVariants as parameter
 use Rattle.syntax.specs.declared.declared_type.VariableType.{VariableType as VariableTypeInMemory}
@@ -22,41 +27,62 @@ use Rattle.syntax.specs.declared.declared_type.VariableType.TheVariants as varia
 use Rattle.syntax.specs.declared.stmt.Stmt.{Stmt as StmtInMemory}
 use Rattle.syntax.specs.declared.stmt.Form.{Form}
 use Rattle.syntax.specs.declared.stmt.Form.TheVariants as form
-use Rattle.syntax.specs.declared.stmt.Block.{Block as BlockInMemory}
+use Rattle.syntax.specs.declared.stmt.Block.{Block as BlockInMemory, Block', Row_of-Stmt, end_of-Stmt, more_of-Stmt}
 use Rattle.syntax.specs.declared.unit.ResultType.{ResultType as ResultInMemory}
 use Rattle.syntax.specs.declared.unit.ResultType.TheVariants as results
 use Rattle.syntax.specs.declared.unit.Parameter.{Parameter as ParameterInMemory}
 use Rattle.syntax.specs.declared.unit.Function.{Function as FunctionInMemory}
+use Rattle.syntax.specs.declared.unit.Static.{Static as StaticInMemory}
 use Rattle.syntax.specs.declared.unit.Item.{Item as ItemInMemory}
 use Rattle.syntax.specs.declared.unit.Item.TheVariants as item
-use Rattle.syntax.specs.Tree.{PrefixOp, Complement, ToWord, ToInt, BinaryOp, BitOr, BitXor, BitAnd, Add, Subtract, Multiply, Constant, Null, ReferenceType, JObject, JClass, JString, JArray, JThrowable, JIntArray, JShortArray, JByteArray, JCharArray, JObjectArray, ParameterType, IntParameter, ReferenceParameter, VariableType, JIntVariable, Expr, Number, Named, Variable, Prefix, Binary, Paren, Argument, Value, Call, RightSide, FromExpr, FromCall, Stmt, Declare, PutJint, Return, ReturnValue, Block, End, Next, ResultType, Void, IntResult, Parameter, Function, Item, FunctionItem, SourceUnit}
+use Rattle.syntax.specs.Tree.{PrefixOp, LogicalNot, Complement, ToWord, ToInt, BinaryOp, LogicalOr, LogicalAnd, BitOr, BitXor, BitAnd, Equal, NotEqual, Less, LessEqual, Greater, GreaterEqual, ShiftLeft, ShiftRight, Add, Subtract, Multiply, Divide, Remainder, Constant, True, False, Commit, Abort, Null, ReferenceType, JObject, JClass, JString, JArray, JThrowable, JIntArray, JShortArray, JByteArray, JCharArray, JObjectArray, ParameterType, IntParameter, ReferenceParameter, VariableType, UInt32, JIntVariable, JSize, JBoolean, JFieldId, ReferenceVariable, Expr, Number, Named, Variable, Element, Prefix, Binary, Paren, Argument, Value, Text, AddressOf, Call, RightSide, FromExpr, FromCall, Test, TestExpr, TestCall, Stmt, Declare, DeclareBuffer, DeclareChars, DeclareArray, Assign, AssignElement, Perform, PutJint, If, IfElse, While, Return, ReturnValue, Block, End, Next, ResultType, Void, IntResult, ReferenceResult, Parameter, Function, Static, Item, StaticItem, FunctionItem, SourceUnit}
 
 abbrev pub prefix_tree : PrefixInMemory → PrefixOp
+prefix_tree prefix.LogicalNot = LogicalNot
 prefix_tree prefix.Complement = Complement
 prefix_tree prefix.ToWord = ToWord
 prefix_tree prefix.ToInt = ToInt
 
 abbrev pub binary_tree : BinaryInMemory → BinaryOp
+binary_tree binary.LogicalOr = LogicalOr
+binary_tree binary.LogicalAnd = LogicalAnd
 binary_tree binary.BitOr = BitOr
 binary_tree binary.BitXor = BitXor
 binary_tree binary.BitAnd = BitAnd
+binary_tree binary.Equal = Equal
+binary_tree binary.NotEqual = NotEqual
+binary_tree binary.Less = Less
+binary_tree binary.LessEqual = LessEqual
+binary_tree binary.Greater = Greater
+binary_tree binary.GreaterEqual = GreaterEqual
+binary_tree binary.ShiftLeft = ShiftLeft
+binary_tree binary.ShiftRight = ShiftRight
 binary_tree binary.Add = Add
 binary_tree binary.Subtract = Subtract
 binary_tree binary.Multiply = Multiply
+binary_tree binary.Divide = Divide
+binary_tree binary.Remainder = Remainder
 
 abbrev pub constant_tree : ConstantInMemory → Constant
+constant_tree constant.True = True
+constant_tree constant.False = False
+constant_tree constant.Commit = Commit
+constant_tree constant.Abort = Abort
 constant_tree constant.Null = Null
 
 abbrev pub expr_tree : ExprInMemory → Expr
 expr_tree (expr.Number value unsigned) = Number value unsigned
 expr_tree (expr.Named c) = Named (constant_tree c)
 expr_tree (expr.Variable x) = Variable x
+expr_tree (expr.Element' x p i) = Element x (expr_tree i)
 expr_tree (expr.Prefix' op p a) = Prefix (prefix_tree op) (expr_tree a)
 expr_tree (expr.Binary' op p a q b) = Binary (binary_tree op) (expr_tree a) (expr_tree b)
 expr_tree (expr.Paren' p a) = Paren (expr_tree a)
 
 abbrev pub argument_tree : ArgumentInMemory → Argument
 argument_tree (argument.Value e) = Value (expr_tree e)
+argument_tree (argument.Text bytes) = Text bytes.items
+argument_tree (argument.AddressOf x) = AddressOf x
 
 abbrev pub call_tree : CallInMemory → Call
 call_tree c = record { function = c.function; arguments = map argument_tree c.arguments.items }
@@ -64,6 +90,10 @@ call_tree c = record { function = c.function; arguments = map argument_tree c.ar
 abbrev pub right_side_tree : RightSideInMemory → RightSide
 right_side_tree (right.Expr e) = FromExpr (expr_tree e)
 right_side_tree (right.Call c) = FromCall (call_tree c)
+
+abbrev pub test_tree : TestInMemory → Test
+test_tree (test.Expr e) = TestExpr (expr_tree e)
+test_tree (test.Call c) = TestCall (call_tree c)
 
 abbrev pub reference_tree : ReferenceInMemory → ReferenceType
 reference_tree reference.Object = JObject
@@ -77,37 +107,64 @@ reference_tree reference.ByteArray = JByteArray
 reference_tree reference.CharArray = JCharArray
 reference_tree reference.ObjectArray = JObjectArray
 
+abbrev pub element_tree : ElementInMemory → ElementType
+element_tree element.Jint = JInt
+element_tree element.Jshort = JShort
+element_tree element.Jbyte = JByte
+element_tree element.Jchar = JChar
+
 abbrev pub parameter_type_tree : ParameterTypeInMemory → ParameterType
 parameter_type_tree parameter.Jint = IntParameter
 parameter_type_tree (parameter.Reference r) = ReferenceParameter (reference_tree r)
 
 abbrev pub variable_type_tree : VariableTypeInMemory → VariableType
+variable_type_tree variable.Uint32 = UInt32
 variable_type_tree variable.Jint = JIntVariable
+variable_type_tree variable.Jsize = JSize
+variable_type_tree variable.Jboolean = JBoolean
+variable_type_tree variable.JfieldId = JFieldId
+variable_type_tree (variable.Reference r) = ReferenceVariable (reference_tree r)
 
 -- a return with a value or without
 abbrev pub return_tree : ℕ → Option ExprInMemory → Stmt
 return_tree line None = Return line
 return_tree line (Some e) = ReturnValue line (expr_tree e)
 
-abbrev pub form_tree : ℕ → Form → Stmt
-form_tree line (form.Declare t x r) = Declare line (variable_type_tree t) x (right_side_tree r)
-form_tree line (form.PutJint e) = PutJint line (expr_tree e)
-form_tree line (form.Return e) = return_tree line e
+-- what a statement of this line does; the statements of a block in memory are a row
+abbrev mutual
+  pub form_tree : ℕ → Form → Stmt
+  form_tree line (form.Declare t x r) = Declare line (variable_type_tree t) x (right_side_tree r)
+  form_tree line (form.DeclareBuffer t x r) = DeclareBuffer line (element_tree t) x (right_side_tree r)
+  form_tree line (form.DeclareChars x r) = DeclareChars line x (right_side_tree r)
+  form_tree line (form.DeclareArray t x size) = DeclareArray line (element_tree t) x size
+  form_tree line (form.Assign x r) = Assign line x (right_side_tree r)
+  form_tree line (form.AssignElement x i e) = AssignElement line x (expr_tree i) (expr_tree e)
+  form_tree line (form.Perform c) = Perform line (call_tree c)
+  form_tree line (form.PutJint e) = PutJint line (expr_tree e)
+  form_tree line (form.If test b) = If line (test_tree test) (block_tree b)
+  form_tree line (form.IfElse test b d) = IfElse line (test_tree test) (block_tree b) (block_tree d)
+  form_tree line (form.While test b) = While line (expr_tree test) (block_tree b)
+  form_tree line (form.Return e) = return_tree line e
+
+  pub block_tree : BlockInMemory → Block
+  block_tree (Block' count row end_line) = row_tree row end_line
+
+  pub row_tree : {count : _} → Row_of-Stmt count → ℕ → Block
+  row_tree end_of-Stmt end_line = End end_line
+  row_tree (more_of-Stmt line form rest) end_line = Next (form_tree line form) (row_tree rest end_line)
 
 abbrev pub stmt_tree : StmtInMemory → Stmt
 stmt_tree s = form_tree s.line s.form
 
--- statements, and the line of the brace behind them
+-- statements, and the line of the brace behind them; `block_is` says that a block's tree is that of its statements
 abbrev pub statements_tree : List StmtInMemory → ℕ → Block
 statements_tree [] end_line = End end_line
 statements_tree (s ∷ rest) end_line = Next (stmt_tree s) (statements_tree rest end_line)
 
-abbrev pub block_tree : BlockInMemory → Block
-block_tree b = statements_tree b.statements.items b.end_line
-
 abbrev pub result_tree : ResultInMemory → ResultType
 result_tree results.Void = Void
 result_tree results.Jint = IntResult
+result_tree (results.Reference r) = ReferenceResult (reference_tree r)
 
 abbrev pub parameter_tree : ParameterInMemory → Parameter
 parameter_tree p = record { type = parameter_type_tree p.kind; name = p.name }
@@ -122,7 +179,11 @@ function_tree f = record {
   body = block_tree f.body;
 }
 
+abbrev pub static_tree : StaticInMemory → Static
+static_tree s = record { line = s.line; type = reference_tree s.kind; name = s.name }
+
 abbrev pub item_tree : ItemInMemory → Item
+item_tree (item.Static s) = StaticItem (static_tree s)
 item_tree (item.Function f) = FunctionItem (function_tree f)
 
 abbrev pub unit_tree : List ItemInMemory → SourceUnit

@@ -15,11 +15,23 @@ pub struct Call {
 #[derive(Debug, Drop)]
 pub enum Argument {
     Value(Expr),
+    /// A string: the bytes between its quotes.
+    Text(Vec<u8>),
+    /// `&x`
+    AddressOf(Name),
 }
 
 /// What a variable is set to.
 #[derive(Debug, Drop)]
 pub enum RightSide {
     Expr(Expr),
+    Call(Call),
+}
+
+/// What an `if` tests.
+#[derive(Debug, Drop)]
+pub enum Test {
+    Expr(Expr),
+    /// Whether the call's result is 0.
     Call(Call),
 }

@@ -25,6 +25,19 @@ pub enum ReferenceType {
     ObjectArray,
 }
 
+/// The type of the elements of a buffer or a local array (JNI Specification, chapter 3, "Primitive Types").
+#[derive(Clone, Copy, Debug, PartialEq, Eq)]
+pub enum ElementType {
+    /// `jint`
+    Jint,
+    /// `jshort`
+    Jshort,
+    /// `jbyte`
+    Jbyte,
+    /// `jchar`
+    Jchar,
+}
+
 /// The type of a parameter.
 #[derive(Clone, Copy, Debug, PartialEq, Eq)]
 pub enum ParameterType {
@@ -33,9 +46,18 @@ pub enum ParameterType {
     Reference(ReferenceType),
 }
 
-/// The type of a variable that is declared.
+/// The type of a number, a flag, a reference or a field ID that is declared.
 #[derive(Clone, Copy, Debug, PartialEq, Eq)]
 pub enum VariableType {
+    /// `uint32_t`
+    Uint32,
     /// `jint`
     Jint,
+    /// `jsize`
+    Jsize,
+    /// `jboolean`
+    Jboolean,
+    /// `jfieldID`
+    JfieldId,
+    Reference(ReferenceType),
 }

@@ -11,15 +11,25 @@ pub enum Expr {
     Named(Constant),
     /// A name.
     Variable(Name),
+    /// An element of a named array or buffer, `x[e]`.
+    Element(Name, Box<Expr>),
     Prefix(PrefixOp, Box<Expr>),
     Binary(BinaryOp, Box<Expr>, Box<Expr>),
     /// Parentheses, which are kept.
     Paren(Box<Expr>),
 }
 
-/// A constant with a name (JNI Specification, chapter 4; ISO/IEC 9899:1999, 7.17).
+/// A constant with a name (JNI Specification, chapters 3 and 4; ISO/IEC 9899:1999, 7.17).
 #[derive(Clone, Copy, Debug, PartialEq, Eq)]
 pub enum Constant {
+    /// `JNI_TRUE`
+    True,
+    /// `JNI_FALSE`
+    False,
+    /// `JNI_COMMIT`
+    Commit,
+    /// `JNI_ABORT`
+    Abort,
     /// `NULL`
     Null,
 }
@@ -27,6 +37,8 @@ pub enum Constant {
 /// An operator in front of its operand, or a cast.
 #[derive(Clone, Copy, Debug, PartialEq, Eq)]
 pub enum PrefixOp {
+    /// `!`
+    LogicalNot,
     /// `~`
     Complement,
     /// `(uint32_t)`
@@ -38,16 +50,40 @@ pub enum PrefixOp {
 /// An operator between two operands.
 #[derive(Clone, Copy, Debug, PartialEq, Eq)]
 pub enum BinaryOp {
+    /// `||`
+    LogicalOr,
+    /// `&&`
+    LogicalAnd,
     /// `|`
     BitOr,
     /// `^`
     BitXor,
     /// `&`
     BitAnd,
+    /// `==`
+    Equal,
+    /// `!=`
+    NotEqual,
+    /// `<`
+    Less,
+    /// `<=`
+    LessEqual,
+    /// `>`
+    Greater,
+    /// `>=`
+    GreaterEqual,
+    /// `<<`
+    ShiftLeft,
+    /// `>>`
+    ShiftRight,
     /// `+`
     Add,
     /// `-`
     Subtract,
     /// `*`
     Multiply,
+    /// `/`
+    Divide,
+    /// `%`
+    Remainder,
 }

@@ -4,7 +4,7 @@ ghost use Rattle.std.specs.Prelude.{◌≡◌};
 ghost use Rattle.syntax.specs.Limits.{IsTree};
 ghost use Rattle.syntax.specs.Views.{unit_tree};
 
-use crate::declared_type::ParameterType;
+use crate::declared_type::{ParameterType, ReferenceType};
 use crate::name::Name;
 use crate::stmt::Block;
 use std::marker::Model;
@@ -12,7 +12,17 @@ use std::marker::Model;
 /// What stands in a program text outside of functions.
 #[derive(Debug, Drop)]
 pub enum Item {
+    Static(Static),
     Function(Function),
+}
+
+/// A reference that all functions share, `static jobject x = NULL;`.
+#[derive(Debug, Drop)]
+pub struct Static {
+    /// The line of its `static`, counted from 1.
+    pub line: usize,
+    pub kind: ReferenceType,
+    pub name: Name,
 }
 
 /// The function of a native method (JNI Specification, chapter 2, "Native Method Arguments").
@@ -43,6 +53,7 @@ pub enum ResultType {
     Void,
     /// `jint`
     Jint,
+    Reference(ReferenceType),
 }
 
 /// A program's items, in the order of the text. Its tree follows the operators' precedence and keeps the limits.

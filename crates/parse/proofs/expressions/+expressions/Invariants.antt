@@ -14,6 +14,9 @@ decreases-operand l = 3 * l.room + 1
 abbrev pub decreases-prefixed : goal.decreases-prefixed
 decreases-prefixed l = 3 * l.room
 
+abbrev pub decreases-index : goal.decreases-index
+decreases-index l = 3 * l.room
+
 abbrev pub invariant-expression-loop-op : goal.invariant-expression-loop-op
 invariant-expression-loop-op l = Climbs l.room l.least (expr_tree l.left) l.height (views l.rest) (expr_at l.room l.least (views l.lexemes))
 

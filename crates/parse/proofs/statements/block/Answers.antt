@@ -1,8 +1,9 @@
-use Rattle.std.proofs.Common.{◌+◌, ◌-◌, length, false, sym, ap, ◌∙◌, arith}
+use Rattle.std.proofs.Common.{◌+◌, length, false, sym, ◌∙◌}
 use Rattle.std.proofs.lemmas.Result.{err_from_is_err_and}
-use Rattle.parse.specs.Lexemes.{views}
+use Rattle.parse.specs.Lexemes.{line_at, views}
 use Rattle.syntax.specs.Views.{stmt_tree}
 use Rattle.parse.specs.Reading.{block_at}
+use Rattle.syntax.proofs.Blocks.{block_made}
 use Rattle.parse.proofs.Blocks.{fills_start, fills_done, fills_refuses, fills_fails, fills_on}
 use Rattle.parse.proofs.Sentences.{statement_takes}
 use Rattle.parse.proofs.statements.block.Goals as goal
@@ -19,18 +20,13 @@ returns-in_err-stmt c =
     let p = err_from_is_err_and c.from_residual.result c.from_residual.ensures.1 in
     rw (p.1, p.2) (fills_fails c.args.room c.statements.free c.statements.statements.items c.statements.returned (views c.statements.rest.now) (block_at c.args.room c.args.names (length (views c.args.lexemes.now) + 1) false (views c.args.lexemes.now)) c.statements.invariant c.in_err-stmt.field-0.0 (sym c.starts_with.ensures ∙ c.statements-test.true) c.if-returned.false c.in_err-stmt.ensures)
 
-pub overflow_sub-free : goal.overflow_sub-free
-overflow_sub-free c =
-    let few = (statement_takes c.args.room c.statements.free (views c.statements.rest.now) (stmt_tree c.in_ok-stmt.stmt, views c.in_ok-stmt.after.now) c.in_ok-stmt.ensures).few in
-    omega (arith, few, c.names_of-free.ensures)
-
 pub statements-smaller : goal.statements-smaller
-statements-smaller c = (statement_takes c.args.room c.statements.free (views c.statements.rest.now) (stmt_tree c.in_ok-stmt.stmt, views c.in_ok-stmt.after.now) c.in_ok-stmt.ensures).shorter
+statements-smaller c = (statement_takes c.args.room c.statements.free (views c.statements.rest.now) (stmt_tree c.in_ok-stmt.stmt, c.in_ok-stmt.left, views c.in_ok-stmt.after.now) c.in_ok-stmt.ensures).shorter
 
 pub statements-preserved : goal.statements-preserved
 statements-preserved c =
-    rw c.in_ok-push.ensures.items (fills_on c.args.room c.statements.free c.statements.statements.items c.statements.returned (views c.statements.rest.now) (block_at c.args.room c.args.names (length (views c.args.lexemes.now) + 1) false (views c.args.lexemes.now)) c.statements.invariant c.in_ok-stmt.stmt (c.statements.free - c.names_of-free.result) c.is_return-returned.result (views c.in_ok-stmt.after.now) (sym c.starts_with.ensures ∙ c.statements-test.true) c.if-returned.false c.in_ok-stmt.ensures (ap (λ n. c.statements.free - n) c.names_of-free.ensures) c.is_return-returned.ensures)
+    rw c.in_ok-push.ensures.items (fills_on c.args.room c.statements.free c.statements.statements.items c.statements.returned (views c.statements.rest.now) (block_at c.args.room c.args.names (length (views c.args.lexemes.now) + 1) false (views c.args.lexemes.now)) c.statements.invariant c.in_ok-stmt.stmt c.in_ok-stmt.left c.is_return-returned.result (views c.in_ok-stmt.after.now) (sym c.starts_with.ensures ∙ c.statements-test.true) c.if-returned.false c.in_ok-stmt.ensures c.is_return-returned.ensures)
 
 pub returns : goal.returns
 returns c =
-    rw (c.line_at-end_line.ensures, c.behind.ensures) (fills_done c.args.room c.statements.free c.statements.statements.items c.statements.returned (views c.statements.rest.now) (block_at c.args.room c.args.names (length (views c.args.lexemes.now) + 1) false (views c.args.lexemes.now)) c.statements.invariant (sym c.starts_with.ensures ∙ c.statements-test.false))
+    rw (c.line_at-end_line.ensures, c.behind.ensures, block_made (record { statements = c.statements.statements; end_line = line_at (views c.statements.rest.now) })) (fills_done c.args.room c.statements.free c.statements.statements.items c.statements.returned (views c.statements.rest.now) (block_at c.args.room c.args.names (length (views c.args.lexemes.now) + 1) false (views c.args.lexemes.now)) c.statements.invariant (sym c.starts_with.ensures ∙ c.statements-test.false))
