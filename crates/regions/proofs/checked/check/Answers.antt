@@ -1,27 +1,14 @@
 use Rattle.std.proofs.Common.{sym, ap, ◌∙◌, subst}
 use Rattle.std.specs.Prelude.{IsTrue}
+use Rattle.syntax.specs.Parts.{functions_of}
 use Rattle.syntax.specs.Views.{unit_tree}
 use Rattle.types.specs.BuiltCalls.{calls_are_built}
-use Rattle.std.proofs.lemmas.Result.{err_from_is_err_and}
-use Rattle.regions.specs.OpenEnds.{open_items}
-use Rattle.regions.proofs.OpenLemmas.{accepted-unit, faulty-unit, accepted-none}
+use Rattle.regions.specs.Findings.{first_fault}
+use Rattle.regions.proofs.UnitLemmas.{accepted-all, faulty-all, accepted-none, built-known}
 use Rattle.regions.proofs.checked.check.Goals as goal
 
-pub returns-in_err-check_items-clause-only : goal.returns-in_err-check_items-clause-only
-returns-in_err-check_items-clause-only c =
-    let same = c.items.ensures.same in
-    let calls = subst (λ items. IsTrue (calls_are_built (unit_tree items))) same c.items.ensures.calls in
-    λ accepted. absurd (accepted-none c.args.typed _ calls (sym (ap open_items same) ∙ c.in_err-check_items.ensures) accepted)
-
-pub returns-in_err-check_items-clause-first : goal.returns-in_err-check_items-clause-first
-returns-in_err-check_items-clause-first c =
-    let same = c.items.ensures.same in
-    let calls = subst (λ items. IsTrue (calls_are_built (unit_tree items))) same c.items.ensures.calls in
-    let p = err_from_is_err_and c.from_residual.result c.from_residual.ensures.1 in
-    rw (p.1, p.2) (faulty-unit c.args.typed _ calls (sym (ap open_items same) ∙ c.in_err-check_items.ensures))
+pub check_items-requires : goal.check_items-requires
+check_items-requires c = built-known _ c.items.ensures.calls
 
 pub of-requires : goal.of-requires
-of-requires c =
-    let same = c.items.ensures.same in
-    let calls = subst (λ items. IsTrue (calls_are_built (unit_tree items))) same c.items.ensures.calls in
-    accepted-unit c.args.typed calls (sym (ap open_items same) ∙ c.in_ok-check_items.ensures)
+of-requires c = accepted-all (functions_of (unit_tree c.args.typed)) (sym (ap (λ items. first_fault (functions_of (unit_tree items))) c.items.ensures.same) ∙ c.in_ok-check_items.ensures)
