@@ -1,5 +1,5 @@
 -- The table of effects in memory is that of the functions, and what the rules see of a call is what its effect says.
-use Rattle.std.proofs.Common.{◌≡◌, Bool, true, false, not, ◌||◌, List, [], ◌∷◌, map, Option, Some, None, is_some, refl, sym, ap, ◌∙◌, subst, bytes_eq, if◌then◌else◌, find, true≢false}
+use Rattle.std.proofs.Common.{◌≡◌, ◌<◌, Bool, true, false, not, ◌||◌, List, [], ◌∷◌, length, map, Option, Some, None, is_some, refl, sym, ap, ap₂, ◌∙◌, subst, arith, bytes_eq, if◌then◌else◌, find, true≢false}
 use Rattle.std.specs.List.{AllByRecursion}
 use Rattle.std.specs.Option.{option_map}
 use Rattle.std.specs.Prelude.{IsTrue}
@@ -7,13 +7,15 @@ use lib.Pointwise.{bytes_decides}
 use Rattle.base.specs.Bytes.{Identifier}
 use Rattle.base.specs.Element.{JInt, JShort, JByte, JChar}
 use Rattle.base.specs.Options.{some_passes}
-use Rattle.syntax.specs.Tree.{Commit, Named, Argument, Value}
+use Rattle.syntax.specs.declared.call.Argument.{Argument as ArgumentInMemory}
+use Rattle.syntax.specs.Tree.{Commit, Named, Argument, Value, Call}
+use Rattle.syntax.specs.Views.{argument_tree}
 use Rattle.types.specs.JniFunction.{Access, ElementsCopy, ArrayView, CharsCopy, CharsView, JniFunction, GetBuffer, ReleaseBuffer, DeleteLocalRef, PopLocalFrame}
 use Rattle.types.specs.Prototype.{prototype, all_functions, function_named}
 use Rattle.regions.specs.declared.calls.TheConstants.{EFFECTS}
-use Rattle.regions.specs.Effects.{Effect, Other, EffectCall, effect_of, effect_value, call_effect, named_effect, got, released, deleted, popped, is_forbidden}
+use Rattle.regions.specs.Effects.{Effect, Releases, Other, EffectCall, effect_of, effect_value, call_effect, named_effect, got, released, deleted, popped, is_forbidden}
 use Rattle.regions.specs.RegionRules.{is_critical_call}
-use Rattle.regions.specs.RegionStates.{FunctionCall, get_of, release_of, deleted_name, pops, has_commit}
+use Rattle.regions.specs.RegionStates.{FunctionCall, call_of, get_of, release_of, deleted_name, pops, has_commit}
 use Rattle.regions.proofs.Ways.{find_some}
 
 -- ---- the table
@@ -124,6 +126,34 @@ forbidden_is (Some (f, arguments)) = refl
 pub call_is : (arguments : List Argument) (effect : Effect) (o : Option JniFunction) → option_map effect_of o ≡ Some effect → ◌≡◌ {A = Option EffectCall} (Some (effect, arguments)) (option_map call_effect (option_map (λ f. (f, arguments)) o))
 call_is arguments effect None h = absurd cc
 call_is arguments effect (Some f) h = ap (λ (e : Option Effect). option_map (λ x. (x, arguments)) e) (sym h)
+
+-- what a statement calls is known
+known_of : (o : Option Call) (k : Call) → Some k ≡ o → not (some_passes (λ c. not (is_some (function_named c.function))) o) ≡ true → is_some (function_named k.function) ≡ true
+known_of None k e h = absurd cc
+known_of (Some j) k e h = positive (is_some (function_named k.function)) (subst (λ (c : Call). not (not (is_some (function_named c.function))) ≡ true) (sym (same k j e)) h)
+  where
+    same : (k j : Call) → Some k ≡ Some j → k ≡ j
+    same k j e = cc
+
+    positive : (b : Bool) → not (not b) ≡ true → b ≡ true
+    positive true h = refl
+    positive false h = h
+
+pub is_known : (o : Option Call) (k : Call) (name : Identifier) → Some k ≡ o → name ≡ k.function → not (some_passes (λ c. not (is_some (function_named c.function))) o) ≡ true → is_some (function_named name) ≡ true
+is_known o k name e n h = subst (λ (x : Identifier). is_some (function_named x) ≡ true) (sym n) (known_of o k e h)
+
+pub called_is : (k : Call) (o : Option Call) (name : Identifier) (arguments : List Argument) (effect : Effect) → Some k ≡ o → name ≡ k.function → arguments ≡ k.arguments
+    → option_map effect_of (function_named name) ≡ Some effect → ◌≡◌ {A = Option EffectCall} (Some (effect, arguments)) (option_map call_effect (call_of o))
+called_is k o name arguments effect e n a h =
+    call_is arguments effect (function_named name) h
+    ∙ ap₂ (λ (x : Identifier) (xs : List Argument). option_map call_effect (option_map (λ f. (f, xs)) (function_named x))) n a
+    ∙ ap (λ (x : Option Call). option_map call_effect (call_of x)) e
+
+-- a release wants two arguments
+pub few_released : (access : Access) (arguments : List ArgumentInMemory) → length arguments < 2 → released (Some (Releases access, map argument_tree arguments)) ≡ None
+few_released access [] few = refl
+few_released access (a ∷ []) few = refl
+few_released access (a ∷ b ∷ arguments) few = absurd (omega (arith, few))
 
 -- ---- modes
 

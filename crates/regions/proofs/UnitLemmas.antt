@@ -4,15 +4,15 @@ use Rattle.std.specs.Prelude.{IsTrue}
 use Rattle.std.specs.List.{list_all, AllByRecursion}
 use Rattle.std.specs.Option.{option_or}
 use Rattle.base.specs.Options.{some_passes}
-use Rattle.syntax.specs.Parts.{statements_of, own_call}
-use Rattle.syntax.specs.Tree.{Call, Block, End, Next, Function}
+use Rattle.syntax.specs.Parts.{functions_of, statements_of, own_call}
+use Rattle.syntax.specs.Tree.{Call, Block, End, Next, Function, Item, StaticItem, FunctionItem}
 use Rattle.types.specs.JniFunction.{JniFunction}
 use Rattle.types.specs.Prototype.{function_named}
 use Rattle.types.specs.BuiltCalls.{is_built_function, is_built_call, calls_unbuilt}
 use Rattle.regions.specs.declared.fault.CheckFault.{CheckFault}
 use Rattle.regions.specs.declared.fault.CheckFault.TheVariants.{Memory, Broken}
-use Rattle.regions.specs.Effects.{calls_known, are_known}
-use Rattle.regions.specs.Findings.{Finds, Refuses, end_line_of, fault_at_end, function_fault, first_fault}
+use Rattle.regions.specs.Effects.{calls_known, items_known}
+use Rattle.regions.specs.Findings.{Finds, Refuses, IfBroken, rule_of, fault_of, end_line_of, fault_at_end, function_fault, items_fault, first_fault}
 use Rattle.regions.specs.FirstFaults.{FirstInFunction, FirstInFunctions}
 use Rattle.regions.specs.RegionRules.{NoReturn}
 use Rattle.regions.specs.RegionStates.{state_at_entry}
@@ -103,7 +103,27 @@ known_call None h = refl
 known_call (Some c) h = known_function (function_named c.function) h
 
 -- what is built is known
-pub built-known : (functions : List Function) → list_all (λ f. list_all (λ s. not (calls_unbuilt s)) (statements_of f.body)) functions ≡ true → IsTrue (are_known functions)
-built-known functions h =
-    all_more (λ f. list_all (λ s. not (calls_unbuilt s)) (statements_of f.body)) (λ f. list_all calls_known (statements_of f.body))
-    (λ f k. all_more (λ s. not (calls_unbuilt s)) calls_known (λ s j. known_call (own_call s) j) (statements_of f.body) k) functions h
+pub built-known : (items : List Item) → list_all (λ f. list_all (λ s. not (calls_unbuilt s)) (statements_of f.body)) (functions_of (record { items = items })) ≡ true → IsTrue (items_known items)
+built-known [] h = refl
+built-known (StaticItem s ∷ items) h = built-known items h
+built-known (FunctionItem f ∷ items) h =
+    let both = both_hold (list_all (λ s. not (calls_unbuilt s)) (statements_of f.body)) (list_all (λ g. list_all (λ s. not (calls_unbuilt s)) (statements_of g.body)) (functions_of (record { items = items }))) h in
+    and_true (list_all calls_known (statements_of f.body)) (items_known items)
+      (all_more (λ s. not (calls_unbuilt s)) calls_known (λ s j. known_call (own_call s) j) (statements_of f.body) both.0)
+      (built-known items both.1)
+
+-- the faults of items are those of their functions
+pub items-fault : (items : List Item) → items_fault items ≡ first_fault (functions_of (record { items = items }))
+items-fault [] = refl
+items-fault (StaticItem s ∷ items) = items-fault items
+items-fault (FunctionItem f ∷ items) = ap (λ further. option_or (function_fault f) further) (items-fault items)
+
+-- ---- what is answered
+
+pub accepted-memory : (items : List Item) (e : CheckFault) → Refuses e (items_fault items) → AllByRecursion AcceptedFunction (functions_of (record { items = items })) → e ≡ Memory
+accepted-memory items Memory h accepted = refl
+accepted-memory items (Broken f) h accepted = absurd (accepted-none (functions_of (record { items = items })) (fault_of f) (sym (items-fault items) ∙ h) accepted)
+
+pub fault-first : (items : List Item) (e : CheckFault) → Refuses e (items_fault items) → IfBroken e (λ f. FirstInFunctions (rule_of f.rule) f.line (functions_of (record { items = items })))
+fault-first items Memory h = tt
+fault-first items (Broken f) h = faulty-all (functions_of (record { items = items })) (fault_of f) (sym (items-fault items) ∙ h)

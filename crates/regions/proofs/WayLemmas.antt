@@ -6,14 +6,16 @@ use Rattle.std.proofs.lemmas.List.Folds.{list_all-append}
 use Rattle.syntax.specs.declared.stmt.Form.{Form as FormInMemory}
 use Rattle.syntax.specs.declared.stmt.Form.TheVariants as form
 use Rattle.syntax.specs.declared.stmt.Stmt.{Stmt as StmtInMemory}
+use Rattle.syntax.specs.declared.stmt.Block.{Block as BlockInMemory, out-Block}
 use Rattle.syntax.specs.Parts.{statements_of, statements_within, line_of}
 use Rattle.syntax.specs.Tree.{Stmt, If, IfElse, While, Return, ReturnValue, Block, End, Next}
-use Rattle.syntax.specs.Views.{form_tree, stmt_tree, statements_tree}
+use Rattle.syntax.specs.Views.{form_tree, stmt_tree, statements_tree, block_tree}
+use Rattle.syntax.proofs.Blocks.{block_is}
 use Rattle.regions.specs.declared.fault.CheckFault.{CheckFault}
 use Rattle.regions.specs.declared.fault.CheckFault.TheVariants.{Memory, Broken}
 use Rattle.regions.specs.declared.walk.Way.{Way as WayInMemory}
 use Rattle.regions.specs.Effects.{calls_known}
-use Rattle.regions.specs.Findings.{fault_of}
+use Rattle.regions.specs.Findings.{fault_of, end_line_of}
 use Rattle.regions.specs.FirstFaults.{first_broken}
 use Rattle.regions.specs.RegionRules.{RegionRule, NoReturn}
 use Rattle.regions.specs.RegionStates.{RegionState}
@@ -124,3 +126,16 @@ second_stops line a r q (Broken f) h k = ap₂ (join_ways line) h k ∙ last lin
 pub turn_stops : (line : ℕ) (before : RegionState) (r : Result Way Fault) (e : CheckFault) → Stops e r → Stops e (turn_way line before r)
 turn_stops line before r Memory h = tt
 turn_stops line before r (Broken f) h = ap (turn_way line before) h
+
+-- ---- functions
+
+end_is : (items : List StmtInMemory) (end_line : ℕ) → end_line_of (statements_tree items end_line) ≡ end_line
+end_is [] end_line = refl
+end_is (s ∷ items) end_line = end_is items end_line
+
+pub end_line_is : (b : BlockInMemory) → end_line_of (block_tree b) ≡ (out-Block b).end_line
+end_line_is b = ap end_line_of (block_is b) ∙ end_is (out-Block b).statements.items (out-Block b).end_line
+
+-- an error that is passed on
+pub goes_err : (r : Result WayInMemory CheckFault) (e : CheckFault) (x : Result Way Fault) → r ≡ Err e → Stops e x → Goes r x
+goes_err r e x was h = subst (λ y. Goes y x) (sym was) h

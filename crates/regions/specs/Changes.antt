@@ -1,10 +1,11 @@
 -- The changes of what is known, as they lie in memory.
-use Rattle.std.specs.Prelude.{ℕ, List, Option, Some, None, bytes_eq, if◌then◌else◌}
+use Rattle.std.specs.Prelude.{ℕ, Bool, true, List, Option, Some, None, bytes_eq, if◌then◌else◌}
 use Rattle.std.specs.Option.{option_map}
 use Rattle.std.specs.Borrow.{Bor}
 use Rattle.base.specs.Bytes.{Identifier}
-use Rattle.syntax.specs.Tree.{Null, Equal, NotEqual, Named, Variable, Binary, Expr}
+use Rattle.syntax.specs.Tree.{BinaryOp, Equal, NotEqual, Variable, Binary, Expr}
 use Rattle.types.specs.JniFunction.{Access}
+use Rattle.types.specs.Sorts.{is_null}
 use Rattle.regions.specs.declared.standing.Access.{Access as AccessInMemory}
 use Rattle.regions.specs.declared.changes.Change.{Change}
 use Rattle.regions.specs.declared.changes.Change.TheVariants as change
@@ -29,7 +30,7 @@ change_value (change.Set x get) = λ y old. if bytes_eq x.now y then set_from (o
 
 -- a variable with what is known of it behind a change
 abbrev pub changed_named : Change → Identifier × VariableState → Identifier × VariableState
-changed_named change v = (v.0, change_value change v.0 v.1)
+changed_named made v = (v.0, change_value made v.0 v.1)
 
 -- ---- tests for NULL
 
@@ -37,10 +38,20 @@ changed_named change v = (v.0, change_value change v.0 v.1)
 pub data Tested : Type 0 where
   IsNull IsNotNull : Identifier → Tested
 
+-- the bare name that an expression is
+abbrev pub variable_of : Expr → Option Identifier
+variable_of (Variable x) = Some x
+variable_of e = None
+
+-- what a comparison tests: a name on its left side for NULL, where that is on its right
+abbrev pub tested_by : BinaryOp → Option Identifier → Bool → Option Tested
+tested_by Equal (Some x) true = Some (IsNull x)
+tested_by NotEqual (Some x) true = Some (IsNotNull x)
+tested_by op name null = None
+
 -- what an expression tests as a whole
 abbrev pub null_test_of : Expr → Option Tested
-null_test_of (Binary Equal (Variable x) (Named Null)) = Some (IsNull x)
-null_test_of (Binary NotEqual (Variable x) (Named Null)) = Some (IsNotNull x)
+null_test_of (Binary op a b) = tested_by op (variable_of a) (is_null b)
 null_test_of e = None
 
 -- a test in memory

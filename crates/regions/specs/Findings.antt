@@ -1,7 +1,7 @@
 -- What a check finds: the first fault, or none.
 use Rattle.std.specs.Prelude.{◌≡◌, ℕ, List, [], ◌∷◌, Option, Some, None, Result, Ok, Err}
 use Rattle.std.specs.Option.{option_or}
-use Rattle.syntax.specs.Tree.{Block, End, Next, Function}
+use Rattle.syntax.specs.Tree.{Block, End, Next, Function, Item, StaticItem, FunctionItem}
 use Rattle.regions.specs.declared.fault.RegionRule.{RegionRule as RuleInMemory}
 use Rattle.regions.specs.declared.fault.RegionRule.TheVariants as rules
 use Rattle.regions.specs.declared.fault.RegionFault.{RegionFault}
@@ -62,6 +62,16 @@ fault_at_end (Ok Returned) line = None
 -- a function's first fault
 abbrev pub function_fault : Function → Option Fault
 function_fault f = fault_at_end (way_of_block (state_at_entry f) (state_at_entry f) f.body) (end_line_of f.body)
+
+-- the fault of an item
+abbrev pub item_fault : Item → Option Fault
+item_fault (StaticItem s) = None
+item_fault (FunctionItem f) = function_fault f
+
+-- the first fault of items
+abbrev pub items_fault : List Item → Option Fault
+items_fault [] = None
+items_fault (item ∷ items) = let further = items_fault items in option_or (item_fault item) further
 
 -- the first fault of functions
 abbrev pub first_fault : List Function → Option Fault

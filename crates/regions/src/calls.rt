@@ -7,7 +7,7 @@ ghost use Rattle.syntax.specs.Views.{argument_tree, call_tree, form_tree};
 ghost use Rattle.types.specs.Prototype.{function_named};
 ghost use Rattle.regions.specs.RegionStates.{argument_name, first_name, has_commit, function_called};
 ghost use Rattle.regions.specs.Standings.{access_value};
-ghost use Rattle.regions.specs.Effects.{effect_of, effect_value, call_effect, made_value, release_value, calls_known, got, released, deleted, popped, is_forbidden, named_effect, row_value};
+ghost use Rattle.regions.specs.Effects.{Releases, effect_of, effect_value, call_effect, made_value, release_value, calls_known, got, released, deleted, popped, is_forbidden, named_effect, row_value};
 
 use crate::standing::{Access, is_critical};
 use syntax::{Argument, Call, Constant, ElementType, Expr, Form, RightSide, Test};
@@ -172,6 +172,7 @@ fn is_commit(argument: &Argument) -> bool
 }
 
 /// Whether one of the arguments is.
+#[tactic(auto, using(crate::proofs::EffectLemmas::commit_first))]
 fn has_commit(arguments: &[Argument]) -> bool
     ensures { result ≡ has_commit (map argument_tree arguments.now) }
 {
@@ -188,10 +189,29 @@ pub(crate) fn got<'a>(call: Option<MadeCall<'a>>) -> Option<(Access, Option<&'a 
     ensures { option_map (λ g. (access_value g.0, option_map (λ x. x.now) g.1)) result ≡ got (option_map made_value call.entry) }
 {
     match call {
-        Some(MadeCall {
-            effect: Effect::Gets(access),
-            arguments,
-        }) => Some((access, first_name(arguments))),
+        Some(c) => match c.effect {
+            Effect::Gets(access) => Some((access, first_name(c.arguments))),
+            Effect::Releases(_) => None,
+            Effect::Deletes => None,
+            Effect::Pops => None,
+            Effect::Other => None,
+        },
+        None => None,
+    }
+}
+
+/// What a release of this access with these arguments releases.
+#[tactic(auto, using(crate::proofs::EffectLemmas::few_released))]
+fn release_with(access: Access, arguments: &[Argument]) -> Option<Release<'_>>
+    ensures { option_map release_value result ≡ released (Some (Releases (access_value access), map argument_tree arguments.now)) }
+{
+    match arguments {
+        [object, buffer, modes @ ..] => Some(Release {
+            access,
+            object: argument_name(object),
+            buffer: argument_name(buffer),
+            commits: has_commit(modes),
+        }),
         _ => None,
     }
 }
@@ -201,19 +221,14 @@ pub(crate) fn released<'a>(call: Option<MadeCall<'a>>) -> Option<Release<'a>>
     ensures { option_map release_value result ≡ released (option_map made_value call.entry) }
 {
     match call {
-        Some(MadeCall {
-            effect: Effect::Releases(access),
-            arguments,
-        }) => match arguments {
-            [object, buffer, modes @ ..] => Some(Release {
-                access,
-                object: argument_name(object),
-                buffer: argument_name(buffer),
-                commits: has_commit(modes),
-            }),
-            _ => None,
+        Some(c) => match c.effect {
+            Effect::Releases(access) => release_with(access, c.arguments),
+            Effect::Gets(_) => None,
+            Effect::Deletes => None,
+            Effect::Pops => None,
+            Effect::Other => None,
         },
-        _ => None,
+        None => None,
     }
 }
 
@@ -222,11 +237,14 @@ pub(crate) fn deleted<'a>(call: Option<MadeCall<'a>>) -> Option<&'a [u8]>
     ensures { option_map (λ x. x.now) result ≡ deleted (option_map made_value call.entry) }
 {
     match call {
-        Some(MadeCall {
-            effect: Effect::Deletes,
-            arguments,
-        }) => first_name(arguments),
-        _ => None,
+        Some(c) => match c.effect {
+            Effect::Deletes => first_name(c.arguments),
+            Effect::Gets(_) => None,
+            Effect::Releases(_) => None,
+            Effect::Pops => None,
+            Effect::Other => None,
+        },
+        None => None,
     }
 }
 
@@ -235,11 +253,14 @@ pub(crate) fn popped(call: Option<MadeCall>) -> bool
     ensures { result ≡ popped (option_map made_value call.entry) }
 {
     match call {
-        Some(MadeCall {
-            effect: Effect::Pops,
-            ..
-        }) => true,
-        _ => false,
+        Some(c) => match c.effect {
+            Effect::Pops => true,
+            Effect::Gets(_) => false,
+            Effect::Releases(_) => false,
+            Effect::Deletes => false,
+            Effect::Other => false,
+        },
+        None => false,
     }
 }
 

@@ -1,14 +1,15 @@
 //! The state behind a statement, and on the ways of a test.
 
-ghost use Rattle.std.specs.Prelude.{◌≡◌, ℕ, OnOk, IsTrue};
+ghost use Rattle.std.specs.Prelude.{◌≡◌, ℕ, true, OnOk, IsTrue};
 ghost use Rattle.std.specs.Option.{option_map};
-ghost use Rattle.syntax.specs.Views.{expr_tree, test_tree, form_tree};
+ghost use Rattle.syntax.specs.Views.{expr_tree, binary_tree, test_tree, form_tree};
+ghost use Rattle.types.specs.Sorts.{is_null};
 ghost use Rattle.regions.specs.Regions.{made_usable, where_true, where_false};
 ghost use Rattle.regions.specs.RegionStates.{BufferIn, with_each, with_new, with_some_changed, after_pop, after_release, made_free, killed, killed_from, buffer_from, state_after};
 ghost use Rattle.regions.specs.Standings.{standing_value, named_value, state_value};
 ghost use Rattle.regions.specs.Effects.{made_value, release_value, calls_known};
 ghost use Rattle.regions.specs.Judgements.{set_from, effected, settled};
-ghost use Rattle.regions.specs.Changes.{get_value, change_value, changed_named, null_test_of, test_value, taught_true, taught_false};
+ghost use Rattle.regions.specs.Changes.{get_value, change_value, changed_named, variable_of, tested_by, null_test_of, test_value, taught_true, taught_false};
 
 use crate::calls::{MadeCall, Release, called, deleted, got, popped, released};
 use crate::standing::{Access, Standing, State, Variable, is_same};
@@ -259,23 +260,66 @@ pub(crate) fn pass<'a>(state: &mut State<'a>, form: &'a Form) -> Result<(), Allo
     settle(state, form, call)
 }
 
+/// The bare name that an expression is.
+fn variable_of(e: &Expr) -> Option<&[u8]>
+    ensures { option_map (λ x. x.now) result ≡ variable_of (expr_tree e.now) }
+{
+    match e {
+        Expr::Variable(x) => Some(x.as_bytes()),
+        Expr::Number { .. } => None,
+        Expr::Named(_) => None,
+        Expr::Element(..) => None,
+        Expr::Prefix(..) => None,
+        Expr::Binary(..) => None,
+        Expr::Paren(_) => None,
+    }
+}
+
+/// Whether an expression is NULL.
+fn is_null(e: &Expr) -> bool
+    ensures { result ≡ is_null (expr_tree e.now) }
+{
+    matches!(e, Expr::Named(Constant::Null))
+}
+
+/// What a comparison of this name with NULL tests.
+#[tactic(auto, using(crate::proofs::ChangeLemmas::test_rules))]
+fn tested_by(op: BinaryOp, name: Option<&[u8]>) -> Option<NullTest<'_>>
+    ensures { option_map test_value result ≡ tested_by (binary_tree op) (option_map (λ x. x.now) name.entry) true }
+{
+    match name {
+        Some(x) => match op {
+            BinaryOp::Equal => Some(NullTest::Is(x)),
+            BinaryOp::NotEqual => Some(NullTest::IsNot(x)),
+            _ => None,
+        },
+        None => None,
+    }
+}
+
+/// What a comparison of these operands tests.
+#[tactic(auto, using(crate::proofs::ChangeLemmas::test_rules))]
+fn comparison<'a>(op: BinaryOp, left: &'a Expr, right: &Expr) -> Option<NullTest<'a>>
+    ensures { option_map test_value result ≡ tested_by (binary_tree op) (variable_of (expr_tree left.now)) (is_null (expr_tree right.now)) }
+{
+    if is_null(right) {
+        return tested_by(op, variable_of(left));
+    }
+    None
+}
+
 /// What an expression tests for NULL as a whole.
 fn null_test(e: &Expr) -> Option<NullTest<'_>>
     ensures { option_map test_value result ≡ null_test_of (expr_tree e.now) }
 {
-    let Expr::Binary(op, left, right) = e else {
-        return None;
-    };
-    let Expr::Variable(x) = &**left else {
-        return None;
-    };
-    let Expr::Named(Constant::Null) = &**right else {
-        return None;
-    };
-    match op {
-        BinaryOp::Equal => Some(NullTest::Is(x.as_bytes())),
-        BinaryOp::NotEqual => Some(NullTest::IsNot(x.as_bytes())),
-        _ => None,
+    match e {
+        Expr::Binary(op, left, right) => comparison(*op, left, right),
+        Expr::Number { .. } => None,
+        Expr::Named(_) => None,
+        Expr::Variable(_) => None,
+        Expr::Element(..) => None,
+        Expr::Prefix(..) => None,
+        Expr::Paren(_) => None,
     }
 }
 

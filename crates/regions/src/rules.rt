@@ -1,7 +1,7 @@
 //! The rules on buffers, references and frames that one statement can break.
 
 ghost use Rattle.std.specs.Prelude.{◌≡◌, ℕ, bytes_eq, IsTrue};
-ghost use Rattle.std.specs.Option.{option_map};
+ghost use Rattle.std.specs.Option.{option_map, is_some};
 ghost use Rattle.base.specs.Options.{some_passes};
 ghost use Rattle.syntax.specs.Parts.{assigned_name};
 ghost use Rattle.syntax.specs.Views.{form_tree};
@@ -9,7 +9,7 @@ ghost use Rattle.regions.specs.FirstFaults.{first_broken};
 ghost use Rattle.regions.specs.RegionRules.{CallWhileCritical, ReturnWithBuffer, HeldBuffer, UntestedBuffer, WrongBuffer, ReturnInFrame, PopLastFrame, DeadReference, ArrayInUse, WrongLevel, is_return, is_put_jint, is_level, is_mismatched};
 ghost use Rattle.regions.specs.RegionStates.{state_of};
 ghost use Rattle.regions.specs.Standings.{standing_value, state_value, asks, held_in};
-ghost use Rattle.regions.specs.Effects.{made_value, release_value, calls_known};
+ghost use Rattle.regions.specs.Effects.{made_value, release_value, calls_known, got};
 ghost use Rattle.regions.specs.Findings.{rule_of};
 ghost use Rattle.regions.specs.Judgements.{judged, first_judged, is_wrong_release, is_other_level, frames_after, has_young_array, pops_array, gets_elsewhere};
 
@@ -97,10 +97,20 @@ fn breaks_return(state: &State, form: &Form, call: Option<MadeCall>) -> bool
     is_return(form) && holds_buffer(state)
 }
 
+/// Whether a call is a Get.
+fn gets(call: Option<MadeCall>) -> bool
+    ensures { result ≡ is_some (got (option_map made_value call.entry)) }
+{
+    match got(call) {
+        Some(_) => true,
+        None => false,
+    }
+}
+
 fn breaks_held(state: &State, form: &Form, call: Option<MadeCall>) -> bool
     ensures { (line : ℕ) → result ≡ judged HeldBuffer (state_value state.now) (form_tree line form.now) (option_map made_value call.entry) }
 {
-    got(call).is_some() && some_is(state, Condition::Held, assigned_name(form))
+    gets(call) && some_is(state, Condition::Held, assigned_name(form))
 }
 
 /// Whether an untested buffer is released.

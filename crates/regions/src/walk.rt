@@ -1,19 +1,19 @@
 //! The ways through a function.
 
-ghost use Rattle.std.specs.Prelude.{◌≡◌, ℕ, not, ◌&&◌, bytes_eq, Some, Ok, Err, filter, IfOk, IsTrue};
+ghost use Rattle.std.specs.Prelude.{◌≡◌, ℕ, not, ◌&&◌, bytes_eq, Some, Ok, Err, filter, map, IfOk, IsTrue};
 ghost use Rattle.std.specs.List.{list_all};
 ghost use lib.Pointwise.{pointwise};
-ghost use Rattle.syntax.specs.Parts.{functions_of, statements_of, statements_within};
+ghost use Rattle.syntax.specs.Parts.{statements_of, statements_within};
 ghost use Rattle.syntax.specs.Tree.{End};
-ghost use Rattle.syntax.specs.Views.{block_tree, stmt_tree, test_tree, form_tree, function_tree, unit_tree};
+ghost use Rattle.syntax.specs.Views.{block_tree, stmt_tree, test_tree, form_tree, function_tree, item_tree};
 ghost use Rattle.regions.specs.RegionStates.{state_at_entry, state_after};
 ghost use Rattle.regions.specs.RegionRules.{is_held};
 ghost use Rattle.regions.specs.Regions.{On, left, has_variable, where_true, where_false};
 ghost use Rattle.regions.specs.SameStates.{same_variable, same_named, same_state};
 ghost use Rattle.regions.specs.Ways.{join_ways, turn_way, way_of, way_of_block};
 ghost use Rattle.regions.specs.Standings.{standing_value, variables_value, state_value};
-ghost use Rattle.regions.specs.Effects.{calls_known, are_known};
-ghost use Rattle.regions.specs.Findings.{rule_of, Finds, function_fault, first_fault};
+ghost use Rattle.regions.specs.Effects.{calls_known, item_known, items_known};
+ghost use Rattle.regions.specs.Findings.{rule_of, Finds, function_fault, item_fault, items_fault};
 ghost use Rattle.regions.specs.Walks.{holds_other, way_value, Goes, inner_way};
 
 use crate::changes::{pass, take_false, take_true};
@@ -379,17 +379,25 @@ fn check_function(alloc: Global, f: &Function) -> Result<(), CheckFault>
     }
 }
 
+/// The ways through an item.
+fn check_item(alloc: Global, item: &Item) -> Result<(), CheckFault>
+    requires { IsTrue (item_known (item_tree item.now)) }
+    ensures { Finds result (item_fault (item_tree item.now)) }
+{
+    match item {
+        Item::Static(_) => Ok(()),
+        Item::Function(f) => check_function(alloc, f),
+    }
+}
+
 /// The ways through the functions of a unit.
 #[tactic(auto, using(crate::proofs::UnitLemmas::finds_rules))]
 pub(crate) fn check_items(alloc: Global, items: &[Item]) -> Result<(), CheckFault>
-    requires { IsTrue (are_known (functions_of (unit_tree items.now))) }
-    ensures { Finds result (first_fault (functions_of (unit_tree items.now))) }
+    requires { IsTrue (items_known (map item_tree items.now)) }
+    ensures { Finds result (items_fault (map item_tree items.now)) }
 {
     for item in items {
-        match item {
-            Item::Static(_) => {}
-            Item::Function(f) => check_function(alloc, f)?,
-        }
+        check_item(alloc, item)?;
     }
     Ok(())
 }
