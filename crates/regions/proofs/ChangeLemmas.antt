@@ -1,5 +1,5 @@
 -- A test for NULL teaches what the definitions say.
-use Rattle.std.proofs.Common.{◌≡◌, ℕ, Bool, false, Option, Some, None, ◌+◌, ◌<◌, List, ◌++◌, length, map, take, drop, get_or, refl, sym, ap, ◌∙◌, arith}
+use Rattle.std.proofs.Common.{◌≡◌, ℕ, zero, suc, Bool, false, Option, Some, None, ◌+◌, ◌<◌, ◌≤◌, List, [], ◌∷◌, ◌++◌, append-nil, ap₂, length, map, take, drop, get_or, refl, sym, ap, ◌∙◌, arith}
 use Rattle.base.specs.Bytes.{Identifier}
 use Rattle.std.proofs.Math.ListN.{set}
 use Rattle.std.proofs.lemmas.List.{map-set, length-map, get_or-map}
@@ -49,3 +49,22 @@ change_more change xs ys i v w lt long done read is =
     ∙ ap (λ (x : NamedState). set (variables_value ys) i x) is
     ∙ map_over_more (changed_named change) (variables_value xs) (variables_value ys) i (named_value v) (omega (arith, length-map xs named_value)) done
         (ap named_value read ∙ sym (get_or-map named_value ys i v (named_value v) lt))
+
+take_past : {A : Type 0} (i : ℕ) (xs : List A) → length xs ≤ i → take i xs ≡ xs
+take_past zero [] h = refl
+take_past zero (x ∷ xs) h = absurd (omega arith)
+take_past (suc i) [] h = refl
+take_past (suc i) (x ∷ xs) h = ap (λ ys. x ∷ ys) (take_past i xs (omega arith))
+
+drop_past : {A : Type 0} (i : ℕ) (xs : List A) → length xs ≤ i → drop i xs ≡ []
+drop_past zero [] h = refl
+drop_past zero (x ∷ xs) h = absurd (omega arith)
+drop_past (suc i) [] h = refl
+drop_past (suc i) (x ∷ xs) h = drop_past i xs (omega arith)
+
+-- all are changed
+pub change_all : (change : Change) (xs ys : List VariableInMemory) (i : ℕ) → length xs ≤ i
+    → variables_value ys ≡ map (changed_named change) (take i (variables_value xs)) ++ drop i (variables_value xs) → variables_value ys ≡ map (changed_named change) (variables_value xs)
+change_all change xs ys i h done =
+    let long : length (variables_value xs) ≤ i = omega (arith, length-map xs named_value) in
+    done ∙ ap₂ (λ (a b : List NamedState). map (changed_named change) a ++ b) (take_past i (variables_value xs) long) (drop_past i (variables_value xs) long) ∙ append-nil (map (changed_named change) (variables_value xs))

@@ -41,7 +41,7 @@ IsFound f = function_named (prototype f).name ≡ Some f
 
 own_names : AllByRecursion IsFound special
 unfolding function_named
-own_names = (refl, refl, refl, refl, refl, refl, refl, refl, refl, refl, refl, refl, refl, refl, refl, refl, tt)
+own_names = (refl, (refl, (refl, (refl, (refl, (refl, (refl, (refl, (refl, (refl, (refl, (refl, (refl, (refl, (refl, (refl, tt))))))))))))))))
 
 -- no other function has an effect
 abbrev IsNamedElse : Identifier → JniFunction → Type 0
@@ -49,21 +49,21 @@ IsNamedElse name f = bytes_eq (prototype f).name name ≡ false
 
 else_other : (name : Identifier) (f : JniFunction) → bytes_eq (prototype f).name name ≡ true → AllByRecursion (IsNamedElse name) special → effect_of f ≡ Other
 else_other name DeleteLocalRef h all = absurd (true≢false (sym h ∙ all.0))
-else_other name PopLocalFrame h all = absurd (true≢false (sym h ∙ all.1))
-else_other name (GetBuffer (ElementsCopy JInt)) h all = absurd (true≢false (sym h ∙ all.2))
-else_other name (GetBuffer (ElementsCopy JShort)) h all = absurd (true≢false (sym h ∙ all.3))
-else_other name (GetBuffer (ElementsCopy JByte)) h all = absurd (true≢false (sym h ∙ all.4))
-else_other name (GetBuffer (ElementsCopy JChar)) h all = absurd (true≢false (sym h ∙ all.5))
-else_other name (GetBuffer ArrayView) h all = absurd (true≢false (sym h ∙ all.6))
-else_other name (GetBuffer CharsCopy) h all = absurd (true≢false (sym h ∙ all.7))
-else_other name (GetBuffer CharsView) h all = absurd (true≢false (sym h ∙ all.8))
-else_other name (ReleaseBuffer (ElementsCopy JInt)) h all = absurd (true≢false (sym h ∙ all.9))
-else_other name (ReleaseBuffer (ElementsCopy JShort)) h all = absurd (true≢false (sym h ∙ all.10))
-else_other name (ReleaseBuffer (ElementsCopy JByte)) h all = absurd (true≢false (sym h ∙ all.11))
-else_other name (ReleaseBuffer (ElementsCopy JChar)) h all = absurd (true≢false (sym h ∙ all.12))
-else_other name (ReleaseBuffer ArrayView) h all = absurd (true≢false (sym h ∙ all.13))
-else_other name (ReleaseBuffer CharsCopy) h all = absurd (true≢false (sym h ∙ all.14))
-else_other name (ReleaseBuffer CharsView) h all = absurd (true≢false (sym h ∙ all.15))
+else_other name PopLocalFrame h all = absurd (true≢false (sym h ∙ all.1.0))
+else_other name (GetBuffer (ElementsCopy JInt)) h all = absurd (true≢false (sym h ∙ all.1.1.0))
+else_other name (GetBuffer (ElementsCopy JShort)) h all = absurd (true≢false (sym h ∙ all.1.1.1.0))
+else_other name (GetBuffer (ElementsCopy JByte)) h all = absurd (true≢false (sym h ∙ all.1.1.1.1.0))
+else_other name (GetBuffer (ElementsCopy JChar)) h all = absurd (true≢false (sym h ∙ all.1.1.1.1.1.0))
+else_other name (GetBuffer ArrayView) h all = absurd (true≢false (sym h ∙ all.1.1.1.1.1.1.0))
+else_other name (GetBuffer CharsCopy) h all = absurd (true≢false (sym h ∙ all.1.1.1.1.1.1.1.0))
+else_other name (GetBuffer CharsView) h all = absurd (true≢false (sym h ∙ all.1.1.1.1.1.1.1.1.0))
+else_other name (ReleaseBuffer (ElementsCopy JInt)) h all = absurd (true≢false (sym h ∙ all.1.1.1.1.1.1.1.1.1.0))
+else_other name (ReleaseBuffer (ElementsCopy JShort)) h all = absurd (true≢false (sym h ∙ all.1.1.1.1.1.1.1.1.1.1.0))
+else_other name (ReleaseBuffer (ElementsCopy JByte)) h all = absurd (true≢false (sym h ∙ all.1.1.1.1.1.1.1.1.1.1.1.0))
+else_other name (ReleaseBuffer (ElementsCopy JChar)) h all = absurd (true≢false (sym h ∙ all.1.1.1.1.1.1.1.1.1.1.1.1.0))
+else_other name (ReleaseBuffer ArrayView) h all = absurd (true≢false (sym h ∙ all.1.1.1.1.1.1.1.1.1.1.1.1.1.0))
+else_other name (ReleaseBuffer CharsCopy) h all = absurd (true≢false (sym h ∙ all.1.1.1.1.1.1.1.1.1.1.1.1.1.1.0))
+else_other name (ReleaseBuffer CharsView) h all = absurd (true≢false (sym h ∙ all.1.1.1.1.1.1.1.1.1.1.1.1.1.1.1.0))
 else_other name f h all = refl
 
 abbrev effect_in : Identifier → Option Effect

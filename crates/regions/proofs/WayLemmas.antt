@@ -1,5 +1,5 @@
 -- The walk over the ways in memory is that of the definitions.
-use Rattle.std.proofs.Common.{◌≡◌, ℕ, zero, suc, ◌+◌, ◌<◌, ◌≤◌, Bool, true, List, [], ◌∷◌, ◌++◌, length, get_or, drop, Option, Some, None, Result, Ok, Err, refl, sym, ap, ap₂, ◌∙◌, subst, arith, add-one, drop-cons}
+use Rattle.std.proofs.Common.{◌≡◌, ℕ, zero, suc, ◌+◌, ◌<◌, ◌≤◌, Bool, true, false, not, List, [], ◌∷◌, ◌++◌, length, get_or, drop, Option, Some, None, Result, Ok, Err, refl, sym, ap, ap₂, ◌∙◌, subst, arith, add-one, drop-cons}
 use Rattle.std.specs.Prelude.{IsTrue}
 use Rattle.std.specs.List.{list_all}
 use Rattle.std.proofs.lemmas.List.Folds.{list_all-append}
@@ -17,11 +17,13 @@ use Rattle.regions.specs.declared.walk.Way.{Way as WayInMemory}
 use Rattle.regions.specs.Effects.{calls_known}
 use Rattle.regions.specs.Findings.{fault_of, end_line_of}
 use Rattle.regions.specs.FirstFaults.{first_broken}
-use Rattle.regions.specs.RegionRules.{RegionRule, NoReturn}
+use Rattle.regions.specs.RegionRules.{RegionRule, HeldBuffer, NoReturn}
 use Rattle.regions.specs.RegionStates.{RegionState}
-use Rattle.regions.specs.Regions.{Way, On, Returned}
-use Rattle.regions.specs.Walks.{Stops, Goes, go_on, inner_way}
-use Rattle.regions.specs.Ways.{Fault, own_way, behind, returned_before, join_ways, turn_way, way_of, way_of_block}
+use Rattle.regions.specs.Regions.{Way, On, Returned, left}
+use Rattle.regions.specs.Walks.{holds_other, Stops, Goes, go_on, inner_way}
+use Rattle.regions.specs.Ways.{Fault, way_if, own_way, behind, returned_before, join_ways, turn_way, way_of, way_of_block}
+use Rattle.syntax.specs.declared.unit.Item.{Item as ItemInMemory}
+use Rattle.regions.proofs.StateLemmas.{own_is}
 use Rattle.regions.proofs.UnitLemmas.{both_hold}
 
 -- ---- answers along equations
@@ -139,3 +141,19 @@ end_line_is b = ap end_line_of (block_is b) ∙ end_is (out-Block b).statements.
 -- an error that is passed on
 pub goes_err : (r : Result WayInMemory CheckFault) (e : CheckFault) (x : Result Way Fault) → r ≡ Err e → Stops e x → Goes r x
 goes_err r e x was h = subst (λ y. Goes y x) (sym was) h
+
+-- ---- ends of blocks
+
+pub end_held : (outer before : RegionState) (line : ℕ) → true ≡ holds_other outer before → way_of_block outer before (End line) ≡ Err (line, HeldBuffer)
+end_held outer before line h = ap (λ b. way_if (not b) (On (left outer before)) (line, HeldBuffer)) (own_is outer before ∙ sym h)
+
+pub end_left : (outer before : RegionState) (line : ℕ) → false ≡ holds_other outer before → way_of_block outer before (End line) ≡ Ok (On (left outer before))
+end_left outer before line h = ap (λ b. way_if (not b) (On (left outer before)) (line, HeldBuffer)) (own_is outer before ∙ sym h)
+
+pub behind_line : (outer : RegionState) (s : StmtInMemory) (rest : Block) → go_on outer Returned (Next (stmt_tree s) rest) ≡ Err (s.line, NoReturn)
+behind_line outer s rest = ap (λ n. Err (n, NoReturn)) (line_is s.line s.form)
+
+-- ---- items
+
+pub item_next : (items : List ItemInMemory) (i : ℕ) (item : ItemInMemory) → i < length items → item ≡ get_or items i item → drop i items ≡ item ∷ drop (i + 1) items
+item_next items i item h e = rw add-one (drop-cons items i item h ∙ ap (λ x. x ∷ drop (suc i) items) (sym e))
