@@ -4,6 +4,7 @@ use Rattle.std.specs.List.{list_all}
 use Rattle.syntax.specs.declared.stmt.Stmt.{Stmt as StmtInMemory}
 use Rattle.syntax.specs.declared.stmt.Block.{out-Block}
 use Rattle.syntax.specs.declared.stmt.Form.{Form as FormInMemory}
+use Rattle.syntax.specs.declared.stmt.Form.{the_lemmas}
 use Rattle.syntax.specs.Parts.{statements_of, statements_within}
 use Rattle.syntax.specs.Tree.{Block, Next}
 use Rattle.syntax.specs.Views.{form_tree, stmt_tree, block_tree, statements_tree}
@@ -34,7 +35,7 @@ block_way-stmt_way-requires t c =
     let i = c.loop-stmt.stmt-index in
     let s = c.stmt-item.result in
     let end_line = (out-Block c.args.block.now).end_line in
-    (search rules, first_known (stmt_tree s) (statements_tree (drop (i + 1) items) end_line) (known_next items i s end_line c.loop-stmt-test.true c.stmt-item.is c.loop-stmt.invariant.known))
+    (search (rules, the_lemmas), first_known (stmt_tree s) (statements_tree (drop (i + 1) items) end_line) (known_next items i s end_line c.loop-stmt-test.true c.stmt-item.is c.loop-stmt.invariant.known))
 
 pub block_way-returns-in-Returned : goal.block_way-returns-in-Returned
 block_way-returns-in-Returned t c =
@@ -71,13 +72,13 @@ block_way-loop-stmt-preserved t c =
 -- ---- statements
 
 pub if_else_way-block_way-requires-2 : goal.if_else_way-block_way-requires-2
-if_else_way-block_way-requires-2 t c = (search rules, c.requires.else_known)
+if_else_way-block_way-requires-2 t c = (search (rules, the_lemmas), c.requires.else_known)
 
 pub inner_way-if_else_way-requires : goal.inner_way-if_else_way-requires
 inner_way-if_else_way-requires t c =
     let h = subst (λ (f : FormInMemory). IsTrue (list_all calls_known (statements_within (form_tree c.args.line f)))) c.in-IfElse.is c.requires in
     let both = two_known (block_tree c.in-IfElse.b) (block_tree c.in-IfElse.d) (both_hold _ _ h).1 in
-    (search rules, (both.0, both.1))
+    (search (rules, the_lemmas), (both.0, both.1))
 
 pub stmt_way-first_broken-requires : goal.stmt_way-first_broken-requires
 stmt_way-first_broken-requires t c = λ line. known_anywhere c.args.stmt.now.form c.args.stmt.now.line line (own_known (stmt_tree c.args.stmt.now) c.requires)
