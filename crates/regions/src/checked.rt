@@ -1,17 +1,18 @@
 //! Units that are accepted.
 
-ghost use Rattle.std.specs.Prelude.{◌≡◌, IfOk, IfErr, IsOk, IsTrue};
+ghost use Rattle.std.specs.Prelude.{◌≡◌, IfOk, IfErr, IsOkUnless, IsTrue};
 ghost use Rattle.syntax.specs.Limits.{IsTree};
 ghost use Rattle.syntax.specs.Views.{unit_tree};
 ghost use Rattle.types.specs.SortRules.{IsSorted};
 ghost use Rattle.types.specs.BuiltCalls.{calls_are_built};
 ghost use Rattle.regions.specs.Regions.{HasRegions};
-ghost use Rattle.regions.specs.WellSorted.{AreWellSorted};
+ghost use Rattle.regions.specs.Endings.{AreEnded};
 ghost use Rattle.regions.specs.FirstFaults.{IsFirstRegionFault};
-ghost use Rattle.regions.specs.OpenEnds.{rule_of};
+ghost use Rattle.regions.specs.Findings.{rule_of, IfBroken};
 
-use crate::checker::check_items;
-use crate::fault::RegionFault;
+use crate::fault::CheckFault;
+use crate::walk::check_items;
+use std::alloc::Global;
 use std::marker::Model;
 use syntax::Item;
 use types::Typed;
@@ -55,23 +56,23 @@ impl Checked {
         ensures sorted { IsSorted (unit_tree result.now) }
         ensures calls { IsTrue (calls_are_built (unit_tree result.now)) }
         ensures regions { HasRegions (unit_tree result.now) }
-        // For now, its functions declare, print and return numbers, and do nothing else.
-        ensures forms { AreWellSorted (unit_tree result.now) }
+        ensures ends { AreEnded (unit_tree result.now) }
     {
         self.typed.items()
     }
 }
 
-/// The unit, where each way through its functions keeps the rules. It takes no memory, and reads each statement once.
-pub fn check(typed: Typed) -> Result<Checked, RegionFault>
+/// The unit, where each way through its functions keeps the rules. Each statement is read once, with the references and
+/// buffers in scope; what is known of these is copied for each way of an `if` and for a loop's body.
+pub fn check(alloc: Global, typed: Typed) -> Result<Checked, CheckFault>
     // A unit that is answered is the one given, and it is accepted.
     ensures same { IfOk result (λ c. c ≡ typed) }
     ensures accepted { IfOk result (λ _. HasRegions (unit_tree typed)) }
-    // An accepted unit is answered.
-    ensures only { HasRegions (unit_tree typed) → IsOk result }
+    // An accepted unit is answered, unless memory runs out.
+    ensures only { HasRegions (unit_tree typed) → IsOkUnless result CheckFault.Memory }
     // The fault is the first in text order, and at one place the one of the least number.
-    ensures first { IfErr result (λ e. IsFirstRegionFault (rule_of e.rule) e.line (unit_tree typed)) }
+    ensures first { IfErr result (λ e. IfBroken e (λ f. IsFirstRegionFault (rule_of f.rule) f.line (unit_tree typed))) }
 {
-    check_items(typed.items())?;
+    check_items(alloc, typed.items())?;
     Ok(Checked::of(typed))
 }

@@ -1,14 +1,39 @@
 //! Why a unit is not accepted.
 
 ghost use Rattle.std.specs.Prelude.{◌≡◌};
+ghost use Rattle.regions.specs.declared.fault.CheckFault.TheVariants.{Memory};
 ghost use Rattle.regions.specs.RegionRules.{region_rule_number};
-ghost use Rattle.regions.specs.OpenEnds.{rule_of};
+ghost use Rattle.regions.specs.Findings.{rule_of};
 
+use std::alloc::{AllocError, AllocFailed};
 use thiserror::Error;
 
-/// A rule on the ways through a function.
+/// A rule on the buffers, references, frames and ways of a function (JNI Specification, chapter 4, and ISO/IEC 9899:1999,
+/// 6.9.1).
 #[derive(Clone, Copy, Debug, PartialEq, Eq)]
 pub enum RegionRule {
+    /// While a buffer is critical, only critical calls may be made, and nothing is printed.
+    CallWhileCritical,
+    /// A return while a buffer is held.
+    ReturnWithBuffer,
+    /// A Get into a buffer that is held, or a block that ends with its buffer held.
+    HeldBuffer,
+    /// An untested buffer is read, written or released.
+    UntestedBuffer,
+    /// A free buffer is used, or a held one is released wrongly.
+    WrongBuffer,
+    /// A return with more than one frame.
+    ReturnInFrame,
+    /// The only frame is popped.
+    PopLastFrame,
+    /// A deleted reference is used.
+    DeadReference,
+    /// The array variable of a held buffer is set, deleted or popped, or a Get is of no local variable.
+    ArrayInUse,
+    /// What is known differs where ways join.
+    WaysDiffer,
+    /// A reference is set in another frame than that of its declaration.
+    WrongLevel,
     /// A function's end is reached without a return, or a statement stands behind one.
     NoReturn,
 }
@@ -19,16 +44,51 @@ impl RegionRule {
         ensures { result ≡ region_rule_number (rule_of self) }
     {
         match self {
+            RegionRule::CallWhileCritical => 31,
+            RegionRule::ReturnWithBuffer => 32,
+            RegionRule::HeldBuffer => 33,
+            RegionRule::UntestedBuffer => 34,
+            RegionRule::WrongBuffer => 35,
+            RegionRule::ReturnInFrame => 36,
+            RegionRule::PopLastFrame => 37,
+            RegionRule::DeadReference => 38,
+            RegionRule::ArrayInUse => 39,
+            RegionRule::WaysDiffer => 40,
+            RegionRule::WrongLevel => 41,
             RegionRule::NoReturn => 42,
         }
     }
 }
 
-/// A rule that is broken, and its line, counted from 1: that of the first token of the statement, or of the
-/// function's closing brace where its end is reached.
-#[derive(Clone, Copy, Debug, PartialEq, Eq, Error)]
-#[error("line {line}: {rule:?}")]
+/// A rule that is broken, and its line, counted from 1: that of the first token of the statement, or of the closing brace
+/// where a block's or the function's end is reached.
+#[derive(Clone, Copy, Debug, PartialEq, Eq)]
 pub struct RegionFault {
     pub rule: RegionRule,
     pub line: usize,
+}
+
+/// Why `check` answers no unit.
+#[derive(Debug, Drop, Error)]
+pub enum CheckFault {
+    #[error("out of memory")]
+    Memory,
+    #[error("line {}: {:?}", .0.line, .0.rule)]
+    Broken(RegionFault),
+}
+
+impl From<AllocError> for CheckFault {
+    ghost from_gives = { λ _ e. e ≡ Memory };
+
+    fn from(_e: AllocError) -> CheckFault {
+        CheckFault::Memory
+    }
+}
+
+impl<T: Drop> From<AllocFailed<T>> for CheckFault {
+    ghost from_gives = { λ _ e. e ≡ Memory };
+
+    fn from(_e: AllocFailed<T>) -> CheckFault {
+        CheckFault::Memory
+    }
 }

@@ -1,17 +1,20 @@
 //! The rules on ways through a function, and what a program does.
 #![tactic(auto)]
 
+mod calls;
+mod changes;
 mod checked;
-mod checker;
 mod fault;
-#[cfg(test)]
-mod tests;
+mod names;
+mod rules;
+mod standing;
+mod walk;
 
 ghost use Rattle.regions.specs.FirstFaults.{AcceptedBreaksNothing, AcceptedOrBroken, AcceptedOrFirst, NotBoth, OneFirst};
 ghost use Rattle.regions.specs.Reachable.{ReachableIsComputed};
 
 pub use checked::{Checked, check};
-pub use fault::{RegionFault, RegionRule};
+pub use fault::{CheckFault, RegionFault, RegionRule};
 
 /// A function that is accepted breaks no rule.
 pub fn accepted_breaks_nothing()

@@ -1,27 +1,32 @@
-use Rattle.std.proofs.Common.{sym, ap, ◌∙◌, subst}
-use Rattle.std.specs.Prelude.{IsTrue}
-use Rattle.syntax.specs.Views.{unit_tree}
-use Rattle.types.specs.BuiltCalls.{calls_are_built}
+use Rattle.std.proofs.Common.{List, map, refl, sym, ap, subst, ◌∙◌}
 use Rattle.std.proofs.lemmas.Result.{err_from_is_err_and}
-use Rattle.regions.specs.OpenEnds.{open_items}
-use Rattle.regions.proofs.OpenLemmas.{accepted-unit, faulty-unit, accepted-none}
+use Rattle.syntax.specs.declared.unit.Item.{Item as ItemInMemory}
+use Rattle.syntax.specs.Parts.{functions_of}
+use Rattle.syntax.specs.Views.{item_tree, unit_tree}
+use Rattle.regions.specs.Findings.{Refuses, items_fault, first_fault}
+use Rattle.regions.proofs.UnitLemmas.{accepted-all, accepted-memory, fault-first, built-known, items-fault}
 use Rattle.regions.proofs.checked.check.Goals as goal
 
-pub returns-in_err-check_items-clause-only : goal.returns-in_err-check_items-clause-only
-returns-in_err-check_items-clause-only c =
-    let same = c.items.ensures.same in
-    let calls = subst (λ items. IsTrue (calls_are_built (unit_tree items))) same c.items.ensures.calls in
-    λ accepted. absurd (accepted-none c.args.typed _ calls (sym (ap open_items same) ∙ c.in_err-check_items.ensures) accepted)
-
-pub returns-in_err-check_items-clause-first : goal.returns-in_err-check_items-clause-first
-returns-in_err-check_items-clause-first c =
-    let same = c.items.ensures.same in
-    let calls = subst (λ items. IsTrue (calls_are_built (unit_tree items))) same c.items.ensures.calls in
-    let p = err_from_is_err_and c.from_residual.result c.from_residual.ensures.1 in
-    rw (p.1, p.2) (faulty-unit c.args.typed _ calls (sym (ap open_items same) ∙ c.in_err-check_items.ensures))
+pub check_items-requires : goal.check_items-requires
+check_items-requires c = built-known (map item_tree c.items.result.now) c.items.ensures.calls
 
 pub of-requires : goal.of-requires
 of-requires c =
-    let same = c.items.ensures.same in
-    let calls = subst (λ items. IsTrue (calls_are_built (unit_tree items))) same c.items.ensures.calls in
-    accepted-unit c.args.typed calls (sym (ap open_items same) ∙ c.in_ok-check_items.ensures)
+    accepted-all (functions_of (unit_tree c.args.typed))
+    (ap (λ (items : List ItemInMemory). first_fault (functions_of (unit_tree items))) (sym c.items.ensures.same) ∙ sym (items-fault (map item_tree c.items.result.now)) ∙ c.in_ok-check_items.ensures)
+
+pub returns-in_err-check_items-clause-only : goal.returns-in_err-check_items-clause-only
+returns-in_err-check_items-clause-only c =
+    λ accepted.
+    let e = c.in_err-check_items.field-0.0 in
+    let refuses = subst (λ (items : List ItemInMemory). Refuses e (items_fault (map item_tree items))) c.items.ensures.same c.in_err-check_items.ensures in
+    let memory = accepted-memory (map item_tree c.args.typed) e refuses accepted in
+    let p = err_from_is_err_and c.from_residual.result c.from_residual.ensures.1 in
+    rw (p.1, p.2, memory) refl
+
+pub returns-in_err-check_items-clause-first : goal.returns-in_err-check_items-clause-first
+returns-in_err-check_items-clause-first c =
+    let e = c.in_err-check_items.field-0.0 in
+    let refuses = subst (λ (items : List ItemInMemory). Refuses e (items_fault (map item_tree items))) c.items.ensures.same c.in_err-check_items.ensures in
+    let p = err_from_is_err_and c.from_residual.result c.from_residual.ensures.1 in
+    rw (p.1, p.2) (fault-first (map item_tree c.args.typed) e refuses)

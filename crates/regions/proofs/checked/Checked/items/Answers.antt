@@ -1,8 +1,9 @@
 use Rattle.std.proofs.Common.{sym, subst}
+use Rattle.syntax.specs.Parts.{functions_of}
 use Rattle.syntax.specs.Views.{unit_tree}
 use Rattle.regions.specs.Regions.{HasRegions}
-use Rattle.regions.proofs.AcceptedForms.{checked-well_sorted}
+use Rattle.regions.proofs.Returns.{are_ended}
 use Rattle.regions.proofs.checked.Checked.items.Goals as goal
 
-pub returns-clause-forms : goal.returns-clause-forms
-returns-clause-forms c = checked-well_sorted _ c.items.ensures.tree c.items.ensures.sorted c.items.ensures.calls (subst (λ items. HasRegions (unit_tree items)) (sym c.items.ensures.same) c.self.invariant)
+pub returns-clause-ends : goal.returns-clause-ends
+returns-clause-ends c = are_ended (functions_of (unit_tree c.items.result.now)) (subst (λ items. HasRegions (unit_tree items)) (sym c.items.ensures.same) c.self.invariant)

@@ -1,0 +1,159 @@
+-- The walk over the ways in memory is that of the definitions.
+use Rattle.std.proofs.Common.{◌≡◌, ℕ, zero, suc, ◌+◌, ◌<◌, ◌≤◌, Bool, true, false, not, List, [], ◌∷◌, ◌++◌, length, get_or, drop, Option, Some, None, Result, Ok, Err, refl, sym, ap, ap₂, ◌∙◌, subst, arith, add-one, drop-cons}
+use Rattle.std.specs.Prelude.{IsTrue}
+use Rattle.std.specs.List.{list_all}
+use Rattle.std.proofs.lemmas.List.Folds.{list_all-append}
+use Rattle.syntax.specs.declared.stmt.Form.{Form as FormInMemory}
+use Rattle.syntax.specs.declared.stmt.Form.TheVariants as form
+use Rattle.syntax.specs.declared.stmt.Stmt.{Stmt as StmtInMemory}
+use Rattle.syntax.specs.declared.stmt.Block.{Block as BlockInMemory, out-Block}
+use Rattle.syntax.specs.Parts.{statements_of, statements_within, line_of}
+use Rattle.syntax.specs.Tree.{Stmt, If, IfElse, While, Return, ReturnValue, Block, End, Next}
+use Rattle.syntax.specs.Views.{form_tree, stmt_tree, statements_tree, block_tree}
+use Rattle.syntax.proofs.Blocks.{block_is}
+use Rattle.regions.specs.declared.fault.CheckFault.{CheckFault}
+use Rattle.regions.specs.declared.fault.CheckFault.TheVariants.{Memory, Broken}
+use Rattle.regions.specs.declared.walk.Way.{Way as WayInMemory}
+use Rattle.regions.specs.Effects.{calls_known}
+use Rattle.regions.specs.Findings.{fault_of, end_line_of}
+use Rattle.regions.specs.FirstFaults.{first_broken}
+use Rattle.regions.specs.RegionRules.{RegionRule, HeldBuffer, NoReturn}
+use Rattle.regions.specs.RegionStates.{RegionState}
+use Rattle.regions.specs.Regions.{Way, On, Returned, left}
+use Rattle.regions.specs.Walks.{holds_other, Stops, Goes, go_on, inner_way}
+use Rattle.regions.specs.Ways.{Fault, way_if, own_way, behind, returned_before, join_ways, turn_way, way_of, way_of_block}
+use Rattle.syntax.specs.declared.unit.Item.{Item as ItemInMemory}
+use Rattle.regions.proofs.StateLemmas.{own_is}
+use Rattle.regions.proofs.UnitLemmas.{both_hold}
+
+-- ---- answers along equations
+
+pub Goes-along : (r : Result WayInMemory CheckFault) (a b : Result Way Fault) → a ≡ b → Goes r b → Goes r a
+Goes-along r a b e h = subst (λ x. Goes r x) (sym e) h
+
+pub Stops-along : (e : CheckFault) (a b : Result Way Fault) → a ≡ b → Stops e b → Stops e a
+Stops-along e a b h k = subst (λ x. Stops e x) (sym h) k
+
+-- ---- statements
+
+pub line_is : (line : ℕ) (f : FormInMemory) → line_of (form_tree line f) ≡ line
+line_is line (form.Return None) = refl
+line_is line (form.Return (Some e)) = refl
+line_is line f = refl
+
+pub way_is : (before : RegionState) (s : Stmt) → way_of before s ≡ own_way (first_broken before s) (line_of s) (inner_way before s)
+way_is before (If line test then') = refl
+way_is before (IfElse line test then' else') = refl
+way_is before (While line test body) = refl
+way_is before (Return line) = refl
+way_is before (ReturnValue line e) = refl
+way_is before s = refl
+
+pub own_known : (s : Stmt) → IsTrue (list_all calls_known (statements_within s)) → IsTrue (calls_known s)
+own_known (If line test then') h = (both_hold (calls_known (If line test then')) _ h).0
+own_known (IfElse line test then' else') h = (both_hold (calls_known (IfElse line test then' else')) _ h).0
+own_known (While line test body) h = (both_hold (calls_known (While line test body)) _ h).0
+own_known s h = (both_hold (calls_known s) true h).0
+
+-- what a statement calls is not on its line
+pub known_anywhere : (f : FormInMemory) (line other : ℕ) → IsTrue (calls_known (form_tree line f)) → IsTrue (calls_known (form_tree other f))
+known_anywhere (form.Return None) line other h = h
+known_anywhere (form.Return (Some e)) line other h = h
+known_anywhere f line other h = h
+
+pub first_known : (s : Stmt) (rest : Block) → IsTrue (list_all calls_known (statements_of (Next s rest))) → IsTrue (list_all calls_known (statements_within s))
+first_known s rest h = (both_hold (list_all calls_known (statements_within s)) (list_all calls_known (statements_of rest)) (sym (list_all-append calls_known (statements_within s) (statements_of rest)) ∙ h)).0
+
+pub rest_known : (s : Stmt) (rest : Block) → IsTrue (list_all calls_known (statements_of (Next s rest))) → IsTrue (list_all calls_known (statements_of rest))
+rest_known s rest h = (both_hold (list_all calls_known (statements_within s)) (list_all calls_known (statements_of rest)) (sym (list_all-append calls_known (statements_within s) (statements_of rest)) ∙ h)).1
+
+pub two_known : (b d : Block) → IsTrue (list_all calls_known (statements_of b ++ statements_of d)) → IsTrue (list_all calls_known (statements_of b)) × IsTrue (list_all calls_known (statements_of d))
+two_known b d h = both_hold (list_all calls_known (statements_of b)) (list_all calls_known (statements_of d)) (sym (list_all-append calls_known (statements_of b) (statements_of d)) ∙ h)
+
+-- the statement's own fault, and the way behind it where it has none
+pub stmt_fault : (r : Result WayInMemory CheckFault) (before : RegionState) (s : StmtInMemory) (rule : RegionRule) → Some rule ≡ first_broken before (stmt_tree s) → Goes r (Err (s.line, rule)) → Goes r (way_of before (stmt_tree s))
+stmt_fault r before s rule h k =
+    Goes-along r _ _ (way_is before (stmt_tree s) ∙ ap (λ o. own_way o (line_of (stmt_tree s)) (inner_way before (stmt_tree s))) (sym h) ∙ ap (λ n. Err (n, rule)) (line_is s.line s.form)) k
+
+pub stmt_goes : (r : Result WayInMemory CheckFault) (before : RegionState) (s : StmtInMemory) → None ≡ first_broken before (stmt_tree s) → Goes r (inner_way before (stmt_tree s)) → Goes r (way_of before (stmt_tree s))
+stmt_goes r before s h k =
+    Goes-along r _ _ (way_is before (stmt_tree s) ∙ ap (λ o. own_way o (line_of (stmt_tree s)) (inner_way before (stmt_tree s))) (sym h)) k
+
+-- ---- blocks
+
+stmt_next : (items : List StmtInMemory) (i : ℕ) (s : StmtInMemory) → i < length items → s ≡ get_or items i s → drop i items ≡ s ∷ drop (i + 1) items
+stmt_next items i s h e = rw add-one (drop-cons items i s h ∙ ap (λ x. x ∷ drop (suc i) items) (sym e))
+
+pub go_rest : (outer : RegionState) (w : Way) (items : List StmtInMemory) (i : ℕ) (s : StmtInMemory) (end_line : ℕ) → i < length items → s ≡ get_or items i s
+    → go_on outer w (statements_tree (drop i items) end_line) ≡ go_on outer w (Next (stmt_tree s) (statements_tree (drop (i + 1) items) end_line))
+go_rest outer w items i s end_line h e = ap (λ rest. go_on outer w (statements_tree rest end_line)) (stmt_next items i s h e)
+
+pub known_next : (items : List StmtInMemory) (i : ℕ) (s : StmtInMemory) (end_line : ℕ) → i < length items → s ≡ get_or items i s
+    → IsTrue (list_all calls_known (statements_of (statements_tree (drop i items) end_line))) → IsTrue (list_all calls_known (statements_of (Next (stmt_tree s) (statements_tree (drop (i + 1) items) end_line))))
+known_next items i s end_line h e k = subst (λ rest. IsTrue (list_all calls_known (statements_of (statements_tree rest end_line)))) (stmt_next items i s h e) k
+
+-- one statement more
+pub go_step : (outer before : RegionState) (w : Way) (s : Stmt) (rest : Block) → way_of before s ≡ Ok w → go_on outer (On before) (Next s rest) ≡ go_on outer w rest
+go_step outer before w s rest h = ap (λ r. behind r (λ m. way_of_block outer m rest) (returned_before rest)) h
+
+pub go_fault : (outer before : RegionState) (s : Stmt) (rest : Block) (e : CheckFault) → Stops e (way_of before s) → Stops e (go_on outer (On before) (Next s rest))
+go_fault outer before s rest Memory h = tt
+go_fault outer before s rest (Broken f) h = ap (λ r. behind r (λ m. way_of_block outer m rest) (returned_before rest)) h
+
+-- a statement behind a return
+pub go_behind : (r : Result WayInMemory CheckFault) (outer : RegionState) (s : StmtInMemory) (rest : Block) → Goes r (Err (s.line, NoReturn)) → Goes r (go_on outer Returned (Next (stmt_tree s) rest))
+go_behind r outer s rest k = Goes-along r _ _ (ap (λ n. Err (n, NoReturn)) (line_is s.line s.form)) k
+
+-- behind its end a list has nothing
+pub past : {A : Type 0} (i : ℕ) (xs : List A) → length xs ≤ i → drop i xs ≡ []
+past zero [] h = refl
+past zero (x ∷ xs) h = absurd (omega arith)
+past (suc i) [] h = refl
+past (suc i) (x ∷ xs) h = past i xs (omega arith)
+
+-- ---- joins
+
+pub first_stops : (line : ℕ) (r q : Result Way Fault) (e : CheckFault) → Stops e r → Stops e (join_ways line r q)
+first_stops line r q Memory h = tt
+first_stops line r q (Broken f) h = ap (λ x. join_ways line x q) h
+
+pub second_stops : (line : ℕ) (a : Way) (r q : Result Way Fault) (e : CheckFault) → r ≡ Ok a → Stops e q → Stops e (join_ways line r q)
+second_stops line a r q Memory h k = tt
+second_stops line a r q (Broken f) h k = ap₂ (join_ways line) h k ∙ last line a (fault_of f)
+  where
+    last : (line : ℕ) (a : Way) (f : Fault) → join_ways line (Ok a) (Err f) ≡ Err f
+    last line (On s) f = refl
+    last line Returned f = refl
+
+pub turn_stops : (line : ℕ) (before : RegionState) (r : Result Way Fault) (e : CheckFault) → Stops e r → Stops e (turn_way line before r)
+turn_stops line before r Memory h = tt
+turn_stops line before r (Broken f) h = ap (turn_way line before) h
+
+-- ---- functions
+
+end_is : (items : List StmtInMemory) (end_line : ℕ) → end_line_of (statements_tree items end_line) ≡ end_line
+end_is [] end_line = refl
+end_is (s ∷ items) end_line = end_is items end_line
+
+pub end_line_is : (b : BlockInMemory) → end_line_of (block_tree b) ≡ (out-Block b).end_line
+end_line_is b = ap end_line_of (block_is b) ∙ end_is (out-Block b).statements.items (out-Block b).end_line
+
+-- an error that is passed on
+pub goes_err : (r : Result WayInMemory CheckFault) (e : CheckFault) (x : Result Way Fault) → r ≡ Err e → Stops e x → Goes r x
+goes_err r e x was h = subst (λ y. Goes y x) (sym was) h
+
+-- ---- ends of blocks
+
+pub end_held : (outer before : RegionState) (line : ℕ) → true ≡ holds_other outer before → way_of_block outer before (End line) ≡ Err (line, HeldBuffer)
+end_held outer before line h = ap (λ b. way_if (not b) (On (left outer before)) (line, HeldBuffer)) (own_is outer before ∙ sym h)
+
+pub end_left : (outer before : RegionState) (line : ℕ) → false ≡ holds_other outer before → way_of_block outer before (End line) ≡ Ok (On (left outer before))
+end_left outer before line h = ap (λ b. way_if (not b) (On (left outer before)) (line, HeldBuffer)) (own_is outer before ∙ sym h)
+
+pub behind_line : (outer : RegionState) (s : StmtInMemory) (rest : Block) → go_on outer Returned (Next (stmt_tree s) rest) ≡ Err (s.line, NoReturn)
+behind_line outer s rest = ap (λ n. Err (n, NoReturn)) (line_is s.line s.form)
+
+-- ---- items
+
+pub item_next : (items : List ItemInMemory) (i : ℕ) (item : ItemInMemory) → i < length items → item ≡ get_or items i item → drop i items ≡ item ∷ drop (i + 1) items
+item_next items i item h e = rw add-one (drop-cons items i item h ∙ ap (λ x. x ∷ drop (suc i) items) (sym e))

@@ -1,0 +1,87 @@
+use Rattle.std.proofs.Common.{◌+◌, List, drop, sym, ap, subst, ◌∙◌, rules}
+use Rattle.std.specs.Prelude.{IsTrue}
+use Rattle.std.specs.List.{list_all}
+use Rattle.syntax.specs.declared.stmt.Stmt.{Stmt as StmtInMemory}
+use Rattle.syntax.specs.declared.stmt.Block.{out-Block}
+use Rattle.syntax.specs.declared.stmt.Form.{Form as FormInMemory}
+use Rattle.syntax.specs.declared.stmt.Form.{the_lemmas}
+use Rattle.syntax.specs.Parts.{statements_of, statements_within}
+use Rattle.syntax.specs.Tree.{Block, Next}
+use Rattle.syntax.specs.Views.{form_tree, stmt_tree, block_tree, statements_tree}
+use Rattle.syntax.proofs.Blocks.{block_is}
+use Rattle.regions.specs.declared.walk.Way.{Way as WayInMemory}
+use Rattle.regions.specs.Effects.{calls_known}
+use Rattle.regions.specs.Findings.{rule_of}
+use Rattle.regions.specs.Standings.{state_value}
+use Rattle.regions.specs.Walks.{way_value, go_on}
+use Rattle.regions.specs.Ways.{way_of_block}
+use Rattle.regions.proofs.UnitLemmas.{both_hold}
+use Rattle.regions.proofs.WayLemmas.{Goes-along, own_known, known_anywhere, first_known, rest_known, two_known, stmt_fault, go_rest, known_next, go_step, behind_line}
+use Rattle.regions.proofs.walk.+walk.Goals as goal
+
+-- ---- the loop over a block's statements
+
+pub block_way-loop-stmt-init : goal.block_way-loop-stmt-init
+block_way-loop-stmt-init t c =
+    let block = block_is c.args.block.now ∙ ap (λ (items : List StmtInMemory). statements_tree items (out-Block c.args.block.now).end_line) (sym c.deref-stmt-items.ensures.value) in
+    record {
+      goes = ap (λ (b : Block). way_of_block (state_value c.args.outer.now) (state_value c.args.before) b) block;
+      known = subst (λ (b : Block). IsTrue (list_all calls_known (statements_of b))) block c.requires;
+    }
+
+pub block_way-stmt_way-requires : goal.block_way-stmt_way-requires
+block_way-stmt_way-requires t c =
+    let items = c.deref-stmt-items.result.now in
+    let i = c.loop-stmt.stmt-index in
+    let s = c.stmt-item.result in
+    let end_line = (out-Block c.args.block.now).end_line in
+    (search (rules, the_lemmas), first_known (stmt_tree s) (statements_tree (drop (i + 1) items) end_line) (known_next items i s end_line c.loop-stmt-test.true c.stmt-item.is c.loop-stmt.invariant.known))
+
+pub block_way-returns-in-Returned : goal.block_way-returns-in-Returned
+block_way-returns-in-Returned t c =
+    let outer = state_value c.args.outer.now in
+    let items = c.deref-stmt-items.result.now in
+    let i = c.loop-stmt.stmt-index in
+    let s = c.stmt-item.result in
+    let end_line = (out-Block c.args.block.now).end_line in
+    let rest = statements_tree (drop (i + 1) items) end_line in
+    Goes-along c.refuse.result _ _
+      (c.loop-stmt.invariant.goes
+      ∙ go_rest outer (way_value c.loop-stmt.way) items i s end_line c.loop-stmt-test.true c.stmt-item.is
+      ∙ ap (λ (w : WayInMemory). go_on outer (way_value w) (Next (stmt_tree s) rest)) c.in-Returned.is
+      ∙ behind_line outer s rest)
+      c.refuse.ensures
+
+pub block_way-loop-stmt-preserved : goal.block_way-loop-stmt-preserved
+block_way-loop-stmt-preserved t c =
+    let outer = state_value c.args.outer.now in
+    let items = c.deref-stmt-items.result.now in
+    let i = c.loop-stmt.stmt-index in
+    let s = c.stmt-item.result in
+    let end_line = (out-Block c.args.block.now).end_line in
+    let rest = statements_tree (drop (i + 1) items) end_line in
+    record {
+      goes =
+          c.loop-stmt.invariant.goes
+          ∙ go_rest outer (way_value c.loop-stmt.way) items i s end_line c.loop-stmt-test.true c.stmt-item.is
+          ∙ ap (λ (w : WayInMemory). go_on outer (way_value w) (Next (stmt_tree s) rest)) c.in-On.is
+          ∙ go_step outer (state_value c.in-On.state) (way_value c.in_ok-way-in-On.way) (stmt_tree s) rest c.in_ok-way-in-On.ensures;
+      known = rest_known (stmt_tree s) rest (known_next items i s end_line c.loop-stmt-test.true c.stmt-item.is c.loop-stmt.invariant.known);
+    }
+
+-- ---- statements
+
+pub if_else_way-block_way-requires-2 : goal.if_else_way-block_way-requires-2
+if_else_way-block_way-requires-2 t c = (search (rules, the_lemmas), c.requires.else_known)
+
+pub inner_way-if_else_way-requires : goal.inner_way-if_else_way-requires
+inner_way-if_else_way-requires t c =
+    let h = subst (λ (f : FormInMemory). IsTrue (list_all calls_known (statements_within (form_tree c.args.line f)))) c.in-IfElse.is c.requires in
+    let both = two_known (block_tree c.in-IfElse.b) (block_tree c.in-IfElse.d) (both_hold _ _ h).1 in
+    (search (rules, the_lemmas), (both.0, both.1))
+
+pub stmt_way-first_broken-requires : goal.stmt_way-first_broken-requires
+stmt_way-first_broken-requires t c = λ line. known_anywhere c.args.stmt.now.form c.args.stmt.now.line line (own_known (stmt_tree c.args.stmt.now) c.requires)
+
+pub stmt_way-returns-in-Some : goal.stmt_way-returns-in-Some
+stmt_way-returns-in-Some t c = stmt_fault c.refuse.result (state_value c.args.before) c.args.stmt.now (rule_of c.in-Some.rule) (c.in-Some.ensures c.args.stmt.now.line) c.refuse.ensures

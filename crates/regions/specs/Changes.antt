@@ -1,0 +1,72 @@
+-- The changes of what is known, as they lie in memory.
+use Rattle.std.specs.Prelude.{ℕ, Bool, true, List, Option, Some, None, bytes_eq, if◌then◌else◌}
+use Rattle.std.specs.Option.{option_map}
+use Rattle.std.specs.Borrow.{Bor}
+use Rattle.base.specs.Bytes.{Identifier}
+use Rattle.syntax.specs.Tree.{BinaryOp, Equal, NotEqual, Variable, Binary, Expr}
+use Rattle.types.specs.JniFunction.{Access}
+use Rattle.types.specs.Sorts.{is_null}
+use Rattle.regions.specs.declared.standing.Access.{Access as AccessInMemory}
+use Rattle.regions.specs.declared.changes.Change.{Change}
+use Rattle.regions.specs.declared.changes.Change.TheVariants as change
+use Rattle.regions.specs.declared.changes.NullTest.{NullTest}
+use Rattle.regions.specs.declared.changes.NullTest.TheVariants as tested
+use Rattle.regions.specs.RegionStates.{VariableState, RegionState, with_changed, made_free, killed, killed_from}
+use Rattle.regions.specs.Regions.{made_usable}
+use Rattle.regions.specs.Judgements.{set_from}
+use Rattle.regions.specs.Standings.{access_value}
+
+-- a Get in memory
+abbrev pub get_value : AccessInMemory × Option (Bor (List ℕ)) → Access × Option Identifier
+get_value g = (access_value g.0, option_map (λ x. x.now) g.1)
+
+-- a change in memory, of each variable
+abbrev pub change_value : Change → Identifier → VariableState → VariableState
+change_value (change.Free x) = λ y old. if bytes_eq x.now y then made_free old else old
+change_value (change.Usable x) = λ y old. if bytes_eq x.now y then made_usable old else old
+change_value (change.Kill x) = λ y old. if bytes_eq x.now y then killed old else old
+change_value (change.KillFrom level) = λ y old. killed_from level old
+change_value (change.Set x get) = λ y old. if bytes_eq x.now y then set_from (option_map get_value get) old else old
+
+-- a variable with what is known of it behind a change
+abbrev pub changed_named : Change → Identifier × VariableState → Identifier × VariableState
+changed_named made v = (v.0, change_value made v.0 v.1)
+
+-- ---- tests for NULL
+
+-- a test of a name: for NULL or not
+pub data Tested : Type 0 where
+  IsNull IsNotNull : Identifier → Tested
+
+-- the bare name that an expression is
+abbrev pub variable_of : Expr → Option Identifier
+variable_of (Variable x) = Some x
+variable_of e = None
+
+-- what a comparison tests: a name on its left side for NULL, where that is on its right
+abbrev pub tested_by : BinaryOp → Option Identifier → Bool → Option Tested
+tested_by Equal (Some x) true = Some (IsNull x)
+tested_by NotEqual (Some x) true = Some (IsNotNull x)
+tested_by op name null = None
+
+-- what an expression tests as a whole
+abbrev pub null_test_of : Expr → Option Tested
+null_test_of (Binary op a b) = tested_by op (variable_of a) (is_null b)
+null_test_of e = None
+
+-- a test in memory
+abbrev pub test_value : NullTest → Tested
+test_value (tested.Is x) = IsNull x.now
+test_value (tested.IsNot x) = IsNotNull x.now
+
+-- the state where a test holds, and where it does not
+abbrev pub taught_true : RegionState → Option Tested → RegionState
+taught_true state None = state
+taught_true state (Some (IsNull x)) = with_changed state x made_free
+taught_true state (Some (IsNotNull x)) = with_changed state x made_usable
+
+-- where it does not hold
+abbrev pub taught_false : RegionState → Option Tested → RegionState
+taught_false state None = state
+taught_false state (Some (IsNull x)) = with_changed state x made_usable
+taught_false state (Some (IsNotNull x)) = with_changed state x made_free

@@ -1,0 +1,72 @@
+-- What is known of variables, as it lies in memory.
+use Rattle.std.specs.Prelude.{Bool, List, map, Option, bytes_eq}
+use Rattle.std.specs.Option.{option_and_then}
+use Rattle.std.specs.List.{list_any}
+use Rattle.base.specs.Bytes.{Identifier, ByName}
+use Rattle.base.specs.Options.{some_passes}
+use Rattle.syntax.specs.Views.{element_tree}
+use Rattle.types.specs.JniFunction.{Access, ElementsCopy, ArrayView, CharsCopy, CharsView, is_critical}
+use Rattle.regions.specs.declared.standing.Access.{Access as AccessInMemory}
+use Rattle.regions.specs.declared.standing.Access.TheVariants as access
+use Rattle.regions.specs.declared.standing.Standing.{Standing}
+use Rattle.regions.specs.declared.standing.Standing.TheVariants as standing
+use Rattle.regions.specs.declared.standing.Variable.{Variable}
+use Rattle.regions.specs.declared.standing.State.{State}
+use Rattle.regions.specs.declared.standing.Condition.{Condition}
+use Rattle.regions.specs.declared.standing.Condition.TheVariants as condition
+use Rattle.regions.specs.RegionStates.{VariableState, ReferenceAt, BufferIn, Free, Untested, Usable, RegionState, state_of, buffer_of, held_by}
+use Rattle.regions.specs.RegionRules.{is_dead, is_reference_now, is_untested, is_free, is_held}
+
+-- the access of the definitions
+abbrev pub access_value : AccessInMemory → Access
+access_value (access.ElementsCopy t) = ElementsCopy (element_tree t)
+access_value access.ArrayView = ArrayView
+access_value access.CharsCopy = CharsCopy
+access_value access.CharsView = CharsView
+
+-- what is known of a variable
+abbrev pub standing_value : Standing → VariableState
+standing_value (standing.Reference level live) = ReferenceAt level live
+standing_value standing.Free = BufferIn Free
+standing_value (standing.Untested a x) = BufferIn (Untested (access_value a) x.now)
+standing_value (standing.Usable a x) = BufferIn (Usable (access_value a) x.now)
+
+-- a variable with what is known of it
+abbrev pub named_value : Variable → Identifier × VariableState
+named_value v = (v.name.now, standing_value v.standing)
+
+-- the variables with what is known of each
+abbrev pub variables_value : List Variable → ByName VariableState
+variables_value variables = map named_value variables
+
+-- the state
+abbrev pub state_value : State → RegionState
+state_value s = record { variables = variables_value s.variables.items; frames = s.frames }
+
+-- what a question asks
+abbrev pub condition_holds : Condition → Option VariableState → Bool
+condition_holds condition.Dead = is_dead
+condition_holds condition.Reference = is_reference_now
+condition_holds condition.Untested = is_untested
+condition_holds condition.Free = is_free
+condition_holds condition.Held = is_held
+
+-- the answer about a variable
+abbrev pub asks : Condition → RegionState → Identifier → Bool
+asks question state x = condition_holds question (state_of state x)
+
+-- a held buffer's access and the variable of its array or string
+abbrev pub held_in : VariableState → Option (Access × Identifier)
+held_in v = option_and_then held_by (buffer_of v)
+
+-- a held buffer of which this holds
+abbrev pub any_holder : (Access × Identifier → Bool) → RegionState → Bool
+any_holder asked state = list_any (λ v. some_passes asked (held_in v.1)) state.variables
+
+-- a critical buffer is held
+abbrev pub holds_critical : RegionState → Bool
+holds_critical state = any_holder (λ held. is_critical held.0) state
+
+-- a buffer of this array variable is held
+abbrev pub holds_of : Identifier → RegionState → Bool
+holds_of x state = any_holder (λ held. bytes_eq held.1 x) state

@@ -1,0 +1,375 @@
+//! The state behind a statement, and on the ways of a test.
+
+ghost use Rattle.std.specs.Prelude.{◌≡◌, ℕ, true, OnOk, IsTrue};
+ghost use Rattle.std.specs.Option.{option_map};
+ghost use Rattle.syntax.specs.Views.{expr_tree, binary_tree, test_tree, form_tree};
+ghost use Rattle.types.specs.Sorts.{is_null};
+ghost use Rattle.regions.specs.Regions.{made_usable, where_true, where_false};
+ghost use Rattle.regions.specs.RegionStates.{BufferIn, with_each, with_new, with_some_changed, after_pop, after_release, made_free, killed, killed_from, buffer_from, state_after};
+ghost use Rattle.regions.specs.Standings.{standing_value, named_value, state_value};
+ghost use Rattle.regions.specs.Effects.{made_value, release_value, calls_known};
+ghost use Rattle.regions.specs.Judgements.{set_from, effected, settled};
+ghost use Rattle.regions.specs.Changes.{get_value, change_value, changed_named, variable_of, tested_by, null_test_of, test_value, taught_true, taught_false};
+
+use crate::calls::{MadeCall, Release, called, deleted, got, popped, released};
+use crate::standing::{Access, Standing, State, Variable, is_same};
+use std::alloc::AllocError;
+use syntax::{BinaryOp, Constant, Expr, Form, Test, VariableType};
+
+/// A change of what is known.
+#[derive(Clone, Copy)]
+pub(crate) enum Change<'a> {
+    /// A buffer becomes free.
+    Free(&'a [u8]),
+    /// An untested buffer becomes usable.
+    Usable(&'a [u8]),
+    /// A reference dies.
+    Kill(&'a [u8]),
+    /// The references of this level and of higher ones die.
+    KillFrom(usize),
+    /// A variable is set; a buffer to what a Get with this access and array gives, or else to NULL.
+    Set(&'a [u8], Option<(Access, Option<&'a [u8]>)>),
+}
+
+/// A test of a variable for NULL.
+#[derive(Clone, Copy)]
+pub(crate) enum NullTest<'a> {
+    /// `x == NULL`
+    Is(&'a [u8]),
+    /// `x != NULL`
+    IsNot(&'a [u8]),
+}
+
+/// A buffer behind a Get, or behind NULL.
+fn buffer_standing<'a>(get: Option<(Access, Option<&'a [u8]>)>) -> Standing<'a>
+    ensures { standing_value result ≡ BufferIn (buffer_from (option_map get_value get.entry)) }
+{
+    match get {
+        Some((access, Some(array))) => Standing::Untested(access, array),
+        Some((access, None)) => Standing::Untested(access, &[]),
+        None => Standing::Free,
+    }
+}
+
+fn freed(standing: Standing) -> Standing
+    ensures { standing_value result ≡ made_free (standing_value standing.entry) }
+{
+    match standing {
+        Standing::Reference(level, live) => Standing::Reference(level, live),
+        Standing::Free => Standing::Free,
+        Standing::Untested(..) => Standing::Free,
+        Standing::Usable(..) => Standing::Free,
+    }
+}
+
+fn made_usable(standing: Standing) -> Standing
+    ensures { standing_value result ≡ made_usable (standing_value standing.entry) }
+{
+    match standing {
+        Standing::Reference(level, live) => Standing::Reference(level, live),
+        Standing::Free => Standing::Free,
+        Standing::Untested(access, array) => Standing::Usable(access, array),
+        Standing::Usable(access, array) => Standing::Usable(access, array),
+    }
+}
+
+fn killed(standing: Standing) -> Standing
+    ensures { standing_value result ≡ killed (standing_value standing.entry) }
+{
+    match standing {
+        Standing::Reference(level, _) => Standing::Reference(level, false),
+        Standing::Free => Standing::Free,
+        Standing::Untested(access, array) => Standing::Untested(access, array),
+        Standing::Usable(access, array) => Standing::Usable(access, array),
+    }
+}
+
+fn killed_from(level: usize, standing: Standing) -> Standing
+    ensures { standing_value result ≡ killed_from level (standing_value standing.entry) }
+{
+    match standing {
+        Standing::Reference(own, live) => Standing::Reference(own, live && own < level),
+        Standing::Free => Standing::Free,
+        Standing::Untested(access, array) => Standing::Untested(access, array),
+        Standing::Usable(access, array) => Standing::Usable(access, array),
+    }
+}
+
+fn set_to<'a>(standing: Standing<'a>, get: Option<(Access, Option<&'a [u8]>)>) -> Standing<'a>
+    ensures { standing_value result ≡ set_from (option_map get_value get.entry) (standing_value standing.entry) }
+{
+    match standing {
+        Standing::Reference(level, _) => Standing::Reference(level, true),
+        Standing::Free => buffer_standing(get),
+        Standing::Untested(..) => buffer_standing(get),
+        Standing::Usable(..) => buffer_standing(get),
+    }
+}
+
+/// What is known of a variable behind a change.
+fn standing_behind<'a>(name: &[u8], old: Standing<'a>, change: Change<'a>) -> Standing<'a>
+    ensures { standing_value result ≡ change_value change.entry name.now (standing_value old.entry) }
+{
+    match change {
+        Change::Free(x) => {
+            if is_same(x, name) {
+                return freed(old);
+            }
+            old
+        }
+        Change::Usable(x) => {
+            if is_same(x, name) {
+                return made_usable(old);
+            }
+            old
+        }
+        Change::Kill(x) => {
+            if is_same(x, name) {
+                return killed(old);
+            }
+            old
+        }
+        Change::KillFrom(level) => killed_from(level, old),
+        Change::Set(x, get) => {
+            if is_same(x, name) {
+                return set_to(old, get);
+            }
+            old
+        }
+    }
+}
+
+/// A variable behind a change.
+fn changed<'a>(v: Variable<'a>, change: Change<'a>) -> Variable<'a>
+    ensures { named_value result ≡ changed_named change.entry (named_value v.entry) }
+{
+    Variable {
+        name: v.name,
+        standing: standing_behind(v.name, v.standing, change),
+    }
+}
+
+/// What is known of all variables behind a change.
+fn change_each<'a>(state: &mut State<'a>, change: Change<'a>)
+    ensures { state_value state.new ≡ with_each (state_value state.old) (change_value change.entry) }
+{
+    for i in 0..state.variables.len() {
+        state.variables[i] = changed(state.variables[i], change);
+    }
+}
+
+/// One variable more.
+fn add<'a>(state: &mut State<'a>, name: &'a [u8], standing: Standing<'a>) -> Result<(), AllocError>
+    ensures { OnOk result (state_value state.new ≡ with_new (state_value state.old) name.now (standing_value standing.entry)) }
+{
+    state.variables.insert(0, Variable { name, standing })?;
+    Ok(())
+}
+
+/// A frame ends, with its references.
+fn pop(state: &mut State)
+    ensures { state_value state.new ≡ after_pop (state_value state.old) }
+{
+    change_each(state, Change::KillFrom(state.frames));
+    state.frames = state.frames.saturating_sub(1);
+}
+
+/// A release frees its buffer, but not a copy that is committed.
+fn release<'a>(state: &mut State<'a>, release: Option<Release<'a>>)
+    ensures { state_value state.new ≡ after_release (state_value state.old) (option_map release_value release.entry) }
+{
+    match release {
+        Some(r) => {
+            if r.commits {
+                return;
+            }
+            match r.buffer {
+                Some(x) => change_each(state, Change::Free(x)),
+                None => {}
+            }
+        }
+        None => {}
+    }
+}
+
+fn kill<'a>(state: &mut State<'a>, name: Option<&'a [u8]>)
+    ensures { state_value state.new ≡ with_some_changed (state_value state.old) (option_map (λ x. x.now) name.entry) killed }
+{
+    match name {
+        Some(x) => change_each(state, Change::Kill(x)),
+        None => {}
+    }
+}
+
+/// What a call leaves.
+fn take_effect<'a>(state: &mut State<'a>, call: Option<MadeCall<'a>>)
+    ensures { state_value state.new ≡ effected (state_value state.old) (option_map made_value call.entry) }
+{
+    if popped(call) {
+        pop(state);
+        return;
+    }
+    release(state, released(call));
+    kill(state, deleted(call));
+}
+
+/// What is left when a variable is set or declared by a statement with this call.
+fn settle<'a>(
+    state: &mut State<'a>,
+    form: &'a Form,
+    call: Option<MadeCall<'a>>,
+) -> Result<(), AllocError>
+    ensures { OnOk result ((line : ℕ) → state_value state.new ≡ settled (state_value state.old) (form_tree line form.now) (option_map made_value call.entry)) }
+{
+    match form {
+        Form::Declare(t, x, _) => match t {
+            VariableType::Reference(_) => {
+                add(state, x.as_bytes(), Standing::Reference(state.frames, true))
+            }
+            VariableType::Uint32 => Ok(()),
+            VariableType::Jint => Ok(()),
+            VariableType::Jsize => Ok(()),
+            VariableType::Jboolean => Ok(()),
+            VariableType::JfieldId => Ok(()),
+        },
+        Form::DeclareBuffer(_, x, _) => add(state, x.as_bytes(), buffer_standing(got(call))),
+        Form::DeclareChars(x, _) => add(state, x.as_bytes(), buffer_standing(got(call))),
+        Form::Assign(x, _) => {
+            change_each(state, Change::Set(x.as_bytes(), got(call)));
+            Ok(())
+        }
+        Form::Return(None) => Ok(()),
+        Form::Return(Some(_)) => Ok(()),
+        Form::DeclareArray(..)
+        | Form::AssignElement(..)
+        | Form::Perform(_)
+        | Form::PutJint(_)
+        | Form::If(..)
+        | Form::IfElse(..)
+        | Form::While(..) => Ok(()),
+    }
+}
+
+/// The state behind a statement without blocks.
+pub(crate) fn pass<'a>(state: &mut State<'a>, form: &'a Form) -> Result<(), AllocError>
+    requires { (line : ℕ) → IsTrue (calls_known (form_tree line form.now)) }
+    ensures { OnOk result ((line : ℕ) → state_value state.new ≡ state_after (state_value state.old) (form_tree line form.now)) }
+{
+    let call = called(form);
+    take_effect(state, call);
+    settle(state, form, call)
+}
+
+/// The bare name that an expression is.
+fn variable_of(e: &Expr) -> Option<&[u8]>
+    ensures { option_map (λ x. x.now) result ≡ variable_of (expr_tree e.now) }
+{
+    match e {
+        Expr::Variable(x) => Some(x.as_bytes()),
+        Expr::Number { .. } => None,
+        Expr::Named(_) => None,
+        Expr::Element(..) => None,
+        Expr::Prefix(..) => None,
+        Expr::Binary(..) => None,
+        Expr::Paren(_) => None,
+    }
+}
+
+/// Whether an expression is NULL.
+fn is_null(e: &Expr) -> bool
+    ensures { result ≡ is_null (expr_tree e.now) }
+{
+    matches!(e, Expr::Named(Constant::Null))
+}
+
+/// What a comparison of this name with NULL tests.
+#[tactic(auto, using(crate::proofs::ChangeLemmas::test_rules))]
+fn tested_by(op: BinaryOp, name: Option<&[u8]>) -> Option<NullTest<'_>>
+    ensures { option_map test_value result ≡ tested_by (binary_tree op) (option_map (λ x. x.now) name.entry) true }
+{
+    match name {
+        Some(x) => match op {
+            BinaryOp::Equal => Some(NullTest::Is(x)),
+            BinaryOp::NotEqual => Some(NullTest::IsNot(x)),
+            _ => None,
+        },
+        None => None,
+    }
+}
+
+/// What a comparison of these operands tests.
+#[tactic(auto, using(crate::proofs::ChangeLemmas::test_rules))]
+fn comparison<'a>(op: BinaryOp, left: &'a Expr, right: &Expr) -> Option<NullTest<'a>>
+    ensures { option_map test_value result ≡ tested_by (binary_tree op) (variable_of (expr_tree left.now)) (is_null (expr_tree right.now)) }
+{
+    if is_null(right) {
+        return tested_by(op, variable_of(left));
+    }
+    None
+}
+
+/// What an expression tests for NULL as a whole.
+fn null_test(e: &Expr) -> Option<NullTest<'_>>
+    ensures { option_map test_value result ≡ null_test_of (expr_tree e.now) }
+{
+    match e {
+        Expr::Binary(op, left, right) => comparison(*op, left, right),
+        Expr::Number { .. } => None,
+        Expr::Named(_) => None,
+        Expr::Variable(_) => None,
+        Expr::Element(..) => None,
+        Expr::Prefix(..) => None,
+        Expr::Paren(_) => None,
+    }
+}
+
+/// What is known where the test holds.
+fn learn_true<'a>(state: &mut State<'a>, tested: Option<NullTest<'a>>)
+    ensures { state_value state.new ≡ taught_true (state_value state.old) (option_map test_value tested.entry) }
+{
+    match tested {
+        Some(NullTest::Is(x)) => change_each(state, Change::Free(x)),
+        Some(NullTest::IsNot(x)) => change_each(state, Change::Usable(x)),
+        None => {}
+    }
+}
+
+/// What is known where it does not.
+fn learn_false<'a>(state: &mut State<'a>, tested: Option<NullTest<'a>>)
+    ensures { state_value state.new ≡ taught_false (state_value state.old) (option_map test_value tested.entry) }
+{
+    match tested {
+        Some(NullTest::Is(x)) => change_each(state, Change::Usable(x)),
+        Some(NullTest::IsNot(x)) => change_each(state, Change::Free(x)),
+        None => {}
+    }
+}
+
+/// The state on the way where the test holds. So many frames that they can't be counted are a want of memory.
+pub(crate) fn take_true<'a>(state: &mut State<'a>, test: &'a Test) -> Result<(), AllocError>
+    ensures { OnOk result (state_value state.new ≡ where_true (state_value state.old) (test_tree test.now)) }
+{
+    match test {
+        Test::Expr(e) => {
+            learn_true(state, null_test(e));
+            Ok(())
+        }
+        Test::Call(_) => {
+            if state.frames == usize::MAX {
+                return Err(AllocError);
+            }
+            state.frames += 1;
+            Ok(())
+        }
+    }
+}
+
+/// The state on the way where it does not.
+pub(crate) fn take_false<'a>(state: &mut State<'a>, test: &'a Test)
+    ensures { state_value state.new ≡ where_false (state_value state.old) (test_tree test.now) }
+{
+    match test {
+        Test::Expr(e) => learn_false(state, null_test(e)),
+        Test::Call(_) => {}
+    }
+}

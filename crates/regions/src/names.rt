@@ -1,0 +1,172 @@
+//! The names that a statement uses, and those whose elements it reads or writes.
+
+ghost use Rattle.std.specs.Prelude.{◌≡◌, ℕ};
+ghost use Rattle.syntax.specs.Views.{expr_tree, argument_tree, call_tree, right_side_tree, test_tree, form_tree};
+ghost use Rattle.regions.specs.Standings.{state_value, asks};
+ghost use Rattle.regions.specs.Uses.{expr_uses, argument_uses, call_uses, right_uses, test_uses, uses, expr_reads, argument_reads, call_reads, right_reads, test_reads, reads};
+
+use crate::standing::{Condition, State, is};
+use syntax::{Argument, Call, Expr, Form, RightSide, Test};
+
+/// Whether some name of an expression is so.
+fn expr_uses(state: &State, condition: Condition, e: &Expr) -> bool
+    ensures { result ≡ expr_uses (asks condition (state_value state.now)) (expr_tree e.now) }
+{
+    match e {
+        Expr::Number { .. } | Expr::Named(_) => false,
+        Expr::Variable(x) => is(state, condition, x.as_bytes()),
+        Expr::Element(x, i) => {
+            is(state, condition, x.as_bytes()) || expr_uses(state, condition, i)
+        }
+        Expr::Prefix(_, a) | Expr::Paren(a) => expr_uses(state, condition, a),
+        Expr::Binary(_, a, b) => {
+            expr_uses(state, condition, a) || expr_uses(state, condition, b)
+        }
+    }
+}
+
+/// Whether an argument uses a name that is so.
+fn argument_uses(state: &State, condition: Condition, argument: &Argument) -> bool
+    ensures { result ≡ argument_uses (asks condition (state_value state.now)) (argument_tree argument.now) }
+{
+    match argument {
+        Argument::Value(e) => expr_uses(state, condition, e),
+        Argument::Text(_) => false,
+        Argument::AddressOf(x) => is(state, condition, x.as_bytes()),
+    }
+}
+
+/// Whether an argument of a call does.
+fn call_uses(state: &State, condition: Condition, call: &Call) -> bool
+    ensures { result ≡ call_uses (asks condition (state_value state.now)) (call_tree call.now) }
+{
+    for argument in &call.arguments {
+        if argument_uses(state, condition, argument) {
+            return true;
+        }
+    }
+    false
+}
+
+fn right_uses(state: &State, condition: Condition, right: &RightSide) -> bool
+    ensures { result ≡ right_uses (asks condition (state_value state.now)) (right_side_tree right.now) }
+{
+    match right {
+        RightSide::Expr(e) => expr_uses(state, condition, e),
+        RightSide::Call(c) => call_uses(state, condition, c),
+    }
+}
+
+fn test_uses(state: &State, condition: Condition, test: &Test) -> bool
+    ensures { result ≡ test_uses (asks condition (state_value state.now)) (test_tree test.now) }
+{
+    match test {
+        Test::Expr(e) => expr_uses(state, condition, e),
+        Test::Call(c) => call_uses(state, condition, c),
+    }
+}
+
+/// Whether a statement uses a name that is so. A name that it declares or sets is not used.
+pub(crate) fn uses(state: &State, condition: Condition, form: &Form) -> bool
+    ensures { (line : ℕ) → result ≡ uses (asks condition (state_value state.now)) (form_tree line form.now) }
+{
+    match form {
+        Form::Declare(_, _, r) => right_uses(state, condition, r),
+        Form::DeclareBuffer(_, _, r) => right_uses(state, condition, r),
+        Form::DeclareChars(_, r) => right_uses(state, condition, r),
+        Form::DeclareArray(..) => false,
+        Form::Assign(_, r) => right_uses(state, condition, r),
+        Form::AssignElement(x, i, e) => {
+            is(state, condition, x.as_bytes())
+                || expr_uses(state, condition, i)
+                || expr_uses(state, condition, e)
+        }
+        Form::Perform(c) => call_uses(state, condition, c),
+        Form::PutJint(e) => expr_uses(state, condition, e),
+        Form::If(test, _) => test_uses(state, condition, test),
+        Form::IfElse(test, _, _) => test_uses(state, condition, test),
+        Form::While(e, _) => expr_uses(state, condition, e),
+        Form::Return(None) => false,
+        Form::Return(Some(e)) => expr_uses(state, condition, e),
+    }
+}
+
+/// Whether an expression reads an element of a name that is so.
+fn expr_reads(state: &State, condition: Condition, e: &Expr) -> bool
+    ensures { result ≡ expr_reads (asks condition (state_value state.now)) (expr_tree e.now) }
+{
+    match e {
+        Expr::Number { .. } | Expr::Named(_) | Expr::Variable(_) => false,
+        Expr::Element(x, i) => {
+            is(state, condition, x.as_bytes()) || expr_reads(state, condition, i)
+        }
+        Expr::Prefix(_, a) | Expr::Paren(a) => expr_reads(state, condition, a),
+        Expr::Binary(_, a, b) => {
+            expr_reads(state, condition, a) || expr_reads(state, condition, b)
+        }
+    }
+}
+
+fn argument_reads(state: &State, condition: Condition, argument: &Argument) -> bool
+    ensures { result ≡ argument_reads (asks condition (state_value state.now)) (argument_tree argument.now) }
+{
+    match argument {
+        Argument::Value(e) => expr_reads(state, condition, e),
+        Argument::Text(_) => false,
+        Argument::AddressOf(_) => false,
+    }
+}
+
+fn call_reads(state: &State, condition: Condition, call: &Call) -> bool
+    ensures { result ≡ call_reads (asks condition (state_value state.now)) (call_tree call.now) }
+{
+    for argument in &call.arguments {
+        if argument_reads(state, condition, argument) {
+            return true;
+        }
+    }
+    false
+}
+
+fn right_reads(state: &State, condition: Condition, right: &RightSide) -> bool
+    ensures { result ≡ right_reads (asks condition (state_value state.now)) (right_side_tree right.now) }
+{
+    match right {
+        RightSide::Expr(e) => expr_reads(state, condition, e),
+        RightSide::Call(c) => call_reads(state, condition, c),
+    }
+}
+
+fn test_reads(state: &State, condition: Condition, test: &Test) -> bool
+    ensures { result ≡ test_reads (asks condition (state_value state.now)) (test_tree test.now) }
+{
+    match test {
+        Test::Expr(e) => expr_reads(state, condition, e),
+        Test::Call(c) => call_reads(state, condition, c),
+    }
+}
+
+/// Whether a statement reads or writes an element of a name that is so.
+pub(crate) fn reads(state: &State, condition: Condition, form: &Form) -> bool
+    ensures { (line : ℕ) → result ≡ reads (asks condition (state_value state.now)) (form_tree line form.now) }
+{
+    match form {
+        Form::Declare(_, _, r) => right_reads(state, condition, r),
+        Form::DeclareBuffer(_, _, r) => right_reads(state, condition, r),
+        Form::DeclareChars(_, r) => right_reads(state, condition, r),
+        Form::DeclareArray(..) => false,
+        Form::Assign(_, r) => right_reads(state, condition, r),
+        Form::AssignElement(x, i, e) => {
+            expr_reads(state, condition, i)
+                || expr_reads(state, condition, e)
+                || is(state, condition, x.as_bytes())
+        }
+        Form::Perform(c) => call_reads(state, condition, c),
+        Form::PutJint(e) => expr_reads(state, condition, e),
+        Form::If(test, _) => test_reads(state, condition, test),
+        Form::IfElse(test, _, _) => test_reads(state, condition, test),
+        Form::While(e, _) => expr_reads(state, condition, e),
+        Form::Return(None) => false,
+        Form::Return(Some(e)) => expr_reads(state, condition, e),
+    }
+}

@@ -1,0 +1,325 @@
+//! The rules on buffers, references and frames that one statement can break.
+
+ghost use Rattle.std.specs.Prelude.{◌≡◌, ℕ, bytes_eq, IsTrue};
+ghost use Rattle.std.specs.Option.{option_map, is_some};
+ghost use Rattle.base.specs.Options.{some_passes};
+ghost use Rattle.syntax.specs.Parts.{assigned_name};
+ghost use Rattle.syntax.specs.Views.{form_tree};
+ghost use Rattle.regions.specs.FirstFaults.{first_broken};
+ghost use Rattle.regions.specs.RegionRules.{CallWhileCritical, ReturnWithBuffer, HeldBuffer, UntestedBuffer, WrongBuffer, ReturnInFrame, PopLastFrame, DeadReference, ArrayInUse, WrongLevel, is_return, is_put_jint, is_level, is_mismatched};
+ghost use Rattle.regions.specs.RegionStates.{state_of};
+ghost use Rattle.regions.specs.Standings.{standing_value, state_value, asks, held_in};
+ghost use Rattle.regions.specs.Effects.{made_value, release_value, calls_known, got};
+ghost use Rattle.regions.specs.Findings.{rule_of};
+ghost use Rattle.regions.specs.Judgements.{judged, first_judged, is_wrong_release, is_other_level, frames_after, has_young_array, pops_array, gets_elsewhere};
+
+use crate::calls::{MadeCall, Release, called, deleted, got, is_forbidden, popped, released};
+use crate::fault::RegionRule;
+use crate::names::{reads, uses};
+use crate::standing::{
+    Condition, Standing, State, Variable, held_of, holds_buffer, holds_critical, is, is_critical,
+    is_level, is_same, is_some_in_use, same_access, some_is, standing_of,
+};
+use syntax::Form;
+
+/// Whether a statement returns.
+fn is_return(form: &Form) -> bool
+    ensures { (line : ℕ) → result ≡ is_return (form_tree line form.now) }
+{
+    match form {
+        Form::Return(None) => true,
+        Form::Return(Some(_)) => true,
+        Form::Declare(..)
+        | Form::DeclareBuffer(..)
+        | Form::DeclareChars(..)
+        | Form::DeclareArray(..)
+        | Form::AssignElement(..)
+        | Form::Perform(_)
+        | Form::If(..)
+        | Form::IfElse(..)
+        | Form::While(..)
+        | Form::Assign(..)
+        | Form::PutJint(_) => false,
+    }
+}
+
+/// Whether a statement prints.
+fn is_put_jint(form: &Form) -> bool
+    ensures { (line : ℕ) → result ≡ is_put_jint (form_tree line form.now) }
+{
+    match form {
+        Form::PutJint(_) => true,
+        Form::Return(None) => false,
+        Form::Return(Some(_)) => false,
+        Form::Declare(..)
+        | Form::DeclareBuffer(..)
+        | Form::DeclareChars(..)
+        | Form::DeclareArray(..)
+        | Form::AssignElement(..)
+        | Form::Perform(_)
+        | Form::If(..)
+        | Form::IfElse(..)
+        | Form::While(..)
+        | Form::Assign(..) => false,
+    }
+}
+
+/// The variable that an assignment sets.
+pub(crate) fn assigned_name(form: &Form) -> Option<&[u8]>
+    ensures { (line : ℕ) → option_map (λ x. x.now) result ≡ assigned_name (form_tree line form.now) }
+{
+    match form {
+        Form::Assign(x, _) => Some(x.as_bytes()),
+        Form::Return(None) => None,
+        Form::Return(Some(_)) => None,
+        Form::Declare(..)
+        | Form::DeclareBuffer(..)
+        | Form::DeclareChars(..)
+        | Form::DeclareArray(..)
+        | Form::AssignElement(..)
+        | Form::Perform(_)
+        | Form::If(..)
+        | Form::IfElse(..)
+        | Form::While(..)
+        | Form::PutJint(_) => None,
+    }
+}
+
+fn breaks_critical(state: &State, form: &Form, call: Option<MadeCall>) -> bool
+    ensures { (line : ℕ) → result ≡ judged CallWhileCritical (state_value state.now) (form_tree line form.now) (option_map made_value call.entry) }
+{
+    holds_critical(state) && (is_put_jint(form) || is_forbidden(call))
+}
+
+fn breaks_return(state: &State, form: &Form, call: Option<MadeCall>) -> bool
+    ensures { (line : ℕ) → result ≡ judged ReturnWithBuffer (state_value state.now) (form_tree line form.now) (option_map made_value call.entry) }
+{
+    is_return(form) && holds_buffer(state)
+}
+
+/// Whether a call is a Get.
+fn gets(call: Option<MadeCall>) -> bool
+    ensures { result ≡ is_some (got (option_map made_value call.entry)) }
+{
+    match got(call) {
+        Some(_) => true,
+        None => false,
+    }
+}
+
+fn breaks_held(state: &State, form: &Form, call: Option<MadeCall>) -> bool
+    ensures { (line : ℕ) → result ≡ judged HeldBuffer (state_value state.now) (form_tree line form.now) (option_map made_value call.entry) }
+{
+    gets(call) && some_is(state, Condition::Held, assigned_name(form))
+}
+
+/// Whether an untested buffer is released.
+fn releases_untested(state: &State, release: Option<Release>) -> bool
+    ensures { result ≡ some_passes (λ release. some_passes (asks Condition.Untested (state_value state.now)) release.buffer) (option_map release_value release.entry) }
+{
+    match release {
+        Some(r) => some_is(state, Condition::Untested, r.buffer),
+        None => false,
+    }
+}
+
+fn breaks_untested(state: &State, form: &Form, call: Option<MadeCall>) -> bool
+    ensures { (line : ℕ) → result ≡ judged UntestedBuffer (state_value state.now) (form_tree line form.now) (option_map made_value call.entry) }
+{
+    reads(state, Condition::Untested, form) || releases_untested(state, released(call))
+}
+
+/// Whether a name is spelled so.
+fn is_name(name: &[u8], other: Option<&[u8]>) -> bool
+    ensures { result ≡ some_passes (bytes_eq name.now) (option_map (λ x. x.now) other.entry) }
+{
+    match other {
+        Some(x) => is_same(name, x),
+        None => false,
+    }
+}
+
+/// Whether a release is not the one that a held buffer wants.
+fn is_mismatched(release: Release, standing: Option<Standing>) -> bool
+    ensures { result ≡ is_mismatched (release_value release.entry) (option_map standing_value standing.entry) }
+{
+    match standing {
+        Some(Standing::Untested(access, array)) => {
+            !(same_access(release.access, access) && is_name(array, release.object))
+        }
+        Some(Standing::Usable(access, array)) => {
+            !(same_access(release.access, access) && is_name(array, release.object))
+        }
+        Some(Standing::Reference(..)) => false,
+        Some(Standing::Free) => false,
+        None => false,
+    }
+}
+
+/// Whether the variable that is released wants another release.
+fn mismatches(state: &State, release: Release) -> bool
+    ensures { result ≡ some_passes (λ x. is_mismatched (release_value release.entry) (state_of (state_value state.now) x)) (option_map (λ x. x.now) release.entry.buffer) }
+{
+    match release.buffer {
+        Some(x) => is_mismatched(release, standing_of(state, x)),
+        None => false,
+    }
+}
+
+fn is_wrong_release(state: &State, release: Release) -> bool
+    ensures { result ≡ is_wrong_release (state_value state.now) (release_value release.entry) }
+{
+    (release.commits && is_critical(release.access)) || mismatches(state, release)
+}
+
+fn releases_wrongly(state: &State, release: Option<Release>) -> bool
+    ensures { result ≡ some_passes (is_wrong_release (state_value state.now)) (option_map release_value release.entry) }
+{
+    match release {
+        Some(r) => is_wrong_release(state, r),
+        None => false,
+    }
+}
+
+fn breaks_wrong(state: &State, form: &Form, call: Option<MadeCall>) -> bool
+    ensures { (line : ℕ) → result ≡ judged WrongBuffer (state_value state.now) (form_tree line form.now) (option_map made_value call.entry) }
+{
+    uses(state, Condition::Free, form) || releases_wrongly(state, released(call))
+}
+
+fn breaks_frame(state: &State, form: &Form, call: Option<MadeCall>) -> bool
+    ensures { (line : ℕ) → result ≡ judged ReturnInFrame (state_value state.now) (form_tree line form.now) (option_map made_value call.entry) }
+{
+    is_return(form) && state.frames > 1
+}
+
+fn breaks_pop(state: &State, form: &Form, call: Option<MadeCall>) -> bool
+    ensures { (line : ℕ) → result ≡ judged PopLastFrame (state_value state.now) (form_tree line form.now) (option_map made_value call.entry) }
+{
+    popped(call) && state.frames <= 1
+}
+
+fn breaks_dead(state: &State, form: &Form, call: Option<MadeCall>) -> bool
+    ensures { (line : ℕ) → result ≡ judged DeadReference (state_value state.now) (form_tree line form.now) (option_map made_value call.entry) }
+{
+    uses(state, Condition::Dead, form)
+}
+
+/// Whether the array variable of a held buffer is of the level of the youngest frame.
+fn is_array_young(state: &State, v: &Variable) -> bool
+    ensures { result ≡ some_passes (λ held. is_level state.now.frames (state_of (state_value state.now) held.1)) (held_in (standing_value v.now.standing)) }
+{
+    match held_of(v.standing) {
+        Some((_, array)) => is_level(state.frames, standing_of(state, array)),
+        None => false,
+    }
+}
+
+/// Whether the array variable of some held buffer is.
+fn has_young_array(state: &State) -> bool
+    ensures { result ≡ has_young_array (state_value state.now) }
+{
+    for v in &state.variables {
+        if is_array_young(state, v) {
+            return true;
+        }
+    }
+    false
+}
+
+fn pops_array(state: &State, call: Option<MadeCall>) -> bool
+    ensures { result ≡ pops_array (state_value state.now) (option_map made_value call.entry) }
+{
+    popped(call) && has_young_array(state)
+}
+
+/// Whether a Get is of something else than a local variable.
+fn gets_elsewhere(state: &State, call: Option<MadeCall>) -> bool
+    ensures { result ≡ gets_elsewhere (state_value state.now) (option_map made_value call.entry) }
+{
+    match got(call) {
+        Some((_, array)) => !some_is(state, Condition::Reference, array),
+        None => false,
+    }
+}
+
+fn breaks_array(state: &State, form: &Form, call: Option<MadeCall>) -> bool
+    ensures { (line : ℕ) → result ≡ judged ArrayInUse (state_value state.now) (form_tree line form.now) (option_map made_value call.entry) }
+{
+    is_some_in_use(state, assigned_name(form))
+        || is_some_in_use(state, deleted(call))
+        || pops_array(state, call)
+        || gets_elsewhere(state, call)
+}
+
+/// The number of frames after a call.
+fn frames_after(state: &State, call: Option<MadeCall>) -> usize
+    ensures { result ≡ frames_after (state_value state.now) (option_map made_value call.entry) }
+{
+    if popped(call) {
+        state.frames.saturating_sub(1)
+    } else {
+        state.frames
+    }
+}
+
+/// Whether a variable is a reference of another level.
+fn is_other_level(state: &State, frames: usize, name: &[u8]) -> bool
+    ensures { result ≡ is_other_level frames (state_of (state_value state.now) name.now) }
+{
+    is(state, Condition::Reference, name) && !is_level(frames, standing_of(state, name))
+}
+
+fn breaks_level(state: &State, form: &Form, call: Option<MadeCall>) -> bool
+    ensures { (line : ℕ) → result ≡ judged WrongLevel (state_value state.now) (form_tree line form.now) (option_map made_value call.entry) }
+{
+    match assigned_name(form) {
+        Some(x) => is_other_level(state, frames_after(state, call), x),
+        None => false,
+    }
+}
+
+/// The rule of least number that a statement with this call breaks by itself.
+fn first_judged(state: &State, form: &Form, call: Option<MadeCall>) -> Option<RegionRule>
+    ensures { (line : ℕ) → option_map rule_of result ≡ first_judged (state_value state.now) (form_tree line form.now) (option_map made_value call.entry) }
+{
+    if breaks_critical(state, form, call) {
+        return Some(RegionRule::CallWhileCritical);
+    }
+    if breaks_return(state, form, call) {
+        return Some(RegionRule::ReturnWithBuffer);
+    }
+    if breaks_held(state, form, call) {
+        return Some(RegionRule::HeldBuffer);
+    }
+    if breaks_untested(state, form, call) {
+        return Some(RegionRule::UntestedBuffer);
+    }
+    if breaks_wrong(state, form, call) {
+        return Some(RegionRule::WrongBuffer);
+    }
+    if breaks_frame(state, form, call) {
+        return Some(RegionRule::ReturnInFrame);
+    }
+    if breaks_pop(state, form, call) {
+        return Some(RegionRule::PopLastFrame);
+    }
+    if breaks_dead(state, form, call) {
+        return Some(RegionRule::DeadReference);
+    }
+    if breaks_array(state, form, call) {
+        return Some(RegionRule::ArrayInUse);
+    }
+    if breaks_level(state, form, call) {
+        return Some(RegionRule::WrongLevel);
+    }
+    None
+}
+
+/// The rule of least number that a statement breaks by itself.
+pub(crate) fn first_broken(state: &State, form: &Form) -> Option<RegionRule>
+    requires { (line : ℕ) → IsTrue (calls_known (form_tree line form.now)) }
+    ensures { (line : ℕ) → option_map rule_of result ≡ first_broken (state_value state.now) (form_tree line form.now) }
+{
+    first_judged(state, form, called(form))
+}

@@ -1,0 +1,403 @@
+//! The ways through a function.
+
+ghost use Rattle.std.specs.Prelude.{◌≡◌, ℕ, not, ◌&&◌, bytes_eq, Some, Ok, Err, filter, map, IfOk, IsTrue};
+ghost use Rattle.std.specs.List.{list_all};
+ghost use lib.Pointwise.{pointwise};
+ghost use Rattle.syntax.specs.Parts.{statements_of, statements_within};
+ghost use Rattle.syntax.specs.Tree.{End};
+ghost use Rattle.syntax.specs.Views.{block_tree, stmt_tree, test_tree, form_tree, function_tree, item_tree};
+ghost use Rattle.regions.specs.RegionStates.{state_at_entry, state_after};
+ghost use Rattle.regions.specs.RegionRules.{is_held};
+ghost use Rattle.regions.specs.Regions.{On, left, has_variable, where_true, where_false};
+ghost use Rattle.regions.specs.SameStates.{same_variable, same_named, same_state};
+ghost use Rattle.regions.specs.Ways.{join_ways, turn_way, way_of, way_of_block};
+ghost use Rattle.regions.specs.Standings.{standing_value, variables_value, state_value};
+ghost use Rattle.regions.specs.Effects.{calls_known, item_known, items_known};
+ghost use Rattle.regions.specs.Findings.{rule_of, Finds, function_fault, item_fault, items_fault};
+ghost use Rattle.regions.specs.Walks.{holds_other, way_value, Goes, inner_way};
+
+use crate::changes::{pass, take_false, take_true};
+use crate::fault::{CheckFault, RegionFault, RegionRule};
+use crate::rules::first_broken;
+use crate::standing::{Standing, State, Variable, copy, is_held, is_same, same_access};
+use std::alloc::{AllocError, Global};
+use syntax::{Block, Form, Function, Item, ParameterType, Stmt, Test};
+
+/// How a way goes on behind a statement: with a state, or not at all.
+#[derive(Drop)]
+pub(crate) enum Way<'a> {
+    On(State<'a>),
+    Returned,
+}
+
+/// Whether the same is known of two variables.
+fn same_standing(a: Standing, b: Standing) -> bool
+    ensures { result ≡ same_variable (standing_value a.entry) (standing_value b.entry) }
+{
+    match a {
+        Standing::Reference(level, live) => match b {
+            Standing::Reference(other, is_live) => level == other && live == is_live,
+            Standing::Free => false,
+            Standing::Untested(..) => false,
+            Standing::Usable(..) => false,
+        },
+        Standing::Free => matches!(b, Standing::Free),
+        Standing::Untested(access, array) => match b {
+            Standing::Untested(other, name) => same_access(access, other) && is_same(array, name),
+            Standing::Reference(..) => false,
+            Standing::Free => false,
+            Standing::Usable(..) => false,
+        },
+        Standing::Usable(access, array) => match b {
+            Standing::Usable(other, name) => same_access(access, other) && is_same(array, name),
+            Standing::Reference(..) => false,
+            Standing::Free => false,
+            Standing::Untested(..) => false,
+        },
+    }
+}
+
+/// Whether two variables have one name, and the same is known of them.
+fn same_named(a: &Variable, b: &Variable) -> bool
+    ensures { result ≡ (bytes_eq a.now.name.now b.now.name.now && same_variable (standing_value a.now.standing) (standing_value b.now.standing)) }
+{
+    is_same(a.name, b.name) && same_standing(a.standing, b.standing)
+}
+
+/// Whether these are the same variables in the same order.
+fn same_variables(a: &[Variable], b: &[Variable]) -> bool
+    ensures { result ≡ pointwise same_named (variables_value a.now) (variables_value b.now) }
+{
+    match a {
+        [] => b.is_empty(),
+        [first, rest @ ..] => match b {
+            [] => false,
+            [other, others @ ..] => same_named(first, other) && same_variables(rest, others),
+        },
+    }
+}
+
+/// Whether two states are the same.
+fn same_state(a: &State, b: &State) -> bool
+    ensures { result ≡ same_state (state_value a.now) (state_value b.now) }
+{
+    same_variables(&a.variables, &b.variables) && a.frames == b.frames
+}
+
+/// Whether a variable is one of a state.
+fn has_variable(state: &State, name: &[u8]) -> bool
+    ensures { result ≡ has_variable (state_value state.now) name.now }
+{
+    for v in &state.variables {
+        if is_same(v.name, name) {
+            return true;
+        }
+    }
+    false
+}
+
+/// Whether a variable is a held buffer that is not of the outer state.
+fn is_own_held(outer: &State, v: &Variable) -> bool
+    ensures { result ≡ (not (has_variable (state_value outer.now) v.now.name.now) && is_held (Some (standing_value v.now.standing))) }
+{
+    !has_variable(outer, v.name) && is_held(v)
+}
+
+/// Whether a buffer of the block itself is held.
+fn holds_own(outer: &State, state: &State) -> bool
+    ensures { result ≡ holds_other (state_value outer.now) (state_value state.now) }
+{
+    for v in &state.variables {
+        if is_own_held(outer, v) {
+            return true;
+        }
+    }
+    false
+}
+
+/// The variables of the outer state alone.
+fn retain_outer(outer: &State, variables: &mut Vec<Variable>)
+    ensures { variables.new.items ≡ filter (λ v. has_variable (state_value outer.now) v.name.now) variables.old.items }
+{
+    variables.retain(|v| has_variable(outer, v.name));
+}
+
+/// The variables of the outer state alone are left.
+fn leave(outer: &State, state: &mut State)
+    ensures { state_value state.new ≡ left (state_value outer.now) (state_value state.old) }
+{
+    retain_outer(outer, &mut state.variables);
+}
+
+/// The fault of a rule on this line.
+fn refuse<'a>(rule: RegionRule, line: usize) -> Result<Way<'a>, CheckFault>
+    ensures { Goes result (Err (line, rule_of rule)) }
+{
+    Err(CheckFault::Broken(RegionFault { rule, line }))
+}
+
+/// A block's end on this line.
+fn end<'a>(outer: &State<'a>, mut state: State<'a>, line: usize) -> Result<Way<'a>, CheckFault>
+    ensures { Goes result (way_of_block (state_value outer.now) (state_value state.entry) (End line)) }
+{
+    if holds_own(outer, &state) {
+        return refuse(RegionRule::HeldBuffer, line);
+    }
+    leave(outer, &mut state);
+    Ok(Way::On(state))
+}
+
+/// Two ways become one.
+fn join_ways<'a>(line: usize, first: Way<'a>, second: Way<'a>) -> Result<Way<'a>, CheckFault>
+    ensures { Goes result (join_ways line (Ok (way_value first.entry)) (Ok (way_value second.entry))) }
+{
+    match first {
+        Way::Returned => Ok(second),
+        Way::On(a) => match second {
+            Way::Returned => Ok(Way::On(a)),
+            Way::On(b) => {
+                if same_state(&a, &b) {
+                    return Ok(Way::On(a));
+                }
+                refuse(RegionRule::WaysDiffer, line)
+            }
+        },
+    }
+}
+
+/// The way behind a loop, whose body comes back to the state in which it began.
+fn turn_way<'a>(line: usize, before: State<'a>, turn: Way<'a>) -> Result<Way<'a>, CheckFault>
+    ensures { Goes result (turn_way line (state_value before.entry) (Ok (way_value turn.entry))) }
+{
+    match turn {
+        Way::Returned => Ok(Way::On(before)),
+        Way::On(after) => {
+            if same_state(&after, &before) {
+                return Ok(Way::On(before));
+            }
+            refuse(RegionRule::WaysDiffer, line)
+        }
+    }
+}
+
+/// The state where a test holds.
+fn state_true<'a>(
+    alloc: Global,
+    state: &State<'a>,
+    test: &'a Test,
+) -> Result<State<'a>, AllocError>
+    ensures { IfOk result (λ s. state_value s ≡ where_true (state_value state.now) (test_tree test.now)) }
+{
+    let mut inside = copy(alloc, state)?;
+    take_true(&mut inside, test)?;
+    Ok(inside)
+}
+
+/// The state where it does not.
+fn state_false<'a>(
+    alloc: Global,
+    state: &State<'a>,
+    test: &'a Test,
+) -> Result<State<'a>, AllocError>
+    ensures { IfOk result (λ s. state_value s ≡ where_false (state_value state.now) (test_tree test.now)) }
+{
+    let mut inside = copy(alloc, state)?;
+    take_false(&mut inside, test);
+    Ok(inside)
+}
+
+/// The way behind a statement without blocks.
+fn pass_way<'a>(mut before: State<'a>, form: &'a Form) -> Result<Way<'a>, CheckFault>
+    requires { (line : ℕ) → IsTrue (calls_known (form_tree line form.now)) }
+    ensures { (line : ℕ) → Goes result (Ok (On (state_after (state_value before.entry) (form_tree line form.now)))) }
+{
+    pass(&mut before, form)?;
+    Ok(Way::On(before))
+}
+
+/// The way behind an `if` without `else`.
+#[cycle(walk)]
+fn if_way<'a>(
+    alloc: Global,
+    before: State<'a>,
+    line: usize,
+    test: &'a Test,
+    then: &'a Block,
+) -> Result<Way<'a>, CheckFault>
+    requires { IsTrue (list_all calls_known (statements_of (block_tree then.now))) }
+    ensures { Goes result (join_ways line (way_of_block (state_value before.entry) (where_true (state_value before.entry) (test_tree test.now)) (block_tree then.now)) (Ok (On (where_false (state_value before.entry) (test_tree test.now))))) }
+{
+    let inside = state_true(alloc, &before, test)?;
+    let way = block_way(alloc, &before, inside, then)?;
+    let mut passed = before;
+    take_false(&mut passed, test);
+    join_ways(line, way, Way::On(passed))
+}
+
+/// The way behind an `if` with `else`.
+#[cycle(walk)]
+fn if_else_way<'a>(
+    alloc: Global,
+    before: State<'a>,
+    line: usize,
+    test: &'a Test,
+    then: &'a Block,
+    otherwise: &'a Block,
+) -> Result<Way<'a>, CheckFault>
+    requires then_known { IsTrue (list_all calls_known (statements_of (block_tree then.now))) }
+    requires else_known { IsTrue (list_all calls_known (statements_of (block_tree otherwise.now))) }
+    ensures { Goes result (join_ways line (way_of_block (state_value before.entry) (where_true (state_value before.entry) (test_tree test.now)) (block_tree then.now)) (way_of_block (state_value before.entry) (where_false (state_value before.entry) (test_tree test.now)) (block_tree otherwise.now))) }
+{
+    let yes = state_true(alloc, &before, test)?;
+    let first = block_way(alloc, &before, yes, then)?;
+    let no = state_false(alloc, &before, test)?;
+    let second = block_way(alloc, &before, no, otherwise)?;
+    join_ways(line, first, second)
+}
+
+/// The way behind a `while`.
+#[cycle(walk)]
+fn while_way<'a>(
+    alloc: Global,
+    before: State<'a>,
+    line: usize,
+    body: &'a Block,
+) -> Result<Way<'a>, CheckFault>
+    requires { IsTrue (list_all calls_known (statements_of (block_tree body.now))) }
+    ensures { Goes result (turn_way line (state_value before.entry) (way_of_block (state_value before.entry) (state_value before.entry) (block_tree body.now))) }
+{
+    let inside = copy(alloc, &before)?;
+    let turn = block_way(alloc, &before, inside, body)?;
+    turn_way(line, before, turn)
+}
+
+/// The way behind a statement on this line that keeps the rules itself.
+#[cycle(walk)]
+fn inner_way<'a>(
+    alloc: Global,
+    before: State<'a>,
+    line: usize,
+    form: &'a Form,
+) -> Result<Way<'a>, CheckFault>
+    requires { IsTrue (list_all calls_known (statements_within (form_tree line form.now))) }
+    ensures { Goes result (inner_way (state_value before.entry) (form_tree line form.now)) }
+{
+    match form {
+        Form::If(test, b) => if_way(alloc, before, line, test, b),
+        Form::IfElse(test, b, d) => if_else_way(alloc, before, line, test, b, d),
+        Form::While(_, b) => while_way(alloc, before, line, b),
+        Form::Return(None) => Ok(Way::Returned),
+        Form::Return(Some(_)) => Ok(Way::Returned),
+        Form::Declare(..) => pass_way(before, form),
+        Form::DeclareBuffer(..) => pass_way(before, form),
+        Form::DeclareChars(..) => pass_way(before, form),
+        Form::DeclareArray(..) => pass_way(before, form),
+        Form::Assign(..) => pass_way(before, form),
+        Form::AssignElement(..) => pass_way(before, form),
+        Form::Perform(_) => pass_way(before, form),
+        Form::PutJint(_) => pass_way(before, form),
+    }
+}
+
+/// The way behind a statement.
+#[cycle(walk)]
+fn stmt_way<'a>(
+    alloc: Global,
+    before: State<'a>,
+    stmt: &'a Stmt,
+) -> Result<Way<'a>, CheckFault>
+    requires { IsTrue (list_all calls_known (statements_within (stmt_tree stmt.now))) }
+    ensures { Goes result (way_of (state_value before.entry) (stmt_tree stmt.now)) }
+{
+    match first_broken(&before, &stmt.form) {
+        Some(rule) => refuse(rule, stmt.line),
+        None => inner_way(alloc, before, stmt.line, &stmt.form),
+    }
+}
+
+/// The way through a block, where the variables of the outer state are not its own. Behind a return stands nothing.
+#[cycle(walk)]
+fn block_way<'a>(
+    alloc: Global,
+    outer: &State<'a>,
+    before: State<'a>,
+    block: &'a Block,
+) -> Result<Way<'a>, CheckFault>
+    requires { IsTrue (list_all calls_known (statements_of (block_tree block.now))) }
+    ensures { Goes result (way_of_block (state_value outer.now) (state_value before.entry) (block_tree block.now)) }
+{
+    let mut way = Way::On(before);
+    for stmt in &block.statements {
+        match way {
+            Way::On(state) => way = stmt_way(alloc, state, stmt)?,
+            Way::Returned => return refuse(RegionRule::NoReturn, stmt.line),
+        }
+    }
+    match way {
+        Way::On(state) => end(outer, state, block.end_line),
+        Way::Returned => Ok(Way::Returned),
+    }
+}
+
+/// What is known at a function's beginning: the class and its references are live, in one frame.
+fn entry_state<'a>(alloc: Global, f: &'a Function) -> Result<State<'a>, AllocError>
+    ensures { IfOk result (λ s. state_value s ≡ state_at_entry (function_tree f.now)) }
+{
+    let mut variables = Vec::new(alloc);
+    let standing = Standing::Reference(1, true);
+    variables.push(Variable {
+        name: f.class_name.as_bytes(),
+        standing,
+    })?;
+    for p in &f.parameters {
+        if let ParameterType::Reference(_) = p.kind {
+            variables.push(Variable {
+                name: p.name.as_bytes(),
+                standing,
+            })?;
+        }
+    }
+    Ok(State {
+        variables,
+        frames: 1,
+    })
+}
+
+/// The ways through a function.
+fn check_function(alloc: Global, f: &Function) -> Result<(), CheckFault>
+    requires { IsTrue (list_all calls_known (statements_of (block_tree f.now.body))) }
+    ensures { Finds result (function_fault (function_tree f.now)) }
+{
+    let outer = entry_state(alloc, f)?;
+    let before = copy(alloc, &outer)?;
+    match block_way(alloc, &outer, before, &f.body)? {
+        Way::On(_) => Err(CheckFault::Broken(RegionFault {
+            rule: RegionRule::NoReturn,
+            line: f.body.end_line,
+        })),
+        Way::Returned => Ok(()),
+    }
+}
+
+/// The ways through an item.
+fn check_item(alloc: Global, item: &Item) -> Result<(), CheckFault>
+    requires { IsTrue (item_known (item_tree item.now)) }
+    ensures { Finds result (item_fault (item_tree item.now)) }
+{
+    match item {
+        Item::Static(_) => Ok(()),
+        Item::Function(f) => check_function(alloc, f),
+    }
+}
+
+/// The ways through the functions of a unit.
+#[tactic(auto, using(crate::proofs::UnitLemmas::finds_rules))]
+pub(crate) fn check_items(alloc: Global, items: &[Item]) -> Result<(), CheckFault>
+    requires { IsTrue (items_known (map item_tree items.now)) }
+    ensures { Finds result (items_fault (map item_tree items.now)) }
+{
+    for item in items {
+        check_item(alloc, item)?;
+    }
+    Ok(())
+}
