@@ -1,16 +1,21 @@
 //! The programs of the pages on the language and its faults.
 
-use crate::tests::checked;
+use crate::tests::{checked, replayed, run};
 
-/// A program of a page, and what a check of it answers.
+/// A program of a page with what stands below it, and the first line of the answer: that of a check where there is no world,
+/// of a replay where there is a journal, and else of a run.
 struct Page {
     heading: &'static str,
     program: &'static [u8],
+    world: &'static [u8],
+    /// A hundred turns of thread 1 where there is none.
+    schedule: &'static [u8],
+    journal: &'static [u8],
     answer: &'static [u8],
 }
 
 /// In the order of the pages; `examples/agree` shows that these are the pages' texts.
-const PAGES: [Page; 18] = [
+const PAGES: [Page; 30] = [
     Page {
         heading: "A text",
         program: br#"static jobject cache = NULL;
@@ -20,6 +25,9 @@ JNIEXPORT jint JNICALL Java_com_example_Sum_add(JNIEnv *env, jclass cls, jint a,
     return (jint)((uint32_t)a + (uint32_t)b);
 }
 "#,
+        world: b"",
+        schedule: b"",
+        journal: b"",
         answer: b"ok\n",
     },
     Page {
@@ -38,6 +46,9 @@ JNIEXPORT jint JNICALL Java_com_example_Sum_add(JNIEnv *env, jclass cls, jint a,
     return;
 }
 "#,
+        world: b"",
+        schedule: b"",
+        journal: b"",
         answer: b"ok\n",
     },
     Page {
@@ -63,6 +74,9 @@ JNIEXPORT jint JNICALL Java_com_example_Sum_add(JNIEnv *env, jclass cls, jint a,
     return largest;
 }
 "#,
+        world: b"",
+        schedule: b"",
+        journal: b"",
         answer: b"ok\n",
     },
     Page {
@@ -73,6 +87,9 @@ JNIEXPORT jint JNICALL Java_com_example_Sum_add(JNIEnv *env, jclass cls, jint a,
     return;
 }
 "#,
+        world: b"",
+        schedule: b"",
+        journal: b"",
         answer: b"fault 1 line 3\n",
     },
     Page {
@@ -82,6 +99,9 @@ JNIEXPORT jint JNICALL Java_com_example_Sum_add(JNIEnv *env, jclass cls, jint a,
     return; /* done
 }
 "#,
+        world: b"",
+        schedule: b"",
+        journal: b"",
         answer: b"fault 2 line 3\n",
     },
     Page {
@@ -92,6 +112,9 @@ JNIEXPORT jint JNICALL Java_com_example_Sum_add(JNIEnv *env, jclass cls, jint a,
     return;
 }
 "#,
+        world: b"",
+        schedule: b"",
+        journal: b"",
         answer: b"fault 3 line 3\n",
     },
     Page {
@@ -102,6 +125,9 @@ JNIEXPORT jint JNICALL Java_com_example_Sum_add(JNIEnv *env, jclass cls, jint a,
     return;
 }
 "#,
+        world: b"",
+        schedule: b"",
+        journal: b"",
         answer: b"fault 4 line 3\n",
     },
     Page {
@@ -112,6 +138,9 @@ JNIEXPORT jint JNICALL Java_com_example_Sum_add(JNIEnv *env, jclass cls, jint a,
     return;
 }
 "#,
+        world: b"",
+        schedule: b"",
+        journal: b"",
         answer: b"fault 11 line 4\n",
     },
     Page {
@@ -123,6 +152,9 @@ JNIEXPORT jint JNICALL Java_com_example_Sum_add(JNIEnv *env, jclass cls, jint a,
     return;
 }
 "#,
+        world: b"",
+        schedule: b"",
+        journal: b"",
         answer: b"fault 12 line 4\n",
     },
     Page {
@@ -133,6 +165,9 @@ JNIEXPORT jint JNICALL Java_com_example_Sum_add(JNIEnv *env, jclass cls, jint a,
     return;
 }
 "#,
+        world: b"",
+        schedule: b"",
+        journal: b"",
         answer: b"fault 21 line 3\n",
     },
     Page {
@@ -144,6 +179,9 @@ JNIEXPORT jint JNICALL Java_com_example_Sum_add(JNIEnv *env, jclass cls, jint a,
     return;
 }
 "#,
+        world: b"",
+        schedule: b"",
+        journal: b"",
         answer: b"fault 22 line 3\n",
     },
     Page {
@@ -154,6 +192,9 @@ JNIEXPORT jint JNICALL Java_com_example_Sum_add(JNIEnv *env, jclass cls, jint a,
     return;
 }
 "#,
+        world: b"",
+        schedule: b"",
+        journal: b"",
         answer: b"fault 23 line 3\n",
     },
     Page {
@@ -164,6 +205,9 @@ JNIEXPORT jint JNICALL Java_com_example_Sum_add(JNIEnv *env, jclass cls, jint a,
     return;
 }
 "#,
+        world: b"",
+        schedule: b"",
+        journal: b"",
         answer: b"fault 24 line 3\n",
     },
     Page {
@@ -174,6 +218,9 @@ JNIEXPORT jint JNICALL Java_com_example_Sum_add(JNIEnv *env, jclass cls, jint a,
     return;
 }
 "#,
+        world: b"",
+        schedule: b"",
+        journal: b"",
         answer: b"fault 25 line 3\n",
     },
     Page {
@@ -184,6 +231,9 @@ JNIEXPORT jint JNICALL Java_com_example_Sum_add(JNIEnv *env, jclass cls, jint a,
     return;
 }
 "#,
+        world: b"",
+        schedule: b"",
+        journal: b"",
         answer: b"fault 26 line 3\n",
     },
     Page {
@@ -195,6 +245,9 @@ JNIEXPORT jint JNICALL Java_com_example_Sum_add(JNIEnv *env, jclass cls, jint a,
     return;
 }
 "#,
+        world: b"",
+        schedule: b"",
+        journal: b"",
         answer: b"fault 28 line 4\n",
     },
     Page {
@@ -206,6 +259,9 @@ JNIEXPORT jint JNICALL Java_com_example_Sum_add(JNIEnv *env, jclass cls, jint a,
     return;
 }
 "#,
+        world: b"",
+        schedule: b"",
+        journal: b"",
         answer: b"fault 35 line 4\n",
     },
     Page {
@@ -217,17 +273,218 @@ JNIEXPORT jint JNICALL Java_com_example_Sum_add(JNIEnv *env, jclass cls, jint a,
     }
 }
 "#,
+        world: b"",
+        schedule: b"",
+        journal: b"",
         answer: b"fault 42 line 6\n",
+    },
+    Page {
+        heading: "Worlds, schedules and journals",
+        program: br#"JNIEXPORT jint JNICALL Java_A_f(JNIEnv *env, jclass cls)
+{
+    return 0;
+}
+"#,
+        world: b"",
+        schedule: b"",
+        journal: b"",
+        answer: b"ok\n",
+    },
+    Page {
+        heading: "61: a class has the name of another",
+        program: br#"JNIEXPORT jint JNICALL Java_A_f(JNIEnv *env, jclass cls)
+{
+    return 0;
+}
+"#,
+        world: br#"heap 512
+class A
+class A
+thread Java_A_f
+"#,
+        schedule: b"",
+        journal: b"",
+        answer: b"fault 61 line 3\n",
+    },
+    Page {
+        heading: "81: a line or a word has no form",
+        program: br#"JNIEXPORT jint JNICALL Java_A_f(JNIEnv *env, jclass cls)
+{
+    return 0;
+}
+"#,
+        world: br#"heap 512
+class A
+threads Java_A_f
+"#,
+        schedule: b"",
+        journal: b"",
+        answer: b"fault 81 line 3\n",
+    },
+    Page {
+        heading: "82: a name or a thread isn't there, or a call doesn't fit",
+        program: br#"JNIEXPORT jint JNICALL Java_A_f(JNIEnv *env, jclass cls)
+{
+    return 0;
+}
+"#,
+        world: br#"heap 512
+class A
+thread Java_A_g
+"#,
+        schedule: b"",
+        journal: b"",
+        answer: b"fault 82 line 3\n",
+    },
+    Page {
+        heading: "82: a name or a thread isn't there, or a call doesn't fit",
+        program: br#"JNIEXPORT jint JNICALL Java_A_f(JNIEnv *env, jclass cls)
+{
+    return 0;
+}
+"#,
+        world: br#"heap 512
+class A
+thread Java_A_f
+"#,
+        schedule: br#"1 2
+"#,
+        journal: b"",
+        answer: b"fault 82 line 1\n",
+    },
+    Page {
+        heading: "83: a number is out of its limit",
+        program: br#"JNIEXPORT jint JNICALL Java_A_f(JNIEnv *env, jclass cls)
+{
+    return 0;
+}
+"#,
+        world: br#"heap 511
+class A
+thread Java_A_f
+"#,
+        schedule: b"",
+        journal: b"",
+        answer: b"fault 83 line 1\n",
+    },
+    Page {
+        heading: "91: an entry of a journal isn't possible",
+        program: br#"JNIEXPORT jint JNICALL Java_A_f(JNIEnv *env, jclass cls)
+{
+    return 0;
+}
+"#,
+        world: br#"heap 512
+class A
+thread Java_A_f
+"#,
+        schedule: b"",
+        journal: br#"1 1 1 1
+"#,
+        answer: b"fault 91 entry 4\n",
+    },
+    Page {
+        heading: "Trap 1: a division or a remainder by zero",
+        program: br#"JNIEXPORT void JNICALL Java_A_f(JNIEnv *env, jclass cls, jint n)
+{
+    put_jint((jint)(1u / (uint32_t)n));
+    return;
+}
+"#,
+        world: br#"heap 512
+class A
+thread Java_A_f 0
+"#,
+        schedule: b"",
+        journal: b"",
+        answer: b"T1 trap 1 line 3\n",
+    },
+    Page {
+        heading: "Trap 2: a shift by 32 or more",
+        program: br#"JNIEXPORT void JNICALL Java_A_f(JNIEnv *env, jclass cls, jint n)
+{
+    put_jint((jint)(1u << (uint32_t)n));
+    return;
+}
+"#,
+        world: br#"heap 512
+class A
+thread Java_A_f 32
+"#,
+        schedule: b"",
+        journal: b"",
+        answer: b"T1 trap 2 line 3\n",
+    },
+    Page {
+        heading: "Trap 3: an element past the end",
+        program: br#"JNIEXPORT void JNICALL Java_A_f(JNIEnv *env, jclass cls, jint n)
+{
+    jint numbers[2] = {0};
+    numbers[n] = 1;
+    return;
+}
+"#,
+        world: br#"heap 512
+class A
+thread Java_A_f 2
+"#,
+        schedule: b"",
+        journal: b"",
+        answer: b"T1 trap 3 line 4\n",
+    },
+    Page {
+        heading: "Trap 4: NULL where an object is wanted",
+        program: br#"JNIEXPORT void JNICALL Java_A_f(JNIEnv *env, jclass cls, jintArray array)
+{
+    jint length = (*env)->GetArrayLength(env, array);
+    return;
+}
+"#,
+        world: br#"heap 512
+class A
+thread Java_A_f null
+"#,
+        schedule: b"",
+        journal: b"",
+        answer: b"T1 trap 4 line 3\n",
+    },
+    Page {
+        heading: "Trap 6: an object isn't of the kind that is wanted",
+        program: br#"JNIEXPORT void JNICALL Java_A_f(JNIEnv *env, jclass cls, jobject object)
+{
+    jint length = (*env)->GetArrayLength(env, object);
+    return;
+}
+"#,
+        world: br#"heap 512
+class A
+thread Java_A_f class:A
+"#,
+        schedule: b"",
+        journal: b"",
+        answer: b"T1 trap 6 line 3\n",
     },
 ];
 
+fn answer(rt: &impl AllocGlobal, page: &Page) -> (u8, Vec<u8>) {
+    if page.world.is_empty() {
+        checked(rt, page.program)
+    } else if !page.journal.is_empty() {
+        replayed(rt, page.program, page.world, page.journal)
+    } else if page.schedule.is_empty() {
+        run(rt, page.program, page.world, b"1*100")
+    } else {
+        run(rt, page.program, page.world, page.schedule)
+    }
+}
+
 #[test]
-fn pages_are_checked(rt: HostRuntime) {
+fn pages_are_true(rt: HostRuntime) {
     for page in &PAGES {
         let heading = page.heading;
-        let wanted = u8::from(page.answer != b"ok\n".as_slice());
-        let (status, out) = checked(&rt, page.program);
-        assert_eq!(rt; out.as_slice(), page.answer, "{heading}");
-        assert_eq!(rt; status, wanted, "{heading}");
+        let refused = u8::from(page.answer.starts_with(b"fault".as_slice()));
+        let (status, out) = answer(&rt, page);
+        assert!(rt; out.as_slice().starts_with(page.answer), "{heading}");
+        assert_eq!(rt; status, refused, "{heading}");
     }
 }
