@@ -14,6 +14,8 @@ pub mod LoadedObjects
 pub mod Loaded
 pub mod Arrays
 pub mod LengthCalls
+pub mod Changes
+pub mod Elements
 pub mod Effects
 pub mod Invocations
 pub mod RowTexts
