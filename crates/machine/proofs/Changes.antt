@@ -83,7 +83,7 @@ seen_within zs i z h = by_found (slice_get zs i) refl h
     by_found None e h = absurd (cc)
     by_found (Some y) e h = slice_get_within zs i y e
 
-array_of : (o : Option Variable) (type : ElementType) → type_of_array o ≡ Some type → (zs : List ℤ) × (o ≡ Some (LocalArray type zs))
+pub array_of : (o : Option Variable) (type : ElementType) → type_of_array o ≡ Some type → (zs : List ℤ) × (o ≡ Some (LocalArray type zs))
 array_of None type h = absurd (cc)
 array_of (Some (LocalArray t zs)) type h = (zs, ap (λ (u : ElementType). Some (LocalArray u zs)) (let same : t ≡ type = cc in same))
 array_of (Some v) type h = absurd (cc)

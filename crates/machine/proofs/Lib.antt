@@ -16,6 +16,7 @@ pub mod Arrays
 pub mod LengthCalls
 pub mod Changes
 pub mod Elements
+pub mod NullLaws
 pub mod Effects
 pub mod Invocations
 pub mod RowTexts
