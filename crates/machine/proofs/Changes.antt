@@ -83,6 +83,13 @@ seen_within zs i z h = by_found (slice_get zs i) refl h
     by_found None e h = absurd (cc)
     by_found (Some y) e h = slice_get_within zs i y e
 
+-- a variable with a number's value is a number
+pub scalar_of : (o : Option Variable) (v : Value) → scalar o ≡ Gives v → o ≡ Some (Scalar v)
+scalar_of None v h = absurd (cc)
+scalar_of (Some (Scalar w)) v h = let same : w ≡ v = cc in ap (λ (u : Value). Some (Scalar u)) same
+scalar_of (Some w) v h = absurd (cc)
+
+-- one with an element type is an array
 pub array_of : (o : Option Variable) (type : ElementType) → type_of_array o ≡ Some type → (zs : List ℤ) × (o ≡ Some (LocalArray type zs))
 array_of None type h = absurd (cc)
 array_of (Some (LocalArray t zs)) type h = (zs, ap (λ (u : ElementType). Some (LocalArray u zs)) (let same : t ≡ type = cc in same))
