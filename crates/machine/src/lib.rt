@@ -11,6 +11,7 @@ mod rows;
 mod stop;
 mod thread;
 mod turn;
+mod variable;
 
 pub use fault::{LoadFault, RunFault};
 pub use machine::{MOST_ENTRIES, Machine};
