@@ -33,13 +33,7 @@ pub fn begin(
         place: 0,
         stack: Stack::new(),
         numbers: number_slots(alloc, &next.arguments, slots.numbers)?,
-        references: reference_slots(
-            alloc,
-            loaded,
-            next.class,
-            &next.arguments,
-            slots.references,
-        )?,
+        references: reference_slots(alloc, loaded, next.class, &next.arguments, slots.references)?,
     })
 }
 

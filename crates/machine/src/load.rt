@@ -144,6 +144,7 @@ fn fits(kind: ParameterType, argument: Argument) -> bool
 }
 
 /// A function of a program, with its place among the program's functions.
+#[derive(Clone, Copy)]
 struct NumberedFunction<'a> {
     number: usize,
     function: &'a Function,
