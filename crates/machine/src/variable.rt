@@ -12,9 +12,8 @@ pub fn is_null(references: &[Option<Addr>], variable: NullableVariable) -> bool
 {
     match variable {
         NullableVariable::Local(slot) => references.get(slot).copied().unwrap_or(None).is_none(),
-        NullableVariable::Static(_)
-        | NullableVariable::FieldId(_)
-        | NullableVariable::Buffer(_) => true,
+        NullableVariable::Static(_) | NullableVariable::FieldId(_) | NullableVariable::Buffer(_) =>
+            true,
     }
 }
 
@@ -25,8 +24,7 @@ pub fn set_null(references: &mut [Option<Addr>], variable: NullableVariable)
 {
     match variable {
         NullableVariable::Local(slot) => references[slot] = None,
-        NullableVariable::Static(_)
-        | NullableVariable::FieldId(_)
-        | NullableVariable::Buffer(_) => {}
+        NullableVariable::Static(_) | NullableVariable::FieldId(_) | NullableVariable::Buffer(_) =>
+            {}
     }
 }
