@@ -19,4 +19,6 @@ pub use stop::{Stop, Trap};
 pub use turn::Turn;
 
 #[cfg(test)]
+mod run_tests;
+#[cfg(test)]
 mod tests;

@@ -34,10 +34,10 @@ judged_is DeadReference state s = uses_is (asks condition.Dead state) s
 judged_is ArrayInUse state s =
     let call = function_called s in
     ap₂ (λ a b. a || b)
-      (ap₂ (λ a b. a || b)
-        (ap₂ (λ a d. a || d) (in_use state (assigned_name s)) (in_use state (deleted_name call) ∙ ap (some_passes (λ x. holds_of x state)) (deleted_is call)))
-        (ap₂ (λ p q. p && q) (pops_is call) (holder_is (λ held. is_level state.frames (state_of state held.1)) state)))
-      (ap (some_passes (λ get. not (some_passes (asks condition.Reference state) get.1))) (get_is call))
+    (ap₂ (λ a b. a || b)
+    (ap₂ (λ a d. a || d) (in_use state (assigned_name s)) (in_use state (deleted_name call) ∙ ap (some_passes (λ x. holds_of x state)) (deleted_is call)))
+    (ap₂ (λ p q. p && q) (pops_is call) (holder_is (λ held. is_level state.frames (state_of state held.1)) state)))
+    (ap (some_passes (λ get. not (some_passes (asks condition.Reference state) get.1))) (get_is call))
 judged_is WrongLevel state s =
     ap (λ b. some_passes (λ x. is_reference_now (state_of state x) && not (is_level (if b then state.frames - 1 else state.frames) (state_of state x))) (assigned_name s)) (pops_is (function_called s))
 judged_is WaysDiffer state s = refl
