@@ -1,3 +1,4 @@
+use Rattle.lower.proofs.ItemSteps.{all_done}
 use Rattle.lower.proofs.Functions.{is_code_of}
 use Rattle.lower.proofs.Jumps.{ways_made}
 use Rattle.lower.proofs.KnownNames.{latest-step}
