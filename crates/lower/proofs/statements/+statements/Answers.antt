@@ -1,9 +1,14 @@
-use Rattle.std.proofs.Common.{◌≡◌, ℕ, ◌+◌, ◌-◌, List, [], ◌∷◌, ◌++◌, length, Result, Ok, Err, OnOk, ◌∙◌, sym, ap, refl, arith, length-append}
-use Rattle.std.specs.Prelude.{slice_set}
+use Rattle.std.proofs.Common.{◌≡◌, ℕ, ◌+◌, ◌-◌, List, [], ◌∷◌, ◌++◌, length, Result, Ok, Err, OnOk, ◌∙◌, sym, ap, ap₂, refl, arith, length-append}
+use Rattle.std.specs.Prelude.{slice_set, vec_len}
 use Rattle.std.proofs.lemmas.List.{append-nil}
+use Rattle.syntax.specs.declared.stmt.Stmt.{Stmt as StmtInMemory}
+use Rattle.syntax.specs.declared.stmt.Block.{out-Block}
+use Rattle.syntax.specs.Views.{form_tree, block_tree, statements_tree}
+use Rattle.syntax.proofs.Blocks.{block_is}
 use Rattle.code.specs.declared.instr.Instr.{Instr}
 use Rattle.code.specs.declared.instr.Instr.TheVariants as instr
-use Rattle.lower.specs.Coding.{first_code, ways_code, loop_code}
+use Rattle.lower.specs.Layout.{block_layout}
+use Rattle.lower.specs.Coding.{first_code, ways_code, loop_code, stmt_code, block_code}
 use Rattle.lower.proofs.Jumps.{first_made, ways_made, loop_made}
 use Rattle.lower.proofs.statements.+statements.Goals as goal
 
@@ -49,10 +54,34 @@ on_ok (Ok x) P Q f h = f h
 on_ok (Err e) P Q f h = h
 
 pub emit_form-returns-in_ok-end-in-If-clause-code : goal.emit_form-returns-in_ok-end-in-If-clause-code
-emit_form-returns-in_ok-end-in-If-clause-code t c = ?
+emit_form-returns-in_ok-end-in-If-clause-code t c =
+    let first = c.emit_first.new.code in
+    on_ok c.emit_end.result _ _
+    (λ (e : c.emit_end.new.code.items ≡ slice_set (first.items ++ instr.GoOn 0 ∷ []) c.in_ok-end-in-If.end (instr.GoOn (vec_len first - c.in_ok-end-in-If.end))).
+    way_whole c.args.code.now.items first.items _ _ _ c.in_ok-end-in-If.end (vec_len first) c.in_ok-end-in-If.ensures.code (c.in_ok-end-in-If.ensures.end ∙ first.ok.0) first.ok.0 e
+    ∙ ap (λ f. c.args.code.now.items ++ stmt_code c.args.names.now (form_tree c.args.line f)) (sym c.in-If.is))
+    c.emit_end.ensures
 
 pub emit_form-returns-in_ok-emit_block-in-IfElse-clause-code : goal.emit_form-returns-in_ok-emit_block-in-IfElse-clause-code
-emit_form-returns-in_ok-emit_block-in-IfElse-clause-code t c = ?
+emit_form-returns-in_ok-emit_block-in-IfElse-clause-code t c =
+    let first = c.emit_first-in-IfElse.new.code in
+    let second = c.emit_block.new.code in
+    let end = c.in_ok-end-in-IfElse.end in
+    let names = c.in_ok-end-in-IfElse.ensures.names in
+    on_ok c.emit_end-in-IfElse.result _ _
+    (λ (e : c.emit_end-in-IfElse.new.code.items ≡ slice_set (second.items ++ instr.GoOn 0 ∷ []) end (instr.GoOn (vec_len second - end))).
+    ways_whole c.args.code.now.items first.items second.items _ _ _ _ end (vec_len second) c.in_ok-end-in-IfElse.ensures.code
+    (c.in_ok-emit_block-in-IfElse.ensures.code ∙ ap (λ l. first.items ++ block_code l (block_tree c.in-IfElse.second)) names) (c.in_ok-end-in-IfElse.ensures.end ∙ first.ok.0) second.ok.0 e
+    ∙ ap (λ f. c.args.code.now.items ++ stmt_code c.args.names.now (form_tree c.args.line f)) (sym c.in-IfElse.is))
+    c.emit_end-in-IfElse.ensures
+
+-- ---- the loop over a block's statements
 
 pub emit_block-loop-stmt-init : goal.emit_block-loop-stmt-init
-emit_block-loop-stmt-init t c = ?
+emit_block-loop-stmt-init t c =
+    let block = block_is c.args.block.now ∙ ap (λ (items : List StmtInMemory). statements_tree items (out-Block c.args.block.now).end_line) (sym c.deref-stmt-items.ensures.value) in
+    let names = sym c.in_ok-inner.ensures in
+    record {
+      code = ap₂ (λ l b. c.args.code.now.items ++ block_code l b) names block;
+      layout = ap₂ block_layout names block;
+    }
