@@ -20,12 +20,12 @@ use regions::Checked;
 use std::alloc::{AllocError, Global};
 use syntax::{Function, Item, Static};
 
-/// How many instructions a function has at most.
-const LIMIT: usize = 65535;
+/// How many instructions a function has at most: 65,535 for steps of the source, and the return behind them.
+const LIMIT: usize = 65536;
 
 /// The program's code, of which each instruction is one step of the source.
 ///
-/// `TooLong` only where the code of a function has more than 65,535 instructions.
+/// `TooLong` exactly where a function has more than 65,535 instructions for steps of the source.
 pub fn lower<'a>(alloc: Global, checked: &'a Checked) -> Result<Program<'a>, LowerFault>
     ensures ok { IfOk result (λ p. p.unit ≡ checked.now) }
     ensures short { IfOk result (λ _. IsTooLong (unit_tree checked.now) → ⊥) }
