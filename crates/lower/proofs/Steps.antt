@@ -234,8 +234,7 @@ module _ (code : Listing) (known : Known) (place : ℕ) (stack : List ℕ) (slot
           shows = λ z new fits set. fewer_shown code h.further.0 ((x, record { sort = Jint; index = i }) ∷ known) new (record slots { numbers = slice_set slots.numbers i (word_of (Int z)) }) h.further.1 (shows_set code known visible new slots x (record { sort = Jint; index = i }) (Int z) shows h.own tt (fits, refl) set);
           stands = record { stand = h.further.2; returns = returns };
         },
-        shown.value,
-        shown.is,
+        (shown.value, shown.is),
       )
   takes_result line f operands (destination.Number i) Dropped rest h returns = record {
     within = omega (arith, h.within, shows.numbers);
