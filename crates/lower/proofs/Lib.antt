@@ -16,3 +16,5 @@ pub mod KnownNames
 pub mod Jumps
 pub mod RegionFacts
 pub mod SortFacts
+pub mod PlaceFacts
+pub mod NameFacts
