@@ -18,3 +18,4 @@ pub mod RegionFacts
 pub mod SortFacts
 pub mod PlaceFacts
 pub mod NameFacts
+pub mod BufferFacts
