@@ -295,7 +295,7 @@ free_behind s l before after built others h free = λ x t w i at. stmt_free s be
 abbrev pub AreNotFree : RegionState → List Identifier → Type 0
 AreNotFree state names = list_any (λ x. is_free (state_of state x)) names ≡ false
 
-both_not_free : (state : RegionState) (front back : List Identifier) → AreNotFree state (front ++ back) → AreNotFree state front × AreNotFree state back
+pub both_not_free : (state : RegionState) (front back : List Identifier) → AreNotFree state (front ++ back) → AreNotFree state front × AreNotFree state back
 both_not_free state front back h =
     let p : Identifier → Bool = λ x. is_free (state_of state x) in
     let e : (list_any p front || list_any p back) ≡ false = sym (list_any-append p front back) ∙ h in

@@ -19,3 +19,4 @@ pub mod SortFacts
 pub mod PlaceFacts
 pub mod NameFacts
 pub mod BufferFacts
+pub mod StatementFacts

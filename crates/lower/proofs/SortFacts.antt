@@ -70,7 +70,7 @@ castable (Some Jint) h = (Jint, refl, tt)
 castable (Some Flag) h = (Flag, refl, tt)
 castable o h = absurd (cc)
 
-indexed : (o : Option Sort) → is_index o ≡ true → (r : Sort) × (o ≡ Some r) × IsIndexSort r
+pub indexed : (o : Option Sort) → is_index o ≡ true → (r : Sort) × (o ≡ Some r) × IsIndexSort r
 indexed (Some Word) h = (Word, refl, tt)
 indexed (Some Jint) h = (Jint, refl, tt)
 indexed o h = absurd (cc)
@@ -82,7 +82,7 @@ nullable (Some FieldId) h = (FieldId, refl, tt)
 nullable (Some (Buffer t w)) h = (Buffer t w, refl, tt)
 nullable o h = absurd (cc)
 
-elements : (o : Option Sort) → has_elements o ≡ true → ((t : ElementType) × (w : Bool) × (o ≡ Some (Buffer t w))) ⊎ ((t : ElementType) × (n : ℕ) × (o ≡ Some (Array t n)))
+pub elements : (o : Option Sort) → has_elements o ≡ true → ((t : ElementType) × (w : Bool) × (o ≡ Some (Buffer t w))) ⊎ ((t : ElementType) × (n : ℕ) × (o ≡ Some (Array t n)))
 elements (Some (Buffer t w)) h = inl (t, w, refl)
 elements (Some (Array t n)) h = inr (t, n, refl)
 elements o h = absurd (cc)
@@ -103,7 +103,7 @@ number_is_value Jint h = tt
 number_is_value Flag h = tt
 number_is_value s h = absurd h
 
-index_is_value : (s : Sort) → IsIndexSort s → IsValueSort s
+pub index_is_value : (s : Sort) → IsIndexSort s → IsValueSort s
 index_is_value Word h = tt
 index_is_value Jint h = tt
 index_is_value s h = absurd h
