@@ -80,13 +80,13 @@ kept_if false change h = refl
 changed_free : (state : RegionState) (x y : Identifier) (change : VariableState → VariableState) → KeepsFree change → IsFreeIn state x → IsFreeIn (with_changed state y change) x
 changed_free state x y change keeps h = mapped_free state.variables x (λ z old. if bytes_eq y z then change old else old) (λ z. kept_if (bytes_eq y z) change keeps) h
 
-true_free : (state : RegionState) (test : Test) (x : Identifier) → IsFreeIn state x → IsFreeIn (where_true state test) x
+pub true_free : (state : RegionState) (test : Test) (x : Identifier) → IsFreeIn state x → IsFreeIn (where_true state test) x
 true_free state (TestExpr (tree.Binary tree.Equal (tree.Variable y) (tree.Named tree.Null))) x h = changed_free state x y made_free refl h
 true_free state (TestExpr (tree.Binary tree.NotEqual (tree.Variable y) (tree.Named tree.Null))) x h = changed_free state x y made_usable refl h
 true_free state (TestExpr e) x h = h
 true_free state (TestCall c) x h = h
 
-false_free : (state : RegionState) (test : Test) (x : Identifier) → IsFreeIn state x → IsFreeIn (where_false state test) x
+pub false_free : (state : RegionState) (test : Test) (x : Identifier) → IsFreeIn state x → IsFreeIn (where_false state test) x
 false_free state (TestExpr (tree.Binary tree.Equal (tree.Variable y) (tree.Named tree.Null))) x h = changed_free state x y made_usable refl h
 false_free state (TestExpr (tree.Binary tree.NotEqual (tree.Variable y) (tree.Named tree.Null))) x h = changed_free state x y made_free refl h
 false_free state (TestExpr e) x h = h

@@ -20,3 +20,4 @@ pub mod PlaceFacts
 pub mod NameFacts
 pub mod BufferFacts
 pub mod StatementFacts
+pub mod BodyFacts

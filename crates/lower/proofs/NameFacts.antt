@@ -29,7 +29,7 @@ both_none xs ys x h =
     let e : (has_name xs x || has_name ys x) ≡ false = sym (list_any-append (bytes_eq x) xs ys) ∙ h in
     (or_left (has_name xs x) (has_name ys x) e, or_right (has_name xs x) (has_name ys x) e)
 
-taken_more : (names more : List Identifier) (known : Known) → AreTaken names known → AreTaken (names ++ more) known
+pub taken_more : (names more : List Identifier) (known : Known) → AreTaken names known → AreTaken (names ++ more) known
 taken_more names more known h x none = h x (both_none names more x none).0
 
 taken_declared : (names : List Identifier) (known : Known) (x : Identifier) (s : Slot) → AreTaken names known → AreTaken (names ++ x ∷ []) ((x, s) ∷ known)
