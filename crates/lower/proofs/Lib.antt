@@ -21,3 +21,4 @@ pub mod NameFacts
 pub mod BufferFacts
 pub mod StatementFacts
 pub mod BodyFacts
+pub mod AcceptedFacts
