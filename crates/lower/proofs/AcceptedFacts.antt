@@ -1,15 +1,13 @@
 -- Each function of an accepted unit fits.
-use Rattle.std.proofs.Common.{◌≡◌, ℕ, ◌≤◌, Bool, true, false, not, ◌&&◌, List, [], ◌∷◌, ◌++◌, map, nat_le, Option, Some, None, refl, sym, ap, ◌∙◌, subst, leb-true}
-use Rattle.std.specs.Prelude.{IsTrue, filter_map}
+use Rattle.std.proofs.Common.{◌≡◌, ℕ, ◌≤◌, true, not, List, [], ◌∷◌, ◌++◌, map, nat_le, Some, refl, sym, ap, ◌∙◌, subst, leb-true}
+use Rattle.std.specs.Prelude.{IsTrue}
 use Rattle.std.specs.List.{list_all, AllByRecursion}
-use Rattle.std.specs.Str.{bytes_eq}
 use Rattle.base.specs.Bytes.{Identifier, lookup}
-use Rattle.base.specs.Element.{ElementType}
 use Rattle.syntax.specs.Limits.{numbers_in_range, block_height, block_well_formed, IsTree}
 use Rattle.syntax.specs.Parts.{functions_of, statements_of, own_expressions, parameter_names}
-use Rattle.syntax.specs.Tree.{ParameterType, IntParameter, ReferenceParameter, Parameter, Function, Static, Void, Item, StaticItem, FunctionItem, SourceUnit}
-use Rattle.types.specs.Sorts.{Sort, Jint, Truth, Ref, Global, Buffer, Scope}
-use Rattle.types.specs.SortRules.{IsSorted, Place, StaticForm, HeadForm, parameter_sort, places_of, function_places, item_places, has_name}
+use Rattle.syntax.specs.Tree.{ParameterType, IntParameter, ReferenceParameter, Parameter, Function, Void, Item, StaticItem, FunctionItem, SourceUnit}
+use Rattle.types.specs.Sorts.{Sort, Jint, Ref, Global, Buffer, Scope}
+use Rattle.types.specs.SortRules.{IsSorted, StaticForm, HeadForm, parameter_sort, places_of, function_places, item_places}
 use Rattle.types.specs.BuiltCalls.{calls_unbuilt, calls_are_built}
 use Rattle.regions.specs.RegionStates.{RegionState, state_at_entry}
 use Rattle.regions.specs.Regions.{Returned, AcceptedFunction, HasRegions}

@@ -1,22 +1,20 @@
 -- The body of an accepted function fits.
-use Rattle.std.proofs.Common.{◌≡◌, ℕ, ◌+◌, ◌≤◌, ◌⊎◌, inl, inr, Bool, true, false, ◌&&◌, max, List, [], ◌∷◌, ◌++◌, map, Option, Some, None, refl, sym, ap, ◌∙◌, subst, arith, if◌then◌else◌}
+use Rattle.std.proofs.Common.{◌≡◌, ◌≤◌, inl, inr, Bool, true, false, ◌&&◌, List, ◌∷◌, ◌++◌, map, refl, sym, ap, ◌∙◌, subst, arith}
 use Rattle.std.specs.List.{list_all}
-use Rattle.std.specs.Str.{bytes_eq}
 use Rattle.std.proofs.lemmas.List.Folds.{list_all-append}
-use Rattle.base.specs.Bytes.{Identifier, lookup}
+use Rattle.base.specs.Bytes.{Identifier}
 use Rattle.base.specs.Element.{JChar}
-use Rattle.base.specs.Options.{some_passes}
-use Rattle.syntax.specs.Limits.{height, highest, numbers_in_range, own_height, statement_height, block_height, is_end, well_formed, block_well_formed}
+use Rattle.syntax.specs.Limits.{height, highest, numbers_in_range, statement_height, block_height, is_end, well_formed, block_well_formed}
 use Rattle.syntax.specs.Parts.{statements_of, statements_within, own_call, own_expressions, names_declared}
 use Rattle.syntax.specs.Tree as tree
 use Rattle.syntax.specs.Tree.{ResultType, TestCall, Stmt, Block, End, Next}
-use Rattle.types.specs.Sorts.{Sort, Truth, Buffer, Array}
-use Rattle.types.specs.SortRules.{variable_sort, with_declared, has_name, places_within, places_of}
+use Rattle.types.specs.Sorts.{Truth, Buffer, Array}
+use Rattle.types.specs.SortRules.{variable_sort, with_declared, places_within, places_of}
 use Rattle.regions.specs.RegionStates.{RegionState, state_of}
 use Rattle.regions.specs.RegionRules.{is_free}
 use Rattle.regions.specs.Regions.{where_true, where_false, Way, On, Returned, IsEnd, Keeps, KeepsBlock}
 use Rattle.lower.specs.Layout.{Slot, Known, Layout, new_slot, closed, layout_behind, block_layout}
-use Rattle.lower.specs.Fits.{IsNew, StmtFits, BlockFits}
+use Rattle.lower.specs.Fits.{StmtFits, BlockFits}
 use Rattle.lower.proofs.SlotLaws.{first_or_behind}
 use Rattle.lower.proofs.SortFacts.{scope_of, HasNoTruth}
 use Rattle.lower.proofs.PlaceFacts.{and_left, and_right, or_left, IsKept, AreKept, own_kept, inside_kept, block_kept, ways_kept}

@@ -1,6 +1,5 @@
 -- While GetArrayLength alone can be called, each buffer is free, and no element of one is read or written.
-use Rattle.std.proofs.Common.{◌≡◌, ◌≢◌, ℕ, Bool, true, false, not, ◌&&◌, ◌||◌, ◌⊎◌, inl, inr, List, [], ◌∷◌, ◌++◌, map, filter, flat_map, Option, Some, None, refl, sym, ap, ◌∙◌, subst, if◌then◌else◌}
-use Rattle.std.specs.Prelude.{filter_map}
+use Rattle.std.proofs.Common.{◌≡◌, ℕ, Bool, true, false, not, ◌&&◌, ◌||◌, ◌⊎◌, inl, inr, List, [], ◌∷◌, ◌++◌, map, filter, flat_map, Option, Some, None, refl, sym, ap, ◌∙◌, subst, if◌then◌else◌}
 use Rattle.std.specs.List.{list_all, list_any}
 use Rattle.std.specs.Option.{option_to_list}
 use Rattle.std.specs.Str.{bytes_eq}
@@ -16,11 +15,11 @@ use Rattle.syntax.specs.Tree.{Expr, Argument, Call, RightSide, Test, TestExpr, T
 use Rattle.types.specs.JniFunction.{JniFunction, GetArrayLength, is_critical}
 use Rattle.types.specs.Prototype.{function_named}
 use Rattle.types.specs.BuiltCalls.{is_built_function, is_built_call, calls_unbuilt}
-use Rattle.types.specs.Sorts.{Sort, Buffer, Array}
+use Rattle.types.specs.Sorts.{Buffer, Array}
 use Rattle.types.specs.SortRules.{variable_sort, has_name}
 use Rattle.regions.specs.RegionRules.{breaks_region_rule, is_free, Obeys, RegionRule, CallWhileCritical, ReturnWithBuffer, HeldBuffer, UntestedBuffer, WrongBuffer, ReturnInFrame, PopLastFrame, DeadReference, ArrayInUse, WrongLevel, is_mismatched}
-use Rattle.regions.specs.RegionStates.{Free, BufferState, VariableState, ReferenceAt, BufferIn, RegionState, FunctionCall, call_of, function_called, made_free, with_changed, with_each, after_call, release_of, get_of, buffer_from, buffer_set_to, set_to, with_set, state_after, state_of}
-use Rattle.regions.specs.Regions.{made_usable, where_true, where_false, has_variable, left, Way, On, Returned, Join, IsEnd, Keeps, KeepsBlock}
+use Rattle.regions.specs.RegionStates.{Free, BufferState, VariableState, ReferenceAt, BufferIn, RegionState, FunctionCall, call_of, function_called, made_free, with_changed, after_call, release_of, get_of, buffer_from, buffer_set_to, set_to, with_set, state_after, state_of}
+use Rattle.regions.specs.Regions.{made_usable, where_true, where_false, has_variable, left, Way, On, Returned, Join, Keeps, KeepsBlock}
 use Rattle.lower.specs.Layout.{Slot, Known, Layout, new_slot, layout_behind}
 use Rattle.lower.proofs.PlaceFacts.{or_left, or_right, and_left, and_right, not_false, not_true}
 use Rattle.lower.proofs.SortFacts.{IsNoBuffer, ElementsFit}

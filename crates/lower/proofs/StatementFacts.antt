@@ -1,26 +1,25 @@
 -- A statement that is sorted fits.
-use Rattle.std.proofs.Common.{◌≡◌, ℕ, ◌+◌, ◌<◌, ◌≤◌, ◌⊎◌, inl, inr, Bool, true, false, not, ◌&&◌, ◌||◌, ◌==◌, max, List, [], ◌∷◌, map, flat_map, length, nat_le, Option, Some, None, is_some, refl, sym, ap, ◌∙◌, subst, arith, eqb-true, leb-true}
+use Rattle.std.proofs.Common.{◌≡◌, ℕ, ◌<◌, ◌≤◌, ◌⊎◌, inl, inr, Bool, true, false, not, ◌&&◌, ◌||◌, ◌==◌, List, [], ◌∷◌, map, flat_map, length, nat_le, Option, Some, None, is_some, refl, sym, ap, ◌∙◌, subst, arith, eqb-true, leb-true}
 use Rattle.std.specs.List.{list_all}
 use Rattle.base.specs.Bytes.{Identifier, lookup}
-use Rattle.base.specs.Element.{ElementType, JChar}
+use Rattle.base.specs.Element.{ElementType}
 use Rattle.base.specs.Options.{some_passes}
-use Rattle.syntax.specs.Limits.{height, highest, numbers_in_range, well_formed}
-use Rattle.syntax.specs.Parts.{call_of_right_side, own_call, own_expressions, right_side_expressions, test_expressions, names_in}
+use Rattle.syntax.specs.Limits.{height, highest, numbers_in_range}
+use Rattle.syntax.specs.Parts.{call_of_right_side, right_side_expressions, test_expressions, names_in}
 use Rattle.syntax.specs.Tree as tree
 use Rattle.syntax.specs.Tree.{ResultType, Void, IntResult, ReferenceResult, Expr, Argument, Call, RightSide, FromExpr, FromCall, Test, TestExpr, TestCall, Stmt}
-use Rattle.types.specs.JniFunction.{JniFunction, GetArrayLength}
+use Rattle.types.specs.JniFunction.{GetArrayLength}
 use Rattle.types.specs.Prototype.{NonNull, function_named}
-use Rattle.types.specs.Sorts.{Sort, Word, Jint, Flag, Truth, Ref, Global, FieldId, Buffer, Array, sort_in, sort_of, is_word, is_jint, is_flag, is_truth, is_ref, is_global, is_index, has_elements, is_null, is_reference, name_sort, arguments_fit, call_arguments_fit}
-use Rattle.types.specs.SortRules.{variable_sort, call_fits, may_be_tested, value_sets, right_side_sets, buffer_begins, test_fits, return_fits, has_wrong_count, copies_reference}
+use Rattle.types.specs.Sorts.{Sort, Word, Jint, Flag, Truth, Ref, Global, FieldId, Buffer, Array, sort_in, sort_of, is_word, is_jint, is_flag, is_truth, is_ref, is_index, has_elements, is_null, is_reference, name_sort, arguments_fit, call_arguments_fit}
+use Rattle.types.specs.SortRules.{call_fits, may_be_tested, value_sets, right_side_sets, buffer_begins, test_fits, return_fits, has_wrong_count, copies_reference}
 use Rattle.regions.specs.Term as term
 use Rattle.regions.specs.Term.{Term, Read, term_of}
 use Rattle.regions.specs.RegionStates.{RegionState}
 use Rattle.lower.specs.Layout.{Slot, Known}
-use Rattle.lower.specs.Fits.{IsArray, IsIndexSort, NumberFits, ReferenceFits, ArgumentsFit, CallFits, ValueFits, RightFits, TestFits, ReturnFits, IsNew}
+use Rattle.lower.specs.Fits.{IsArray, IsIndexSort, NumberFits, ReferenceFits, ArgumentsFit, CallFits, ValueFits, RightFits, TestFits, ReturnFits}
 use Rattle.lower.proofs.SortFacts.{scope_of, slot_of_name, HasNoTruth, IsNoBuffer, IsFine, elements, indexed, index_is_value, number_fits}
-use Rattle.lower.proofs.PlaceFacts.{and_left, and_right, or_left, or_right, not_false, IsKept}
+use Rattle.lower.proofs.PlaceFacts.{and_left, and_right, not_false}
 use Rattle.lower.proofs.BufferFacts.{IsBuilt, call_is, AreFree, AreNotFree, elements_fit, both_not_free}
-use Rattle.lower.proofs.NameFacts.{AreTaken}
 
 -- ---- sorts by their tests
 
