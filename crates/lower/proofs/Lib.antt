@@ -22,3 +22,4 @@ pub mod BufferFacts
 pub mod StatementFacts
 pub mod BodyFacts
 pub mod AcceptedFacts
+pub mod ItemSteps
