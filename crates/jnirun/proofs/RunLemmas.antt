@@ -27,7 +27,6 @@ use Rattle.machine.specs.declared.fault.LoadFault.{LoadFault}
 use Rattle.machine.specs.declared.fault.LoadFault.TheVariants as loading
 use Rattle.machine.specs.Loading.{IsLoadFault}
 use Rattle.machine.specs.Run.{Run, IsUnstarted, RunsAlong, RunsInto, WritesRun, replay_of}
-use Rattle.jnirun.specs.declared.fault.Place.TheVariants as place
 use Rattle.jnirun.specs.declared.fault.RunError.{RunError}
 use Rattle.jnirun.specs.declared.fault.RunError.TheVariants.{Memory, File, Fault, Writer}
 use Rattle.jnirun.specs.Errors.{of_lower, of_reading, of_load}

@@ -1,5 +1,4 @@
 use Rattle.std.proofs.Common.{◌≡◌, ap, sym, ◌∙◌}
-use Rattle.syntax.specs.Tree.{SourceUnit}
 use Rattle.syntax.specs.Views.{unit_tree}
 use Rattle.jnirun.specs.Errors.{of_types, of_regions}
 use Rattle.jnirun.proofs.Refusals.{scan_refusal, parse_refusal, types_refusal, regions_refusal}
