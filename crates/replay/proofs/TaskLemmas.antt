@@ -11,7 +11,7 @@ use Rattle.syntax.specs.Tree.{Block}
 use Rattle.syntax.specs.Views.{constant_tree, expr_tree, block_tree}
 use Rattle.syntax.proofs.Blocks.{block_is}
 use Rattle.world.specs.World.{World}
-use Rattle.regions.specs.Effect.{Effect, Becomes, Sets, SetsElement, at_line, goes_on, with_value, print_effect, branch_effect, loop_effect, element_effect, return_effect, effect_of}
+use Rattle.regions.specs.Effect.{Effect, Becomes, Sets, SetsElement, at_line, goes_on, with_value, print_effect, branch_effect, loop_effect, element_effect, returned_name, return_effect, effect_of}
 use Rattle.regions.specs.Heap.{Heap}
 use Rattle.regions.specs.Sight.{Sight, seen, elements_of, in_range}
 use Rattle.regions.specs.Task.{Task, SetScalar, SetElement, Print, Branch, Loop, ReturnValue, tasks_of}
@@ -130,27 +130,29 @@ block_tasks b = tasks_of-statements (out-Block b).statements.items (out-Block b)
 pub way_entered : (statements : List StmtInMemory) (b : Block) (end' : Task) → tasks_of_statements statements ≡ tasks_of b → Becomes (tasks_of b ++ end' ∷ []) ≡ Becomes (tasks_of_statements statements ++ end' ∷ [])
 way_entered statements b end' same = ap (λ (ts : List Task). Becomes (ts ++ end' ∷ [])) (sym same)
 
--- a constant that isn't NULL is worked out
-constant_worked_out : (sight : Sight) (line : ℕ) (c : Constant) → (c ≡ constant.Null → ⊥) → return_effect sight line (tree.Named (constant_tree c)) ≡ goes_on line (ReturnValue line) (reduce sight (tree.Named (constant_tree c)))
-constant_worked_out sight line constant.True no_null = refl
-constant_worked_out sight line constant.False no_null = refl
-constant_worked_out sight line constant.Commit no_null = refl
-constant_worked_out sight line constant.Abort no_null = refl
-constant_worked_out sight line constant.Null no_null = absurd (no_null refl)
+-- a constant is worked out, or it is NULL
+pub constant_returned : (sight : Sight) (line : ℕ) (c : Constant) → return_effect sight line (tree.Named (constant_tree c)) ≡ returned_name line (tree.constant (constant_tree c))
+constant_returned sight line constant.True = refl
+constant_returned sight line constant.False = refl
+constant_returned sight line constant.Commit = refl
+constant_returned sight line constant.Abort = refl
+constant_returned sight line constant.Null = refl
 
--- so is all else but a name
-worked_out : (sight : Sight) (line : ℕ) (t : Term) → ((v : ValueInMemory) → t ≡ term.Done v → ⊥) → (t ≡ term.Named constant.Null → ⊥) → ((x : List ℕ) → t ≡ term.Read x → ⊥)
+pub ruleset return_rules = (constant_returned)
+
+-- all else but a name is worked out
+worked_out : (sight : Sight) (line : ℕ) (t : Term) → ((v : ValueInMemory) → t ≡ term.Done v → ⊥) → ((c : Constant) → t ≡ term.Named c → ⊥) → ((x : List ℕ) → t ≡ term.Read x → ⊥)
     → return_effect sight line (term_view t) ≡ goes_on line (ReturnValue line) (reduce sight (term_view t))
-worked_out sight line (term.Done v) none no_null no_name = absurd (none v refl)
-worked_out sight line (term.Number n unsigned) none no_null no_name = refl
-worked_out sight line (term.Named c) none no_null no_name = constant_worked_out sight line c (λ e. no_null (ap term.Named e))
-worked_out sight line (term.Read x) none no_null no_name = absurd (no_name x refl)
-worked_out sight line (term.Element' x p i) none no_null no_name = refl
-worked_out sight line (term.IsNull wanted x) none no_null no_name = refl
-worked_out sight line (term.Prefix' op p t) none no_null no_name = refl
-worked_out sight line (term.And' p s q t) none no_null no_name = refl
-worked_out sight line (term.Or' p s q t) none no_null no_name = refl
-worked_out sight line (term.Binary' op p s q t) none no_null no_name = refl
+worked_out sight line (term.Done v) none no_constant no_name = absurd (none v refl)
+worked_out sight line (term.Number n unsigned) none no_constant no_name = refl
+worked_out sight line (term.Named c) none no_constant no_name = absurd (no_constant c refl)
+worked_out sight line (term.Read x) none no_constant no_name = absurd (no_name x refl)
+worked_out sight line (term.Element' x p i) none no_constant no_name = refl
+worked_out sight line (term.IsNull wanted x) none no_constant no_name = refl
+worked_out sight line (term.Prefix' op p t) none no_constant no_name = refl
+worked_out sight line (term.And' p s q t) none no_constant no_name = refl
+worked_out sight line (term.Or' p s q t) none no_constant no_name = refl
+worked_out sight line (term.Binary' op p s q t) none no_constant no_name = refl
 
 -- ---- tasks at terms
 
@@ -182,6 +184,6 @@ module _ (vs : Variables) (ss : Statics) (line : ℕ) (old new : Term) (took : R
       works vs ss line (λ u. task.Loop line test u body) (λ u. Loop line (expr_tree test.now) u (block_tree body.now)) (λ u. refl) old new took
       (λ heap. no_value old none (seen vs ss heap) line (loop_effect line (expr_tree test.now) (block_tree body.now)) (λ u. Loop line (expr_tree test.now) u (block_tree body.now))) step
 
-  pub return_works : (old ≡ term.Named constant.Null → ⊥) → ((x : List ℕ) → old ≡ term.Read x → ⊥) → HasEffect vs ss (task.ReturnValue line old) (worked line took) (task.ReturnValue line new)
-  return_works no_null no_name =
-      works vs ss line (task.ReturnValue line) (ReturnValue line) (λ t. refl) old new took (λ heap. worked_out (seen vs ss heap) line old none no_null no_name) step
+  pub return_works : ((c : Constant) → old ≡ term.Named c → ⊥) → ((x : List ℕ) → old ≡ term.Read x → ⊥) → HasEffect vs ss (task.ReturnValue line old) (worked line took) (task.ReturnValue line new)
+  return_works no_constant no_name =
+      works vs ss line (task.ReturnValue line) (ReturnValue line) (λ t. refl) old new took (λ heap. worked_out (seen vs ss heap) line old none no_constant no_name) step

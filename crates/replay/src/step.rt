@@ -18,10 +18,10 @@ use crate::reduce::{Reduction, reduce};
 use crate::sight::{Indexed, number_in, place_in};
 use crate::task::Task;
 use crate::term::Term;
-use crate::value::{Evaluated, Value};
+use crate::value::{Evaluated, Value, constant};
 use crate::variable::Variable;
 use std::alloc::AllocError;
-use syntax::{Block, Constant, Expr, Item, Name, Stmt};
+use syntax::{Block, Expr, Item, Name, Stmt};
 use world::World;
 
 /// What was done of a term that has no value yet.
@@ -183,7 +183,8 @@ fn turn<'a>(
     }
 }
 
-/// Works a value out, or returns it. A name of a number is worked out, and one of a reference is returned as it is.
+/// Works a value out, or returns it. A name of a number is worked out, and NULL or a reference is returned as it is.
+#[tactic(auto, using(crate::proofs::TaskLemmas::return_rules))]
 fn return_value<'a>(
     items: &[Item],
     variables: &[Variable<'_>],
@@ -196,7 +197,14 @@ fn return_value<'a>(
     ensures range { OutcomeInRange result }
 {
     match t {
-        Term::Done(_) | Term::Named(Constant::Null) => Outcome::Returned,
+        Term::Done(_) => Outcome::Returned,
+        Term::Named(c) => match constant(*c) {
+            Evaluated::Gives(value) => {
+                *t = Term::Done(value);
+                Outcome::Stays
+            }
+            Evaluated::Traps(_) | Evaluated::Stuck => Outcome::Returned,
+        },
         Term::Read(name) => match number_in(variables, name) {
             Evaluated::Gives(value) => {
                 *t = Term::Done(value);

@@ -5,4 +5,5 @@ use Rattle.replay.proofs.TaskLemmas.{return_works}
 use Rattle.replay.proofs.step.return_value.Goals as goal
 
 pub returns-in_default-clause-step : goal.returns-in_default-clause-step
-returns-in_default-clause-step c = let h = c.in_default-1 in ?
+returns-in_default-clause-step c =
+    rw c.worked.ensures.view (return_works (variables_view c.args.variables.now) (null_statics (unit_tree c.args.items.now)) c.args.line _ _ _ c.in_default.not-Done c.reduce.ensures.step c.in_default.not-Named c.in_default.not-Read)

@@ -1,10 +1,13 @@
-use Rattle.std.proofs.Common.{rules}
+use Rattle.std.proofs.Common.{sym, subst, rules}
 use Rattle.syntax.specs.Views.{unit_tree}
 use Rattle.world.specs.SceneWorld.{world_of_scene}
 use Rattle.regions.specs.Start.{null_statics}
+use Rattle.replay.specs.declared.task.Task.{Task}
 use Rattle.replay.specs.declared.task.Task.TheVariants as task
+use Rattle.replay.specs.Steps.{Does}
 use Rattle.replay.specs.Tasks.{branch_task}
 use Rattle.replay.specs.Views.{variables_view}
+use Rattle.replay.proofs.CallLemmas.{if_ok}
 use Rattle.replay.proofs.TaskLemmas.{does_as}
 use Rattle.replay.proofs.step.step.Goals as goal
 
@@ -26,7 +29,7 @@ returns-in-SetElement-clause-step c =
 pub returns-in-Branch-clause-step : goal.returns-in-Branch-clause-step
 returns-in-Branch-clause-step c =
     does_as (world_of_scene c.args.world.now) (variables_view c.args.variables.now) (null_statics (unit_tree c.args.items.now)) _ (branch_task c.in-Branch.c.line c.in-Branch.c.test c.in-Branch.c.block c.in-Branch.c.otherwise)
-    (branch_task c.in-Branch.c.line c.branch.new.t c.in-Branch.c.block c.in-Branch.c.otherwise) c.branch.result (search rules) c.branch.ensures.step
+    (branch_task c.in-Branch.c.line c.branch-items.new.t c.in-Branch.c.block c.in-Branch.c.otherwise) c.branch-items.result (search rules) c.branch-items.ensures.step
 
 pub returns-in-Loop-clause-step : goal.returns-in-Loop-clause-step
 returns-in-Loop-clause-step c =
@@ -37,3 +40,12 @@ pub returns-in-ReturnValue-clause-step : goal.returns-in-ReturnValue-clause-step
 returns-in-ReturnValue-clause-step c =
     does_as (world_of_scene c.args.world.now) (variables_view c.args.variables.now) (null_statics (unit_tree c.args.items.now)) _ (task.ReturnValue c.in-ReturnValue.line c.in-ReturnValue.t)
     (task.ReturnValue c.in-ReturnValue.line c.return_value.new.t) c.return_value.result (search rules) c.return_value.ensures.step
+
+pub returns-in-Invoke-clause-step : goal.returns-in-Invoke-clause-step
+returns-in-Invoke-clause-step c =
+    let w = world_of_scene c.args.world.now in
+    let vs = variables_view c.args.variables.now in
+    let ss = null_statics (unit_tree c.args.items.now) in
+    if_ok c.invoke.result
+    (λ o does. subst (λ (u : Task). Does w vs ss u o (task.Invoke c.in-Invoke.i)) (sym c.in-Invoke.is) (does (unit_tree c.args.items.now)))
+    c.invoke.ensures.step
