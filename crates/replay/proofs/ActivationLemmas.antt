@@ -1,5 +1,5 @@
 -- A call in progress takes the step of its first task.
-use Rattle.std.proofs.Common.{◌≡◌, ℕ, true, false, List, [], ◌∷◌, ◌++◌, Option, Some, None, refl, sym, ap, ◌∙◌, append_assoc}
+use Rattle.std.proofs.Common.{◌≡◌, ℕ, true, false, List, [], ◌∷◌, ◌++◌, Option, Some, None, refl, sym, ap, ◌∙◌, subst, append_assoc}
 use Rattle.std.specs.Borrow.{Bor}
 use Rattle.std.specs.Global.{Vec}
 use Rattle.syntax.specs.declared.expr.Expr.{Expr}
@@ -25,10 +25,10 @@ use Rattle.replay.specs.declared.task.Task.{Task as TaskInMemory}
 use Rattle.replay.specs.declared.task.Task.TheVariants as task
 use Rattle.replay.specs.declared.term.Term.{Term}
 use Rattle.replay.specs.declared.variable.Variable.{Variable as VariableInMemory}
-use Rattle.replay.specs.Activations.{tasks_from, tasks_around, tasks_behind, tasks_left, thread_in, advance_by, Advances, AreSet, OuterInRange}
+use Rattle.replay.specs.Activations.{tasks_from, tasks_around, tasks_behind, tasks_left, thread_in, advance_by, Advances, AreSet, BegunInRange, OuterInRange, IsInRange}
 use Rattle.replay.specs.Outcomes.{variable_step, Holds, LeavesVariables, LeavesIf}
 use Rattle.replay.specs.Steps.{Sees, Does, left_by}
-use Rattle.replay.specs.Tasks.{task_view, end_view, tasks_of_statements, EndInRange, StatementsInRange}
+use Rattle.replay.specs.Tasks.{task_view, end_view, tasks_of_statements, EndInRange, StatementsInRange, TaskInRange, OutcomeInRange}
 use Rattle.replay.specs.Views.{variables_view, trap_view, term_view}
 
 -- ---- blocks around the one in progress
@@ -63,6 +63,27 @@ abbrev with_event : Event → Advance → Advance
 with_event event (thread.Advances s t other) = thread.Advances s t event
 with_event event NoAdvance = NoAdvance
 
+-- ---- the next statement is begun
+
+-- a thread that sees the variables sees them then too
+seen_begun : (unit : SourceUnit) (w : World) (old begun : Activation) → begun.variables ≡ old.variables → (s : Shared) (t : Thread) → Sees w (variables_view old.variables.items) (null_statics unit) s t
+    → Sees w (variables_view begun.variables.items) (null_statics unit) s t
+seen_begun unit w old begun same s t sees = record {
+  variables = sees.variables ∙ ap (λ (v : Vec VariableInMemory). variables_view v.items) (sym same);
+  frames = sees.frames;
+  pending = sees.pending;
+  heap = sees.heap;
+  statics = sees.statics;
+}
+
+-- it takes the same step then
+pub begun_before : (unit : SourceUnit) (w : World) (old begun : Activation) (took : Outcome) (new : Activation) → tasks_left begun ≡ tasks_left old → begun.variables ≡ old.variables → Advances unit w begun took new → Advances unit w old took new
+begun_before unit w old begun took new tasks same does = λ lent k s t sees has.
+    ap (λ (ts : List Task). step_within unit w.classes lent k s t false (Some ts)) (sym tasks)
+    ∙ does lent k s t
+    (seen_begun unit w old begun same s t sees)
+    (has ∙ ap (λ (ts : List Task). let o : Option (List Task) = Some ts in o) (sym tasks))
+
 -- ---- the step of a task
 
 module _ (unit : SourceUnit) (w : World) (old begun : Activation) (begun_task after : TaskInMemory) (variables : Vec VariableInMemory) (new : Activation)
@@ -74,13 +95,7 @@ module _ (unit : SourceUnit) (w : World) (old begun : Activation) (begun_task af
   first = sym tasks ∙ ap (λ (o : Option TaskInMemory). tasks_from o rest) is
 
   seen : (s : Shared) (t : Thread) → Sees w (variables_view old.variables.items) (null_statics unit) s t → Sees w (variables_view begun.variables.items) (null_statics unit) s t
-  seen s t sees = record {
-    variables = sees.variables ∙ ap (λ (v : Vec VariableInMemory). variables_view v.items) (sym same);
-    frames = sees.frames;
-    pending = sees.pending;
-    heap = sees.heap;
-    statics = sees.statics;
-  }
+  seen = seen_begun unit w old begun same
 
   holds : (s : Shared) (t : Thread) (ts : List Task) → Sees w (variables_view begun.variables.items) (null_statics unit) s t → Holds (null_statics unit) begun.variables.items s (with_tasks t ts)
   holds s t ts sees = record { variables = sees.variables; frames = sees.frames; statics = sees.statics }
@@ -158,6 +173,33 @@ module _ (unit : SourceUnit) (w : World) (old begun : Activation) (begun_task af
       ap (λ (ts : List Task). step_within unit w.classes lent k s t false (Some ts)) first
       ∙ does lent k s t rest (seen s t sees) (has ∙ ap (λ (ts : List Task). let o : Option (List Task) = Some ts in o) first)
       ∙ left_in k s t (seen s t sees) took leaves applied
+
+-- ---- what is known of accepted programs
+
+module _ (begun new : Activation) (after : TaskInMemory) (variables : Vec VariableInMemory) (known : IsInRange begun) (known_after : TaskInRange after) where
+  built : (o : Option TaskInMemory) (behind : Bor (List Stmt)) (os : List Outer) → new.task ≡ o → new.rest ≡ behind → new.outer.items ≡ os → BegunInRange o → StatementsInRange behind.now → OuterInRange os → IsInRange new
+  built o behind os same_task same_rest same_outer task' rest' outer' = record {
+    begun = subst BegunInRange (sym same_task) task';
+    rest = subst (λ (b : Bor (List Stmt)). StatementsInRange b.now) (sym same_rest) rest';
+    outer = subst OuterInRange (sym same_outer) outer';
+  }
+
+  -- after a step it is known of the call in progress too
+  pub range_after : (took : Outcome) → OutcomeInRange took → AreSet (record begun { task = Some after; variables = variables }) took new → IsInRange new
+  range_after outcome.Stays h a = built (Some after) begun.rest begun.outer.items a.task a.rest a.outer known_after known.rest known.outer
+  range_after (outcome.Printed z) h a = built None begun.rest begun.outer.items a.task a.rest a.outer tt known.rest known.outer
+  range_after (outcome.Sets x v) h a = built None begun.rest begun.outer.items a.task a.rest a.outer tt known.rest known.outer
+  range_after (outcome.SetsNull to) h a = built None begun.rest begun.outer.items a.task a.rest a.outer tt known.rest known.outer
+  range_after (outcome.Puts to z) h a = built None begun.rest begun.outer.items a.task a.rest a.outer tt known.rest known.outer
+  range_after (outcome.SetsElement x i z) h a = built None begun.rest begun.outer.items a.task a.rest a.outer tt known.rest known.outer
+  range_after (outcome.Makes T x n) h a = built None begun.rest begun.outer.items a.task a.rest a.outer tt known.rest known.outer
+  range_after (outcome.Enters statements e) h a =
+      let o : Outer = record { end = e; rest = begun.rest } in
+      built None statements (begun.outer.items ++ o ∷ []) a.task a.rest a.outer tt h.0 (outer_joined begun.outer.items o known.outer h.1 known.rest)
+  range_after outcome.Over h a = built None begun.rest begun.outer.items a.task a.rest a.outer tt known.rest known.outer
+  range_after outcome.Returned h a = built (Some after) begun.rest begun.outer.items a.task a.rest a.outer known_after known.rest known.outer
+  range_after (outcome.Trapped trap line) h a = built (Some after) begun.rest begun.outer.items a.task a.rest a.outer known_after known.rest known.outer
+  range_after outcome.Nothing h a = built (Some after) begun.rest begun.outer.items a.task a.rest a.outer known_after known.rest known.outer
 
 -- ---- the end of a block
 
