@@ -1,6 +1,5 @@
-use Rattle.std.proofs.Common.{Some, refl, sym, subst}
+use Rattle.std.proofs.Common.{refl, sym, subst}
 use Rattle.replay.specs.declared.activation.Activation.{Activation}
-use Rattle.replay.specs.declared.task.Task.TheVariants as task
 use Rattle.replay.specs.Activations.{BegunInRange, OuterInRange}
 use Rattle.replay.specs.Tasks.{EndInRange}
 use Rattle.replay.proofs.ActivationLemmas.{outer_parts, if_over, turn_over}
@@ -34,5 +33,4 @@ pub returns-in_ok-term-in-Turn-clause-range : goal.returns-in_ok-term-in-Turn-cl
 returns-in_ok-term-in-Turn-clause-range c =
     let parts = outer_parts c.pop.new.self.items c.in-Some.outer (subst OuterInRange c.in-Some.ensures.items c.requires.range.outer) in
     let turn = subst EndInRange c.in-Turn.is parts.1 in
-    let begun : BegunInRange (Some (task.Loop c.in-Turn.line c.in-Turn.test c.in_ok-term-in-Turn.term c.in-Turn.body)) = (turn.0, c.in_ok-term-in-Turn.ensures.numbers, turn.1) in
-    record { begun = subst BegunInRange (sym c.put_task.ensures) begun; rest = parts.2; outer = parts.0 }
+    record { begun = subst BegunInRange (sym c.put_task.ensures) (turn.0, c.in_ok-term-in-Turn.ensures.numbers, turn.1); rest = parts.2; outer = parts.0 }
