@@ -124,6 +124,7 @@ fn three_turns_of_a_loop(rt: HostRuntime) -> Result<(), Fail> {
 
 /// A function of these statements:
 /// `jbyte b[2] = {0}; b[1] = 200; put_jint(b[1]); b[2] = 1; return;`
+#[tactic(auto, using(syntax::proofs::Blocks::blocks))]
 fn writing_unit(alloc: Global) -> Result<Unit, AllocError> {
     let statement_1 = Stmt {
         line: 2,
