@@ -141,6 +141,13 @@ ready p space call code visible task rest lowered at h =
       depth = subst (λ (k : Listing). depth_at k.instrs call.place ≡ Some (length call.stack)) same h.depth;
     }
 
+-- as many references as addresses
+pub agree_count : (space : Space) (addresses : List (Option ℕ)) (references : List Reference) → ReferencesAgree space addresses references → length references ≡ length addresses
+agree_count space [] [] h = refl
+agree_count space [] (r ∷ rs) h = absurd h
+agree_count space (a ∷ addresses) [] h = absurd h
+agree_count space (a ∷ addresses) (r ∷ rs) h = ap suc (agree_count space addresses rs h.1)
+
 -- the call stands at a place, with these operands, number slots and references
 pub record HasMoved (call after : Activation) (to : ℕ) (words slots : List ℕ) (addresses : List (Option ℕ)) : Type 0 where
   pub function : after.function ≡ call.function

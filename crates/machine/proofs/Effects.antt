@@ -1,8 +1,9 @@
 -- What an instruction did is the effect of the first of the tasks.
-use Rattle.std.proofs.Common.{◌≡◌, ℕ, zero, suc, ℤ, pos, ◌+◌, ◌-◌, ◌<◌, ◌≤◌, Bool, true, false, List, [], ◌∷◌, ◌++◌, length, replicate, Option, Some, None, refl, sym, ap, ◌∙◌, subst, if◌then◌else◌}
-use Rattle.std.specs.Prelude.{slice_get, slice_set, nat_lt, IsSome}
+use Rattle.std.proofs.Common.{◌≡◌, ℕ, zero, suc, ℤ, pos, ◌+◌, ◌-◌, ◌<◌, Bool, true, false, List, [], ◌∷◌, ◌++◌, length, replicate, Option, Some, None, refl, sym, ap, ◌∙◌, subst, arith, if◌then◌else◌}
+use Rattle.std.specs.Prelude.{slice_get, slice_set, nat_lt, IsSome, IsTrue}
 use Rattle.std.specs.Bool.{beq}
 use Rattle.std.specs.Int.{w32, cast_signed}
+use Rattle.std.proofs.lemmas.Bool.{ltb-true}
 use Rattle.base.specs.Bytes.{Identifier, lookup}
 use Rattle.base.specs.Element.{ElementType}
 use Rattle.classes.specs.Class.{Classes}
@@ -12,10 +13,12 @@ use Rattle.code.specs.declared.instr.Instr.{Instr}
 use Rattle.code.specs.declared.instr.Instr.TheVariants as instr
 use Rattle.code.specs.declared.instr.Call.{Call}
 use Rattle.code.specs.declared.instr.NullableVariable.{NullableVariable}
+use Rattle.code.specs.declared.instr.NullableVariable.TheVariants as nullable
+use Rattle.code.specs.declared.slots.SlotCounts.{SlotCounts}
 use Rattle.code.specs.declared.instr.Plain.{Plain}
 use Rattle.code.specs.declared.instr.Plain.TheVariants as plain
 use Rattle.code.specs.Effect.{truth_word, plain_of, IsPlain}
-use Rattle.code.specs.Depth.{Listing, depth_after, depth_at, LeadsInside, Leaves}
+use Rattle.code.specs.Depth.{Listing, depth_after, depth_at, LeadsInside, Leaves, variable_within, within_slots}
 use Rattle.regions.specs.Arguments.{Actual}
 use Rattle.regions.specs.Effect as effects
 use Rattle.regions.specs.Effect.{Effect, Becomes, Sets, SetsNull, SetsElement, MakesArray, Prints, Calls, TrapsAt, effect_of}
@@ -38,8 +41,8 @@ use Rattle.machine.specs.declared.thread.Executed.TheVariants.{Did, Returned}
 use Rattle.machine.specs.Agrees as agrees
 use Rattle.machine.specs.Agrees.{Executes, StaticsAgree, CallStands, event_view}
 use Rattle.machine.specs.Stops.{trap_view}
-use Rattle.machine.specs.Variables.{is_null, with_null}
-use Rattle.machine.proofs.Calls.{does_cases, slots_of, Ready, plain_instr, plain_works, IsNullTest, no_return, HasMoved, stands_at, room, leads, depth_behind}
+use Rattle.machine.specs.Variables.{is_null, HasSlot, with_null}
+use Rattle.machine.proofs.Calls.{does_cases, slots_of, Ready, plain_instr, plain_works, IsNullTest, no_return, agree_count, HasMoved, stands_at, runs, room, leads, depth_behind}
 use Rattle.machine.proofs.Changes.{array_of, is_set, is_made, is_element_set}
 use Rattle.machine.proofs.Elements.{SetsWhatIsThere, sets_what_is_there}
 use Rattle.machine.proofs.NullLaws.{puts_null, null_agrees, nulled_agree}
@@ -119,6 +122,21 @@ no_return_test : (i : Instr) → IsReturn i → IsNullTest i → ⊥
 no_return_test (instr.TestNull variable equal) r h = r
 no_return_test i r h = h
 
+-- a number of words with room for a test of NULL
+pub few_words : (variable : NullableVariable) (equal : Bool) (n : ℕ) → IsSome (depth_after (instr.TestNull variable equal) n) → n < 64
+few_words variable equal n h = by_test (nat_lt n 64) refl h
+  where
+    by_test : (b : Bool) → nat_lt n 64 ≡ b → IsSome (if b then Some (suc n) else None) → n < 64
+    by_test true e k = ltb-true n 64 e
+    by_test false e k = absurd (cc (k))
+
+-- a variable of the code has its slot
+has_slot : (addresses : List (Option ℕ)) (slots : SlotCounts) (variable : NullableVariable) → length addresses ≡ slots.references → variable_within slots variable ≡ true → HasSlot addresses variable
+has_slot addresses slots (nullable.Local i) count h = let below : i < slots.references = ltb-true i slots.references h in omega (arith, below, count)
+has_slot addresses slots (nullable.Static i) count h = tt
+has_slot addresses slots (nullable.FieldId i) count h = tt
+has_slot addresses slots (nullable.Buffer i) count h = tt
+
 -- one word more than so many
 one_more : (n : ℕ) → IsSome (depth_after (instr.Push 0) n) → depth_after (instr.Push 0) n ≡ Some (suc n)
 one_more n h = by_test (nat_lt n 64) h
@@ -165,6 +183,12 @@ module _ (p : Lowered) (space : Space) (call : Activation) (code : Listing) (vis
           by_instr : (j : Instr) → (IsPlain j → ⊥) → (way : Plain) (after : List ℕ) → Works slots j call.stack way after → IsNullTest j
           by_instr (instr.TestNull variable equal) n way after w = tt
           by_instr j n way after w = absurd (n (plain_instr j call.stack slots.numbers (way, after, slots.numbers) w))
+
+  -- the variable that is made NULL has its slot
+  pub slot_there : (variable : NullableVariable) → i ≡ instr.StoreNull variable → HasSlot call.references.items variable
+  slot_there variable is =
+      let within : within_slots code.slots (instr.StoreNull variable) ≡ true = subst (λ (j : Instr). IsTrue (within_slots code.slots j)) is (runs p space call code visible task rest r i at).slots in
+      has_slot call.references.items code.slots variable (sym (agree_count space call.references.items r.references r.agree) ∙ r.shows.references) within
 
   -- a call's instruction calls the function of the first task
   pub call_cases : (function : Call) → i ≡ instr.Call function → (P : Effect → Type 0)

@@ -45,7 +45,7 @@ use Rattle.machine.specs.declared.thread.Activation.{Activation}
 use Rattle.machine.specs.Agrees.{StaticsAgree, CallAgrees, CallsAgree, CallStands, WorkAgrees, ReferencesAgree, ThreadAgrees, GoesOn, Advances, ending_view, ending_after}
 use Rattle.machine.specs.Entry.{argument_address, Begins, IsReady}
 use Rattle.machine.specs.HeapAgrees.{ReferenceAgrees, IsTable}
-use Rattle.machine.proofs.Calls.{ready, slots_of, does_cases}
+use Rattle.machine.proofs.Calls.{ready, slots_of, does_cases, agree_count}
 
 -- ---- work
 
@@ -307,12 +307,6 @@ module _ (space : Space) (loaded : List ℕ) (made : ℕ) (table : IsTable space
       let b = both (is_argument made (Refers (Some n))) (list_all (is_argument made) vs) h in
       let w = within n b.0 in
       (made_agrees n w.0 w.1, given_agree vs k b.1)
-
-agree_count : (space : Space) (addresses : List (Option ℕ)) (references : List Reference) → ReferencesAgree space addresses references → length references ≡ length addresses
-agree_count space [] [] h = refl
-agree_count space [] (r ∷ rs) h = absurd h
-agree_count space (a ∷ addresses) [] h = absurd h
-agree_count space (a ∷ addresses) (r ∷ rs) h = ap suc (agree_count space addresses rs h.1)
 
 -- the call stands for the function's statements
 begun : (p : Lowered) (classes : Classes) (space : Space) (loaded : List ℕ) (made : ℕ) (shared : Shared) (s : source.Thread) (rest : List Invocation) (n : CallToCome) (c : Invocation) (call : Activation) → IsLowered p → IsTable space loaded made → StaticsAgree p shared → (f : CallAgrees p classes made n c) → Begins p loaded n call
