@@ -60,57 +60,59 @@ fn function(alloc: Global, statements: Vec<Stmt>) -> Result<Function, AllocError
     })
 }
 
-// if (n < 3 && o != NULL) { put_jint(n); } else { n = 1; }
-#[test]
-fn ways_of_an_if(rt: HostRuntime) -> Result<(), Fail> {
-    let alloc = rt.alloc();
+// n < 3 && o != NULL
+fn small_and_there(alloc: Global) -> Result<Expr, AllocError> {
     let less = binary(alloc, BinaryOp::Less, variable(alloc, b"n")?, number(3))?;
+    let object = variable(alloc, b"o")?;
     let there = binary(
         alloc,
         BinaryOp::NotEqual,
-        variable(alloc, b"o")?,
+        object,
         Expr::Named(Constant::Null),
     )?;
-    let test = Test::Expr(binary(alloc, BinaryOp::LogicalAnd, less, there)?);
-    let put = on_line(2, Form::PutJint(variable(alloc, b"n")?));
-    let set = on_line(
-        2,
-        Form::Assign(Name::new(alloc, b"n")?, RightSide::Expr(number(1))),
-    );
-    let first = Block {
-        statements: vec![in alloc; put]?,
+    binary(alloc, BinaryOp::LogicalAnd, less, there)
+}
+
+fn block_of(alloc: Global, form: Form) -> Result<Block, AllocError> {
+    let statements = vec![in alloc; on_line(2, form)]?;
+    Ok(Block {
+        statements,
         end_line: 2,
-    };
-    let second = Block {
-        statements: vec![in alloc; set]?,
-        end_line: 2,
-    };
-    let branch = on_line(2, Form::IfElse(test, first, second));
+    })
+}
+
+// if (n < 3 && o != NULL) { put_jint(n); } else { n = 1; }
+fn two_ways(alloc: Global) -> Result<Form, AllocError> {
+    let first = block_of(alloc, Form::PutJint(variable(alloc, b"n")?))?;
+    let set = Form::Assign(Name::new(alloc, b"n")?, RightSide::Expr(number(1)));
+    let second = block_of(alloc, set)?;
+    let test = Test::Expr(small_and_there(alloc)?);
+    Ok(Form::IfElse(test, first, second))
+}
+
+#[test]
+fn ways_of_an_if(rt: HostRuntime) -> Result<(), Fail> {
+    let alloc = rt.alloc();
+    let branch = on_line(2, two_ways(alloc)?);
     let function = function(alloc, vec![in alloc; branch]?)?;
     let statics: Vec<Known<'_>> = Vec::new(alloc);
     let mut names = Names::of(alloc, &statics, &function)?;
     let mut code = Vec::new(alloc);
     emit_block(alloc, &mut code, &mut names, &function.body)?;
-    match code.as_slice() {
-        [
-            Instr::Load(0),
-            Instr::Push(3),
-            Instr::Operate(Operator::SignedLess),
-            Instr::SkipUnless(1),
-            Instr::TestNull {
-                variable: NullableVariable::Local(1),
-                equal: false,
-            },
-            Instr::JumpUnless(3),
-            Instr::Load(0),
-            Instr::PutJint,
-            Instr::GoOn(3),
-            Instr::Push(1),
-            Instr::Store(0),
-            Instr::GoOn(0),
-        ] => {}
-        _ => assert!(rt; false),
-    }
+    assert_eq!(rt; code.len(), 12);
+    assert!(rt; code[0] == Instr::Load(0));
+    assert!(rt; code[2] == Instr::Operate(Operator::SignedLess));
+    assert!(rt; code[3] == Instr::SkipUnless(1));
+    let there = Instr::TestNull {
+        variable: NullableVariable::Local(1),
+        equal: false,
+    };
+    assert!(rt; code[4] == there);
+    assert!(rt; code[5] == Instr::JumpUnless(3));
+    assert!(rt; code[7] == Instr::PutJint);
+    assert!(rt; code[8] == Instr::GoOn(3));
+    assert!(rt; code[10] == Instr::Store(0));
+    assert!(rt; code[11] == Instr::GoOn(0));
     Ok(())
 }
 

@@ -1,11 +1,10 @@
 -- What the instruction at the place of a call does.
-use Rattle.std.proofs.Common.{◌≡◌, ℕ, ℤ, zero, suc, ◌+◌, ◌-◌, ◌<◌, ◌≤◌, Bool, List, [], ◌∷◌, ◌++◌, length, Option, Some, None, refl, sym, ap, ◌∙◌, subst, arith, Bor}
+use Rattle.std.proofs.Common.{◌≡◌, ℕ, ℤ, zero, suc, ◌+◌, ◌<◌, Bool, List, [], ◌∷◌, ◌++◌, length, Option, Some, None, refl, sym, ap, ◌∙◌, subst, arith, Bor}
 use Rattle.std.specs.Prelude.{slice_get, IsSome}
-use Rattle.std.specs.Option.{option_copied, option_map}
+use Rattle.std.specs.Option.{option_copied}
 use Rattle.base.specs.Bytes.{Identifier}
 use Rattle.base.specs.Element.{ElementType}
-use Rattle.syntax.specs.Tree.{Function, Item, StaticItem, FunctionItem, SourceUnit}
-use Rattle.syntax.specs.Parts.{functions_of}
+use Rattle.syntax.specs.Tree.{Function, Item, StaticItem, FunctionItem}
 use Rattle.syntax.specs.Views.{unit_tree}
 use Rattle.types.specs.JniFunction.{JniFunction}
 use Rattle.heap.specs.Heap.{Space}
@@ -14,9 +13,8 @@ use Rattle.code.specs.declared.instr.Instr.{Instr}
 use Rattle.code.specs.declared.instr.Instr.TheVariants as instr
 use Rattle.code.specs.declared.instr.Call.{Call}
 use Rattle.code.specs.declared.instr.Plain.{Plain}
-use Rattle.code.specs.declared.instr.Plain.TheVariants as plain
 use Rattle.code.specs.Effect.{IsPlain, plain_of}
-use Rattle.code.specs.Depth.{Listing, depth_after, depth_at, IsValid, HasDepth, LeadsInside, Leaves}
+use Rattle.code.specs.Depth.{Listing, depth_after, depth_at, IsValid, LeadsInside, Leaves}
 use Rattle.code.specs.Running.{RunsAt}
 use Rattle.code.proofs.Runs.{runs_at}
 use Rattle.regions.specs.Arguments.{Actual}

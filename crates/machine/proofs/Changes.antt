@@ -1,5 +1,5 @@
 -- What can be seen once a variable has changed.
-use Rattle.std.proofs.Common.{◌≡◌, ◌≢◌, ℕ, zero, suc, ℤ, pos, ◌<◌, ◌≤◌, Bool, true, false, List, [], ◌∷◌, length, replicate, Option, Some, None, refl, sym, ap, ◌∙◌, subst, arith, if◌then◌else◌}
+use Rattle.std.proofs.Common.{◌≡◌, ◌≢◌, ℕ, zero, suc, ℤ, pos, ◌<◌, Bool, true, false, List, [], ◌∷◌, length, replicate, Option, Some, None, refl, sym, ap, ◌∙◌, subst, arith, if◌then◌else◌}
 use Rattle.std.specs.Prelude.{slice_get, slice_set}
 use Rattle.std.specs.Str.{bytes_eq}
 use Rattle.std.proofs.lemmas.List.{length-replicate}
@@ -7,12 +7,11 @@ use Rattle.std.proofs.lemmas.Option.{slice_get_past, slice_get_within}
 use Rattle.std.proofs.lemmas.Slice.Eq.{bytes_eq-Decides}
 use Rattle.base.specs.Bytes.{Identifier, ByName, lookup}
 use Rattle.base.specs.Element.{ElementType}
-use Rattle.regions.specs.Heap.{Heap}
 use Rattle.regions.specs.Sight.{scalar, holds_null, elements_of, in_range, held_reference}
 use Rattle.regions.specs.Thread as source
 use Rattle.regions.specs.Thread.{Shared}
-use Rattle.regions.specs.Value.{Value, Outcome, Gives, Traps, Stuck, OutOfRange, outcome_then, convert}
-use Rattle.regions.specs.Variable.{Variable, Scalar, LocalArray, StaticReference, Empty, Variables, assign}
+use Rattle.regions.specs.Value.{Value, Gives, Stuck, outcome_then, convert}
+use Rattle.regions.specs.Variable.{Variable, Scalar, LocalArray, Empty, Variables, assign}
 use Rattle.lower.specs.Slots.{visible_to, type_of_array, OthersStay, IsSet, IsNulled, IsMade, IsElementSet}
 
 -- ---- lists by name

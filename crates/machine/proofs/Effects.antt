@@ -1,5 +1,5 @@
 -- What an instruction did is the effect of the first of the tasks.
-use Rattle.std.proofs.Common.{◌≡◌, ℕ, zero, suc, ℤ, pos, ◌+◌, ◌-◌, ◌<◌, Bool, true, false, List, [], ◌∷◌, ◌++◌, length, replicate, Option, Some, None, refl, sym, ap, ◌∙◌, subst, arith, if◌then◌else◌}
+use Rattle.std.proofs.Common.{◌≡◌, ℕ, suc, ℤ, pos, ◌+◌, ◌-◌, ◌<◌, Bool, true, false, List, [], ◌∷◌, ◌++◌, length, replicate, Option, Some, None, refl, sym, ap, ◌∙◌, subst, arith, if◌then◌else◌}
 use Rattle.std.specs.Prelude.{slice_get, slice_set, nat_lt, IsSome, IsTrue}
 use Rattle.std.specs.Bool.{beq}
 use Rattle.std.specs.Int.{w32, cast_signed}
@@ -26,12 +26,12 @@ use Rattle.regions.specs.Task.{Task, Target}
 use Rattle.regions.specs.Thread as source
 use Rattle.regions.specs.Thread.{Lent, Shared, sight_of}
 use Rattle.regions.specs.ThreadStep.{with_tasks, after_effect, set_element}
-use Rattle.regions.specs.Value.{Value, Trap, convert}
+use Rattle.regions.specs.Value.{Trap, convert}
 use Rattle.regions.specs.Variable.{Variable, Scalar, LocalArray, assign}
 use Rattle.lower.specs.Slots as lower
 use Rattle.lower.specs.Slots.{Visible, Slots, visible_to, Shows, IsSet, IsMade, IsElementSet}
 use Rattle.lower.specs.Stands.{StandsFor}
-use Rattle.lower.specs.Does.{GoesOn, Writes, StoresNull, PrintsTop, CallsFunction, LeavesCall, Stops, Works, AtEnd, IsReturn, trap_of}
+use Rattle.lower.specs.Does.{GoesOn, Writes, StoresNull, PrintsTop, CallsFunction, Stops, Works, AtEnd, IsReturn, trap_of}
 use Rattle.lower.specs.Lowered.{Lowered}
 use Rattle.machine.specs.declared.stop.Trap.{Trap as TrapInMemory}
 use Rattle.machine.specs.declared.thread.Event.{Event}
@@ -209,7 +209,7 @@ module _ (p : Lowered) (classes : Classes) (space : Space) (lent : Lent) (k : �
 
   -- an instruction on the stack and the number slots alone
   module _ (tasks_are : s.tasks ≡ Some (task ∷ rest)) (after : Activation) (e : Event) (way : Plain) (stack numbers : List ℕ) (is : plain_of i call.stack call.numbers.items ≡ Some (way, stack, numbers))
-    (m : HasMoved call after (end_of_way call.place way) stack numbers call.references.items) (way_seen : WayIsSeen way e) where
+      (m : HasMoved call after (end_of_way call.place way) stack numbers call.references.items) (way_seen : WayIsSeen way e) where
     becomes : IsPlain i → (tasks : List Task) → GoesOn code r.known call.place call.stack held seen (tasks ++ rest) → agrees.GoesOn p classes space lent k shared s rest after (Becomes tasks) e
     becomes works tasks h =
         let same : h.here ≡ i = cc (h.at, at) in

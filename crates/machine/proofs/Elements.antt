@@ -8,7 +8,6 @@ use Rattle.regions.specs.Effect as effect
 use Rattle.regions.specs.Effect.{Effect, SetsElement, Calls, at_line, goes_on, with_value, print_effect, branch_effect, loop_effect, element_effect, reduce_first, is_ready, call_effect_of, returned_name, return_effect, effect_of}
 use Rattle.regions.specs.Sight.{Sight}
 use Rattle.regions.specs.Task.{Task, SetScalar, SetElement, SetNull, MakeArray, Invoke, Print, Branch, EndIf, Loop, EndTurn, Return, ReturnValue, Impossible, Target, Operand}
-use Rattle.regions.specs.Term as term
 use Rattle.regions.specs.Term.{Term, Done, Named, Read, index_of, reduce}
 use Rattle.regions.specs.Value.{Value, Word, Int, Flag, Truth, Outcome, Gives, Traps, Stuck}
 

@@ -14,12 +14,12 @@ use Rattle.code.specs.declared.instr.NullableVariable.TheVariants as nullable
 use Rattle.regions.specs.CallEffects.{NullResult}
 use Rattle.regions.specs.CallStep.{put, put_assigned}
 use Rattle.regions.specs.Sight.{holds_null, static_is_null, held_reference, scalar}
-use Rattle.regions.specs.Start.{null_static, null_statics}
+use Rattle.regions.specs.Start.{null_static}
 use Rattle.regions.specs.Task.{Task, Target, ScalarKind, ReferenceKind, FieldKind, BufferKind, Declared, Assigned, Tested, Dropped}
 use Rattle.regions.specs.Thread as source
 use Rattle.regions.specs.Thread.{Shared}
 use Rattle.regions.specs.ThreadStep.{with_tasks}
-use Rattle.regions.specs.Value.{Outcome, Gives, Stuck}
+use Rattle.regions.specs.Value.{Gives, Stuck}
 use Rattle.regions.specs.Variable.{Variable, Scalar, LocalRef, FieldHandle, Elements, LocalArray, NoBuffer, StaticReference, Empty, Variables, Statics, assign}
 use Rattle.lower.specs.Slots as lower
 use Rattle.lower.specs.Slots.{Slots, visible_to, IsNulled}

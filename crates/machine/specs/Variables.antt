@@ -1,5 +1,5 @@
 -- Variables that can be NULL.
-use Rattle.std.specs.Prelude.{◌≡◌, ℕ, ◌<◌, Bool, true, List, length, is_none, slice_get, slice_set, Option, None}
+use Rattle.std.specs.Prelude.{ℕ, ◌<◌, Bool, true, List, length, is_none, slice_get, slice_set, Option, None}
 use Rattle.code.specs.declared.instr.NullableVariable.{NullableVariable}
 use Rattle.code.specs.declared.instr.NullableVariable.TheVariants.{Local}
 use Rattle.machine.specs.Invoked.{held_in}

@@ -13,7 +13,7 @@ use Rattle.code.specs.declared.instr.Plain.{Plain}
 use Rattle.code.specs.declared.instr.ReferenceOperand.{ReferenceOperand}
 use Rattle.code.specs.declared.instr.Plain.TheVariants as plain
 use Rattle.code.specs.Effect.{truth_word, plain_of}
-use Rattle.code.specs.Depth.{Listing, depth_after}
+use Rattle.code.specs.Depth.{Listing}
 use Rattle.regions.specs.Effect.{effect_of}
 use Rattle.regions.specs.Task.{Task}
 use Rattle.regions.specs.Thread.{sight_of}
