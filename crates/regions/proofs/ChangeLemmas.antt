@@ -48,7 +48,7 @@ change_more change xs ys i v w lt long done read is =
     map-set named_value ys i w
     ∙ ap (λ (x : NamedState). set (variables_value ys) i x) is
     ∙ map_over_more (changed_named change) (variables_value xs) (variables_value ys) i (named_value v) (omega (arith, length-map xs named_value)) done
-        (ap named_value read ∙ sym (get_or-map named_value ys i v (named_value v) lt))
+    (ap named_value read ∙ sym (get_or-map named_value ys i v (named_value v) lt))
 
 take_past : {A : Type 0} (i : ℕ) (xs : List A) → length xs ≤ i → take i xs ≡ xs
 take_past zero [] h = refl

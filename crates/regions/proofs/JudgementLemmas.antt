@@ -11,7 +11,7 @@ use Rattle.regions.specs.Effects.{call_effect, got, released, popped}
 use Rattle.regions.specs.FirstFaults.{first_broken}
 use Rattle.regions.specs.Judgements.{judged, first_judged, is_wrong_release, effected, set_from, settled, behind_judged}
 use Rattle.regions.specs.RegionRules.{RegionRule, CallWhileCritical, ReturnWithBuffer, HeldBuffer, UntestedBuffer, WrongBuffer, ReturnInFrame, PopLastFrame, DeadReference, ArrayInUse, WaysDiffer, WrongLevel, NoReturn, breaks_region_rule, own_rules, is_put_jint, is_array_in_use, is_level, is_reference_now}
-use Rattle.regions.specs.RegionStates.{RegionState, VariableState, ReferenceAt, BufferIn, FunctionCall, state_of, function_called, call_of, get_of, release_of, deleted_name, pops, with_new, with_changed, with_some_changed, after_pop, after_release, after_call, killed, buffer_from, set_to, with_set, state_after}
+use Rattle.regions.specs.RegionStates.{RegionState, VariableState, ReferenceAt, BufferIn, FunctionCall, state_of, function_called, call_of, deleted_name, with_new, with_changed, with_some_changed, after_pop, after_release, after_call, killed, buffer_from, set_to, with_set, state_after}
 use Rattle.regions.specs.Standings.{asks, holds_of}
 use Rattle.regions.proofs.EffectLemmas.{get_is, release_is, deleted_is, pops_is, forbidden_is}
 use Rattle.regions.proofs.StateLemmas.{holder_is}
@@ -34,10 +34,10 @@ judged_is DeadReference state s = uses_is (asks condition.Dead state) s
 judged_is ArrayInUse state s =
     let call = function_called s in
     ap₂ (λ a b. a || b)
-      (ap₂ (λ a b. a || b)
-        (ap₂ (λ a d. a || d) (in_use state (assigned_name s)) (in_use state (deleted_name call) ∙ ap (some_passes (λ x. holds_of x state)) (deleted_is call)))
-        (ap₂ (λ p q. p && q) (pops_is call) (holder_is (λ held. is_level state.frames (state_of state held.1)) state)))
-      (ap (some_passes (λ get. not (some_passes (asks condition.Reference state) get.1))) (get_is call))
+    (ap₂ (λ a b. a || b)
+    (ap₂ (λ a d. a || d) (in_use state (assigned_name s)) (in_use state (deleted_name call) ∙ ap (some_passes (λ x. holds_of x state)) (deleted_is call)))
+    (ap₂ (λ p q. p && q) (pops_is call) (holder_is (λ held. is_level state.frames (state_of state held.1)) state)))
+    (ap (some_passes (λ get. not (some_passes (asks condition.Reference state) get.1))) (get_is call))
 judged_is WrongLevel state s =
     ap (λ b. some_passes (λ x. is_reference_now (state_of state x) && not (is_level (if b then state.frames - 1 else state.frames) (state_of state x))) (assigned_name s)) (pops_is (function_called s))
 judged_is WaysDiffer state s = refl

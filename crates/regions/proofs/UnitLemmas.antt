@@ -1,5 +1,5 @@
 -- A unit without fault is accepted, and the fault found is its first.
-use Rattle.std.proofs.Common.{◌≡◌, ℕ, Bool, true, false, not, ◌&&◌, ◌⊎◌, inl, inr, List, [], ◌∷◌, Option, Some, None, Result, Ok, Err, refl, sym, ap, ◌∙◌, subst, is_some}
+use Rattle.std.proofs.Common.{◌≡◌, Bool, true, false, not, ◌&&◌, inl, inr, List, [], ◌∷◌, Option, Some, None, Result, Ok, Err, refl, sym, ap, ◌∙◌, subst, is_some}
 use Rattle.std.specs.Prelude.{IsTrue}
 use Rattle.std.specs.List.{list_all, AllByRecursion}
 use Rattle.std.specs.Option.{option_or}
@@ -109,8 +109,8 @@ built-known (StaticItem s ∷ items) h = built-known items h
 built-known (FunctionItem f ∷ items) h =
     let both = both_hold (list_all (λ s. not (calls_unbuilt s)) (statements_of f.body)) (list_all (λ g. list_all (λ s. not (calls_unbuilt s)) (statements_of g.body)) (functions_of (record { items = items }))) h in
     and_true (list_all calls_known (statements_of f.body)) (items_known items)
-      (all_more (λ s. not (calls_unbuilt s)) calls_known (λ s j. known_call (own_call s) j) (statements_of f.body) both.0)
-      (built-known items both.1)
+    (all_more (λ s. not (calls_unbuilt s)) calls_known (λ s j. known_call (own_call s) j) (statements_of f.body) both.0)
+    (built-known items both.1)
 
 -- the faults of items are those of their functions
 pub items-fault : (items : List Item) → items_fault items ≡ first_fault (functions_of (record { items = items }))

@@ -148,7 +148,11 @@ fn end<'a>(outer: &State<'a>, mut state: State<'a>, line: usize) -> Result<Way<'
 }
 
 /// Two ways become one.
-fn join_ways<'a>(line: usize, first: Way<'a>, second: Way<'a>) -> Result<Way<'a>, CheckFault>
+pub(crate) fn join_ways<'a>(
+    line: usize,
+    first: Way<'a>,
+    second: Way<'a>,
+) -> Result<Way<'a>, CheckFault>
     ensures { Goes result (join_ways line (Ok (way_value first.entry)) (Ok (way_value second.entry))) }
 {
     match first {
@@ -181,11 +185,7 @@ fn turn_way<'a>(line: usize, before: State<'a>, turn: Way<'a>) -> Result<Way<'a>
 }
 
 /// The state where a test holds.
-fn state_true<'a>(
-    alloc: Global,
-    state: &State<'a>,
-    test: &'a Test,
-) -> Result<State<'a>, AllocError>
+fn state_true<'a>(alloc: Global, state: &State<'a>, test: &'a Test) -> Result<State<'a>, AllocError>
     ensures { IfOk result (λ s. state_value s ≡ where_true (state_value state.now) (test_tree test.now)) }
 {
     let mut inside = copy(alloc, state)?;
@@ -215,6 +215,36 @@ fn pass_way<'a>(mut before: State<'a>, form: &'a Form) -> Result<Way<'a>, CheckF
     Ok(Way::On(before))
 }
 
+/// The way through the block behind a test that holds.
+#[cycle(walk)]
+fn then_way<'a>(
+    alloc: Global,
+    before: &State<'a>,
+    test: &'a Test,
+    then: &'a Block,
+) -> Result<Way<'a>, CheckFault>
+    requires { IsTrue (list_all calls_known (statements_of (block_tree then.now))) }
+    ensures { Goes result (way_of_block (state_value before.now) (where_true (state_value before.now) (test_tree test.now)) (block_tree then.now)) }
+{
+    let inside = state_true(alloc, before, test)?;
+    block_way(alloc, before, inside, then)
+}
+
+/// The way through the block behind a test that does not.
+#[cycle(walk)]
+fn else_way<'a>(
+    alloc: Global,
+    before: &State<'a>,
+    test: &'a Test,
+    otherwise: &'a Block,
+) -> Result<Way<'a>, CheckFault>
+    requires { IsTrue (list_all calls_known (statements_of (block_tree otherwise.now))) }
+    ensures { Goes result (way_of_block (state_value before.now) (where_false (state_value before.now) (test_tree test.now)) (block_tree otherwise.now)) }
+{
+    let inside = state_false(alloc, before, test)?;
+    block_way(alloc, before, inside, otherwise)
+}
+
 /// The way behind an `if` without `else`.
 #[cycle(walk)]
 fn if_way<'a>(
@@ -227,32 +257,10 @@ fn if_way<'a>(
     requires { IsTrue (list_all calls_known (statements_of (block_tree then.now))) }
     ensures { Goes result (join_ways line (way_of_block (state_value before.entry) (where_true (state_value before.entry) (test_tree test.now)) (block_tree then.now)) (Ok (On (where_false (state_value before.entry) (test_tree test.now))))) }
 {
-    let inside = state_true(alloc, &before, test)?;
-    let way = block_way(alloc, &before, inside, then)?;
+    let way = then_way(alloc, &before, test, then)?;
     let mut passed = before;
     take_false(&mut passed, test);
     join_ways(line, way, Way::On(passed))
-}
-
-/// The way behind an `if` with `else`.
-#[cycle(walk)]
-fn if_else_way<'a>(
-    alloc: Global,
-    before: State<'a>,
-    line: usize,
-    test: &'a Test,
-    then: &'a Block,
-    otherwise: &'a Block,
-) -> Result<Way<'a>, CheckFault>
-    requires then_known { IsTrue (list_all calls_known (statements_of (block_tree then.now))) }
-    requires else_known { IsTrue (list_all calls_known (statements_of (block_tree otherwise.now))) }
-    ensures { Goes result (join_ways line (way_of_block (state_value before.entry) (where_true (state_value before.entry) (test_tree test.now)) (block_tree then.now)) (way_of_block (state_value before.entry) (where_false (state_value before.entry) (test_tree test.now)) (block_tree otherwise.now))) }
-{
-    let yes = state_true(alloc, &before, test)?;
-    let first = block_way(alloc, &before, yes, then)?;
-    let no = state_false(alloc, &before, test)?;
-    let second = block_way(alloc, &before, no, otherwise)?;
-    join_ways(line, first, second)
 }
 
 /// The way behind a `while`.
@@ -284,7 +292,11 @@ fn inner_way<'a>(
 {
     match form {
         Form::If(test, b) => if_way(alloc, before, line, test, b),
-        Form::IfElse(test, b, d) => if_else_way(alloc, before, line, test, b, d),
+        Form::IfElse(test, b, d) => {
+            let first = then_way(alloc, &before, test, b)?;
+            let second = else_way(alloc, &before, test, d)?;
+            join_ways(line, first, second)
+        }
         Form::While(_, b) => while_way(alloc, before, line, b),
         Form::Return(None) => Ok(Way::Returned),
         Form::Return(Some(_)) => Ok(Way::Returned),
@@ -301,11 +313,7 @@ fn inner_way<'a>(
 
 /// The way behind a statement.
 #[cycle(walk)]
-fn stmt_way<'a>(
-    alloc: Global,
-    before: State<'a>,
-    stmt: &'a Stmt,
-) -> Result<Way<'a>, CheckFault>
+fn stmt_way<'a>(alloc: Global, before: State<'a>, stmt: &'a Stmt) -> Result<Way<'a>, CheckFault>
     requires { IsTrue (list_all calls_known (statements_within (stmt_tree stmt.now))) }
     ensures { Goes result (way_of (state_value before.entry) (stmt_tree stmt.now)) }
 {

@@ -12,11 +12,11 @@ use Rattle.regions.proofs.changes.pass.Goals as goal
 pub returns : goal.returns
 returns c =
     on_ok_weaker c.settle.result
-      (λ e line.
-        let old = state_value c.args.state.now in
-        let s = form_tree line c.args.form.now in
-        e line
-        ∙ ap (λ (middle : RegionState). settled middle s (option_map made_value c.called-call.result)) c.take_effect.ensures
-        ∙ ap (λ (call : Option EffectCall). behind_judged old s call) (c.called-call.ensures line)
-        ∙ sym (behind_is old s))
-      c.settle.ensures
+    (λ e line.
+    let old = state_value c.args.state.now in
+    let s = form_tree line c.args.form.now in
+    e line
+    ∙ ap (λ (middle : RegionState). settled middle s (option_map made_value c.called-call.result)) c.take_effect.ensures
+    ∙ ap (λ (call : Option EffectCall). behind_judged old s call) (c.called-call.ensures line)
+    ∙ sym (behind_is old s))
+    c.settle.ensures

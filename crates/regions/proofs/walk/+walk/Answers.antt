@@ -46,11 +46,11 @@ block_way-returns-in-Returned t c =
     let end_line = (out-Block c.args.block.now).end_line in
     let rest = statements_tree (drop (i + 1) items) end_line in
     Goes-along c.refuse.result _ _
-      (c.loop-stmt.invariant.goes
-      ∙ go_rest outer (way_value c.loop-stmt.way) items i s end_line c.loop-stmt-test.true c.stmt-item.is
-      ∙ ap (λ (w : WayInMemory). go_on outer (way_value w) (Next (stmt_tree s) rest)) c.in-Returned.is
-      ∙ behind_line outer s rest)
-      c.refuse.ensures
+    (c.loop-stmt.invariant.goes
+    ∙ go_rest outer (way_value c.loop-stmt.way) items i s end_line c.loop-stmt-test.true c.stmt-item.is
+    ∙ ap (λ (w : WayInMemory). go_on outer (way_value w) (Next (stmt_tree s) rest)) c.in-Returned.is
+    ∙ behind_line outer s rest)
+    c.refuse.ensures
 
 pub block_way-loop-stmt-preserved : goal.block_way-loop-stmt-preserved
 block_way-loop-stmt-preserved t c =
@@ -71,14 +71,15 @@ block_way-loop-stmt-preserved t c =
 
 -- ---- statements
 
-pub if_else_way-block_way-requires-2 : goal.if_else_way-block_way-requires-2
-if_else_way-block_way-requires-2 t c = (search (rules, the_lemmas), c.requires.else_known)
-
-pub inner_way-if_else_way-requires : goal.inner_way-if_else_way-requires
-inner_way-if_else_way-requires t c =
+pub inner_way-then_way-requires : goal.inner_way-then_way-requires
+inner_way-then_way-requires t c =
     let h = subst (λ (f : FormInMemory). IsTrue (list_all calls_known (statements_within (form_tree c.args.line f)))) c.in-IfElse.is c.requires in
-    let both = two_known (block_tree c.in-IfElse.b) (block_tree c.in-IfElse.d) (both_hold _ _ h).1 in
-    (search (rules, the_lemmas), (both.0, both.1))
+    (search (rules, the_lemmas), (two_known (block_tree c.in-IfElse.b) (block_tree c.in-IfElse.d) (both_hold _ _ h).1).0)
+
+pub inner_way-else_way-requires : goal.inner_way-else_way-requires
+inner_way-else_way-requires t c =
+    let h = subst (λ (f : FormInMemory). IsTrue (list_all calls_known (statements_within (form_tree c.args.line f)))) c.in-IfElse.is c.requires in
+    (search (rules, the_lemmas), (two_known (block_tree c.in-IfElse.b) (block_tree c.in-IfElse.d) (both_hold _ _ h).1).1)
 
 pub stmt_way-first_broken-requires : goal.stmt_way-first_broken-requires
 stmt_way-first_broken-requires t c = λ line. known_anywhere c.args.stmt.now.form c.args.stmt.now.line line (own_known (stmt_tree c.args.stmt.now) c.requires)

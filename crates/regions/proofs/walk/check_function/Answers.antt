@@ -14,6 +14,6 @@ pub returns-in-On : goal.returns-in-On
 returns-in-On c =
     let body = block_tree c.args.f.now.body in
     let way =
-        ap₂ (λ (a b : RegionState). way_of_block a b body) (sym c.in_ok-outer.ensures) (sym (c.in_ok-before.ensures ∙ c.in_ok-outer.ensures))
-        ∙ c.in_ok-block_way.ensures ∙ ap (λ (w : WayInMemory). Ok (way_value w)) c.in-On.is in
+    ap₂ (λ (a b : RegionState). way_of_block a b body) (sym c.in_ok-outer.ensures) (sym (c.in_ok-before.ensures ∙ c.in_ok-outer.ensures))
+    ∙ c.in_ok-block_way.ensures ∙ ap (λ (w : WayInMemory). Ok (way_value w)) c.in-On.is in
     ap (λ (r : Result Way Fault). fault_at_end r (end_line_of body)) way ∙ ap (λ (n : ℕ). Some (n, NoReturn)) (end_line_is c.args.f.now.body)
