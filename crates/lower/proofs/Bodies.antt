@@ -25,7 +25,7 @@ use Rattle.lower.specs.Layout.{Slot, Known, Layout, new_slot, with_name, closed,
 use Rattle.lower.specs.Coding.{nullable_of, store_of, element_of, write_code, of_slot, operand_of, term_code, expr_code, call_code, value_code, right_code, assign_code, returned_code, return_code, ways_code, turn_code, loop_code, if_code, stmt_code, block_code}
 use Rattle.lower.specs.Slots.{IsNumberSort}
 use Rattle.lower.specs.Fits.{IsIndexSort, IsUntouched, NumberFits, IndexWithin, IsLaidOut, HasRoomFor, ReferenceFits, ArgumentsFit, CallFits, ValueFits, RightFits, TestFits, ReturnFits, StmtFits, BlockFits}
-use Rattle.lower.specs.Stands.{held, IsBegun, IsUnderWay, HasAt, AreAmong, IsSlotOf, TargetStands, target_name, BlockStands, TasksStand}
+use Rattle.lower.specs.Stands.{held, IsBegun, IsUnderWay, HasAt, AreAmong, IsSlotOf, GoesTo, TargetStands, target_name, BlockStands, TasksStand}
 use Rattle.lower.proofs.SlotLaws.{known_among, new_among, all_among}
 use Rattle.lower.proofs.CodePlaces.{has_front, has_back}
 use Rattle.lower.proofs.TermSteps.{untouched_held, untouched_begun}
@@ -66,9 +66,9 @@ module _ (code : Listing) (known : Known) (line place : ℕ) (tail : List Task) 
         further = (names, among, subst (λ p. TasksStand code names p [] tail) size further);
       })
 
-  null_set : (target : Target) (x : Identifier) (slot : Slot) (e : Expr) (variable : NullableVariable) (names : Known) → e ≡ tree.Named tree.Null → nullable_of slot.sort slot.index ≡ Some variable → target_name target ≡ Some x → HasAt code.instrs place (value_code known line slot e)
+  null_set : (target : Target) (x : Identifier) (slot : Slot) (e : Expr) (variable : NullableVariable) (names : Known) → e ≡ tree.Named tree.Null → nullable_of slot.sort slot.index ≡ Some variable → target_name target ≡ Some x → GoesTo known slot target → HasAt code.instrs place (value_code known line slot e)
       → IsSlotOf code known x slot → AreAmong names ((x, slot) ∷ known) → TasksStand code names (place + length (value_code known line slot e)) [] tail → TasksStand code known place [] (set_task line target x e ∷ tail)
-  null_set target x slot e variable names null same name at own among further =
+  null_set target x slot e variable names null same name goes at own among further =
       let is : value_code known line slot e ≡ instr.StoreNull variable ∷ [] = ap (λ (d : Expr). value_code known line slot d) null ∙ ap store_of same in
       let there = subst (HasAt code.instrs place) is at in
       let size : place + length (value_code known line slot e) ≡ place + 1 = omega (arith, ap length is) in
@@ -79,22 +79,23 @@ module _ (code : Listing) (known : Known) (line place : ℕ) (tail : List Task) 
         slot = slot;
         variable = variable;
         nullable = same;
+        takes = goes;
         at = there.0;
         own = own;
         further = (names, among, subst (λ p. TasksStand code names p [] tail) size further);
       })
 
-  value_set : (target : Target) (x : Identifier) (kind : Sort) (i : ℕ) (e : Expr) (names : Known) → ValueFits known kind e → target_name target ≡ Some x → HasAt code.instrs place (value_code known line (record { sort = kind; index = i }) e) → IsSlotOf code known x (record { sort = kind; index = i })
+  value_set : (target : Target) (x : Identifier) (kind : Sort) (i : ℕ) (e : Expr) (names : Known) → ValueFits known kind e → target_name target ≡ Some x → GoesTo known (record { sort = kind; index = i }) target → HasAt code.instrs place (value_code known line (record { sort = kind; index = i }) e) → IsSlotOf code known x (record { sort = kind; index = i })
       → AreAmong names ((x, record { sort = kind; index = i }) ∷ known) → TasksStand code names (place + length (value_code known line (record { sort = kind; index = i }) e)) [] tail → TasksStand code known place [] (set_task line target x e ∷ tail)
-  value_set target x sort.Word i e names fits name at own among further = number_set target x (record { sort = sort.Word; index = i }) e names tt fits at own among further
-  value_set target x Jint i e names fits name at own among further = number_set target x (record { sort = Jint; index = i }) e names tt fits at own among further
-  value_set target x sort.Flag i e names fits name at own among further = number_set target x (record { sort = sort.Flag; index = i }) e names tt fits at own among further
-  value_set target x sort.Truth i e names fits name at own among further = absurd fits
-  value_set target x Ref i e names fits name at own among further = null_set target x (record { sort = Ref; index = i }) e (nullable.Local i) names fits refl name at own among further
-  value_set target x Global i e names fits name at own among further = null_set target x (record { sort = Global; index = i }) e (nullable.Static i) names fits refl name at own among further
-  value_set target x FieldId i e names fits name at own among further = null_set target x (record { sort = FieldId; index = i }) e (nullable.FieldId i) names fits refl name at own among further
-  value_set target x (Buffer t w) i e names fits name at own among further = null_set target x (record { sort = Buffer t w; index = i }) e (nullable.Buffer i) names fits refl name at own among further
-  value_set target x (Array t n) i e names fits name at own among further = absurd fits
+  value_set target x sort.Word i e names fits name goes at own among further = number_set target x (record { sort = sort.Word; index = i }) e names tt fits at own among further
+  value_set target x Jint i e names fits name goes at own among further = number_set target x (record { sort = Jint; index = i }) e names tt fits at own among further
+  value_set target x sort.Flag i e names fits name goes at own among further = number_set target x (record { sort = sort.Flag; index = i }) e names tt fits at own among further
+  value_set target x sort.Truth i e names fits name goes at own among further = absurd fits
+  value_set target x Ref i e names fits name goes at own among further = null_set target x (record { sort = Ref; index = i }) e (nullable.Local i) names fits refl name goes at own among further
+  value_set target x Global i e names fits name goes at own among further = null_set target x (record { sort = Global; index = i }) e (nullable.Static i) names fits refl name goes at own among further
+  value_set target x FieldId i e names fits name goes at own among further = null_set target x (record { sort = FieldId; index = i }) e (nullable.FieldId i) names fits refl name goes at own among further
+  value_set target x (Buffer t w) i e names fits name goes at own among further = null_set target x (record { sort = Buffer t w; index = i }) e (nullable.Buffer i) names fits refl name goes at own among further
+  value_set target x (Array t n) i e names fits name goes at own among further = absurd fits
 
   -- the call's instruction stands at the place, and what comes behind it
   reference_stands : (target : Target) (function : Identifier) (slot : ℕ) (e : Expr) → function_named function ≡ Some GetArrayLength → ReferenceFits known e → HasAt code.instrs place (call_code known line slot (tree.Value e ∷ []))
@@ -139,19 +140,20 @@ module _ (code : Listing) (known : Known) (line place : ℕ) (tail : List Task) 
   call_length slot (tree.Value e ∷ []) fits = refl
   call_length slot arguments fits = absurd fits
 
-  result_stands : (target : Target) (x : Identifier) (i : ℕ) (names : Known) → IsResultTarget target x → IsSlotOf code known x (record { sort = Jint; index = i }) → AreAmong names ((x, record { sort = Jint; index = i }) ∷ known) → TasksStand code names (place + 1) [] tail
+  result_stands : (target : Target) (x : Identifier) (i : ℕ) (names : Known) → IsResultTarget target x → GoesTo known (record { sort = Jint; index = i }) target → IsSlotOf code known x (record { sort = Jint; index = i }) → AreAmong names ((x, record { sort = Jint; index = i }) ∷ known) → TasksStand code names (place + 1) [] tail
       → TargetStands code known (λ p names. TasksStand code names p [] tail) (place + 1) (destination.Number i) target
-  result_stands target x i names (inl e) own among further = subst (TargetStands code known (λ p names. TasksStand code names p [] tail) (place + 1) (destination.Number i)) (sym e) (record { own = own; further = (names, among, further) })
-  result_stands target x i names (inr e) own among further = subst (TargetStands code known (λ p names. TasksStand code names p [] tail) (place + 1) (destination.Number i)) (sym e) (record { own = own; further = (names, among, further) })
+  result_stands target x i names (inl e) goes own among further = subst (TargetStands code known (λ p names. TasksStand code names p [] tail) (place + 1) (destination.Number i)) (sym e) (record { own = own; further = (names, among, further) })
+  result_stands target x i names (inr e) goes own among further =
+      subst (TargetStands code known (λ p names. TasksStand code names p [] tail) (place + 1) (destination.Number i)) (sym e) (record { own = own; further = (names, among, further) }, subst (GoesTo known (record { sort = Jint; index = i })) e goes)
 
-  pub right_stands : (target : Target) (x : Identifier) (s : Slot) (r : RightSide) (names : Known) → RightFits known s.sort r → target_name target ≡ Some x → (s.sort ≡ Jint → IsResultTarget target x) → HasAt code.instrs place (right_code known line s r) → IsSlotOf code known x s
+  pub right_stands : (target : Target) (x : Identifier) (s : Slot) (r : RightSide) (names : Known) → RightFits known s.sort r → target_name target ≡ Some x → (s.sort ≡ Jint → IsResultTarget target x) → GoesTo known s target → HasAt code.instrs place (right_code known line s r) → IsSlotOf code known x s
       → AreAmong names ((x, s) ∷ known) → TasksStand code names (place + length (right_code known line s r)) [] tail → TasksStand code known place [] (right_side_task line target x r ∷ tail)
-  right_stands target x s (FromExpr e) names fits name result at own among further = value_set target x s.sort s.index e names fits name at own among further
-  right_stands target x s (FromCall c) names fits name result at own among further =
+  right_stands target x s (FromExpr e) names fits name result goes at own among further = value_set target x s.sort s.index e names fits name goes at own among further
+  right_stands target x s (FromCall c) names fits name result goes at own among further =
       let is : s ≡ record { sort = Jint; index = s.index } = ap (λ (k : Sort). record { sort = k; index = s.index }) fits.0 in
       let size : place + length (call_code known line s.index c.arguments) ≡ place + 1 = omega (arith, call_length s.index c.arguments fits.1.1) in
       call_stands target c.function s.index c.arguments fits.1.0 fits.1.1 at
-      (result_stands target x s.index names (result fits.0) (subst (IsSlotOf code known x) is own) (subst (λ (k : Slot). AreAmong names ((x, k) ∷ known)) is among) (subst (λ p. TasksStand code names p [] tail) size further))
+      (result_stands target x s.index names (result fits.0) (subst (λ (k : Slot). GoesTo known k target) is goes) (subst (IsSlotOf code known x) is own) (subst (λ (k : Slot). AreAmong names ((x, k) ∷ known)) is among) (subst (λ p. TasksStand code names p [] tail) size further))
 
 -- ---- statements
 
@@ -282,13 +284,22 @@ returned_stands code line (Read x) l place tail at (s, found, inr e) =
     inl (record { sort = (s.index, there, tt); begun = tt; operands = refl }, subst (HasAt code.instrs place) (sym load) at)
 returned_stands code line t l place tail at fits = inl (number_begins l.known t Jint fits, at)
 
+-- a new variable is of its slot's kind
+declared_goes : (t : VariableType) (x : Identifier) (l : Layout) → GoesTo l.known (new_slot (variable_sort t) l) (Declared (kind_of t) x)
+declared_goes tree.UInt32 x l = tt
+declared_goes tree.JIntVariable x l = tt
+declared_goes tree.JSize x l = tt
+declared_goes tree.JBoolean x l = tt
+declared_goes (tree.ReferenceVariable type) x l = tt
+declared_goes tree.JFieldId x l = tt
+
 pub stmt_begins : (code : Listing) (s : Stmt) → StmtBegins code s
 stmt_begins code (tree.Declare line t x r) l place tail at fits laid room further =
-    right_stands code l.known line place tail (Declared (kind_of t) x) x (new_slot (variable_sort t) l) r ((x, new_slot (variable_sort t) l) ∷ l.known) fits.1 refl (scalar_kind t x) at (declared_slot code (variable_sort t) l x (variable_size t) laid room) (self_among x (new_slot (variable_sort t) l) l.known) further
+    right_stands code l.known line place tail (Declared (kind_of t) x) x (new_slot (variable_sort t) l) r ((x, new_slot (variable_sort t) l) ∷ l.known) fits.1 refl (scalar_kind t x) (declared_goes t x l) at (declared_slot code (variable_sort t) l x (variable_size t) laid room) (self_among x (new_slot (variable_sort t) l) l.known) further
 stmt_begins code (tree.DeclareBuffer line t x r) l place tail at fits laid room further =
-    right_stands code l.known line place tail (Declared (BufferKind t) x) x (new_slot (Buffer t true) l) r ((x, new_slot (Buffer t true) l) ∷ l.known) fits.1 refl (λ e. absurd (cc)) at (declared_slot code (Buffer t true) l x tt laid room) (self_among x (new_slot (Buffer t true) l) l.known) further
+    right_stands code l.known line place tail (Declared (BufferKind t) x) x (new_slot (Buffer t true) l) r ((x, new_slot (Buffer t true) l) ∷ l.known) fits.1 refl (λ e. absurd (cc)) tt at (declared_slot code (Buffer t true) l x tt laid room) (self_among x (new_slot (Buffer t true) l) l.known) further
 stmt_begins code (tree.DeclareChars line x r) l place tail at fits laid room further =
-    right_stands code l.known line place tail (Declared (BufferKind JChar) x) x (new_slot (Buffer JChar false) l) r ((x, new_slot (Buffer JChar false) l) ∷ l.known) fits.1 refl (λ e. absurd (cc)) at (declared_slot code (Buffer JChar false) l x tt laid room) (self_among x (new_slot (Buffer JChar false) l) l.known) further
+    right_stands code l.known line place tail (Declared (BufferKind JChar) x) x (new_slot (Buffer JChar false) l) r ((x, new_slot (Buffer JChar false) l) ∷ l.known) fits.1 refl (λ e. absurd (cc)) tt at (declared_slot code (Buffer JChar false) l x tt laid room) (self_among x (new_slot (Buffer JChar false) l) l.known) further
 stmt_begins code (tree.DeclareArray line t x size) l place tail at fits laid room further = record {
   empty = refl;
   start = l.slots.numbers;
@@ -301,7 +312,7 @@ stmt_begins code (tree.Assign line x r) l place tail at fits laid room further =
     let found = fits.1 in
     let there = subst (HasAt code.instrs place) (ap (λ (o : Option Slot). assign_code l.known line o r) found) at in
     let own : IsSlotOf code l.known x slot = record { within = slot_within code l x slot found laid room; own = laid.own x slot found } in
-    right_stands code l.known line place tail (Assigned x) x slot r l.known fits.2 refl (λ e. inr refl) there own (known_among x slot l.known found)
+    right_stands code l.known line place tail (Assigned x) x slot r l.known fits.2 refl (λ e. inr refl) found there own (known_among x slot l.known found)
     (subst (λ c. TasksStand code l.known (place + length c) [] tail) (ap (λ (o : Option Slot). assign_code l.known line o r) found) further)
 stmt_begins code (tree.AssignElement line x i e) l place tail at fits laid room further = element_set_stands code line x i e l place tail at fits laid room further
 stmt_begins code (tree.Perform line c) l place tail at fits laid room further =

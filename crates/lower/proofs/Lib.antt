@@ -16,3 +16,10 @@ pub mod KnownNames
 pub mod Jumps
 pub mod RegionFacts
 pub mod SortFacts
+pub mod PlaceFacts
+pub mod NameFacts
+pub mod BufferFacts
+pub mod StatementFacts
+pub mod BodyFacts
+pub mod AcceptedFacts
+pub mod ItemSteps

@@ -1,10 +1,10 @@
 -- Every way through an accepted function returns.
-use Rattle.std.proofs.Common.{◌≡◌, Bool, true, false, ◌&&◌, ◌||◌, ◌⊎◌, inl, inr, refl, sym, subst}
+use Rattle.std.proofs.Common.{◌≡◌, Bool, true, false, ◌&&◌, ◌||◌, inl, inr, refl, sym, subst}
 use Rattle.std.specs.Prelude.{IsTrue}
 use Rattle.syntax.specs.Tree as tree
 use Rattle.syntax.specs.Tree.{Stmt, Block, End, Next, Function}
 use Rattle.regions.specs.RegionStates.{RegionState, state_at_entry}
-use Rattle.regions.specs.Regions.{Way, On, Returned, Keeps, KeepsBlock, AcceptedFunction}
+use Rattle.regions.specs.Regions.{On, Returned, Keeps, KeepsBlock, AcceptedFunction}
 use Rattle.lower.specs.Stands.{stmt_returns, block_returns}
 
 both_true : (a b : Bool) → a ≡ true → b ≡ true → (a && b) ≡ true

@@ -1,6 +1,6 @@
 -- The instruction at a place does what the first task there does.
 use Rattle.std.proofs.Common.{◌≡◌, ℕ, ℤ, pos, negsuc, ◌+◌, ◌-◌, ◌<◌, ◌≤◌, ◌⊎◌, inl, inr, Bool, true, false, ◌&&◌, ◌||◌, List, [], ◌∷◌, ◌++◌, length, Option, Some, None, refl, sym, ap, ◌∙◌, subst, arith, append_assoc, length-append}
-use Rattle.std.specs.Prelude.{slice_get, slice_set, nat_lt, IsTrue, FitsSigned}
+use Rattle.std.specs.Prelude.{slice_get, slice_set, nat_lt, is_none, IsTrue, FitsSigned}
 use Rattle.std.specs.List.{list_any}
 use Rattle.std.specs.Int.{w32, cast_unsigned}
 use Rattle.std.proofs.Math.Facts.{to_z-of_z}
@@ -10,10 +10,11 @@ use Rattle.base.specs.Bytes.{Identifier, lookup}
 use Rattle.syntax.specs.Tree as tree
 use Rattle.syntax.specs.Tree.{Expr, Block, BitOr}
 use Rattle.types.specs.JniFunction.{JniFunction}
-use Rattle.types.specs.Sorts.{Sort, Jint, Ref, Global, Array}
+use Rattle.types.specs.Sorts.{Sort, Jint, Ref, Global, FieldId, Buffer, Array}
 use Rattle.types.specs.Sorts as sort
 use Rattle.code.specs.declared.instr.Callee.{Callee}
 use Rattle.code.specs.declared.instr.Callee.TheVariants as callee
+use Rattle.code.specs.declared.instr.NullableVariable.{NullableVariable}
 use Rattle.code.specs.declared.instr.ReferenceOperand.{ReferenceOperand}
 use Rattle.code.specs.declared.instr.ReferenceOperand.TheVariants.{Null, Local}
 use Rattle.code.specs.declared.instr.Target.{Target as Destination}
@@ -29,16 +30,16 @@ use Rattle.code.proofs.Effects.{KeepsSlots, plain_keeps}
 use Rattle.regions.specs.Effect.{Effect, Returns, goes_on, with_value, return_effect, call_effect_of, effect_of}
 use Rattle.regions.specs.Arguments.{ReferenceActual}
 use Rattle.regions.specs.Sight.{Sight}
-use Rattle.regions.specs.Task.{Task, SetScalar, SetElement, SetNull, MakeArray, Invoke, Print, Branch, EndIf, Loop, EndTurn, Return, ReturnValue, Impossible, Target, Declared, Assigned, Dropped, ScalarKind, Operand}
+use Rattle.regions.specs.Task.{Task, SetScalar, SetElement, SetNull, MakeArray, Invoke, Print, Branch, EndIf, Loop, EndTurn, Return, ReturnValue, Impossible, Target, Declared, Assigned, Dropped, ScalarKind, ReferenceKind, FieldKind, BufferKind, Operand}
 use Rattle.regions.specs.Term as term
 use Rattle.regions.specs.Term.{Term, Done, Read, reduce}
-use Rattle.regions.specs.Value.{Value, Word, Int, Flag, Truth}
+use Rattle.regions.specs.Value.{Value, Word, Int, Flag, Truth, Gives}
 use Rattle.lower.specs.Layout.{Slot, Known}
-use Rattle.lower.specs.Coding.{term_code}
-use Rattle.lower.specs.Slots.{word_of, IsNumberSort, Visible, Slots, Shows}
+use Rattle.lower.specs.Coding.{nullable_of, term_code}
+use Rattle.lower.specs.Slots.{word_of, IsNumberSort, Visible, Slots, ShowsSlot, Shows}
 use Rattle.lower.specs.Fits.{TermHasSort}
-use Rattle.lower.specs.Stands.{held, IsBegun, HasAt, AreAmong, IsUnderWay, NumberStands, CalleeStands, TargetStands, InvokeStands, TasksStand, StandsFor, task_returns}
-use Rattle.lower.specs.Does.{AtEnd, Works, TakesResult, DoesEffect}
+use Rattle.lower.specs.Stands.{held, IsBegun, HasAt, AreAmong, IsUnderWay, NumberStands, CalleeStands, GoesTo, TargetStands, InvokeStands, TasksStand, StandsFor, task_returns}
+use Rattle.lower.specs.Does.{AtEnd, Works, CanBeNull, TakesResult, DoesEffect}
 use Rattle.lower.proofs.SlotLaws.{fewer_shown, number_below, shows_set, shows_nulled, shows_made, shows_dropped}
 use Rattle.lower.proofs.CodePlaces.{has_back}
 use Rattle.lower.proofs.TermSteps.{IsOpen, LeadsOver, TermGoes, TermTraps, StepsTerm, steps_term, shows_number}
@@ -161,6 +162,28 @@ module _ (code : Listing) (known : Known) (place : ℕ) (stack : List ℕ) (slot
         further = (d.further.0, d.further.1, subst (λ n. TasksStand code d.further.0 n [] rest) e d.further.2);
       })
 
+  -- what a name with a slot that can be NULL shows
+  shown_null : (x : Identifier) (s : Slot) (kind : Sort) (variable : NullableVariable) → nullable_of kind s.index ≡ Some variable → ShowsSlot visible x slots s kind → (null : Bool) × (visible.sight.is_null x ≡ Gives null)
+  shown_null x s Ref variable e h = (is_none h.reference, h.is_null)
+  shown_null x s Global variable e h = (true, h.is_null)
+  shown_null x s FieldId variable e h = (true, h)
+  shown_null x s (Buffer t writable) variable e h = (true, h)
+  shown_null x s kind variable e h = absurd (cc)
+
+  no_number : (kind : Sort) (i : ℕ) (variable : NullableVariable) → nullable_of kind i ≡ Some variable → IsNumberSort kind → ⊥
+  no_number sort.Word i variable e n = cc
+  no_number Jint i variable e n = cc
+  no_number sort.Flag i variable e n = cc
+  no_number kind i variable e n = n
+
+  can_be_null : (target : Target) (s : Slot) (variable : NullableVariable) → nullable_of s.sort s.index ≡ Some variable → GoesTo known s target → CanBeNull code known place stack slots visible target
+  can_be_null (Declared ScalarKind x) s variable e h = no_number s.sort s.index variable e h
+  can_be_null (Declared ReferenceKind x) s variable e h = tt
+  can_be_null (Declared FieldKind x) s variable e h = tt
+  can_be_null (Declared (BufferKind t) x) s variable e h = tt
+  can_be_null (Assigned x) s variable e h = shown_null x s s.sort variable e (shows.each x s h)
+  can_be_null target s variable e h = absurd h
+
   pub null_step : (target : Target) (rest : List Task) → StandsFor code known place stack (SetNull target ∷ rest) → DoesEffect code known place stack slots visible rest (effect_of visible.sight (SetNull target))
   null_step target rest h =
       let d = h.stand in
@@ -168,6 +191,7 @@ module _ (code : Listing) (known : Known) (place : ℕ) (stack : List ℕ) (slot
         empty = d.empty;
         name = d.name;
         is = d.is;
+        takes = can_be_null target d.slot d.variable d.nullable d.takes;
         variable = d.variable;
         at = d.at;
         names = d.further.0;
@@ -202,12 +226,16 @@ module _ (code : Listing) (known : Known) (place : ℕ) (stack : List ℕ) (slot
     shows = λ z new fits set. fewer_shown code h.further.0 ((x, record { sort = Jint; index = i }) ∷ known) new (record slots { numbers = slice_set slots.numbers i (word_of (Int z)) }) h.further.1 (shows_set code known visible new slots x (record { sort = Jint; index = i }) (Int z) shows h.own tt (fits, refl) set);
     stands = record { stand = h.further.2; returns = returns };
   }
-  takes_result line f operands (destination.Number i) (Assigned x) rest h returns = record {
-    within = omega (arith, h.own.within, shows.numbers);
-    names = h.further.0;
-    shows = λ z new fits set. fewer_shown code h.further.0 ((x, record { sort = Jint; index = i }) ∷ known) new (record slots { numbers = slice_set slots.numbers i (word_of (Int z)) }) h.further.1 (shows_set code known visible new slots x (record { sort = Jint; index = i }) (Int z) shows h.own tt (fits, refl) set);
-    stands = record { stand = h.further.2; returns = returns };
-  }
+  takes_result line f operands (destination.Number i) (Assigned x) rest (h, found) returns =
+      let shown = shows.each x (record { sort = Jint; index = i }) found in (
+        record {
+          within = omega (arith, h.own.within, shows.numbers);
+          names = h.further.0;
+          shows = λ z new fits set. fewer_shown code h.further.0 ((x, record { sort = Jint; index = i }) ∷ known) new (record slots { numbers = slice_set slots.numbers i (word_of (Int z)) }) h.further.1 (shows_set code known visible new slots x (record { sort = Jint; index = i }) (Int z) shows h.own tt (fits, refl) set);
+          stands = record { stand = h.further.2; returns = returns };
+        },
+        (shown.value, shown.is),
+      )
   takes_result line f operands (destination.Number i) Dropped rest h returns = record {
     within = omega (arith, h.within, shows.numbers);
     shows = λ word. shows_dropped code known visible slots i word shows h.free;

@@ -256,9 +256,9 @@ function_code statics f = block_code (entry_layout statics f) f.body ++ Return �
 
 -- ---- the limit
 
--- how many instructions a function may have
+-- how many instructions a function may have: 65,535 for steps of the source, and the return behind them
 abbrev pub instruction_limit : ℕ
-instruction_limit = 65535
+instruction_limit = 65536
 
 -- some function of these items has more instructions
 abbrev pub has_long : (statics : Known) → List Item → Bool

@@ -9,7 +9,7 @@ use Rattle.types.specs.Sorts.{Ref}
 use Rattle.regions.specs.Arguments.{Actual, ReferenceActual}
 use Rattle.regions.specs.Effect.{Effect, Becomes, Sets, SetsNull, SetsElement, MakesArray, Prints, Calls, Returns, TrapsAt, NoEffect}
 use Rattle.regions.specs.Task.{Task, Target, Declared, Assigned, Dropped, ScalarKind}
-use Rattle.regions.specs.Value.{Trap, Int}
+use Rattle.regions.specs.Value.{Value, Trap, Int, Gives}
 use Rattle.regions.specs.Value as value
 use Rattle.regions.specs.Variable.{Empty}
 use Rattle.code.specs.declared.instr.Call.{Call}
@@ -81,11 +81,19 @@ module _ (code : Listing) (known : Known) (place : ℕ) (stack : List ℕ) (slot
     pub shows : (new : Visible) → changed new → Shows code names new (record slots { numbers = numbers })
     pub stands : StandsFor code names (place + 1) [] tasks
 
+  -- a new variable that isn't a number, or one that can be NULL
+  abbrev pub CanBeNull : Target → Type 0
+  CanBeNull (Declared ScalarKind x) = ⊥
+  CanBeNull (Declared kind x) = Unit {0}
+  CanBeNull (Assigned x) = (null : Bool) × (visible.sight.is_null x ≡ Gives null)
+  CanBeNull target = ⊥
+
   -- it makes a variable NULL, and the next place stands for these tasks
   pub record StoresNull (target : Target) (tasks : List Task) : Type 0 where
     pub empty : stack ≡ []
     pub name : Identifier
     pub is : target_name target ≡ Some name
+    pub takes : CanBeNull target
     pub variable : NullableVariable
     pub at : slice_get code.instrs place ≡ Some (instr.StoreNull variable)
     pub names : Known
@@ -124,10 +132,14 @@ module _ (code : Listing) (known : Known) (place : ℕ) (stack : List ℕ) (slot
     pub shows : (word : ℕ) → Shows code known visible (record slots { numbers = slice_set slots.numbers i word })
     pub stands : StandsFor code known (place + 1) [] tasks
 
-  -- where the result of a call goes, and what comes then
+  -- a variable is a number
+  abbrev pub IsNumber : Identifier → Type 0
+  IsNumber x = (v : Value) × (visible.sight.number x ≡ Gives v)
+
+  -- where the result of a call goes, and what comes then; a variable that is assigned is a number already
   abbrev pub TakesResult : Destination → Target → List Task → Type 0
   TakesResult (destination.Number i) (Declared ScalarKind x) tasks = TakesNumber i x tasks
-  TakesResult (destination.Number i) (Assigned x) tasks = TakesNumber i x tasks
+  TakesResult (destination.Number i) (Assigned x) tasks = TakesNumber i x tasks × IsNumber x
   TakesResult (destination.Number i) Dropped tasks = DropsNumber i tasks
   TakesResult goes target tasks = ⊥
 

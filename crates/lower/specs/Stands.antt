@@ -113,6 +113,13 @@ target_name (Declared kind x) = Some x
 target_name (Assigned x) = Some x
 target_name target = None
 
+-- the variable is a new one, of the slot's kind, or the one that has the slot
+abbrev pub GoesTo : Known → Slot → Target → Type 0
+GoesTo known s (Declared ScalarKind x) = IsNumberSort s.sort
+GoesTo known s (Declared kind x) = Unit {0}
+GoesTo known s (Assigned x) = lookup x known ≡ Some s
+GoesTo known s target = ⊥
+
 -- NULL is stored
 pub record SetNullStands (code : Listing) (known : Known) (place : ℕ) (stack : List ℕ) (behind : Behind) (target : Target) : Type 0 where
   pub empty : stack ≡ []
@@ -121,6 +128,7 @@ pub record SetNullStands (code : Listing) (known : Known) (place : ℕ) (stack :
   pub slot : Slot
   pub variable : NullableVariable
   pub nullable : nullable_of slot.sort slot.index ≡ Some variable
+  pub takes : GoesTo known slot target
   pub at : slice_get code.instrs place ≡ Some (instr.StoreNull variable)
   pub own : IsSlotOf code known name slot
   pub further : ComesBehind behind (place + 1) ((name, slot) ∷ known)
@@ -165,7 +173,7 @@ pub record DroppedStands (code : Listing) (known : Known) (behind : Behind) (pla
 -- where a call's result goes, as an instruction has it, and then what comes
 abbrev pub TargetStands : Listing → Known → Behind → (place : ℕ) → Destination → Target → Type 0
 TargetStands code known behind place (destination.Number i) (Declared ScalarKind x) = ResultStands code known behind place i x
-TargetStands code known behind place (destination.Number i) (Assigned x) = ResultStands code known behind place i x
+TargetStands code known behind place (destination.Number i) (Assigned x) = ResultStands code known behind place i x × (lookup x known ≡ Some (record { sort = Jint; index = i }))
 TargetStands code known behind place (destination.Number i) Dropped = DroppedStands code known behind place i
 TargetStands code known behind place goes target = ⊥
 

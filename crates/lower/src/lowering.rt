@@ -1,6 +1,6 @@
 //! From checked programs to code.
 
-ghost use Rattle.std.specs.Prelude.{◌≡◌, ◌<◌, [], length, Err, IfOk, OnOk, IsTrue};
+ghost use Rattle.std.specs.Prelude.{◌≡◌, ◌<◌, ◌≤◌, [], length, Err, IfOk, OnOk, IsTrue};
 ghost use Rattle.syntax.specs.Views.{static_tree, function_tree, unit_tree};
 ghost use Rattle.lower.specs.Layout.{with_static};
 ghost use Rattle.lower.specs.Coding.{function_code, instruction_limit, IsTooLong};
@@ -20,14 +20,15 @@ use regions::Checked;
 use std::alloc::{AllocError, Global};
 use syntax::{Function, Item, Static};
 
-/// How many instructions a function has at most.
-const LIMIT: usize = 65535;
+/// How many instructions a function has at most: 65,535 for steps of the source, and the return behind them.
+const LIMIT: usize = 65536;
 
 /// The program's code, of which each instruction is one step of the source.
 ///
-/// `TooLong` only where the code of a function has more than 65,535 instructions.
+/// `TooLong` exactly where a function has more than 65,535 instructions for steps of the source.
 pub fn lower<'a>(alloc: Global, checked: &'a Checked) -> Result<Program<'a>, LowerFault>
     ensures ok { IfOk result (λ p. p.unit ≡ checked.now) }
+    ensures short { IfOk result (λ _. IsTooLong (unit_tree checked.now) → ⊥) }
     ensures too_long { result ≡ Err LowerFault.TooLong → IsTooLong (unit_tree checked.now) }
 {
     let mut statics = Vec::new(alloc);
@@ -69,6 +70,7 @@ pub(crate) fn lower_function(
     requires fits { FunctionFits (known_behind statics.now []) (function_tree function.now) }
     requires returns { IsTrue (block_returns (function_tree function.now).body) }
     ensures ok { IfOk result (IsCodeOf (known_behind statics.now []) (function_tree function.now)) }
+    ensures short { IfOk result (λ _. length (function_code (known_behind statics.now []) (function_tree function.now)) ≤ instruction_limit) }
     ensures too_long { result ≡ Err LowerFault.TooLong → instruction_limit < length (function_code (known_behind statics.now []) (function_tree function.now)) }
 {
     let mut names = Names::of(alloc, statics, function)?;

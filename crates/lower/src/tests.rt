@@ -187,7 +187,7 @@ fn one_instruction_for_each_step(rt: HostRuntime) -> Result<(), Fail> {
     let mut function = function(alloc, vec![in alloc; back]?)?;
     function.result = ResultType::Void;
     let unit = Unit::new(vec![in alloc; Item::Function(function)]?);
-    let checked = check(type_unit(alloc, unit)?)?;
+    let checked = check(alloc, type_unit(alloc, unit)?)?;
     let program = lower(alloc, &checked)?;
     assert_eq!(rt; program.items().len(), 1);
     assert!(rt; program.code(1).is_none());

@@ -1,0 +1,152 @@
+-- Each function of an accepted unit fits.
+use Rattle.std.proofs.Common.{◌≡◌, ℕ, ◌≤◌, true, not, List, [], ◌∷◌, ◌++◌, map, nat_le, Some, refl, sym, ap, ◌∙◌, subst, leb-true}
+use Rattle.std.specs.Prelude.{IsTrue}
+use Rattle.std.specs.List.{list_all, AllByRecursion}
+use Rattle.base.specs.Bytes.{Identifier, lookup}
+use Rattle.syntax.specs.Limits.{numbers_in_range, block_height, block_well_formed, IsTree}
+use Rattle.syntax.specs.Parts.{functions_of, statements_of, own_expressions, parameter_names}
+use Rattle.syntax.specs.Tree.{ParameterType, IntParameter, ReferenceParameter, Parameter, Function, Void, Item, StaticItem, FunctionItem, SourceUnit}
+use Rattle.types.specs.Sorts.{Sort, Jint, Ref, Global, Buffer, Scope}
+use Rattle.types.specs.SortRules.{IsSorted, StaticForm, HeadForm, parameter_sort, places_of, function_places, item_places}
+use Rattle.types.specs.BuiltCalls.{calls_unbuilt, calls_are_built}
+use Rattle.regions.specs.RegionStates.{RegionState, state_at_entry}
+use Rattle.regions.specs.Regions.{Returned, AcceptedFunction, HasRegions}
+use Rattle.lower.specs.Layout.{Slot, Known, with_static, parameter_slot, parameter_slots, numbers_behind, references_behind, entry_layout}
+use Rattle.lower.specs.Fits.{AreStatics, FunctionFits}
+use Rattle.lower.specs.Stands.{block_returns}
+use Rattle.lower.proofs.SlotLaws.{first_or_behind}
+use Rattle.lower.proofs.EntryLayouts.{no_statics, one_static_more}
+use Rattle.lower.proofs.SortFacts.{scope_of, HasNoTruth}
+use Rattle.lower.proofs.PlaceFacts.{and_left, and_right, AreKept, front_kept, back_kept, rest_kept}
+use Rattle.lower.proofs.NameFacts.{AreTaken, taken_first}
+use Rattle.lower.proofs.BufferFacts.{AreBuilt, AreFree}
+use Rattle.lower.proofs.BodyFacts.{AreInRange, block_fits}
+use Rattle.lower.proofs.RegionFacts.{function_returns}
+
+-- each function satisfies what lowering asks for, behind the statics before it
+abbrev pub AllFit : (statics : Known) → List Item → Type 0
+AllFit statics [] = Unit {0}
+AllFit statics (StaticItem s ∷ items) = AllFit (with_static s statics) items
+AllFit statics (FunctionItem f ∷ items) = AreStatics statics × FunctionFits statics f × IsTrue (block_returns f.body) × AllFit statics items
+
+-- ---- the names at a function's beginning
+
+slot_sort : (type : ParameterType) (n r : ℕ) → parameter_sort type ≡ (parameter_slot type n r).sort
+slot_sort IntParameter n r = refl
+slot_sort (ReferenceParameter t) n r = refl
+
+parameter_scope : (ps : List Parameter) (n r : ℕ) (statics : Known) → map {B = Identifier × Sort} (λ p. (p.name, parameter_sort p.type)) ps ++ scope_of statics ≡ scope_of (parameter_slots ps n r ++ statics)
+parameter_scope [] n r statics = refl
+parameter_scope (p ∷ ps) n r statics =
+    ap (λ (s : Sort). (p.name, s) ∷ (map {B = Identifier × Sort} (λ p. (p.name, parameter_sort p.type)) ps ++ scope_of statics)) (slot_sort p.type n r)
+    ∙ ap (λ (scope : Scope). (p.name, (parameter_slot p.type n r).sort) ∷ scope) (parameter_scope ps (numbers_behind p.type n) (references_behind p.type r) statics)
+
+statics_taken : (statics : Known) → AreTaken (map (λ s. s.0) (scope_of statics)) statics
+statics_taken [] x h = refl
+statics_taken ((y, slot) ∷ statics) x h = taken_first (map (λ s. s.0) (scope_of statics)) statics y slot (statics_taken statics) x h
+
+parameters_taken : (ps : List Parameter) (n r : ℕ) (statics : Known) → AreTaken (map (λ p. p.name) ps ++ map (λ s. s.0) (scope_of statics)) (parameter_slots ps n r ++ statics)
+parameters_taken [] n r statics = statics_taken statics
+parameters_taken (p ∷ ps) n r statics =
+    let further_n = numbers_behind p.type n in
+    let further_r = references_behind p.type r in
+    taken_first (map (λ p. p.name) ps ++ map (λ s. s.0) (scope_of statics)) (parameter_slots ps further_n further_r ++ statics) p.name (parameter_slot p.type n r) (parameters_taken ps further_n further_r statics)
+
+-- the sorts that names have there
+abbrev IsEntrySort : Sort → Type 0
+IsEntrySort Jint = Unit {0}
+IsEntrySort Ref = Unit {0}
+IsEntrySort Global = Unit {0}
+IsEntrySort s = ⊥
+
+abbrev HaveEntrySorts : Known → Type 0
+HaveEntrySorts known = (x : Identifier) (s : Slot) → lookup x known ≡ Some s → IsEntrySort s.sort
+
+entry_sort_first : (x : Identifier) (slot : Slot) (known : Known) → IsEntrySort slot.sort → HaveEntrySorts known → HaveEntrySorts ((x, slot) ∷ known)
+entry_sort_first x slot known new h y s at =
+    first_or_behind x y slot s known (IsEntrySort s.sort) (λ same is. subst (λ (t : Slot). IsEntrySort t.sort) is new) (λ other found. h y s found) at
+
+parameter_entry_sort : (type : ParameterType) (n r : ℕ) → IsEntrySort (parameter_slot type n r).sort
+parameter_entry_sort IntParameter n r = tt
+parameter_entry_sort (ReferenceParameter t) n r = tt
+
+parameter_sorts : (ps : List Parameter) (n r : ℕ) (statics : Known) → AreStatics statics → HaveEntrySorts (parameter_slots ps n r ++ statics)
+parameter_sorts [] n r statics h x s at = subst IsEntrySort (sym (h x s at).0) tt
+parameter_sorts (p ∷ ps) n r statics h x s at =
+    let further_n = numbers_behind p.type n in
+    let further_r = references_behind p.type r in
+    entry_sort_first p.name (parameter_slot p.type n r) (parameter_slots ps further_n further_r ++ statics) (parameter_entry_sort p.type n r) (parameter_sorts ps further_n further_r statics h) x s at
+
+entry_sorts : (statics : Known) (f : Function) → AreStatics statics → HaveEntrySorts (entry_layout statics f).known
+entry_sorts statics f h = entry_sort_first f.class_name (record { sort = Ref; index = 0 }) (parameter_slots f.parameters 0 1 ++ statics) tt (parameter_sorts f.parameters 0 1 statics h)
+
+entry_no_truth : (known : Known) → HaveEntrySorts known → HasNoTruth known
+entry_no_truth known h x s at e = subst IsEntrySort e (h x s at)
+
+entry_free : (known : Known) (state : RegionState) → HaveEntrySorts known → AreFree known state
+entry_free known state h x t w i at = absurd (h x (record { sort = Buffer t w; index = i }) at)
+
+-- ---- functions
+
+module _ (statics : Known) (f : Function) (known : AreStatics statics) where
+  function_fits : (names : List Identifier) → AreKept (function_places names (scope_of statics) f) → AreInRange (statements_of f.body) → AreBuilt (statements_of f.body) → block_well_formed f.body ≡ true → block_height f.body ≤ 32 → AcceptedFunction f → FunctionFits statics f
+  function_fits names sorted numbers calls formed low accepted =
+      let l = entry_layout statics f in
+      let sorts = entry_sorts statics f known in
+      let taken = parameter_names f ++ map (λ s. s.0) (scope_of statics) in
+      let scope : Scope = (f.class_name, Ref) ∷ (map {B = Identifier × Sort} (λ p. (p.name, parameter_sort p.type)) f.parameters ++ scope_of statics) in
+      let inside : AreKept (places_of f.result scope taken f.body) = rest_kept (record { line = f.line; known = scope_of statics; taken = names; returns = f.result; form = HeadForm f }) (places_of f.result scope taken f.body) sorted in
+      let same : scope ≡ scope_of l.known = ap (λ (further : Scope). (f.class_name, Ref) ∷ further) (parameter_scope f.parameters 0 1 statics) in
+      block_fits f.body l taken f.result (state_at_entry f) (state_at_entry f) Returned (record {
+        sorted = subst (λ (s : Scope). AreKept (places_of f.result s taken f.body)) same inside;
+        numbers = numbers;
+        calls = calls;
+        formed = formed;
+        low = low;
+        keeps = accepted;
+        names = taken_first (map (λ p. p.name) f.parameters ++ map (λ s. s.0) (scope_of statics)) (parameter_slots f.parameters 0 1 ++ statics) f.class_name (record { sort = Ref; index = 0 }) (parameters_taken f.parameters 0 1 statics);
+        no_truth = entry_no_truth l.known sorts;
+        free = entry_free l.known (state_at_entry f) sorts;
+      })
+
+-- ---- items
+
+-- the functions of these items
+abbrev functions_in : List Item → List Function
+functions_in items = functions_of (record { items = items })
+
+-- what the limits and the calls of an accepted unit say of its functions
+record HoldAll (items : List Item) : Type 0 where
+  numbers : list_all (λ f. list_all (λ s. list_all numbers_in_range (own_expressions s)) (statements_of f.body)) (functions_in items) ≡ true
+  calls : list_all (λ f. list_all (λ s. not (calls_unbuilt s)) (statements_of f.body)) (functions_in items) ≡ true
+  formed : list_all (λ f. block_well_formed f.body) (functions_in items) ≡ true
+  low : list_all (λ f. nat_le (block_height f.body) 32) (functions_in items) ≡ true
+  regions : AllByRecursion AcceptedFunction (functions_in items)
+
+all_fit : (items : List Item) (names : List Identifier) (statics : Known) → AreStatics statics → AreKept (item_places names (scope_of statics) items) → HoldAll items → AllFit statics items
+all_fit [] names statics known sorted h = tt
+all_fit (StaticItem s ∷ items) names statics known sorted h =
+    all_fit items (s.name ∷ names) (with_static s statics) (one_static_more s statics known)
+    (rest_kept (record { line = s.line; known = scope_of statics; taken = names; returns = Void; form = StaticForm s }) (item_places (s.name ∷ names) (scope_of (with_static s statics)) items) sorted)
+    (record { numbers = h.numbers; calls = h.calls; formed = h.formed; low = h.low; regions = h.regions })
+all_fit (FunctionItem f ∷ items) names statics known sorted h =
+    let further = item_places (f.name ∷ names) (scope_of statics) items in
+    let all = functions_in items in (
+      known,
+      function_fits statics f known names (front_kept (function_places names (scope_of statics) f) further sorted)
+          (and_left _ (list_all (λ f. list_all (λ s. list_all numbers_in_range (own_expressions s)) (statements_of f.body)) all) h.numbers)
+          (and_left _ (list_all (λ f. list_all (λ s. not (calls_unbuilt s)) (statements_of f.body)) all) h.calls)
+          (and_left _ (list_all (λ f. block_well_formed f.body) all) h.formed)
+          (leb-true (block_height f.body) 32 (and_left _ (list_all (λ f. nat_le (block_height f.body) 32) all) h.low)) h.regions.0,
+      function_returns f h.regions.0,
+      all_fit items (f.name ∷ names) statics known (back_kept (function_places names (scope_of statics) f) further sorted) (record {
+        numbers = and_right (list_all (λ s. list_all numbers_in_range (own_expressions s)) (statements_of f.body)) _ h.numbers;
+        calls = and_right (list_all (λ s. not (calls_unbuilt s)) (statements_of f.body)) _ h.calls;
+        formed = and_right (block_well_formed f.body) _ h.formed;
+        low = and_right (nat_le (block_height f.body) 32) _ h.low;
+        regions = h.regions.1;
+      }),
+    )
+
+pub accepted_fits : (unit : SourceUnit) → IsTree unit → IsSorted unit → IsTrue (calls_are_built unit) → HasRegions unit → AllFit [] unit.items
+accepted_fits unit tree sorted calls regions = all_fit unit.items [] [] no_statics sorted (record { numbers = tree.numbers; calls = calls; formed = tree.forms; low = tree.low; regions = regions })

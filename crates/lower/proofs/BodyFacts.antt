@@ -1,0 +1,267 @@
+-- The body of an accepted function fits.
+use Rattle.std.proofs.Common.{◌≡◌, ◌≤◌, inl, inr, Bool, true, false, ◌&&◌, List, ◌∷◌, ◌++◌, map, refl, sym, ap, ◌∙◌, subst, arith}
+use Rattle.std.specs.List.{list_all}
+use Rattle.std.proofs.lemmas.List.Folds.{list_all-append}
+use Rattle.base.specs.Bytes.{Identifier}
+use Rattle.base.specs.Element.{JChar}
+use Rattle.syntax.specs.Limits.{height, highest, numbers_in_range, statement_height, block_height, is_end, well_formed, block_well_formed}
+use Rattle.syntax.specs.Parts.{statements_of, statements_within, own_call, own_expressions, names_declared}
+use Rattle.syntax.specs.Tree as tree
+use Rattle.syntax.specs.Tree.{ResultType, TestCall, Stmt, Block, End, Next}
+use Rattle.types.specs.Sorts.{Truth, Buffer, Array}
+use Rattle.types.specs.SortRules.{variable_sort, with_declared, places_within, places_of}
+use Rattle.regions.specs.RegionStates.{RegionState, state_of}
+use Rattle.regions.specs.RegionRules.{is_free}
+use Rattle.regions.specs.Regions.{where_true, where_false, Way, On, Returned, IsEnd, Keeps, KeepsBlock}
+use Rattle.lower.specs.Layout.{Slot, Known, Layout, new_slot, closed, layout_behind, block_layout}
+use Rattle.lower.specs.Fits.{StmtFits, BlockFits}
+use Rattle.lower.proofs.SlotLaws.{first_or_behind}
+use Rattle.lower.proofs.SortFacts.{scope_of, HasNoTruth}
+use Rattle.lower.proofs.PlaceFacts.{and_left, and_right, or_left, IsKept, AreKept, own_kept, inside_kept, block_kept, ways_kept}
+use Rattle.lower.proofs.NameFacts.{AreTaken, taken_more, taken_behind, known_taken, stmt_others}
+use Rattle.lower.proofs.BufferFacts.{IsBuilt, AreBuilt, first_built, both_built, inside_built, AreFree, true_free, false_free, free_behind, no_free_buffer, own_not_free}
+use Rattle.lower.proofs.StatementFacts.{AreFine, are_fine, CallHolds, call_fits_name, right_fits, buffer_fits, assigned_fits, element_fits, jint_fits, truth_fits, tested_fits, returned_fits, size_fits}
+
+-- ---- what holds of a statement and of a block
+
+-- the numbers of the statements are in range
+abbrev pub AreInRange : List Stmt → Type 0
+AreInRange statements = list_all (λ s. list_all numbers_in_range (own_expressions s)) statements ≡ true
+
+-- a statement of an accepted function, with what is known before it
+pub record StmtHolds (l : Layout) (taken : List Identifier) (returns : ResultType) (before : RegionState) (way : Way) (s : Stmt) : Type 0 where
+  pub sorted : AreKept (places_within returns (scope_of l.known) taken s)
+  pub numbers : AreInRange (statements_within s)
+  pub calls : AreBuilt (statements_within s)
+  pub formed : well_formed s ≡ true
+  pub low : statement_height s ≤ 31
+  pub keeps : Keeps before s way
+  pub names : AreTaken taken l.known
+  pub no_truth : HasNoTruth l.known
+  pub free : AreFree l.known before
+
+-- the same of the rest of a block
+pub record BlockHolds (l : Layout) (taken : List Identifier) (returns : ResultType) (outer before : RegionState) (way : Way) (b : Block) : Type 0 where
+  pub sorted : AreKept (places_of returns (scope_of l.known) taken b)
+  pub numbers : AreInRange (statements_of b)
+  pub calls : AreBuilt (statements_of b)
+  pub formed : block_well_formed b ≡ true
+  pub low : block_height b ≤ 32
+  pub keeps : KeepsBlock outer before b way
+  pub names : AreTaken taken l.known
+  pub no_truth : HasNoTruth l.known
+  pub free : AreFree l.known before
+
+-- ---- one statement
+
+first_in_range : (s : Stmt) → AreInRange (statements_within s) → list_all numbers_in_range (own_expressions s) ≡ true
+first_in_range (tree.If line test then') h = and_left (list_all numbers_in_range (own_expressions (tree.If line test then'))) (list_all (λ s. list_all numbers_in_range (own_expressions s)) (statements_of then')) h
+first_in_range (tree.IfElse line test then' else') h =
+    and_left (list_all numbers_in_range (own_expressions (tree.IfElse line test then' else'))) (list_all (λ s. list_all numbers_in_range (own_expressions s)) (statements_of then' ++ statements_of else')) h
+first_in_range (tree.While line test body) h = and_left (list_all numbers_in_range (own_expressions (tree.While line test body))) (list_all (λ s. list_all numbers_in_range (own_expressions s)) (statements_of body)) h
+first_in_range s h = and_left (list_all numbers_in_range (own_expressions s)) true h
+
+inside_in_range : (s : Stmt) (inside : List Stmt) → AreInRange (s ∷ inside) → AreInRange inside
+inside_in_range s inside h = and_right (list_all numbers_in_range (own_expressions s)) (list_all (λ s. list_all numbers_in_range (own_expressions s)) inside) h
+
+both_in_range : (front back : List Stmt) → AreInRange (front ++ back) → AreInRange front × AreInRange back
+both_in_range front back h =
+    let p : Stmt → Bool = λ s. list_all numbers_in_range (own_expressions s) in
+    let e : (list_all p front && list_all p back) ≡ true = sym (list_all-append p front back) ∙ h in
+    (and_left (list_all p front) (list_all p back) e, and_right (list_all p front) (list_all p back) e)
+
+own_low : (s : Stmt) → highest (map height (own_expressions s)) ≤ statement_height s
+own_low (tree.If line test then') = omega arith
+own_low (tree.IfElse line test then' else') = omega arith
+own_low (tree.While line test body) = omega arith
+own_low (tree.AssignElement line x i e) = omega arith
+own_low s = omega arith
+
+module _ (l : Layout) (taken : List Identifier) (returns : ResultType) (before : RegionState) (way : Way) where
+  all_fine : (s : Stmt) → StmtHolds l taken returns before way s → AreFine l.known (own_expressions s)
+  all_fine s h =
+      let few = own_low s in
+      are_fine (own_expressions s) l.known before h.free (own_not_free s before way h.keeps).1 (first_in_range s h.numbers) (omega (arith, few, h.low))
+
+  kept : (s : Stmt) → StmtHolds l taken returns before way s → IsKept (scope_of l.known) taken returns s
+  kept s h = own_kept returns (scope_of l.known) taken s h.sorted
+
+  call_holds : (s : Stmt) → StmtHolds l taken returns before way s → CallHolds l.known (own_call s)
+  call_holds s h = record { built = first_built s h.calls; arguments = (kept s h).arguments; count = (kept s h).count }
+
+-- ---- behind a statement
+
+scope_behind : (s : Stmt) (l : Layout) → with_declared (scope_of l.known) s ≡ scope_of (layout_behind l s).known
+scope_behind (tree.Declare line t x r) l = refl
+scope_behind (tree.DeclareBuffer line t x r) l = refl
+scope_behind (tree.DeclareChars line x r) l = refl
+scope_behind (tree.DeclareArray line t x size) l = refl
+scope_behind s l = refl
+
+no_truth_first : (x : Identifier) (slot : Slot) (known : Known) → (slot.sort ≡ Truth → ⊥) → HasNoTruth known → HasNoTruth ((x, slot) ∷ known)
+no_truth_first x slot known new h y s at e =
+    first_or_behind x y slot s known ⊥ (λ same is. new (ap (λ (t : Slot). t.sort) is ∙ e)) (λ other found. h y s found e) at
+
+variable_no_truth : (t : tree.VariableType) → variable_sort t ≡ Truth → ⊥
+variable_no_truth tree.UInt32 e = cc
+variable_no_truth tree.JIntVariable e = cc
+variable_no_truth tree.JSize e = cc
+variable_no_truth tree.JBoolean e = cc
+variable_no_truth tree.JFieldId e = cc
+variable_no_truth (tree.ReferenceVariable r) e = cc
+
+no_truth_behind : (s : Stmt) (l : Layout) → HasNoTruth l.known → HasNoTruth (layout_behind l s).known
+no_truth_behind (tree.Declare line t x r) l h = no_truth_first x (new_slot (variable_sort t) l) l.known (variable_no_truth t) h
+no_truth_behind (tree.DeclareBuffer line t x r) l h = no_truth_first x (new_slot (Buffer t true) l) l.known (λ e. let c : Buffer t true ≡ Truth = e in cc) h
+no_truth_behind (tree.DeclareChars line x r) l h = no_truth_first x (new_slot (Buffer JChar false) l) l.known (λ e. let c : Buffer JChar false ≡ Truth = e in cc) h
+no_truth_behind (tree.DeclareArray line t x size) l h = no_truth_first x (new_slot (Array t size) l) l.known (λ e. let c : Array t size ≡ Truth = e in cc) h
+no_truth_behind s l h = h
+
+end_formed : (b : Block) → is_end b ≡ true → block_well_formed b ≡ true
+end_formed (End line) h = refl
+end_formed (Next s rest) h = absurd (cc)
+
+next_formed : (s : Stmt) (rest : Block) → block_well_formed (Next s rest) ≡ true → (well_formed s ≡ true) × (block_well_formed rest ≡ true)
+next_formed (tree.Return line) rest h = (refl, end_formed rest h)
+next_formed (tree.ReturnValue line e) rest h = (refl, end_formed rest h)
+next_formed (tree.If line test then') rest h = (and_left (block_well_formed then') (block_well_formed rest) h, and_right (block_well_formed then') (block_well_formed rest) h)
+next_formed (tree.IfElse line test then' else') rest h =
+    (and_left (block_well_formed then' && block_well_formed else') (block_well_formed rest) h, and_right (block_well_formed then' && block_well_formed else') (block_well_formed rest) h)
+next_formed (tree.While line test body) rest h = (and_left (block_well_formed body) (block_well_formed rest) h, and_right (block_well_formed body) (block_well_formed rest) h)
+next_formed s rest h = (and_left (well_formed s) (block_well_formed rest) h, and_right (well_formed s) (block_well_formed rest) h)
+
+end_fits : (b : Block) (l : Layout) → IsEnd b → BlockFits l b
+end_fits (End line) l h = tt
+end_fits (Next s rest) l h = absurd h
+
+module _ (l : Layout) (taken : List Identifier) (returns : ResultType) (outer before : RegionState) (way : Way) (s : Stmt) (rest : Block) (h : BlockHolds l taken returns outer before way (Next s rest)) where
+  first_holds : (mine : Way) → Keeps before s mine → StmtHolds l taken returns before mine s
+  first_holds mine keeps = record {
+    sorted = (block_kept returns (scope_of l.known) taken s rest h.sorted).0;
+    numbers = (both_in_range (statements_within s) (statements_of rest) h.numbers).0;
+    calls = (both_built (statements_within s) (statements_of rest) h.calls).0;
+    formed = (next_formed s rest h.formed).0;
+    low = omega (arith, h.low);
+    keeps = keeps;
+    names = h.names;
+    no_truth = h.no_truth;
+    free = h.free;
+  }
+
+  rest_holds : (middle : RegionState) → Keeps before s (On middle) → KeepsBlock outer middle rest way → BlockHolds (layout_behind l s) (taken ++ names_declared (statements_within s)) returns outer middle way rest
+  rest_holds middle keeps further =
+      let first = first_holds (On middle) keeps in
+      record {
+        sorted = subst (λ scope. AreKept (places_of returns scope (taken ++ names_declared (statements_within s)) rest)) (scope_behind s l) (block_kept returns (scope_of l.known) taken s rest h.sorted).1;
+        numbers = (both_in_range (statements_within s) (statements_of rest) h.numbers).1;
+        calls = (both_built (statements_within s) (statements_of rest) h.calls).1;
+        formed = (next_formed s rest h.formed).1;
+        low = omega (arith, h.low);
+        keeps = further;
+        names = taken_behind s l taken h.names;
+        no_truth = no_truth_behind s l h.no_truth;
+        free = free_behind s l before middle first.calls (λ x slot at. stmt_others s returns (scope_of l.known) taken first.sorted x (known_taken taken l.known x slot h.names at)) keeps h.free;
+      }
+
+-- ---- all statements
+
+mutual
+  stmt_fits : (s : Stmt) (l : Layout) (taken : List Identifier) (returns : ResultType) (before : RegionState) (way : Way) → StmtHolds l taken returns before way s → StmtFits l s
+  stmt_fits (tree.Declare line t x r) l taken returns before way h =
+      let s = tree.Declare line t x r in
+      let k = kept l taken returns before way s h in
+      (h.names x k.new, right_fits l.known h.no_truth (variable_sort t) r (all_fine l taken returns before way s h) (call_holds l taken returns before way s h) k.fits k.uncopied)
+  stmt_fits (tree.DeclareBuffer line t x r) l taken returns before way h =
+      let s = tree.DeclareBuffer line t x r in
+      let k = kept l taken returns before way s h in
+      (h.names x k.new, buffer_fits l.known h.no_truth t true r (call_holds l taken returns before way s h) k.fits)
+  stmt_fits (tree.DeclareChars line x r) l taken returns before way h =
+      let s = tree.DeclareChars line x r in
+      let k = kept l taken returns before way s h in
+      (h.names x k.new, buffer_fits l.known h.no_truth JChar false r (call_holds l taken returns before way s h) k.fits)
+  stmt_fits (tree.DeclareArray line t x size) l taken returns before way h =
+      let few = size_fits size h.formed in
+      (h.names x (kept l taken returns before way (tree.DeclareArray line t x size) h).new, few.0, few.1)
+  stmt_fits (tree.Assign line x r) l taken returns before way h =
+      let s = tree.Assign line x r in
+      let k = kept l taken returns before way s h in
+      assigned_fits l.known h.no_truth x r (all_fine l taken returns before way s h) (call_holds l taken returns before way s h) k.fits k.uncopied
+  stmt_fits (tree.AssignElement line x i e) l taken returns before way h =
+      let s = tree.AssignElement line x i e in
+      let fine = all_fine l taken returns before way s h in
+      element_fits l.known h.no_truth x i e (no_free_buffer l.known before x h.free (or_left (is_free (state_of before x)) false (own_not_free s before way h.keeps).0)) fine.0 fine.1.0 (kept l taken returns before way s h).fits
+  stmt_fits (tree.Perform line c) l taken returns before way h = call_fits_name l.known c (call_holds l taken returns before way (tree.Perform line c) h)
+  stmt_fits (tree.PutJint line e) l taken returns before way h = jint_fits l.known h.no_truth e (all_fine l taken returns before way (tree.PutJint line e) h).0 (kept l taken returns before way (tree.PutJint line e) h).fits
+  stmt_fits (tree.If line test then') l taken returns before way h =
+      let s = tree.If line test then' in (
+        tested_fits l.known h.no_truth test (all_fine l taken returns before way s h) (λ c e. subst (λ t. IsBuilt (own_call (tree.If line t then'))) e (first_built s h.calls)) (kept l taken returns before way s h).fits,
+        block_fits then' l taken returns before (where_true before test) h.keeps.1 (record {
+          sorted = inside_kept returns (scope_of l.known) taken s h.sorted;
+          numbers = inside_in_range s (statements_of then') h.numbers;
+          calls = inside_built s (statements_of then') h.calls;
+          formed = h.formed;
+          low = omega (arith, h.low);
+          keeps = h.keeps.2;
+          names = h.names;
+          no_truth = h.no_truth;
+          free = λ x t w i at. true_free before test x (h.free x t w i at);
+        }),
+      )
+  stmt_fits (tree.IfElse line test then' else') l taken returns before way h =
+      let s = tree.IfElse line test then' else' in
+      let sorted = ways_kept returns (scope_of l.known) taken line test then' else' h.sorted in
+      let numbers = both_in_range (statements_of then') (statements_of else') (inside_in_range s (statements_of then' ++ statements_of else') h.numbers) in
+      let calls = both_built (statements_of then') (statements_of else') (inside_built s (statements_of then' ++ statements_of else') h.calls) in (
+        tested_fits l.known h.no_truth test (all_fine l taken returns before way s h) (λ c e. subst (λ t. IsBuilt (own_call (tree.IfElse line t then' else'))) e (first_built s h.calls)) (kept l taken returns before way s h).fits,
+        block_fits then' l taken returns before (where_true before test) h.keeps.1 (record {
+          sorted = sorted.0;
+          numbers = numbers.0;
+          calls = calls.0;
+          formed = and_left (block_well_formed then') (block_well_formed else') h.formed;
+          low = omega (arith, h.low);
+          keeps = h.keeps.3;
+          names = h.names;
+          no_truth = h.no_truth;
+          free = λ x t w i at. true_free before test x (h.free x t w i at);
+        }),
+        block_fits else' (closed l (block_layout l then')) (taken ++ names_declared (statements_of then')) returns before (where_false before test) h.keeps.2 (record {
+          sorted = sorted.1;
+          numbers = numbers.1;
+          calls = calls.1;
+          formed = and_right (block_well_formed then') (block_well_formed else') h.formed;
+          low = omega (arith, h.low);
+          keeps = h.keeps.4;
+          names = taken_more taken (names_declared (statements_of then')) l.known h.names;
+          no_truth = h.no_truth;
+          free = λ x t w i at. false_free before test x (h.free x t w i at);
+        }),
+      )
+  stmt_fits (tree.While line test body) l taken returns before way h =
+      let s = tree.While line test body in (
+        truth_fits l.known h.no_truth test (all_fine l taken returns before way s h).0 (kept l taken returns before way s h).fits,
+        block_fits body l taken returns before before h.keeps.1 (record {
+          sorted = inside_kept returns (scope_of l.known) taken s h.sorted;
+          numbers = inside_in_range s (statements_of body) h.numbers;
+          calls = inside_built s (statements_of body) h.calls;
+          formed = h.formed;
+          low = omega (arith, h.low);
+          keeps = h.keeps.2;
+          names = h.names;
+          no_truth = h.no_truth;
+          free = h.free;
+        }),
+      )
+  stmt_fits (tree.Return line) l taken returns before way h = tt
+  stmt_fits (tree.ReturnValue line e) l taken returns before way h =
+      returned_fits l.known h.no_truth returns e (all_fine l taken returns before way (tree.ReturnValue line e) h).0 (kept l taken returns before way (tree.ReturnValue line e) h).fits
+
+  pub block_fits : (b : Block) (l : Layout) (taken : List Identifier) (returns : ResultType) (outer before : RegionState) (way : Way) → BlockHolds l taken returns outer before way b → BlockFits l b
+  block_fits (End line) l taken returns outer before way h = tt
+  block_fits (Next s rest) l taken returns outer before way h =
+      elim h.keeps [
+        | inl on ↦ (
+          stmt_fits s l taken returns before (On on.0) (first_holds l taken returns outer before way s rest h (On on.0) on.1),
+          block_fits rest (layout_behind l s) (taken ++ names_declared (statements_within s)) returns outer on.0 way (rest_holds l taken returns outer before way s rest h on.0 on.1 on.2),
+        )
+        | inr stopped ↦ (stmt_fits s l taken returns before Returned (first_holds l taken returns outer before way s rest h Returned stopped.0), end_fits rest (layout_behind l s) stopped.1)
+      ]

@@ -1,0 +1,50 @@
+-- What is known behind some items of a unit that is lowered.
+use Rattle.std.proofs.Common.{◌≡◌, ℕ, ◌+◌, ◌<◌, ◌≤◌, Bool, true, false, ◌||◌, List, [], ◌∷◌, ◌++◌, length, get_or, drop, add-one, drop-cons, map, refl, sym, ap, ◌∙◌, subst, append_assoc}
+use Rattle.std.specs.Prelude.{IsTrue, nat_lt}
+use Rattle.std.proofs.Math.ListN.{drop_of_length-le}
+use Rattle.std.proofs.lemmas.Bool.{le-ltb, lt-ltb}
+use Rattle.std.proofs.lemmas.List.{append-nil}
+use Rattle.syntax.specs.declared.unit.Item.{Item as ItemInMemory}
+use Rattle.syntax.specs.Tree.{Function, Item, StaticItem, FunctionItem, Static}
+use Rattle.syntax.specs.Views.{item_tree}
+use Rattle.code.specs.Depth.{Listing}
+use Rattle.lower.specs.Layout.{Known, with_static}
+use Rattle.lower.specs.Coding.{function_code, instruction_limit, has_long}
+use Rattle.lower.specs.Lowered.{IsCodeOf, AreCodesOf}
+use Rattle.lower.proofs.AcceptedFacts.{AllFit}
+
+-- these items are left behind these statics, and the functions in front of them have these codes
+pub record AreLeft (all : List Item) (statics : Known) (rest : List Item) (codes : List Listing) : Type 0 where
+  pub fit : AllFit statics rest
+  pub lowered : (further : List Listing) → AreCodesOf statics rest further → AreCodesOf [] all (codes ++ further)
+  pub long : has_long [] all ≡ has_long statics rest
+
+pub none_done : (all : List Item) → AllFit [] all → AreLeft all [] all []
+none_done all fit = record { fit = fit; lowered = λ further h. h; long = refl }
+
+pub static_done : (all : List Item) (statics : Known) (s : Static) (rest : List Item) (codes : List Listing) → AreLeft all statics (StaticItem s ∷ rest) codes → AreLeft all (with_static s statics) rest codes
+static_done all statics s rest codes h = record { fit = h.fit; lowered = h.lowered; long = h.long }
+
+pub function_done : (all : List Item) (statics : Known) (f : Function) (rest : List Item) (codes : List Listing) (c : Listing) → AreLeft all statics (FunctionItem f ∷ rest) codes → IsCodeOf statics f c → length (function_code statics f) ≤ instruction_limit
+    → AreLeft all statics rest (codes ++ c ∷ [])
+function_done all statics f rest codes c h is short = record {
+  fit = h.fit.3;
+  lowered = λ further k. subst (AreCodesOf [] all) (sym (append_assoc codes (c ∷ []) further)) (h.lowered (c ∷ further) (is, k));
+  long = h.long ∙ ap (λ b. b || has_long statics rest) (le-ltb instruction_limit (length (function_code statics f)) short);
+}
+
+pub too_long : (all : List Item) (statics : Known) (f : Function) (rest : List Item) (codes : List Listing) → AreLeft all statics (FunctionItem f ∷ rest) codes → instruction_limit < length (function_code statics f) → IsTrue (has_long [] all)
+too_long all statics f rest codes h long = h.long ∙ ap (λ b. b || has_long statics rest) (lt-ltb instruction_limit (length (function_code statics f)) long)
+
+pub all_done : (all : List Item) (statics : Known) (codes : List Listing) → AreLeft all statics [] codes → AreCodesOf [] all codes
+all_done all statics codes h = subst (AreCodesOf [] all) (append-nil codes) (h.lowered [] tt)
+
+pub none_long : (all : List Item) (statics : Known) (codes : List Listing) → AreLeft all statics [] codes → IsTrue (has_long [] all) → ⊥
+none_long all statics codes h long = let e = sym h.long ∙ long in absurd (cc)
+
+-- the next item in memory
+pub next_item : (items : List ItemInMemory) (i : ℕ) (item : ItemInMemory) → i < length items → item ≡ get_or items i item → map item_tree (drop i items) ≡ item_tree item ∷ map item_tree (drop (i + 1) items)
+next_item items i item below is = let front : drop i items ≡ item ∷ drop (i + 1) items = rw (add-one, drop-cons items i item, ← is) refl in ap (map item_tree) front
+
+pub last_item : (items : List ItemInMemory) (i : ℕ) → length items ≤ i → map item_tree (drop i items) ≡ []
+last_item items i past = ap (map item_tree) (drop_of_length-le items past)

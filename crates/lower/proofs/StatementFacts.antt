@@ -1,0 +1,204 @@
+-- A statement that is sorted fits.
+use Rattle.std.proofs.Common.{◌≡◌, ℕ, ◌<◌, ◌≤◌, ◌⊎◌, inl, inr, Bool, true, false, not, ◌&&◌, ◌||◌, ◌==◌, List, [], ◌∷◌, map, flat_map, length, nat_le, Option, Some, None, is_some, refl, sym, ap, ◌∙◌, subst, arith, eqb-true, leb-true}
+use Rattle.std.specs.List.{list_all}
+use Rattle.base.specs.Bytes.{Identifier, lookup}
+use Rattle.base.specs.Element.{ElementType}
+use Rattle.base.specs.Options.{some_passes}
+use Rattle.syntax.specs.Limits.{height, highest, numbers_in_range}
+use Rattle.syntax.specs.Parts.{call_of_right_side, right_side_expressions, test_expressions, names_in}
+use Rattle.syntax.specs.Tree as tree
+use Rattle.syntax.specs.Tree.{ResultType, Void, IntResult, ReferenceResult, Expr, Argument, Call, RightSide, FromExpr, FromCall, Test, TestExpr, TestCall, Stmt}
+use Rattle.types.specs.JniFunction.{GetArrayLength}
+use Rattle.types.specs.Prototype.{NonNull, function_named}
+use Rattle.types.specs.Sorts.{Sort, Word, Jint, Flag, Truth, Ref, Global, FieldId, Buffer, Array, sort_in, sort_of, is_word, is_jint, is_flag, is_truth, is_ref, is_index, has_elements, is_null, is_reference, name_sort, arguments_fit, call_arguments_fit}
+use Rattle.types.specs.SortRules.{call_fits, may_be_tested, value_sets, right_side_sets, buffer_begins, test_fits, return_fits, has_wrong_count, copies_reference}
+use Rattle.regions.specs.Term as term
+use Rattle.regions.specs.Term.{Term, Read, term_of}
+use Rattle.regions.specs.RegionStates.{RegionState}
+use Rattle.lower.specs.Layout.{Slot, Known}
+use Rattle.lower.specs.Fits.{IsArray, IsIndexSort, NumberFits, ReferenceFits, ArgumentsFit, CallFits, ValueFits, RightFits, TestFits, ReturnFits}
+use Rattle.lower.proofs.SortFacts.{scope_of, slot_of_name, HasNoTruth, IsNoBuffer, IsFine, elements, indexed, index_is_value, number_fits}
+use Rattle.lower.proofs.PlaceFacts.{and_left, and_right, not_false}
+use Rattle.lower.proofs.BufferFacts.{IsBuilt, call_is, AreFree, AreNotFree, elements_fit, both_not_free}
+
+-- ---- sorts by their tests
+
+word_is : (o : Option Sort) → is_word o ≡ true → o ≡ Some Word
+word_is (Some Word) h = refl
+word_is o h = absurd (cc)
+
+jint_is : (o : Option Sort) → is_jint o ≡ true → o ≡ Some Jint
+jint_is (Some Jint) h = refl
+jint_is o h = absurd (cc)
+
+flag_is : (o : Option Sort) → is_flag o ≡ true → o ≡ Some Flag
+flag_is (Some Flag) h = refl
+flag_is o h = absurd (cc)
+
+truth_is : (o : Option Sort) → is_truth o ≡ true → o ≡ Some Truth
+truth_is (Some Truth) h = refl
+truth_is o h = absurd (cc)
+
+ref_is : (o : Option Sort) → is_ref o ≡ true → o ≡ Some Ref
+ref_is (Some Ref) h = refl
+ref_is o h = absurd (cc)
+
+reference_is : (o : Option Sort) → is_reference o ≡ true → (s : Sort) × (o ≡ Some s) × ((s ≡ Ref) ⊎ (s ≡ Global))
+reference_is (Some Ref) h = (Ref, refl, inl refl)
+reference_is (Some Global) h = (Global, refl, inr refl)
+reference_is o h = absurd (cc)
+
+null_is : (e : Expr) → is_null e ≡ true → e ≡ tree.Named tree.Null
+null_is (tree.Named tree.Null) h = refl
+null_is e h = absurd (cc)
+
+or_only : (a b : Bool) → (a || b) ≡ true → b ≡ false → a ≡ true
+or_only true b h k = refl
+or_only false b h k = absurd (let c : true ≡ false = sym h ∙ k in cc)
+
+all_three : (a b c : Bool) → (a && b && c) ≡ true → (a ≡ true) × (b ≡ true) × (c ≡ true)
+all_three true true true h = (refl, refl, refl)
+all_three a b c h = absurd (cc)
+
+-- ---- expressions
+
+-- each of the expressions is fine
+abbrev pub AreFine : Known → List Expr → Type 0
+AreFine known [] = Unit {0}
+AreFine known (e ∷ rest) = IsFine known e × AreFine known rest
+
+pub are_fine : (all : List Expr) (known : Known) (state : RegionState) → AreFree known state → AreNotFree state (flat_map names_in all) → list_all numbers_in_range all ≡ true → highest (map height all) ≤ 32 → AreFine known all
+are_fine [] known state free uses range low = tt
+are_fine (e ∷ rest) known state free uses range low =
+    let both = both_not_free state (names_in e) (flat_map names_in rest) uses in (
+      record {
+        elements = elements_fit e known state free both.0;
+        range = and_left (numbers_in_range e) (list_all numbers_in_range rest) range;
+        low = omega (arith, low);
+      },
+      are_fine rest known state free both.1 (and_right (numbers_in_range e) (list_all numbers_in_range rest) range) (omega (arith, low)),
+    )
+
+-- ---- calls
+
+-- a call, where there is one, is built, with the right arguments
+pub record CallHolds (known : Known) (call : Option Call) : Type 0 where
+  pub built : IsBuilt call
+  pub arguments : some_passes (λ c. not (call_arguments_fit (scope_of known) c (function_named c.function))) call ≡ false
+  pub count : some_passes (λ c. has_wrong_count c (function_named c.function)) call ≡ false
+
+module _ (known : Known) where
+  pub named_slot : (x : Identifier) (o : Option Sort) (s : Sort) → sort_in (scope_of known) x ≡ o → o ≡ Some s → (i : ℕ) × (lookup x known ≡ Some (record { sort = s; index = i }))
+  named_slot x o s e h = slot_of_name x known s (e ∙ h)
+
+  reference_fits : (e : Expr) → (is_null e || is_reference (name_sort (scope_of known) e)) ≡ true → ReferenceFits known e
+  reference_fits (tree.Named tree.Null) h = tt
+  reference_fits (tree.Variable x) h =
+      let r = reference_is (sort_in (scope_of known) x) h in
+      let at = slot_of_name x known r.0 r.1 in
+      (record { sort = r.0; index = at.0 }, at.1, r.2)
+  reference_fits e h = absurd (cc)
+
+  one_argument : (arguments : List Argument) → arguments_fit (scope_of known) (NonNull ∷ []) arguments ≡ true → (length arguments == 1) ≡ true → ArgumentsFit known arguments
+  one_argument [] h k = absurd (let e = eqb-true 0 1 k in omega (arith, e))
+  one_argument (tree.Value e ∷ []) h k = reference_fits e (and_left (is_null e || is_reference (name_sort (scope_of known) e)) true h)
+  one_argument (tree.Text t ∷ []) h k = absurd (cc)
+  one_argument (tree.AddressOf x ∷ []) h k = absurd (cc)
+  one_argument (a ∷ b ∷ rest) h k = absurd (let e = eqb-true (length (a ∷ b ∷ rest)) 1 k in omega (arith, e))
+
+  pub call_fits_name : (c : Call) → CallHolds known (Some c) → CallFits known c
+  call_fits_name c holds =
+      let name = call_is c (not_false _ holds.built) in
+      let arguments : call_arguments_fit (scope_of known) c (Some GetArrayLength) ≡ true = sym (ap (call_arguments_fit (scope_of known) c) name) ∙ not_false (call_arguments_fit (scope_of known) c (function_named c.function)) holds.arguments in
+      let count : not (length c.arguments == 1) ≡ false = sym (ap (has_wrong_count c) name) ∙ holds.count in
+      (name, one_argument c.arguments arguments (not_false (length c.arguments == 1) count))
+
+  call_gives : (o : Option Sort) (c : Call) → CallHolds known (Some c) → call_fits o (function_named c.function) ≡ true → is_jint o ≡ true
+  call_gives o c holds h = sym (ap (call_fits o) (call_is c (not_false _ holds.built))) ∙ h
+
+  same_sort : (a b : Sort) → Some a ≡ Some b → a ≡ b
+  same_sort a b e = cc
+
+  -- ---- right sides
+
+  module _ (no_truth : HasNoTruth known) where
+    value_fits : (s : Sort) (e : Expr) → IsFine known e → value_sets (scope_of known) (Some s) e ≡ true → copies_reference (scope_of known) (Some s) (Some (FromExpr e)) ≡ false → ValueFits known s e
+    value_fits Word e fine h k = number_fits known e Word no_truth fine (word_is (sort_of (scope_of known) e) h) tt
+    value_fits Jint e fine h k = number_fits known e Jint no_truth fine (jint_is (sort_of (scope_of known) e) h) tt
+    value_fits Flag e fine h k = number_fits known e Flag no_truth fine (flag_is (sort_of (scope_of known) e) h) tt
+    value_fits Ref e fine h k = null_is e (or_only (is_null e) (is_some (name_sort (scope_of known) e)) h k)
+    value_fits Global e fine h k = null_is e h
+    value_fits FieldId e fine h k = null_is e h
+    value_fits s e fine h k = absurd (cc)
+
+    pub right_fits : (s : Sort) (r : RightSide) → AreFine known (right_side_expressions r) → CallHolds known (call_of_right_side (Some r)) → right_side_sets (scope_of known) (Some s) r ≡ true → copies_reference (scope_of known) (Some s) (Some r) ≡ false
+        → RightFits known s r
+    right_fits s (FromExpr e) fine holds h k = value_fits s e fine.0 h k
+    right_fits s (FromCall c) fine holds h k = (same_sort s Jint (jint_is (Some s) (call_gives (Some s) c holds h)), call_fits_name c holds)
+
+    pub buffer_fits : (t : ElementType) (w : Bool) (r : RightSide) → CallHolds known (call_of_right_side (Some r)) → buffer_begins (scope_of known) (Buffer t w) r ≡ true → RightFits known (Buffer t w) r
+    buffer_fits t w (FromExpr e) holds h = null_is e h
+    buffer_fits t w (FromCall c) holds h = (same_sort (Buffer t w) Jint (jint_is (Some (Buffer t w)) (call_gives (Some (Buffer t w)) c holds h)), call_fits_name c holds)
+
+    assigned_sort : (o : Option Sort) (r : RightSide) → CallHolds known (call_of_right_side (Some r)) → right_side_sets (scope_of known) o r ≡ true → (s : Sort) × (o ≡ Some s)
+    assigned_sort (Some s) r holds h = (s, refl)
+    assigned_sort None (FromExpr e) holds h = absurd (cc)
+    assigned_sort None (FromCall c) holds h = absurd (let e : false ≡ true = call_gives None c holds h in cc)
+
+    pub assigned_fits : (x : Identifier) (r : RightSide) → AreFine known (right_side_expressions r) → CallHolds known (call_of_right_side (Some r)) → right_side_sets (scope_of known) (sort_in (scope_of known) x) r ≡ true
+        → copies_reference (scope_of known) (sort_in (scope_of known) x) (Some r) ≡ false → (s : Slot) × (lookup x known ≡ Some s) × RightFits known s.sort r
+    assigned_fits x r fine holds h k =
+        let s = assigned_sort (sort_in (scope_of known) x) r holds h in
+        let at = slot_of_name x known s.0 s.1 in (
+          record { sort = s.0; index = at.0 },
+          at.1,
+          right_fits s.0 r fine holds (subst (λ (o : Option Sort). right_side_sets (scope_of known) o r ≡ true) s.1 h) (subst (λ (o : Option Sort). copies_reference (scope_of known) o (Some r) ≡ false) s.1 k),
+        )
+
+    -- ---- other statements
+
+    pub element_fits : (x : Identifier) (i e : Expr) → IsNoBuffer known x → IsFine known i → IsFine known e → (has_elements (sort_in (scope_of known) x) && is_index (sort_of (scope_of known) i) && is_jint (sort_of (scope_of known) e)) ≡ true
+        → ((t : ElementType) × (size : ℕ) × (start : ℕ) × IsArray known x t size start) × ((r : Sort) × IsIndexSort r × NumberFits known (term_of i) r) × NumberFits known (term_of e) Jint
+    element_fits x i e no_buffer index value h =
+        let all = all_three (has_elements (sort_in (scope_of known) x)) (is_index (sort_of (scope_of known) i)) (is_jint (sort_of (scope_of known) e)) h in
+        let r = indexed (sort_of (scope_of known) i) all.1 in (
+          elim (elements (sort_in (scope_of known) x) all.0) [
+            | inl b ↦ let at = slot_of_name x known (Buffer b.0 b.1) b.2 in absurd (no_buffer b.0 b.1 at.0 at.1)
+            | inr a ↦ let at = slot_of_name x known (Array a.0 a.1) a.2 in (a.0, a.1, at.0, at.1)
+          ],
+          (r.0, r.2, number_fits known i r.0 no_truth index r.1 (index_is_value r.0 r.2)),
+          number_fits known e Jint no_truth value (jint_is (sort_of (scope_of known) e) all.2) tt,
+        )
+
+    pub jint_fits : (e : Expr) → IsFine known e → is_jint (sort_of (scope_of known) e) ≡ true → NumberFits known (term_of e) Jint
+    jint_fits e fine h = number_fits known e Jint no_truth fine (jint_is (sort_of (scope_of known) e) h) tt
+
+    pub truth_fits : (e : Expr) → IsFine known e → is_truth (sort_of (scope_of known) e) ≡ true → NumberFits known (term_of e) Truth
+    truth_fits e fine h = number_fits known e Truth no_truth fine (truth_is (sort_of (scope_of known) e) h) tt
+
+    pub tested_fits : (test : Test) → AreFine known (test_expressions test) → ((c : Call) → test ≡ TestCall c → IsBuilt (Some c)) → test_fits (scope_of known) test ≡ true → TestFits known test
+    tested_fits (TestExpr e) fine built h = truth_fits e fine.0 h
+    tested_fits (TestCall c) fine built h = absurd (let e : false ≡ true = sym (ap may_be_tested (call_is c (not_false _ (built c refl)))) ∙ h in cc)
+
+    return_number : (t : Term) → NumberFits known t Jint → ReturnFits known t
+    return_number (term.Named tree.Null) h = tt
+    return_number (Read x) h = (record { sort = Jint; index = h.sort.0 }, h.sort.1, inr refl)
+    return_number t h = h
+
+    return_reference : (e : Expr) → (is_null e || is_ref (name_sort (scope_of known) e)) ≡ true → ReturnFits known (term_of e)
+    return_reference (tree.Named tree.Null) h = tt
+    return_reference (tree.Variable x) h =
+        let at = slot_of_name x known Ref (ref_is (sort_in (scope_of known) x) h) in
+        (record { sort = Ref; index = at.0 }, at.1, inl refl)
+    return_reference e h = absurd (cc)
+
+    pub returned_fits : (returns : ResultType) (e : Expr) → IsFine known e → return_fits (scope_of known) returns e ≡ true → ReturnFits known (term_of e)
+    returned_fits Void e fine h = absurd (cc)
+    returned_fits IntResult e fine h = return_number (term_of e) (jint_fits e fine h)
+    returned_fits (ReferenceResult r) e fine h = return_reference e h
+
+pub size_fits : (size : ℕ) → (nat_le 1 size && nat_le size 1024) ≡ true → (0 < size) × (size ≤ 1024)
+size_fits size h =
+    let some = leb-true 1 size (and_left (nat_le 1 size) (nat_le size 1024) h) in
+    let few = leb-true size 1024 (and_right (nat_le 1 size) (nat_le size 1024) h) in
+    (omega (arith, some), few)
