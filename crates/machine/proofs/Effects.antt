@@ -1,186 +1,390 @@
 -- What an instruction did is the effect of the first of the tasks.
-use Rattle.std.proofs.Common.{◌≡◌, ◌≢◌, ℕ, ℤ, ◌+◌, Bool, true, false, List, [], ◌∷◌, ◌++◌, length, Option, Some, None, refl, sym, ap, ◌∙◌, subst, if◌then◌else◌}
-use Rattle.std.specs.Prelude.{slice_get, IsSome}
+use Rattle.std.proofs.Common.{◌≡◌, ℕ, zero, suc, ℤ, pos, ◌+◌, ◌-◌, ◌<◌, Bool, true, false, List, [], ◌∷◌, ◌++◌, length, replicate, Option, Some, None, refl, sym, ap, ◌∙◌, subst, arith, if◌then◌else◌}
+use Rattle.std.specs.Prelude.{slice_get, slice_set, nat_lt, IsSome, IsTrue}
+use Rattle.std.specs.Bool.{beq}
 use Rattle.std.specs.Int.{w32, cast_signed}
-use Rattle.std.specs.Str.{bytes_eq}
-use Rattle.std.proofs.lemmas.Slice.Eq.{bytes_eq-Decides}
-use Rattle.base.specs.Bytes.{Identifier, ByName, lookup}
+use Rattle.std.proofs.lemmas.Bool.{ltb-true}
+use Rattle.base.specs.Bytes.{Identifier, lookup}
+use Rattle.base.specs.Element.{ElementType}
 use Rattle.classes.specs.Class.{Classes}
 use Rattle.types.specs.JniFunction.{JniFunction}
 use Rattle.heap.specs.Heap.{Space}
 use Rattle.code.specs.declared.instr.Instr.{Instr}
 use Rattle.code.specs.declared.instr.Instr.TheVariants as instr
 use Rattle.code.specs.declared.instr.Call.{Call}
+use Rattle.code.specs.declared.instr.NullableVariable.{NullableVariable}
+use Rattle.code.specs.declared.instr.NullableVariable.TheVariants as nullable
+use Rattle.code.specs.declared.slots.SlotCounts.{SlotCounts}
+use Rattle.code.specs.declared.instr.Plain.{Plain}
 use Rattle.code.specs.declared.instr.Plain.TheVariants as plain
-use Rattle.code.specs.Effect.{plain_of}
-use Rattle.code.specs.Depth.{Listing, depth_after}
+use Rattle.code.specs.Effect.{truth_word, plain_of, IsPlain}
+use Rattle.code.specs.Depth.{Listing, depth_after, depth_at, LeadsInside, Leaves, variable_within, within_slots}
 use Rattle.regions.specs.Arguments.{Actual}
-use Rattle.regions.specs.Effect.{Effect, Becomes, Sets, Prints, Calls, effect_of}
-use Rattle.regions.specs.Sight.{Sight, scalar, held_reference}
+use Rattle.regions.specs.Effect as effects
+use Rattle.regions.specs.Effect.{Effect, Becomes, Sets, SetsNull, SetsElement, MakesArray, Prints, Calls, TrapsAt, effect_of}
 use Rattle.regions.specs.Task.{Task, Target}
 use Rattle.regions.specs.Thread as source
 use Rattle.regions.specs.Thread.{Lent, Shared, sight_of}
-use Rattle.regions.specs.ThreadStep.{with_tasks}
-use Rattle.regions.specs.Value.{Value}
-use Rattle.regions.specs.Variable.{Variable, Scalar, assign}
-use Rattle.lower.specs.Slots.{Shows, IsSet}
-use Rattle.lower.specs.Stands.{StandsFor, GoesOn, SetsNumber, PrintsTop, CallsFunction, IsReturn}
+use Rattle.regions.specs.ThreadStep.{with_tasks, after_effect, set_element}
+use Rattle.regions.specs.Value.{Value, Trap, convert}
+use Rattle.regions.specs.Variable.{Variable, Scalar, LocalArray, assign}
+use Rattle.lower.specs.Slots as lower
+use Rattle.lower.specs.Slots.{Visible, Slots, visible_to, Shows, IsSet, IsMade, IsElementSet}
+use Rattle.lower.specs.Stands.{StandsFor}
+use Rattle.lower.specs.Does.{GoesOn, Writes, StoresNull, PrintsTop, CallsFunction, LeavesCall, Stops, Works, AtEnd, IsReturn, trap_of}
 use Rattle.lower.specs.Lowered.{Lowered}
+use Rattle.machine.specs.declared.stop.Trap.{Trap as TrapInMemory}
+use Rattle.machine.specs.declared.thread.Event.{Event}
 use Rattle.machine.specs.declared.thread.Event.TheVariants as event
 use Rattle.machine.specs.declared.thread.Activation.{Activation}
 use Rattle.machine.specs.declared.thread.Executed.TheVariants.{Did, Returned}
-use Rattle.machine.specs.Agrees.{Executes}
-use Rattle.machine.proofs.Calls.{does_cases, slots_of, Ready, IsPlain, same_stack, same_numbers, is_plain as plain_instr, put_not_plain, call_not_plain, return_not_plain, plain_depth, HasMoved, room, stands_behind}
+use Rattle.machine.specs.Agrees as agrees
+use Rattle.machine.specs.Agrees.{Executes, StaticsAgree, CallStands, event_view}
+use Rattle.machine.specs.Stops.{trap_view}
+use Rattle.machine.specs.Variables.{is_null, HasSlot, with_null}
+use Rattle.machine.proofs.Calls.{does_cases, slots_of, Ready, plain_instr, plain_works, IsNullTest, no_return, agree_count, HasMoved, stands_at, runs, room, leads, depth_behind}
+use Rattle.machine.proofs.Changes.{array_of, is_set, is_made, is_element_set}
+use Rattle.machine.proofs.Elements.{SetsWhatIsThere, sets_what_is_there}
+use Rattle.machine.proofs.NullLaws.{puts_null, null_agrees, nulled_agree}
 
--- ---- a variable is set
+-- ---- a plain instruction
 
-lookup_same : {A : Type 0} (x : Identifier) (v : A) (vs : ByName A) → lookup x (assign x v vs) ≡ Some v
-lookup_same x v [] = ap (λ (b : Bool). if b then Some v else None) ((bytes_eq-Decides x x).1 refl)
-lookup_same x v ((y, w) ∷ rest) = by_test (bytes_eq x y) refl (lookup_same x v rest)
+-- the place that a way leads to; a trap stays
+abbrev pub end_of_way : (place : ℕ) → Plain → ℕ
+end_of_way place plain.Next = place + 1
+end_of_way place (plain.Skip n) = place + 1 + n
+end_of_way place (plain.Back n) = place - n
+end_of_way place (plain.Trap trap line) = place
+
+-- what is seen of a way
+abbrev pub WayIsSeen : Plain → Event → Type 0
+WayIsSeen (plain.Trap trap line) e = (t : TrapInMemory) × (trap_view t ≡ trap_of trap) × (e ≡ event.Trapped t line)
+WayIsSeen way e = e ≡ event.Quiet
+
+-- a plain instruction's answer, by its parts
+abbrev pub Answer : Type 0
+Answer = Option (Plain × List ℕ × List ℕ)
+
+way_of : Answer → Plain
+way_of None = plain.Next
+way_of (Some x) = x.0
+
+stack_of : Answer → List ℕ
+stack_of None = []
+stack_of (Some x) = x.1
+
+numbers_of : Answer → List ℕ
+numbers_of None = []
+numbers_of (Some x) = x.2
+
+same_way : (o u : Plain) (a b m n : List ℕ) → ◌≡◌ {A = Answer} (Some (o, a, m)) (Some (u, b, n)) → o ≡ u
+unfolding way_of
+same_way o u a b m n h = ap way_of h
+
+same_stack : (o u : Plain) (a b m n : List ℕ) → ◌≡◌ {A = Answer} (Some (o, a, m)) (Some (u, b, n)) → a ≡ b
+unfolding stack_of
+same_stack o u a b m n h = ap stack_of h
+
+same_numbers : (o u : Plain) (a b m n : List ℕ) → ◌≡◌ {A = Answer} (Some (o, a, m)) (Some (u, b, n)) → m ≡ n
+unfolding numbers_of
+same_numbers o u a b m n h = ap numbers_of h
+
+-- the depth at the end of a way
+depth_at_end : (code : Listing) (place : ℕ) (way : Plain) (depth : ℕ) (P : ℕ → Type 0) → LeadsInside code.instrs place way depth → AtEnd P place way → depth_at code.instrs (end_of_way place way) ≡ Some depth
+depth_at_end code place plain.Next depth P h end = h.words
+depth_at_end code place (plain.Skip n) depth P h end = h.words
+depth_at_end code place (plain.Back n) depth P h end = h.1.words
+depth_at_end code place (plain.Trap trap line) depth P h end = absurd end
+
+at_end : (place : ℕ) (way : Plain) (P : ℕ → Type 0) → AtEnd P place way → P (end_of_way place way)
+at_end place plain.Next P end = end
+at_end place (plain.Skip n) P end = end
+at_end place (plain.Back n) P end = end.1
+at_end place (plain.Trap trap line) P end = absurd end
+
+quiet_at_end : (place : ℕ) (way : Plain) (P : ℕ → Type 0) (e : Event) → AtEnd P place way → WayIsSeen way e → e ≡ event.Quiet
+quiet_at_end place plain.Next P e end seen = seen
+quiet_at_end place (plain.Skip n) P e end seen = seen
+quiet_at_end place (plain.Back n) P e end seen = seen
+quiet_at_end place (plain.Trap trap line) P e end seen = absurd end
+
+-- what a test of NULL is not
+no_null_test : (i : Instr) → IsNullTest i → IsPlain i → ⊥
+no_null_test (instr.TestNull variable equal) h p = p
+no_null_test i h p = h
+
+-- what works on the stack and isn't plain tests for NULL
+works_else : (slots : Slots) (i : Instr) (stack : List ℕ) (way : Plain) (after : List ℕ) → (IsPlain i → ⊥) → (IsNullTest i → ⊥) → Works slots i stack way after → ⊥
+works_else slots (instr.TestNull variable equal) stack way after not_plain not_test h = not_test tt
+works_else slots i stack way after not_plain not_test h = not_plain (plain_instr i stack slots.numbers (way, after, slots.numbers) h)
+
+no_return_test : (i : Instr) → IsReturn i → IsNullTest i → ⊥
+no_return_test (instr.TestNull variable equal) r h = r
+no_return_test i r h = h
+
+-- a number of words with room for a test of NULL
+pub few_words : (variable : NullableVariable) (equal : Bool) (n : ℕ) → IsSome (depth_after (instr.TestNull variable equal) n) → n < 64
+few_words variable equal n h = by_test (nat_lt n 64) refl h
   where
-    by_test : (b : Bool) → bytes_eq x y ≡ b → lookup x (assign x v rest) ≡ Some v → lookup x (if b then (x, v) ∷ rest else (y, w) ∷ assign x v rest) ≡ Some v
-    by_test true e later = ap (λ (b : Bool). if b then Some v else lookup x rest) ((bytes_eq-Decides x x).1 refl)
-    by_test false e later = ap (λ (b : Bool). if b then Some w else lookup x (assign x v rest)) e ∙ later
+    by_test : (b : Bool) → nat_lt n 64 ≡ b → IsSome (if b then Some (suc n) else None) → n < 64
+    by_test true e k = ltb-true n 64 e
+    by_test false e k = absurd (cc (k))
 
-lookup_other : {A : Type 0} (x y : Identifier) (v : A) (vs : ByName A) → y ≢ x → lookup y (assign x v vs) ≡ lookup y vs
-lookup_other x y v [] other = ap (λ (b : Bool). if b then Some v else None) (unequal (bytes_eq y x) refl)
+-- a variable of the code has its slot
+has_slot : (addresses : List (Option ℕ)) (slots : SlotCounts) (variable : NullableVariable) → length addresses ≡ slots.references → variable_within slots variable ≡ true → HasSlot addresses variable
+has_slot addresses slots (nullable.Local i) count h = let below : i < slots.references = ltb-true i slots.references h in omega (arith, below, count)
+has_slot addresses slots (nullable.Static i) count h = tt
+has_slot addresses slots (nullable.FieldId i) count h = tt
+has_slot addresses slots (nullable.Buffer i) count h = tt
+
+-- one word more than so many
+one_more : (n : ℕ) → IsSome (depth_after (instr.Push 0) n) → depth_after (instr.Push 0) n ≡ Some (suc n)
+one_more n h = by_test (nat_lt n 64) h
   where
-    unequal : (b : Bool) → bytes_eq y x ≡ b → bytes_eq y x ≡ false
-    unequal true e = absurd (other ((bytes_eq-Decides y x).0 e))
-    unequal false e = e
-lookup_other {A = A} x y v ((z, w) ∷ rest) other = by_test (bytes_eq x z) refl (lookup_other x y v rest other)
-  where
-    unequal : (b : Bool) → bytes_eq y x ≡ b → bytes_eq y x ≡ false
-    unequal true e = absurd (other ((bytes_eq-Decides y x).0 e))
-    unequal false e = e
+    by_test : (b : Bool) → IsSome (if b then Some (suc n) else None) → (if b then Some (suc n) else None) ≡ Some (suc n)
+    by_test true k = refl
+    by_test false k = absurd (cc (k))
 
-    not_first : bytes_eq x z ≡ true → bytes_eq y z ≡ false
-    not_first e = subst (λ (n : Identifier). bytes_eq y n ≡ false) ((bytes_eq-Decides x z).0 e) (unequal (bytes_eq y x) refl)
+-- An instruction that isn't plain has one of these effects.
+module _ (p : Lowered) (space : Space) (call : Activation) (code : Listing) (visible : Visible) (task : Task) (rest : List Task) (r : Ready p space call code visible task rest) (i : Instr) (at : slice_get code.instrs call.place ≡ Some i) where
+  abbrev slots : Slots
+  slots = slots_of call r.references
 
-    by_test : (b : Bool) → bytes_eq x z ≡ b → lookup y (assign x v rest) ≡ lookup y rest → lookup y (if b then (x, v) ∷ rest else (z, w) ∷ assign x v rest) ≡ lookup y ((z, w) ∷ rest)
-    by_test true e later = ap (λ (b : Bool). if b then Some v else lookup y rest) (unequal (bytes_eq y x) refl) ∙ sym (ap (λ (b : Bool). if b then Some w else lookup y rest) (not_first e))
-    by_test false e later = ap (λ (o : Option A). if bytes_eq y z then Some w else o) later
+  other_cases : (P : Effect → Type 0) → (IsPlain i → ⊥) → (IsNullTest i → (tasks : List Task) → GoesOn code r.known call.place call.stack slots visible (tasks ++ rest) → P (Becomes tasks))
+      → ((target : Target) (h : StoresNull code r.known call.place call.stack slots visible target rest) → i ≡ instr.StoreNull h.variable → P (SetsNull target))
+      → ((z : ℤ) → PrintsTop code r.known call.place call.stack slots visible z rest → i ≡ instr.PutJint → P (Prints z))
+      → ((line : ℕ) (target : Target) (f : JniFunction) (args : List Actual) (h : CallsFunction code r.known call.place call.stack slots visible line target f args rest) → i ≡ instr.Call h.call → P (Calls line target f args))
+      → (IsReturn i → P effects.Returns)
+      → P (effect_of visible.sight task)
+  other_cases P not_plain becomes nulls prints calls returns =
+      does_cases code r.known call.place call.stack slots visible rest P
+      (λ tasks h. let same : h.here ≡ i = cc (at, h.at) in becomes (tests tasks h) tasks h)
+      (λ x v h. absurd (writes (IsSet visible x v) h))
+      (λ target h. nulls target h (cc (at, h.at)))
+      (λ x j z t a h. absurd (writes (IsElementSet visible t x j z) h))
+      (λ t x n h. absurd (writes (IsMade visible t x n) h))
+      (λ z h. prints z h (cc (at, h.at)))
+      (λ line target f args h. calls line target f args h (cc (at, h.at)))
+      (λ h. let same : h.here ≡ i = cc (at, h.at) in returns (subst IsReturn same h.returns))
+      (λ trap line h. let same : h.here ≡ i = cc (at, h.at) in absurd (not_plain (plain_instr i call.stack slots.numbers _ (subst (λ (j : Instr). plain_of j call.stack slots.numbers ≡ Some (plain.Trap h.trap line, call.stack, slots.numbers)) same h.plain))))
+      (effect_of visible.sight task) r.does
+    where
+      writes : (changed : Visible → Type 0) → Writes code r.known call.place call.stack slots visible changed rest → ⊥
+      writes changed h =
+          let same : h.here ≡ i = cc (at, h.at) in
+          not_plain (plain_instr i call.stack slots.numbers _ (subst (λ (j : Instr). plain_of j call.stack slots.numbers ≡ Some (plain.Next, [], h.numbers)) same h.plain))
 
--- what is seen once a number variable is set
-pub is_set : (shared : Shared) (s t : source.Thread) (x : Identifier) (v : Value) → t.variables ≡ assign x (Scalar v) s.variables → IsSet (sight_of shared s) x v (sight_of shared t)
-is_set shared s t x v e = record {
-  is = ap (λ (vs : ByName Variable). scalar (lookup x vs)) e ∙ ap scalar (lookup_same x (Scalar v) s.variables);
-  numbers = λ y other. ap (λ (vs : ByName Variable). scalar (lookup y vs)) e ∙ ap scalar (lookup_other x y (Scalar v) s.variables other);
-  references = λ y other. ap (λ (vs : ByName Variable). held_reference (lookup y vs) (lookup y shared.statics)) e ∙ ap (λ (o : Option Variable). held_reference o (lookup y shared.statics)) (lookup_other x y (Scalar v) s.variables other);
-}
+      tests : (tasks : List Task) → GoesOn code r.known call.place call.stack slots visible (tasks ++ rest) → IsNullTest i
+      tests tasks h =
+          let same : h.here ≡ i = cc (at, h.at) in
+          let works = subst (λ (j : Instr). Works slots j call.stack h.way h.after) same h.works in
+          by_instr i not_plain h.way h.after works
+        where
+          by_instr : (j : Instr) → (IsPlain j → ⊥) → (way : Plain) (after : List ℕ) → Works slots j call.stack way after → IsNullTest j
+          by_instr (instr.TestNull variable equal) n way after w = tt
+          by_instr j n way after w = absurd (n (plain_instr j call.stack slots.numbers (way, after, slots.numbers) w))
 
--- ---- what an instruction finds
-
-some_is : {A : Type 0} (o : Option A) (x : A) → o ≡ Some x → IsSome o
-some_is None x h = absurd (cc)
-some_is (Some y) x h = refl
-
-module _ (p : Lowered) (space : Space) (call : Activation) (code : Listing) (sight : Sight) (task : Task) (rest : List Task) (r : Ready p space call code sight task rest) (i : Instr) (at : slice_get code.instrs call.place ≡ Some i) where
-  -- its operands and its slot
-  pub plain_there : IsPlain i → IsSome (plain_of i call.stack call.numbers.items)
-  plain_there works =
-      does_cases code r.known call.place call.stack (slots_of call r.references) sight rest (λ e. IsSome (plain_of i call.stack call.numbers.items))
-      (λ tasks h. let same : h.here ≡ i = cc (at, h.at) in some_is _ _ (subst (λ (j : Instr). plain_of j call.stack call.numbers.items ≡ Some (plain.Next, h.after, call.numbers.items)) same h.plain))
-      (λ x v h. let same : instr.Store h.slot ≡ i = cc (at, h.at) in some_is _ _ (subst (λ (j : Instr). plain_of j call.stack call.numbers.items ≡ Some (plain.Next, [], h.numbers)) same h.plain))
-      (λ z h. absurd (put_not_plain i (cc (at, h.at)) works)) (λ line target f args h. absurd (call_not_plain i h.call (cc (at, h.at)) works))
-      (λ h. absurd (return_not_plain i (let same : h.here ≡ i = cc (at, h.at) in subst IsReturn same h.returns) works))
-      (effect_of sight task) r.does
-
-  -- room on the stack
-  pub room_there : IsSome (depth_after i (length call.stack))
-  room_there = let d = room p space call code sight task rest r i at in some_is _ d.0 d.1
+  -- the variable that is made NULL has its slot
+  pub slot_there : (variable : NullableVariable) → i ≡ instr.StoreNull variable → HasSlot call.references.items variable
+  slot_there variable is =
+      let within : within_slots code.slots (instr.StoreNull variable) ≡ true = subst (λ (j : Instr). IsTrue (within_slots code.slots j)) is (runs p space call code visible task rest r i at).slots in
+      has_slot call.references.items code.slots variable (sym (agree_count space call.references.items r.references r.agree) ∙ r.shows.references) within
 
   -- a call's instruction calls the function of the first task
   pub call_cases : (function : Call) → i ≡ instr.Call function → (P : Effect → Type 0)
-      → ((line : ℕ) (target : Target) (f : JniFunction) (args : List Actual) → CallsFunction code r.known call.place call.stack (slots_of call r.references) sight line target f args rest → P (Calls line target f args))
-      → P (effect_of sight task)
+      → ((line : ℕ) (target : Target) (f : JniFunction) (args : List Actual) → CallsFunction code r.known call.place call.stack slots visible line target f args rest → P (Calls line target f args))
+      → P (effect_of visible.sight task)
   call_cases function is P calls =
-      does_cases code r.known call.place call.stack (slots_of call r.references) sight rest P
-      (λ tasks h. absurd (call_not_plain i function is (let same : h.here ≡ i = cc (at, h.at) in plain_instr i call.stack call.numbers.items _ (subst (λ (j : Instr). plain_of j call.stack call.numbers.items ≡ Some (plain.Next, h.after, call.numbers.items)) same h.plain))))
-      (λ x v h. absurd (let same : instr.Store h.slot ≡ instr.Call function = cc (at, h.at, is) in cc))
-      (λ z h. absurd (let same : instr.PutJint ≡ instr.Call function = cc (at, h.at, is) in cc))
-      calls
-      (λ h. absurd (let same : h.here ≡ instr.Call function = cc (at, h.at, is) in subst IsReturn same h.returns))
-      (effect_of sight task) r.does
+      other_cases P (λ plain. subst IsPlain is plain) (λ test tasks h. absurd (subst IsNullTest is test)) (λ target h same. absurd (let both : instr.StoreNull h.variable ≡ instr.Call function = sym same ∙ is in cc))
+      (λ z h same. absurd (let both : instr.PutJint ≡ instr.Call function = sym same ∙ is in cc)) (λ line target f args h same. calls line target f args h) (λ returns. absurd (subst IsReturn is returns))
 
 -- ---- what an instruction did
 
-module _ (p : Lowered) (classes : Classes) (space : Space) (lent : Lent) (k : ℕ) (shared : Shared) (s : source.Thread) (call : Activation) (code : Listing) (task : Task) (rest : List Task) (r : Ready p space call code (sight_of shared s) task rest) (i : Instr) (at : slice_get code.instrs call.place ≡ Some i) where
+module _ (p : Lowered) (classes : Classes) (space : Space) (lent : Lent) (k : ℕ) (shared : Shared) (statics : StaticsAgree p shared) (s : source.Thread) (call : Activation) (code : Listing) (task : Task) (rest : List Task) (r : Ready p space call code (visible_to shared s) task rest) (i : Instr) (at : slice_get code.instrs call.place ≡ Some i) where
+  abbrev seen : Visible
+  seen = visible_to shared s
+
+  abbrev held : Slots
+  held = slots_of call r.references
+
   -- an instruction on the stack and the number slots alone
-  pub plain_executes : (after : Activation) (stack numbers : List ℕ) → plain_of i call.stack call.numbers.items ≡ Some (plain.Next, stack, numbers) → HasMoved call after stack numbers
+  module _ (tasks_are : s.tasks ≡ Some (task ∷ rest)) (after : Activation) (e : Event) (way : Plain) (stack numbers : List ℕ) (is : plain_of i call.stack call.numbers.items ≡ Some (way, stack, numbers))
+    (m : HasMoved call after (end_of_way call.place way) stack numbers call.references.items) (way_seen : WayIsSeen way e) where
+    becomes : IsPlain i → (tasks : List Task) → GoesOn code r.known call.place call.stack held seen (tasks ++ rest) → agrees.GoesOn p classes space lent k shared s rest after (Becomes tasks) e
+    becomes works tasks h =
+        let same : h.here ≡ i = cc (h.at, at) in
+        let plain_is : plain_of i call.stack call.numbers.items ≡ Some (h.way, h.after, call.numbers.items) = plain_works held i call.stack h.way h.after works (subst (λ (j : Instr). Works held j call.stack h.way h.after) same h.works) in
+        let way_is : h.way ≡ way = same_way _ _ _ _ _ _ (sym plain_is ∙ is) in
+        let after_is : h.after ≡ stack = same_stack _ _ _ _ _ _ (sym plain_is ∙ is) in
+        let numbers_are : call.numbers.items ≡ numbers = same_numbers _ _ _ _ _ _ (sym plain_is ∙ is) in
+        let end : AtEnd (λ q. StandsFor code h.names q stack (tasks ++ rest)) call.place way =
+        subst (λ (u : Plain). AtEnd (λ q. StandsFor code h.names q stack (tasks ++ rest)) call.place u) way_is (subst (λ (st : List ℕ). AtEnd (λ q. StandsFor code h.names q st (tasks ++ rest)) call.place h.way) after_is h.stands) in
+        let next : source.Thread = with_tasks s (tasks ++ rest) in
+        record {
+          next = next;
+          steps = ap (λ (v : Event). source.Advances shared next (event_view v)) (sym (quiet_at_end call.place way (λ q. StandsFor code h.names q stack (tasks ++ rest)) e end way_seen));
+          work = stands_at p space call code seen task rest r after (end_of_way call.place way) stack numbers call.references.items r.references h.names (visible_to shared next) (tasks ++ rest)
+              (depth_at_end code call.place way (length stack) (λ q. StandsFor code h.names q stack (tasks ++ rest)) (leads p space call code seen task rest r i at way stack numbers is) end) m r.agree
+              (at_end call.place way (λ q. StandsFor code h.names q stack (tasks ++ rest)) end)
+              (subst (λ (ns : List ℕ). Shows code h.names (visible_to shared next) (record { numbers = ns; references = r.references })) numbers_are h.shows);
+          calls = refl;
+          pending = refl;
+          ending = refl;
+        }
+
+    writes : (did : Effect) (changed : Visible → Type 0) → Writes code r.known call.place call.stack held seen changed rest → (vs : _) → after_effect classes lent k shared s rest did ≡ source.Advances shared (record s { tasks = Some rest; variables = vs }) source.Quiet
+        → changed (visible_to shared (record s { tasks = Some rest; variables = vs })) → agrees.GoesOn p classes space lent k shared s rest after did e
+    writes did changed h vs steps shown =
+        let same : h.here ≡ i = cc (h.at, at) in
+        let plain_is : plain_of i call.stack call.numbers.items ≡ Some (plain.Next, [], h.numbers) = subst (λ (j : Instr). plain_of j call.stack call.numbers.items ≡ Some (plain.Next, [], h.numbers)) same h.plain in
+        let way_is : way ≡ plain.Next = same_way _ _ _ _ _ _ (sym is ∙ plain_is) in
+        let after_is : [] ≡ stack = same_stack _ _ _ _ _ _ (sym plain_is ∙ is) in
+        let numbers_are : h.numbers ≡ numbers = same_numbers _ _ _ _ _ _ (sym plain_is ∙ is) in
+        let quiet : e ≡ event.Quiet = subst (λ (w : Plain). WayIsSeen w e) way_is way_seen in
+        let next : source.Thread = record s { tasks = Some rest; variables = vs } in
+        let end : LeadsInside code.instrs call.place plain.Next (length stack) = subst (λ (w : Plain). LeadsInside code.instrs call.place w (length stack)) way_is (leads p space call code seen task rest r i at way stack numbers is) in
+        record {
+          next = next;
+          steps = steps ∙ ap (λ (v : Event). source.Advances shared next (event_view v)) (sym quiet);
+          work = stands_at p space call code seen task rest r after (call.place + 1) stack numbers call.references.items r.references h.names (visible_to shared next) rest end.words
+              (subst (λ (w : Plain). HasMoved call after (end_of_way call.place w) stack numbers call.references.items) way_is m) r.agree
+              (subst (λ (st : List ℕ). StandsFor code h.names (call.place + 1) st rest) after_is h.stands)
+              (subst (λ (ns : List ℕ). Shows code h.names (visible_to shared next) (record { numbers = ns; references = r.references })) numbers_are (h.shows (visible_to shared next) shown));
+          calls = refl;
+          pending = refl;
+          ending = refl;
+        }
+
+    traps : (reason : Trap) (line : ℕ) → Stops code r.known call.place call.stack held seen reason line → agrees.GoesOn p classes space lent k shared s rest after (TrapsAt reason line) e
+    traps reason line h =
+        let same : h.here ≡ i = cc (h.at, at) in
+        let plain_is : plain_of i call.stack call.numbers.items ≡ Some (plain.Trap h.trap line, call.stack, call.numbers.items) =
+        subst (λ (j : Instr). plain_of j call.stack call.numbers.items ≡ Some (plain.Trap h.trap line, call.stack, call.numbers.items)) same h.plain in
+        let way_is : way ≡ plain.Trap h.trap line = same_way _ _ _ _ _ _ (sym is ∙ plain_is) in
+        let after_is : call.stack ≡ stack = same_stack _ _ _ _ _ _ (sym plain_is ∙ is) in
+        let numbers_are : call.numbers.items ≡ numbers = same_numbers _ _ _ _ _ _ (sym plain_is ∙ is) in
+        let seen_trap : WayIsSeen (plain.Trap h.trap line) e = subst (λ (w : Plain). WayIsSeen w e) way_is way_seen in
+        let trap_is : reason ≡ trap_view seen_trap.0 = sym h.is ∙ sym seen_trap.1 in
+        let stands : CallStands p space after seen (task ∷ rest) =
+        stands_at p space call code seen task rest r after call.place stack numbers call.references.items r.references r.known seen (task ∷ rest) (r.depth ∙ ap (λ (st : List ℕ). Some (length st)) after_is)
+        (subst (λ (w : Plain). HasMoved call after (end_of_way call.place w) stack numbers call.references.items) way_is m) r.agree
+        (subst (λ (st : List ℕ). StandsFor code r.known call.place st (task ∷ rest)) after_is r.stands)
+        (subst (λ (ns : List ℕ). Shows code r.known seen (record { numbers = ns; references = r.references })) numbers_are r.shows) in
+        record {
+          next = s;
+          steps = ap (λ (t : Trap). source.Advances shared s (source.Trapped t line)) trap_is ∙ ap (λ (v : Event). source.Advances shared s (event_view v)) (sym seen_trap.2);
+          work = subst (λ (o : Option (List Task)). agrees.WorkAgrees p space seen (Some after) o) (sym tasks_are) stands;
+          calls = refl;
+          pending = refl;
+          ending = refl;
+        }
+
+    sets_element : (x : Identifier) (j : ℕ) (z : ℤ) (t : ElementType) → seen.array_type x ≡ Some t → Writes code r.known call.place call.stack held seen (IsElementSet seen t x j z) rest → SetsWhatIsThere seen.sight (SetsElement x j z)
+        → agrees.GoesOn p classes space lent k shared s rest after (SetsElement x j z) e
+    sets_element x j z t type h there =
+        let array = array_of (lookup x s.variables) t type in
+        let v : Variable = LocalArray t (slice_set array.0 j (convert t z)) in
+        writes (SetsElement x j z) (IsElementSet seen t x j z) h (assign x v s.variables) (ap (set_element shared (with_tasks s rest) x j z) array.1)
+        (is_element_set shared s (record s { tasks = Some rest; variables = assign x v s.variables }) x t array.0 j z there.0 array.1 there.1 refl)
+
+    pub plain_executes : Executes p classes space lent k shared s rest after (effect_of (sight_of shared s) task) (Did e)
+    plain_executes =
+        let works : IsPlain i = plain_instr i call.stack call.numbers.items (way, stack, numbers) is in
+        does_cases code r.known call.place call.stack held seen rest (λ effect. SetsWhatIsThere seen.sight effect → Executes p classes space lent k shared s rest after effect (Did e))
+        (λ tasks h there. becomes works tasks h)
+        (λ x v h there. writes (Sets x v) (IsSet seen x v) h (assign x (Scalar v) s.variables) refl (is_set shared s (record s { tasks = Some rest; variables = assign x (Scalar v) s.variables }) x v refl))
+        (λ target h. absurd (let same : i ≡ instr.StoreNull h.variable = cc (at, h.at) in subst IsPlain same works))
+        (λ x j z t type h there. sets_element x j z t type h there)
+        (λ t x n h there. let v : Variable = LocalArray t (replicate n (pos 0)) in writes (MakesArray t x n) (IsMade seen t x n) h (assign x v s.variables) refl (is_made shared s (record s { tasks = Some rest; variables = assign x v s.variables }) x t n refl))
+        (λ z h. absurd (let same : i ≡ instr.PutJint = cc (at, h.at) in subst IsPlain same works))
+        (λ line target f args h. absurd (let same : i ≡ instr.Call h.call = cc (at, h.at) in subst IsPlain same works))
+        (λ h. absurd (no_return i (let same : h.here ≡ i = cc (at, h.at) in subst IsReturn same h.returns) works))
+        (λ reason line h there. traps reason line h)
+        (effect_of seen.sight task) r.does (sets_what_is_there seen.sight task)
+
+  -- a test of NULL
+  pub test_executes : (variable : NullableVariable) (equal : Bool) (after : Activation) → i ≡ instr.TestNull variable equal → HasMoved call after (call.place + 1) (truth_word (beq (is_null call.references.items variable) equal) ∷ call.stack) call.numbers.items call.references.items
       → Executes p classes space lent k shared s rest after (effect_of (sight_of shared s) task) (Did event.Quiet)
-  plain_executes after stack numbers is m =
-      does_cases code r.known call.place call.stack (slots_of call r.references) (sight_of shared s) rest (λ e. Executes p classes space lent k shared s rest after e (Did event.Quiet)) becomes sets
-      (λ z h. absurd (put_not_plain i (cc (at, h.at)) works)) (λ line target f args h. absurd (call_not_plain i h.call (cc (at, h.at)) works))
-      (λ h. absurd (return_not_plain i (let same : h.here ≡ i = cc (at, h.at) in subst IsReturn same h.returns) works))
-      (effect_of (sight_of shared s) task) r.does
+  test_executes variable equal after is m =
+      other_cases p space call code seen task rest r i at (λ effect. Executes p classes space lent k shared s rest after effect (Did event.Quiet)) (λ plain. subst IsPlain is plain)
+      (λ test tasks h. goes tasks h)
+      (λ target h same. absurd (let both : instr.StoreNull h.variable ≡ instr.TestNull variable equal = sym same ∙ is in cc))
+      (λ z h same. absurd (let both : instr.PutJint ≡ instr.TestNull variable equal = sym same ∙ is in cc))
+      (λ line target f args h same. absurd (let both : instr.Call h.call ≡ instr.TestNull variable equal = sym same ∙ is in cc))
+      (λ returns. absurd (subst IsReturn is returns))
     where
-      works : IsPlain i
-      works = plain_instr i call.stack call.numbers.items (plain.Next, stack, numbers) is
-
-      deep : depth_after i (length call.stack) ≡ Some (length stack)
-      deep =
-          let d = room p space call code (sight_of shared s) task rest r i at in
-          let same : length stack ≡ d.0 = plain_depth i call.stack call.numbers.items plain.Next stack numbers d.0 is d.1 in
-          d.1 ∙ ap (λ (n : ℕ). Some n) (sym same)
-
-      becomes : (tasks : List Task) → GoesOn code r.known call.place call.stack (slots_of call r.references) (sight_of shared s) (tasks ++ rest) → Executes p classes space lent k shared s rest after (Becomes tasks) (Did event.Quiet)
-      becomes tasks h =
-          let same : h.here ≡ i = cc (h.at, at) in
-          let plain_is : plain_of i call.stack call.numbers.items ≡ Some (plain.Next, h.after, call.numbers.items) = subst (λ (j : Instr). plain_of j call.stack call.numbers.items ≡ Some (plain.Next, h.after, call.numbers.items)) same h.plain in
-          let after_is : h.after ≡ stack = same_stack _ _ _ _ _ _ (sym plain_is ∙ is) in
-          let numbers_are : call.numbers.items ≡ numbers = same_numbers _ _ _ _ _ _ (sym plain_is ∙ is) in
+      goes : (tasks : List Task) → GoesOn code r.known call.place call.stack held seen (tasks ++ rest) → agrees.GoesOn p classes space lent k shared s rest after (Becomes tasks) event.Quiet
+      goes tasks h =
+          let same : h.here ≡ instr.TestNull variable equal = cc (h.at, at, is) in
+          let w = subst (λ (j : Instr). Works held j call.stack h.way h.after) same h.works in
+          let null : is_null call.references.items variable ≡ w.0 = null_agrees space call.references.items held variable w.0 r.agree w.1 in
+          let words : h.after ≡ truth_word (beq (is_null call.references.items variable) equal) ∷ call.stack = w.3 ∙ ap (λ (b : Bool). truth_word (beq b equal) ∷ call.stack) (sym null) in
+          let next : source.Thread = with_tasks s (tasks ++ rest) in
+          let stack : List ℕ = truth_word (beq (is_null call.references.items variable) equal) ∷ call.stack in
+          let end : StandsFor code h.names (call.place + 1) stack (tasks ++ rest) =
+          subst (λ (u : Plain). AtEnd (λ q. StandsFor code h.names q stack (tasks ++ rest)) call.place u) w.2 (subst (λ (st : List ℕ). AtEnd (λ q. StandsFor code h.names q st (tasks ++ rest)) call.place h.way) words h.stands) in
           record {
-            next = with_tasks s (tasks ++ rest);
+            next = next;
             steps = refl;
-            work = stands_behind p space call code (sight_of shared s) task rest r i at after stack numbers r.known (sight_of shared s) (tasks ++ rest) deep m
-                (subst (λ (st : List ℕ). StandsFor code r.known (call.place + 1) st (tasks ++ rest)) after_is h.stands)
-                (subst (λ (ns : List ℕ). Shows code r.known (sight_of shared s) (record { numbers = ns; references = r.references })) numbers_are r.shows);
+            work = stands_at p space call code seen task rest r after (call.place + 1) stack call.numbers.items call.references.items r.references h.names (visible_to shared next) (tasks ++ rest)
+                (depth_behind p space call code seen task rest r i at (length stack) (λ leaves. subst Leaves is leaves)
+                (ap (λ (j : Instr). depth_after j (length call.stack)) is ∙ one_more (length call.stack) (subst (λ (j : Instr). IsSome (depth_after j (length call.stack))) is (room p space call code seen task rest r i at)))) m r.agree end h.shows;
             calls = refl;
             pending = refl;
             ending = refl;
           }
 
-      sets : (x : Identifier) (v : Value) → SetsNumber code r.known call.place call.stack (slots_of call r.references) (sight_of shared s) x v rest → Executes p classes space lent k shared s rest after (Sets x v) (Did event.Quiet)
-      sets x v h =
-          let same : instr.Store h.slot ≡ i = cc (h.at, at) in
-          let plain_is : plain_of i call.stack call.numbers.items ≡ Some (plain.Next, [], h.numbers) = subst (λ (j : Instr). plain_of j call.stack call.numbers.items ≡ Some (plain.Next, [], h.numbers)) same h.plain in
-          let after_is : [] ≡ stack = same_stack _ _ _ _ _ _ (sym plain_is ∙ is) in
-          let numbers_are : h.numbers ≡ numbers = same_numbers _ _ _ _ _ _ (sym plain_is ∙ is) in
-          let next : source.Thread = record s { tasks = Some rest; variables = assign x (Scalar v) s.variables } in
+  -- NULL is stored
+  pub store_executes : (variable : NullableVariable) (after : Activation) → i ≡ instr.StoreNull variable → HasMoved call after (call.place + 1) call.stack call.numbers.items (with_null variable call.references.items)
+      → Executes p classes space lent k shared s rest after (effect_of (sight_of shared s) task) (Did event.Quiet)
+  store_executes variable after is m =
+      other_cases p space call code seen task rest r i at (λ effect. Executes p classes space lent k shared s rest after effect (Did event.Quiet)) (λ plain. subst IsPlain is plain)
+      (λ test tasks h. absurd (subst IsNullTest is test))
+      (λ target h same. stores target h (let both : instr.StoreNull h.variable ≡ instr.StoreNull variable = sym same ∙ is in cc))
+      (λ z h same. absurd (let both : instr.PutJint ≡ instr.StoreNull variable = sym same ∙ is in cc))
+      (λ line target f args h same. absurd (let both : instr.Call h.call ≡ instr.StoreNull variable = sym same ∙ is in cc))
+      (λ returns. absurd (subst IsReturn is returns))
+    where
+      stores : (target : Target) (h : StoresNull code r.known call.place call.stack held seen target rest) → h.variable ≡ variable → agrees.GoesOn p classes space lent k shared s rest after (SetsNull target) event.Quiet
+      stores target h same =
+          let null = puts_null p shared statics s rest code r.known call.place call.stack held target h.name h.is h.takes in
+          let next : source.Thread = record s { tasks = Some rest; variables = null.variables } in
+          let nulled = nulled_agree space call.references.items held variable r.agree in
+          let m' : HasMoved call after (call.place + 1) [] (lower.with_null variable held).numbers (with_null variable call.references.items) =
+          record { function = m.function; place = m.place; stack = m.stack ∙ h.empty; numbers = m.numbers ∙ sym nulled.1; references = m.references } in
           record {
             next = next;
-            steps = refl;
-            work = stands_behind p space call code (sight_of shared s) task rest r i at after stack numbers h.names (sight_of shared next) rest deep m
-                (subst (λ (st : List ℕ). StandsFor code h.names (call.place + 1) st rest) after_is h.stands)
-                (subst (λ (ns : List ℕ). Shows code h.names (sight_of shared next) (record { numbers = ns; references = r.references })) numbers_are (h.shows (sight_of shared next) (is_set shared s next x v refl)));
+            steps = null.steps;
+            work = stands_at p space call code seen task rest r after (call.place + 1) [] (lower.with_null variable held).numbers (with_null variable call.references.items) (lower.with_null variable held).references h.names (visible_to shared next) rest
+                (depth_behind p space call code seen task rest r i at 0 (λ leaves. subst Leaves is leaves) (ap (λ (j : Instr). depth_after j (length call.stack)) is ∙ ap (λ (st : List ℕ). Some (length st)) h.empty)) m' nulled.0 h.stands
+                (subst (λ (v : NullableVariable). Shows code h.names (visible_to shared next) (lower.with_null v held)) same (h.shows (visible_to shared next) null.nulled));
             calls = refl;
             pending = refl;
             ending = refl;
           }
 
   -- a print
-  pub put_executes : (word : ℕ) (after : Activation) (stack : List ℕ) → i ≡ instr.PutJint → call.stack ≡ word ∷ stack → HasMoved call after stack call.numbers.items
+  pub put_executes : (word : ℕ) (after : Activation) (stack : List ℕ) → i ≡ instr.PutJint → call.stack ≡ word ∷ stack → HasMoved call after (call.place + 1) stack call.numbers.items call.references.items
       → Executes p classes space lent k shared s rest after (effect_of (sight_of shared s) task) (Did (event.Printed (cast_signed w32 word)))
   put_executes word after stack put top m =
-      does_cases code r.known call.place call.stack (slots_of call r.references) (sight_of shared s) rest (λ e. Executes p classes space lent k shared s rest after e (Did (event.Printed (cast_signed w32 word))))
-      (λ tasks h. absurd (put_not_plain i put (let same : h.here ≡ i = cc (at, h.at) in plain_instr i call.stack call.numbers.items _ (subst (λ (j : Instr). plain_of j call.stack call.numbers.items ≡ Some (plain.Next, h.after, call.numbers.items)) same h.plain))))
-      (λ x v h. absurd (let same : instr.Store h.slot ≡ instr.PutJint = cc (at, h.at, put) in cc))
-      prints
-      (λ line target f args h. absurd (let same : instr.Call h.call ≡ instr.PutJint = cc (at, h.at, put) in cc))
-      (λ h. absurd (let same : h.here ≡ instr.PutJint = cc (at, h.at, put) in subst IsReturn same h.returns))
-      (effect_of (sight_of shared s) task) r.does
+      other_cases p space call code seen task rest r i at (λ effect. Executes p classes space lent k shared s rest after effect (Did (event.Printed (cast_signed w32 word)))) (λ plain. subst IsPlain put plain)
+      (λ test tasks h. absurd (subst IsNullTest put test))
+      (λ target h same. absurd (let both : instr.StoreNull h.variable ≡ instr.PutJint = sym same ∙ put in cc))
+      (λ z h same. prints z h)
+      (λ line target f args h same. absurd (let both : instr.Call h.call ≡ instr.PutJint = sym same ∙ put in cc))
+      (λ returns. absurd (subst IsReturn put returns))
     where
-      prints : (z : ℤ) → PrintsTop code r.known call.place call.stack (slots_of call r.references) (sight_of shared s) z rest → Executes p classes space lent k shared s rest after (Prints z) (Did (event.Printed (cast_signed w32 word)))
+      prints : (z : ℤ) → PrintsTop code r.known call.place call.stack held seen z rest → agrees.GoesOn p classes space lent k shared s rest after (Prints z) (event.Printed (cast_signed w32 word))
       prints z h =
           let words : word ≡ h.word = cc (top, h.top) in
           let nothing : [] ≡ stack = cc (top, h.top) in
-          let d : depth_after i (length call.stack) ≡ Some (length stack) = ap (λ (j : Instr). depth_after j (length call.stack)) put ∙ ap (λ (st : List ℕ). depth_after instr.PutJint (length st)) top in
           let number : z ≡ cast_signed w32 word = sym h.is ∙ ap (λ (w : ℕ). cast_signed w32 w) (sym words) in
           record {
             next = with_tasks s rest;
             steps = ap (λ (n : ℤ). source.Advances shared (with_tasks s rest) (source.PrintedNumber n)) number;
-            work = stands_behind p space call code (sight_of shared s) task rest r i at after stack call.numbers.items r.known (sight_of shared s) rest d m (subst (λ (st : List ℕ). StandsFor code r.known (call.place + 1) st rest) nothing h.stands) r.shows;
+            work = stands_at p space call code seen task rest r after (call.place + 1) stack call.numbers.items call.references.items r.references r.known seen rest
+                (depth_behind p space call code seen task rest r i at (length stack) (λ leaves. subst Leaves put leaves) (ap (λ (j : Instr). depth_after j (length call.stack)) put ∙ ap (λ (st : List ℕ). depth_after instr.PutJint (length st)) top)) m r.agree
+                (subst (λ (st : List ℕ). StandsFor code r.known (call.place + 1) st rest) nothing h.stands) r.shows;
             calls = refl;
             pending = refl;
             ending = refl;
@@ -189,10 +393,9 @@ module _ (p : Lowered) (classes : Classes) (space : Space) (lent : Lent) (k : �
   -- a return
   pub return_executes : IsReturn i → (after : Activation) → Executes p classes space lent k shared s rest after (effect_of (sight_of shared s) task) Returned
   return_executes is after =
-      does_cases code r.known call.place call.stack (slots_of call r.references) (sight_of shared s) rest (λ e. Executes p classes space lent k shared s rest after e Returned)
-      (λ tasks h. absurd (return_not_plain i is (let same : h.here ≡ i = cc (at, h.at) in plain_instr i call.stack call.numbers.items _ (subst (λ (j : Instr). plain_of j call.stack call.numbers.items ≡ Some (plain.Next, h.after, call.numbers.items)) same h.plain))))
-      (λ x v h. absurd (let same : i ≡ instr.Store h.slot = cc (at, h.at) in subst IsReturn same is))
-      (λ z h. absurd (let same : i ≡ instr.PutJint = cc (at, h.at) in subst IsReturn same is))
-      (λ line target f args h. absurd (let same : i ≡ instr.Call h.call = cc (at, h.at) in subst IsReturn same is))
-      (λ h. refl)
-      (effect_of (sight_of shared s) task) r.does
+      other_cases p space call code seen task rest r i at (λ effect. Executes p classes space lent k shared s rest after effect Returned) (no_return i is)
+      (λ test tasks h. absurd (no_return_test i is test))
+      (λ target h same. absurd (subst IsReturn same is))
+      (λ z h same. absurd (subst IsReturn same is))
+      (λ line target f args h same. absurd (subst IsReturn same is))
+      (λ returns. refl)

@@ -1,9 +1,9 @@
 -- A call of a function of the JNI does what the source's call does.
-use Rattle.std.proofs.Common.{◌≡◌, ℕ, zero, suc, pos, ◌<◌, ◌^◌, Bool, true, false, cond, eqb, List, [], ◌∷◌, length, Option, Some, None, Result, refl, sym, ap, ◌∙◌, subst}
+use Rattle.std.proofs.Common.{◌≡◌, ℕ, zero, suc, pos, ◌<◌, ◌^◌, Bool, true, false, cond, eqb, List, [], ◌∷◌, ◌++◌, ◌+◌, length, Option, Some, None, Result, refl, sym, ap, ◌∙◌, subst}
 use Rattle.std.specs.Prelude.{slice_get, slice_set, find, FitsSigned, Ok, Err, IsSome}
 use Rattle.std.specs.Option.{option_map, option_map_or}
 use Rattle.std.specs.Int.{w32}
-use Rattle.base.specs.Bytes.{Identifier}
+use Rattle.base.specs.Bytes.{Identifier, lookup}
 use Rattle.classes.specs.Class.{Classes, class_kind, is_plain}
 use Rattle.types.specs.JniFunction.{JniFunction, GetArrayLength}
 use Rattle.types.specs.Sorts.{Ref}
@@ -18,18 +18,20 @@ use Rattle.code.specs.declared.instr.ReferenceOperand.{ReferenceOperand}
 use Rattle.code.specs.declared.instr.ReferenceOperand.TheVariants.{Null, Local}
 use Rattle.code.specs.declared.instr.Target.{Target as Destination}
 use Rattle.code.specs.declared.instr.Target.TheVariants as destination
-use Rattle.code.specs.Depth.{Listing, depth_after}
+use Rattle.code.specs.Depth.{Listing, depth_after, Leaves}
 use Rattle.regions.specs.Arguments.{Actual, ReferenceActual}
-use Rattle.regions.specs.CallStep.{call_step}
-use Rattle.regions.specs.Effect.{Calls, effect_of}
+use Rattle.regions.specs.CallStep.{call_step, put, put_assigned, is_zero}
+use Rattle.regions.specs.Effect.{Calls, tasks_after, effect_of}
 use Rattle.regions.specs.Heap.{Heap, object_at, class_of, values_of}
-use Rattle.regions.specs.Sight.{Sight}
 use Rattle.regions.specs.Task.{Task, Target, ScalarKind, ReferenceKind, FieldKind, BufferKind, Declared, Assigned, Dropped, Tested}
 use Rattle.regions.specs.Thread as source
-use Rattle.regions.specs.Thread.{Lent, Shared, sight_of}
-use Rattle.regions.specs.Value.{Int}
-use Rattle.regions.specs.Variable.{Scalar, assign, as_static}
-use Rattle.lower.specs.Stands.{CallsFunction, IsCallee, IsOperand, TakesResult}
+use Rattle.regions.specs.Thread.{Lent, Shared}
+use Rattle.regions.specs.Value.{Value, Int}
+use Rattle.regions.specs.Variable.{Variables, Scalar, assign, as_static}
+use Rattle.lower.specs.Layout.{Known}
+use Rattle.lower.specs.Slots.{Visible, visible_to, Shows}
+use Rattle.lower.specs.Stands.{StandsFor}
+use Rattle.lower.specs.Does.{CallsFunction, IsCallee, IsOperand, TakesResult}
 use Rattle.lower.specs.Lowered.{Lowered}
 use Rattle.machine.specs.declared.stop.Trap.{Trap}
 use Rattle.machine.specs.declared.thread.Event.{Event}
@@ -40,9 +42,10 @@ use Rattle.machine.specs.Agrees.{CallStands, Executes, GoesOn, ReferencesAgree, 
 use Rattle.machine.specs.HeapAgrees.{ReferenceAgrees, WordsAgree, BlockAgrees, BlocksAgree}
 use Rattle.machine.specs.Invoked.{operand_at, held_in, length_operand, target_slot, HasArrayClass, LengthIs, HasWord, DidCall, Invoked}
 use Rattle.machine.specs.Stops.{trap_view}
-use Rattle.machine.proofs.Calls.{slots_of, Ready, HasMoved, stands_behind}
-use Rattle.machine.proofs.Effects.{call_cases, is_set}
-use Rattle.machine.proofs.LengthCalls.{length_of_null, length_of_plain, length_of_array}
+use Rattle.machine.proofs.Calls.{slots_of, Ready, HasMoved, stands_at, depth_behind}
+use Rattle.machine.proofs.Changes.{scalar_of, is_set}
+use Rattle.machine.proofs.Effects.{call_cases}
+use Rattle.machine.proofs.LengthCalls.{length_result, length_of_null, length_of_plain, length_of_array}
 
 -- ---- the object at an address
 
@@ -97,10 +100,10 @@ record OperandAgrees (space : Space) (addresses : List (Option ℕ)) (operand : 
   is : actual ≡ ReferenceActual name (as_static reference)
   agrees : ReferenceAgrees space (operand_at addresses operand) reference
 
-operand_agrees : (p : Lowered) (space : Space) (call : Activation) (code : Listing) (sight : Sight) (task : Task) (rest : List Task) (r : Ready p space call code sight task rest) (operand : ReferenceOperand) (actual : Actual)
-    → IsOperand code r.known call.place call.stack (slots_of call r.references) sight operand actual → OperandAgrees space call.references.items operand actual
-operand_agrees p space call code sight task rest r Null actual h = record { name = []; reference = None; is = h; agrees = tt }
-operand_agrees p space call code sight task rest r (Local i) actual h =
+operand_agrees : (p : Lowered) (space : Space) (call : Activation) (code : Listing) (visible : Visible) (task : Task) (rest : List Task) (r : Ready p space call code visible task rest) (operand : ReferenceOperand) (actual : Actual)
+    → IsOperand code r.known call.place call.stack (slots_of call r.references) visible operand actual → OperandAgrees space call.references.items operand actual
+operand_agrees p space call code visible task rest r Null actual h = record { name = h.0; reference = None; is = h.1; agrees = tt }
+operand_agrees p space call code visible task rest r (Local i) actual h =
     let shown = r.shows.each h.0 (record { sort = Ref; index = i }) h.2 in
     record {
       name = h.0;
@@ -123,7 +126,7 @@ is_address space (Some b) (Some n) a h e =
 
 -- ---- the call
 
-module _ (p : Lowered) (space : Space) (call : Activation) (code : Listing) (sight : Sight) (task : Task) (rest : List Task) (r : Ready p space call code sight task rest) where
+module _ (p : Lowered) (space : Space) (call : Activation) (code : Listing) (visible : Visible) (task : Task) (rest : List Task) (r : Ready p space call code visible task rest) where
   -- what an instruction of GetArrayLength has
   record IsLength (c : Callee) (f : JniFunction) (args : List Actual) : Type 0 where
     is : f ≡ GetArrayLength
@@ -137,92 +140,114 @@ module _ (p : Lowered) (space : Space) (call : Activation) (code : Listing) (sig
   with_operand operand f args a empty is one o =
       record { is = is; name = o.name; reference = o.reference; arguments = one ∙ ap (λ (x : Actual). x ∷ []) o.is; agrees = o.agrees; stack = empty }
 
-  is_length : (c : Callee) (f : JniFunction) (args : List Actual) → IsCallee code r.known call.place call.stack (slots_of call r.references) sight c f args → IsLength c f args
-  is_length (callee.GetArrayLength operand) f args h = with_operand operand f args h.2.0 h.0 h.1 h.2.1 (operand_agrees p space call code sight task rest r operand h.2.0 h.2.2)
+  is_length : (c : Callee) (f : JniFunction) (args : List Actual) → IsCallee code r.known call.place call.stack (slots_of call r.references) visible c f args → IsLength c f args
+  is_length (callee.GetArrayLength operand) f args h = with_operand operand f args h.2.0 h.0 h.1 h.2.1 (operand_agrees p space call code visible task rest r operand h.2.0 h.2.2)
 
   -- at an instruction that is a call
   module _ (i : Instr) (at : slice_get code.instrs call.place ≡ Some i) (function : Call) (is : i ≡ instr.Call function) where
-    given : (line : ℕ) (target : Target) (f : JniFunction) (args : List Actual) → CallsFunction code r.known call.place call.stack (slots_of call r.references) sight line target f args rest → IsLength function.function f args
+    given : (line : ℕ) (target : Target) (f : JniFunction) (args : List Actual) → CallsFunction code r.known call.place call.stack (slots_of call r.references) visible line target f args rest → IsLength function.function f args
     given line target f args h =
         let same : h.call ≡ function = let e : instr.Call h.call ≡ instr.Call function = cc (at, h.at, is) in cc in
-        is_length function.function f args (subst (λ (c : Call). IsCallee code r.known call.place call.stack (slots_of call r.references) sight c.function f args) same h.function)
+        is_length function.function f args (subst (λ (c : Call). IsCallee code r.known call.place call.stack (slots_of call r.references) visible c.function f args) same h.function)
 
     -- the operand is the address of a block
     pub object_there : (a : ℕ) → operand_at call.references.items (length_operand function.function) ≡ Some a → IsAddress space a
     object_there a e =
-        call_cases p space call code sight task rest r i at function is (λ e. IsAddress space a)
+        call_cases p space call code visible task rest r i at function is (λ e. IsAddress space a)
         (λ line target f args h. let l = given line target f args h in is_address space (operand_at call.references.items (length_operand function.function)) l.reference a l.agrees e)
 
     -- the slot of the result is there
     pub slot_there : target_slot function.target < length call.numbers.items
     slot_there =
-        call_cases p space call code sight task rest r i at function is (λ e. target_slot function.target < length call.numbers.items)
+        call_cases p space call code visible task rest r i at function is (λ e. target_slot function.target < length call.numbers.items)
         (λ line target f args h.
         let same : h.call ≡ function = let e : instr.Call h.call ≡ instr.Call function = cc (at, h.at, is) in cc in
-        within function.target target (subst (λ (c : Call). TakesResult code r.known call.place call.stack (slots_of call r.references) sight c.target target rest) same h.goes))
+        within function.target target (subst (λ (c : Call). TakesResult code r.known call.place call.stack (slots_of call r.references) visible c.target target rest) same h.goes))
       where
-        within : (d : Destination) (target : Target) → TakesResult code r.known call.place call.stack (slots_of call r.references) sight d target rest → target_slot d < length call.numbers.items
+        within : (d : Destination) (target : Target) → TakesResult code r.known call.place call.stack (slots_of call r.references) visible d target rest → target_slot d < length call.numbers.items
         within (destination.Number j) (Declared ScalarKind x) h = h.within
         within (destination.Number j) (Declared ReferenceKind x) h = absurd h
         within (destination.Number j) (Declared FieldKind x) h = absurd h
         within (destination.Number j) (Declared (BufferKind T) x) h = absurd h
-        within (destination.Number j) (Assigned x) h = absurd h
+        within (destination.Number j) (Assigned x) h = h.0.within
         within (destination.Number j) (Tested a b) h = absurd h
-        within (destination.Number j) Dropped h = absurd h
+        within (destination.Number j) Dropped h = h.within
 
-module _ (p : Lowered) (classes : Classes) (space : Space) (lent : Lent) (k : ℕ) (shared : Shared) (s : source.Thread) (call : Activation) (code : Listing) (task : Task) (rest : List Task) (r : Ready p space call code (sight_of shared s) task rest) where
-  abbrev sight : Sight
-  sight = sight_of shared s
+module _ (p : Lowered) (classes : Classes) (space : Space) (lent : Lent) (k : ℕ) (shared : Shared) (s : source.Thread) (call : Activation) (code : Listing) (task : Task) (rest : List Task) (r : Ready p space call code (visible_to shared s) task rest) where
+  abbrev seen : Visible
+  seen = visible_to shared s
 
   module _ (i : Instr) (at : slice_get code.instrs call.place ≡ Some i) (function : Call) (is : i ≡ instr.Call function) where
     -- a trap stops the thread where it is
-    trapped : (line : ℕ) (target : Target) (args : List Actual) (t : Trap) (after : Activation) (e : Event) → s.tasks ≡ Some (task ∷ rest) → CallStands p space call sight (task ∷ rest)
+    trapped : (line : ℕ) (target : Target) (args : List Actual) (t : Trap) (after : Activation) (e : Event) → s.tasks ≡ Some (task ∷ rest) → CallStands p space call seen (task ∷ rest)
         → call_step classes lent k shared s line target GetArrayLength args rest false ≡ source.Advances shared s (source.Trapped (trap_view t) line) → function.line ≡ line → (after ≡ call) × (e ≡ event.Trapped t function.line)
         → GoesOn p classes space lent k shared s rest after (Calls line target GetArrayLength args) e
     trapped line target args t after e tasks stands steps same did = record {
       next = s;
       steps = steps ∙ ap (λ (n : ℕ). source.Advances shared s (source.Trapped (trap_view t) n)) (sym same) ∙ ap (λ (v : Event). source.Advances shared s (event_view v)) (sym did.1);
-      work = rw tasks (subst (λ (c : Activation). CallStands p space c sight (task ∷ rest)) (sym did.0) stands);
+      work = rw tasks (subst (λ (c : Activation). CallStands p space c seen (task ∷ rest)) (sym did.0) stands);
       calls = refl;
       pending = refl;
       ending = refl;
     }
 
-    -- a length goes into its slot
-    length_goes : (line : ℕ) (target : Target) (x : Identifier) (n a m : ℕ) (after : Activation) (e : Event) (d : Destination) → function.target ≡ d → s.pending ≡ None → call.stack ≡ []
-        → TakesResult code r.known call.place call.stack (slots_of call r.references) sight d target rest
-        → IsObject space shared.heap a n → HasArrayClass classes space a → m ≡ length (values_at space a) → m < 2 ^ 31
-        → HasWord call (target_slot d) m after → e ≡ event.Quiet
+    -- a length went into its slot
+    went : (line : ℕ) (target : Target) (x : Identifier) (n a m j : ℕ) (after : Activation) (e : Event) (variables : Variables) (names : Known) → s.pending ≡ None → call.stack ≡ [] → IsObject space shared.heap a n → HasArrayClass classes space a
+        → m ≡ length (values_at space a) → HasWord call j m after → e ≡ event.Quiet
+        → put target (length_result shared.heap n) shared (record s { tasks = Some (tasks_after line target (is_zero (length_result shared.heap n)) ++ rest) }) ≡ source.Advances shared (record s { tasks = Some rest; variables = variables }) source.Quiet
+        → StandsFor code names (call.place + 1) [] rest
+        → Shows code names (visible_to shared (record s { tasks = Some rest; variables = variables })) (record { numbers = slice_set call.numbers.items j (length (values_of shared.heap n)); references = r.references })
         → GoesOn p classes space lent k shared s rest after (Calls line target GetArrayLength (ReferenceActual x (as_static (Some n)) ∷ [])) e
-    length_goes line (Declared ScalarKind y) x n a m after e (destination.Number j) to none empty goes object array long small word quiet =
+    went line target x n a m j after e variables names none empty object array long word quiet goes stands shows =
         let size : m ≡ length (values_of shared.heap n) = long ∙ object.count in
         let class : array.0 ≡ class_of shared.heap n = let same : Some array.0 ≡ Some (class_of shared.heap n) = sym array.1 ∙ object.class in cc in
         let kind : is_plain (class_kind classes (class_of shared.heap n)) ≡ false = ap (λ (c : ℕ). is_plain (class_kind classes c)) (sym class) ∙ array.2 in
-        let next : source.Thread = record s { tasks = Some rest; variables = assign y (Scalar (Int (pos (length (values_of shared.heap n))))) s.variables } in
-        let fits : FitsSigned w32 (pos (length (values_of shared.heap n))) = subst (λ (l : ℕ). FitsSigned w32 (pos l)) size (record { sfits = small }) in
-        let moved : HasMoved call after [] (slice_set call.numbers.items j (length (values_of shared.heap n))) =
+        let next : source.Thread = record s { tasks = Some rest; variables = variables } in
+        let moved : HasMoved call after (call.place + 1) [] (slice_set call.numbers.items j (length (values_of shared.heap n))) call.references.items =
         record { function = word.0; place = word.1; stack = word.2 ∙ empty; numbers = word.3 ∙ ap (slice_set call.numbers.items j) size; references = ap (λ v. v.items) word.4 } in
-        let deep : depth_after i (length call.stack) ≡ Some (length {A = ℕ} []) = ap (λ (o : Instr). depth_after o (length call.stack)) is ∙ ap (λ (st : List ℕ). Some (length st)) empty in
+        let deep : depth_after i (length call.stack) ≡ Some 0 = ap (λ (o : Instr). depth_after o (length call.stack)) is ∙ ap (λ (st : List ℕ). Some (length st)) empty in
         record {
           next = next;
-          steps = length_of_array classes shared s (Declared ScalarKind y) x none lent k line rest n kind ∙ ap (λ (v : Event). source.Advances shared next (event_view v)) (sym quiet);
-          work = stands_behind p space call code sight task rest r i at after [] (slice_set call.numbers.items j (length (values_of shared.heap n))) goes.names (sight_of shared next) rest deep moved goes.stands
-              (goes.shows (pos (length (values_of shared.heap n))) (sight_of shared next) fits (is_set shared s next y (Int (pos (length (values_of shared.heap n)))) refl));
+          steps = length_of_array classes shared s target x none lent k line rest n kind ∙ goes ∙ ap (λ (v : Event). source.Advances shared next (event_view v)) (sym quiet);
+          work = stands_at p space call code seen task rest r after (call.place + 1) [] (slice_set call.numbers.items j (length (values_of shared.heap n))) call.references.items r.references names (visible_to shared next) rest
+              (depth_behind p space call code seen task rest r i at 0 (λ leaves. subst Leaves is leaves) deep) moved r.agree stands shows;
           calls = refl;
           pending = refl;
           ending = refl;
         }
-    length_goes line (Declared ReferenceKind y) x n a m after e (destination.Number j) to none empty goes object array long small word quiet = absurd goes
-    length_goes line (Declared FieldKind y) x n a m after e (destination.Number j) to none empty goes object array long small word quiet = absurd goes
-    length_goes line (Declared (BufferKind T) y) x n a m after e (destination.Number j) to none empty goes object array long small word quiet = absurd goes
-    length_goes line (Assigned y) x n a m after e (destination.Number j) to none empty goes object array long small word quiet = absurd goes
-    length_goes line (Tested t f) x n a m after e (destination.Number j) to none empty goes object array long small word quiet = absurd goes
-    length_goes line Dropped x n a m after e (destination.Number j) to none empty goes object array long small word quiet = absurd goes
+
+    -- the length of an array as a `jint`
+    length_fits : (n a m : ℕ) → IsObject space shared.heap a n → m ≡ length (values_at space a) → m < 2 ^ 31 → FitsSigned w32 (pos (length (values_of shared.heap n)))
+    length_fits n a m object long small = let size : m ≡ length (values_of shared.heap n) = long ∙ object.count in subst (λ (l : ℕ). FitsSigned w32 (pos l)) size (record { sfits = small })
+
+    -- by where a length goes
+    length_goes : (line : ℕ) (target : Target) (x : Identifier) (n a m : ℕ) (after : Activation) (e : Event) (d : Destination) → s.pending ≡ None → call.stack ≡ []
+        → TakesResult code r.known call.place call.stack (slots_of call r.references) seen d target rest
+        → IsObject space shared.heap a n → HasArrayClass classes space a → m ≡ length (values_at space a) → m < 2 ^ 31
+        → HasWord call (target_slot d) m after → e ≡ event.Quiet
+        → GoesOn p classes space lent k shared s rest after (Calls line target GetArrayLength (ReferenceActual x (as_static (Some n)) ∷ [])) e
+    length_goes line (Declared ScalarKind y) x n a m after e (destination.Number j) none empty goes object array long small word quiet =
+        let v : Value = Int (pos (length (values_of shared.heap n))) in
+        let next : source.Thread = record s { tasks = Some rest; variables = assign y (Scalar v) s.variables } in
+        went line (Declared ScalarKind y) x n a m j after e (assign y (Scalar v) s.variables) goes.names none empty object array long word quiet refl goes.stands
+        (goes.shows (pos (length (values_of shared.heap n))) (visible_to shared next) (length_fits n a m object long small) (is_set shared s next y v refl))
+    length_goes line (Assigned y) x n a m after e (destination.Number j) none empty (goes, (old, number)) object array long small word quiet =
+        let v : Value = Int (pos (length (values_of shared.heap n))) in
+        let next : source.Thread = record s { tasks = Some rest; variables = assign y (Scalar v) s.variables } in
+        went line (Assigned y) x n a m j after e (assign y (Scalar v) s.variables) goes.names none empty object array long word quiet
+        (ap (put_assigned y (length_result shared.heap n) shared (record s { tasks = Some rest })) (scalar_of (lookup y s.variables) old number)) goes.stands
+        (goes.shows (pos (length (values_of shared.heap n))) (visible_to shared next) (length_fits n a m object long small) (is_set shared s next y v refl))
+    length_goes line Dropped x n a m after e (destination.Number j) none empty goes object array long small word quiet =
+        went line Dropped x n a m j after e s.variables r.known none empty object array long word quiet refl goes.stands (goes.shows (length (values_of shared.heap n)))
+    length_goes line (Declared ReferenceKind y) x n a m after e (destination.Number j) none empty goes object array long small word quiet = absurd goes
+    length_goes line (Declared FieldKind y) x n a m after e (destination.Number j) none empty goes object array long small word quiet = absurd goes
+    length_goes line (Declared (BufferKind T) y) x n a m after e (destination.Number j) none empty goes object array long small word quiet = absurd goes
+    length_goes line (Tested t f) x n a m after e (destination.Number j) none empty goes object array long small word quiet = absurd goes
 
     -- by what the operand is
-    by_operand : (line : ℕ) (target : Target) (x : Identifier) (o : Option ℕ) (q : Reference) (answer : Result ℕ Trap) (after : Activation) (e : Event) → s.tasks ≡ Some (task ∷ rest) → s.pending ≡ None → CallStands p space call sight (task ∷ rest)
+    by_operand : (line : ℕ) (target : Target) (x : Identifier) (o : Option ℕ) (q : Reference) (answer : Result ℕ Trap) (after : Activation) (e : Event) → s.tasks ≡ Some (task ∷ rest) → s.pending ≡ None → CallStands p space call seen (task ∷ rest)
         → BlocksAgree space shared.heap space.blocks → call.stack ≡ [] → function.line ≡ line
-        → TakesResult code r.known call.place call.stack (slots_of call r.references) sight function.target target rest
+        → TakesResult code r.known call.place call.stack (slots_of call r.references) seen function.target target rest
         → ReferenceAgrees space o q → LengthIs classes space o answer → DidCall function.line (target_slot function.target) call after answer e
         → GoesOn p classes space lent k shared s rest after (Calls line target GetArrayLength (ReferenceActual x (as_static q) ∷ [])) e
     by_operand line target x None None (Ok m) after e tasks none stands blocks empty same goes agrees length did = absurd length
@@ -232,7 +257,7 @@ module _ (p : Lowered) (classes : Classes) (space : Space) (lent : Lent) (k : �
     by_operand line target x None (Some n) answer after e tasks none stands blocks empty same goes agrees length did = absurd agrees
     by_operand line target x (Some a) None answer after e tasks none stands blocks empty same goes agrees length did = absurd agrees
     by_operand line target x (Some a) (Some n) (Ok m) after e tasks none stands blocks empty same goes agrees length did =
-        length_goes line target x n a m after e function.target refl none empty goes (is_object space shared.heap a n blocks agrees) length.0 length.1 length.2 did.0 did.1
+        length_goes line target x n a m after e function.target none empty goes (is_object space shared.heap a n blocks agrees) length.0 length.1 length.2 did.0 did.1
     by_operand line target x (Some a) (Some n) (Err t) after e tasks none stands blocks empty same goes agrees length did =
         let object = is_object space shared.heap a n blocks agrees in
         let plain = length.0 in
@@ -242,14 +267,14 @@ module _ (p : Lowered) (classes : Classes) (space : Space) (lent : Lent) (k : �
         (length_of_plain classes shared s target x none lent k line rest n kind ∙ ap (λ (u : Trap). source.Advances shared s (source.Trapped (trap_view u) line)) (sym length.1)) same did
 
     -- a call of a function
-    pub call_executes : (after : Activation) (e : Event) → s.tasks ≡ Some (task ∷ rest) → s.pending ≡ None → CallStands p space call sight (task ∷ rest) → BlocksAgree space shared.heap space.blocks
-        → Invoked classes space call function after e → Executes p classes space lent k shared s rest after (effect_of sight task) (Did e)
+    pub call_executes : (after : Activation) (e : Event) → s.tasks ≡ Some (task ∷ rest) → s.pending ≡ None → CallStands p space call seen (task ∷ rest) → BlocksAgree space shared.heap space.blocks
+        → Invoked classes space call function after e → Executes p classes space lent k shared s rest after (effect_of seen.sight task) (Did e)
     call_executes after e tasks none stands blocks did =
-        call_cases p space call code sight task rest r i at function is (λ effect. Executes p classes space lent k shared s rest after effect (Did e))
+        call_cases p space call code seen task rest r i at function is (λ effect. Executes p classes space lent k shared s rest after effect (Did e))
         (λ line target f args h.
         let same : h.call ≡ function = let both : instr.Call h.call ≡ instr.Call function = cc (at, h.at, is) in cc in
-        let l = given p space call code sight task rest r i at function is line target f args h in
-        let goes = subst (λ (c : Call). TakesResult code r.known call.place call.stack (slots_of call r.references) sight c.target target rest) same h.goes in
+        let l = given p space call code seen task rest r i at function is line target f args h in
+        let goes = subst (λ (c : Call). TakesResult code r.known call.place call.stack (slots_of call r.references) seen c.target target rest) same h.goes in
         let lines : function.line ≡ line = ap (λ (c : Call). c.line) (sym same) ∙ h.same_line in
         subst (λ (g : JniFunction). GoesOn p classes space lent k shared s rest after (Calls line target g args) e) (sym l.is)
         (subst (λ (more : List Actual). GoesOn p classes space lent k shared s rest after (Calls line target GetArrayLength more) e) (sym l.arguments)

@@ -14,6 +14,9 @@ pub mod LoadedObjects
 pub mod Loaded
 pub mod Arrays
 pub mod LengthCalls
+pub mod Changes
+pub mod Elements
+pub mod NullLaws
 pub mod Effects
 pub mod Invocations
 pub mod RowTexts

@@ -1,5 +1,5 @@
 -- Calls that load, and calls that don't.
-use Rattle.std.proofs.Common.{◌≡◌, ℕ, ℤ, zero, suc, pos, negsuc, ◌+◌, ◌<◌, ◌≤◌, Bool, true, false, List, [], ◌∷◌, ◌++◌, length, drop, map, Option, Some, None, refl, sym, ap, ◌∙◌, subst, arith, append_assoc, append-nil, get_or}
+use Rattle.std.proofs.Common.{◌≡◌, ℕ, ℤ, zero, suc, pos, negsuc, ◌+◌, ◌<◌, ◌≤◌, Bool, true, false, List, [], ◌∷◌, ◌++◌, length, drop, map, Option, Some, None, refl, sym, ap, ◌∙◌, subst, arith, append_assoc, append-nil}
 use Rattle.std.specs.Prelude.{slice_get, is_some, ◌&&◌, FitsSigned}
 use Rattle.std.specs.Int.{w32}
 use Rattle.std.specs.List.{list_all}
@@ -11,10 +11,8 @@ use Rattle.base.specs.Bytes.{Identifier}
 use Rattle.base.specs.Element.{JInt}
 use Rattle.base.specs.Options.{some_passes}
 use Rattle.syntax.specs.declared.unit.Function.{Function as FunctionInMemory}
-use Rattle.syntax.specs.declared.unit.Item.{Item}
-use Rattle.syntax.specs.declared.unit.Item.TheVariants as item
 use Rattle.syntax.specs.Tree.{SourceUnit, Function, Parameter, ParameterType, IntParameter, ReferenceParameter}
-use Rattle.syntax.specs.Views.{unit_tree, function_tree, parameter_tree}
+use Rattle.syntax.specs.Views.{unit_tree, function_tree}
 use Rattle.classes.specs.Class.{Classes, class_named}
 use Rattle.classes.specs.Mangling.{native_class}
 use Rattle.world.specs.CallArguments.{is_argument, are_arguments}
@@ -31,7 +29,6 @@ use Rattle.lower.specs.Slots.{ArgumentFits, ArgumentsFit}
 use Rattle.machine.specs.declared.thread.CallToCome.{CallToCome}
 use Rattle.machine.specs.Agrees.{CallAgrees, CallsAgree}
 use Rattle.machine.specs.Loading.{IsNumberOf, IsCallOf, refused_calls}
-use Rattle.machine.proofs.Names.{functions_get, item_there}
 
 -- ---- arguments
 
@@ -66,44 +63,40 @@ class_made classes made None c few h = absurd (cc)
 class_made classes made (Some name) c few h = let w = class_within classes name c h in (w.0, omega (arith, w.1))
 
 -- a call whose function and class are there, and whose arguments fit
-pub call_found : (p : Lowered) (classes : Classes) (made : ℕ) (call : CallScene) (next : CallToCome) (n : IsNumberOf p call.function next.function) → length classes ≤ made → option_and_then (class_named classes) (native_class call.function) ≡ Some next.class
-    → map argument_view next.arguments.items ≡ call.arguments → are_arguments made call ≡ true → fit_parameters n.function.parameters call.arguments ≡ true → IsCallOf p classes made (invocation_of call) (Some next)
-call_found p classes made call next n few known arguments given fits =
-    let class : class_of_function classes n.function ≡ Some next.class = ap (λ name. option_and_then (class_named classes) (native_class name)) n.has_name ∙ known in (
+pub call_found : (p : Lowered) (classes : Classes) (made : ℕ) (call : CallScene) (f : FunctionInMemory) (next : CallToCome) → IsNumberOf p call.function next.function f → length classes ≤ made → option_and_then (class_named classes) (native_class call.function) ≡ Some next.class
+    → map argument_view next.arguments.items ≡ call.arguments → are_arguments made call ≡ true → fit_parameters (function_tree f).parameters call.arguments ≡ true → IsCallOf p classes made (invocation_of call) (Some next)
+call_found p classes made call f next n few known arguments given fits =
+    let function : Function = function_tree f in
+    let class : class_of_function classes function ≡ Some next.class = ap (λ name. option_and_then (class_named classes) (native_class name)) n.has_name ∙ known in (
       record {
-        function = n.function;
+        function = function;
         named = n.named;
         numbered = n.numbered;
         of_class = class;
         class_made = class_made classes made (native_class call.function) next.class few known;
         arguments = arguments;
         given = given;
-        fit = arguments_fit made n.function.parameters call.arguments fits given;
+        fit = arguments_fit made function.parameters call.arguments fits given;
       },
-      ap (some_passes (is_callable classes call.arguments)) n.named ∙ and_from (is_some (class_of_function classes n.function)) (fit_parameters n.function.parameters call.arguments) (ap is_some class) fits,
+      ap (some_passes (is_callable classes call.arguments)) n.named ∙ and_from (is_some (class_of_function classes function)) (fit_parameters function.parameters call.arguments) (ap is_some class) fits,
     )
 
 -- a call whose class isn't there
-pub no_class : (p : Lowered) (classes : Classes) (call : CallScene) (number : ℕ) (n : IsNumberOf p call.function number) → option_and_then (class_named classes) (native_class call.function) ≡ None → call_loads (unit_tree p.unit) classes (invocation_of call) ≡ false
-no_class p classes call number n none =
-    let class : class_of_function classes n.function ≡ None = ap (λ name. option_and_then (class_named classes) (native_class name)) n.has_name ∙ none in
-    ap (some_passes (is_callable classes call.arguments)) n.named ∙ ap (λ (o : Option ℕ). is_some o && fit_parameters n.function.parameters call.arguments) class
+pub no_class : (p : Lowered) (classes : Classes) (call : CallScene) (number : ℕ) (f : FunctionInMemory) → IsNumberOf p call.function number f → option_and_then (class_named classes) (native_class call.function) ≡ None → call_loads (unit_tree p.unit) classes (invocation_of call) ≡ false
+no_class p classes call number f n none =
+    let function : Function = function_tree f in
+    let class : class_of_function classes function ≡ None = ap (λ name. option_and_then (class_named classes) (native_class name)) n.has_name ∙ none in
+    ap (some_passes (is_callable classes call.arguments)) n.named ∙ ap (λ (o : Option ℕ). is_some o && fit_parameters function.parameters call.arguments) class
 
 -- a call whose arguments don't fit
-pub no_fit : (p : Lowered) (classes : Classes) (call : CallScene) (number : ℕ) (n : IsNumberOf p call.function number) → fit_parameters n.function.parameters call.arguments ≡ false → call_loads (unit_tree p.unit) classes (invocation_of call) ≡ false
-no_fit p classes call number n none =
-    ap (some_passes (is_callable classes call.arguments)) n.named ∙ ap (λ (b : Bool). is_some (class_of_function classes n.function) && b) none ∙ and_none (is_some (class_of_function classes n.function))
+pub no_fit : (p : Lowered) (classes : Classes) (call : CallScene) (number : ℕ) (f : FunctionInMemory) → IsNumberOf p call.function number f → fit_parameters (function_tree f).parameters call.arguments ≡ false → call_loads (unit_tree p.unit) classes (invocation_of call) ≡ false
+no_fit p classes call number f n none =
+    let function : Function = function_tree f in
+    ap (some_passes (is_callable classes call.arguments)) n.named ∙ ap (λ (b : Bool). is_some (class_of_function classes function) && b) none ∙ and_none (is_some (class_of_function classes function))
   where
     and_none : (b : Bool) → (b && false) ≡ false
     and_none true = refl
     and_none false = refl
-
--- the parameters in memory are those of the function
-pub same_parameters : (p : Lowered) (name : List ℕ) (number : ℕ) (n : IsNumberOf p name number) (x : Item) (f : FunctionInMemory) → x ≡ get_or p.unit number x → x ≡ item.Function f → n.function.parameters ≡ map parameter_tree f.parameters.items
-same_parameters p name number n x f h is =
-    let named = functions_get p.unit number f (item_there p.unit number x f n.there h is) in
-    let same : n.function ≡ function_tree f = cc (sym n.numbered, named) in
-    ap (λ (g : Function). g.parameters) same
 
 -- the calls from a place on
 calls_drop : (calls : List CallScene) (i : ℕ) (x : CallScene) → slice_get calls i ≡ Some x → drop i calls ≡ x ∷ drop (i + 1) calls

@@ -28,7 +28,7 @@ use Rattle.machine.specs.declared.stop.Stop.{Stop}
 use Rattle.machine.specs.Stops.{stop_view, stop_after}
 use Rattle.regions.specs.Heap.{Heap}
 use Rattle.machine.specs.HeapAgrees.{BlocksAgree, IsTable}
-use Rattle.machine.specs.Agrees.{ThreadAgrees, ThreadsAgree, Advances, ending_view, event_view}
+use Rattle.machine.specs.Agrees.{StaticsAgree, ThreadAgrees, ThreadsAgree, Advances, ending_view, event_view}
 use Rattle.machine.specs.Run.{Corresponds, printed_after, entry_of, HasEnded}
 use Rattle.machine.proofs.Threads.{unblocked}
 
@@ -82,7 +82,7 @@ threads_next s k t (event.Trapped trap line) = refl
 -- the thread took the step that the source's thread takes, whatever state it stands for
 abbrev pub AdvancesAlways : Lowered → Classes → Space → (addresses : List ℕ) → Thread → Thread → Event → Type 0
 AdvancesAlways p classes space addresses t after e =
-    (lent : Lent) (k : ℕ) (shared : Shared) (s : source.Thread) → shared.monitors ≡ [] → BlocksAgree space shared.heap space.blocks → IsTable space addresses (length addresses) → ThreadAgrees p classes space (length addresses) shared t s
+    (lent : Lent) (k : ℕ) (shared : Shared) (s : source.Thread) → shared.monitors ≡ [] → StaticsAgree p shared → BlocksAgree space shared.heap space.blocks → IsTable space addresses (length addresses) → ThreadAgrees p classes space (length addresses) shared t s
     → Advances p classes space (length addresses) lent k shared s after e
 
 -- ---- thread k of the state that the journal leads to, which is the machine's at i
@@ -121,7 +121,7 @@ module _ (p : Lowered) (scene : Scene) (space : Space) (addresses : List ℕ) (t
       let f = the_thread in
       let blocks = subst (λ (h : Heap). BlocksAgree space h space.blocks) (sym c.heap) c.blocks.agree.blocks in
       let table : IsTable space addresses (length addresses) = record { counted = refl; named = c.blocks.table.named } in
-      let a = advances (lent c.state) k c.state.shared f.source c.monitors blocks table f.agrees in
+      let a = advances (lent c.state) k c.state.shared f.source c.monitors c.statics blocks table f.agrees in
       let next = next_state c.state k a.next e in
       let step : world_step (unit_tree p.unit) classes c.state (entry_of k) ≡ Some next =
       step-thread (unit_tree p.unit) classes c.state k f.source false (steps_here goes live) ∙ ap (advanced c.state k) a.steps in
@@ -132,6 +132,7 @@ module _ (p : Lowered) (scene : Scene) (space : Space) (addresses : List ℕ) (t
         threads_agree = subst (λ (x : Shared). ThreadsAgree p classes space (length addresses) x (slice_set ts i after) next.threads) (sym (shared_next c.state k a.next e)) (subst (ThreadsAgree p classes space (length addresses) c.state.shared (slice_set ts i after)) (sym (threads_next c.state k a.next e ∙ ap (λ n. set_thread c.state.threads n a.next) counted)) (changed p classes space (length addresses) c.state.shared ts c.state.threads i after a.next c.threads_agree a.agrees));
         same_printed = printed_next c.state k a.next e ∙ ap (λ l. printed_after l k e) c.same_printed;
         same_stop = stop_next c.state k a.next e stop c.same_stop;
+        statics = ap (λ (x : Shared). x.statics) (shared_next c.state k a.next e) ∙ c.statics;
         heap = ap (λ (x : Shared). x.heap) (shared_next c.state k a.next e) ∙ c.heap;
         blocks = c.blocks;
         monitors = ap (λ (x : Shared). x.monitors) (shared_next c.state k a.next e) ∙ c.monitors;

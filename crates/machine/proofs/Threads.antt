@@ -1,35 +1,39 @@
 -- A thread's step is that of the source's thread.
-use Rattle.std.proofs.Common.{◌≡◌, ℕ, zero, suc, ◌+◌, ◌-◌, ◌<◌, ◌≤◌, Bool, true, false, List, [], ◌∷◌, ◌++◌, length, filter_map, replicate, take, Option, Some, None, refl, sym, ap, ◌∙◌, subst, arith}
-use Rattle.std.specs.Prelude.{slice_get, nat_lt, nat_le, ◌&&◌}
-use Rattle.std.specs.List.{list_all}
+use Rattle.std.proofs.Common.{◌≡◌, ℕ, zero, suc, ◌+◌, ◌-◌, ◌<◌, ◌≤◌, Bool, true, false, List, [], ◌∷◌, ◌++◌, length, filter_map, map, replicate, Option, Some, None, refl, sym, ap, ◌∙◌, subst, arith, append_assoc, if◌then◌else◌}
+use Rattle.std.specs.Prelude.{slice_get, nat_lt, nat_le, ◌&&◌, ◌||◌, IsTrue}
+use Rattle.std.specs.List.{list_all, list_any}
+use Rattle.std.specs.Str.{bytes_eq}
 use Rattle.std.specs.Option.{option_map}
 use Rattle.std.proofs.lemmas.Bool.Decides.{nat_tests}
-use Rattle.syntax.specs.Parts.{functions_of}
-use Rattle.syntax.specs.Tree.{Function}
+use Rattle.syntax.specs.Parts.{functions_of, statics_of}
+use Rattle.syntax.specs.Tree.{Static, Function, Item, StaticItem, FunctionItem}
 use Rattle.syntax.specs.Views.{unit_tree}
+use Rattle.base.specs.Bytes.{Identifier, lookup}
 use Rattle.classes.specs.Class.{Classes}
 use Rattle.heap.specs.Heap.{Space}
 use Rattle.types.specs.JniFunction.{JniFunction}
+use Rattle.types.specs.Sorts.{Global}
 use Rattle.world.specs.CallArguments.{is_argument}
 use Rattle.world.specs.Object.{ObjectValue, Number, Refers, Reference}
 use Rattle.world.specs.World.{Invocation}
 use Rattle.code.specs.declared.instr.Callee.{Callee}
 use Rattle.code.specs.declared.instr.Callee.TheVariants as callee
-use Rattle.code.specs.Depth.{Listing, depths}
+use Rattle.code.specs.Depth.{Listing, depth_at}
 use Rattle.regions.specs.Activation.{enter, entered, entered_function, entry_advance, return_step, monitors_after, calls_after}
 use Rattle.regions.specs.Activation as activation
 use Rattle.regions.specs.Arguments.{Actual}
 use Rattle.regions.specs.CallStep.{waits_with}
 use Rattle.regions.specs.Effect.{Calls, Returns, effect_of}
-use Rattle.regions.specs.Sight.{Sight}
-use Rattle.regions.specs.Start.{waiting_thread}
+use Rattle.regions.specs.Start.{null_static, waiting_thread}
 use Rattle.regions.specs.Task.{Task, Target, tasks_of}
 use Rattle.regions.specs.Thread as source
 use Rattle.regions.specs.Thread.{Lent, Shared, Monitor, sight_of, without_owner}
+use Rattle.regions.specs.Variable.{Empty, Statics}
 use Rattle.regions.specs.ThreadStep.{thread_step, step_within, after_effect, next_effect, waits}
-use Rattle.lower.specs.Layout.{Known, entry_layout}
-use Rattle.lower.specs.Slots.{Slots, EntrySlots, HasRoom, argument_word, argument_reference}
-use Rattle.lower.specs.Stands.{StandsFor, IsCallee}
+use Rattle.lower.specs.Layout.{Slot, Known, with_static, entry_layout}
+use Rattle.lower.specs.Slots.{Visible, Slots, visible_to, EntrySlots, HasRoom, AreNull, argument_word, argument_reference}
+use Rattle.lower.specs.Stands.{StandsFor}
+use Rattle.lower.specs.Does.{IsCallee}
 use Rattle.lower.specs.Lowered.{Lowered, IsLowered, IsCodeOf, AreCodesOf}
 use Rattle.machine.specs.declared.thread.Ending.{Ending}
 use Rattle.machine.specs.declared.thread.Ending.TheVariants.{Unfinished}
@@ -38,45 +42,45 @@ use Rattle.machine.specs.declared.thread.Event.TheVariants as event
 use Rattle.machine.specs.declared.thread.Thread.{Thread}
 use Rattle.machine.specs.declared.thread.CallToCome.{CallToCome}
 use Rattle.machine.specs.declared.thread.Activation.{Activation}
-use Rattle.machine.specs.Agrees.{CallAgrees, CallsAgree, CallStands, WorkAgrees, ReferencesAgree, ThreadAgrees, GoesOn, Advances, ending_view, ending_after}
+use Rattle.machine.specs.Agrees.{StaticsAgree, CallAgrees, CallsAgree, CallStands, WorkAgrees, ReferencesAgree, ThreadAgrees, GoesOn, Advances, ending_view, ending_after}
 use Rattle.machine.specs.Entry.{argument_address, Begins, IsReady}
 use Rattle.machine.specs.HeapAgrees.{ReferenceAgrees, IsTable}
-use Rattle.machine.proofs.Calls.{ready, slots_of, does_cases}
+use Rattle.machine.proofs.Calls.{ready, slots_of, does_cases, agree_count}
 
 -- ---- work
 
 -- the tasks that a call in progress stands for
-pub record Working (p : Lowered) (space : Space) (call : Activation) (sight : Sight) (tasks : Option (List Task)) : Type 0 where
+pub record Working (p : Lowered) (space : Space) (call : Activation) (visible : Visible) (tasks : Option (List Task)) : Type 0 where
   pub task : Task
   pub rest : List Task
   pub is : tasks ≡ Some (task ∷ rest)
-  pub stands : CallStands p space call sight (task ∷ rest)
+  pub stands : CallStands p space call visible (task ∷ rest)
 
-pub working : (p : Lowered) (space : Space) (sight : Sight) (o : Option Activation) (call : Activation) (tasks : Option (List Task)) → WorkAgrees p space sight o tasks → o ≡ Some call → Working p space call sight tasks
-working p space sight None call tasks w e = absurd (cc)
-working p space sight (Some x) call None w e = absurd w
-working p space sight (Some x) call (Some []) w e = absurd w.stands
-working p space sight (Some x) call (Some (task ∷ rest)) w e = record { task = task; rest = rest; is = refl; stands = let same : x ≡ call = cc in subst (λ a. CallStands p space a sight (task ∷ rest)) same w }
+pub working : (p : Lowered) (space : Space) (visible : Visible) (o : Option Activation) (call : Activation) (tasks : Option (List Task)) → WorkAgrees p space visible o tasks → o ≡ Some call → Working p space call visible tasks
+working p space visible None call tasks w e = absurd (cc)
+working p space visible (Some x) call None w e = absurd w
+working p space visible (Some x) call (Some []) w e = absurd (cc (w.stands.returns))
+working p space visible (Some x) call (Some (task ∷ rest)) w e = record { task = task; rest = rest; is = refl; stands = let same : x ≡ call = cc in subst (λ a. CallStands p space a visible (task ∷ rest)) same w }
 
 -- no call is in progress
-pub resting : (p : Lowered) (space : Space) (sight : Sight) (o : Option Activation) (tasks : Option (List Task)) → WorkAgrees p space sight o tasks → o ≡ None → tasks ≡ None
-resting p space sight None None w e = refl
-resting p space sight None (Some tasks) w e = absurd w
-resting p space sight (Some x) tasks w e = absurd (cc)
+pub resting : (p : Lowered) (space : Space) (visible : Visible) (o : Option Activation) (tasks : Option (List Task)) → WorkAgrees p space visible o tasks → o ≡ None → tasks ≡ None
+resting p space visible None None w e = refl
+resting p space visible None (Some tasks) w e = absurd w
+resting p space visible (Some x) tasks w e = absurd (cc)
 
 -- no thread waits for a monitor
-never_waits : (p : Lowered) (space : Space) (classes : Classes) (k : ℕ) (shared : Shared) (s : source.Thread) (call : Activation) (task : Task) (rest : List Task) → IsLowered p → CallStands p space call (sight_of shared s) (task ∷ rest) → waits_with classes k shared s (effect_of (sight_of shared s) task) ≡ false
+never_waits : (p : Lowered) (space : Space) (classes : Classes) (k : ℕ) (shared : Shared) (s : source.Thread) (call : Activation) (task : Task) (rest : List Task) → IsLowered p → CallStands p space call (visible_to shared s) (task ∷ rest) → waits_with classes k shared s (effect_of (sight_of shared s) task) ≡ false
 never_waits p space classes k shared s call task rest l w =
-    let r = ready p space call w.code (sight_of shared s) task rest l w.of_function w in
-    does_cases w.code r.known call.place call.stack (slots_of call r.references) (sight_of shared s) rest (λ e. waits_with classes k shared s e ≡ false)
-    (λ tasks h. refl) (λ x v h. refl) (λ z h. refl)
-    (λ line target f args h. no_monitor w.code r.known call.place call.stack (slots_of call r.references) (sight_of shared s) line target h.call.function f args h.function)
-    (λ h. refl) (effect_of (sight_of shared s) task) r.does
+    let r = ready p space call w.code (visible_to shared s) task rest l w.of_function w in
+    does_cases w.code r.known call.place call.stack (slots_of call r.references) (visible_to shared s) rest (λ e. waits_with classes k shared s e ≡ false)
+    (λ tasks h. refl) (λ x v h. refl) (λ target h. refl) (λ x i z t a h. refl) (λ t x n h. refl) (λ z h. refl)
+    (λ line target f args h. no_monitor w.code r.known call.place call.stack (slots_of call r.references) (visible_to shared s) line target h.call.function f args h.function)
+    (λ h. refl) (λ trap line h. refl) (effect_of (sight_of shared s) task) r.does
   where
-    no_monitor : (code : Listing) (known : Known) (place : ℕ) (stack : List ℕ) (slots : Slots) (sight : Sight) (line : ℕ) (target : Target) (c : Callee) (f : JniFunction) (args : List Actual) → IsCallee code known place stack slots sight c f args → waits_with classes k shared s (Calls line target f args) ≡ false
-    no_monitor code known place stack slots sight line target (callee.GetArrayLength operand) f args h = ap (λ (g : JniFunction). waits_with classes k shared s (Calls line target g args)) h.1
+    no_monitor : (code : Listing) (known : Known) (place : ℕ) (stack : List ℕ) (slots : Slots) (visible : Visible) (line : ℕ) (target : Target) (c : Callee) (f : JniFunction) (args : List Actual) → IsCallee code known place stack slots visible c f args → waits_with classes k shared s (Calls line target f args) ≡ false
+    no_monitor code known place stack slots visible line target (callee.GetArrayLength operand) f args h = ap (λ (g : JniFunction). waits_with classes k shared s (Calls line target g args)) h.1
 
-not_waiting : (p : Lowered) (space : Space) (classes : Classes) (k : ℕ) (shared : Shared) (s : source.Thread) (o : Option Activation) (tasks : Option (List Task)) → IsLowered p → WorkAgrees p space (sight_of shared s) o tasks → waits_with classes k shared s (next_effect shared s tasks) ≡ false
+not_waiting : (p : Lowered) (space : Space) (classes : Classes) (k : ℕ) (shared : Shared) (s : source.Thread) (o : Option Activation) (tasks : Option (List Task)) → IsLowered p → WorkAgrees p space (visible_to shared s) o tasks → waits_with classes k shared s (next_effect shared s tasks) ≡ false
 not_waiting p space classes k shared s None None l w = refl
 not_waiting p space classes k shared s None (Some tasks) l w = absurd w
 not_waiting p space classes k shared s (Some call) None l w = absurd w
@@ -95,7 +99,7 @@ module _ (p : Lowered) (classes : Classes) (space : Space) (made : ℕ) (lent : 
   steps_by task rest tasks = ap (step_within (unit_tree p.unit) classes lent k shared s false) tasks
 
   -- an instruction but a return
-  pub did : (call : Activation) (e : Event) (w : Working p space call (sight_of shared s) s.tasks) (after : Activation) → GoesOn p classes space lent k shared s w.rest after (effect_of (sight_of shared s) w.task) e → Advances p classes space made lent k shared s (record t { call = Some after }) e
+  pub did : (call : Activation) (e : Event) (w : Working p space call (visible_to shared s) s.tasks) (after : Activation) → GoesOn p classes space lent k shared s w.rest after (effect_of (sight_of shared s) w.task) e → Advances p classes space made lent k shared s (record t { call = Some after }) e
   did call e w after g = record {
     next = g.next;
     steps = steps_by w.task w.rest w.is ∙ g.steps;
@@ -104,7 +108,7 @@ module _ (p : Lowered) (classes : Classes) (space : Space) (made : ℕ) (lent : 
       work = g.work;
       pending = g.pending ∙ h.pending;
       ending = g.ending ∙ h.ending;
-      busy = λ a b c. subst (λ (o : Option (List Task)). WorkAgrees p space (sight_of shared g.next) (Some after) o) b g.work;
+      busy = λ a b c. subst (λ (o : Option (List Task)). WorkAgrees p space (visible_to shared g.next) (Some after) o) b g.work;
     };
   }
 
@@ -152,7 +156,7 @@ something_to_do p classes made [] calls ending h o e = cc
 something_to_do p classes made (n ∷ nexts) [] ending h o e = h
 something_to_do p classes made (n ∷ nexts) (c ∷ calls) ending h o e = cc
 
-pub returned : (p : Lowered) (classes : Classes) (space : Space) (made : ℕ) (lent : Lent) (k : ℕ) (shared : Shared) (none_owned : shared.monitors ≡ []) (t : Thread) (s : source.Thread) (h : ThreadAgrees p classes space made shared t s) (call : Activation) (w : Working p space call (sight_of shared s) s.tasks)
+pub returned : (p : Lowered) (classes : Classes) (space : Space) (made : ℕ) (lent : Lent) (k : ℕ) (shared : Shared) (none_owned : shared.monitors ≡ []) (t : Thread) (s : source.Thread) (h : ThreadAgrees p classes space made shared t s) (call : Activation) (w : Working p space call (visible_to shared s) s.tasks)
     → t.ending ≡ Unfinished → effect_of (sight_of shared s) w.task ≡ Returns
     → Advances p classes space made lent k shared s (record { calls = t.calls; call = None; ending = ending_after t.calls.items t.ending }) event.Quiet
 returned p classes space made lent k shared none_owned t s h call w o is = record {
@@ -169,13 +173,74 @@ returned p classes space made lent k shared none_owned t s h call w o is = recor
 
 -- ---- an entry
 
--- the code of a function
-code_of : (functions : List Function) (codes : List Listing) (n : ℕ) (f : Function) → AreCodesOf functions codes → slice_get functions n ≡ Some f → (code : Listing) × (slice_get codes n ≡ Some code) × IsCodeOf f code
-code_of [] [] n f h e = absurd (cc)
-code_of [] (c ∷ codes) n f h e = absurd h
-code_of (g ∷ functions) [] n f h e = absurd h
-code_of (g ∷ functions) (c ∷ codes) zero f h e = (c, refl, let s : g ≡ f = cc in subst (λ x. IsCodeOf x c) s h.0)
-code_of (g ∷ functions) (c ∷ codes) (suc n) f h e = code_of functions codes n f h.1 e
+-- the statics before a function are among those of the file
+abbrev AreAmongStatics : (statics : Known) → List Static → Type 0
+AreAmongStatics statics all = (x : Identifier) (slot : Slot) → lookup x statics ≡ Some slot → IsTrue (list_any (λ (g : Static). bytes_eq x g.name) all)
+
+-- a function's code, behind statics of the file
+record HasCode (all : List Static) (codes : List Listing) (n : ℕ) (f : Function) : Type 0 where
+  code : Listing
+  at : slice_get codes n ≡ Some code
+  statics : Known
+  among : AreAmongStatics statics all
+  is : IsCodeOf statics f code
+
+-- so it is one behind a code more
+later : (all : List Static) (c : Listing) (codes : List Listing) (n : ℕ) (f : Function) → HasCode all codes n f → HasCode all (c ∷ codes) (suc n) f
+later all c codes n f h = record { code = h.code; at = h.at; statics = h.statics; among = h.among; is = h.is }
+
+any_there : (x : Identifier) (front : List Static) (s : Static) (back : List Static) → bytes_eq x s.name ≡ true → IsTrue (list_any (λ (g : Static). bytes_eq x g.name) (front ++ s ∷ back))
+any_there x [] s back h = rw h refl
+any_there x (g ∷ front) s back h = either (bytes_eq x g.name) (any_there x front s back h)
+  where
+    either : (b : Bool) {c : Bool} → c ≡ true → (b || c) ≡ true
+    either true h = refl
+    either false h = h
+
+one_more_static : (statics : Known) (front : List Static) (s : Static) (back : List Static) → AreAmongStatics statics (front ++ s ∷ back) → AreAmongStatics (with_static s statics) (front ++ s ∷ back)
+one_more_static statics front s back among x slot h = by_test (bytes_eq x s.name) refl h
+  where
+    by_test : (b : Bool) → bytes_eq x s.name ≡ b → (if b then Some (record { sort = Global; index = length statics }) else lookup x statics) ≡ Some slot → IsTrue (list_any (λ (g : Static). bytes_eq x g.name) (front ++ s ∷ back))
+    by_test true e k = any_there x front s back e
+    by_test false e k = among x slot k
+
+-- the statics of items
+abbrev statics_in : List Item → List Static
+statics_in items = filter_map (elim [ StaticItem s ↦ Some s | FunctionItem f ↦ None ]) items
+
+abbrev functions_in : List Item → List Function
+functions_in items = filter_map (elim [ StaticItem s ↦ None | FunctionItem f ↦ Some f ]) items
+
+-- the code of a function, where these statics stand in front of the items
+code_among : (front : List Static) (statics : Known) (items : List Item) (codes : List Listing) (n : ℕ) (f : Function) → AreAmongStatics statics (front ++ statics_in items) → AreCodesOf statics items codes → slice_get (functions_in items) n ≡ Some f
+    → HasCode (front ++ statics_in items) codes n f
+code_among front statics [] [] n f among h e = absurd (cc)
+code_among front statics [] (c ∷ codes) n f among h e = absurd h
+code_among front statics (StaticItem s ∷ items) codes n f among h e =
+    let same : (front ++ s ∷ []) ++ statics_in items ≡ front ++ s ∷ statics_in items = append_assoc front (s ∷ []) (statics_in items) in
+    subst (λ (all : List Static). HasCode all codes n f) same
+    (code_among (front ++ s ∷ []) (with_static s statics) items codes n f (subst (AreAmongStatics (with_static s statics)) (sym same) (one_more_static statics front s (statics_in items) among)) h e)
+code_among front statics (FunctionItem g ∷ items) [] n f among h e = absurd h
+code_among front statics (FunctionItem g ∷ items) (c ∷ codes) zero f among h e = record { code = c; at = refl; statics = statics; among = among; is = let s : g ≡ f = cc in subst (λ (x : Function). IsCodeOf statics x c) s h.0 }
+code_among front statics (FunctionItem g ∷ items) (c ∷ codes) (suc n) f among h e = later (front ++ statics_in items) c codes n f (code_among front statics items codes n f among h.1 e)
+
+code_of : (p : Lowered) (n : ℕ) (f : Function) → IsLowered p → slice_get (functions_of (unit_tree p.unit)) n ≡ Some f → HasCode (statics_of (unit_tree p.unit)) p.codes n f
+code_of p n f lowered e = code_among [] [] (unit_tree p.unit).items p.codes n f (λ x slot h. absurd (cc)) lowered e
+
+-- ---- statics
+
+-- a static of the file holds NULL
+null_in : (x : Identifier) (all : List Static) → IsTrue (list_any (λ (g : Static). bytes_eq x g.name) all) → lookup x (map null_static all) ≡ Some Empty
+null_in x [] h = absurd (cc)
+null_in x (g ∷ all) h = by_test (bytes_eq x g.name) h (λ k. null_in x all k)
+  where
+    by_test : (b : Bool) → IsTrue (b || list_any (λ (g : Static). bytes_eq x g.name) all) → (IsTrue (list_any (λ (g : Static). bytes_eq x g.name) all) → lookup x (map null_static all) ≡ Some Empty) → (if b then Some Empty else lookup x (map null_static all)) ≡ Some Empty
+    by_test true k further = refl
+    by_test false k further = further k
+
+-- the statics that are known are NULL
+statics_null : (p : Lowered) (shared : Shared) (statics : Known) → StaticsAgree p shared → AreAmongStatics statics (statics_of (unit_tree p.unit)) → AreNull statics shared
+statics_null p shared statics agree among x slot h = ap (λ (ss : Statics). lookup x ss) agree ∙ null_in x (statics_of (unit_tree p.unit)) (among x slot h)
 
 -- the next call to come
 pub record Coming (p : Lowered) (classes : Classes) (made : ℕ) (n : CallToCome) (nexts : List CallToCome) (calls : List Invocation) : Type 0 where
@@ -196,13 +261,13 @@ coming p classes made n (x ∷ xs) nexts (c ∷ calls) h e =
 -- a call to come is ready
 pub ready_to_begin : (p : Lowered) (classes : Classes) (made : ℕ) (n : CallToCome) (call : Invocation) → IsLowered p → CallAgrees p classes made n call → IsReady p made n
 ready_to_begin p classes made n call lowered f =
-    let code = code_of (functions_of (unit_tree p.unit)) p.codes n.function f.function lowered f.numbered in
+    let code = code_of p n.function f.function lowered f.numbered in
     record {
       class = f.class_made;
       given = ap (λ (vs : List ObjectValue). list_all (is_argument made) vs) f.arguments ∙ f.given;
-      code = code.0;
-      of_function = code.1;
-      room = subst (λ (vs : List ObjectValue). HasRoom code.0 vs) (sym f.arguments) (code.2.room call.arguments f.fit);
+      code = code.code;
+      of_function = code.at;
+      room = subst (λ (vs : List ObjectValue). HasRoom code.code vs) (sym f.arguments) (code.is.room call.arguments f.fit);
     }
 
 -- ---- what the slots of references hold at the entry
@@ -243,19 +308,13 @@ module _ (space : Space) (loaded : List ℕ) (made : ℕ) (table : IsTable space
       let w = within n b.0 in
       (made_agrees n w.0 w.1, given_agree vs k b.1)
 
-agree_count : (space : Space) (addresses : List (Option ℕ)) (references : List Reference) → ReferencesAgree space addresses references → length references ≡ length addresses
-agree_count space [] [] h = refl
-agree_count space [] (r ∷ rs) h = absurd h
-agree_count space (a ∷ addresses) [] h = absurd h
-agree_count space (a ∷ addresses) (r ∷ rs) h = ap suc (agree_count space addresses rs h.1)
-
 -- the call stands for the function's statements
-begun : (p : Lowered) (classes : Classes) (space : Space) (loaded : List ℕ) (made : ℕ) (shared : Shared) (s : source.Thread) (rest : List Invocation) (n : CallToCome) (c : Invocation) (call : Activation) → IsLowered p → IsTable space loaded made → (f : CallAgrees p classes made n c) → Begins p loaded n call
-    → CallStands p space call (sight_of shared (entered s rest f.function n.class c.arguments)) (tasks_of f.function.body)
-begun p classes space loaded made shared s rest n c call lowered table f b =
-    let found = code_of (functions_of (unit_tree p.unit)) p.codes n.function f.function lowered f.numbered in
-    let same : found.0 ≡ b.code = cc (found.1, b.of_function) in
-    let is_code = subst (λ (k : Listing). IsCodeOf f.function k) same found.2 in
+begun : (p : Lowered) (classes : Classes) (space : Space) (loaded : List ℕ) (made : ℕ) (shared : Shared) (s : source.Thread) (rest : List Invocation) (n : CallToCome) (c : Invocation) (call : Activation) → IsLowered p → IsTable space loaded made → StaticsAgree p shared → (f : CallAgrees p classes made n c) → Begins p loaded n call
+    → CallStands p space call (visible_to shared (entered s rest f.function n.class c.arguments)) (tasks_of f.function.body)
+begun p classes space loaded made shared s rest n c call lowered table statics f b =
+    let found = code_of p n.function f.function lowered f.numbered in
+    let same : found.code ≡ b.code = cc (found.at, b.of_function) in
+    let is_code = subst (λ (k : Listing). IsCodeOf found.statics f.function k) same found.is in
     let begins = b.begins in
     let words = begins.numbers in
     let slots = begins.references in
@@ -276,18 +335,18 @@ begun p classes space loaded made shared s rest n c call lowered table f b =
     record {
       code = b.code;
       of_function = ap (slice_get p.codes) begins.function ∙ b.of_function;
-      known = (entry_layout f.function).known;
-      stands = subst (λ (m : ℕ). StandsFor b.code (entry_layout f.function).known m call.stack (tasks_of f.function.body)) (sym begins.place)
-          (subst (λ (st : List ℕ). StandsFor b.code (entry_layout f.function).known 0 st (tasks_of f.function.body)) (sym begins.stack) is_code.begins);
+      known = (entry_layout found.statics f.function).known;
+      stands = subst (λ (m : ℕ). StandsFor b.code (entry_layout found.statics f.function).known m call.stack (tasks_of f.function.body)) (sym begins.place)
+          (subst (λ (st : List ℕ). StandsFor b.code (entry_layout found.statics f.function).known 0 st (tasks_of f.function.body)) (sym begins.stack) is_code.begins);
       references = references;
       agree = agree;
-      shows = is_code.shows shared s rest n.class c.arguments (record { numbers = call.numbers.items; references = references }) f.fit entry;
-      depth = ap (λ (m : ℕ). depths (take m b.code.instrs) 0) begins.place ∙ ap (λ (st : List ℕ). Some (length st)) (sym begins.stack);
+      shows = is_code.shows shared s rest n.class c.arguments (record { numbers = call.numbers.items; references = references }) f.fit entry (statics_null p shared found.statics statics found.among);
+      depth = ap (depth_at b.code.instrs) begins.place ∙ ap (λ (st : List ℕ). Some (length st)) (sym begins.stack);
     }
 
-pub enters : (p : Lowered) (classes : Classes) (space : Space) (loaded : List ℕ) (made : ℕ) (lent : Lent) (k : ℕ) (shared : Shared) (t after : Thread) (s : source.Thread) (n : CallToCome) (call : Activation) → IsLowered p → IsTable space loaded made → ThreadAgrees p classes space made shared t s → t.call ≡ None → t.calls.items ≡ n ∷ after.calls.items
+pub enters : (p : Lowered) (classes : Classes) (space : Space) (loaded : List ℕ) (made : ℕ) (lent : Lent) (k : ℕ) (shared : Shared) (t after : Thread) (s : source.Thread) (n : CallToCome) (call : Activation) → IsLowered p → IsTable space loaded made → StaticsAgree p shared → ThreadAgrees p classes space made shared t s → t.call ≡ None → t.calls.items ≡ n ∷ after.calls.items
     → after.call ≡ Some call → Begins p loaded n call → after.ending ≡ t.ending → Advances p classes space made lent k shared s after event.Quiet
-enters p classes space loaded made lent k shared t after s n call lowered table h none calls is begins ending =
+enters p classes space loaded made lent k shared t after s n call lowered table statics h none calls is begins ending =
     let c = coming p classes made n t.calls.items after.calls.items s.calls h.calls calls in
     let f = c.function in
     let next : source.Thread = entered s c.rest f.function n.class c.call.arguments in
@@ -297,10 +356,10 @@ enters p classes space loaded made lent k shared t after s n call lowered table 
     ∙ ap (option_map (λ d. entered s c.rest f.function d c.call.arguments)) f.of_class in
     record {
       next = next;
-      steps = ap (step_within (unit_tree p.unit) classes lent k shared s false) (resting p space (sight_of shared s) t.call s.tasks h.work none) ∙ ap (entry_advance shared) found;
+      steps = ap (step_within (unit_tree p.unit) classes lent k shared s false) (resting p space (visible_to shared s) t.call s.tasks h.work none) ∙ ap (entry_advance shared) found;
       agrees = record {
         calls = c.agrees;
-        work = subst (λ a. WorkAgrees p space (sight_of shared next) a (Some (tasks_of f.function.body))) (sym is) (begun p classes space loaded made shared s c.rest n c.call call lowered table f begins);
+        work = subst (λ a. WorkAgrees p space (visible_to shared next) a (Some (tasks_of f.function.body))) (sym is) (begun p classes space loaded made shared s c.rest n c.call call lowered table statics f begins);
         pending = h.pending;
         ending = h.ending ∙ ap ending_view (sym ending);
         busy = λ a b d. cc;

@@ -1,5 +1,5 @@
 -- How the machine stands for a state of the source.
-use Rattle.std.specs.Prelude.{◌≡◌, ℕ, ◌<◌, ◌≤◌, List, [], ◌∷◌, length, map, take, Option, Some, None, IsTrue, slice_get, false}
+use Rattle.std.specs.Prelude.{◌≡◌, ℕ, ◌<◌, ◌≤◌, List, [], ◌∷◌, length, map, Option, Some, None, IsTrue, slice_get, false}
 use Rattle.std.specs.List.{list_all}
 use Rattle.syntax.specs.Parts.{functions_of}
 use Rattle.syntax.specs.Tree.{Function}
@@ -10,16 +10,16 @@ use Rattle.world.specs.CallArguments.{is_argument}
 use Rattle.world.specs.Object.{Reference}
 use Rattle.world.specs.Views.{argument_view}
 use Rattle.world.specs.World.{Invocation}
-use Rattle.code.specs.Depth.{Listing, depths}
+use Rattle.code.specs.Depth.{Listing, depth_at}
 use Rattle.regions.specs.Activation.{function_at, class_of_function}
 use Rattle.regions.specs.Effect.{Effect, Returns}
-use Rattle.regions.specs.Sight.{Sight}
+use Rattle.regions.specs.Start.{null_statics}
 use Rattle.regions.specs.Task.{Task}
 use Rattle.regions.specs.Thread as source
-use Rattle.regions.specs.Thread.{Lent, Shared, sight_of}
+use Rattle.regions.specs.Thread.{Lent, Shared}
 use Rattle.regions.specs.ThreadStep.{thread_step, after_effect}
 use Rattle.lower.specs.Layout.{Known}
-use Rattle.lower.specs.Slots.{ArgumentsFit, Shows}
+use Rattle.lower.specs.Slots.{ArgumentsFit, Visible, visible_to, Shows}
 use Rattle.lower.specs.Stands.{StandsFor}
 use Rattle.lower.specs.Lowered.{Lowered}
 use Rattle.machine.specs.declared.thread.Ending.{Ending}
@@ -65,6 +65,12 @@ CallsAgree p classes made [] (c ∷ calls) = ⊥
 CallsAgree p classes made (n ∷ nexts) [] = ⊥
 CallsAgree p classes made (n ∷ nexts) (c ∷ calls) = CallAgrees p classes made n c × CallsAgree p classes made nexts calls
 
+-- ---- statics
+
+-- what the statics hold: nothing but NULL is stored in one yet
+abbrev pub StaticsAgree : Lowered → Shared → Type 0
+StaticsAgree p shared = shared.statics ≡ null_statics (unit_tree p.unit)
+
 -- ---- threads
 
 -- slot by slot, what references hold
@@ -76,27 +82,27 @@ ReferencesAgree space (a ∷ addresses) (r ∷ references) = ReferenceAgrees spa
 
 -- A call in progress stands for its tasks still to do, where this can be seen. The names of the objects that its slots
 -- refer to are those that the heap has at the addresses in them.
-pub record CallStands (p : Lowered) (space : Space) (call : Activation) (sight : Sight) (tasks : List Task) : Type 0 where
+pub record CallStands (p : Lowered) (space : Space) (call : Activation) (visible : Visible) (tasks : List Task) : Type 0 where
   pub code : Listing
   pub of_function : slice_get p.codes call.function ≡ Some code
   pub known : Known
   pub stands : StandsFor code known call.place call.stack tasks
   pub references : List Reference
   pub agree : ReferencesAgree space call.references.items references
-  pub shows : Shows code known sight (record { numbers = call.numbers.items; references = references })
-  pub depth : depths (take call.place code.instrs) 0 ≡ Some (length call.stack)
+  pub shows : Shows code known visible (record { numbers = call.numbers.items; references = references })
+  pub depth : depth_at code.instrs call.place ≡ Some (length call.stack)
 
 -- a call in progress, or none
-abbrev pub WorkAgrees : Lowered → Space → Sight → Option Activation → Option (List Task) → Type 0
-WorkAgrees p space sight None None = Unit {0}
-WorkAgrees p space sight None (Some tasks) = ⊥
-WorkAgrees p space sight (Some call) None = ⊥
-WorkAgrees p space sight (Some call) (Some tasks) = CallStands p space call sight tasks
+abbrev pub WorkAgrees : Lowered → Space → Visible → Option Activation → Option (List Task) → Type 0
+WorkAgrees p space visible None None = Unit {0}
+WorkAgrees p space visible None (Some tasks) = ⊥
+WorkAgrees p space visible (Some call) None = ⊥
+WorkAgrees p space visible (Some call) (Some tasks) = CallStands p space call visible tasks
 
 -- a thread stands for one of the source, with this heap, where so many objects were made at load
 pub record ThreadAgrees (p : Lowered) (classes : Classes) (space : Space) (made : ℕ) (shared : Shared) (t : Thread) (s : source.Thread) : Type 0 where
   pub calls : CallsAgree p classes made t.calls.items s.calls
-  pub work : WorkAgrees p space (sight_of shared s) t.call s.tasks
+  pub work : WorkAgrees p space (visible_to shared s) t.call s.tasks
   pub pending : s.pending ≡ None
   pub ending : s.ending ≡ ending_view t.ending
   -- a thread with nothing to do has ended
@@ -116,7 +122,7 @@ ThreadsAgree p classes space made shared (t ∷ ts) (s ∷ ss) = ThreadAgrees p 
 pub record GoesOn (p : Lowered) (classes : Classes) (space : Space) (lent : Lent) (k : ℕ) (shared : Shared) (s : source.Thread) (rest : List Task) (call : Activation) (effect : Effect) (event : Event) : Type 0 where
   pub next : source.Thread
   pub steps : after_effect classes lent k shared s rest effect ≡ source.Advances shared next (event_view event)
-  pub work : WorkAgrees p space (sight_of shared next) (Some call) next.tasks
+  pub work : WorkAgrees p space (visible_to shared next) (Some call) next.tasks
   pub calls : next.calls ≡ s.calls
   pub pending : next.pending ≡ s.pending
   pub ending : next.ending ≡ s.ending

@@ -33,8 +33,8 @@ pub record BeginsIn (code : Listing) (loaded : List ℕ) (next : CallToCome) (ca
   pub function : call.function ≡ next.function
   pub place : call.place ≡ 0
   pub stack : call.stack ≡ []
-  pub numbers : IsNumbersOf code.numbers (map argument_view next.arguments.items) call.numbers.items
-  pub references : IsReferencesOf code.references loaded next.class (map argument_view next.arguments.items) call.references.items
+  pub numbers : IsNumbersOf code.slots.numbers (map argument_view next.arguments.items) call.numbers.items
+  pub references : IsReferencesOf code.slots.references loaded next.class (map argument_view next.arguments.items) call.references.items
 
 -- a call of a program before its first instruction
 pub record Begins (p : Lowered) (loaded : List ℕ) (next : CallToCome) (call : Activation) : Type 0 where

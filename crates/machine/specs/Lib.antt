@@ -1,6 +1,7 @@
 pub mod HeapAgrees
 pub mod Entry
 pub mod Invoked
+pub mod Variables
 pub mod Agrees
 pub mod Stops
 pub mod Rows

@@ -1,8 +1,9 @@
 -- What loading answers.
-use Rattle.std.specs.Prelude.{◌≡◌, ℕ, ◌<◌, true, false, not, List, filter, length, map, Option, Some, None, slice_get}
+use Rattle.std.specs.Prelude.{◌≡◌, ℕ, true, false, not, List, filter, map, Option, Some, None, slice_get}
 use Rattle.syntax.specs.Parts.{functions_of}
-use Rattle.syntax.specs.Tree.{Function, SourceUnit}
-use Rattle.syntax.specs.Views.{unit_tree}
+use Rattle.syntax.specs.declared.unit.Function.{Function as FunctionInMemory}
+use Rattle.syntax.specs.Tree.{SourceUnit}
+use Rattle.syntax.specs.Views.{unit_tree, function_tree}
 use Rattle.classes.specs.Class.{Classes}
 use Rattle.world.specs.World.{Invocation, World}
 use Rattle.regions.specs.Activation.{function_at}
@@ -13,13 +14,11 @@ use Rattle.machine.specs.declared.fault.LoadFault.TheVariants.{DoesNotFit, Memor
 use Rattle.machine.specs.declared.thread.CallToCome.{CallToCome}
 use Rattle.machine.specs.Agrees.{CallAgrees}
 
--- the place of the function of a name
-pub record IsNumberOf (p : Lowered) (name : List ℕ) (number : ℕ) : Type 0 where
-  pub function : Function
-  pub named : function_at (unit_tree p.unit) name ≡ Some function
-  pub numbered : slice_get (functions_of (unit_tree p.unit)) number ≡ Some function
-  pub has_name : function.name ≡ name
-  pub there : number < length p.unit
+-- the function of a name, and its place among the functions
+pub record IsNumberOf (p : Lowered) (name : List ℕ) (number : ℕ) (f : FunctionInMemory) : Type 0 where
+  pub named : function_at (unit_tree p.unit) name ≡ Some (function_tree f)
+  pub numbered : slice_get (functions_of (unit_tree p.unit)) number ≡ Some (function_tree f)
+  pub has_name : f.name ≡ name
 
 -- a call to come, where so many objects are made at load; none where the call doesn't load
 abbrev pub IsCallOf : Lowered → Classes → (made : ℕ) → Invocation → Option CallToCome → Type 0

@@ -30,7 +30,7 @@ use Rattle.machine.specs.declared.thread.Event.TheVariants as event
 use Rattle.machine.specs.declared.turn.Turn.{Turn as Answer}
 use Rattle.machine.specs.declared.turn.Turn.TheVariants as turn
 use Rattle.machine.specs.declared.stop.Stop.{Stop}
-use Rattle.machine.specs.Agrees.{ThreadsAgree}
+use Rattle.machine.specs.Agrees.{StaticsAgree, ThreadsAgree}
 use Rattle.machine.specs.HeapAgrees.{AgreesAtLoad}
 use Rattle.machine.specs.Stops.{stop_view}
 
@@ -58,6 +58,7 @@ pub record Corresponds (p : Lowered) (scene : Scene) (space : Space) (addresses 
   pub threads_agree : ThreadsAgree p (world_of_scene scene).classes space (length addresses) state.shared threads state.threads
   pub same_printed : state.printed ≡ printed
   pub same_stop : state.stop ≡ option_map stop_view stop
+  pub statics : StaticsAgree p state.shared
   -- no instruction allocates or enters a monitor yet
   pub heap : state.shared.heap ≡ loaded_objects (world_of_scene scene)
   pub blocks : AgreesAtLoad space addresses (world_of_scene scene)

@@ -27,18 +27,13 @@ pub fn begin(
     requires room { HasRoom code.now (map argument_view next.now.arguments.items) }
     ensures { IfOk result (λ call. BeginsIn code.now loaded.now next.now call) }
 {
+    let slots = code.slots();
     Ok(Activation {
         function: next.function,
         place: 0,
         stack: Stack::new(),
-        numbers: number_slots(alloc, &next.arguments, code.numbers())?,
-        references: reference_slots(
-            alloc,
-            loaded,
-            next.class,
-            &next.arguments,
-            code.references(),
-        )?,
+        numbers: number_slots(alloc, &next.arguments, slots.numbers)?,
+        references: reference_slots(alloc, loaded, next.class, &next.arguments, slots.references)?,
     })
 }
 

@@ -11,11 +11,14 @@ mod rows;
 mod stop;
 mod thread;
 mod turn;
+mod variable;
 
 pub use fault::{LoadFault, RunFault};
 pub use machine::{MOST_ENTRIES, Machine};
 pub use stop::{Stop, Trap};
 pub use turn::Turn;
 
+#[cfg(test)]
+mod run_tests;
 #[cfg(test)]
 mod tests;

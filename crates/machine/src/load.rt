@@ -87,18 +87,17 @@ fn load_call(
     requires { IsTrue (are_arguments (length (loaded_objects (world_of_scene world.now))) call.now) }
     ensures { IfOk result (IsCallOf program.now (world_of_scene world.now).classes (length (loaded_objects (world_of_scene world.now))) (invocation_of call.now)) }
 {
-    let Some(function) = function_number(program, call.function()) else {
+    let Some(found) = function_named(program, call.function()) else {
         return Ok(None);
     };
     let Some(class) = native_class_number(alloc, world, call.function())? else {
         return Ok(None);
     };
-    let parameters = &function_of(&program.items()[function]).parameters;
-    if !fit(parameters, call.arguments()) {
+    if !fit(&found.function.parameters, call.arguments()) {
         return Ok(None);
     }
     Ok(Some(CallToCome {
-        function,
+        function: found.number,
         class,
         arguments: Vec::from_slice(alloc, call.arguments())?,
     }))
@@ -144,23 +143,29 @@ fn fits(kind: ParameterType, argument: Argument) -> bool
     }
 }
 
-/// The place of the function of a name.
-fn function_number(program: &Program<'_>, name: &[u8]) -> Option<usize>
-    ensures found { IfSome result (IsNumberOf program.now name.now) }
+/// A function of a program, with its place among the program's functions.
+#[derive(Clone, Copy)]
+struct NumberedFunction<'a> {
+    number: usize,
+    function: &'a Function,
+}
+
+/// The function of a name.
+fn function_named<'a>(program: &'a Program<'_>, name: &[u8]) -> Option<NumberedFunction<'a>>
+    ensures found { IfSome result (λ found. IsNumberOf program.now name.now found.number found.function.now) }
     ensures unknown { IfNone result (function_at (unit_tree program.now.unit) name.now ≡ None) }
 {
-    for (number, item) in program.items().iter().enumerate() {
-        if function_of(item).name.as_bytes() == name {
-            return Some(number);
+    let mut number = 0;
+    for item in program.items() {
+        match item {
+            Item::Static(_) => {}
+            Item::Function(function) => {
+                if function.name.as_bytes() == name {
+                    return Some(NumberedFunction { number, function });
+                }
+                number += 1;
+            }
         }
     }
     None
-}
-
-fn function_of(item: &Item) -> &Function
-    ensures { item.now ≡ Item.Function result.now }
-{
-    match item {
-        Item::Function(function) => function,
-    }
 }

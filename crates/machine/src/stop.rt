@@ -2,7 +2,10 @@
 
 ghost use Rattle.std.specs.Prelude.{◌≡◌};
 ghost use Rattle.regions.specs.Value.{trap_number};
+ghost use Rattle.lower.specs.Does.{trap_of};
 ghost use Rattle.machine.specs.Stops.{trap_view};
+
+use code::instr::PlainTrap;
 
 /// Why the machine stops.
 #[derive(Clone, Copy, Debug, PartialEq, Eq)]
@@ -43,6 +46,17 @@ impl Trap {
             Trap::NoCapacity => 8,
             Trap::Fatal => 9,
         }
+    }
+}
+
+/// The trap of an instruction that works on the stack and the number slots alone.
+pub fn trap_of(trap: PlainTrap) -> Trap
+    ensures { trap_view result ≡ trap_of trap }
+{
+    match trap {
+        PlainTrap::DivisionByZero => Trap::DivisionByZero,
+        PlainTrap::ShiftTooFar => Trap::ShiftTooFar,
+        PlainTrap::OutOfRange => Trap::OutOfRange,
     }
 }
 

@@ -38,7 +38,7 @@ fn program(alloc: Global) -> Result<Checked, Fail> {
         },
     };
     let unit = Unit::new(vec![in alloc; Item::Function(function)]?);
-    Ok(check(type_unit(alloc, unit)?)?)
+    Ok(check(alloc, type_unit(alloc, unit)?)?)
 }
 
 fn written(

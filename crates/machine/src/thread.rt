@@ -3,18 +3,19 @@
 ghost use Rattle.std.specs.Prelude.{◌≡◌, ℕ, ◌<◌, Some, None, [], ◌∷◌, List, length, IfOk, OnOk, OnErr};
 ghost use Rattle.std.specs.VecDeque.{deque_len};
 ghost use Rattle.regions.specs.Effect.{effect_of};
-ghost use Rattle.regions.specs.Sight.{Sight};
 ghost use Rattle.regions.specs.Task.{Task};
 ghost use Rattle.regions.specs.Thread.{Lent, Shared, Thread as SourceThread, sight_of};
 ghost use Rattle.world.specs.SceneWorld.{world_of_scene};
 ghost use Rattle.lower.specs.Lowered.{IsLowered};
-ghost use Rattle.machine.specs.Agrees.{ThreadAgrees, CallStands, Executes, Advances, ending_after};
+ghost use Rattle.lower.specs.Slots.{Visible, visible_to};
+ghost use Rattle.machine.specs.Agrees.{StaticsAgree, ThreadAgrees, CallStands, Executes, Advances, ending_after};
 ghost use Rattle.machine.specs.HeapAgrees.{BlocksAgree, IsTable};
 ghost use Rattle.machine.specs.Entry.{IsReady, Begins};
 
 use crate::entry::begin;
 use crate::invoke::invoke;
-use crate::stop::Trap;
+use crate::stop::{Trap, trap_of};
+use crate::variable::{is_null, set_null};
 use code::instr::{Instr, Plain};
 use code::plain::plain;
 use code::stack::Stack;
@@ -87,7 +88,7 @@ pub fn advance(
 ) -> Result<Event, AllocError>
     requires lowered { IsLowered program.now }
     requires agrees { (shared : Shared) × (s : SourceThread) × ThreadAgrees program.now (world_of_scene world.now).classes heap.now (length loaded.now) shared thread.old s × (thread.old.ending ≡ Ending.Unfinished) }
-    ensures advances { IfOk result (λ event. (lent : Lent) (k : ℕ) (shared : Shared) (s : SourceThread) → shared.monitors ≡ [] → BlocksAgree heap.now shared.heap heap.now.blocks
+    ensures advances { IfOk result (λ event. (lent : Lent) (k : ℕ) (shared : Shared) (s : SourceThread) → shared.monitors ≡ [] → StaticsAgree program.now shared → BlocksAgree heap.now shared.heap heap.now.blocks
         → IsTable heap.now loaded.now (length loaded.now) → ThreadAgrees program.now (world_of_scene world.now).classes heap.now (length loaded.now) shared thread.old s
         → Advances program.now (world_of_scene world.now).classes heap.now (length loaded.now) lent k shared s thread.new event) }
     ensures err { OnErr result (thread.new ≡ thread.old) }
@@ -142,27 +143,46 @@ fn leave(thread: &mut Thread)
 /// One instruction of a call.
 fn execute(program: &Program<'_>, world: &World, heap: &Heap, call: &mut Activation) -> Executed
     requires lowered { IsLowered program.now }
-    requires stands { (sight : Sight) × (task : Task) × (rest : List Task) × CallStands program.now heap.now call.old sight (task ∷ rest) }
-    ensures { (lent : Lent) (k : ℕ) (shared : Shared) (s : SourceThread) (task : Task) (rest : List Task) → s.tasks ≡ Some (task ∷ rest) → s.pending ≡ None
-        → BlocksAgree heap.now shared.heap heap.now.blocks → CallStands program.now heap.now call.old (sight_of shared s) (task ∷ rest)
+    requires stands { (visible : Visible) × (task : Task) × (rest : List Task) × CallStands program.now heap.now call.old visible (task ∷ rest) }
+    ensures { (lent : Lent) (k : ℕ) (shared : Shared) (s : SourceThread) (task : Task) (rest : List Task) → s.tasks ≡ Some (task ∷ rest) → s.pending ≡ None → StaticsAgree program.now shared
+        → BlocksAgree heap.now shared.heap heap.now.blocks → CallStands program.now heap.now call.old (visible_to shared s) (task ∷ rest)
         → Executes program.now (world_of_scene world.now).classes heap.now lent k shared s rest call.new (effect_of (sight_of shared s) task) result }
 {
     let code = program.code(call.function).unwrap();
     let instr = code.get(call.place).unwrap();
     match instr {
+        Instr::TestNull { variable, equal } => {
+            let null = is_null(&call.references, *variable);
+            call.stack.push(u32::from(null == *equal));
+            call.place += 1;
+            Executed::Did(Event::Quiet)
+        }
+        Instr::StoreNull(variable) => {
+            set_null(&mut call.references, *variable);
+            call.place += 1;
+            Executed::Did(Event::Quiet)
+        }
         Instr::PutJint => {
             let word = call.stack.pop();
             call.place += 1;
             Executed::Did(Event::Printed(word.cast_signed()))
         }
         Instr::Call(function) => Executed::Did(invoke(world, heap, call, *function)),
-        Instr::Return | Instr::ReturnJint => Executed::Returned,
+        Instr::Return | Instr::ReturnJint | Instr::ReturnReference(_) => Executed::Returned,
         _ => match plain(instr, &mut call.stack, &mut call.numbers) {
             Plain::Next => {
                 call.place += 1;
                 Executed::Did(Event::Quiet)
             }
-            Plain::Jump(_) | Plain::Trap(_) => unreachable!(),
+            Plain::Skip(skipped) => {
+                call.place += 1 + skipped;
+                Executed::Did(Event::Quiet)
+            }
+            Plain::Back(back) => {
+                call.place -= back;
+                Executed::Did(Event::Quiet)
+            }
+            Plain::Trap(trap, line) => Executed::Did(Event::Trapped(trap_of(trap), line)),
         },
     }
 }

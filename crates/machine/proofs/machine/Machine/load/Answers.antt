@@ -20,6 +20,7 @@ invariant_of-result c =
       threads_agree = agree;
       same_printed = sym c.new.ensures.items;
       same_stop = refl;
+      statics = refl;
       heap = refl;
       blocks = record { agree = c.in_ok-heap.ensures.made.agree; table = c.in_ok-heap.ensures.made.table };
       monitors = refl;
