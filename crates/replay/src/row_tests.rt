@@ -46,7 +46,7 @@ fn replayed(
     entries: usize,
     text: &[u8],
 ) -> Result<(), Fail> {
-    let checked = check(type_unit(alloc, unit)?)?;
+    let checked = check(alloc, type_unit(alloc, unit)?)?;
     let world = read_world(alloc, WORLD)?;
     let mut journal = Vec::new(alloc);
     for _ in 0..entries {

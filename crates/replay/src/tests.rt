@@ -44,7 +44,7 @@ fn a_whole_call(rt: HostRuntime) -> Result<(), Fail> {
         },
     };
     let unit = Unit::new(vec![in alloc; Item::Function(function)]?);
-    let checked = check(type_unit(alloc, unit)?)?;
+    let checked = check(alloc, type_unit(alloc, unit)?)?;
     let world = read_world(alloc, WORLD)?;
     let journal = [1; 5].map(|thread| Entry {
         thread,
@@ -159,7 +159,7 @@ fn replayed(
     entries: usize,
     text: &[u8],
 ) -> Result<(), Fail> {
-    let checked = check(type_unit(alloc, unit)?)?;
+    let checked = check(alloc, type_unit(alloc, unit)?)?;
     let world = read_world(alloc, world)?;
     let mut journal = Vec::new(alloc);
     for _ in 0..entries {
@@ -218,7 +218,7 @@ fn a_number_that_is_given(rt: HostRuntime) -> Result<(), Fail> {
 #[test]
 fn a_number_for_a_reference(rt: HostRuntime) -> Result<(), Fail> {
     let alloc = rt.alloc();
-    let checked = check(type_unit(alloc, length_unit(alloc)?)?)?;
+    let checked = check(alloc, type_unit(alloc, length_unit(alloc)?)?)?;
     let world = read_world(
         alloc,
         b"heap 512\nclass A\narray @a I 7 8 9\nthread Java_A_f 5\n",
@@ -232,7 +232,7 @@ fn a_number_for_a_reference(rt: HostRuntime) -> Result<(), Fail> {
 #[test]
 fn an_unknown_function(rt: HostRuntime) -> Result<(), Fail> {
     let alloc = rt.alloc();
-    let checked = check(type_unit(alloc, Unit::new(Vec::new(alloc)))?)?;
+    let checked = check(alloc, type_unit(alloc, Unit::new(Vec::new(alloc)))?)?;
     let world = read_world(alloc, WORLD)?;
     let mut sink = StdSink::new(Vec::new(alloc));
     let answer = replay(alloc, &checked, &world, &[], &mut sink);
