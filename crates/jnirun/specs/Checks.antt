@@ -9,9 +9,15 @@ use Rattle.jnirun.specs.declared.fault.RunError.TheVariants.{Memory, File, Fault
 use Rattle.jnirun.specs.Programs.{IsProgram, IsRefusedProgram}
 
 -- the text is that of an accepted program
+pub record IsProgramText (text : List ℕ) : Type 0 where
+  pub unit : SourceUnit
+  pub of_program : IsProgram text unit
+
+-- the text is that of an accepted program, and the code of no function is too long
 pub record PassesCheck (text : List ℕ) : Type 0 where
   pub unit : SourceUnit
   pub of_program : IsProgram text unit
+  pub short : IsTooLong unit → ⊥
 
 -- The text is refused, by the first pass that finds a fault, or since the code of a function would be too long.
 pub data FailsCheck (text : List ℕ) : (number : ℕ) → Place → Type 0 where
