@@ -70,6 +70,7 @@ fn replayed(
 
 /// A function of these statements:
 /// `put_jint((jint)(4294967295u + 1u)); put_jint((jint)2147483648u); return;`
+#[tactic(auto, using(syntax::proofs::Blocks::blocks))]
 fn wrapping_unit(alloc: Global) -> Result<Unit, AllocError> {
     let statement_1 = Stmt {
         line: 1,
@@ -119,6 +120,7 @@ fn the_sum_of_words_wraps(rt: HostRuntime) -> Result<(), Fail> {
 
 /// A function of these statements:
 /// `if (1u == 2u && 1u / 0u == 0u) { put_jint(1); } put_jint(2); return;`
+#[tactic(auto, using(syntax::proofs::Blocks::blocks))]
 fn deciding_unit(alloc: Global) -> Result<Unit, AllocError> {
     let statement_1 = Stmt {
         line: 2,
@@ -191,6 +193,7 @@ fn a_side_that_is_not_worked_out(rt: HostRuntime) -> Result<(), Fail> {
 
 /// A function of these statements:
 /// `uint32_t i = 0u; while (i < 3u) { i = i + 1u; } put_jint((jint)i); return;`
+#[tactic(auto, using(syntax::proofs::Blocks::blocks))]
 fn counting_unit(alloc: Global) -> Result<Unit, AllocError> {
     let statement_1 = Stmt {
         line: 2,
@@ -261,6 +264,7 @@ fn three_turns_of_a_loop(rt: HostRuntime) -> Result<(), Fail> {
 
 /// A function of these statements:
 /// `jbyte b[2] = {0}; b[1] = 200; put_jint(b[1]); b[2] = 1; return;`
+#[tactic(auto, using(syntax::proofs::Blocks::blocks))]
 fn writing_unit(alloc: Global) -> Result<Unit, AllocError> {
     let statement_1 = Stmt {
         line: 2,

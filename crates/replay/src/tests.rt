@@ -63,6 +63,7 @@ fn a_whole_call(rt: HostRuntime) -> Result<(), Fail> {
 
 /// A function with a parameter `jobject a` and these statements from line 2 on:
 /// `jint n = (*env)->GetArrayLength(env, a);`, `put_jint(n);` and `return;`.
+#[tactic(auto, using(syntax::proofs::Blocks::blocks))]
 fn length_unit(alloc: Global) -> Result<Unit, AllocError> {
     let argument = Argument::Value(Expr::Variable(Name::new(alloc, b"a")?));
     let call = Call {
@@ -105,6 +106,7 @@ fn length_unit(alloc: Global) -> Result<Unit, AllocError> {
 
 /// A function with a parameter `jint a` and these statements from line 2 on:
 /// `jint n = (jint)((uint32_t)a + 1u);`, `put_jint(n);` and `return;`.
+#[tactic(auto, using(syntax::proofs::Blocks::blocks))]
 fn successor_unit(alloc: Global) -> Result<Unit, AllocError> {
     let word = Expr::Prefix(
         PrefixOp::ToWord,
