@@ -17,10 +17,9 @@ const WORLD: &[u8] = b"heap 512\nclass A\nthread Java_A_f\n";
 
 const TEXT: &[u8] = b"T1 5\nT1 ended\njournal 1 1 1 1\n";
 
-#[test]
-fn a_whole_call(rt: HostRuntime) -> Result<(), Fail> {
-    let alloc = rt.alloc();
-    // put_jint(5); return;
+/// A function of these statements: `put_jint(5); return;`
+#[tactic(auto, using(syntax::proofs::Blocks::blocks))]
+fn printing_unit(alloc: Global) -> Result<Unit, AllocError> {
     let put = Stmt {
         line: 2,
         form: Form::PutJint(Expr::Number {
@@ -43,8 +42,13 @@ fn a_whole_call(rt: HostRuntime) -> Result<(), Fail> {
             end_line: 4,
         },
     };
-    let unit = Unit::new(vec![in alloc; Item::Function(function)]?);
-    let checked = check(alloc, type_unit(alloc, unit)?)?;
+    Ok(Unit::new(vec![in alloc; Item::Function(function)]?))
+}
+
+#[test]
+fn a_whole_call(rt: HostRuntime) -> Result<(), Fail> {
+    let alloc = rt.alloc();
+    let checked = check(alloc, type_unit(alloc, printing_unit(alloc)?)?)?;
     let world = read_world(alloc, WORLD)?;
     let journal = [1; 5].map(|thread| Entry {
         thread,
