@@ -20,6 +20,8 @@ const TEXT: &[u8] = b"T1 5\nT1 ended\njournal 1 1 1 1\n";
 /// A function of these statements: `put_jint(5); return;`
 #[tactic(auto, using(syntax::proofs::Blocks::blocks))]
 fn printing_unit(alloc: Global) -> Result<Unit, AllocError> {
+    let name = Name::new(alloc, b"Java_A_f")?;
+    let class_name = Name::new(alloc, b"cls")?;
     let put = Stmt {
         line: 2,
         form: Form::PutJint(Expr::Number {
@@ -31,14 +33,15 @@ fn printing_unit(alloc: Global) -> Result<Unit, AllocError> {
         line: 3,
         form: Form::Return(None),
     };
+    let statements = vec![in alloc; put, back]?;
     let function = Function {
         line: 1,
         result: ResultType::Void,
-        name: Name::new(alloc, b"Java_A_f")?,
-        class_name: Name::new(alloc, b"cls")?,
+        name,
+        class_name,
         parameters: Vec::new(alloc),
         body: Block {
-            statements: vec![in alloc; put, back]?,
+            statements,
             end_line: 4,
         },
     };
