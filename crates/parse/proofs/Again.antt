@@ -1,17 +1,16 @@
 -- What is spelled so is read: statements, blocks, functions, statics and units.
-use Rattle.std.proofs.Common.{◌≡◌, ℕ, zero, suc, ◌+◌, ◌-◌, ◌<◌, ◌≤◌, Bool, true, false, List, [], ◌∷◌, ◌++◌, length, Result, Ok, refl, sym, ap, subst, ◌∙◌, arith, add-one}
+use Rattle.std.proofs.Common.{◌≡◌, ℕ, zero, suc, ◌-◌, ◌<◌, ◌≤◌, Bool, true, false, List, [], ◌∷◌, ◌++◌, length, Result, Ok, refl, ap, subst, ◌∙◌, arith, add-one}
 use Rattle.std.specs.Prelude.{flat_map}
 use Rattle.std.proofs.lemmas.Bool.{ne_eqb}
 use Rattle.scan.specs.declared.token.Mark.TheVariants as marks
 use Rattle.syntax.specs.Tree.{Expr, Test, Stmt, Declare, DeclareBuffer, DeclareChars, DeclareArray, Assign, AssignElement, Perform, PutJint, If, IfElse, While, Return, ReturnValue, Block, End, Next, Parameter, Function, Static, Item, StaticItem, FunctionItem}
 use Rattle.syntax.specs.Parts.{statements_within, statements_of, line_of}
 use Rattle.parse.specs.declared.fault.ParseFault.{ParseFault}
-use Rattle.parse.specs.declared.words.Word.{Word}
 use Rattle.parse.specs.declared.words.Word.TheVariants as words
 use Rattle.parse.specs.declared.lexemes.Fixed.{Fixed}
 use Rattle.parse.specs.declared.lexemes.Fixed.TheVariants as fixed
-use Rattle.parse.specs.Meaning.{Meaning, Fixed', Name', Number'}
-use Rattle.parse.specs.Lexemes.{Lexed, same_fixed, is_fixed_meaning, line_at, expect}
+use Rattle.parse.specs.Meaning.{Meaning, Fixed', Name'}
+use Rattle.parse.specs.Lexemes.{Lexed, same_fixed, is_fixed_meaning, expect}
 use Rattle.parse.specs.Spelling.{Spelled, Anywhere, OnLine, mark, word, reference_word, element_word, variable_word, result_word, parameter_word, expression, setting, test_tokens, statement, inside, parameter, function, item}
 use Rattle.parse.specs.Reading.{starts_with, behind, ReadStmt, simple_at, ReadBlock, BlockReader, else_by, if_by, while_by, statement_by, is_return, block_by, inner, block_at, parameter_at, parameters_at, head_at, body_at, function_at, static_at, item_at, items_at}
 use Rattle.parse.proofs.Forms.{names_of, names_in, IsTest, IsForm, MayFollow, IsBlock, IsFunction, AreItems, IsExpr}
@@ -19,7 +18,7 @@ use Rattle.parse.proofs.Singles.{Begins, same_itself, begins_split, begins_lengt
 use Rattle.parse.proofs.Table.{Closes, closes_mark}
 use Rattle.parse.proofs.TypeWords.{reference_type_again, result_type_again, parameter_type_again}
 use Rattle.parse.proofs.Levels.{expr_reads_again}
-use Rattle.parse.proofs.JniCalls.{argument_tokens, test_again}
+use Rattle.parse.proofs.JniCalls.{test_again}
 use Rattle.parse.proofs.Sentences.{call_tail, element_tail, setting_tail, IsPlain, plain_again}
 use Rattle.parse.proofs.Declared.{array_tail, declares, declares_first, declares_no, element_declares, variable_declares, IsDeclared, declared_again}
 use Rattle.parse.proofs.Nested.{tested_tail, names_split}

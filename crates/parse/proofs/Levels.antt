@@ -20,7 +20,7 @@ use Rattle.parse.specs.Reading.{Reader, ReadExpr, starts_with, behind, operator_
 use Rattle.parse.proofs.Forms.{IsLevelled, IsExpr}
 use Rattle.parse.proofs.Singles.{Begins, bind_ok, ok_is, chosen, begins_append, begins_split, first_takes, first_rest, first_is, starts_takes, expect_takes, expect_again, then_takes, name_takes, name_again, starts_name_again, first_no_name}
 use Rattle.parse.proofs.TypeWords.{constant_again, constant_is}
-use Rattle.parse.proofs.Table.{operator_is, operator_again, operator_first, operator_no_index, level_small, NoIndex, Closes, closes_mark}
+use Rattle.parse.proofs.Table.{operator_is, operator_again, operator_no_index, level_small, NoIndex, Closes, closes_mark}
 
 -- an expression that stands at a operator_level stands at a looser one
 pub weaker : (e : Expr) (m n : ℕ) → n ≤ m → IsLevelled m e → IsLevelled n e

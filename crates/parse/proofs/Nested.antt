@@ -17,7 +17,7 @@ use Rattle.parse.specs.Lexemes.{Lexed, line_at, expect}
 use Rattle.parse.specs.Spelling.{Spelled, OnLine, mark, word, expression, test_tokens, statement, inside}
 use Rattle.parse.specs.Reading.{starts_with, behind, ReadExpr, expr_at, plain_at, declared_at, starts_declaration, ReadStmt, simple_at, ReadBlock, BlockReader, test_at, else_by, if_by, while_by, statement_by, is_return, block_by, inner, statement_at, block_at}
 use Rattle.parse.proofs.Forms.{IsForm, IsTest, IsBlock, MayFollow, names_of, names_in}
-use Rattle.parse.proofs.Singles.{Begins, bind_ok, ok_is, chosen, begins_append, begins_length, first_takes, starts_takes, expect_takes, then_takes, shortens, on_takes}
+use Rattle.parse.proofs.Singles.{Begins, bind_ok, ok_is, chosen, begins_append, first_takes, starts_takes, expect_takes, then_takes, shortens, on_takes}
 use Rattle.parse.proofs.Levels.{expr_reads}
 use Rattle.parse.proofs.JniCalls.{test_takes}
 use Rattle.parse.proofs.Sentences.{plain_takes}

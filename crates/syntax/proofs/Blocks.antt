@@ -1,5 +1,5 @@
 -- A block's tree is that of the list of its statements.
-use Rattle.std.proofs.Common.{◌≡◌, ℕ, List, [], ◌∷◌, refl, ap, ◌∙◌}
+use Rattle.std.proofs.Common.{◌≡◌, ℕ, List, refl, ap, ◌∙◌}
 use Rattle.syntax.specs.Tree.{Block, Next}
 use Rattle.syntax.specs.declared.stmt.Stmt.{Stmt as StmtInMemory}
 use Rattle.syntax.specs.declared.stmt.Block.{Block as BlockInMemory, Block-F, Row_of-Stmt, end_of-Stmt, more_of-Stmt, out-Block, roll-Block, rolls-Block', is-Block', items-the_row-Stmt, items_hidden-the_row-Stmt-0}

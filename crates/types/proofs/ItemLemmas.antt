@@ -1,5 +1,5 @@
 -- What is refused at an item, and at the items behind it.
-use Rattle.std.proofs.Common.{◌≡◌, ℕ, suc, ◌+◌, ◌<◌, Bool, not, ◌||◌, List, [], ◌∷◌, ◌++◌, Option, Some, None, map, drop, length, get_or, refl, sym, ap, ap₂, ◌∙◌, add-one, append-nil, drop-cons, flat_map}
+use Rattle.std.proofs.Common.{◌≡◌, ℕ, suc, ◌+◌, ◌<◌, not, ◌||◌, List, [], ◌∷◌, ◌++◌, Option, Some, None, map, drop, length, get_or, refl, sym, ap, ap₂, ◌∙◌, add-one, append-nil, drop-cons}
 use Rattle.std.specs.Option.{is_some, is_none}
 use Rattle.base.specs.Bytes.{Identifier}
 use Rattle.classes.specs.Mangling.{unmangle}
@@ -14,7 +14,7 @@ use Rattle.types.specs.declared.scope.Known.{Known}
 use Rattle.types.specs.Sorts.{Sort, Ref, Scope}
 use Rattle.types.specs.SortRules.{Place, StaticForm, HeadForm, UnknownName, DeclaredTwice, has_name, has_repeated, parameter_sort, places_of, function_places, item_places}
 use Rattle.types.specs.BuiltCalls.{refuses, refused_at}
-use Rattle.types.specs.Faults.{Faults, broken_if, found, scope_of, entry_scope, head_faults, own_places, with_static}
+use Rattle.types.specs.Faults.{broken_if, found, scope_of, entry_scope, head_faults, own_places, with_static}
 use Rattle.types.proofs.RuleLemmas.{listed}
 use Rattle.types.proofs.PlaceLemmas.{found-none, found-append, found-next}
 

@@ -7,7 +7,7 @@ use Rattle.syntax.specs.Tree.{ResultType, Stmt, If, IfElse, While, Block, Next}
 use Rattle.types.specs.Sorts.{Scope}
 use Rattle.types.specs.SortRules.{Place, places_of, places_within, with_declared}
 use Rattle.types.specs.BuiltCalls.{refused_at}
-use Rattle.types.specs.Faults.{Faults, found, statement_place, places_inside}
+use Rattle.types.specs.Faults.{found, statement_place, places_inside}
 
 pub found-none : found [] ≡ []
 unfolding found

@@ -6,9 +6,9 @@ use Rattle.std.specs.Option.{is_none, option_to_list}
 use Rattle.std.proofs.lemmas.List.Folds.{list_any-append}
 use Rattle.base.specs.Bytes.{Identifier}
 use Rattle.syntax.specs.Parts.{names_in, argument_expressions, call_expressions, right_side_expressions, addresses_in, call_of_right_side, used_names, assigned_name}
-use Rattle.syntax.specs.Tree.{Expr, Argument, Value, Text, AddressOf, Call, RightSide, FromExpr, FromCall, Test, TestExpr, TestCall, Stmt, Declare, DeclareBuffer, DeclareChars, DeclareArray, Assign, AssignElement, Perform, PutJint, If, IfElse, While, Return, ReturnValue}
+use Rattle.syntax.specs.Tree.{Expr, Argument, Value, Text, AddressOf, Call, RightSide, FromExpr, FromCall, TestExpr, TestCall, Stmt, Declare, DeclareBuffer, DeclareChars, DeclareArray, Assign, AssignElement, Perform, PutJint, If, IfElse, While, Return, ReturnValue}
 use Rattle.types.specs.Sorts.{Scope, sort_in}
-use Rattle.types.specs.Unknown.{is_unknown, has_unknown, argument_unknown, call_unknown, right_unknown, test_unknown, uses_unknown}
+use Rattle.types.specs.Unknown.{is_unknown, has_unknown, argument_unknown, call_unknown, right_unknown, uses_unknown}
 
 or_assoc : (a b c : Bool) → ((a || b) || c) ≡ (a || (b || c))
 or_assoc true b c = refl
