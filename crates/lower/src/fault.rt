@@ -9,7 +9,7 @@ use thiserror::Error;
 /// Why `lower` gave no program.
 #[derive(Clone, Copy, Debug, PartialEq, Eq, Error)]
 pub enum LowerFault {
-    /// Fault 51: a function has more than 65,535 instructions.
+    /// Fault 51: a function has more than 65,535 instructions for steps of its source.
     #[error("a function has more than 65535 instructions")]
     TooLong,
     /// Fault 9: host memory was refused.
