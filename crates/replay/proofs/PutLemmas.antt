@@ -1,18 +1,18 @@
 -- What tasks do to variables is what they do to those of a thread.
-use Rattle.std.proofs.Common.{◌≡◌, ℕ, ℤ, pos, Bool, true, false, cond, List, [], ◌∷◌, length, map, Option, Some, None, refl, sym, ap, ◌∙◌}
-use Rattle.std.specs.Prelude.{is_some, position, slice_get, slice_set, replicate}
+use Rattle.std.proofs.Common.{◌≡◌, ℕ, ℤ, Bool, true, false, cond, List, [], ◌∷◌, length, map, Option, Some, None, refl, sym, ap, ◌∙◌}
+use Rattle.std.specs.Prelude.{is_some, position, slice_get, slice_set}
 use Rattle.std.specs.Borrow.{Bor}
 use Rattle.std.specs.Str.{bytes_eq}
 use Rattle.std.proofs.lemmas.Slice.Eq.{bytes_eq-Decides}
-use Rattle.base.specs.Bytes.{Identifier, ByName, lookup}
+use Rattle.base.specs.Bytes.{Identifier, lookup}
 use Rattle.syntax.specs.Views.{element_tree}
 use Rattle.syntax.specs.Parts.{statics_of}
 use Rattle.syntax.specs.Tree.{Static, SourceUnit}
-use Rattle.regions.specs.CallEffects.{CallResult, NullResult, ScalarResult}
+use Rattle.regions.specs.CallEffects.{CallResult}
 use Rattle.regions.specs.CallStep.{blank, filled, static_result, put_assigned, put}
 use Rattle.regions.specs.Start.{null_static, null_statics}
 use Rattle.regions.specs.Task.{VariableKind, Declared, Assigned}
-use Rattle.regions.specs.Thread.{Thread, Shared, Quiet, Advance, Advances, NoAdvance}
+use Rattle.regions.specs.Thread.{Thread, Shared, Quiet, Advances, NoAdvance}
 use Rattle.regions.specs.ThreadStep.{set_variable, set_element}
 use Rattle.regions.specs.Value.{convert}
 use Rattle.regions.specs.Variable.{Variable, LocalArray, Variables, StaticReference, Empty, Statics, assign}
@@ -24,7 +24,7 @@ use Rattle.replay.specs.declared.variable.Content.TheVariants as content
 use Rattle.replay.specs.declared.variable.Variable.{Variable as VariableInMemory}
 use Rattle.replay.specs.Outcomes.{given_view, variable_step, Holds, LeavesVariables, LeavesIf}
 use Rattle.replay.specs.Views.{content_view, variables_view, written}
-use Rattle.replay.proofs.VariableLemmas.{assigned_there, variable_found, variable_missing}
+use Rattle.replay.proofs.VariableLemmas.{assigned_there, variable_found}
 
 -- ---- statics
 

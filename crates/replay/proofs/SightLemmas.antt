@@ -1,14 +1,14 @@
 -- What is seen in variables and statics.
-use Rattle.std.proofs.Common.{◌≡◌, ℕ, ◌<◌, ◌≤◌, ℤ, Bool, true, false, cond, List, [], ◌∷◌, length, map, Option, Some, None, refl, sym, ap, ◌∙◌}
+use Rattle.std.proofs.Common.{◌≡◌, Bool, true, false, cond, List, [], ◌∷◌, map, Option, Some, None, refl, ap, ◌∙◌}
 use Rattle.std.specs.Prelude.{is_some, not}
 use Rattle.std.specs.Str.{bytes_eq}
 use Rattle.base.specs.Bytes.{Identifier, lookup}
 use Rattle.syntax.specs.Parts.{statics_of}
 use Rattle.syntax.specs.Tree.{Static, SourceUnit}
-use Rattle.regions.specs.Sight.{static_is_null, held_reference, holds_null, variable_is_null}
+use Rattle.regions.specs.Sight.{static_is_null, held_reference, holds_null}
 use Rattle.regions.specs.Start.{null_static, null_statics}
-use Rattle.regions.specs.Value.{Value, Truth, Outcome, Gives, Traps, Stuck, outcome_map}
-use Rattle.regions.specs.Variable.{Variable, Scalar, LocalRef, FieldHandle, Elements, LocalArray, StaticReference, Empty, Variables, Statics}
+use Rattle.regions.specs.Value.{Truth, Outcome, Gives, Traps, Stuck, outcome_map}
+use Rattle.regions.specs.Variable.{Variable, Scalar, LocalRef, FieldHandle, Elements, LocalArray, StaticReference, Empty, Variables}
 use Rattle.replay.specs.Views.{negated}
 
 -- each static is NULL

@@ -1,5 +1,5 @@
 -- Terms: how they begin, and what a step of one does.
-use Rattle.std.proofs.Common.{◌≡◌, Option, Some, None, refl, sym, ap, ◌∙◌}
+use Rattle.std.proofs.Common.{◌≡◌, None, refl, sym, ap, ◌∙◌}
 use Rattle.base.specs.Bytes.{Identifier}
 use Rattle.syntax.specs.declared.expr.BinaryOp.{BinaryOp}
 use Rattle.syntax.specs.declared.expr.BinaryOp.TheVariants as binary
@@ -9,7 +9,7 @@ use Rattle.syntax.specs.declared.expr.Expr.{Expr as ExprInMemory}
 use Rattle.syntax.specs.declared.expr.Expr.TheVariants as expr
 use Rattle.syntax.specs.Parts.{null_tested}
 use Rattle.syntax.specs.Tree.{Expr, Variable, Binary}
-use Rattle.syntax.specs.Views.{expr_tree, constant_tree, binary_tree}
+use Rattle.syntax.specs.Views.{expr_tree, binary_tree}
 use Rattle.regions.specs.Heap.{Heap}
 use Rattle.regions.specs.Sight.{seen}
 use Rattle.regions.specs.Term as tree
@@ -23,7 +23,7 @@ use Rattle.replay.specs.declared.term.Term.TheVariants as term
 use Rattle.replay.specs.declared.value.Evaluated.{Evaluated}
 use Rattle.replay.specs.declared.value.Evaluated.TheVariants as evaluated
 use Rattle.replay.specs.declared.value.Value.{Value as ValueInMemory}
-use Rattle.replay.specs.Views.{value_view, evaluated_view, term_view, IsReplaced, Reduces}
+use Rattle.replay.specs.Views.{evaluated_view, term_view, IsReplaced, Reduces}
 
 -- ---- comparisons with NULL
 

@@ -13,7 +13,6 @@ use Rattle.regions.specs.Task.{tasks_of}
 use Rattle.classes.specs.Class.{Classes}
 use Rattle.world.specs.Scene.{CallScene}
 use Rattle.world.specs.SceneWorld.{invocation_of}
-use Rattle.regions.specs.Task.{Task}
 use Rattle.regions.specs.Thread.{Thread, Shared, Lent, Event, Quiet, PrintedNumber, Trapped, Advances as AdvancesTo, NoAdvance, Unfinished, Ended}
 use Rattle.regions.specs.Activation.{return_step, enter, entered, entry_advance, entered_function, class_of_function, function_at}
 use Rattle.regions.specs.ThreadStep.{thread_step, step_within}

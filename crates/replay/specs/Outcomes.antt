@@ -1,5 +1,5 @@
 -- What a step of a task does to the variables.
-use Rattle.std.specs.Prelude.{◌≡◌, true, false, Bool, ℕ, pos, List, length, replicate}
+use Rattle.std.specs.Prelude.{◌≡◌, true, false, Bool, pos, List, length, replicate}
 use Rattle.base.specs.Bytes.{lookup}
 use Rattle.syntax.specs.Views.{element_tree}
 use Rattle.regions.specs.CallEffects.{CallResult, NullResult, ScalarResult}

@@ -1,6 +1,5 @@
 use Rattle.std.proofs.Common.{None, ap, ◌∙◌, rules}
 use Rattle.syntax.specs.Views.{unit_tree}
-use Rattle.regions.specs.CallStep.{filled}
 use Rattle.regions.specs.Start.{null_statics}
 use Rattle.regions.specs.Variable.{Variable, FieldHandle, assign}
 use Rattle.replay.specs.Outcomes.{given_view}

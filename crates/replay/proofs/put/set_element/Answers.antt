@@ -1,4 +1,4 @@
-use Rattle.std.proofs.Common.{None, Some, rules}
+use Rattle.std.proofs.Common.{None, rules}
 use Rattle.regions.specs.Variable.{FieldHandle}
 use Rattle.replay.specs.Views.{content_view}
 use Rattle.replay.proofs.PutLemmas.{content_set, element_leaves, element_missing}
