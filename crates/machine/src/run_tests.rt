@@ -1,6 +1,8 @@
 //! Runs of blocks, local arrays, statics and traps.
 
-ghost use Rattle.std.specs.Prelude.{◌≡◌, true, false};
+ghost use Rattle.std.specs.Prelude.{◌≡◌, true, false, [], ◌∷◌, IfOk};
+ghost use Rattle.syntax.specs.Tree.{Binary, Equal, Number, ShiftLeft, TestExpr, Variable};
+ghost use Rattle.syntax.specs.Views.{expr_tree, binary_tree, test_tree};
 ghost use Rattle.syntax.specs.declared.expr.Expr.TheVariants as expr;
 
 use crate::machine::Machine;
@@ -38,6 +40,28 @@ fn int(value: u32) -> Expr
     }
 }
 
+/// An operator between two numbers with `u`.
+fn words(alloc: Global, operator: BinaryOp, left: u32, right: u32) -> Result<Expr, AllocError>
+    ensures { IfOk result (λ e. expr_tree e ≡ Binary (binary_tree operator) (Number left true) (Number right true)) }
+{
+    Ok(Expr::Binary(
+        operator,
+        Box::new(alloc, word(left))?,
+        Box::new(alloc, word(right))?,
+    ))
+}
+
+/// An operator between `i` and a number with `u`.
+fn with_i(alloc: Global, operator: BinaryOp, value: u32) -> Result<Expr, AllocError>
+    ensures { IfOk result (λ e. expr_tree e ≡ Binary (binary_tree operator) (Variable (105 ∷ [])) (Number value true)) }
+{
+    Ok(Expr::Binary(
+        operator,
+        Box::new(alloc, Expr::Variable(Name::new(alloc, b"i")?))?,
+        Box::new(alloc, word(value))?,
+    ))
+}
+
 /// Runs a unit's one thread to its end.
 fn run_to_end(rt: &impl Abort, alloc: Global, unit: Unit, text: &[u8]) -> Result<(), Fail> {
     let checked = check(alloc, type_unit(alloc, unit)?)?;
@@ -53,7 +77,8 @@ fn run_to_end(rt: &impl Abort, alloc: Global, unit: Unit, text: &[u8]) -> Result
 }
 
 /// A function of these statements:
-/// `uint32_t i = 0u; while (i < 3u) { i = i + 1u; } put_jint((jint)i); return;`
+/// `uint32_t i = 0u; while (i < 3u) { i = i + 1u; } return;`
+#[tactic(auto, using(syntax::proofs::Blocks::blocks))]
 fn counting_unit(alloc: Global) -> Result<Unit, AllocError> {
     let statement_1 = Stmt {
         line: 2,
@@ -67,11 +92,7 @@ fn counting_unit(alloc: Global) -> Result<Unit, AllocError> {
         line: 3,
         form: Form::Assign(
             Name::new(alloc, b"i")?,
-            RightSide::Expr(Expr::Binary(
-                BinaryOp::Add,
-                Box::new(alloc, Expr::Variable(Name::new(alloc, b"i")?))?,
-                Box::new(alloc, word(1))?,
-            )),
+            RightSide::Expr(with_i(alloc, BinaryOp::Add, 1)?),
         ),
     };
     let inside_3 = Block {
@@ -80,24 +101,10 @@ fn counting_unit(alloc: Global) -> Result<Unit, AllocError> {
     };
     let statement_4 = Stmt {
         line: 3,
-        form: Form::While(
-            Expr::Binary(
-                BinaryOp::Less,
-                Box::new(alloc, Expr::Variable(Name::new(alloc, b"i")?))?,
-                Box::new(alloc, word(3))?,
-            ),
-            inside_3,
-        ),
+        form: Form::While(with_i(alloc, BinaryOp::Less, 3)?, inside_3),
     };
     let statement_5 = Stmt {
         line: 4,
-        form: Form::PutJint(Expr::Prefix(
-            PrefixOp::ToInt,
-            Box::new(alloc, Expr::Variable(Name::new(alloc, b"i")?))?,
-        )),
-    };
-    let statement_6 = Stmt {
-        line: 5,
         form: Form::Return(None),
     };
     let function = Function {
@@ -107,7 +114,7 @@ fn counting_unit(alloc: Global) -> Result<Unit, AllocError> {
         class_name: Name::new(alloc, b"cls")?,
         parameters: Vec::new(alloc),
         body: Block {
-            statements: vec![in alloc; statement_1, statement_4, statement_5, statement_6]?,
+            statements: vec![in alloc; statement_1, statement_4, statement_5]?,
             end_line: 9,
         },
     };
@@ -116,8 +123,9 @@ fn counting_unit(alloc: Global) -> Result<Unit, AllocError> {
 
 #[test]
 fn three_turns_of_a_loop(rt: HostRuntime) -> Result<(), Fail> {
+    // The entry, two steps to declare, nine for each turn, four to leave the loop, the return.
     let text =
-        b"T1 3\nT1 ended\njournal 1 1 1 1 1 1 1 1 1 1 1 1 1 1 1 1 1 1 1 1 1 1 1 1 1 1 1 1 1 1 1 1 1 1 1 1 1 1\n";
+        b"T1 ended\njournal 1 1 1 1 1 1 1 1 1 1 1 1 1 1 1 1 1 1 1 1 1 1 1 1 1 1 1 1 1 1 1 1 1 1 1\n";
     let alloc = rt.alloc();
     run_to_end(&rt, alloc, counting_unit(alloc)?, text)
 }
@@ -175,6 +183,7 @@ fn an_element_past_the_end(rt: HostRuntime) -> Result<(), Fail> {
 
 /// A function of these statements:
 /// `if (1u == 1u && 1u / 0u == 0u) { put_jint(1); } put_jint(2); return;`
+#[tactic(auto, using(syntax::proofs::Blocks::blocks))]
 fn dividing_unit(alloc: Global) -> Result<Unit, AllocError> {
     let statement_1 = Stmt {
         line: 2,
@@ -189,26 +198,12 @@ fn dividing_unit(alloc: Global) -> Result<Unit, AllocError> {
         form: Form::If(
             Test::Expr(Expr::Binary(
                 BinaryOp::LogicalAnd,
+                Box::new(alloc, words(alloc, BinaryOp::Equal, 1, 1)?)?,
                 Box::new(
                     alloc,
                     Expr::Binary(
                         BinaryOp::Equal,
-                        Box::new(alloc, word(1))?,
-                        Box::new(alloc, word(1))?,
-                    ),
-                )?,
-                Box::new(
-                    alloc,
-                    Expr::Binary(
-                        BinaryOp::Equal,
-                        Box::new(
-                            alloc,
-                            Expr::Binary(
-                                BinaryOp::Divide,
-                                Box::new(alloc, word(1))?,
-                                Box::new(alloc, word(0))?,
-                            ),
-                        )?,
+                        Box::new(alloc, words(alloc, BinaryOp::Divide, 1, 0)?)?,
                         Box::new(alloc, word(0))?,
                     ),
                 )?,
@@ -245,27 +240,38 @@ fn a_division_by_zero(rt: HostRuntime) -> Result<(), Fail> {
     run_to_end(&rt, alloc, dividing_unit(alloc)?, text)
 }
 
-/// A function of these statements: `put_jint((jint)(1u << 32u)); return;`
-fn shifting_unit(alloc: Global) -> Result<Unit, AllocError> {
+/// `1u << 32u == 0u`
+fn far_shift(alloc: Global) -> Result<Test, AllocError>
+    ensures { IfOk result (λ t. test_tree t ≡ TestExpr (Binary Equal (Binary ShiftLeft (Number 1 true) (Number 32 true)) (Number 0 true))) }
+{
+    Ok(Test::Expr(Expr::Binary(
+        BinaryOp::Equal,
+        Box::new(alloc, words(alloc, BinaryOp::ShiftLeft, 1, 32)?)?,
+        Box::new(alloc, word(0))?,
+    )))
+}
+
+/// A function of these statements: `if (1u << 32u == 0u) { put_jint(1); } put_jint(2); return;`
+#[tactic(auto, using(syntax::proofs::Blocks::blocks))]
+fn far_shift_unit(alloc: Global) -> Result<Unit, AllocError> {
     let statement_1 = Stmt {
         line: 2,
-        form: Form::PutJint(Expr::Prefix(
-            PrefixOp::ToInt,
-            Box::new(
-                alloc,
-                Expr::Paren(Box::new(
-                    alloc,
-                    Expr::Binary(
-                        BinaryOp::ShiftLeft,
-                        Box::new(alloc, word(1))?,
-                        Box::new(alloc, word(32))?,
-                    ),
-                )?),
-            )?,
-        )),
+        form: Form::PutJint(int(1)),
     };
-    let statement_2 = Stmt {
+    let inside_2 = Block {
+        statements: vec![in alloc; statement_1]?,
+        end_line: 2,
+    };
+    let statement_3 = Stmt {
+        line: 2,
+        form: Form::If(far_shift(alloc)?, inside_2),
+    };
+    let statement_4 = Stmt {
         line: 3,
+        form: Form::PutJint(int(2)),
+    };
+    let statement_5 = Stmt {
+        line: 4,
         form: Form::Return(None),
     };
     let function = Function {
@@ -275,7 +281,7 @@ fn shifting_unit(alloc: Global) -> Result<Unit, AllocError> {
         class_name: Name::new(alloc, b"cls")?,
         parameters: Vec::new(alloc),
         body: Block {
-            statements: vec![in alloc; statement_1, statement_2]?,
+            statements: vec![in alloc; statement_3, statement_4, statement_5]?,
             end_line: 9,
         },
     };
@@ -287,11 +293,12 @@ fn a_shift_by_32(rt: HostRuntime) -> Result<(), Fail> {
     // The entry, two steps to the operands, and the shift.
     let text = b"T1 trap 2 line 2\njournal 1 1 1 1\n";
     let alloc = rt.alloc();
-    run_to_end(&rt, alloc, shifting_unit(alloc)?, text)
+    run_to_end(&rt, alloc, far_shift_unit(alloc)?, text)
 }
 
 /// Behind `static jobject g = NULL;` a function of these statements:
 /// `if (g == NULL) { put_jint(1); } return;`
+#[tactic(auto, using(syntax::proofs::Blocks::blocks))]
 fn static_unit(alloc: Global) -> Result<Unit, AllocError> {
     let shared = Static {
         line: 1,
