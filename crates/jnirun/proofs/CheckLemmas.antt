@@ -1,16 +1,16 @@
 -- What the layers answer, as what a check answers.
-use Rattle.std.proofs.Common.{◌≡◌, ℕ, List, Err, refl}
+use Rattle.std.proofs.Common.{◌≡◌, ℕ, List, Err, refl, subst}
 use Rattle.syntax.specs.Tree.{SourceUnit}
 use Rattle.lower.specs.declared.fault.LowerFault.{LowerFault}
 use Rattle.lower.specs.declared.fault.LowerFault.TheVariants as lowering
-use Rattle.lower.specs.Layout.{IsTooLong}
+use Rattle.lower.specs.Coding.{IsTooLong}
 use Rattle.jnirun.specs.declared.fault.Place.TheVariants as place
 use Rattle.jnirun.specs.declared.fault.RunError.{RunError}
 use Rattle.jnirun.specs.declared.fault.RunError.TheVariants.{Memory, File, Fault, Writer}
 use Rattle.jnirun.specs.Errors.{of_lower}
 use Rattle.jnirun.specs.Passes.{IsRefusal}
 use Rattle.jnirun.specs.Programs.{IsProgram}
-use Rattle.jnirun.specs.Checks.{by_pass, by_length, ChecksText, IsCheckedOrFails}
+use Rattle.jnirun.specs.Checks.{by_pass, by_length, PassesCheck, ChecksText, IsCheckedOrFails}
 
 pub refused_pass : (text : List ℕ) (e : RunError) → IsRefusal text e → ChecksText text (Err e)
 refused_pass text Memory h = tt
@@ -26,3 +26,8 @@ refused_length text unit lowering.TooLong is h = by_length unit is (h refl)
 pub length_alone : (f : LowerFault) → IsCheckedOrFails (Err (of_lower f))
 length_alone lowering.Memory = tt
 length_alone lowering.TooLong = (refl, refl)
+
+-- where no function is too long, memory ran out
+pub memory_alone : (text : List ℕ) (found : SourceUnit) (f : LowerFault) (p : PassesCheck text) → found ≡ p.unit → (f ≡ lowering.TooLong → IsTooLong found) → of_lower f ≡ Memory
+memory_alone text found lowering.Memory p same h = refl
+memory_alone text found lowering.TooLong p same h = absurd (p.short (subst IsTooLong same (h refl)))

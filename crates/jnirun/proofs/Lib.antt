@@ -1,4 +1,5 @@
 mod Refusals
+mod Acceptances
 mod CheckLemmas
 mod SayLemmas
 mod FileLemmas

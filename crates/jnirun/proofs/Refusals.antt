@@ -17,9 +17,10 @@ use Rattle.types.specs.declared.fault.TypeFault.TheVariants as sorting
 use Rattle.types.specs.Faults.{IfBroken, fault_of, rule_of}
 use Rattle.types.specs.BuiltCalls.{calls_are_built, first_refused}
 use Rattle.types.specs.SortRules.{IsSorted}
-use Rattle.regions.specs.declared.fault.RegionFault.{RegionFault}
+use Rattle.regions.specs.declared.fault.CheckFault.{CheckFault}
+use Rattle.regions.specs.declared.fault.CheckFault.TheVariants as region_checking
 use Rattle.regions.specs.FirstFaults.{IsFirstRegionFault}
-use Rattle.regions.specs.OpenEnds as open_ends
+use Rattle.regions.specs.Findings as findings
 use Rattle.jnirun.specs.Errors.{of_scan, of_parse, of_types, of_regions}
 use Rattle.jnirun.specs.Passes.{IsRefusal}
 use Rattle.jnirun.specs.Programs.{by_scan, by_parse, by_sorts, by_regions}
@@ -36,5 +37,6 @@ pub types_refusal : (text : List ℕ) (unit : SourceUnit) (f : TypeFault) → Sp
 types_refusal text unit sorting.Memory s h = tt
 types_refusal text unit (sorting.Broken fault) s h = by_sorts unit (rule_of fault.rule) fault.line s h
 
-pub regions_refusal : (text : List ℕ) (unit : SourceUnit) (f : RegionFault) → SpellsUnit text unit → IsSorted unit → IsTrue (calls_are_built unit) → IsFirstRegionFault (open_ends.rule_of f.rule) f.line unit → IsRefusal text (of_regions f)
-regions_refusal text unit f s t b h = by_regions unit (open_ends.rule_of f.rule) f.line s t b h
+pub regions_refusal : (text : List ℕ) (unit : SourceUnit) (f : CheckFault) → SpellsUnit text unit → IsSorted unit → IsTrue (calls_are_built unit) → findings.IfBroken f (λ g. IsFirstRegionFault (findings.rule_of g.rule) g.line unit) → IsRefusal text (of_regions f)
+regions_refusal text unit region_checking.Memory s t b h = tt
+regions_refusal text unit (region_checking.Broken fault) s t b h = by_regions unit (findings.rule_of fault.rule) fault.line s t b h

@@ -1,7 +1,6 @@
 -- A replay of a run's journal is of the same unit, world and journal, and what is written of these is one text.
-use Rattle.std.proofs.Common.{◌≡◌, ℕ, List, ◌++◌, Ok, IsTrue, is_some, length, sym, ap, ◌∙◌, subst}
+use Rattle.std.proofs.Common.{◌≡◌, ℕ, List, ◌++◌, Ok, is_some, length, sym, ap, ◌∙◌, subst}
 use Rattle.syntax.specs.Tree.{SourceUnit}
-use Rattle.parse.specs.Built.{is_built}
 use Rattle.parse.specs.Spelling.{SpellsUnit}
 use Rattle.world.specs.Journal.{Journal, journal_line}
 use Rattle.world.specs.ReadingJournals.{journal_of}
@@ -24,7 +23,7 @@ one_text unit w journal a b x y =
 
 -- no text spells two units
 abbrev pub OneUnit : Type 0
-OneUnit = (text : List ℕ) (a b : SourceUnit) → IsTrue (is_built a) → IsTrue (is_built b) → SpellsUnit text a → SpellsUnit text b → a ≡ b
+OneUnit = (text : List ℕ) (a b : SourceUnit) → SpellsUnit text a → SpellsUnit text b → a ≡ b
 
 module _ (program world schedule journal written : List ℕ) (run : IsRun program world schedule written) (read : IsJournalOf run journal) where
   -- what the texts of the replay mean
@@ -36,7 +35,7 @@ module _ (program world schedule journal written : List ℕ) (run : IsRun progra
 
   pub same_text : OneUnit → (again : List ℕ) → IsReplay program world journal again → again ≡ written
   same_text one again r =
-      let unit_is : r.meaning.unit ≡ run.meaning.unit = one program r.meaning.unit run.meaning.unit r.meaning.of_program.built run.meaning.of_program.built r.meaning.of_program.spelled run.meaning.of_program.spelled in
+      let unit_is : r.meaning.unit ≡ run.meaning.unit = one program r.meaning.unit run.meaning.unit r.meaning.of_program.spelled run.meaning.of_program.spelled in
       let scene_is : r.meaning.scene ≡ run.meaning.scene = cc (r.meaning.of_world, run.meaning.of_world) in
       let read_again : journal_of journal (length run.meaning.scene.threads) ≡ Ok r.meaning.entries = subst (λ (s : Scene). journal_of journal (length s.threads) ≡ Ok r.meaning.entries) scene_is r.meaning.of_journal in
       let entries_are : r.meaning.entries ≡ run.journal = cc (read_again, read) in

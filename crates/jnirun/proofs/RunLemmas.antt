@@ -22,19 +22,20 @@ use Rattle.regions.specs.Run.{Over, Collects, Waits, Steps, Follows, JournalFoll
 use Rattle.regions.specs.Start.{start}
 use Rattle.lower.specs.declared.fault.LowerFault.{LowerFault}
 use Rattle.lower.specs.declared.fault.LowerFault.TheVariants as lowering
-use Rattle.lower.specs.Layout.{IsTooLong}
+use Rattle.lower.specs.Coding.{IsTooLong}
 use Rattle.machine.specs.declared.fault.LoadFault.{LoadFault}
 use Rattle.machine.specs.declared.fault.LoadFault.TheVariants as loading
 use Rattle.machine.specs.Loading.{IsLoadFault}
 use Rattle.machine.specs.Run.{Run, IsUnstarted, RunsAlong, RunsInto, WritesRun, replay_of}
-use Rattle.jnirun.specs.declared.fault.Place.TheVariants as place
 use Rattle.jnirun.specs.declared.fault.RunError.{RunError}
 use Rattle.jnirun.specs.declared.fault.RunError.TheVariants.{Memory, File, Fault, Writer}
 use Rattle.jnirun.specs.Errors.{of_lower, of_reading, of_load}
 use Rattle.jnirun.specs.Passes.{IsRefusal}
 use Rattle.jnirun.specs.Programs.{IsProgram}
-use Rattle.jnirun.specs.Texts.{Meaning, AreRefused, by_program, by_length, by_world, by_schedule, by_load}
+use Rattle.jnirun.specs.Checks.{ChecksText}
+use Rattle.jnirun.specs.Texts.{Meaning, AreRefused, by_check, by_world, by_schedule, by_load}
 use Rattle.jnirun.specs.Runs.{RunsTexts, IsRun, IsRunOrFails}
+use Rattle.jnirun.proofs.CheckLemmas as checks
 
 -- a journal has no more entries than the words that it follows
 follows_short : {unit : SourceUnit} {w : World} {s end : State} {journal : Journal} {words : Schedule} → Follows unit w s journal words end → length journal ≤ length words
@@ -61,16 +62,18 @@ module _ (program world schedule : List ℕ) (old : Written) where
   abbrev pub Refuses : RunError → Type 0
   Refuses e = RunsTexts old old (Err e) (IsRun program world schedule) (AreRefused program world schedule)
 
+  -- what a check refuses is refused
+  refused_check : (e : RunError) → ChecksText program (Err e) → Refuses e
+  refused_check Memory h = refl
+  refused_check (Fault number place) h = (refl, by_check number place h)
+  refused_check File h = absurd h
+  refused_check Writer h = absurd h
+
   pub refused_program : (e : RunError) → IsRefusal program e → Refuses e
-  refused_program Memory h = refl
-  refused_program (Fault number (place.Line line)) h = (refl, by_program number line h)
-  refused_program (Fault number (place.Entry entry)) h = absurd h
-  refused_program File h = absurd h
-  refused_program Writer h = absurd h
+  refused_program e h = refused_check e (checks.refused_pass program e h)
 
   pub refused_length : (unit : SourceUnit) (f : LowerFault) → IsProgram program unit → (f ≡ lowering.TooLong → IsTooLong unit) → Refuses (of_lower f)
-  refused_length unit lowering.Memory is h = refl
-  refused_length unit lowering.TooLong is h = (refl, by_length unit is (h refl))
+  refused_length unit f is h = refused_check (of_lower f) (checks.refused_length program unit f is h)
 
   pub refused_world : (unit : SourceUnit) (e : ReadError) → IsProgram program unit → Fails e (scene_of_text world) → Refuses (of_reading e)
   refused_world unit reading.Memory is h = refl

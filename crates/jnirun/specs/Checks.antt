@@ -1,7 +1,7 @@
 -- Which program texts a check passes, and which number and place another earns.
 use Rattle.std.specs.Prelude.{◌≡◌, ℕ, List, Result, Ok, Err}
 use Rattle.syntax.specs.Tree.{SourceUnit}
-use Rattle.lower.specs.Layout.{IsTooLong}
+use Rattle.lower.specs.Coding.{IsTooLong}
 use Rattle.jnirun.specs.declared.fault.Place.{Place}
 use Rattle.jnirun.specs.declared.fault.Place.TheVariants.{Line}
 use Rattle.jnirun.specs.declared.fault.RunError.{RunError}
@@ -9,9 +9,15 @@ use Rattle.jnirun.specs.declared.fault.RunError.TheVariants.{Memory, File, Fault
 use Rattle.jnirun.specs.Programs.{IsProgram, IsRefusedProgram}
 
 -- the text is that of an accepted program
+pub record IsProgramText (text : List ℕ) : Type 0 where
+  pub unit : SourceUnit
+  pub of_program : IsProgram text unit
+
+-- the text is that of an accepted program, and the code of no function is too long
 pub record PassesCheck (text : List ℕ) : Type 0 where
   pub unit : SourceUnit
   pub of_program : IsProgram text unit
+  pub short : IsTooLong unit → ⊥
 
 -- The text is refused, by the first pass that finds a fault, or since the code of a function would be too long.
 pub data FailsCheck (text : List ℕ) : (number : ℕ) → Place → Type 0 where

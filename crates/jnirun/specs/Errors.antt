@@ -9,8 +9,9 @@ use Rattle.types.specs.declared.fault.TypeFault.{TypeFault}
 use Rattle.types.specs.declared.fault.TypeFault.TheVariants as sorting
 use Rattle.types.specs.Faults as type_faults
 use Rattle.types.specs.SortRules.{sort_rule_number}
-use Rattle.regions.specs.declared.fault.RegionFault.{RegionFault}
-use Rattle.regions.specs.OpenEnds as region_faults
+use Rattle.regions.specs.declared.fault.CheckFault.{CheckFault}
+use Rattle.regions.specs.declared.fault.CheckFault.TheVariants as region_checking
+use Rattle.regions.specs.Findings as region_faults
 use Rattle.regions.specs.RegionRules.{region_rule_number}
 use Rattle.lower.specs.declared.fault.LowerFault.{LowerFault}
 use Rattle.lower.specs.declared.fault.LowerFault.TheVariants as lowering
@@ -39,8 +40,9 @@ abbrev pub of_types : TypeFault → RunError
 of_types sorting.Memory = Memory
 of_types (sorting.Broken fault) = Fault (sort_rule_number (type_faults.rule_of fault.rule)) (Line fault.line)
 
-abbrev pub of_regions : RegionFault → RunError
-of_regions fault = Fault (region_rule_number (region_faults.rule_of fault.rule)) (Line fault.line)
+abbrev pub of_regions : CheckFault → RunError
+of_regions region_checking.Memory = Memory
+of_regions (region_checking.Broken fault) = Fault (region_rule_number (region_faults.rule_of fault.rule)) (Line fault.line)
 
 abbrev pub of_lower : LowerFault → RunError
 of_lower lowering.Memory = Memory

@@ -9,7 +9,6 @@ use Rattle.scan.specs.Faults.{IsFirstFault}
 use Rattle.scan.specs.Faults as scan_faults
 use Rattle.parse.specs.declared.fault.Fault.{Fault as BadForm}
 use Rattle.parse.specs.declared.fault.ParseFault.TheVariants as parsing
-use Rattle.parse.specs.Built.{is_built}
 use Rattle.parse.specs.Faults as parse_faults
 use Rattle.parse.specs.Lexemes.{lexemes}
 use Rattle.parse.specs.Reading.{unit_at}
@@ -20,11 +19,9 @@ use Rattle.regions.specs.RegionRules.{RegionRule, region_rule_number}
 use Rattle.regions.specs.Regions.{HasRegions}
 use Rattle.regions.specs.FirstFaults.{IsFirstRegionFault}
 
--- the unit is the tree that the text spells, of forms that are built, it keeps the rules of sorts and regions, and it
--- calls functions that are built
+-- the unit is the tree that the text spells, it keeps the rules of sorts and regions, and it calls functions that are built
 pub record IsProgram (text : List ℕ) (unit : SourceUnit) : Type 0 where
   pub spelled : SpellsUnit text unit
-  pub built : IsTrue (is_built unit)
   pub sorted : IsSorted unit
   pub calls : IsTrue (calls_are_built unit)
   pub regions : HasRegions unit

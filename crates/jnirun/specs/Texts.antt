@@ -9,10 +9,10 @@ use Rattle.world.specs.Scene.{Scene}
 use Rattle.world.specs.SceneWorld.{world_of_scene}
 use Rattle.world.specs.Schedule.{Schedule}
 use Rattle.regions.specs.Load.{first_load_fault}
-use Rattle.lower.specs.Layout.{IsTooLong}
 use Rattle.jnirun.specs.declared.fault.Place.{Place}
 use Rattle.jnirun.specs.declared.fault.Place.TheVariants.{Line}
-use Rattle.jnirun.specs.Programs.{IsProgram, IsRefusedProgram}
+use Rattle.jnirun.specs.Programs.{IsProgram}
+use Rattle.jnirun.specs.Checks.{FailsCheck}
 
 -- the unit, the world and the schedule of three texts, which go with each other
 pub record Meaning (program world schedule : List ℕ) : Type 0 where
@@ -24,12 +24,10 @@ pub record Meaning (program world schedule : List ℕ) : Type 0 where
   pub of_schedule : schedule_of schedule (length scene.threads) ≡ Ok words
   pub loads : first_load_fault unit (world_of_scene scene) ≡ None
 
--- The program is lowered, the other texts are read in their order, and all are loaded. This number and place are those of the
+-- The program is checked, the other texts are read in their order, and all are loaded. This number and place are those of the
 -- first that is refused.
 pub data AreRefused (program world schedule : List ℕ) : (number : ℕ) → Place → Type 0 where
-  by_program : (number line : ℕ) → IsRefusedProgram program number line → AreRefused program world schedule number (Line line)
-  -- the code of a function would be too long
-  by_length : (unit : SourceUnit) → IsProgram program unit → IsTooLong unit → AreRefused program world schedule 51 (Line 0)
+  by_check : (number : ℕ) (place : Place) → FailsCheck program number place → AreRefused program world schedule number place
   by_world : (unit : SourceUnit) (fault : TextFault) → IsProgram program unit → scene_of_text world ≡ Err fault → AreRefused program world schedule (rule_number fault.rule) (Line fault.line)
   by_schedule : (unit : SourceUnit) (scene : Scene) (fault : TextFault) → IsProgram program unit → scene_of_text world ≡ Ok scene → schedule_of schedule (length scene.threads) ≡ Err fault → AreRefused program world schedule (rule_number fault.rule) (Line fault.line)
   by_load : (unit : SourceUnit) (scene : Scene) (words : Schedule) (line : ℕ) → IsProgram program unit → scene_of_text world ≡ Ok scene → schedule_of schedule (length scene.threads) ≡ Ok words → first_load_fault unit (world_of_scene scene) ≡ Some line → AreRefused program world schedule 82 (Line line)

@@ -1,7 +1,7 @@
 //! A check of a program text.
 
-ghost use Rattle.std.specs.Prelude.{◌≡◌};
-ghost use Rattle.jnirun.specs.Checks.{PassesCheck, ChecksText, IsCheckedOrFails};
+ghost use Rattle.std.specs.Prelude.{◌≡◌, IsOkUnless};
+ghost use Rattle.jnirun.specs.Checks.{PassesCheck, ChecksText, IsProgramText, IsCheckedOrFails};
 
 use crate::fault::RunError;
 use crate::program::program;
@@ -15,8 +15,10 @@ use std::alloc::Global;
 /// found, with its line, or 51 at line 0. The time is linear in the text but for the names of a function.
 pub fn check_text(alloc: Global, program_text: &[u8]) -> Result<(), RunError>
     ensures check { ChecksText program_text.now result }
-    // The text of an accepted program is refused for memory or for length alone.
-    ensures accepted { PassesCheck program_text.now → IsCheckedOrFails result }
+    // The text of an accepted program is refused for memory or for length alone, and where no function is too long, for
+    // memory alone.
+    ensures accepted { IsProgramText program_text.now → IsCheckedOrFails result }
+    ensures passes { PassesCheck program_text.now → IsOkUnless result RunError.Memory }
 {
     let checked = match program(alloc, program_text) {
         Ok(checked) => checked,

@@ -9,7 +9,7 @@ ghost use Rattle.jnirun.specs.Passes.{IsRefusal, IsUnitOr};
 
 use crate::fault::{Place, RunError};
 use parse::{ParseFault, parse};
-use regions::{Checked, RegionFault, check};
+use regions::{CheckFault, Checked, check};
 use scan::{ScanFault, scan};
 use std::alloc::Global;
 use types::{TypeFault, type_unit};
@@ -47,10 +47,13 @@ fn of_types(fault: TypeFault) -> RunError
     }
 }
 
-fn of_regions(fault: RegionFault) -> RunError
+fn of_regions(fault: CheckFault) -> RunError
     ensures { result ≡ of_regions fault }
 {
-    RunError::Fault(fault.rule.number(), Place::Line(fault.line))
+    match fault {
+        CheckFault::Memory => RunError::Memory,
+        CheckFault::Broken(fault) => RunError::Fault(fault.rule.number(), Place::Line(fault.line)),
+    }
 }
 
 /// The checked unit of a program text: scanned, parsed, and checked for sorts and regions, in this order.
@@ -72,7 +75,7 @@ pub(crate) fn program(alloc: Global, text: &[u8]) -> Result<Checked, RunError>
         Ok(typed) => typed,
         Err(fault) => return Err(of_types(fault)),
     };
-    match check(typed) {
+    match check(alloc, typed) {
         Ok(checked) => Ok(checked),
         Err(fault) => Err(of_regions(fault)),
     }

@@ -1,11 +1,15 @@
 //! Worked programs, refusals and statuses, through `serve`.
 
+mod examples;
+mod limits;
+mod pages;
+mod worked;
+
 use crate::files::{FileFault, Files};
 use crate::serve::serve;
-use std::alloc::{AllocError, Global};
+use std::alloc::Global;
 use std::io;
 use std::io::{ErrorKind, Write};
-use std::test::Fail;
 use world::StdSink;
 
 /// Three files, `p`, `w` and `o`; every other name fails.
@@ -67,94 +71,10 @@ const RUN: [&str; 6] = ["jnirun", "run", "p", "w", "--schedule", "o"];
 
 const REPLAY: [&str; 5] = ["jnirun", "replay", "p", "w", "o"];
 
-const FIRST: &[u8] =
-    b"JNIEXPORT void JNICALL Java_A_f(JNIEnv *env, jclass cls)\n{\n    put_jint((jint)(2u + 3u * 4u - 1u));\n    return;\n}\n";
-
 const ZERO: &[u8] = b"JNIEXPORT jint JNICALL Java_A_f(JNIEnv *env, jclass cls) { return 0; }";
-
-const WRAPS: &[u8] =
-    b"JNIEXPORT void JNICALL Java_A_f(JNIEnv *env, jclass cls) { put_jint((jint)(4294967295u + 1u)); put_jint((jint)2147483648u); return; }";
 
 const LENGTH: &[u8] =
     b"JNIEXPORT void JNICALL Java_A_f(JNIEnv *env, jclass cls, jobject a) {\n    jint n = (*env)->GetArrayLength(env, a);\n    put_jint(n);\n    return;\n}";
-
-const PRODUCT: &[u8] =
-    b"JNIEXPORT void JNICALL Java_A_f(JNIEnv *env, jclass cls, jintArray a, jint times)\n{\n    jint n = (*env)->GetArrayLength(env, a);\n    put_jint(n);\n    jint product = (jint)((uint32_t)n * (uint32_t)times);\n    put_jint(product);\n    return;\n}\n";
-
-const UNUSED: &[u8] =
-    b"JNIEXPORT void JNICALL Java_A_f(JNIEnv *env, jclass cls, jintArray a) { return; }";
-
-/// A worked example: its texts, and what its run writes.
-struct Worked {
-    program: &'static [u8],
-    world: &'static [u8],
-    schedule: &'static [u8],
-    written: &'static [u8],
-}
-
-/// All worked examples; the first is that of `examples/`.
-const WORKED: [Worked; 10] = [
-    Worked {
-        program: FIRST,
-        world: WORLD,
-        schedule: b"1*20\n",
-        written: b"T1 13\nT1 ended\njournal 1 1 1 1 1 1 1 1 1 1 1\n",
-    },
-    Worked {
-        program: ZERO,
-        world: WORLD,
-        schedule: b"1*9",
-        written: b"T1 ended\njournal 1 1 1\n",
-    },
-    Worked {
-        program: WRAPS,
-        world: WORLD,
-        schedule: b"1*20",
-        written: b"T1 0\nT1 -2147483648\nT1 ended\njournal 1 1 1 1 1 1 1 1 1 1\n",
-    },
-    Worked {
-        program: WRAPS,
-        world: WORLD,
-        schedule: b"1*6",
-        written: b"T1 0\nT1 running\njournal 1 1 1 1 1 1\n",
-    },
-    Worked {
-        program: ZERO,
-        world: WORLD,
-        schedule: b"",
-        written: b"T1 running\njournal\n",
-    },
-    Worked {
-        program: LENGTH,
-        world: b"heap 512\nclass A\narray @a I 7 8 9\nthread Java_A_f @a\n",
-        schedule: b"1*9",
-        written: b"T1 3\nT1 ended\n#46 [I 7 8 9\njournal 1 1 1 1 1\n",
-    },
-    Worked {
-        program: LENGTH,
-        world: b"heap 512\nclass A\narray @a I 7 8 9\nthread Java_A_f null\n",
-        schedule: b"1*9",
-        written: b"T1 trap 4 line 2\n#46 [I 7 8 9\njournal 1 1\n",
-    },
-    Worked {
-        program: LENGTH,
-        world: b"heap 512\nclass A\narray @a I 7 8 9\nthread Java_A_f class:A\n",
-        schedule: b"1*9",
-        written: b"T1 trap 6 line 2\n#46 [I 7 8 9\njournal 1 1\n",
-    },
-    Worked {
-        program: UNUSED,
-        world: b"heap 512\nclass A\narray @a I 7 8\nthread Java_A_f @a\n",
-        schedule: b"",
-        written: b"T1 running\n#46 [I 7 8\njournal\n",
-    },
-    Worked {
-        program: PRODUCT,
-        world: b"heap 512\nclass A\narray @a I 7 8 9\nthread Java_A_f @a 14\n",
-        schedule: b"1*40",
-        written: b"T1 3\nT1 42\nT1 ended\n#46 [I 7 8 9\njournal 1 1 1 1 1 1 1 1 1 1 1 1 1 1\n",
-    },
-];
 
 /// What the program wrote with `room` bytes for its output: status, output, and the error's first word.
 fn served<'a>(
@@ -206,68 +126,6 @@ fn run(rt: &impl AllocGlobal, program: &[u8], world: &[u8], schedule: &[u8]) -> 
 /// The status and the output of a replay.
 fn replayed(rt: &impl AllocGlobal, program: &[u8], world: &[u8], journal: &[u8]) -> (u8, Vec<u8>) {
     done(rt, REPLAY.as_slice(), program, world, journal)
-}
-
-/// The entries that an output ends with.
-fn journal_of(out: &[u8]) -> &[u8] {
-    let lines = out.strip_suffix(b"\n").unwrap_or(out);
-    let last = lines.rsplit(|byte| *byte == b'\n').next().unwrap_or(lines);
-    last.strip_prefix(b"journal").unwrap_or(last)
-}
-
-#[test]
-fn worked_examples_run_and_replay(rt: HostRuntime) {
-    for worked in &WORKED {
-        let (status, out) = checked(&rt, worked.program);
-        assert_eq!(rt; status, 0);
-        assert_eq!(rt; out.as_slice(), b"ok\n".as_slice());
-        let (status, out) = run(&rt, worked.program, worked.world, worked.schedule);
-        assert_eq!(rt; status, 0);
-        assert_eq!(rt; out.as_slice(), worked.written);
-        let journal = journal_of(&out);
-        let (status, again) = replayed(&rt, worked.program, worked.world, journal);
-        assert_eq!(rt; status, 0);
-        assert_eq!(rt; again.as_slice(), worked.written);
-    }
-}
-
-#[test]
-fn beginnings_are_checked(rt: HostRuntime) {
-    for text in [FIRST, LENGTH, PRODUCT] {
-        for end in 0..text.len() {
-            let (status, out) = checked(&rt, &text[..end]);
-            if status == 0 {
-                assert_eq!(rt; out.as_slice(), b"ok\n".as_slice());
-            } else {
-                assert_eq!(rt; status, 1);
-                assert!(rt; out.starts_with(b"fault "));
-            }
-        }
-    }
-}
-
-/// A function of so many statements and a return.
-fn long_function(rt: &impl AllocGlobal, statements: usize) -> Result<Vec<u8>, AllocError> {
-    let mut text = Vec::new(rt.alloc());
-    text.extend_from_slice(b"JNIEXPORT void JNICALL Java_A_f(JNIEnv *env, jclass cls) {\n")?;
-    for _statement in 0..statements {
-        text.extend_from_slice(b"put_jint(1);\n")?;
-    }
-    text.extend_from_slice(b"return; }\n")?;
-    Ok(text)
-}
-
-// A statement is two instructions, and the return is one.
-#[test]
-fn long_functions(rt: HostRuntime) -> Result<(), Fail> {
-    let longest = long_function(&rt, 32_767)?;
-    assert_eq!(rt; checked(&rt, &longest).1.as_slice(), b"ok\n".as_slice());
-    let long = long_function(&rt, 32_768)?;
-    assert_eq!(rt;
-        checked(&rt, &long).1.as_slice(),
-        b"fault 51 line 0\n".as_slice()
-    );
-    Ok(())
 }
 
 #[test]

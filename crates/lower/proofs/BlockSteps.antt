@@ -1,41 +1,39 @@
 -- The steps of `if`, `while`, elements and returns; then those of all tasks.
-use Rattle.std.proofs.Common.{◌≡◌, ℕ, ℤ, pos, negsuc, ◌+◌, ◌-◌, ◌<◌, ◌≤◌, ◌⊎◌, inl, inr, Bool, true, false, List, [], ◌∷◌, ◌++◌, length, Option, Some, None, refl, sym, ap, ◌∙◌, subst, arith, append_assoc, length-append}
-use Rattle.std.specs.Prelude.{slice_get, slice_set, nat_lt, IsTrue, FitsSigned}
+use Rattle.std.proofs.Common.{◌≡◌, ℕ, ℤ, pos, negsuc, ◌+◌, ◌-◌, ◌<◌, ◌≤◌, ◌⊎◌, inl, inr, Bool, true, false, List, [], ◌∷◌, ◌++◌, length, Some, refl, sym, ap, ◌∙◌, subst, arith, append_assoc, length-append}
+use Rattle.std.specs.Prelude.{slice_get, slice_set, nat_lt, IsTrue}
 use Rattle.std.specs.List.{list_any}
 use Rattle.std.specs.Int.{w32, cast_unsigned}
 use Rattle.std.proofs.lemmas.List.{append-nil}
 use Rattle.std.proofs.lemmas.Bool.{ltb-true, ltb-false, lt-ltb}
-use Rattle.base.specs.Bytes.{Identifier, lookup}
-use Rattle.base.specs.Element.{ElementType}
+use Rattle.base.specs.Bytes.{Identifier}
 use Rattle.syntax.specs.Tree as tree
 use Rattle.syntax.specs.Tree.{Expr, Block, BitOr}
 use Rattle.types.specs.Sorts.{Sort, Jint, Ref, Array}
 use Rattle.types.specs.Sorts as sort
 use Rattle.code.specs.declared.instr.ReferenceOperand.TheVariants.{Null, Local}
-use Rattle.code.specs.declared.instr.Instr.{Instr}
 use Rattle.code.specs.declared.instr.Instr.TheVariants as instr
 use Rattle.code.specs.declared.instr.Plain.TheVariants as plain
 use Rattle.code.specs.declared.instr.PlainTrap.TheVariants as trap
 use Rattle.code.specs.Depth.{Listing}
-use Rattle.code.specs.Effect.{plain_of, element_word}
-use Rattle.regions.specs.Effect.{Effect, Returns, with_value, return_effect, element_effect, effect_of}
+use Rattle.code.specs.Effect.{element_word}
+use Rattle.regions.specs.Effect.{Returns, with_value, return_effect, element_effect, effect_of}
 use Rattle.regions.specs.Task.{Task, SetScalar, SetElement, SetNull, MakeArray, Invoke, Print, Branch, EndIf, Loop, EndTurn, Return, ReturnValue, Impossible, tasks_of}
 use Rattle.regions.specs.Term as term
 use Rattle.regions.specs.Term.{Term, Done, Read, term_of}
 use Rattle.regions.specs.Value.{Value, Word, Int, Flag, Truth, Gives}
-use Rattle.lower.specs.Layout.{Slot, Known, Layout}
-use Rattle.lower.specs.Coding.{element_of, term_code, expr_code, ways_code, turn_code, block_code}
-use Rattle.lower.specs.Slots.{word_of, Visible, Slots, Shows, ShowsArray}
+use Rattle.lower.specs.Layout.{Known, Layout}
+use Rattle.lower.specs.Coding.{element_of, term_code, ways_code, turn_code, block_code}
+use Rattle.lower.specs.Slots.{word_of, Visible, Slots, Shows}
 use Rattle.lower.specs.Fits.{IsIndexSort, TermHasSort}
-use Rattle.lower.specs.Stands.{held, IsBegun, HasAt, AreAmong, IsUnderWay, NumberStands, SetElementStands, BlockStands, LoopStands, TasksStand, StandsFor, ReferenceReturned, task_returns}
+use Rattle.lower.specs.Stands.{held, HasAt, AreAmong, NumberStands, SetElementStands, BlockStands, LoopStands, TasksStand, StandsFor, ReferenceReturned, task_returns}
 use Rattle.lower.specs.Does.{DoesEffect}
-use Rattle.lower.proofs.SlotLaws.{all_among, fewer_shown, shows_element_set}
+use Rattle.lower.proofs.SlotLaws.{fewer_shown, shows_element_set}
 use Rattle.lower.proofs.CodePlaces.{has_front, has_back}
-use Rattle.lower.proofs.TermSteps.{IsOpen, negative_past, shows_number, untouched_held, begun_left, left_first}
+use Rattle.lower.proofs.TermSteps.{negative_past, shows_number, untouched_held, begun_left, left_first}
 use Rattle.lower.proofs.Bodies.{number_begins, begins}
 use Rattle.lower.proofs.ElementWords.{element_words, convert_fits}
 use Rattle.lower.proofs.WaysReturn.{then_returns, else_returns, any_behind}
-use Rattle.lower.proofs.Steps.{into_task, step_inside, put_step, set_step, null_step, made_step, call_step}
+use Rattle.lower.proofs.Steps.{step_inside, put_step, set_step, null_step, made_step, call_step}
 
 -- The place, with these names known, these operands and these slots, which show what can be seen.
 module _ (code : Listing) (known : Known) (place : ℕ) (stack : List ℕ) (slots : Slots) (visible : Visible) (shows : Shows code known visible slots) where

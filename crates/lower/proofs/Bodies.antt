@@ -1,8 +1,7 @@
 -- The code of a block stands for its statements, wherever it stands.
-use Rattle.std.proofs.Common.{◌≡◌, ℕ, ◌+◌, ◌<◌, ◌≤◌, ◌⊎◌, inl, inr, true, false, List, [], ◌∷◌, ◌++◌, length, Option, Some, None, refl, sym, ap, ◌∙◌, subst, arith, append_assoc, length-append}
-use Rattle.std.specs.Prelude.{slice_get}
+use Rattle.std.proofs.Common.{◌≡◌, ℕ, ◌+◌, ◌⊎◌, inl, inr, true, false, List, [], ◌∷◌, ◌++◌, length, Option, Some, refl, sym, ap, ◌∙◌, subst, arith, length-append}
 use Rattle.base.specs.Bytes.{Identifier, lookup}
-use Rattle.base.specs.Element.{ElementType, JChar}
+use Rattle.base.specs.Element.{JChar}
 use Rattle.syntax.specs.Tree as tree
 use Rattle.syntax.specs.Tree.{Expr, Argument, RightSide, FromExpr, FromCall, Test, TestExpr, TestCall, Stmt, Block, End, Next, VariableType, BitOr}
 use Rattle.types.specs.JniFunction.{GetArrayLength}
@@ -15,21 +14,20 @@ use Rattle.code.specs.declared.instr.NullableVariable.{NullableVariable}
 use Rattle.code.specs.declared.instr.NullableVariable.TheVariants as nullable
 use Rattle.code.specs.declared.instr.ReferenceOperand.TheVariants.{Null, Local}
 use Rattle.code.specs.declared.instr.Target.TheVariants as destination
-use Rattle.code.specs.declared.instr.Instr.{Instr}
 use Rattle.code.specs.declared.instr.Instr.TheVariants as instr
 use Rattle.code.specs.Depth.{Listing}
 use Rattle.regions.specs.Term as term
 use Rattle.regions.specs.Term.{Term, Done, Read, Binary, term_of}
 use Rattle.regions.specs.Task.{Task, SetScalar, Branch, ReturnValue, Target, Declared, Assigned, Dropped, ScalarKind, BufferKind, kind_of, set_task, invocation, call_task, right_side_task, if_task, task_of, tasks_of}
-use Rattle.lower.specs.Layout.{Slot, Known, Layout, new_slot, with_name, closed, layout_behind, block_layout}
+use Rattle.lower.specs.Layout.{Slot, Known, Layout, new_slot, closed, layout_behind, block_layout}
 use Rattle.lower.specs.Coding.{nullable_of, store_of, element_of, write_code, of_slot, operand_of, term_code, expr_code, call_code, value_code, right_code, assign_code, returned_code, return_code, ways_code, turn_code, loop_code, if_code, stmt_code, block_code}
 use Rattle.lower.specs.Slots.{IsNumberSort}
-use Rattle.lower.specs.Fits.{IsIndexSort, IsUntouched, NumberFits, IndexWithin, IsLaidOut, HasRoomFor, ReferenceFits, ArgumentsFit, CallFits, ValueFits, RightFits, TestFits, ReturnFits, StmtFits, BlockFits}
+use Rattle.lower.specs.Fits.{IsUntouched, NumberFits, IndexWithin, IsLaidOut, HasRoomFor, ReferenceFits, ArgumentsFit, ValueFits, RightFits, TestFits, ReturnFits, StmtFits, BlockFits}
 use Rattle.lower.specs.Stands.{held, IsBegun, IsUnderWay, HasAt, AreAmong, IsSlotOf, GoesTo, TargetStands, target_name, BlockStands, TasksStand}
-use Rattle.lower.proofs.SlotLaws.{known_among, new_among, all_among}
+use Rattle.lower.proofs.SlotLaws.{known_among, all_among}
 use Rattle.lower.proofs.CodePlaces.{has_front, has_back}
 use Rattle.lower.proofs.TermSteps.{untouched_held, untouched_begun}
-use Rattle.lower.proofs.Layouts.{AtLeast, more_slots, stmt_grows, block_grows, room_before, room_at_least, index_more, laid_more, free_slot, declared_slot, variable_size, laid_behind, known_behind_stmt}
+use Rattle.lower.proofs.Layouts.{block_grows, room_before, room_at_least, index_more, laid_more, free_slot, declared_slot, variable_size, laid_behind, known_behind_stmt}
 
 -- ---- expressions
 

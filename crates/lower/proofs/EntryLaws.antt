@@ -12,10 +12,10 @@ use Rattle.regions.specs.Activation.{entered, parameter_variables}
 use Rattle.regions.specs.Sight.{scalar, held_reference, holds_null}
 use Rattle.regions.specs.Thread.{Shared, Thread}
 use Rattle.regions.specs.Value.{Int}
-use Rattle.regions.specs.Variable.{Variable, Scalar, LocalRef, StaticReference, Empty, Variables}
+use Rattle.regions.specs.Variable.{Variable, Scalar, LocalRef, StaticReference}
 use Rattle.code.specs.Depth.{Listing}
 use Rattle.lower.specs.Layout.{Slot, Known, parameter_slot, parameter_slots, numbers_behind, references_behind, numbers_of, references_of, entry_names, entry_layout}
-use Rattle.lower.specs.Slots.{Visible, visible_to, Slots, ShowsSlot, Shows, ArgumentFits, ArgumentsFit, argument_word, argument_reference, EntrySlots, AreNull}
+use Rattle.lower.specs.Slots.{visible_to, Slots, ShowsSlot, Shows, ArgumentFits, ArgumentsFit, argument_word, argument_reference, EntrySlots, AreNull}
 use Rattle.lower.specs.Fits.{AreStatics}
 use Rattle.lower.proofs.CodePlaces.{get-append_seam}
 

@@ -1,11 +1,11 @@
 -- Each name at the entry of a function has slots of its own.
-use Rattle.std.proofs.Common.{◌≡◌, ◌≢◌, ℕ, ◌+◌, ◌<◌, ◌≤◌, ◌⊎◌, inl, inr, List, [], ◌∷◌, ◌++◌, length, Option, Some, None, refl, sym, ap, ◌∙◌, subst, arith}
+use Rattle.std.proofs.Common.{◌≡◌, ◌≢◌, ℕ, ◌<◌, ◌≤◌, ◌⊎◌, inl, inr, List, [], ◌∷◌, length, Some, None, refl, sym, ap, ◌∙◌, subst, arith}
 use Rattle.base.specs.Bytes.{Identifier, lookup}
 use Rattle.syntax.specs.Tree.{ParameterType, IntParameter, ReferenceParameter, Parameter, Function, Static}
 use Rattle.types.specs.Sorts.{Sort, Jint, Ref, Global}
 use Rattle.code.specs.declared.slots.SlotCounts.{SlotCounts}
 use Rattle.lower.specs.Layout.{Slot, Known, with_static, parameter_slot, parameter_slots, numbers_behind, references_behind, numbers_of, references_of, entry_names, entry_layout}
-use Rattle.lower.specs.Fits.{IndexWithin, IsPlaceOf, AreApart, IsOwn, IsLaidOut, AreStatics}
+use Rattle.lower.specs.Fits.{IndexWithin, AreApart, IsOwn, IsLaidOut, AreStatics}
 use Rattle.lower.proofs.SlotLaws.{first_or_behind}
 use Rattle.lower.proofs.EntryLaws.{in_both}
 

@@ -1,27 +1,21 @@
 -- The code of a whole function.
-use Rattle.std.proofs.Common.{◌≡◌, ◌≢◌, ℕ, ◌+◌, ◌<◌, ◌≤◌, Bool, true, false, List, [], ◌∷◌, ◌++◌, length, Option, Some, None, refl, sym, ap, ◌∙◌, subst, arith, append_assoc, if◌then◌else◌}
+use Rattle.std.proofs.Common.{◌≤◌, List, [], ◌∷◌, length, refl, subst, arith}
 use Rattle.std.specs.Prelude.{IsTrue}
-use Rattle.std.specs.List.{list_any}
-use Rattle.std.specs.Str.{bytes_eq}
 use Rattle.std.proofs.lemmas.List.{append-nil}
-use Rattle.base.specs.Bytes.{Identifier, lookup}
-use Rattle.syntax.specs.Tree.{ParameterType, IntParameter, ReferenceParameter, Parameter, Function}
-use Rattle.types.specs.Sorts.{Sort, Jint, Ref, Global}
+use Rattle.syntax.specs.Tree.{Function}
 use Rattle.world.specs.Object.{ObjectValue}
 use Rattle.code.specs.declared.instr.Instr.TheVariants as instr
-use Rattle.code.specs.declared.slots.SlotCounts.{SlotCounts}
 use Rattle.code.specs.Depth.{Listing, IsValid}
 use Rattle.code.proofs.Pieces.{piece_moves, piece_jumps}
 use Rattle.regions.specs.Task.{tasks_of}
-use Rattle.lower.specs.Layout.{Slot, Known, Layout, parameter_slot, parameter_slots, numbers_behind, references_behind, numbers_of, references_of, entry_names, entry_layout, block_layout, function_slots}
+use Rattle.lower.specs.Layout.{Known, entry_layout, block_layout, function_slots}
 use Rattle.lower.specs.Coding.{block_code, function_code, instruction_limit}
 use Rattle.lower.specs.Slots.{ArgumentsFit, HasRoom}
 use Rattle.lower.specs.Fits.{HasRoomFor, AreStatics, FunctionFits}
-use Rattle.lower.specs.Stands.{TasksStand, StandsFor, task_returns, block_returns}
+use Rattle.lower.specs.Stands.{TasksStand, StandsFor, block_returns}
 use Rattle.lower.specs.Lowered.{IsCodeOf}
 use Rattle.lower.proofs.CodePlaces.{has_front, has_all}
-use Rattle.lower.proofs.SlotLaws.{first_or_behind}
-use Rattle.lower.proofs.Layouts.{AtLeast, block_grows}
+use Rattle.lower.proofs.Layouts.{block_grows}
 use Rattle.lower.proofs.Bodies.{begins}
 use Rattle.lower.proofs.BlockSteps.{steps}
 use Rattle.lower.proofs.WaysReturn.{block_tasks_return}

@@ -1,5 +1,5 @@
 -- Slots that are taken stay taken, and each known name has its own.
-use Rattle.std.proofs.Common.{◌≡◌, ◌≢◌, ℕ, ◌+◌, ◌<◌, ◌≤◌, true, false, List, [], ◌∷◌, Option, Some, None, refl, sym, ap, ◌∙◌, subst, arith}
+use Rattle.std.proofs.Common.{◌≡◌, ℕ, ◌<◌, ◌≤◌, true, false, Some, sym, ap, ◌∙◌, subst, arith}
 use Rattle.base.specs.Bytes.{Identifier, lookup}
 use Rattle.base.specs.Element.{JChar}
 use Rattle.syntax.specs.Tree as tree
@@ -8,8 +8,8 @@ use Rattle.types.specs.Sorts.{Sort, Word, Jint, Flag, Truth, Ref, Global, FieldI
 use Rattle.types.specs.SortRules.{variable_sort}
 use Rattle.code.specs.declared.slots.SlotCounts.{SlotCounts}
 use Rattle.code.specs.Depth.{Listing}
-use Rattle.lower.specs.Layout.{Slot, Known, Layout, width, next_index, slots_behind, new_slot, with_name, closed, layout_behind, block_layout}
-use Rattle.lower.specs.Fits.{IndexWithin, IsPlaceOf, AreApart, IsOwn, IsLaidOut, HasRoomFor, StmtFits, BlockFits}
+use Rattle.lower.specs.Layout.{Slot, Known, Layout, next_index, slots_behind, new_slot, with_name, closed, layout_behind, block_layout}
+use Rattle.lower.specs.Fits.{IndexWithin, IsPlaceOf, AreApart, IsOwn, IsLaidOut, HasRoomFor, StmtFits}
 use Rattle.lower.specs.Stands.{AreAmong, IsSlotOf}
 use Rattle.lower.proofs.SlotLaws.{first_or_behind, new_among, all_among}
 

@@ -1,5 +1,5 @@
 -- What the slots show once a variable is set.
-use Rattle.std.proofs.Common.{◌≡◌, ◌≢◌, ℕ, zero, suc, ℤ, pos, lit<, ◌+◌, ◌<◌, ◌≤◌, Bool, true, false, List, [], ◌∷◌, ◌++◌, length, Option, Some, None, refl, sym, ap, ◌∙◌, subst, arith, if◌then◌else◌}
+use Rattle.std.proofs.Common.{◌≡◌, ◌≢◌, ℕ, zero, suc, ℤ, pos, lit<, ◌+◌, ◌<◌, ◌≤◌, Bool, true, false, List, [], ◌∷◌, length, Some, None, refl, sym, ap, ◌∙◌, subst, arith, if◌then◌else◌}
 use Rattle.std.specs.Prelude.{slice_get, slice_set, nat_lt, ◌==◌, FitsSigned}
 use Rattle.std.specs.Int.{w32, cast_unsigned}
 use Rattle.std.specs.Str.{bytes_eq}
@@ -11,18 +11,16 @@ use Rattle.base.specs.Bytes.{Identifier, lookup}
 use Rattle.base.specs.Element.{ElementType}
 use Rattle.types.specs.Sorts.{Sort, Jint, Ref, Global, FieldId, Buffer, Array}
 use Rattle.types.specs.Sorts as sort
-use Rattle.world.specs.Object.{Reference}
-use Rattle.regions.specs.Value.{Value, Gives, convert}
-use Rattle.code.specs.declared.instr.LocalArray.{LocalArray}
+use Rattle.regions.specs.Value.{Value, convert}
 use Rattle.code.specs.declared.instr.NullableVariable.{NullableVariable}
 use Rattle.code.specs.declared.instr.NullableVariable.TheVariants as nullable
 use Rattle.code.specs.Depth.{Listing}
 use Rattle.code.specs.Effect.{cleared}
 use Rattle.code.proofs.Arrays.{cleared_element, cleared_before, cleared_behind}
-use Rattle.lower.specs.Layout.{Slot, Known, width}
+use Rattle.lower.specs.Layout.{Slot, Known}
 use Rattle.lower.specs.Coding.{nullable_of}
-use Rattle.lower.specs.Slots.{word_of, ValueHasSort, IsNumberSort, Visible, IsAsBefore, OthersStay, IsSet, IsNulled, IsMade, IsElementSet, Slots, ShowsNumber, ShowsElement, ShowsArray, ShowsSlot, Shows, with_null}
-use Rattle.lower.specs.Fits.{IsPlaceOf, AreApart, IsOwn, IndexWithin}
+use Rattle.lower.specs.Slots.{word_of, ValueHasSort, IsNumberSort, Visible, IsAsBefore, OthersStay, IsSet, IsNulled, IsMade, IsElementSet, Slots, ShowsNumber, ShowsElement, ShowsSlot, Shows, with_null}
+use Rattle.lower.specs.Fits.{IsPlaceOf, IsOwn, IndexWithin}
 use Rattle.lower.specs.Stands.{AreAmong, IsSlotOf}
 
 -- ---- a slot is written

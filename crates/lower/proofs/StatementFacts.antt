@@ -88,9 +88,6 @@ pub record CallHolds (known : Known) (call : Option Call) : Type 0 where
   pub count : some_passes (λ c. has_wrong_count c (function_named c.function)) call ≡ false
 
 module _ (known : Known) where
-  pub named_slot : (x : Identifier) (o : Option Sort) (s : Sort) → sort_in (scope_of known) x ≡ o → o ≡ Some s → (i : ℕ) × (lookup x known ≡ Some (record { sort = s; index = i }))
-  named_slot x o s e h = slot_of_name x known s (e ∙ h)
-
   reference_fits : (e : Expr) → (is_null e || is_reference (name_sort (scope_of known) e)) ≡ true → ReferenceFits known e
   reference_fits (tree.Named tree.Null) h = tt
   reference_fits (tree.Variable x) h =

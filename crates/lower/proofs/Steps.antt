@@ -1,21 +1,18 @@
 -- The instruction at a place does what the first task there does.
-use Rattle.std.proofs.Common.{◌≡◌, ℕ, ℤ, pos, negsuc, ◌+◌, ◌-◌, ◌<◌, ◌≤◌, ◌⊎◌, inl, inr, Bool, true, false, ◌&&◌, ◌||◌, List, [], ◌∷◌, ◌++◌, length, Option, Some, None, refl, sym, ap, ◌∙◌, subst, arith, append_assoc, length-append}
-use Rattle.std.specs.Prelude.{slice_get, slice_set, nat_lt, is_none, IsTrue, FitsSigned}
+use Rattle.std.proofs.Common.{◌≡◌, ℕ, ◌+◌, ◌<◌, ◌≤◌, ◌⊎◌, inl, inr, Bool, true, List, [], ◌∷◌, ◌++◌, length, Some, refl, sym, ap, ◌∙◌, subst, arith, append_assoc, length-append}
+use Rattle.std.specs.Prelude.{slice_set, is_none, IsTrue}
 use Rattle.std.specs.List.{list_any}
 use Rattle.std.specs.Int.{w32, cast_unsigned}
 use Rattle.std.proofs.Math.Facts.{to_z-of_z}
 use Rattle.std.proofs.lemmas.List.{append-nil}
 use Rattle.std.proofs.lemmas.Bool.{lt-ltb, le-leb}
-use Rattle.base.specs.Bytes.{Identifier, lookup}
-use Rattle.syntax.specs.Tree as tree
-use Rattle.syntax.specs.Tree.{Expr, Block, BitOr}
+use Rattle.base.specs.Bytes.{Identifier}
 use Rattle.types.specs.JniFunction.{JniFunction}
 use Rattle.types.specs.Sorts.{Sort, Jint, Ref, Global, FieldId, Buffer, Array}
 use Rattle.types.specs.Sorts as sort
 use Rattle.code.specs.declared.instr.Callee.{Callee}
 use Rattle.code.specs.declared.instr.Callee.TheVariants as callee
 use Rattle.code.specs.declared.instr.NullableVariable.{NullableVariable}
-use Rattle.code.specs.declared.instr.ReferenceOperand.{ReferenceOperand}
 use Rattle.code.specs.declared.instr.ReferenceOperand.TheVariants.{Null, Local}
 use Rattle.code.specs.declared.instr.Target.{Target as Destination}
 use Rattle.code.specs.declared.instr.Target.TheVariants as destination
@@ -23,26 +20,24 @@ use Rattle.code.specs.declared.instr.Instr.{Instr}
 use Rattle.code.specs.declared.instr.Instr.TheVariants as instr
 use Rattle.code.specs.declared.instr.Plain.{Plain}
 use Rattle.code.specs.declared.instr.Plain.TheVariants as plain
-use Rattle.code.specs.declared.instr.PlainTrap.TheVariants as trap
 use Rattle.code.specs.Depth.{Listing}
-use Rattle.code.specs.Effect.{plain_of, cleared, element_word}
+use Rattle.code.specs.Effect.{plain_of, cleared}
 use Rattle.code.proofs.Effects.{KeepsSlots, plain_keeps}
-use Rattle.regions.specs.Effect.{Effect, Returns, goes_on, with_value, return_effect, call_effect_of, effect_of}
+use Rattle.regions.specs.Effect.{Effect, goes_on, with_value, call_effect_of, effect_of}
 use Rattle.regions.specs.Arguments.{ReferenceActual}
 use Rattle.regions.specs.Sight.{Sight}
-use Rattle.regions.specs.Task.{Task, SetScalar, SetElement, SetNull, MakeArray, Invoke, Print, Branch, EndIf, Loop, EndTurn, Return, ReturnValue, Impossible, Target, Declared, Assigned, Dropped, ScalarKind, ReferenceKind, FieldKind, BufferKind, Operand}
-use Rattle.regions.specs.Term as term
-use Rattle.regions.specs.Term.{Term, Done, Read, reduce}
+use Rattle.regions.specs.Task.{Task, SetScalar, SetNull, MakeArray, Invoke, Print, Target, Declared, Assigned, Dropped, ScalarKind, ReferenceKind, FieldKind, BufferKind, Operand}
+use Rattle.regions.specs.Term.{Term, Done, reduce}
 use Rattle.regions.specs.Value.{Value, Word, Int, Flag, Truth, Gives}
 use Rattle.lower.specs.Layout.{Slot, Known}
 use Rattle.lower.specs.Coding.{nullable_of, term_code}
 use Rattle.lower.specs.Slots.{word_of, IsNumberSort, Visible, Slots, ShowsSlot, Shows}
 use Rattle.lower.specs.Fits.{TermHasSort}
-use Rattle.lower.specs.Stands.{held, IsBegun, HasAt, AreAmong, IsUnderWay, NumberStands, CalleeStands, GoesTo, TargetStands, InvokeStands, TasksStand, StandsFor, task_returns}
+use Rattle.lower.specs.Stands.{held, IsBegun, HasAt, IsUnderWay, CalleeStands, GoesTo, TargetStands, InvokeStands, TasksStand, StandsFor, task_returns}
 use Rattle.lower.specs.Does.{AtEnd, Works, CanBeNull, TakesResult, DoesEffect}
 use Rattle.lower.proofs.SlotLaws.{fewer_shown, number_below, shows_set, shows_nulled, shows_made, shows_dropped}
 use Rattle.lower.proofs.CodePlaces.{has_back}
-use Rattle.lower.proofs.TermSteps.{IsOpen, LeadsOver, TermGoes, TermTraps, StepsTerm, steps_term, shows_number}
+use Rattle.lower.proofs.TermSteps.{IsOpen, LeadsOver, TermGoes, TermTraps, steps_term}
 
 -- a term without a value takes its step inside its task
 pub into_task : (sight : Sight) (line : ℕ) (f : Value → Effect) (task : Term → Task) (t : Term) → IsOpen t → with_value sight line f task t ≡ goes_on line task (reduce sight t)

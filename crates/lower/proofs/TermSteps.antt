@@ -1,6 +1,6 @@
 -- The first instruction of a term's code replaces the leftmost part that can be reduced, or traps where it does.
-use Rattle.std.proofs.Common.{◌≡◌, ℕ, zero, suc, ℤ, pos, negsuc, ◌+◌, ◌-◌, ◌<◌, ◌≤◌, ◌^◌, ◌%◌, ◌*◌, ◌/◌, ◌⊎◌, inl, inr, lit<, Bool, true, false, not, cond, List, [], ◌∷◌, ◌++◌, length, Option, Some, None, refl, sym, ap, ◌∙◌, subst, arith, append_assoc}
-use Rattle.std.specs.Prelude.{FitsSigned, slice_get, nat_lt, nat_le, int_lt, int_le, is_none, ◌==◌}
+use Rattle.std.proofs.Common.{◌≡◌, ℕ, zero, suc, ℤ, pos, negsuc, ◌+◌, ◌-◌, ◌<◌, ◌≤◌, ◌^◌, ◌%◌, ◌*◌, ◌/◌, ◌⊎◌, inl, inr, lit<, Bool, true, false, not, List, [], ◌∷◌, ◌++◌, length, Option, Some, refl, sym, ap, ◌∙◌, subst, arith, append_assoc}
+use Rattle.std.specs.Prelude.{FitsSigned, nat_lt, nat_le, int_lt, int_le, is_none, ◌==◌}
 use Rattle.std.specs.Bool.{beq}
 use Rattle.std.specs.Ordering.{int_eq}
 use Rattle.std.specs.Option.{option_map}
@@ -27,12 +27,12 @@ use Rattle.code.specs.declared.instr.Plain.TheVariants as plain
 use Rattle.code.specs.declared.instr.PlainTrap.{PlainTrap}
 use Rattle.code.specs.declared.instr.PlainTrap.TheVariants as trap
 use Rattle.code.specs.Effect.{plain_of, truth_word, operate}
-use Rattle.regions.specs.Value.{Value, Word, Int, Flag, Truth, Outcome, Gives, Traps, outcome_map, binary_value, convert, bit}
+use Rattle.regions.specs.Value.{Value, Word, Int, Flag, Truth, Gives, Traps, outcome_map, convert}
 use Rattle.regions.specs.Term as term
 use Rattle.regions.specs.Term.{Term, Done, Read, IsNull, Prefix, And, Or, Binary, Reduction, done, with_part, reduce}
 use Rattle.lower.specs.Layout.{Slot, Known}
-use Rattle.lower.specs.Coding.{nullable_of, test_of, null_code, element_code, of_slot, load_code, constant_code, prefix_code, operator_code, is_signed, skip_code, term_code}
-use Rattle.lower.specs.Slots.{word_of, ValueHasSort, IsNumberSort, Visible, Slots, ShowsNumber, ShowsElement, ShowsArray, ShowsSlot, holds_null}
+use Rattle.lower.specs.Coding.{nullable_of, test_of, null_code, element_code, of_slot, load_code, prefix_code, operator_code, is_signed, skip_code, term_code}
+use Rattle.lower.specs.Slots.{word_of, ValueHasSort, IsNumberSort, Visible, Slots, ShowsNumber, ShowsArray, ShowsSlot, holds_null}
 use Rattle.lower.specs.Fits.{IsIndexSort, IsNullable, OperatorFits, TermHasSort, IsUntouched}
 use Rattle.lower.specs.Stands.{held, IsBegun}
 use Rattle.lower.specs.Does.{trap_of, Works}

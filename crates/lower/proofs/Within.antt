@@ -1,5 +1,5 @@
 -- Each instruction of a body finds its slots.
-use Rattle.std.proofs.Common.{◌≡◌, ℕ, ◌+◌, ◌<◌, ◌≤◌, ◌⊎◌, inl, inr, Bool, true, false, List, [], ◌∷◌, ◌++◌, length, Option, Some, None, refl, sym, ap, ◌∙◌, subst, arith}
+use Rattle.std.proofs.Common.{◌≡◌, ℕ, ◌+◌, ◌<◌, inl, inr, Bool, true, false, List, [], ◌∷◌, ◌++◌, length, Option, Some, refl, sym, ap, ◌∙◌, subst}
 use Rattle.std.specs.List.{list_all}
 use Rattle.std.proofs.lemmas.List.Folds.{list_all-append}
 use Rattle.std.proofs.lemmas.Bool.{lt-ltb, le-leb}
@@ -10,15 +10,14 @@ use Rattle.types.specs.Sorts.{Sort, Jint, Ref, Global, FieldId, Buffer, Array}
 use Rattle.types.specs.Sorts as sort
 use Rattle.types.specs.SortRules.{variable_sort}
 use Rattle.base.specs.Element.{JChar}
-use Rattle.code.specs.declared.instr.ReferenceOperand.TheVariants.{Null, Local}
 use Rattle.code.specs.declared.instr.Instr.{Instr}
 use Rattle.code.specs.declared.instr.Instr.TheVariants as instr
 use Rattle.code.specs.declared.slots.SlotCounts.{SlotCounts}
 use Rattle.code.specs.Depth.{operand_within, within_slots}
 use Rattle.regions.specs.Term as term
 use Rattle.regions.specs.Term.{Term, Done, Read, IsNull, Prefix, And, Or, Binary, term_of}
-use Rattle.lower.specs.Layout.{Slot, Known, Layout, next_index, slots_behind, new_slot, with_name, closed, layout_behind, block_layout}
-use Rattle.lower.specs.Coding.{nullable_of, test_of, null_code, element_of, element_code, write_code, of_slot, load_code, prefix_code, operator_code, is_signed, skip_code, term_code, expr_code, operand_of, operand_code, call_code, value_code, right_code, assign_code, returned_code, return_code, test_code, ways_code, turn_code, if_code, stmt_code, block_code}
+use Rattle.lower.specs.Layout.{Slot, Known, Layout, next_index, slots_behind, new_slot, closed, layout_behind, block_layout}
+use Rattle.lower.specs.Coding.{nullable_of, test_of, null_code, element_code, write_code, of_slot, load_code, prefix_code, operator_code, is_signed, skip_code, term_code, expr_code, operand_of, operand_code, call_code, value_code, right_code, assign_code, returned_code, return_code, test_code, ways_code, turn_code, if_code, stmt_code, block_code}
 use Rattle.lower.specs.Fits.{IsNullable, TermHasSort, NumberFits, IndexWithin, IsLaidOut, HasRoomFor, ReferenceFits, ArgumentsFit, ValueFits, RightFits, TestFits, ReturnFits, StmtFits, BlockFits}
 use Rattle.lower.specs.Slots.{IsNumberSort}
 use Rattle.lower.proofs.Bodies.{value_is}

@@ -6,7 +6,7 @@ use Rattle.base.specs.Bytes.{lookup}
 use Rattle.base.specs.Element.{ElementType, JInt, JShort, JByte, JChar}
 use Rattle.syntax.specs.Tree as tree
 use Rattle.syntax.specs.Tree.{Constant, PrefixOp, LogicalNot, Complement, ToWord, ToInt, BinaryOp, LogicalOr, LogicalAnd, BitOr, BitXor, BitAnd, Equal, NotEqual, Less, LessEqual, Greater, GreaterEqual, ShiftLeft, ShiftRight, Add, Subtract, Multiply, Divide, Remainder, Expr, Argument, RightSide, FromExpr, FromCall, Test, TestExpr, TestCall, Stmt, Block, End, Next, Function, Item, StaticItem, FunctionItem, SourceUnit}
-use Rattle.types.specs.Sorts.{Sort, Jint, Ref, Global, FieldId, Buffer, Array, is_jint}
+use Rattle.types.specs.Sorts.{Sort, Ref, Global, FieldId, Buffer, Array, is_jint}
 use Rattle.types.specs.SortRules.{variable_sort}
 use Rattle.code.specs.declared.instr.Callee.TheVariants as callee
 use Rattle.code.specs.declared.instr.ElementType.{ElementType as ElementOfCode}

@@ -11,7 +11,7 @@ use Rattle.world.specs.Object.{ObjectValue, Number, Refers, Reference}
 use Rattle.regions.specs.Sight.{Sight}
 use Rattle.regions.specs.Thread.{Shared, Thread, sight_of}
 use Rattle.regions.specs.Value.{Value, Word, Int, Flag, Truth, OutOfRange, Outcome, Gives, Traps, Stuck, convert}
-use Rattle.regions.specs.Variable.{Variable, LocalArray, StaticReference, Empty, as_static}
+use Rattle.regions.specs.Variable.{Variable, LocalArray, Empty, as_static}
 use Rattle.code.specs.declared.instr.NullableVariable.{NullableVariable}
 use Rattle.code.specs.declared.instr.NullableVariable.TheVariants as nullable
 use Rattle.code.specs.Depth.{Listing}

@@ -1,5 +1,5 @@
 -- Which tasks a place of the code stands for.
-use Rattle.std.specs.Prelude.{◌≡◌, ◌≢◌, ℕ, ◌+◌, ◌-◌, ◌<◌, ◌≤◌, ◌⊎◌, Bool, true, false, ◌&&◌, ◌||◌, List, [], ◌∷◌, ◌++◌, length, slice_get, Option, Some, None, IsTrue}
+use Rattle.std.specs.Prelude.{◌≡◌, ℕ, ◌+◌, ◌-◌, ◌<◌, ◌≤◌, ◌⊎◌, Bool, true, false, ◌&&◌, ◌||◌, List, [], ◌∷◌, ◌++◌, length, slice_get, Option, Some, None, IsTrue}
 use Rattle.std.specs.List.{list_any}
 use Rattle.base.specs.Bytes.{Identifier, lookup}
 use Rattle.base.specs.Element.{ElementType}
@@ -22,7 +22,7 @@ use Rattle.code.specs.declared.instr.Instr.{Instr}
 use Rattle.code.specs.declared.instr.Instr.TheVariants as instr
 use Rattle.code.specs.declared.slots.SlotCounts.{SlotCounts}
 use Rattle.code.specs.Depth.{Listing}
-use Rattle.lower.specs.Layout.{Slot, Known, Layout, closed, block_layout}
+use Rattle.lower.specs.Layout.{Slot, Known, Layout, block_layout}
 use Rattle.lower.specs.Coding.{nullable_of, element_of, term_code, expr_code, ways_code, turn_code, block_code}
 use Rattle.lower.specs.Fits.{IsArray, IsIndexSort, TermHasSort, IsUntouched, NumberFits, IndexWithin, IsPlaceOf, IsOwn, IsLaidOut, HasRoomFor, BlockFits}
 use Rattle.lower.specs.Slots.{word_of, IsNumberSort}

@@ -181,13 +181,26 @@ fn a_loop_and_an_array(rt: HostRuntime) -> Result<(), Fail> {
     Ok(())
 }
 
-// void f(jclass cls, jint n, jobject o) { return; }
+// void f(jclass cls) { return; }
 #[test]
+#[tactic(auto, using(syntax::proofs::Blocks::blocks))]
 fn one_instruction_for_each_step(rt: HostRuntime) -> Result<(), Fail> {
     let alloc = rt.alloc();
-    let back = on_line(1, Form::Return(None));
-    let mut function = function(alloc, vec![in alloc; back]?)?;
-    function.result = ResultType::Void;
+    let back = Stmt {
+        line: 1,
+        form: Form::Return(None),
+    };
+    let function = Function {
+        line: 1,
+        result: ResultType::Void,
+        name: Name::new(alloc, b"Java_A_f")?,
+        class_name: Name::new(alloc, b"cls")?,
+        parameters: Vec::new(alloc),
+        body: Block {
+            statements: vec![in alloc; back]?,
+            end_line: 1,
+        },
+    };
     let unit = Unit::new(vec![in alloc; Item::Function(function)]?);
     let checked = check(alloc, type_unit(alloc, unit)?)?;
     let program = lower(alloc, &checked)?;

@@ -19,6 +19,4 @@ pub use stop::{Stop, Trap};
 pub use turn::Turn;
 
 #[cfg(test)]
-mod run_tests;
-#[cfg(test)]
 mod tests;

@@ -11,7 +11,7 @@ use Rattle.regions.specs.Effects.{call_effect, got, released, popped}
 use Rattle.regions.specs.FirstFaults.{first_broken}
 use Rattle.regions.specs.Judgements.{judged, first_judged, is_wrong_release, effected, set_from, settled, behind_judged}
 use Rattle.regions.specs.RegionRules.{RegionRule, CallWhileCritical, ReturnWithBuffer, HeldBuffer, UntestedBuffer, WrongBuffer, ReturnInFrame, PopLastFrame, DeadReference, ArrayInUse, WaysDiffer, WrongLevel, NoReturn, breaks_region_rule, own_rules, is_put_jint, is_array_in_use, is_level, is_reference_now}
-use Rattle.regions.specs.RegionStates.{RegionState, VariableState, ReferenceAt, BufferIn, FunctionCall, state_of, function_called, call_of, get_of, release_of, deleted_name, pops, with_new, with_changed, with_some_changed, after_pop, after_release, after_call, killed, buffer_from, set_to, with_set, state_after}
+use Rattle.regions.specs.RegionStates.{RegionState, VariableState, ReferenceAt, BufferIn, FunctionCall, state_of, function_called, call_of, deleted_name, with_new, with_changed, with_some_changed, after_pop, after_release, after_call, killed, buffer_from, set_to, with_set, state_after}
 use Rattle.regions.specs.Standings.{asks, holds_of}
 use Rattle.regions.proofs.EffectLemmas.{get_is, release_is, deleted_is, pops_is, forbidden_is}
 use Rattle.regions.proofs.StateLemmas.{holder_is}

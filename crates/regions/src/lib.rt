@@ -8,6 +8,8 @@ mod fault;
 mod names;
 mod rules;
 mod standing;
+#[cfg(test)]
+mod tests;
 mod walk;
 
 ghost use Rattle.regions.specs.FirstFaults.{AcceptedBreaksNothing, AcceptedOrBroken, AcceptedOrFirst, NotBoth, OneFirst};

@@ -280,7 +280,7 @@ fn breaks_level(state: &State, form: &Form, call: Option<MadeCall>) -> bool
 }
 
 /// The rule of least number that a statement with this call breaks by itself.
-fn first_judged(state: &State, form: &Form, call: Option<MadeCall>) -> Option<RegionRule>
+pub(crate) fn first_judged(state: &State, form: &Form, call: Option<MadeCall>) -> Option<RegionRule>
     ensures { (line : ℕ) → option_map rule_of result ≡ first_judged (state_value state.now) (form_tree line form.now) (option_map made_value call.entry) }
 {
     if breaks_critical(state, form, call) {

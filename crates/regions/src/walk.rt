@@ -148,7 +148,11 @@ fn end<'a>(outer: &State<'a>, mut state: State<'a>, line: usize) -> Result<Way<'
 }
 
 /// Two ways become one.
-fn join_ways<'a>(line: usize, first: Way<'a>, second: Way<'a>) -> Result<Way<'a>, CheckFault>
+pub(crate) fn join_ways<'a>(
+    line: usize,
+    first: Way<'a>,
+    second: Way<'a>,
+) -> Result<Way<'a>, CheckFault>
     ensures { Goes result (join_ways line (Ok (way_value first.entry)) (Ok (way_value second.entry))) }
 {
     match first {

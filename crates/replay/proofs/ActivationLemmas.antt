@@ -1,12 +1,17 @@
 -- A call in progress takes the step of its first task.
-use Rattle.std.proofs.Common.{◌≡◌, ℕ, true, false, List, [], ◌∷◌, ◌++◌, Option, Some, None, refl, sym, ap, ◌∙◌, append_assoc}
+use Rattle.std.proofs.Common.{◌≡◌, ℕ, true, false, List, [], ◌∷◌, ◌++◌, Option, Some, None, refl, sym, ap, ◌∙◌, subst, append_assoc}
 use Rattle.std.specs.Borrow.{Bor}
 use Rattle.std.specs.Global.{Vec}
+use Rattle.syntax.specs.declared.expr.Expr.{Expr}
+use Rattle.syntax.specs.declared.stmt.Block.{Block}
 use Rattle.syntax.specs.declared.stmt.Stmt.{Stmt}
 use Rattle.syntax.specs.Tree.{SourceUnit}
+use Rattle.syntax.specs.Views.{expr_tree, block_tree}
 use Rattle.world.specs.World.{World}
 use Rattle.regions.specs.Start.{null_statics}
 use Rattle.regions.specs.Task.{Task, Loop}
+use Rattle.regions.specs.Term as tree
+use Rattle.regions.specs.Term.{term_of}
 use Rattle.regions.specs.Thread.{Thread, Shared, Lent, Event, Quiet, PrintedNumber, Trapped, Advance, NoAdvance}
 use Rattle.regions.specs.Thread as thread
 use Rattle.regions.specs.ThreadStep.{step_within, with_tasks}
@@ -17,12 +22,14 @@ use Rattle.replay.specs.declared.outcome.End.TheVariants as end
 use Rattle.replay.specs.declared.outcome.Outcome.{Outcome}
 use Rattle.replay.specs.declared.outcome.Outcome.TheVariants as outcome
 use Rattle.replay.specs.declared.task.Task.{Task as TaskInMemory}
+use Rattle.replay.specs.declared.task.Task.TheVariants as task
+use Rattle.replay.specs.declared.term.Term.{Term}
 use Rattle.replay.specs.declared.variable.Variable.{Variable as VariableInMemory}
-use Rattle.replay.specs.Activations.{tasks_from, tasks_around, tasks_behind, tasks_left, thread_in, advance_by, Advances, AreSet, OuterInRange}
+use Rattle.replay.specs.Activations.{tasks_from, tasks_around, tasks_behind, tasks_left, thread_in, advance_by, Advances, AreSet, BegunInRange, OuterInRange, IsInRange}
 use Rattle.replay.specs.Outcomes.{variable_step, Holds, LeavesVariables, LeavesIf}
 use Rattle.replay.specs.Steps.{Sees, Does, left_by}
-use Rattle.replay.specs.Tasks.{task_view, end_view, tasks_of_statements, EndInRange, StatementsInRange}
-use Rattle.replay.specs.Views.{variables_view, trap_view}
+use Rattle.replay.specs.Tasks.{task_view, end_view, tasks_of_statements, EndInRange, StatementsInRange, TaskInRange, OutcomeInRange}
+use Rattle.replay.specs.Views.{variables_view, trap_view, term_view}
 
 -- ---- blocks around the one in progress
 
@@ -40,8 +47,8 @@ outer_joined [] o h e r = (e, r, tt)
 outer_joined (p ∷ os) o h e r = (h.0, h.1, outer_joined os o h.2 e r)
 
 left_is : (a : Activation) (o : Option TaskInMemory) (rest : List Stmt) (os : List Outer) → a.task ≡ o → a.rest.now ≡ rest → a.outer.items ≡ os → tasks_left a ≡ tasks_from o (tasks_behind rest os)
-left_is a o rest os task behind outer =
-    ap (λ (p : Option TaskInMemory). tasks_from p (tasks_behind a.rest.now a.outer.items)) task
+left_is a o rest os begun behind outer =
+    ap (λ (p : Option TaskInMemory). tasks_from p (tasks_behind a.rest.now a.outer.items)) begun
     ∙ ap (λ (b : List Stmt). tasks_from o (tasks_behind b a.outer.items)) behind
     ∙ ap (λ (ps : List Outer). tasks_from o (tasks_behind rest ps)) outer
 
@@ -56,29 +63,44 @@ abbrev with_event : Event → Advance → Advance
 with_event event (thread.Advances s t other) = thread.Advances s t event
 with_event event NoAdvance = NoAdvance
 
+-- ---- the next statement is begun
+
+-- a thread that sees the variables sees them then too
+seen_begun : (unit : SourceUnit) (w : World) (old begun : Activation) → begun.variables ≡ old.variables → (s : Shared) (t : Thread) → Sees w (variables_view old.variables.items) (null_statics unit) s t
+    → Sees w (variables_view begun.variables.items) (null_statics unit) s t
+seen_begun unit w old begun same s t sees = record {
+  variables = sees.variables ∙ ap (λ (v : Vec VariableInMemory). variables_view v.items) (sym same);
+  frames = sees.frames;
+  pending = sees.pending;
+  heap = sees.heap;
+  statics = sees.statics;
+}
+
+-- it takes the same step then
+pub begun_before : (unit : SourceUnit) (w : World) (old begun : Activation) (took : Outcome) (new : Activation) → tasks_left begun ≡ tasks_left old → begun.variables ≡ old.variables → Advances unit w begun took new → Advances unit w old took new
+begun_before unit w old begun took new tasks same does = λ lent k s t sees has.
+    ap (λ (ts : List Task). step_within unit w.classes lent k s t false (Some ts)) (sym tasks)
+    ∙ does lent k s t
+    (seen_begun unit w old begun same s t sees)
+    (has ∙ ap (λ (ts : List Task). let o : Option (List Task) = Some ts in o) (sym tasks))
+
 -- ---- the step of a task
 
-module _ (unit : SourceUnit) (w : World) (old begun : Activation) (task after : TaskInMemory) (variables : Vec VariableInMemory) (new : Activation)
-    (tasks : tasks_left begun ≡ tasks_left old) (same : begun.variables ≡ old.variables) (is : begun.task ≡ Some task) where
+module _ (unit : SourceUnit) (w : World) (old begun : Activation) (begun_task after : TaskInMemory) (variables : Vec VariableInMemory) (new : Activation)
+    (tasks : tasks_left begun ≡ tasks_left old) (same : begun.variables ≡ old.variables) (is : begun.task ≡ Some begun_task) where
   abbrev rest : List Task
   rest = tasks_behind begun.rest.now begun.outer.items
 
-  first : tasks_left old ≡ task_view task ∷ rest
+  first : tasks_left old ≡ task_view begun_task ∷ rest
   first = sym tasks ∙ ap (λ (o : Option TaskInMemory). tasks_from o rest) is
 
   seen : (s : Shared) (t : Thread) → Sees w (variables_view old.variables.items) (null_statics unit) s t → Sees w (variables_view begun.variables.items) (null_statics unit) s t
-  seen s t sees = record {
-    variables = sees.variables ∙ ap (λ (v : Vec VariableInMemory). variables_view v.items) (sym same);
-    frames = sees.frames;
-    pending = sees.pending;
-    heap = sees.heap;
-    statics = sees.statics;
-  }
+  seen = seen_begun unit w old begun same
 
   holds : (s : Shared) (t : Thread) (ts : List Task) → Sees w (variables_view begun.variables.items) (null_statics unit) s t → Holds (null_statics unit) begun.variables.items s (with_tasks t ts)
   holds s t ts sees = record { variables = sees.variables; frames = sees.frames; statics = sees.statics }
 
-  stepped : (took : Outcome) → Does w (variables_view begun.variables.items) (null_statics unit) task took after
+  stepped : (took : Outcome) → Does w (variables_view begun.variables.items) (null_statics unit) begun_task took after
       → ((k : ℕ) (s : Shared) (t : Thread) → Sees w (variables_view begun.variables.items) (null_statics unit) s t → left_by k s t rest took after ≡ advance_by k s t new outcome.Nothing) → Advances unit w old outcome.Nothing new
   stepped took does left = λ lent k s t sees has.
       ap (λ (ts : List Task). step_within unit w.classes lent k s t false (Some ts)) first
@@ -86,7 +108,7 @@ module _ (unit : SourceUnit) (w : World) (old begun : Activation) (task after : 
       ∙ left k s t (seen s t sees)
 
   -- a step that isn't possible
-  pub fails : (took : Outcome) → Does w (variables_view begun.variables.items) (null_statics unit) task took after
+  pub fails : (took : Outcome) → Does w (variables_view begun.variables.items) (null_statics unit) begun_task took after
       → LeavesIf (null_statics unit) begun.variables.items (variable_step took) false variables.items → Advances unit w old outcome.Nothing new
   fails took does none = stepped took does (by_outcome took none)
     where
@@ -145,12 +167,39 @@ module _ (unit : SourceUnit) (w : World) (old begun : Activation) (task after : 
     left_in outcome.Nothing leaves a = refl
 
   -- what the task's step does is done to the call
-  pub advances : (took : Outcome) → Does w (variables_view begun.variables.items) (null_statics unit) task took after
+  pub advances : (took : Outcome) → Does w (variables_view begun.variables.items) (null_statics unit) begun_task took after
       → LeavesVariables (null_statics unit) begun.variables.items (variable_step took) variables.items → AreSet (record begun { task = Some after; variables = variables }) took new → Advances unit w old took new
   advances took does leaves applied = λ lent k s t sees has.
       ap (λ (ts : List Task). step_within unit w.classes lent k s t false (Some ts)) first
       ∙ does lent k s t rest (seen s t sees) (has ∙ ap (λ (ts : List Task). let o : Option (List Task) = Some ts in o) first)
       ∙ left_in k s t (seen s t sees) took leaves applied
+
+-- ---- what is known of accepted programs
+
+module _ (begun new : Activation) (after : TaskInMemory) (variables : Vec VariableInMemory) (known : IsInRange begun) (known_after : TaskInRange after) where
+  built : (o : Option TaskInMemory) (behind : Bor (List Stmt)) (os : List Outer) → new.task ≡ o → new.rest ≡ behind → new.outer.items ≡ os → BegunInRange o → StatementsInRange behind.now → OuterInRange os → IsInRange new
+  built o behind os same_task same_rest same_outer task' rest' outer' = record {
+    begun = subst BegunInRange (sym same_task) task';
+    rest = subst (λ (b : Bor (List Stmt)). StatementsInRange b.now) (sym same_rest) rest';
+    outer = subst OuterInRange (sym same_outer) outer';
+  }
+
+  -- after a step it is known of the call in progress too
+  pub range_after : (took : Outcome) → OutcomeInRange took → AreSet (record begun { task = Some after; variables = variables }) took new → IsInRange new
+  range_after outcome.Stays h a = built (Some after) begun.rest begun.outer.items a.task a.rest a.outer known_after known.rest known.outer
+  range_after (outcome.Printed z) h a = built None begun.rest begun.outer.items a.task a.rest a.outer tt known.rest known.outer
+  range_after (outcome.Sets x v) h a = built None begun.rest begun.outer.items a.task a.rest a.outer tt known.rest known.outer
+  range_after (outcome.SetsNull to) h a = built None begun.rest begun.outer.items a.task a.rest a.outer tt known.rest known.outer
+  range_after (outcome.Puts to z) h a = built None begun.rest begun.outer.items a.task a.rest a.outer tt known.rest known.outer
+  range_after (outcome.SetsElement x i z) h a = built None begun.rest begun.outer.items a.task a.rest a.outer tt known.rest known.outer
+  range_after (outcome.Makes T x n) h a = built None begun.rest begun.outer.items a.task a.rest a.outer tt known.rest known.outer
+  range_after (outcome.Enters statements e) h a =
+      let o : Outer = record { end = e; rest = begun.rest } in
+      built None statements (begun.outer.items ++ o ∷ []) a.task a.rest a.outer tt h.0 (outer_joined begun.outer.items o known.outer h.1 known.rest)
+  range_after outcome.Over h a = built None begun.rest begun.outer.items a.task a.rest a.outer tt known.rest known.outer
+  range_after outcome.Returned h a = built (Some after) begun.rest begun.outer.items a.task a.rest a.outer known_after known.rest known.outer
+  range_after (outcome.Trapped trap line) h a = built (Some after) begun.rest begun.outer.items a.task a.rest a.outer known_after known.rest known.outer
+  range_after outcome.Nothing h a = built (Some after) begun.rest begun.outer.items a.task a.rest a.outer known_after known.rest known.outer
 
 -- ---- the end of a block
 
@@ -172,19 +221,18 @@ module _ (unit : SourceUnit) (w : World) (old new : Activation) (idle : old.task
         ∙ thread_is s t new Quiet tasks old.variables.items left (ap (λ (v : Vec VariableInMemory). v.items) same)
 
     left : (p : Option TaskInMemory) → new.task ≡ p → tasks_left new ≡ tasks_from p after
-    left p task = left_is new p o.rest.now os task (ap (λ (b : Bor (List Stmt)). b.now) rest) behind
+    left p begun = left_is new p o.rest.now os begun (ap (λ (b : Bor (List Stmt)). b.now) rest) behind
 
     -- behind an `if`
     pub if_over : o.end ≡ end.If → new.task ≡ None → Advances unit w old outcome.Over new
-    if_over is task = λ lent k s t sees has.
+    if_over is none = λ lent k s t sees has.
         ap (λ (ts : List Task). step_within unit w.classes lent k s t false (Some ts)) (at_end ∙ ap (λ (e : End). end_view e ∷ after) is)
-        ∙ goes after s t sees.variables (left None task)
+        ∙ goes after s t sees.variables (left None none)
 
     -- at a loop's test
-    pub turn_over : (e : End) (loop : TaskInMemory) → o.end ≡ e → new.task ≡ Some loop
-        → ((lent : Lent) (k : ℕ) (s : Shared) (t : Thread) → step_within unit w.classes lent k s t false (Some (end_view e ∷ after)) ≡ thread.Advances s (with_tasks t (task_view loop ∷ after)) Quiet)
+    pub turn_over : (line : ℕ) (test : Bor Expr) (term : Term) (body : Bor Block) → o.end ≡ end.Turn line test body → new.task ≡ Some (task.Loop line test term body) → term_view term ≡ term_of (expr_tree test.now)
         → Advances unit w old outcome.Stays new
-    turn_over e loop is task steps = λ lent k s t sees has.
-        ap (λ (ts : List Task). step_within unit w.classes lent k s t false (Some ts)) (at_end ∙ ap (λ (f : End). end_view f ∷ after) is)
-        ∙ steps lent k s t
-        ∙ goes (task_view loop ∷ after) s t sees.variables (left (Some loop) task)
+    turn_over line test term body is begun begins = λ lent k s t sees has.
+        ap (λ (ts : List Task). step_within unit w.classes lent k s t false (Some ts)) (at_end ∙ ap (λ (e : End). end_view e ∷ after) is)
+        ∙ ap (λ (u : tree.Term). let ts : List Task = Loop line (expr_tree test.now) u (block_tree body.now) ∷ after in thread.Advances s (with_tasks t ts) Quiet) (sym begins)
+        ∙ goes (task_view (task.Loop line test term body) ∷ after) s t sees.variables (left (Some (task.Loop line test term body)) begun)

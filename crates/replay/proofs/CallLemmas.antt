@@ -32,14 +32,13 @@ use Rattle.regions.specs.Variable.{Variables, StaticReference, Empty, Live}
 use Rattle.replay.specs.Objects.{array_length, reference_of}
 use Rattle.replay.specs.declared.trap.Trap.TheVariants as trap
 use Rattle.replay.specs.declared.task.Task.{Task as TaskInMemory}
-use Rattle.replay.specs.declared.task.Task.TheVariants as tasks
 use Rattle.replay.specs.declared.outcome.Outcome.{Outcome}
 use Rattle.replay.specs.declared.outcome.Outcome.TheVariants as outcome
 use Rattle.replay.specs.declared.outcome.Target.{Target as TargetInMemory}
 use Rattle.replay.specs.declared.outcome.Target.TheVariants as target
 use Rattle.replay.specs.Outcomes.{target_view}
 use Rattle.replay.specs.Steps.{Sees, Does, first_expression, length_outcome}
-use Rattle.replay.specs.Tasks.{task_view}
+use Rattle.replay.specs.Tasks.{task_view, invoke_task}
 use Rattle.replay.proofs.SightLemmas.{held_in_none}
 use Rattle.replay.proofs.TaskLemmas.{sees_so, same_thread}
 
@@ -152,7 +151,7 @@ module _ (w : World) (lent : Lent) (k : ℕ) (s : Shared) (t : Thread) (rest : L
 
 module _ (unit : SourceUnit) (w : World) (vs : Variables) (line : ℕ) (to : TargetInMemory) (c : Bor CallInMemory) (built : IsTrue (is_built_call (call_tree c.now))) where
   abbrev task : TaskInMemory
-  task = tasks.Invoke line to c
+  task = invoke_task line to c
 
   stays_so : (s : Shared) (t : Thread) (rest : List Task) → t.tasks ≡ Some (task_view task ∷ rest) → (event : Event) → Advances s t event ≡ Advances s (with_tasks t (task_view task ∷ rest)) event
   stays_so s t rest has event = ap (λ (u : Thread). Advances s u event) (same_thread t (task_view task ∷ rest) has)

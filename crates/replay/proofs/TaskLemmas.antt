@@ -1,7 +1,7 @@
 -- What a task's step in memory does is what the task's step does.
-use Rattle.std.proofs.Common.{◌≡◌, ℕ, List, [], ◌∷◌, ◌++◌, Option, Some, refl, sym, ap, ◌∙◌, subst}
+use Rattle.std.proofs.Common.{◌≡◌, ℕ, ℤ, List, [], ◌∷◌, ◌++◌, slice_get, Option, Some, refl, sym, ap, ◌∙◌, subst}
 use Rattle.std.specs.Borrow.{Bor}
-use Rattle.base.specs.Bytes.{Identifier}
+use Rattle.base.specs.Bytes.{Identifier, lookup}
 use Rattle.syntax.specs.declared.expr.Constant.{Constant}
 use Rattle.syntax.specs.declared.expr.Constant.TheVariants as constant
 use Rattle.syntax.specs.declared.expr.Expr.{Expr as ExprInMemory}
@@ -11,15 +11,15 @@ use Rattle.syntax.specs.Tree.{Block}
 use Rattle.syntax.specs.Views.{constant_tree, expr_tree, block_tree}
 use Rattle.syntax.proofs.Blocks.{block_is}
 use Rattle.world.specs.World.{World}
-use Rattle.regions.specs.Effect.{Effect, Becomes, Sets, goes_on, with_value, print_effect, branch_effect, loop_effect, element_effect, return_effect, effect_of}
+use Rattle.regions.specs.Effect.{Effect, Becomes, Sets, SetsElement, at_line, goes_on, with_value, print_effect, branch_effect, loop_effect, element_effect, returned_name, return_effect, effect_of}
 use Rattle.regions.specs.Heap.{Heap}
-use Rattle.regions.specs.Sight.{Sight, seen}
+use Rattle.regions.specs.Sight.{Sight, seen, elements_of, in_range}
 use Rattle.regions.specs.Task.{Task, SetScalar, SetElement, Print, Branch, Loop, ReturnValue, tasks_of}
 use Rattle.regions.specs.Term as tree
-use Rattle.regions.specs.Term.{reduce}
+use Rattle.regions.specs.Term.{index_of, reduce}
 use Rattle.regions.specs.Thread.{Thread, Shared, Lent, sight_of, Trapped, Advances}
 use Rattle.regions.specs.ThreadStep.{after_effect, with_tasks}
-use Rattle.regions.specs.Value.{Value}
+use Rattle.regions.specs.Value.{Value, Outcome as Outcomes, Gives, Traps, Stuck, outcome_then, outcome_map}
 use Rattle.regions.specs.Variable.{Variables, Statics}
 use Rattle.replay.specs.declared.outcome.Outcome.{Outcome}
 use Rattle.replay.specs.declared.outcome.Outcome.TheVariants as outcome
@@ -27,12 +27,14 @@ use Rattle.replay.specs.declared.reduce.Reduction.{Reduction}
 use Rattle.replay.specs.declared.reduce.Reduction.TheVariants as reduction
 use Rattle.replay.specs.declared.term.Term.{Term}
 use Rattle.replay.specs.declared.term.Term.TheVariants as term
+use Rattle.replay.specs.declared.sight.Indexed.{Indexed}
 use Rattle.replay.specs.declared.value.Value.{Value as ValueInMemory}
+use Rattle.replay.specs.declared.value.Value.TheVariants as value
 use Rattle.replay.specs.declared.task.Task.{Task as TaskInMemory}
 use Rattle.replay.specs.Steps.{effect_by, HasEffect, Sees, left_by, Does, worked}
 use Rattle.replay.specs.declared.task.Task.TheVariants as task
-use Rattle.replay.specs.Tasks.{task_view, else_tree, tasks_of_statements, OutcomeInRange}
-use Rattle.replay.specs.Views.{value_view, term_view, trap_view, Reduces}
+use Rattle.replay.specs.Tasks.{task_view, branch_task, else_tree, tasks_of_statements}
+use Rattle.replay.specs.Views.{value_view, indexed_view, term_view, trap_view, place_in, Reduces}
 use Rattle.replay.proofs.RangeLemmas.{tasks_of-statements}
 
 -- what a thread can see, where these are its variables
@@ -96,6 +98,28 @@ works vs ss line at whole is old new reduction.Reduced goes step = λ heap. goes
 works vs ss line at whole is old new (reduction.Trapped trap) goes step = (λ heap. goes heap ∙ ap (goes_on line whole) (step.0 heap), ap at step.1)
 works vs ss line at whole is old new reduction.Stuck goes step = λ heap. goes heap ∙ ap (goes_on line whole) (step heap)
 
+-- ---- elements
+
+-- what is done with an element, or why there is none
+element_at : (line : ℕ) (x : Identifier) (z : ℤ) (n : ℕ) (element : Outcomes ℤ) → at_line line (λ (old : ℤ). SetsElement x n z) element ≡ at_line line (λ m. SetsElement x m z) (outcome_map (λ (old : ℤ). n) element)
+element_at line x z n (Gives old) = refl
+element_at line x z n (Traps trap) = refl
+element_at line x z n Stuck = refl
+
+place_at : (line : ℕ) (x : Identifier) (z : ℤ) (numbers : Outcomes (List ℤ)) (index : Outcomes ℕ)
+    → at_line line (λ n. at_line line (λ (old : ℤ). SetsElement x n z) (outcome_then (λ (zs : List ℤ). in_range (slice_get zs n)) numbers)) index ≡ at_line line (λ m. SetsElement x m z) (place_in numbers index)
+place_at line x z numbers (Gives n) = element_at line x z n (outcome_then (λ (zs : List ℤ). in_range (slice_get zs n)) numbers)
+place_at line x z numbers (Traps trap) = refl
+place_at line x z numbers Stuck = refl
+
+-- a number goes to the place that was found
+pub written_at : (vs : Variables) (ss : Statics) (heap : Heap) (line : ℕ) (x : Identifier) (i number : ValueInMemory) (z : ℤ) (place : Indexed)
+    → number ≡ value.Int z → indexed_view place ≡ place_in (elements_of heap (lookup x vs)) (index_of (value_view i))
+    → element_effect (seen vs ss heap) line x (value_view i) (value_view number) ≡ at_line line (λ n. SetsElement x n z) (indexed_view place)
+written_at vs ss heap line x i number z place is found =
+    ap (λ (u : ValueInMemory). element_effect (seen vs ss heap) line x (value_view i) (value_view u)) is
+    ∙ place_at line x z (elements_of heap (lookup x vs)) (index_of (value_view i)) ∙ ap (at_line line (λ n. SetsElement x n z)) (sym found)
+
 -- ---- blocks
 
 -- the tasks of a block are those of its statements
@@ -106,33 +130,29 @@ block_tasks b = tasks_of-statements (out-Block b).statements.items (out-Block b)
 pub way_entered : (statements : List StmtInMemory) (b : Block) (end' : Task) → tasks_of_statements statements ≡ tasks_of b → Becomes (tasks_of b ++ end' ∷ []) ≡ Becomes (tasks_of_statements statements ++ end' ∷ [])
 way_entered statements b end' same = ap (λ (ts : List Task). Becomes (ts ++ end' ∷ [])) (sym same)
 
--- what was worked out leads into no block
-pub worked_in_range : (line : ℕ) (took : Reduction) → OutcomeInRange (worked line took)
-worked_in_range line reduction.Reduced = tt
-worked_in_range line (reduction.Trapped trap) = tt
-worked_in_range line reduction.Stuck = tt
+-- a constant is worked out, or it is NULL
+pub constant_returned : (sight : Sight) (line : ℕ) (c : Constant) → return_effect sight line (tree.Named (constant_tree c)) ≡ returned_name line (tree.constant (constant_tree c))
+constant_returned sight line constant.True = refl
+constant_returned sight line constant.False = refl
+constant_returned sight line constant.Commit = refl
+constant_returned sight line constant.Abort = refl
+constant_returned sight line constant.Null = refl
 
--- a constant that isn't NULL is worked out
-constant_worked_out : (sight : Sight) (line : ℕ) (c : Constant) → (c ≡ constant.Null → ⊥) → return_effect sight line (tree.Named (constant_tree c)) ≡ goes_on line (ReturnValue line) (reduce sight (tree.Named (constant_tree c)))
-constant_worked_out sight line constant.True no_null = refl
-constant_worked_out sight line constant.False no_null = refl
-constant_worked_out sight line constant.Commit no_null = refl
-constant_worked_out sight line constant.Abort no_null = refl
-constant_worked_out sight line constant.Null no_null = absurd (no_null refl)
+pub ruleset return_rules = (constant_returned)
 
--- so is all else but a name
-worked_out : (sight : Sight) (line : ℕ) (t : Term) → ((v : ValueInMemory) → t ≡ term.Done v → ⊥) → (t ≡ term.Named constant.Null → ⊥) → ((x : List ℕ) → t ≡ term.Read x → ⊥)
+-- all else but a name is worked out
+worked_out : (sight : Sight) (line : ℕ) (t : Term) → ((v : ValueInMemory) → t ≡ term.Done v → ⊥) → ((c : Constant) → t ≡ term.Named c → ⊥) → ((x : List ℕ) → t ≡ term.Read x → ⊥)
     → return_effect sight line (term_view t) ≡ goes_on line (ReturnValue line) (reduce sight (term_view t))
-worked_out sight line (term.Done v) none no_null no_name = absurd (none v refl)
-worked_out sight line (term.Number n unsigned) none no_null no_name = refl
-worked_out sight line (term.Named c) none no_null no_name = constant_worked_out sight line c (λ e. no_null (ap term.Named e))
-worked_out sight line (term.Read x) none no_null no_name = absurd (no_name x refl)
-worked_out sight line (term.Element' x p i) none no_null no_name = refl
-worked_out sight line (term.IsNull wanted x) none no_null no_name = refl
-worked_out sight line (term.Prefix' op p t) none no_null no_name = refl
-worked_out sight line (term.And' p s q t) none no_null no_name = refl
-worked_out sight line (term.Or' p s q t) none no_null no_name = refl
-worked_out sight line (term.Binary' op p s q t) none no_null no_name = refl
+worked_out sight line (term.Done v) none no_constant no_name = absurd (none v refl)
+worked_out sight line (term.Number n unsigned) none no_constant no_name = refl
+worked_out sight line (term.Named c) none no_constant no_name = absurd (no_constant c refl)
+worked_out sight line (term.Read x) none no_constant no_name = absurd (no_name x refl)
+worked_out sight line (term.Element' x p i) none no_constant no_name = refl
+worked_out sight line (term.IsNull wanted x) none no_constant no_name = refl
+worked_out sight line (term.Prefix' op p t) none no_constant no_name = refl
+worked_out sight line (term.And' p s q t) none no_constant no_name = refl
+worked_out sight line (term.Or' p s q t) none no_constant no_name = refl
+worked_out sight line (term.Binary' op p s q t) none no_constant no_name = refl
 
 -- ---- tasks at terms
 
@@ -154,9 +174,9 @@ module _ (vs : Variables) (ss : Statics) (line : ℕ) (old new : Term) (took : R
       works vs ss line (task.SetElement line x (term.Done i)) (SetElement line x.now (tree.Done (value_view i))) (λ u. refl) old new took
       (λ heap. no_value old none (seen vs ss heap) line (element_effect (seen vs ss heap) line x.now (value_view i)) (SetElement line x.now (tree.Done (value_view i)))) step
 
-  pub branch_works : (b : Bor BlockInMemory) (other : Option (Bor BlockInMemory)) → HasEffect vs ss (task.Branch line old b other) (worked line took) (task.Branch line new b other)
+  pub branch_works : (b : Bor BlockInMemory) (other : Option (Bor BlockInMemory)) → HasEffect vs ss (branch_task line old b other) (worked line took) (branch_task line new b other)
   branch_works b other =
-      works vs ss line (λ u. task.Branch line u b other) (λ u. Branch line u (block_tree b.now) (else_tree line other)) (λ u. refl) old new took
+      works vs ss line (λ u. branch_task line u b other) (λ u. Branch line u (block_tree b.now) (else_tree line other)) (λ u. refl) old new took
       (λ heap. no_value old none (seen vs ss heap) line (branch_effect (block_tree b.now) (else_tree line other)) (λ u. Branch line u (block_tree b.now) (else_tree line other))) step
 
   pub loop_works : (test : Bor ExprInMemory) (body : Bor BlockInMemory) → HasEffect vs ss (task.Loop line test old body) (worked line took) (task.Loop line test new body)
@@ -164,6 +184,6 @@ module _ (vs : Variables) (ss : Statics) (line : ℕ) (old new : Term) (took : R
       works vs ss line (λ u. task.Loop line test u body) (λ u. Loop line (expr_tree test.now) u (block_tree body.now)) (λ u. refl) old new took
       (λ heap. no_value old none (seen vs ss heap) line (loop_effect line (expr_tree test.now) (block_tree body.now)) (λ u. Loop line (expr_tree test.now) u (block_tree body.now))) step
 
-  pub return_works : (old ≡ term.Named constant.Null → ⊥) → ((x : List ℕ) → old ≡ term.Read x → ⊥) → HasEffect vs ss (task.ReturnValue line old) (worked line took) (task.ReturnValue line new)
-  return_works no_null no_name =
-      works vs ss line (task.ReturnValue line) (ReturnValue line) (λ t. refl) old new took (λ heap. worked_out (seen vs ss heap) line old none no_null no_name) step
+  pub return_works : ((c : Constant) → old ≡ term.Named c → ⊥) → ((x : List ℕ) → old ≡ term.Read x → ⊥) → HasEffect vs ss (task.ReturnValue line old) (worked line took) (task.ReturnValue line new)
+  return_works no_constant no_name =
+      works vs ss line (task.ReturnValue line) (ReturnValue line) (λ t. refl) old new took (λ heap. worked_out (seen vs ss heap) line old none no_constant no_name) step

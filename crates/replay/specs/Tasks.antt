@@ -3,6 +3,7 @@ use Rattle.std.specs.Prelude.{ℕ, Bool, not, List, [], ◌∷◌, Option, Some,
 use Rattle.std.specs.List.{list_all}
 use Rattle.std.specs.Borrow.{Bor}
 use Rattle.base.specs.Options.{some_passes}
+use Rattle.syntax.specs.declared.call.Call.{Call as CallInMemory}
 use Rattle.syntax.specs.declared.stmt.Block.{Block as BlockInMemory}
 use Rattle.syntax.specs.declared.stmt.Stmt.{Stmt as StmtInMemory}
 use Rattle.syntax.specs.Limits.{numbers_in_range}
@@ -15,8 +16,10 @@ use Rattle.replay.specs.declared.outcome.End.{End as EndInMemory}
 use Rattle.replay.specs.declared.outcome.End.TheVariants as end
 use Rattle.replay.specs.declared.outcome.Outcome.{Outcome}
 use Rattle.replay.specs.declared.outcome.Outcome.TheVariants as outcome
+use Rattle.replay.specs.declared.outcome.Target.{Target as TargetInMemory}
 use Rattle.replay.specs.declared.task.Task.{Task as TaskInMemory}
 use Rattle.replay.specs.declared.task.Task.TheVariants as task
+use Rattle.replay.specs.declared.term.Term.{Term as TermInMemory}
 use Rattle.replay.specs.Outcomes.{target_view}
 use Rattle.replay.specs.Views.{term_view, NumbersInRange}
 
@@ -31,8 +34,8 @@ task_view (task.Set line x t) = SetScalar line x.now (term_view t)
 task_view (task.SetElement line x i t) = SetElement line x.now (term_view i) (term_view t)
 task_view (task.SetNull to) = SetNull (target_view to)
 task_view (task.MakeArray T x n) = MakeArray (element_tree T) x.now n
-task_view (task.Invoke line to c) = call_task line (target_view to) (call_tree c.now)
-task_view (task.Branch line t b other) = Branch line (term_view t) (block_tree b.now) (else_tree line other)
+task_view (task.Invoke i) = call_task i.line (target_view i.target) (call_tree i.call.now)
+task_view (task.Branch c) = Branch c.line (term_view c.test) (block_tree c.block.now) (else_tree c.line c.otherwise)
 task_view (task.Loop line test t body) = Loop line (expr_tree test.now) (term_view t) (block_tree body.now)
 task_view task.Return = Return
 task_view (task.ReturnValue line t) = ReturnValue line (term_view t)
@@ -40,6 +43,14 @@ task_view (task.ReturnValue line t) = ReturnValue line (term_view t)
 abbrev pub end_view : EndInMemory → Task
 end_view end.If = EndIf
 end_view (end.Turn line test body) = EndTurn line (expr_tree test.now) (block_tree body.now)
+
+-- a call that is to do
+abbrev pub invoke_task : ℕ → TargetInMemory → Bor CallInMemory → TaskInMemory
+invoke_task line to c = task.Invoke (record { line = line; target = to; call = c })
+
+-- an `if` with its test's term
+abbrev pub branch_task : ℕ → TermInMemory → Bor BlockInMemory → Option (Bor BlockInMemory) → TaskInMemory
+branch_task line t b other = task.Branch (record { line = line; test = t; block = b; otherwise = other })
 
 -- the statements before their first steps
 abbrev pub tasks_of_statements : List StmtInMemory → List Task
@@ -101,8 +112,8 @@ TaskInRange (task.Set line x t) = NumbersInRange t
 TaskInRange (task.SetElement line x i t) = NumbersInRange i × NumbersInRange t
 TaskInRange (task.SetNull to) = Unit {0}
 TaskInRange (task.MakeArray T x n) = Unit {0}
-TaskInRange (task.Invoke line to c) = IsTrue (is_built_call (call_tree c.now))
-TaskInRange (task.Branch line t b other) = NumbersInRange t × BlockInRange (block_tree b.now) × ElseInRange other
+TaskInRange (task.Invoke i) = IsTrue (is_built_call (call_tree i.call.now))
+TaskInRange (task.Branch c) = NumbersInRange c.test × BlockInRange (block_tree c.block.now) × ElseInRange c.otherwise
 TaskInRange (task.Loop line test t body) = ExprInRange (expr_tree test.now) × NumbersInRange t × BlockInRange (block_tree body.now)
 TaskInRange task.Return = Unit {0}
 TaskInRange (task.ReturnValue line t) = NumbersInRange t

@@ -34,6 +34,13 @@ pub(crate) struct Activation<'a> {
     pub variables: Vec<Variable<'a>>,
 }
 
+/// Puts a task in the place of the one that is begun.
+fn put_task<'a>(place: &mut Option<Task<'a>>, task: Option<Task<'a>>)
+    ensures { place.new ≡ task.entry }
+{
+    *place = task;
+}
+
 /// Begins the block's next statement, where none is begun.
 fn begin<'a>(alloc: Global, activation: &mut Activation<'a>) -> Result<(), AllocError>
     requires { IsInRange activation.old }
@@ -49,7 +56,7 @@ fn begin<'a>(alloc: Global, activation: &mut Activation<'a>) -> Result<(), Alloc
         return Ok(());
     };
     let task = task_of(alloc, first)?;
-    activation.task = Some(task);
+    put_task(&mut activation.task, Some(task));
     activation.rest = after;
     Ok(())
 }
@@ -73,7 +80,10 @@ fn leave_block<'a>(
         End::If => Ok(Outcome::Over),
         End::Turn(line, test, body) => {
             let term = term_of(alloc, test)?;
-            activation.task = Some(Task::Loop(line, test, term, body));
+            put_task(
+                &mut activation.task,
+                Some(Task::Loop(line, test, term, body)),
+            );
             Ok(Outcome::Stays)
         }
     }
@@ -88,12 +98,16 @@ fn set_tasks<'a>(activation: &mut Activation<'a>, outcome: Outcome<'a>) -> Resul
         Outcome::Enters(statements, end) => {
             let rest = activation.rest;
             activation.outer.push(Outer { end, rest })?;
-            activation.task = None;
+            put_task(&mut activation.task, None);
             activation.rest = statements;
         }
-        Outcome::Printed(_) | Outcome::Sets(_, _) | Outcome::SetsNull(_) => activation.task = None,
-        Outcome::Puts(_, _) | Outcome::SetsElement(_, _, _) => activation.task = None,
-        Outcome::Makes(_, _, _) | Outcome::Over => activation.task = None,
+        Outcome::Printed(_) | Outcome::Sets(_, _) | Outcome::SetsNull(_) => {
+            put_task(&mut activation.task, None);
+        }
+        Outcome::Puts(_, _) | Outcome::SetsElement(_, _, _) => {
+            put_task(&mut activation.task, None);
+        }
+        Outcome::Makes(_, _, _) | Outcome::Over => put_task(&mut activation.task, None),
     }
     Ok(())
 }

@@ -10,10 +10,9 @@ ghost use Rattle.world.specs.SceneWorld.{world_of_scene};
 ghost use Rattle.world.specs.World.{loaded_objects};
 ghost use Rattle.regions.specs.Start.{null_statics};
 ghost use Rattle.regions.specs.Variable.{as_static};
-ghost use Rattle.replay.specs.declared.task.Task.TheVariants as task;
 ghost use Rattle.replay.specs.Objects.{array_length, reference_of};
 ghost use Rattle.replay.specs.Steps.{Does, first_expression, length_outcome};
-ghost use Rattle.replay.specs.Tasks.{OutcomeInRange};
+ghost use Rattle.replay.specs.Tasks.{invoke_task, OutcomeInRange};
 ghost use Rattle.replay.specs.Views.{variables_view};
 
 use crate::heap::array_length;
@@ -85,7 +84,7 @@ pub(crate) fn invoke<'a>(
     call: &'a Call,
 ) -> Result<Outcome<'a>, AllocError>
     requires { IsTrue (is_built_call (call_tree call.now)) }
-    ensures step { IfOk result (λ o. (unit : SourceUnit) → Does (world_of_scene world.now) (variables_view variables.now) (null_statics unit) (task.Invoke line target.entry call.entry) o (task.Invoke line target.entry call.entry)) }
+    ensures step { IfOk result (λ o. (unit : SourceUnit) → Does (world_of_scene world.now) (variables_view variables.now) (null_statics unit) (invoke_task line target.entry call.entry) o (invoke_task line target.entry call.entry)) }
     ensures range { IfOk result OutcomeInRange }
 {
     match first_argument(call) {

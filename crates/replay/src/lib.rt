@@ -25,6 +25,4 @@ pub use fault::ReplayFault;
 pub use journal::replay;
 
 #[cfg(test)]
-mod row_tests;
-#[cfg(test)]
 mod tests;

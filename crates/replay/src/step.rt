@@ -9,7 +9,7 @@ ghost use Rattle.regions.specs.Variable.{Statics};
 ghost use Rattle.replay.specs.declared.task.Task.TheVariants as task;
 ghost use Rattle.replay.specs.declared.term.Term.TheVariants as term;
 ghost use Rattle.replay.specs.Steps.{HasEffect, Does, worked};
-ghost use Rattle.replay.specs.Tasks.{else_tree, tasks_of_statements, ExprInRange, BlockInRange, ElseInRange, StatementsInRange, TaskInRange, OutcomeInRange};
+ghost use Rattle.replay.specs.Tasks.{branch_task, else_tree, tasks_of_statements, ExprInRange, BlockInRange, ElseInRange, StatementsInRange, TaskInRange, OutcomeInRange};
 ghost use Rattle.replay.specs.Views.{NumbersInRange, variables_view};
 
 use crate::invoke::invoke;
@@ -18,15 +18,16 @@ use crate::reduce::{Reduction, reduce};
 use crate::sight::{Indexed, number_in, place_in};
 use crate::task::Task;
 use crate::term::Term;
-use crate::value::{Evaluated, Value};
+use crate::value::{Evaluated, Value, constant};
 use crate::variable::Variable;
 use std::alloc::AllocError;
-use syntax::{Block, Constant, Expr, Item, Name, Stmt};
+use syntax::{Block, Expr, Item, Name, Stmt};
 use world::World;
 
 /// What was done of a term that has no value yet.
 fn worked<'a>(line: usize, reduction: Reduction) -> Outcome<'a>
-    ensures { result ≡ worked line reduction }
+    ensures view { result ≡ worked line reduction }
+    ensures range { OutcomeInRange result }
 {
     match reduction {
         Reduction::Reduced => Outcome::Stays,
@@ -134,19 +135,19 @@ fn branch<'a>(
     variables: &[Variable<'_>],
     line: usize,
     t: &mut Term,
-    then: &'a Block,
+    block: &'a Block,
     otherwise: Option<&'a Block>,
 ) -> Outcome<'a>
     requires numbers { NumbersInRange t.old }
-    requires then { BlockInRange (block_tree then.now) }
+    requires block { BlockInRange (block_tree block.now) }
     requires otherwise { ElseInRange otherwise }
-    ensures step { HasEffect (variables_view variables.now) (null_statics (unit_tree items.now)) (task.Branch line t.old then.entry otherwise.entry) result (task.Branch line t.new then.entry otherwise.entry) }
+    ensures step { HasEffect (variables_view variables.now) (null_statics (unit_tree items.now)) (branch_task line t.old block.entry otherwise.entry) result (branch_task line t.new block.entry otherwise.entry) }
     ensures numbers { NumbersInRange t.new }
     ensures range { OutcomeInRange result }
 {
     match t {
         Term::Done(v) => match v {
-            Value::Truth(true) => Outcome::Enters(statements_of(Some(then)), End::If),
+            Value::Truth(true) => Outcome::Enters(statements_of(Some(block)), End::If),
             Value::Truth(false) => Outcome::Enters(statements_of(otherwise), End::If),
             Value::Word(_) | Value::Int(_) | Value::Flag(_) => Outcome::Nothing,
         },
@@ -182,7 +183,8 @@ fn turn<'a>(
     }
 }
 
-/// Works a value out, or returns it. A name of a number is worked out, and one of a reference is returned as it is.
+/// Works a value out, or returns it. A name of a number is worked out, and NULL or a reference is returned as it is.
+#[tactic(auto, using(crate::proofs::TaskLemmas::return_rules))]
 fn return_value<'a>(
     items: &[Item],
     variables: &[Variable<'_>],
@@ -195,7 +197,14 @@ fn return_value<'a>(
     ensures range { OutcomeInRange result }
 {
     match t {
-        Term::Done(_) | Term::Named(Constant::Null) => Outcome::Returned,
+        Term::Done(_) => Outcome::Returned,
+        Term::Named(c) => match constant(*c) {
+            Evaluated::Gives(value) => {
+                *t = Term::Done(value);
+                Outcome::Stays
+            }
+            Evaluated::Traps(_) | Evaluated::Stuck => Outcome::Returned,
+        },
         Term::Read(name) => match number_in(variables, name) {
             Evaluated::Gives(value) => {
                 *t = Term::Done(value);
@@ -227,9 +236,10 @@ pub(crate) fn step<'a>(
         }
         Task::SetNull(target) => Ok(Outcome::SetsNull(*target)),
         Task::MakeArray(kind, name, size) => Ok(Outcome::Makes(*kind, name, *size)),
-        Task::Invoke(line, target, call) => invoke(world, variables, *line, *target, call),
-        Task::Branch(line, t, then, otherwise) => {
-            Ok(branch(items, variables, *line, t, then, *otherwise))
+        Task::Invoke(i) => invoke(world, variables, i.line, i.target, i.call),
+        Task::Branch(c) => {
+            let (line, block, otherwise) = (c.line, c.block, c.otherwise);
+            Ok(branch(items, variables, line, &mut c.test, block, otherwise))
         }
         Task::Loop(line, test, t, body) => Ok(turn(items, variables, *line, test, t, body)),
         Task::Return => Ok(Outcome::Returned),

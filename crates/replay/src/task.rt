@@ -11,6 +11,23 @@ use crate::term::{Term, term_of};
 use std::alloc::{AllocError, Global};
 use syntax::{Block, Call, Constant, ElementType, Expr, Form, Name, RightSide, Stmt, Test};
 
+/// A call that is to do; its arguments are looked up in its one step.
+#[derive(Debug, Drop)]
+pub(crate) struct Invocation<'a> {
+    pub line: usize,
+    pub target: Target<'a>,
+    pub call: &'a Call,
+}
+
+/// An `if`, with its test's term and its two ways.
+#[derive(Debug, Drop)]
+pub(crate) struct Choice<'a> {
+    pub line: usize,
+    pub test: Term,
+    pub block: &'a Block,
+    pub otherwise: Option<&'a Block>,
+}
+
 /// A statement still to do, with its line.
 #[derive(Debug, Drop)]
 pub(crate) enum Task<'a> {
@@ -21,10 +38,8 @@ pub(crate) enum Task<'a> {
     SetElement(usize, &'a Name, Term, Term),
     SetNull(Target<'a>),
     MakeArray(ElementType, &'a Name, u32),
-    /// A call; its arguments are looked up in its one step.
-    Invoke(usize, Target<'a>, &'a Call),
-    /// An `if`, with its two ways.
-    Branch(usize, Term, &'a Block, Option<&'a Block>),
+    Invoke(Invocation<'a>),
+    Branch(Choice<'a>),
     /// A loop, with its test, the test's term, and the body.
     Loop(usize, &'a Expr, Term, &'a Block),
     Return,
@@ -63,7 +78,7 @@ fn set_task<'a>(
 {
     match right {
         RightSide::Expr(e) => value_task(alloc, line, target, name, e),
-        RightSide::Call(call) => Ok(Task::Invoke(line, target, call)),
+        RightSide::Call(call) => Ok(Task::Invoke(Invocation { line, target, call })),
     }
 }
 
@@ -72,17 +87,22 @@ fn if_task<'a>(
     alloc: Global,
     line: usize,
     test: &'a Test,
-    then: &'a Block,
+    block: &'a Block,
     otherwise: Option<&'a Block>,
 ) -> Result<Task<'a>, AllocError>
     requires test { TestInRange (test_tree test.now) }
-    requires then { BlockInRange (block_tree then.now) }
+    requires block { BlockInRange (block_tree block.now) }
     requires otherwise { ElseInRange otherwise }
-    ensures view { IfOk result (λ t. task_view t ≡ if_task line (test_tree test.entry.now) (block_tree then.entry.now) (else_tree line otherwise.entry)) }
+    ensures view { IfOk result (λ t. task_view t ≡ if_task line (test_tree test.entry.now) (block_tree block.entry.now) (else_tree line otherwise.entry)) }
     ensures range { IfOk result TaskInRange }
 {
     match test {
-        Test::Expr(e) => Ok(Task::Branch(line, term_of(alloc, e)?, then, otherwise)),
+        Test::Expr(e) => Ok(Task::Branch(Choice {
+            line,
+            test: term_of(alloc, e)?,
+            block,
+            otherwise,
+        })),
         Test::Call(_) => Err(AllocError),
     }
 }
@@ -128,10 +148,14 @@ pub(crate) fn task_of(alloc: Global, s: &Stmt) -> Result<Task<'_>, AllocError>
         Form::AssignElement(x, i, e) => {
             Task::SetElement(line, x, term_of(alloc, i)?, term_of(alloc, e)?)
         }
-        Form::Perform(call) => Task::Invoke(line, Target::Dropped, call),
+        Form::Perform(call) => Task::Invoke(Invocation {
+            line,
+            target: Target::Dropped,
+            call,
+        }),
         Form::PutJint(e) => Task::Print(line, term_of(alloc, e)?),
-        Form::If(test, then) => if_task(alloc, line, test, then, None)?,
-        Form::IfElse(test, then, other) => if_task(alloc, line, test, then, Some(other))?,
+        Form::If(test, block) => if_task(alloc, line, test, block, None)?,
+        Form::IfElse(test, block, other) => if_task(alloc, line, test, block, Some(other))?,
         Form::While(test, body) => Task::Loop(line, test, term_of(alloc, test)?, body),
         Form::Return(None) => Task::Return,
         Form::Return(Some(e)) => Task::ReturnValue(line, term_of(alloc, e)?),

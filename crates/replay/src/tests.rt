@@ -17,10 +17,11 @@ const WORLD: &[u8] = b"heap 512\nclass A\nthread Java_A_f\n";
 
 const TEXT: &[u8] = b"T1 5\nT1 ended\njournal 1 1 1 1\n";
 
-#[test]
-fn a_whole_call(rt: HostRuntime) -> Result<(), Fail> {
-    let alloc = rt.alloc();
-    // put_jint(5); return;
+/// A function of these statements: `put_jint(5); return;`
+#[tactic(auto, using(syntax::proofs::Blocks::blocks))]
+fn printing_unit(alloc: Global) -> Result<Unit, AllocError> {
+    let name = Name::new(alloc, b"Java_A_f")?;
+    let class_name = Name::new(alloc, b"cls")?;
     let put = Stmt {
         line: 2,
         form: Form::PutJint(Expr::Number {
@@ -32,19 +33,25 @@ fn a_whole_call(rt: HostRuntime) -> Result<(), Fail> {
         line: 3,
         form: Form::Return(None),
     };
+    let statements = vec![in alloc; put, back]?;
     let function = Function {
         line: 1,
         result: ResultType::Void,
-        name: Name::new(alloc, b"Java_A_f")?,
-        class_name: Name::new(alloc, b"cls")?,
+        name,
+        class_name,
         parameters: Vec::new(alloc),
         body: Block {
-            statements: vec![in alloc; put, back]?,
+            statements,
             end_line: 4,
         },
     };
-    let unit = Unit::new(vec![in alloc; Item::Function(function)]?);
-    let checked = check(type_unit(alloc, unit)?)?;
+    Ok(Unit::new(vec![in alloc; Item::Function(function)]?))
+}
+
+#[test]
+fn a_whole_call(rt: HostRuntime) -> Result<(), Fail> {
+    let alloc = rt.alloc();
+    let checked = check(alloc, type_unit(alloc, printing_unit(alloc)?)?)?;
     let world = read_world(alloc, WORLD)?;
     let journal = [1; 5].map(|thread| Entry {
         thread,
@@ -63,6 +70,7 @@ fn a_whole_call(rt: HostRuntime) -> Result<(), Fail> {
 
 /// A function with a parameter `jobject a` and these statements from line 2 on:
 /// `jint n = (*env)->GetArrayLength(env, a);`, `put_jint(n);` and `return;`.
+#[tactic(auto, using(syntax::proofs::Blocks::blocks))]
 fn length_unit(alloc: Global) -> Result<Unit, AllocError> {
     let argument = Argument::Value(Expr::Variable(Name::new(alloc, b"a")?));
     let call = Call {
@@ -105,6 +113,7 @@ fn length_unit(alloc: Global) -> Result<Unit, AllocError> {
 
 /// A function with a parameter `jint a` and these statements from line 2 on:
 /// `jint n = (jint)((uint32_t)a + 1u);`, `put_jint(n);` and `return;`.
+#[tactic(auto, using(syntax::proofs::Blocks::blocks))]
 fn successor_unit(alloc: Global) -> Result<Unit, AllocError> {
     let word = Expr::Prefix(
         PrefixOp::ToWord,
@@ -159,7 +168,7 @@ fn replayed(
     entries: usize,
     text: &[u8],
 ) -> Result<(), Fail> {
-    let checked = check(type_unit(alloc, unit)?)?;
+    let checked = check(alloc, type_unit(alloc, unit)?)?;
     let world = read_world(alloc, world)?;
     let mut journal = Vec::new(alloc);
     for _ in 0..entries {
@@ -218,7 +227,7 @@ fn a_number_that_is_given(rt: HostRuntime) -> Result<(), Fail> {
 #[test]
 fn a_number_for_a_reference(rt: HostRuntime) -> Result<(), Fail> {
     let alloc = rt.alloc();
-    let checked = check(type_unit(alloc, length_unit(alloc)?)?)?;
+    let checked = check(alloc, type_unit(alloc, length_unit(alloc)?)?)?;
     let world = read_world(
         alloc,
         b"heap 512\nclass A\narray @a I 7 8 9\nthread Java_A_f 5\n",
@@ -232,7 +241,7 @@ fn a_number_for_a_reference(rt: HostRuntime) -> Result<(), Fail> {
 #[test]
 fn an_unknown_function(rt: HostRuntime) -> Result<(), Fail> {
     let alloc = rt.alloc();
-    let checked = check(type_unit(alloc, Unit::new(Vec::new(alloc)))?)?;
+    let checked = check(alloc, type_unit(alloc, Unit::new(Vec::new(alloc)))?)?;
     let world = read_world(alloc, WORLD)?;
     let mut sink = StdSink::new(Vec::new(alloc));
     let answer = replay(alloc, &checked, &world, &[], &mut sink);

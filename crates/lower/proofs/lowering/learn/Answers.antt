@@ -1,4 +1,4 @@
-use Rattle.std.proofs.Common.{◌≡◌, ℕ, [], ◌∷◌, ◌∙◌, ap, arith}
+use Rattle.std.proofs.Common.{ℕ, [], ◌∷◌, ◌∙◌, ap, arith}
 use Rattle.types.specs.Sorts.{Global}
 use Rattle.lower.specs.Names.{known_behind}
 use Rattle.lower.proofs.KnownNames.{known_behind-append, known_behind-length}

@@ -1,15 +1,10 @@
-use Rattle.std.proofs.Common.{◌≡◌, ◌+◌, List, [], ◌∷◌, map, drop, sym, ap, ap₂, ◌∙◌, subst}
-use Rattle.std.specs.Prelude.{IsTrue}
+use Rattle.std.proofs.Common.{◌+◌, List, [], ◌∷◌, map, drop, ap, ◌∙◌, subst}
 use Rattle.syntax.specs.declared.unit.Item.{Item as ItemInMemory}
-use Rattle.syntax.specs.Tree.{Item}
-use Rattle.syntax.specs.Views.{item_tree, function_tree, unit_tree}
-use Rattle.lower.specs.declared.names.Known.{Known as KnownInMemory}
-use Rattle.lower.specs.Coding.{has_long}
-use Rattle.lower.specs.Layout.{Known}
+use Rattle.syntax.specs.Views.{item_tree, unit_tree}
 use Rattle.lower.specs.Names.{known_behind}
 use Rattle.lower.specs.Lowered.{AreCodesOf}
 use Rattle.lower.proofs.AcceptedFacts.{accepted_fits}
-use Rattle.lower.proofs.ItemSteps.{AreLeft, none_done, static_done, function_done, too_long, all_done, none_long, next_item, last_item}
+use Rattle.lower.proofs.ItemSteps.{AreLeft, none_done, all_done, next_item, last_item}
 use Rattle.lower.proofs.lowering.lower.Goals as goal
 
 pub loop-item-init : goal.loop-item-init

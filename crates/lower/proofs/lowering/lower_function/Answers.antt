@@ -1,4 +1,4 @@
-use Rattle.std.proofs.Common.{◌≡◌, ℕ, ◌+◌, ◌≤◌, List, [], ◌∷◌, ◌++◌, length, refl, sym, ap, ◌∙◌, subst, arith}
+use Rattle.std.proofs.Common.{◌≡◌, ◌+◌, ◌≤◌, List, [], ◌∷◌, ◌++◌, length, refl, ap, ◌∙◌, subst, arith}
 use Rattle.syntax.specs.Tree.{Function}
 use Rattle.syntax.specs.Views.{function_tree}
 use Rattle.code.specs.declared.instr.Instr.{Instr}
@@ -6,7 +6,7 @@ use Rattle.code.specs.declared.instr.Instr.TheVariants as instr
 use Rattle.code.specs.declared.slots.SlotCounts.{SlotCounts}
 use Rattle.code.specs.Depth.{Listing, IsValid}
 use Rattle.lower.specs.Layout.{Known, Layout, closed, entry_layout, block_layout}
-use Rattle.lower.specs.Coding.{block_code, function_code, instruction_limit}
+use Rattle.lower.specs.Coding.{block_code, instruction_limit}
 use Rattle.lower.specs.Lowered.{IsCodeOf}
 use Rattle.lower.specs.Names.{known_behind}
 use Rattle.lower.proofs.Functions.{listing_of, function_valid, is_code_of}

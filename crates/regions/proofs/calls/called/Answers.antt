@@ -1,4 +1,4 @@
-use Rattle.std.proofs.Common.{sym, ap, map}
+use Rattle.std.proofs.Common.{ap, map}
 use Rattle.syntax.specs.Parts.{own_call}
 use Rattle.syntax.specs.Views.{argument_tree, call_tree, form_tree}
 use Rattle.regions.specs.Effects.{effect_value}

@@ -1,5 +1,4 @@
 use Rattle.std.proofs.Common.{◌≡◌, drop}
-use Rattle.regions.specs.RegionStates.{RegionState}
 use Rattle.regions.specs.Standings.{variables_value, state_value, holds_of}
 use Rattle.regions.proofs.standing.is_array_in_use.Given as goal
 

@@ -7,10 +7,6 @@ use crate::fault::{CheckFault, RegionFault, RegionRule};
 use crate::rules::first_judged;
 use crate::standing::{Access, Condition, Standing, State, Variable, copy, is};
 use crate::walk::{Way, join_ways};
-use crate::{
-    accepted_breaks_nothing, accepted_or_broken, accepted_or_first, not_both, one_first,
-    reachable_is_computed,
-};
 use std::alloc::{AllocError, Global};
 use std::test::Fail;
 use syntax::{BinaryOp, Constant, Expr, Form, Name, Test, Unit};
@@ -63,13 +59,22 @@ fn a_free_buffer_is_read(rt: HostRuntime) -> Result<(), Fail> {
     let alloc = rt.alloc();
     let form = element(alloc)?;
     let free = state_of(alloc, b"p", Standing::Free)?;
-    assert_eq!(rt; first_judged(&free, &form, None), Some(RegionRule::WrongBuffer));
+    assert_eq!(rt;
+        first_judged(&free, &form, None),
+        Some(RegionRule::WrongBuffer)
+    );
     let untested = state_of(alloc, b"p", Standing::Untested(Access::CharsCopy, b"s"))?;
-    assert_eq!(rt; first_judged(&untested, &form, None), Some(RegionRule::UntestedBuffer));
+    assert_eq!(rt;
+        first_judged(&untested, &form, None),
+        Some(RegionRule::UntestedBuffer)
+    );
     let usable = state_of(alloc, b"p", Standing::Usable(Access::CharsCopy, b"s"))?;
     assert_eq!(rt; first_judged(&usable, &form, None), None);
     let critical = state_of(alloc, b"p", Standing::Usable(Access::CharsView, b"s"))?;
-    assert_eq!(rt; first_judged(&critical, &form, None), Some(RegionRule::CallWhileCritical));
+    assert_eq!(rt;
+        first_judged(&critical, &form, None),
+        Some(RegionRule::CallWhileCritical)
+    );
     Ok(())
 }
 
@@ -77,47 +82,69 @@ fn a_free_buffer_is_read(rt: HostRuntime) -> Result<(), Fail> {
 fn a_return(rt: HostRuntime) -> Result<(), Fail> {
     let alloc = rt.alloc();
     let held = state_of(alloc, b"p", Standing::Untested(Access::CharsCopy, b"s"))?;
-    assert_eq!(rt; first_judged(&held, &Form::Return(None), None), Some(RegionRule::ReturnWithBuffer));
+    assert_eq!(rt;
+        first_judged(&held, &Form::Return(None), None),
+        Some(RegionRule::ReturnWithBuffer)
+    );
     let mut free = state_of(alloc, b"p", Standing::Free)?;
     assert_eq!(rt; first_judged(&free, &Form::Return(None), None), None);
     free.frames = 2;
-    assert_eq!(rt; first_judged(&free, &Form::Return(None), None), Some(RegionRule::ReturnInFrame));
+    assert_eq!(rt;
+        first_judged(&free, &Form::Return(None), None),
+        Some(RegionRule::ReturnInFrame)
+    );
     assert_eq!(rt; RegionRule::ReturnInFrame.number(), 36);
     Ok(())
 }
 
 #[test]
-fn calls(rt: HostRuntime) -> Result<(), Fail> {
+fn the_only_frame_is_popped(rt: HostRuntime) -> Result<(), Fail> {
     let alloc = rt.alloc();
-    let form = Form::Return(None);
+    let state = state_of(alloc, b"a", Standing::Reference(1, true))?;
     let pops = MadeCall {
         effect: Effect::Pops,
         arguments: &[],
     };
-    let state = state_of(alloc, b"a", Standing::Reference(1, true))?;
-    assert_eq!(rt; first_judged(&state, &form, Some(pops)), Some(RegionRule::PopLastFrame));
+    let rule = first_judged(&state, &Form::Return(None), Some(pops));
+    assert_eq!(rt; rule, Some(RegionRule::PopLastFrame));
+    Ok(())
+}
+
+#[test]
+fn a_call_beside_a_view(rt: HostRuntime) -> Result<(), Fail> {
+    let alloc = rt.alloc();
+    let state = state_of(alloc, b"p", Standing::Untested(Access::ArrayView, b"a"))?;
     let other = MadeCall {
         effect: Effect::Other,
         arguments: &[],
     };
-    assert_eq!(rt; first_judged(&state, &form, Some(other)), None);
-    let critical = state_of(alloc, b"p", Standing::Untested(Access::ArrayView, b"a"))?;
-    assert_eq!(rt; first_judged(&critical, &form, Some(other)), Some(RegionRule::CallWhileCritical));
+    let rule = first_judged(&state, &Form::Return(None), Some(other));
+    assert_eq!(rt; rule, Some(RegionRule::CallWhileCritical));
     Ok(())
+}
+
+/// Whether an untested buffer is free where this test of it holds.
+fn is_free_where_true(alloc: Global, test: &Test) -> Result<bool, AllocError> {
+    let mut state = state_of(alloc, b"p", Standing::Untested(Access::CharsCopy, b"s"))?;
+    take_true(&mut state, test)?;
+    Ok(is(&state, Condition::Free, b"p"))
+}
+
+/// Whether an untested buffer is usable where this test of it does not hold.
+fn is_usable_where_false(alloc: Global, test: &Test) -> Result<bool, AllocError> {
+    let mut state = state_of(alloc, b"p", Standing::Untested(Access::CharsCopy, b"s"))?;
+    take_false(&mut state, test);
+    Ok(is(&state, Condition::Held, b"p") && !is(&state, Condition::Untested, b"p"))
 }
 
 #[test]
 fn a_null_test_teaches(rt: HostRuntime) -> Result<(), Fail> {
     let alloc = rt.alloc();
     let test = null_test(alloc)?;
-    let state = state_of(alloc, b"p", Standing::Untested(Access::CharsCopy, b"s"))?;
-    let mut null = copy(alloc, &state)?;
-    take_true(&mut null, &test)?;
-    assert!(rt; is(&null, Condition::Free, b"p"));
-    let mut usable = copy(alloc, &state)?;
-    take_false(&mut usable, &test);
-    assert!(rt; !is(&usable, Condition::Free, b"p"));
-    assert!(rt; !is(&usable, Condition::Untested, b"p"));
+    let is_free = is_free_where_true(alloc, &test)?;
+    let is_usable = is_usable_where_false(alloc, &test)?;
+    assert!(rt; is_free);
+    assert!(rt; is_usable);
     Ok(())
 }
 
@@ -135,14 +162,4 @@ fn joins(rt: HostRuntime) -> Result<(), Fail> {
         _ => assert!(rt; false),
     }
     Ok(())
-}
-
-#[test]
-fn laws() {
-    accepted_breaks_nothing();
-    accepted_or_broken();
-    accepted_or_first();
-    not_both();
-    one_first();
-    reachable_is_computed();
 }
