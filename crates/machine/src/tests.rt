@@ -14,7 +14,10 @@ use world::{StdSink, World, read_schedule, read_world};
 const WORLD: &[u8] = b"heap 512\nclass A\nthread Java_A_f\n";
 
 // put_jint(5); return;
+#[tactic(auto, using(syntax::proofs::Blocks::blocks))]
 fn program(alloc: Global) -> Result<Checked, Fail> {
+    let name = Name::new(alloc, b"Java_A_f")?;
+    let class_name = Name::new(alloc, b"cls")?;
     let put = Stmt {
         line: 2,
         form: Form::PutJint(Expr::Number {
@@ -29,8 +32,8 @@ fn program(alloc: Global) -> Result<Checked, Fail> {
     let function = Function {
         line: 1,
         result: ResultType::Void,
-        name: Name::new(alloc, b"Java_A_f")?,
-        class_name: Name::new(alloc, b"cls")?,
+        name,
+        class_name,
         parameters: Vec::new(alloc),
         body: Block {
             statements: vec![in alloc; put, back]?,
