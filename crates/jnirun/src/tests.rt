@@ -1,5 +1,6 @@
 //! Worked programs, refusals and statuses, through `serve`.
 
+mod counted;
 mod examples;
 mod limits;
 mod pages;

@@ -15,7 +15,7 @@ struct Page {
 }
 
 /// In the order of the pages; `examples/agree` shows that these are the pages' texts.
-const PAGES: [Page; 30] = [
+const PAGES: [Page; 42] = [
     Page {
         heading: "A text",
         program: br#"static jobject cache = NULL;
@@ -237,6 +237,20 @@ JNIEXPORT jint JNICALL Java_com_example_Sum_add(JNIEnv *env, jclass cls, jint a,
         answer: b"fault 26 line 3\n",
     },
     Page {
+        heading: "27: a bad mode",
+        program: br#"JNIEXPORT void JNICALL Java_A_f(JNIEnv *env, jclass cls, jintArray array)
+{
+    jint *numbers = NULL;
+    (*env)->ReleaseIntArrayElements(env, array, numbers, 3);
+    return;
+}
+"#,
+        world: b"",
+        schedule: b"",
+        journal: b"",
+        answer: b"fault 24 line 4\n",
+    },
+    Page {
         heading: "28: a string's characters are written to",
         program: br#"JNIEXPORT void JNICALL Java_A_f(JNIEnv *env, jclass cls)
 {
@@ -251,6 +265,73 @@ JNIEXPORT jint JNICALL Java_com_example_Sum_add(JNIEnv *env, jclass cls, jint a,
         answer: b"fault 28 line 4\n",
     },
     Page {
+        heading: "31: a call or a print while a buffer is critical",
+        program: br#"JNIEXPORT void JNICALL Java_A_f(JNIEnv *env, jclass cls, jintArray array)
+{
+    jint *numbers = (*env)->GetPrimitiveArrayCritical(env, array, NULL);
+    if (numbers == NULL) {
+        return;
+    }
+    put_jint(numbers[0]);
+    (*env)->ReleasePrimitiveArrayCritical(env, array, numbers, JNI_ABORT);
+    return;
+}
+"#,
+        world: b"",
+        schedule: b"",
+        journal: b"",
+        answer: b"fault 24 line 3\n",
+    },
+    Page {
+        heading: "32: a return while a buffer is held",
+        program: br#"JNIEXPORT void JNICALL Java_A_f(JNIEnv *env, jclass cls, jintArray array)
+{
+    jint *numbers = (*env)->GetIntArrayElements(env, array, NULL);
+    if (numbers == NULL) {
+        return;
+    }
+    numbers[0] = 1;
+    return;
+}
+"#,
+        world: b"",
+        schedule: b"",
+        journal: b"",
+        answer: b"fault 24 line 3\n",
+    },
+    Page {
+        heading: "33: a buffer is lost",
+        program: br#"JNIEXPORT void JNICALL Java_A_f(JNIEnv *env, jclass cls, jintArray array)
+{
+    jint *numbers = (*env)->GetIntArrayElements(env, array, NULL);
+    numbers = (*env)->GetIntArrayElements(env, array, NULL);
+    if (numbers == NULL) {
+        return;
+    }
+    (*env)->ReleaseIntArrayElements(env, array, numbers, JNI_ABORT);
+    return;
+}
+"#,
+        world: b"",
+        schedule: b"",
+        journal: b"",
+        answer: b"fault 24 line 3\n",
+    },
+    Page {
+        heading: "34: a buffer isn't tested",
+        program: br#"JNIEXPORT void JNICALL Java_A_f(JNIEnv *env, jclass cls, jintArray array)
+{
+    jint *numbers = (*env)->GetIntArrayElements(env, array, NULL);
+    (*env)->ReleaseIntArrayElements(env, array, numbers, JNI_ABORT);
+    return;
+}
+"#,
+        world: b"",
+        schedule: b"",
+        journal: b"",
+        answer: b"fault 24 line 3\n",
+    },
+    Page {
         heading: "35: a buffer that holds nothing is used",
         program: br#"JNIEXPORT void JNICALL Java_A_f(JNIEnv *env, jclass cls)
 {
@@ -263,6 +344,98 @@ JNIEXPORT jint JNICALL Java_com_example_Sum_add(JNIEnv *env, jclass cls, jint a,
         schedule: b"",
         journal: b"",
         answer: b"fault 35 line 4\n",
+    },
+    Page {
+        heading: "36: a return inside a frame",
+        program: br#"JNIEXPORT void JNICALL Java_A_f(JNIEnv *env, jclass cls)
+{
+    if ((*env)->PushLocalFrame(env, 1) == 0) {
+        return;
+    }
+    return;
+}
+"#,
+        world: b"",
+        schedule: b"",
+        journal: b"",
+        answer: b"fault 24 line 3\n",
+    },
+    Page {
+        heading: "37: the first frame is popped",
+        program: br#"JNIEXPORT void JNICALL Java_A_f(JNIEnv *env, jclass cls)
+{
+    (*env)->PopLocalFrame(env, NULL);
+    return;
+}
+"#,
+        world: b"",
+        schedule: b"",
+        journal: b"",
+        answer: b"fault 24 line 3\n",
+    },
+    Page {
+        heading: "38: a dead reference is used",
+        program: br#"JNIEXPORT void JNICALL Java_A_f(JNIEnv *env, jclass cls, jobject object)
+{
+    (*env)->DeleteLocalRef(env, object);
+    jclass found = (*env)->GetObjectClass(env, object);
+    return;
+}
+"#,
+        world: b"",
+        schedule: b"",
+        journal: b"",
+        answer: b"fault 24 line 3\n",
+    },
+    Page {
+        heading: "39: the array of a held buffer is lost",
+        program: br#"JNIEXPORT void JNICALL Java_A_f(JNIEnv *env, jclass cls, jintArray array)
+{
+    jint *numbers = (*env)->GetIntArrayElements(env, array, NULL);
+    if (numbers == NULL) {
+        return;
+    }
+    array = NULL;
+    (*env)->ReleaseIntArrayElements(env, array, numbers, 0);
+    return;
+}
+"#,
+        world: b"",
+        schedule: b"",
+        journal: b"",
+        answer: b"fault 24 line 3\n",
+    },
+    Page {
+        heading: "40: ways that meet don't agree",
+        program: br#"JNIEXPORT void JNICALL Java_A_f(JNIEnv *env, jclass cls, jobject object, jint n)
+{
+    if (n != 0) {
+        (*env)->DeleteLocalRef(env, object);
+    }
+    return;
+}
+"#,
+        world: b"",
+        schedule: b"",
+        journal: b"",
+        answer: b"fault 24 line 4\n",
+    },
+    Page {
+        heading: "41: a reference is set in another frame",
+        program: br#"JNIEXPORT void JNICALL Java_A_f(JNIEnv *env, jclass cls)
+{
+    jobject object = NULL;
+    if ((*env)->PushLocalFrame(env, 1) == 0) {
+        object = (*env)->NewLocalRef(env, cls);
+        (*env)->PopLocalFrame(env, NULL);
+    }
+    return;
+}
+"#,
+        world: b"",
+        schedule: b"",
+        journal: b"",
+        answer: b"fault 24 line 4\n",
     },
     Page {
         heading: "42: a way doesn't end with `return`, or a statement is reached by none",
@@ -366,6 +539,22 @@ thread Java_A_f
         schedule: b"",
         journal: b"",
         answer: b"fault 83 line 1\n",
+    },
+    Page {
+        heading: "84: the heap is too small",
+        program: br#"JNIEXPORT jint JNICALL Java_A_f(JNIEnv *env, jclass cls)
+{
+    return 0;
+}
+"#,
+        world: br#"heap 512
+class A
+array @a I 0 0 0 0 0 0 0 0 0 0 0 0 0 0 0 0 0 0 0 0 0 0 0 0 0 0 0 0 0 0 0 0 0 0 0 0 0 0 0 0 0 0 0 0 0 0 0 0 0 0 0 0 0 0 0 0 0 0 0 0 0 0 0 0 0 0 0 0 0 0 0 0 0 0 0 0 0 0 0 0 0 0 0 0 0 0 0 0 0 0 0 0 0 0 0 0 0 0 0 0 0 0 0 0 0 0 0 0 0 0 0 0 0 0 0 0 0 0 0 0 0 0 0 0 0 0 0 0 0 0 0 0 0 0 0 0 0 0 0 0 0 0 0 0 0 0 0 0 0 0 0 0 0 0 0 0 0 0 0 0 0 0 0 0 0 0 0 0 0 0 0 0 0 0 0 0 0 0 0 0 0 0 0 0 0 0 0 0 0 0 0 0 0 0 0 0 0 0 0 0 0 0 0 0 0 0 0 0 0 0 0 0 0 0 0 0 0 0 0 0 0 0 0 0 0 0 0 0 0 0 0 0 0 0 0 0 0 0 0 0 0 0 0 0 0 0 0 0 0 0 0 0 0 0 0 0 0 0 0 0 0 0 0 0 0 0 0 0 0 0 0 0 0 0 0 0 0 0 0 0 0 0 0 0 0 0 0 0 0 0 0 0 0 0 0 0 0 0 0 0 0 0 0 0 0 0 0 0 0 0 0 0 0 0 0 0 0 0 0 0 0 0 0 0 0 0 0 0 0 0 0 0 0 0 0 0 0 0 0 0 0 0 0 0 0 0 0 0 0 0 0 0 0 0 0 0 0 0 0 0 0 0 0 0 0 0 0 0 0 0 0 0 0 0
+thread Java_A_f
+"#,
+        schedule: b"",
+        journal: b"",
+        answer: b"fault 84 line 3\n",
     },
     Page {
         heading: "91: an entry of a journal isn't possible",
