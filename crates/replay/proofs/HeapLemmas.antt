@@ -1,15 +1,19 @@
 -- Which objects of a loaded heap are arrays, and how long they are.
 use Rattle.std.proofs.Common.{◌≡◌, ℕ, zero, suc, ◌+◌, ◌-◌, ◌*◌, ◌<◌, ◌≤◌, Bool, true, false, cond, List, [], ◌∷◌, ◌++◌, length, map, replicate, Option, Some, None, refl, sym, ap, ◌∙◌, arith, ⊎_elim, ◌⊎◌, inl, inr}
-use Rattle.std.specs.Prelude.{slice_get}
+use Rattle.std.specs.Prelude.{IsTrue, slice_get, sum_by}
+use Rattle.std.proofs.lemmas.Bool.Decides.{nat_tests}
 use Rattle.std.proofs.lemmas.List.{length-map}
+use Rattle.std.proofs.lemmas.List.Sums.{sum_by-cons}
 use Rattle.base.specs.Bytes.{Identifier}
 use Rattle.base.specs.Element.{ElementType, JInt, JShort, JByte, JChar}
 use Rattle.classes.specs.BuiltIns.{built_ins, number_array, class_class, out_of_memory_error}
 use Rattle.classes.specs.Class.{Classes, class_kind, is_plain}
-use Rattle.world.specs.Object.{Object, Number}
-use Rattle.world.specs.Scene.{ArrayScene, Scene}
+use Rattle.world.specs.Object.{Object, Number, sizes}
+use Rattle.world.specs.Scene.{ArrayScene, Scene, array_size}
 use Rattle.world.specs.SceneWorld.{array_object, classes_named, world_of_scene}
-use Rattle.world.specs.World.{World, loaded_objects}
+use Rattle.world.specs.World.{World, loaded_objects, fits_cells}
+use Rattle.world.proofs.ArrayLines.{array_sizes}
+use Rattle.world.proofs.ClassTables.{loaded_size}
 use Rattle.regions.specs.Heap.{Heap, object_at}
 use Rattle.replay.specs.Objects.{array_length}
 use Rattle.replay.proofs.LoadedObjects.{classes_count, classes_grown, loaded_is, made_first, plain_class_object, error_object}
@@ -135,3 +139,16 @@ module _ (scene : Scene) where
   past_length objects n before i same is high place low =
       ap (λ (h : Heap). array_length w.classes h n) loaded
       ∙ nothing scene.classes scene.objects (length w.classes) n i (omega (arith, is, high, place)) (ap (λ (l : List ArrayScene). slice_get l i) (sym same) ∙ past objects i low)
+
+  in_sum : (xs : List ArrayScene) (i : ℕ) (a : ArrayScene) → slice_get xs i ≡ Some a → length a.values ≤ sum_by array_size xs
+  in_sum [] i a at = absurd (cc)
+  in_sum (x ∷ xs) zero a at = let same : x ≡ a = cc in let long : array_size x ≡ array_size a = ap array_size same in omega (arith, sum_by-cons array_size x xs, long)
+  in_sum (x ∷ xs) (suc i) a at = omega (arith, sum_by-cons array_size x xs, in_sum xs i a at)
+
+  -- no array has more elements than there are cells
+  pub values_fit : (objects : List ArrayScene) (cells i : ℕ) (a : ArrayScene) → IsTrue (fits_cells w) → objects ≡ scene.objects → cells ≡ scene.heap → cells ≤ 1048576 → slice_get objects i ≡ Some a → length a.values ≤ 1048576
+  values_fit objects cells i a fits same counted few at =
+      let within : sizes (loaded_objects w) ≤ scene.heap = grind (arith, nat_tests, fits) in
+      let there : slice_get scene.objects i ≡ Some a = ap (λ (l : List ArrayScene). slice_get l i) (sym same) ∙ at in
+      let all : sizes w.objects ≡ sum_by array_size scene.objects = array_sizes [] [] scene.objects in
+      omega (arith, within, loaded_size scene.classes w refl, all, in_sum scene.objects i a there, counted, few)

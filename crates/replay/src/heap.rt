@@ -1,6 +1,6 @@
 //! The objects. Each goes by its name, its number in the order in which they are made.
 
-ghost use Rattle.std.specs.Prelude.{◌≡◌, ◌+◌, length};
+ghost use Rattle.std.specs.Prelude.{◌≡◌, ◌≤◌, ◌+◌, IfSome, length};
 ghost use Rattle.world.specs.SceneWorld.{world_of_scene};
 ghost use Rattle.world.specs.World.{loaded_objects};
 ghost use Rattle.replay.specs.Objects.{array_length};
@@ -20,8 +20,11 @@ pub(crate) fn made_before(world: &World) -> usize
 
 /// The number of elements of this object; none where it is no array.
 pub(crate) fn array_length(world: &World, object: usize) -> Option<usize>
-    ensures { result ≡ array_length (world_of_scene world.now).classes (loaded_objects (world_of_scene world.now)) object }
+    ensures length { result ≡ array_length (world_of_scene world.now).classes (loaded_objects (world_of_scene world.now)) object }
+    ensures few { IfSome result (λ n. n ≤ 1048576) }
 {
+    // The proof reads off this call that no array has more elements than there are cells.
+    let _cells = world.heap();
     let before = made_before(world);
     if object <= before {
         return None;

@@ -54,24 +54,13 @@ fn first_argument(call: &Call) -> Option<&Expr>
 }
 
 /// The number of elements of this object, for a variable.
-fn set_length<'a>(
-    world: &World,
-    line: usize,
-    target: Target<'a>,
-    object: usize,
-) -> Result<Outcome<'a>, AllocError>
-    ensures { IfOk result (λ o. o ≡ length_outcome line target.entry
-        (array_length (world_of_scene world.now).classes (loaded_objects (world_of_scene world.now)) object)) }
+fn set_length<'a>(world: &World, line: usize, target: Target<'a>, object: usize) -> Outcome<'a>
+    ensures { result ≡ length_outcome line target.entry
+        (array_length (world_of_scene world.now).classes (loaded_objects (world_of_scene world.now)) object) }
 {
     match array_length(world, object) {
-        None => Ok(Outcome::Trapped(Trap::WrongObject, line)),
-        Some(length) => {
-            // No array of a world is as long.
-            if length > 2_147_483_647 {
-                return Err(AllocError);
-            }
-            Ok(Outcome::Puts(target, length as i32))
-        }
+        None => Outcome::Trapped(Trap::WrongObject, line),
+        Some(length) => Outcome::Puts(target, length as i32),
     }
 }
 
@@ -91,7 +80,7 @@ pub(crate) fn invoke<'a>(
         None => Ok(Outcome::Trapped(Trap::WrongObject, line)),
         Some(e) => match object_of(variables, e) {
             None => Ok(Outcome::Trapped(Trap::NullReference, line)),
-            Some(object) => set_length(world, line, target, object),
+            Some(object) => Ok(set_length(world, line, target, object)),
         },
     }
 }

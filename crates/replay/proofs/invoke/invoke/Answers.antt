@@ -2,7 +2,7 @@ use Rattle.std.proofs.Common.{rules}
 use Rattle.syntax.specs.Views.{expr_tree}
 use Rattle.world.specs.SceneWorld.{world_of_scene}
 use Rattle.replay.specs.Views.{variables_view}
-use Rattle.replay.proofs.CallLemmas.{if_ok, invoke_nothing, invoke_null, invoke_object}
+use Rattle.replay.proofs.CallLemmas.{invoke_nothing, invoke_null, invoke_object}
 use Rattle.replay.proofs.invoke.invoke.Goals as goal
 
 pub returns-in-None-clause-step : goal.returns-in-None-clause-step
@@ -13,6 +13,4 @@ returns-in-None-object_of-clause-step c = λ unit. invoke_null unit (world_of_sc
 
 pub returns-in-Some-object_of-clause-step : goal.returns-in-Some-object_of-clause-step
 returns-in-Some-object_of-clause-step c =
-    if_ok c.set_length.result
-    (λ o gives unit. invoke_object unit (world_of_scene c.args.world.now) (variables_view c.args.variables.now) c.args.line c.args.target c.args.call (search rules) (expr_tree c.in-Some.e.now) (search rules) c.in-Some-object_of.object (search rules) o gives)
-    c.set_length.ensures
+    λ unit. invoke_object unit (world_of_scene c.args.world.now) (variables_view c.args.variables.now) c.args.line c.args.target c.args.call (search rules) (expr_tree c.in-Some.e.now) (search rules) c.in-Some-object_of.object (search rules) c.set_length.result c.set_length.ensures
