@@ -418,12 +418,12 @@ const PROTOTYPES: [Row; 77] = [
 fn row_named(mut rows: &[Row], name: &[u8]) -> Option<Prototype>
     ensures { option_map facts result ≡ row_named (map row_value rows.entry.now) name.now }
 {
-    while let [row, rest @ ..] = rows {
-        if row.0 == name {
+    while let [(of, parameters, result, built), rest @ ..] = rows {
+        if *of == name {
             return Some(Prototype {
-                parameters: row.1,
-                result: row.2,
-                built: row.3,
+                parameters: *parameters,
+                result: *result,
+                built: *built,
             });
         }
         rows = rest;
