@@ -5,7 +5,7 @@ use Rattle.std.proofs.lemmas.Grind.{flat_map-append}
 use Rattle.std.specs.List.{list_all}
 use Rattle.base.specs.Bytes.{is_letter, is_name_part, with_first, split_at}
 use Rattle.classes.specs.Mangling.{is_simple_name, is_class_name, escaped_byte, mangle, unmangle}
-use Rattle.classes.specs.MangledNames.{is_word, reads_name, reads_underscore, reads_first, reads_behind, reads_mangled}
+use Rattle.classes.specs.MangledNames.{is_word, reads_name, reads_underscore, reads_first, reads_after, reads_mangled}
 use Rattle.classes.proofs.Mangled.{inverse}
 
 abbrev escaped : List ℕ → List ℕ
@@ -78,7 +78,7 @@ eqb-is a b h = grind (arith, nat_tests)
 escape-word : (b : ℕ) → is_word b ≡ true → escaped_byte b ≡ b ∷ []
 escape-word b h = rw (word-no_slash b h, word-no_underscore b h) refl
 
--- What reads as the rest of a name: one part, behind a separator, or parts, a separator and a method.
+-- What reads as the rest of a name: one part, after a separator, or parts, a separator and a method.
 abbrev Parts : List ℕ → Bool → Type 0
 Parts bs s =
     ((s ≡ true) × ((p : List ℕ) × (list_all is_name_part p ≡ true) × (bs ≡ escaped p)))
@@ -116,12 +116,12 @@ mutual
       subst (λ x. Parts (95 ∷ x ∷ bs) s) (sym (eqb-is b 49 (and-left _ _ inside)))
       (grow 95 bs s refl refl (parts bs s (and-right _ _ inside))))
 
-reads-behind : (ps name : List ℕ) → reads_behind ps name ≡ true → (rest : List ℕ) × (name ≡ ps ++ rest) × (reads_first rest ≡ true)
-reads-behind [] name h = (name, refl, h)
-reads-behind (p ∷ ps) [] h = absurd cc
-reads-behind (p ∷ ps) (b ∷ bs) h =
+reads-after : (ps name : List ℕ) → reads_after ps name ≡ true → (rest : List ℕ) × (name ≡ ps ++ rest) × (reads_first rest ≡ true)
+reads-after [] name h = (name, refl, h)
+reads-after (p ∷ ps) [] h = absurd cc
+reads-after (p ∷ ps) (b ∷ bs) h =
     let head = eqb-is b p (and-left _ _ h) in
-    let tail = reads-behind ps bs (and-right (eqb b p) _ h) in
+    let tail = reads-after ps bs (and-right (eqb b p) _ h) in
     (tail.0, ap (λ x. x ∷ bs) head ∙ ap (λ xs. p ∷ xs) tail.1, tail.2)
 
 from-parts : (b : ℕ) (bs : List ℕ) → is_letter b ≡ true → Parts bs false → (class method : List ℕ) × (begins_part class ≡ true) × (is_method_name method ≡ true) × (b ∷ bs ≡ escaped class ++ (95 ∷ escaped method))
@@ -139,7 +139,7 @@ Made name = (class method : List ℕ) × (begins_part class ≡ true) × (is_met
 
 made-from : (name : List ℕ) → reads_mangled name ≡ true → Made name
 made-from name h =
-    let cut = reads-behind (74 ∷ 97 ∷ 118 ∷ 97 ∷ 95 ∷ []) name h in
+    let cut = reads-after (74 ∷ 97 ∷ 118 ∷ 97 ∷ 95 ∷ []) name h in
     let made = first-parts cut.0 cut.2 in
     (made.0, made.1, made.2, made.3, cut.1 ∙ ap (λ xs. 74 ∷ 97 ∷ 118 ∷ 97 ∷ 95 ∷ xs) made.4)
 
@@ -203,7 +203,7 @@ some_pieces (c ∷ rest) = let inner = some_pieces rest in
       | false ↦ (c ∷ inner.0, inner.1, ap (with_first c) inner.2)
     ]
 
--- the pieces of a class name behind its first letter
+-- the pieces of a class name after its first letter
 abbrev go_on : List (List ℕ) → Bool
 go_on [] = true
 go_on (q ∷ qs) = list_all is_name_part q && list_all is_simple_name qs

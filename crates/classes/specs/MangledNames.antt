@@ -23,11 +23,11 @@ reads_first [] = false
 reads_first (b ∷ bs) = is_letter b && reads_name bs false
 
 -- a prefix, and then parts
-abbrev pub reads_behind : List ℕ → List ℕ → Bool
-reads_behind [] name = reads_first name
-reads_behind (p ∷ ps) [] = false
-reads_behind (p ∷ ps) (b ∷ bs) = b == p && reads_behind ps bs
+abbrev pub reads_after : List ℕ → List ℕ → Bool
+reads_after [] name = reads_first name
+reads_after (p ∷ ps) [] = false
+reads_after (p ∷ ps) (b ∷ bs) = b == p && reads_after ps bs
 
 -- `Java_`, and then parts
 abbrev pub reads_mangled : List ℕ → Bool
-reads_mangled name = reads_behind (74 ∷ 97 ∷ 118 ∷ 97 ∷ 95 ∷ []) name
+reads_mangled name = reads_after (74 ∷ 97 ∷ 118 ∷ 97 ∷ 95 ∷ []) name

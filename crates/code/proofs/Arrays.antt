@@ -46,9 +46,9 @@ module _ (array : LocalArray) (numbers : List ℕ) (inside : array.start + array
       let front = front_length in
       get_left (take array.start numbers) (replicate array.len 0 ++ drop (array.start + array.len) numbers) slot (omega arith) ∙ get_take array.start numbers slot h
 
-  pub cleared_behind : (slot : ℕ) → array.start + array.len ≤ slot → slice_get (cleared array numbers) slot ≡ slice_get numbers slot
+  pub cleared_after : (slot : ℕ) → array.start + array.len ≤ slot → slice_get (cleared array numbers) slot ≡ slice_get numbers slot
   unfolding zeros
-  cleared_behind slot h =
+  cleared_after slot h =
       let front = front_length in
       let size : length zeros ≡ array.len = length-replicate {A = ℕ} array.len 0 in
       let same : array.start + array.len + (slot - length (take array.start numbers) - length zeros) ≡ slot = omega arith in

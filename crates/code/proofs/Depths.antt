@@ -35,7 +35,7 @@ depths_stop [] (suc place) d h = h
 depths_stop (x ∷ code) zero d h = absurd (cc)
 depths_stop (x ∷ code) (suc place) d h = and_then_stop code place (depth_after x d) (λ e. depths_stop code place e) h
 
--- the words behind an instruction are those that it leaves
+-- the words after an instruction are those that it leaves
 pub depth_at-next : (code : List Instr) (place : ℕ) (i : Instr) → slice_get code place ≡ Some i → depth_at code (place + 1) ≡ option_and_then (depth_after i) (depth_at code place)
 depth_at-next code place i at = rw add-one (depths_next code place i 0 at)
 
@@ -57,7 +57,7 @@ depth_at_end code = ap (λ (c : List Instr). depths c 0) (take_all (length code)
 
 -- ---- the table
 
--- the words behind the instruction at a place
+-- the words after the instruction at a place
 pub depth_step : (code : List Instr) (place : ℕ) (i : Instr) (d : ℕ) → place < length code → depth_at code place ≡ Some d → depth_at code (place + 1) ≡ depth_after (get_or code place i) d
 depth_step code place i d inside here = depth_at-next code place (get_or code place i) (slice_get-get_or code place i inside) ∙ ap (option_and_then (depth_after (get_or code place i))) here
 

@@ -72,14 +72,14 @@ plain_keeps (instr.Operate operator) (b ∷ a ∷ stack) numbers = refl
 plain_keeps (instr.OperateOrTrap operator line) [] numbers = tt
 plain_keeps (instr.OperateOrTrap operator line) (b ∷ []) numbers = tt
 plain_keeps (instr.OperateOrTrap operator line) (b ∷ a ∷ stack) numbers = operated_keeps line (b ∷ a ∷ stack) stack numbers (operate_or_trap operator a b)
-plain_keeps (instr.SkipUnless n) [] numbers = tt
-plain_keeps (instr.SkipUnless n) (a ∷ stack) numbers = either_keeps (a == 0) (way.Skip n, a ∷ stack, numbers) (way.Next, stack, numbers) numbers refl refl
-plain_keeps (instr.SkipIf n) [] numbers = tt
-plain_keeps (instr.SkipIf n) (a ∷ stack) numbers = either_keeps (a == 0) (way.Next, stack, numbers) (way.Skip n, a ∷ stack, numbers) numbers refl refl
-plain_keeps (instr.JumpUnless n) [] numbers = tt
-plain_keeps (instr.JumpUnless n) (a ∷ stack) numbers = either_keeps (a == 0) (way.Skip n, stack, numbers) (way.Next, stack, numbers) numbers refl refl
-plain_keeps (instr.GoOn n) stack numbers = refl
-plain_keeps (instr.GoBack n) stack numbers = refl
+plain_keeps (instr.JumpIfFalseOrPop n) [] numbers = tt
+plain_keeps (instr.JumpIfFalseOrPop n) (a ∷ stack) numbers = either_keeps (a == 0) (way.Skip n, a ∷ stack, numbers) (way.Next, stack, numbers) numbers refl refl
+plain_keeps (instr.JumpIfTrueOrPop n) [] numbers = tt
+plain_keeps (instr.JumpIfTrueOrPop n) (a ∷ stack) numbers = either_keeps (a == 0) (way.Next, stack, numbers) (way.Skip n, a ∷ stack, numbers) numbers refl refl
+plain_keeps (instr.JumpIfFalse n) [] numbers = tt
+plain_keeps (instr.JumpIfFalse n) (a ∷ stack) numbers = either_keeps (a == 0) (way.Skip n, stack, numbers) (way.Next, stack, numbers) numbers refl refl
+plain_keeps (instr.Jump n) stack numbers = refl
+plain_keeps (instr.JumpBack n) stack numbers = refl
 plain_keeps (instr.LoadElement array line) [] numbers = tt
 plain_keeps (instr.LoadElement array line) (index ∷ stack) numbers = one_keeps (nat_lt index array.len) _ _ numbers (loaded_keeps stack numbers (slice_get numbers (array.start + index))) refl
 plain_keeps (instr.StoreElement array type line) [] numbers = tt
@@ -131,14 +131,14 @@ plain_there slots (instr.Operate operator) (b ∷ a ∷ stack) numbers after p w
 plain_there slots (instr.OperateOrTrap operator line) [] numbers after p w l h = absurd (cc)
 plain_there slots (instr.OperateOrTrap operator line) (b ∷ []) numbers after p w l h = absurd (cc)
 plain_there slots (instr.OperateOrTrap operator line) (b ∷ a ∷ stack) numbers after p w l h = refl
-plain_there slots (instr.SkipUnless n) [] numbers after p w l h = absurd (cc)
-plain_there slots (instr.SkipUnless n) (a ∷ stack) numbers after p w l h = refl
-plain_there slots (instr.SkipIf n) [] numbers after p w l h = absurd (cc)
-plain_there slots (instr.SkipIf n) (a ∷ stack) numbers after p w l h = refl
-plain_there slots (instr.JumpUnless n) [] numbers after p w l h = absurd (cc)
-plain_there slots (instr.JumpUnless n) (a ∷ stack) numbers after p w l h = refl
-plain_there slots (instr.GoOn n) stack numbers after p w l h = refl
-plain_there slots (instr.GoBack n) stack numbers after p w l h = refl
+plain_there slots (instr.JumpIfFalseOrPop n) [] numbers after p w l h = absurd (cc)
+plain_there slots (instr.JumpIfFalseOrPop n) (a ∷ stack) numbers after p w l h = refl
+plain_there slots (instr.JumpIfTrueOrPop n) [] numbers after p w l h = absurd (cc)
+plain_there slots (instr.JumpIfTrueOrPop n) (a ∷ stack) numbers after p w l h = refl
+plain_there slots (instr.JumpIfFalse n) [] numbers after p w l h = absurd (cc)
+plain_there slots (instr.JumpIfFalse n) (a ∷ stack) numbers after p w l h = refl
+plain_there slots (instr.Jump n) stack numbers after p w l h = refl
+plain_there slots (instr.JumpBack n) stack numbers after p w l h = refl
 plain_there slots (instr.LoadElement array line) [] numbers after p w l h = absurd (cc)
 plain_there slots (instr.LoadElement array line) (index ∷ stack) numbers after p w l h =
     let inside = array_inside slots.numbers array w in

@@ -1,5 +1,5 @@
 -- Pieces of code that join to valid code. Each takes the stack from one number of words to another, and its jumps lead to its
--- own places or to the place behind it.
+-- own places or to the place after it.
 use Rattle.std.proofs.Common.{◌≡◌, ℕ, zero, suc, ◌+◌, ◌-◌, ◌≤◌, Bool, true, false, List, [], ◌∷◌, ◌++◌, length, take, Option, Some, None, refl, sym, ap, ◌∙◌, subst, arith, length-append}
 use Rattle.std.specs.Prelude.{slice_get, nat_lt}
 use Rattle.std.specs.Option.{option_and_then}
@@ -7,7 +7,7 @@ use Rattle.std.proofs.Math.Seq.{take-append-add}
 use Rattle.std.proofs.lemmas.Bool.{ltb-true, ltb-false}
 use Rattle.std.proofs.lemmas.List.{take-append-le, take_all}
 use Rattle.code.specs.declared.instr.Instr.{Instr}
-use Rattle.code.specs.declared.instr.Instr.TheVariants.{SkipUnless, SkipIf, JumpUnless, GoOn, GoBack, Return}
+use Rattle.code.specs.declared.instr.Instr.TheVariants.{JumpIfFalseOrPop, JumpIfTrueOrPop, JumpIfFalse, Jump, JumpBack, Return}
 use Rattle.code.specs.Depth.{depth_after, depths, HasDepth, Lands, Moves, JumpsLand}
 use Rattle.code.proofs.Lists.{get_left, get_right}
 
@@ -27,17 +27,17 @@ depths_then a b d m e h k = depths-append a b d ∙ ap (option_and_then (depths 
 
 -- ---- where jumps lead
 
--- a place of the piece, or the one behind it, with so many words where it begins with `entry`
+-- a place of the piece, or the one after it, with so many words where it begins with `entry`
 pub record Reaches (code : List Instr) (entry place depth : ℕ) : Type 0 where
   pub inside : place ≤ length code
   pub words : depths (take place code) entry ≡ Some depth
 
 abbrev pub LandsWithin : List Instr → (entry place depth : ℕ) → Instr → Type 0
-LandsWithin code entry place depth (SkipUnless n) = Reaches code entry (place + 1 + n) depth
-LandsWithin code entry place depth (SkipIf n) = Reaches code entry (place + 1 + n) depth
-LandsWithin code entry place depth (JumpUnless n) = Reaches code entry (place + 1 + n) (depth - 1)
-LandsWithin code entry place depth (GoOn n) = Reaches code entry (place + 1 + n) depth
-LandsWithin code entry place depth (GoBack n) = (n ≤ place) × Reaches code entry (place - n) depth
+LandsWithin code entry place depth (JumpIfFalseOrPop n) = Reaches code entry (place + 1 + n) depth
+LandsWithin code entry place depth (JumpIfTrueOrPop n) = Reaches code entry (place + 1 + n) depth
+LandsWithin code entry place depth (JumpIfFalse n) = Reaches code entry (place + 1 + n) (depth - 1)
+LandsWithin code entry place depth (Jump n) = Reaches code entry (place + 1 + n) depth
+LandsWithin code entry place depth (JumpBack n) = (n ≤ place) × Reaches code entry (place - n) depth
 LandsWithin code entry place depth i = Unit {0}
 
 pub record IsPiece (code : List Instr) (entry exit : ℕ) : Type 0 where
@@ -62,11 +62,11 @@ reaches_right a b entry middle place depth k h = record {
 }
 
 pub lands_left : (a b : List Instr) (entry place depth : ℕ) (i : Instr) → LandsWithin a entry place depth i → LandsWithin (a ++ b) entry place depth i
-lands_left a b entry place depth (SkipUnless n) h = reaches_left a b entry (place + 1 + n) depth h
-lands_left a b entry place depth (SkipIf n) h = reaches_left a b entry (place + 1 + n) depth h
-lands_left a b entry place depth (JumpUnless n) h = reaches_left a b entry (place + 1 + n) (depth - 1) h
-lands_left a b entry place depth (GoOn n) h = reaches_left a b entry (place + 1 + n) depth h
-lands_left a b entry place depth (GoBack n) h = (h.0, reaches_left a b entry (place - n) depth h.1)
+lands_left a b entry place depth (JumpIfFalseOrPop n) h = reaches_left a b entry (place + 1 + n) depth h
+lands_left a b entry place depth (JumpIfTrueOrPop n) h = reaches_left a b entry (place + 1 + n) depth h
+lands_left a b entry place depth (JumpIfFalse n) h = reaches_left a b entry (place + 1 + n) (depth - 1) h
+lands_left a b entry place depth (Jump n) h = reaches_left a b entry (place + 1 + n) depth h
+lands_left a b entry place depth (JumpBack n) h = (h.0, reaches_left a b entry (place - n) depth h.1)
 lands_left a b entry place depth i h = tt
 
 -- a way ahead in the second piece
@@ -76,11 +76,11 @@ ahead_right a b entry middle place n depth k h =
     subst (λ p. Reaches (a ++ b) entry p depth) same (reaches_right a b entry middle (place + 1 + n) depth k h)
 
 pub lands_right : (a b : List Instr) (entry middle place depth : ℕ) (i : Instr) → depths a entry ≡ Some middle → LandsWithin b middle place depth i → LandsWithin (a ++ b) entry (length a + place) depth i
-lands_right a b entry middle place depth (SkipUnless n) k h = ahead_right a b entry middle place n depth k h
-lands_right a b entry middle place depth (SkipIf n) k h = ahead_right a b entry middle place n depth k h
-lands_right a b entry middle place depth (JumpUnless n) k h = ahead_right a b entry middle place n (depth - 1) k h
-lands_right a b entry middle place depth (GoOn n) k h = ahead_right a b entry middle place n depth k h
-lands_right a b entry middle place depth (GoBack n) k h =
+lands_right a b entry middle place depth (JumpIfFalseOrPop n) k h = ahead_right a b entry middle place n depth k h
+lands_right a b entry middle place depth (JumpIfTrueOrPop n) k h = ahead_right a b entry middle place n depth k h
+lands_right a b entry middle place depth (JumpIfFalse n) k h = ahead_right a b entry middle place n (depth - 1) k h
+lands_right a b entry middle place depth (Jump n) k h = ahead_right a b entry middle place n depth k h
+lands_right a b entry middle place depth (JumpBack n) k h =
     let inside = h.0 in
     let same : length a + (place - n) ≡ length a + place - n = omega arith in
     (omega arith, subst (λ p. Reaches (a ++ b) entry p depth) same (reaches_right a b entry middle (place - n) depth k h.1))
@@ -148,74 +148,74 @@ piece_cons i code entry middle exit h piece lands =
 pub piece_one : (i : Instr) (entry exit : ℕ) → depth_after i entry ≡ Some exit → LandsWithin (i ∷ []) entry 0 entry i → IsPiece (i ∷ []) entry exit
 piece_one i entry exit h lands = piece_cons i [] entry exit exit h (piece_none exit) lands
 
--- the end of the code that stands behind an instruction
-pub lands_behind : (i : Instr) (code : List Instr) (entry middle exit : ℕ) → depth_after i entry ≡ Some middle → depths code middle ≡ Some exit → Reaches (i ∷ code) entry (0 + 1 + length code) exit
-lands_behind i code entry middle exit h k = reaches_end (i ∷ code) entry exit (0 + 1 + length code) (ap (option_and_then (depths code)) h ∙ k) (omega arith)
+-- the end of the code that stands after an instruction
+pub lands_after : (i : Instr) (code : List Instr) (entry middle exit : ℕ) → depth_after i entry ≡ Some middle → depths code middle ≡ Some exit → Reaches (i ∷ code) entry (0 + 1 + length code) exit
+lands_after i code entry middle exit h k = reaches_end (i ∷ code) entry exit (0 + 1 + length code) (ap (option_and_then (depths code)) h ∙ k) (omega arith)
 
--- `&&` and `||` behind their left side
-pub piece_and : (right : List Instr) (d : ℕ) → IsPiece right d (suc d) → IsPiece (SkipUnless (length right) ∷ right) (suc d) (suc d)
-piece_and right d h = piece_cons (SkipUnless (length right)) right (suc d) d (suc d) refl h (lands_behind (SkipUnless (length right)) right (suc d) d (suc d) refl h.stays)
+-- `&&` and `||` after their left side
+pub piece_and : (right : List Instr) (d : ℕ) → IsPiece right d (suc d) → IsPiece (JumpIfFalseOrPop (length right) ∷ right) (suc d) (suc d)
+piece_and right d h = piece_cons (JumpIfFalseOrPop (length right)) right (suc d) d (suc d) refl h (lands_after (JumpIfFalseOrPop (length right)) right (suc d) d (suc d) refl h.stays)
 
-pub piece_or : (right : List Instr) (d : ℕ) → IsPiece right d (suc d) → IsPiece (SkipIf (length right) ∷ right) (suc d) (suc d)
-piece_or right d h = piece_cons (SkipIf (length right)) right (suc d) d (suc d) refl h (lands_behind (SkipIf (length right)) right (suc d) d (suc d) refl h.stays)
+pub piece_or : (right : List Instr) (d : ℕ) → IsPiece right d (suc d) → IsPiece (JumpIfTrueOrPop (length right) ∷ right) (suc d) (suc d)
+piece_or right d h = piece_cons (JumpIfTrueOrPop (length right)) right (suc d) d (suc d) refl h (lands_after (JumpIfTrueOrPop (length right)) right (suc d) d (suc d) refl h.stays)
 
 -- the end of an `if`'s second way
-pub piece_end : IsPiece (GoOn 0 ∷ []) 0 0
-piece_end = piece_one (GoOn 0) 0 0 refl (lands_behind (GoOn 0) [] 0 0 0 refl refl)
+pub piece_end : IsPiece (Jump 0 ∷ []) 0 0
+piece_end = piece_one (Jump 0) 0 0 refl (lands_after (Jump 0) [] 0 0 0 refl refl)
 
 -- the end of an `if`'s first way, and the second
-pub piece_otherwise : (else' : List Instr) → IsPiece else' 0 0 → IsPiece (GoOn (length else') ∷ else') 0 0
-piece_otherwise else' h = piece_cons (GoOn (length else')) else' 0 0 0 refl h (lands_behind (GoOn (length else')) else' 0 0 0 refl h.stays)
+pub piece_otherwise : (else' : List Instr) → IsPiece else' 0 0 → IsPiece (Jump (length else') ∷ else') 0 0
+piece_otherwise else' h = piece_cons (Jump (length else')) else' 0 0 0 refl h (lands_after (Jump (length else')) else' 0 0 0 refl h.stays)
 
--- an `if` behind its test, with what ends each way
-pub piece_if : (then' else' : List Instr) → IsPiece then' 0 0 → IsPiece else' 0 0 → IsPiece (JumpUnless (length then' + 1) ∷ (then' ++ GoOn (length else') ∷ else')) 1 0
+-- an `if` after its test, with what ends each way
+pub piece_if : (then' else' : List Instr) → IsPiece then' 0 0 → IsPiece else' 0 0 → IsPiece (JumpIfFalse (length then' + 1) ∷ (then' ++ Jump (length else') ∷ else')) 1 0
 piece_if then' else' h k =
     let rest = piece_otherwise else' k in
-    let ways = piece_append then' (GoOn (length else') ∷ else') 0 0 0 h rest in
-    let second : Reaches (GoOn (length else') ∷ else') 0 1 0 = record { inside = omega arith; words = refl } in
-    let jump : Reaches ((JumpUnless (length then' + 1) ∷ []) ++ (then' ++ GoOn (length else') ∷ else')) 1 (1 + (length then' + 1)) 0 =
-    reaches_right (JumpUnless (length then' + 1) ∷ []) (then' ++ GoOn (length else') ∷ else') 1 0 (length then' + 1) 0 refl (reaches_right then' (GoOn (length else') ∷ else') 0 0 1 0 h.stays second) in
+    let ways = piece_append then' (Jump (length else') ∷ else') 0 0 0 h rest in
+    let second : Reaches (Jump (length else') ∷ else') 0 1 0 = record { inside = omega arith; words = refl } in
+    let jump : Reaches ((JumpIfFalse (length then' + 1) ∷ []) ++ (then' ++ Jump (length else') ∷ else')) 1 (1 + (length then' + 1)) 0 =
+    reaches_right (JumpIfFalse (length then' + 1) ∷ []) (then' ++ Jump (length else') ∷ else') 1 0 (length then' + 1) 0 refl (reaches_right then' (Jump (length else') ∷ else') 0 0 1 0 h.stays second) in
     let same : 1 + (length then' + 1) ≡ 0 + 1 + (length then' + 1) = omega arith in
-    piece_cons (JumpUnless (length then' + 1)) (then' ++ GoOn (length else') ∷ else') 1 0 0 refl ways
-    (subst (λ p. Reaches (JumpUnless (length then' + 1) ∷ (then' ++ GoOn (length else') ∷ else')) 1 p 0) same jump)
+    piece_cons (JumpIfFalse (length then' + 1)) (then' ++ Jump (length else') ∷ else') 1 0 0 refl ways
+    (subst (λ p. Reaches (JumpIfFalse (length then' + 1) ∷ (then' ++ Jump (length else') ∷ else')) 1 p 0) same jump)
 
 -- a loop's body and the way back
 abbrev pub turn : (test body : List Instr) → List Instr
-turn test body = body ++ GoBack (length test + 1 + length body) ∷ []
+turn test body = body ++ JumpBack (length test + 1 + length body) ∷ []
 
 -- a loop
 abbrev pub loop : (test body : List Instr) → List Instr
-loop test body = test ++ JumpUnless (length body + 1) ∷ turn test body
+loop test body = test ++ JumpIfFalse (length body + 1) ∷ turn test body
 
 module _ (test body : List Instr) (tests : IsPiece test 0 1) (turns : IsPiece body 0 0) where
   turn_stays : depths (turn test body) 0 ≡ Some 0
-  turn_stays = depths_then body (GoBack (length test + 1 + length body) ∷ []) 0 0 0 turns.stays refl
+  turn_stays = depths_then body (JumpBack (length test + 1 + length body) ∷ []) 0 0 0 turns.stays refl
 
   loop_stays : depths (loop test body) 0 ≡ Some 0
-  loop_stays = depths_then test (JumpUnless (length body + 1) ∷ turn test body) 0 1 0 tests.stays turn_stays
+  loop_stays = depths_then test (JumpIfFalse (length body + 1) ∷ turn test body) 0 1 0 tests.stays turn_stays
 
   length-turn : length (turn test body) ≡ length body + 1
-  length-turn = length-append body (GoBack (length test + 1 + length body) ∷ [])
+  length-turn = length-append body (JumpBack (length test + 1 + length body) ∷ [])
 
   length-loop : length (loop test body) ≡ length test + (length body + 2)
-  length-loop = let l = length-append test (JumpUnless (length body + 1) ∷ turn test body) in let k = length-turn in omega arith
+  length-loop = let l = length-append test (JumpIfFalse (length body + 1) ∷ turn test body) in let k = length-turn in omega arith
 
   -- at the places of a turn
   turn_lands : Each (λ p depth i. LandsWithin (loop test body) 0 (length test + (1 + p)) depth i) (turn test body) 0
   turn_lands =
       let P : At = λ p depth i. LandsWithin (loop test body) 0 (length test + (1 + p)) depth i in
-      let back = GoBack (length test + 1 + length body) in
+      let back = JumpBack (length test + 1 + length body) in
       let start : length test + (1 + (length body + 0)) - (length test + 1 + length body) ≡ 0 = omega arith in
       let first : Reaches (loop test body) 0 0 0 = record { inside = omega arith; words = refl } in
       each_append P body (back ∷ []) 0 0 turns.stays
-      (λ place depth i at l. lands_right test (JumpUnless (length body + 1) ∷ turn test body) 0 1 (1 + place) depth i tests.stays
-      (lands_right (JumpUnless (length body + 1) ∷ []) (turn test body) 1 0 place depth i refl (lands_left body (back ∷ []) 0 place depth i (turns.jumps place depth i at l))))
+      (λ place depth i at l. lands_right test (JumpIfFalse (length body + 1) ∷ turn test body) 0 1 (1 + place) depth i tests.stays
+      (lands_right (JumpIfFalse (length body + 1) ∷ []) (turn test body) 1 0 place depth i refl (lands_left body (back ∷ []) 0 place depth i (turns.jumps place depth i at l))))
       (each_one (λ p depth i. P (length body + p) depth i) back 0 (omega arith, subst (λ p. Reaches (loop test body) 0 p 0) (sym start) first))
 
   pub piece_loop : IsPiece (loop test body) 0 0
   piece_loop =
       let P : At = LandsWithin (loop test body) 0 in
-      let leave = JumpUnless (length body + 1) in
+      let leave = JumpIfFalse (length body + 1) in
       let size = length-loop in
       let over : Reaches (loop test body) 0 (length test + 0 + 1 + (length body + 1)) 0 = reaches_end (loop test body) 0 0 (length test + 0 + 1 + (length body + 1)) loop_stays (omega arith) in
       record {
@@ -225,7 +225,7 @@ module _ (test body : List Instr) (tests : IsPiece test 0 1) (turns : IsPiece bo
             (each_append (λ p depth i. P (length test + p) depth i) (leave ∷ []) (turn test body) 1 0 refl (each_one (λ p depth i. P (length test + p) depth i) leave 1 over) turn_lands);
       }
 
--- ---- a function's code: a piece that begins with no words, and a return behind it
+-- ---- a function's code: a piece that begins with no words, and a return after it
 
 has_depth : (code : List Instr) (place depth : ℕ) → Reaches code 0 place depth → HasDepth (code ++ Return ∷ []) place depth
 has_depth code place depth h =
@@ -234,11 +234,11 @@ has_depth code place depth h =
     record { inside = omega arith; words = ap (λ (c : List Instr). depths c 0) (take-append-le place code (Return ∷ []) h.inside) ∙ h.words }
 
 lands_inside : (code : List Instr) (place depth : ℕ) (i : Instr) → LandsWithin code 0 place depth i → Lands (code ++ Return ∷ []) place depth i
-lands_inside code place depth (SkipUnless n) h = has_depth code (place + 1 + n) depth h
-lands_inside code place depth (SkipIf n) h = has_depth code (place + 1 + n) depth h
-lands_inside code place depth (JumpUnless n) h = has_depth code (place + 1 + n) (depth - 1) h
-lands_inside code place depth (GoOn n) h = has_depth code (place + 1 + n) depth h
-lands_inside code place depth (GoBack n) h = (h.0, has_depth code (place - n) depth h.1)
+lands_inside code place depth (JumpIfFalseOrPop n) h = has_depth code (place + 1 + n) depth h
+lands_inside code place depth (JumpIfTrueOrPop n) h = has_depth code (place + 1 + n) depth h
+lands_inside code place depth (JumpIfFalse n) h = has_depth code (place + 1 + n) (depth - 1) h
+lands_inside code place depth (Jump n) h = has_depth code (place + 1 + n) depth h
+lands_inside code place depth (JumpBack n) h = (h.0, has_depth code (place - n) depth h.1)
 lands_inside code place depth i h = tt
 
 pub piece_moves : (code : List Instr) (exit : ℕ) → IsPiece code 0 exit → Moves (code ++ Return ∷ [])

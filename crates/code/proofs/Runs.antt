@@ -72,16 +72,16 @@ module _ (code : List Instr) (place : ℕ) where
   led (instr.OperateOrTrap operator line) [] numbers after k next lands = tt
   led (instr.OperateOrTrap operator line) (b ∷ []) numbers after k next lands = tt
   led (instr.OperateOrTrap operator line) (b ∷ a ∷ stack) numbers after k next lands = operated_led line (b ∷ a ∷ stack) stack numbers (operate_or_trap operator a b) (at_next after (suc (length stack)) (next (λ h. h)) (cc))
-  led (instr.SkipUnless n) [] numbers after k next lands = tt
-  led (instr.SkipUnless n) (a ∷ stack) numbers after k next lands = either_led (a == 0) (way.Skip n, a ∷ stack, numbers) (way.Next, stack, numbers) lands (at_next after (length stack) (next (λ h. h)) (cc))
-  led (instr.SkipIf n) [] numbers after k next lands = tt
-  led (instr.SkipIf n) (a ∷ stack) numbers after k next lands = either_led (a == 0) (way.Next, stack, numbers) (way.Skip n, a ∷ stack, numbers) (at_next after (length stack) (next (λ h. h)) (cc)) lands
-  led (instr.JumpUnless n) [] numbers after k next lands = tt
-  led (instr.JumpUnless n) (a ∷ stack) numbers after k next lands =
+  led (instr.JumpIfFalseOrPop n) [] numbers after k next lands = tt
+  led (instr.JumpIfFalseOrPop n) (a ∷ stack) numbers after k next lands = either_led (a == 0) (way.Skip n, a ∷ stack, numbers) (way.Next, stack, numbers) lands (at_next after (length stack) (next (λ h. h)) (cc))
+  led (instr.JumpIfTrueOrPop n) [] numbers after k next lands = tt
+  led (instr.JumpIfTrueOrPop n) (a ∷ stack) numbers after k next lands = either_led (a == 0) (way.Next, stack, numbers) (way.Skip n, a ∷ stack, numbers) (at_next after (length stack) (next (λ h. h)) (cc)) lands
+  led (instr.JumpIfFalse n) [] numbers after k next lands = tt
+  led (instr.JumpIfFalse n) (a ∷ stack) numbers after k next lands =
       let same : suc (length stack) - 1 ≡ length stack = omega arith in
       either_led (a == 0) (way.Skip n, stack, numbers) (way.Next, stack, numbers) (subst (HasDepth code (place + 1 + n)) same lands) (at_next after (length stack) (next (λ h. h)) (cc))
-  led (instr.GoOn n) stack numbers after k next lands = lands
-  led (instr.GoBack n) stack numbers after k next lands = lands
+  led (instr.Jump n) stack numbers after k next lands = lands
+  led (instr.JumpBack n) stack numbers after k next lands = lands
   led (instr.LoadElement array line) [] numbers after k next lands = tt
   led (instr.LoadElement array line) (index ∷ stack) numbers after k next lands =
       one_led (nat_lt index array.len) _ _ (loaded_led stack numbers (slice_get numbers (array.start + index)) (at_next after (suc (length stack)) (next (λ h. h)) (cc))) tt
@@ -103,7 +103,7 @@ module _ (code : List Instr) (place : ℕ) where
 
 -- ---- in valid code
 
--- something stands behind an instruction that doesn't leave
+-- something stands after an instruction that doesn't leave
 inside_or_last : (code : List Instr) (place : ℕ) (i : Instr) (b : Bool) → EndsByLeaving code → slice_get code place ≡ Some i → (Leaves i → ⊥) → nat_lt (place + 1) (length code) ≡ b → place + 1 < length code
 inside_or_last code place i true ends at stays h = ltb-true (place + 1) (length code) h
 inside_or_last code place i false ends at stays h =
@@ -117,14 +117,14 @@ module _ (code : Listing) (valid : IsValid code) (place : ℕ) (i : Instr) (at :
   known : (p : ℕ) → (d : ℕ) × (depth_at code.instrs p ≡ Some d)
   known p = depth_known code.instrs p (ap is_some valid.moves.stays)
 
-  words_behind : (depth : ℕ) → depth_at code.instrs place ≡ Some depth → (e : ℕ) × (depth_after i depth ≡ Some e) × (depth_at code.instrs (place + 1) ≡ Some e)
-  words_behind depth h =
+  words_after : (depth : ℕ) → depth_at code.instrs place ≡ Some depth → (e : ℕ) × (depth_after i depth ≡ Some e) × (depth_at code.instrs (place + 1) ≡ Some e)
+  words_after depth h =
       let next = known (place + 1) in
       (next.0, sym (ap (option_and_then (depth_after i)) h) ∙ sym (depth_at-next code.instrs place i at) ∙ next.1, next.1)
 
-  place_behind : (depth after : ℕ) → (Leaves i → ⊥) → depth_at code.instrs place ≡ Some depth → depth_after i depth ≡ Some after → HasDepth code.instrs (place + 1) after
-  place_behind depth after stays h k =
-      let next = words_behind depth h in
+  place_after : (depth after : ℕ) → (Leaves i → ⊥) → depth_at code.instrs place ≡ Some depth → depth_after i depth ≡ Some after → HasDepth code.instrs (place + 1) after
+  place_after depth after stays h k =
+      let next = words_after depth h in
       let same : Some next.0 ≡ Some after = sym next.1 ∙ k in
       record { inside = inside_or_last code.instrs place i (nat_lt (place + 1) (length code.instrs)) valid.moves.ends at stays refl; words = next.2 ∙ same }
 
@@ -132,13 +132,13 @@ module _ (code : Listing) (valid : IsValid code) (place : ℕ) (i : Instr) (at :
   runs_at = record {
     slots = passes (within_slots code.slots) code.instrs place i valid.slots at;
     words = ap is_some ((known place).1);
-    room = λ depth h. ap is_some ((words_behind depth h).1);
-    plain = λ stack numbers p h l. let next = words_behind (length stack) h in plain_there code.slots i stack numbers next.0 p (passes (within_slots code.slots) code.instrs place i valid.slots at) l next.1;
+    room = λ depth h. ap is_some ((words_after depth h).1);
+    plain = λ stack numbers p h l. let next = words_after (length stack) h in plain_there code.slots i stack numbers next.0 p (passes (within_slots code.slots) code.instrs place i valid.slots at) l next.1;
     keeps = λ stack numbers stack' numbers' way h. subst (KeepsSlots numbers) h (plain_keeps i stack numbers);
     leads = λ stack numbers stack' numbers' way h k.
-        let next = words_behind (length stack) h in
-        subst (Led code.instrs place) k (led code.instrs place i stack numbers next.0 next.1 (λ stays. place_behind (length stack) next.0 stays h next.1) (valid.jumps place (length stack) i at h));
-    behind = place_behind;
+        let next = words_after (length stack) h in
+        subst (Led code.instrs place) k (led code.instrs place i stack numbers next.0 next.1 (λ stays. place_after (length stack) next.0 stays h next.1) (valid.jumps place (length stack) i at h));
+    rest_of = place_after;
   }
 
 -- the first place is inside, with no words

@@ -18,5 +18,5 @@ pub record RunsAt (code : Listing) (place : ℕ) (i : Instr) : Type 0 where
   pub keeps : (stack numbers stack' numbers' : List ℕ) (way : Plain) → plain_of i stack numbers ≡ Some (way, stack', numbers') → length numbers' ≡ length numbers
   -- and leads inside, to a place with as many words as the stack has then
   pub leads : (stack numbers stack' numbers' : List ℕ) (way : Plain) → depth_at code.instrs place ≡ Some (length stack) → plain_of i stack numbers ≡ Some (way, stack', numbers') → LeadsInside code.instrs place way (length stack')
-  -- and behind one that doesn't leave there is a place with the words that it leaves
-  pub behind : (depth after : ℕ) → (Leaves i → ⊥) → depth_at code.instrs place ≡ Some depth → depth_after i depth ≡ Some after → HasDepth code.instrs (place + 1) after
+  -- and after one that doesn't leave there is a place with the words that it leaves
+  pub rest_of : (depth after : ℕ) → (Leaves i → ⊥) → depth_at code.instrs place ≡ Some depth → depth_after i depth ≡ Some after → HasDepth code.instrs (place + 1) after

@@ -39,17 +39,17 @@ fn next_depth(instr: &Instr, depth: usize) -> Option<usize>
         Instr::Operate(_) | Instr::OperateOrTrap(..) => depth.checked_sub(1).filter(|d| *d > 0),
         Instr::StoreElement(..) => depth.checked_sub(2),
         Instr::Store(_)
-        | Instr::SkipUnless(_)
-        | Instr::SkipIf(_)
-        | Instr::JumpUnless(_)
+        | Instr::JumpIfFalseOrPop(_)
+        | Instr::JumpIfTrueOrPop(_)
+        | Instr::JumpIfFalse(_)
         | Instr::PutJint => depth.checked_sub(1),
         Instr::ReturnJint => (depth > 0).then_some(0),
         Instr::ClearArray(_) | Instr::StoreNull(_) | Instr::Call(_) => Some(depth),
-        Instr::GoOn(_) | Instr::GoBack(_) | Instr::Return | Instr::ReturnReference(_) => Some(0),
+        Instr::Jump(_) | Instr::JumpBack(_) | Instr::Return | Instr::ReturnReference(_) => Some(0),
     }
 }
 
-/// Whether the last instruction has nothing behind it.
+/// Whether the last instruction has nothing after it.
 pub(crate) fn ends_by_leaving(instrs: &[Instr]) -> bool
     ensures { IsTrue result ↔ EndsByLeaving instrs.now }
 {
@@ -60,8 +60,8 @@ fn leaves(instr: &Instr) -> bool
     ensures { IsTrue result ↔ Leaves instr.now }
 {
     match instr {
-        Instr::GoOn(_)
-        | Instr::GoBack(_)
+        Instr::Jump(_)
+        | Instr::JumpBack(_)
         | Instr::Return
         | Instr::ReturnJint
         | Instr::ReturnReference(_) => true,
@@ -88,16 +88,16 @@ fn lands(instr: &Instr, place: usize, table: &[usize]) -> bool
 {
     let depth = table[place];
     match instr {
-        Instr::SkipUnless(n) | Instr::SkipIf(n) | Instr::GoOn(n) => {
+        Instr::JumpIfFalseOrPop(n) | Instr::JumpIfTrueOrPop(n) | Instr::Jump(n) => {
             has_depth(table, place, *n, depth)
         }
-        Instr::JumpUnless(n) => has_depth(table, place, *n, depth.saturating_sub(1)),
-        Instr::GoBack(n) => *n <= place && table[place - *n] == depth,
+        Instr::JumpIfFalse(n) => has_depth(table, place, *n, depth.saturating_sub(1)),
+        Instr::JumpBack(n) => *n <= place && table[place - *n] == depth,
         _ => true,
     }
 }
 
-/// Whether the place behind the next `skipped` instructions is inside, with so many words.
+/// Whether the place after the next `skipped` instructions is inside, with so many words.
 fn has_depth(table: &[usize], place: usize, skipped: usize, depth: usize) -> bool
     requires { place < length table.now }
     ensures { IsTrue result ↔ ((place + 1 + skipped < length table.now) × (slice_index table.now (place + 1 + skipped) ≡ depth)) }

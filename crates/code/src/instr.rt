@@ -64,7 +64,7 @@ pub enum ElementType {
     Char,
 }
 
-/// An array of a function: number slots one behind another, each with an element as a `jint` (6.2.5).
+/// An array of a function: number slots one after another, each with an element as a `jint` (6.2.5).
 #[derive(Clone, Copy, Debug, PartialEq, Eq)]
 pub struct LocalArray {
     /// The slot of the first element.
@@ -119,7 +119,7 @@ pub struct Call {
 }
 
 /// One instruction, which is one step of the source. Slots of numbers are counted from 0. The line of an instruction that
-/// can trap is its statement's, counted from 1; the trap is reported there. A jump skips so many instructions behind its
+/// can trap is its statement's, counted from 1; the trap is reported there. A jump skips so many instructions after its
 /// own, or goes so many places back.
 #[derive(Clone, Copy, Debug, PartialEq, Eq)]
 pub enum Instr {
@@ -140,15 +140,15 @@ pub enum Instr {
     /// Takes the right operand, then the left, and puts the result, or traps on this line.
     OperateOrTrap(TrappingOperator, usize),
     /// The truth 0 stays and the jump is made; the truth 1 is taken (`&&`, 6.5.13).
-    SkipUnless(usize),
+    JumpIfFalseOrPop(usize),
     /// The truth 1 stays and the jump is made; the truth 0 is taken (`||`, 6.5.14).
-    SkipIf(usize),
+    JumpIfTrueOrPop(usize),
     /// Takes a truth and jumps where it is 0 (6.8.4.1 and 6.8.5.1).
-    JumpUnless(usize),
+    JumpIfFalse(usize),
     /// Jumps over so many instructions (the end of an `if`'s way, 6.8.4.1).
-    GoOn(usize),
+    Jump(usize),
     /// Jumps so many places back (the end of a loop's turn, 6.8.5.1).
-    GoBack(usize),
+    JumpBack(usize),
     /// Takes an index and puts the element there, or traps on this line where there is none (6.5.2.1).
     LoadElement(LocalArray, usize),
     /// Takes a `jint`, then an index, and writes the element there, converted to its type, or traps on this line where there
@@ -186,7 +186,7 @@ pub enum PlainTrap {
     OutOfRange,
 }
 
-/// Where an instruction leads: to the next, over so many behind it, so many places back, or to a trap on a line.
+/// Where an instruction leads: to the next, over so many after it, so many places back, or to a trap on a line.
 #[derive(Clone, Copy, Debug, PartialEq, Eq)]
 pub enum Plain {
     Next,

@@ -1,7 +1,7 @@
 //! Instructions that work on the operand stack and the number slots alone.
 
 ghost use Rattle.std.specs.Prelude.{◌≡◌, ◌<◌, ℕ, List, IsSome, Some, length, replicate};
-ghost use Rattle.code.specs.declared.instr.Instr.TheVariants.{Complement, Not, Operate, OperateOrTrap, SkipUnless, SkipIf, JumpUnless, LoadElement, StoreElement};
+ghost use Rattle.code.specs.declared.instr.Instr.TheVariants.{Complement, Not, Operate, OperateOrTrap, JumpIfFalseOrPop, JumpIfTrueOrPop, JumpIfFalse, LoadElement, StoreElement};
 ghost use Rattle.code.specs.declared.instr.Plain.TheVariants.{Next};
 ghost use Rattle.code.specs.Depth.{depth_after};
 ghost use Rattle.code.specs.Effect.{truth_word, operate, operate_or_trap, element_word, plain_of};
@@ -24,11 +24,11 @@ pub fn plain(instr: &Instr, stack: &mut Stack, numbers: &mut [u32]) -> Plain
         Instr::Convert => {}
         Instr::Operate(operator) => operate(*operator, stack),
         Instr::OperateOrTrap(operator, line) => return operate_or_trap(*operator, *line, stack),
-        Instr::SkipUnless(n) => return skip_unless(*n, stack),
-        Instr::SkipIf(n) => return skip_if(*n, stack),
-        Instr::JumpUnless(n) => return jump_unless(*n, stack),
-        Instr::GoOn(n) => return Plain::Skip(*n),
-        Instr::GoBack(n) => return Plain::Back(*n),
+        Instr::JumpIfFalseOrPop(n) => return jump_if_false_or_pop(*n, stack),
+        Instr::JumpIfTrueOrPop(n) => return jump_if_true_or_pop(*n, stack),
+        Instr::JumpIfFalse(n) => return jump_if_false(*n, stack),
+        Instr::Jump(n) => return Plain::Skip(*n),
+        Instr::JumpBack(n) => return Plain::Back(*n),
         Instr::LoadElement(array, line) => return load_element(*array, *line, stack, numbers),
         Instr::StoreElement(array, element, line) => {
             return store_element(*array, *element, *line, stack, numbers);
@@ -128,9 +128,9 @@ fn operate_or_trap(operator: TrappingOperator, line: usize, stack: &mut Stack) -
     }
 }
 
-fn skip_unless(n: usize, stack: &mut Stack) -> Plain
+fn jump_if_false_or_pop(n: usize, stack: &mut Stack) -> Plain
     requires { 0 < length stack.old }
-    ensures { (numbers : List ℕ) → plain_of (SkipUnless n) stack.old numbers ≡ Some (result, stack.new, numbers) }
+    ensures { (numbers : List ℕ) → plain_of (JumpIfFalseOrPop n) stack.old numbers ≡ Some (result, stack.new, numbers) }
 {
     let word = stack.pop();
     if word == 0 {
@@ -140,9 +140,9 @@ fn skip_unless(n: usize, stack: &mut Stack) -> Plain
     Plain::Next
 }
 
-fn skip_if(n: usize, stack: &mut Stack) -> Plain
+fn jump_if_true_or_pop(n: usize, stack: &mut Stack) -> Plain
     requires { 0 < length stack.old }
-    ensures { (numbers : List ℕ) → plain_of (SkipIf n) stack.old numbers ≡ Some (result, stack.new, numbers) }
+    ensures { (numbers : List ℕ) → plain_of (JumpIfTrueOrPop n) stack.old numbers ≡ Some (result, stack.new, numbers) }
 {
     let word = stack.pop();
     if word == 0 {
@@ -152,9 +152,9 @@ fn skip_if(n: usize, stack: &mut Stack) -> Plain
     Plain::Skip(n)
 }
 
-fn jump_unless(n: usize, stack: &mut Stack) -> Plain
+fn jump_if_false(n: usize, stack: &mut Stack) -> Plain
     requires { 0 < length stack.old }
-    ensures { (numbers : List ℕ) → plain_of (JumpUnless n) stack.old numbers ≡ Some (result, stack.new, numbers) }
+    ensures { (numbers : List ℕ) → plain_of (JumpIfFalse n) stack.old numbers ≡ Some (result, stack.new, numbers) }
 {
     if stack.pop() == 0 {
         Plain::Skip(n)

@@ -29,10 +29,10 @@ fn code_keeps_its_instructions(rt: HostRuntime) -> Result<(), Fail> {
         Instr::Load(0),
         Instr::Push(0),
         Instr::Operate(Operator::SignedGreater),
-        Instr::JumpUnless(3),
+        Instr::JumpIfFalse(3),
         Instr::Load(0),
         Instr::PutJint,
-        Instr::GoBack(6),
+        Instr::JumpBack(6),
         Instr::Return,
     ]?;
     let slots = SlotCounts {
@@ -46,7 +46,7 @@ fn code_keeps_its_instructions(rt: HostRuntime) -> Result<(), Fail> {
     assert_eq!(rt; code.len(), 9);
     assert_eq!(rt; code.slots(), slots);
     assert!(rt; code.get(0) == Some(&Instr::Call(call)));
-    assert!(rt; matches!(code.get(7), Some(Instr::GoBack(6))));
+    assert!(rt; matches!(code.get(7), Some(Instr::JumpBack(6))));
     Ok(())
 }
 
@@ -61,14 +61,14 @@ fn jumps_land_at_equal_depths(rt: HostRuntime) -> Result<(), Fail> {
                 variable: x,
                 equal: true
             },
-            Instr::SkipIf(skipped),
+            Instr::JumpIfTrueOrPop(skipped),
             Instr::TestNull {
                 variable: y,
                 equal: true
             },
-            Instr::JumpUnless(2),
+            Instr::JumpIfFalse(2),
             Instr::StoreNull(x),
-            Instr::GoOn(0),
+            Instr::Jump(0),
             Instr::ReturnReference(ReferenceOperand::Local(0)),
         ]?;
         let slots = SlotCounts {
@@ -184,16 +184,16 @@ fn a_trap_leaves_the_operands(rt: HostRuntime) {
 #[test]
 fn truths_decide_jumps(rt: HostRuntime) {
     for (instr, truth, way, left) in [
-        (Instr::SkipUnless(3), 0, Plain::Skip(3), 0),
-        (Instr::SkipUnless(3), 1, Plain::Next, 9),
-        (Instr::SkipIf(3), 0, Plain::Next, 9),
-        (Instr::SkipIf(3), 1, Plain::Skip(3), 1),
-        (Instr::JumpUnless(3), 0, Plain::Skip(3), 9),
-        (Instr::JumpUnless(3), 1, Plain::Next, 9),
+        (Instr::JumpIfFalseOrPop(3), 0, Plain::Skip(3), 0),
+        (Instr::JumpIfFalseOrPop(3), 1, Plain::Next, 9),
+        (Instr::JumpIfTrueOrPop(3), 0, Plain::Next, 9),
+        (Instr::JumpIfTrueOrPop(3), 1, Plain::Skip(3), 1),
+        (Instr::JumpIfFalse(3), 0, Plain::Skip(3), 9),
+        (Instr::JumpIfFalse(3), 1, Plain::Next, 9),
         (Instr::Not, 0, Plain::Next, 1),
         (Instr::Not, 1, Plain::Next, 0),
-        (Instr::GoOn(3), 1, Plain::Skip(3), 1),
-        (Instr::GoBack(3), 1, Plain::Back(3), 1),
+        (Instr::Jump(3), 1, Plain::Skip(3), 1),
+        (Instr::JumpBack(3), 1, Plain::Back(3), 1),
     ] {
         let mut stack = Stack::new();
         stack.push(9);

@@ -36,12 +36,12 @@ find-map p g (x ∷ xs) same =
       | false ↦ refl
     ]
 
--- no block begins at the end or behind it
-none_behind : (from : ℕ) (bs : List Block) (cells a : ℕ) → LieFrom from bs cells → end_from from bs ≤ a → find (λ (b : Block). eqb b.address a) bs ≡ None
-none_behind from [] cells a h end = refl
-none_behind from (b ∷ bs) cells a h end =
+-- no block begins at the end or after it
+none_after : (from : ℕ) (bs : List Block) (cells a : ℕ) → LieFrom from bs cells → end_from from bs ≤ a → find (λ (b : Block). eqb b.address a) bs ≡ None
+none_after from [] cells a h end = refl
+none_after from (b ∷ bs) cells a h end =
     let later = from_below_end (block_end b) bs cells h.1 in
-    let rest = none_behind (block_end b) bs cells a h.1 end in
+    let rest = none_after (block_end b) bs cells a h.1 end in
     ⊎_elim
     (λ (t : (eqb b.address a ≡ true) × (b.address ≡ a)). let e : b.address ≡ a = t.1 in absurd (omega arith))
     (λ (t : (eqb b.address a ≡ false) × (b.address ≡ a → ⊥)). ap (λ (k : Bool). cond k (Some b) (find (λ (c : Block). eqb c.address a) bs)) t.0 ∙ rest)
@@ -68,7 +68,7 @@ block_at-kept s b a old h = find-append_some (λ (c : Block). eqb c.address a) s
 -- and so is the new one
 pub block_at-fresh : (s : Space) (b : Block) → IsLaidOut s → b.address ≡ end_of s → block_at (with_block s b) b.address ≡ Some b
 block_at-fresh s b h at =
-    let none = none_behind 0 s.blocks s.cells b.address h (omega arith) in
+    let none = none_after 0 s.blocks s.cells b.address h (omega arith) in
     find-append_none (λ (c : Block). eqb c.address b.address) s.blocks (b ∷ []) none ∙
     ⊎_elim
     (λ (t : (eqb b.address b.address ≡ true) × (b.address ≡ b.address)). ap (λ (k : Bool). cond k (Some b) None) t.0)

@@ -83,7 +83,7 @@ kept : (cs ps ds qs starts : List ℕ) (end capacity a : ℕ) (change : Block �
 kept cs ps ds qs starts end capacity a change leaves h same lengths pins =
     record {
       laid_out = subst (λ (bs : List Block). LieFrom 0 bs (length ds)) (sym same) (subst (λ n. LieFrom 0 (map (changed a change) (map (block_in cs ps) starts)) n) (sym lengths) (LieFrom-changed a change leaves 0 (map (block_in cs ps) starts) (length cs) h.laid_out));
-      behind = h.behind ∙ sym (ap (end_from 0) same ∙ end_from-changed a change leaves 0 (map (block_in cs ps) starts));
+      after = h.after ∙ sym (ap (end_from 0) same ∙ end_from-changed a change leaves 0 (map (block_in cs ps) starts));
       counted = pins ∙ h.counted ∙ sym lengths;
       limit = subst (λ n. n ≤ MOST_CELLS) (sym lengths) h.limit;
       room = subst (λ n. n / 3 ≤ capacity) (sym lengths) h.room;
@@ -134,7 +134,7 @@ pub room_for_start : (cs ps starts : List ℕ) (end capacity : ℕ) → IsStored
 room_for_start cs ps starts end capacity h fits =
     let most = from_below_end 0 (map (block_in cs ps) starts) (length cs) h.laid_out in
     let count = length-map starts (block_in cs ps) in
-    let behind : end ≡ end_from 0 (map (block_in cs ps) starts) = h.behind in
+    let after : end ≡ end_from 0 (map (block_in cs ps) starts) = h.after in
     let room : length cs / 3 ≤ capacity = h.room in
     omega arith
 
@@ -155,7 +155,7 @@ fresh_is ds qs at class birth len h pins =
 
 pub block_written : (cs ps starts : List ℕ) (end capacity capacity' : ℕ) (s : Space) (class birth len : ℕ) (ds : List ℕ) → IsStored cs ps starts end capacity → space_in cs ps starts ≡ s → end + 3 + len ≤ length cs → length ds ≡ length cs → take end ds ≡ take end cs → IsFresh ds end class birth len → capacity ≤ capacity' → Written (starts ++ end ∷ []) (end + 3 + len) capacity' ds (set ps end 0) (with_block s (fresh_block end class birth len))
 block_written cs ps starts end capacity capacity' s class birth len ds h e fits lengths below fresh grows =
-    let behind : end ≡ end_from 0 (map (block_in cs ps) starts) = h.behind in
+    let after : end ≡ end_from 0 (map (block_in cs ps) starts) = h.after in
     let counted : length ps ≡ length cs = h.counted in
     let block = fresh_is ds (set ps end 0) end class birth len fresh (get_or-set_same ps end 0 0 (omega arith)) in
     let old : map (block_in ds (set ps end 0)) starts ≡ map (block_in cs ps) starts = same_below cs ds ps (set ps end 0) 0 starts (length cs) end h.laid_out (omega arith)
@@ -172,7 +172,7 @@ block_written cs ps starts end capacity capacity' s class birth len ds h e fits 
     record {
       stored = record {
         laid_out = subst (λ (bs : List Block). LieFrom 0 bs (length ds)) (sym all) (subst (λ n. LieFrom 0 (map (block_in cs ps) starts ++ fresh_block end class birth len ∷ []) n) (sym lengths) lies);
-        behind = omega arith;
+        after = omega arith;
         counted = length-set ps end 0 ∙ counted ∙ sym lengths;
         limit = omega arith;
         room = subst (λ n. n / 3 ≤ capacity') (sym lengths) (omega arith);

@@ -25,7 +25,7 @@ space_in cells pins starts = record { cells = length cells; blocks = map (block_
 -- the blocks lie in the cells, and there is room for the addresses of as many as can ever be
 pub record IsStored (cells pins starts : List ℕ) (end capacity : ℕ) : Type 0 where
   pub laid_out : IsLaidOut (space_in cells pins starts)
-  pub behind : end ≡ end_of (space_in cells pins starts)
+  pub after : end ≡ end_of (space_in cells pins starts)
   pub counted : length pins ≡ length cells
   pub limit : length cells ≤ MOST_CELLS
   pub room : length cells / 3 ≤ capacity

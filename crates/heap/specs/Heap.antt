@@ -21,20 +21,20 @@ pub record Space : Type 0 where
 abbrev pub block_size : Block → ℕ
 block_size b = 3 + length b.values
 
--- the first cell behind a block
+-- the first cell after a block
 abbrev pub block_end : Block → ℕ
 block_end b = b.address + block_size b
 
--- the first cell behind the last of the blocks, and `from` where there is none
+-- the first cell after the last of the blocks, and `from` where there is none
 abbrev pub end_from : ℕ → List Block → ℕ
 end_from from [] = from
 end_from from (b ∷ rest) = end_from (block_end b) rest
 
--- the first cell behind the highest block
+-- the first cell after the highest block
 abbrev pub end_of : Space → ℕ
 end_of s = end_from 0 s.blocks
 
--- the cells behind the highest block
+-- the cells after the highest block
 abbrev pub left_of : Space → ℕ
 left_of s = s.cells - end_of s
 

@@ -18,7 +18,7 @@ pub const MOST_PINS: u8 = 255;
 /// How many cells of a block are not values: its class, its birth number and its length.
 const HEADER: usize = 3;
 
-/// Too few cells are left behind the highest block.
+/// Too few cells are left after the highest block.
 #[derive(Clone, Copy, Debug, PartialEq, Eq, Error)]
 #[error("no room in the heap")]
 pub struct NoRoom;
@@ -32,7 +32,7 @@ pub struct Heap {
     cells: Vec<u32>,
     /// The addresses of the blocks, rising.
     starts: Vec<u32>,
-    /// Behind the highest block.
+    /// After the highest block.
     end: usize,
     /// At a block's address the number of its pins.
     pins: Vec<u8>,
@@ -73,7 +73,7 @@ impl Heap {
         self.cells.len()
     }
 
-    /// The number of cells behind the highest block.
+    /// The number of cells after the highest block.
     pub fn left(&self) -> usize
         ensures { result ≡ left_of self.now }
     {
@@ -97,7 +97,7 @@ impl Heap {
         Addr::new(self.starts[place])
     }
 
-    /// Makes a block of `len` values behind the highest one, each 0.
+    /// Makes a block of `len` values after the highest one, each 0.
     ///
     /// `NoRoom` exactly where too few cells are left there.
     pub fn alloc(&mut self, class: u32, birth: u32, len: usize) -> Result<Addr, NoRoom>

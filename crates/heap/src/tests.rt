@@ -3,7 +3,7 @@ use crate::heap::{Heap, NoRoom};
 use std::test::Fail;
 
 #[test]
-fn blocks_lie_one_behind_another(rt: HostRuntime) -> Result<(), Fail> {
+fn blocks_lie_one_after_another(rt: HostRuntime) -> Result<(), Fail> {
     let mut heap = Heap::new(rt.alloc(), 20)?;
     assert_eq!(rt; heap.cells(), 20);
     assert_eq!(rt; heap.left(), 20);

@@ -11,10 +11,10 @@ use Rattle.types.specs.SortRules.{IsSorted, StaticForm, HeadForm, parameter_sort
 use Rattle.types.specs.BuiltCalls.{calls_unbuilt, calls_are_built}
 use Rattle.regions.specs.RegionStates.{RegionState, state_at_entry}
 use Rattle.regions.specs.Regions.{Returned, AcceptedFunction, HasRegions}
-use Rattle.lower.specs.Layout.{Slot, Known, with_static, parameter_slot, parameter_slots, numbers_behind, references_behind, entry_layout}
+use Rattle.lower.specs.Layout.{Slot, Known, with_static, parameter_slot, parameter_slots, numbers_after, references_after, entry_layout}
 use Rattle.lower.specs.Fits.{AreStatics, FunctionFits}
 use Rattle.lower.specs.Stands.{block_returns}
-use Rattle.lower.proofs.SlotLaws.{first_or_behind}
+use Rattle.lower.proofs.SlotLaws.{first_or_after}
 use Rattle.lower.proofs.EntryLayouts.{no_statics, one_static_more}
 use Rattle.lower.proofs.SortFacts.{scope_of, HasNoTruth}
 use Rattle.lower.proofs.PlaceFacts.{and_left, and_right, AreKept, front_kept, back_kept, rest_kept}
@@ -23,7 +23,7 @@ use Rattle.lower.proofs.BufferFacts.{AreBuilt, AreFree}
 use Rattle.lower.proofs.BodyFacts.{AreInRange, block_fits}
 use Rattle.lower.proofs.RegionFacts.{function_returns}
 
--- each function satisfies what lowering asks for, behind the statics before it
+-- each function satisfies what lowering asks for, after the statics before it
 abbrev pub AllFit : (statics : Known) → List Item → Type 0
 AllFit statics [] = Unit {0}
 AllFit statics (StaticItem s ∷ items) = AllFit (with_static s statics) items
@@ -39,7 +39,7 @@ parameter_scope : (ps : List Parameter) (n r : ℕ) (statics : Known) → map {B
 parameter_scope [] n r statics = refl
 parameter_scope (p ∷ ps) n r statics =
     ap (λ (s : Sort). (p.name, s) ∷ (map {B = Identifier × Sort} (λ p. (p.name, parameter_sort p.type)) ps ++ scope_of statics)) (slot_sort p.type n r)
-    ∙ ap (λ (scope : Scope). (p.name, (parameter_slot p.type n r).sort) ∷ scope) (parameter_scope ps (numbers_behind p.type n) (references_behind p.type r) statics)
+    ∙ ap (λ (scope : Scope). (p.name, (parameter_slot p.type n r).sort) ∷ scope) (parameter_scope ps (numbers_after p.type n) (references_after p.type r) statics)
 
 statics_taken : (statics : Known) → AreTaken (map (λ s. s.0) (scope_of statics)) statics
 statics_taken [] x h = refl
@@ -48,8 +48,8 @@ statics_taken ((y, slot) ∷ statics) x h = taken_first (map (λ s. s.0) (scope_
 parameters_taken : (ps : List Parameter) (n r : ℕ) (statics : Known) → AreTaken (map (λ p. p.name) ps ++ map (λ s. s.0) (scope_of statics)) (parameter_slots ps n r ++ statics)
 parameters_taken [] n r statics = statics_taken statics
 parameters_taken (p ∷ ps) n r statics =
-    let further_n = numbers_behind p.type n in
-    let further_r = references_behind p.type r in
+    let further_n = numbers_after p.type n in
+    let further_r = references_after p.type r in
     taken_first (map (λ p. p.name) ps ++ map (λ s. s.0) (scope_of statics)) (parameter_slots ps further_n further_r ++ statics) p.name (parameter_slot p.type n r) (parameters_taken ps further_n further_r statics)
 
 -- the sorts that names have there
@@ -64,7 +64,7 @@ HaveEntrySorts known = (x : Identifier) (s : Slot) → lookup x known ≡ Some s
 
 entry_sort_first : (x : Identifier) (slot : Slot) (known : Known) → IsEntrySort slot.sort → HaveEntrySorts known → HaveEntrySorts ((x, slot) ∷ known)
 entry_sort_first x slot known new h y s at =
-    first_or_behind x y slot s known (IsEntrySort s.sort) (λ same is. subst (λ (t : Slot). IsEntrySort t.sort) is new) (λ other found. h y s found) at
+    first_or_after x y slot s known (IsEntrySort s.sort) (λ same is. subst (λ (t : Slot). IsEntrySort t.sort) is new) (λ other found. h y s found) at
 
 parameter_entry_sort : (type : ParameterType) (n r : ℕ) → IsEntrySort (parameter_slot type n r).sort
 parameter_entry_sort IntParameter n r = tt
@@ -73,8 +73,8 @@ parameter_entry_sort (ReferenceParameter t) n r = tt
 parameter_sorts : (ps : List Parameter) (n r : ℕ) (statics : Known) → AreStatics statics → HaveEntrySorts (parameter_slots ps n r ++ statics)
 parameter_sorts [] n r statics h x s at = subst IsEntrySort (sym (h x s at).0) tt
 parameter_sorts (p ∷ ps) n r statics h x s at =
-    let further_n = numbers_behind p.type n in
-    let further_r = references_behind p.type r in
+    let further_n = numbers_after p.type n in
+    let further_r = references_after p.type r in
     entry_sort_first p.name (parameter_slot p.type n r) (parameter_slots ps further_n further_r ++ statics) (parameter_entry_sort p.type n r) (parameter_sorts ps further_n further_r statics h) x s at
 
 entry_sorts : (statics : Known) (f : Function) → AreStatics statics → HaveEntrySorts (entry_layout statics f).known

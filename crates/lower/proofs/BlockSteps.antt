@@ -32,7 +32,7 @@ use Rattle.lower.proofs.CodePlaces.{has_front, has_back}
 use Rattle.lower.proofs.TermSteps.{negative_past, shows_number, untouched_held, begun_left, left_first}
 use Rattle.lower.proofs.Bodies.{number_begins, begins}
 use Rattle.lower.proofs.ElementWords.{element_words, convert_fits}
-use Rattle.lower.proofs.WaysReturn.{then_returns, else_returns, any_behind}
+use Rattle.lower.proofs.WaysReturn.{then_returns, else_returns, any_after}
 use Rattle.lower.proofs.Steps.{step_inside, put_step, set_step, null_step, made_step, call_step}
 
 -- The place, with these names known, these operands and these slots, which show what can be seen.
@@ -43,7 +43,7 @@ module _ (code : Listing) (known : Known) (place : ℕ) (stack : List ℕ) (slot
   end_step rest h =
       let d = h.stand in
       record {
-        here = instr.GoOn d.skipped;
+        here = instr.Jump d.skipped;
         way = plain.Skip d.skipped;
         after = [];
         at = d.at;
@@ -57,7 +57,7 @@ module _ (code : Listing) (known : Known) (place : ℕ) (stack : List ℕ) (slot
   turn_step line test body rest h =
       let d = h.stand in
       record {
-        here = instr.GoBack d.back;
+        here = instr.JumpBack d.back;
         way = plain.Back d.back;
         after = [];
         at = d.at;
@@ -70,7 +70,7 @@ module _ (code : Listing) (known : Known) (place : ℕ) (stack : List ℕ) (slot
   -- ---- `if`
 
   -- the block that is entered, and the jump at its end
-  way_taken : (b : Block) (l : Layout) (p skipped : ℕ) (rest : List Task) → l.known ≡ known → BlockStands code l p b → slice_get code.instrs (p + length (block_code l b)) ≡ Some (instr.GoOn skipped) → TasksStand code known (p + length (block_code l b) + 1 + skipped) [] rest
+  way_taken : (b : Block) (l : Layout) (p skipped : ℕ) (rest : List Task) → l.known ≡ known → BlockStands code l p b → slice_get code.instrs (p + length (block_code l b)) ≡ Some (instr.Jump skipped) → TasksStand code known (p + length (block_code l b) + 1 + skipped) [] rest
       → TasksStand code known p [] (tasks_of b ++ EndIf ∷ rest)
   way_taken b l p skipped rest same stands at further =
       subst (λ names. TasksStand code names p [] (tasks_of b ++ EndIf ∷ rest)) same
@@ -81,16 +81,16 @@ module _ (code : Listing) (known : Known) (place : ℕ) (stack : List ℕ) (slot
   branch_true line then' else' rest h =
       let d = h.stand in
       let A = d.then_code in
-      let B = d.else_code ++ instr.GoOn 0 ∷ [] in
+      let B = d.else_code ++ instr.Jump 0 ∷ [] in
       let l : Layout = record { known = known; slots = d.slots } in
       let start : place + 0 + 1 ≡ place + 1 = omega arith in
       let own : BlockStands code l (place + 1) then' = subst (λ p. BlockStands code l p then') start d.first in
-      let jump = has_back code.instrs (place + 1) A (instr.GoOn (length B) ∷ B) d.at.1 in
-      let at = subst (λ c. slice_get code.instrs (place + 1 + length c) ≡ Some (instr.GoOn (length B))) d.then_is jump.0 in
-      let end : place + 0 + 1 + length A + 1 + length d.else_code + 1 ≡ place + 1 + length (block_code l then') + 1 + length B = omega (arith, ap length d.then_is, length-append d.else_code (instr.GoOn 0 ∷ [])) in
+      let jump = has_back code.instrs (place + 1) A (instr.Jump (length B) ∷ B) d.at.1 in
+      let at = subst (λ c. slice_get code.instrs (place + 1 + length c) ≡ Some (instr.Jump (length B))) d.then_is jump.0 in
+      let end : place + 0 + 1 + length A + 1 + length d.else_code + 1 ≡ place + 1 + length (block_code l then') + 1 + length B = omega (arith, ap length d.then_is, length-append d.else_code (instr.Jump 0 ∷ [])) in
       let further = subst (λ p. TasksStand code known p [] rest) end d.further in
       record {
-        here = instr.JumpUnless (length A + 1);
+        here = instr.JumpIfFalse (length A + 1);
         way = plain.Next;
         after = [];
         at = d.at.0;
@@ -107,18 +107,18 @@ module _ (code : Listing) (known : Known) (place : ℕ) (stack : List ℕ) (slot
   branch_false line then' else' rest h =
       let d = h.stand in
       let A = d.then_code in
-      let B = d.else_code ++ instr.GoOn 0 ∷ [] in
+      let B = d.else_code ++ instr.Jump 0 ∷ [] in
       let l : Layout = record { known = known; slots = d.slots_else } in
       let start : place + 0 + 1 + length A + 1 ≡ place + 1 + (length A + 1) = omega arith in
       let own : BlockStands code l (place + 1 + (length A + 1)) else' = subst (λ p. BlockStands code l p else') start d.second in
-      let second = has_back code.instrs (place + 1) A (instr.GoOn (length B) ∷ B) d.at.1 in
-      let jump = has_back code.instrs (place + 1 + length A + 1) d.else_code (instr.GoOn 0 ∷ []) second.1 in
+      let second = has_back code.instrs (place + 1) A (instr.Jump (length B) ∷ B) d.at.1 in
+      let jump = has_back code.instrs (place + 1 + length A + 1) d.else_code (instr.Jump 0 ∷ []) second.1 in
       let there : place + 1 + length A + 1 + length d.else_code ≡ place + 1 + (length A + 1) + length (block_code l else') = omega (arith, ap length d.else_is) in
-      let at = subst (λ p. slice_get code.instrs p ≡ Some (instr.GoOn 0)) there jump.0 in
+      let at = subst (λ p. slice_get code.instrs p ≡ Some (instr.Jump 0)) there jump.0 in
       let end : place + 0 + 1 + length A + 1 + length d.else_code + 1 ≡ place + 1 + (length A + 1) + length (block_code l else') + 1 + 0 = omega (arith, ap length d.else_is) in
       let further = subst (λ p. TasksStand code known p [] rest) end d.further in
       record {
-        here = instr.JumpUnless (length A + 1);
+        here = instr.JumpIfFalse (length A + 1);
         way = plain.Skip (length A + 1);
         after = [];
         at = d.at.0;
@@ -139,7 +139,7 @@ module _ (code : Listing) (known : Known) (place : ℕ) (stack : List ℕ) (slot
   branch_step line (Done (Flag b)) then' else' rest h = absurd (let e : sort.Truth ≡ sort.Flag = h.stand.test.sort in cc)
   branch_step line t then' else' rest h =
       let d = h.stand in
-      step_inside code known place stack slots visible shows line t sort.Truth [] (ways_code d.then_code (d.else_code ++ instr.GoOn 0 ∷ [])) (λ u. Branch line u then' else') rest tt d.test.sort d.test.begun (d.test.operands ∙ sym (append-nil (held t))) d.at (λ u. h.returns)
+      step_inside code known place stack slots visible shows line t sort.Truth [] (ways_code d.then_code (d.else_code ++ instr.Jump 0 ∷ [])) (λ u. Branch line u then' else') rest tt d.test.sort d.test.begun (d.test.operands ∙ sym (append-nil (held t))) d.at (λ u. h.returns)
       (λ p u sorted begun at size.
       let first : place + length (term_code known line t) + 1 ≡ p + length (term_code known line u) + 1 = omega (arith, size) in
       let second : place + length (term_code known line t) + 1 + length d.then_code + 1 ≡ p + length (term_code known line u) + 1 + length d.then_code + 1 = omega (arith, size) in
@@ -189,16 +189,16 @@ module _ (code : Listing) (known : Known) (place : ℕ) (stack : List ℕ) (slot
       let here : d.start + length d.test_code ≡ place = omega (arith, d.meets) in
       let start : d.start + length d.test_code + 1 ≡ place + 1 = omega (arith, d.meets) in
       let own : BlockStands code l (place + 1) body = subst (λ p. BlockStands code l p body) start d.turn in
-      let jump = has_back code.instrs (d.start + length d.test_code + 1) B (instr.GoBack (length d.test_code + 1 + length B) ∷ []) turn.1 in
+      let jump = has_back code.instrs (d.start + length d.test_code + 1) B (instr.JumpBack (length d.test_code + 1 + length B) ∷ []) turn.1 in
       let there : d.start + length d.test_code + 1 + length B ≡ place + 1 + length (block_code l body) = omega (arith, d.meets, ap length d.body_is) in
-      let at = subst (λ p. slice_get code.instrs p ≡ Some (instr.GoBack (length d.test_code + 1 + length B))) there jump.0 in
+      let at = subst (λ p. slice_get code.instrs p ≡ Some (instr.JumpBack (length d.test_code + 1 + length B))) there jump.0 in
       let back : place + 1 + length (block_code l body) - (length d.test_code + 1 + length B) ≡ d.start = omega (arith, d.meets, ap length d.body_is) in
       let inside : length d.test_code + 1 + length B ≤ place + 1 + length (block_code l body) = omega (arith, d.meets, ap length d.body_is) in
       record {
-        here = instr.JumpUnless (length B + 1);
+        here = instr.JumpIfFalse (length B + 1);
         way = plain.Next;
         after = [];
-        at = subst (λ p. slice_get code.instrs p ≡ Some (instr.JumpUnless (length B + 1))) here turn.0;
+        at = subst (λ p. slice_get code.instrs p ≡ Some (instr.JumpIfFalse (length B + 1))) here turn.0;
         works = rw d.under_way.operands refl;
         names = known;
         shows = shows;
@@ -212,7 +212,7 @@ module _ (code : Listing) (known : Known) (place : ℕ) (stack : List ℕ) (slot
             among = among;
             loop = from_the_start line test (Done (Truth true)) body rest (place + 1 + length (block_code l body) - (length d.test_code + 1 + length B)) d back;
           });
-          returns = any_behind body (EndTurn line test body ∷ rest) h.returns;
+          returns = any_after body (EndTurn line test body ∷ rest) h.returns;
         });
       }
 
@@ -223,10 +223,10 @@ module _ (code : Listing) (known : Known) (place : ℕ) (stack : List ℕ) (slot
       let here : d.start + length d.test_code ≡ place = omega (arith, d.meets) in
       let end : d.start + length d.test_code + 1 + length d.body_code + 1 ≡ place + 1 + (length d.body_code + 1) = omega (arith, d.meets) in
       record {
-        here = instr.JumpUnless (length d.body_code + 1);
+        here = instr.JumpIfFalse (length d.body_code + 1);
         way = plain.Skip (length d.body_code + 1);
         after = [];
-        at = subst (λ p. slice_get code.instrs p ≡ Some (instr.JumpUnless (length d.body_code + 1))) here turn.0;
+        at = subst (λ p. slice_get code.instrs p ≡ Some (instr.JumpIfFalse (length d.body_code + 1))) here turn.0;
         works = rw d.under_way.operands refl;
         names = known;
         shows = shows;

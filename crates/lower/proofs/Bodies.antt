@@ -19,7 +19,7 @@ use Rattle.code.specs.Depth.{Listing}
 use Rattle.regions.specs.Term as term
 use Rattle.regions.specs.Term.{Term, Done, Read, Binary, term_of}
 use Rattle.regions.specs.Task.{Task, SetScalar, Branch, ReturnValue, Target, Declared, Assigned, Dropped, ScalarKind, BufferKind, kind_of, set_task, invocation, call_task, right_side_task, if_task, task_of, tasks_of}
-use Rattle.lower.specs.Layout.{Slot, Known, Layout, new_slot, closed, layout_behind, block_layout}
+use Rattle.lower.specs.Layout.{Slot, Known, Layout, new_slot, closed, layout_after, block_layout}
 use Rattle.lower.specs.Coding.{nullable_of, store_of, element_of, write_code, of_slot, operand_of, term_code, expr_code, call_code, value_code, right_code, assign_code, returned_code, return_code, ways_code, turn_code, loop_code, if_code, stmt_code, block_code}
 use Rattle.lower.specs.Slots.{IsNumberSort}
 use Rattle.lower.specs.Fits.{IsUntouched, NumberFits, IndexWithin, IsLaidOut, HasRoomFor, ReferenceFits, ArgumentsFit, ValueFits, RightFits, TestFits, ReturnFits, StmtFits, BlockFits}
@@ -27,7 +27,7 @@ use Rattle.lower.specs.Stands.{held, IsBegun, IsUnderWay, HasAt, AreAmong, IsSlo
 use Rattle.lower.proofs.SlotLaws.{known_among, all_among}
 use Rattle.lower.proofs.CodePlaces.{has_front, has_back}
 use Rattle.lower.proofs.TermSteps.{untouched_held, untouched_begun}
-use Rattle.lower.proofs.Layouts.{block_grows, room_before, room_at_least, index_more, laid_more, free_slot, declared_slot, variable_size, laid_behind, known_behind_stmt}
+use Rattle.lower.proofs.Layouts.{block_grows, room_before, room_at_least, index_more, laid_more, free_slot, declared_slot, variable_size, laid_after, known_after_stmt}
 
 -- ---- expressions
 
@@ -49,7 +49,7 @@ value_is known line slot e s h = refl
 abbrev IsResultTarget : Target → Identifier → Type 0
 IsResultTarget target x = (target ≡ Declared ScalarKind x) ⊎ (target ≡ Assigned x)
 
--- The names known at the place, and what comes behind: the rest of the tasks, where these names are known.
+-- The names known at the place, and what comes after: the rest of the tasks, where these names are known.
 module _ (code : Listing) (known : Known) (line place : ℕ) (tail : List Task) where
   number_set : (target : Target) (x : Identifier) (slot : Slot) (e : Expr) (names : Known) → IsNumberSort slot.sort → NumberFits known (term_of e) slot.sort → HasAt code.instrs place (value_code known line slot e) → IsSlotOf code known x slot → AreAmong names ((x, slot) ∷ known)
       → TasksStand code names (place + length (value_code known line slot e)) [] tail → TasksStand code known place [] (set_task line target x e ∷ tail)
@@ -95,7 +95,7 @@ module _ (code : Listing) (known : Known) (line place : ℕ) (tail : List Task) 
   value_set target x (Buffer t w) i e names fits name goes at own among further = null_set target x (record { sort = Buffer t w; index = i }) e (nullable.Buffer i) names fits refl name goes at own among further
   value_set target x (Array t n) i e names fits name goes at own among further = absurd fits
 
-  -- the call's instruction stands at the place, and what comes behind it
+  -- the call's instruction stands at the place, and what comes after it
   reference_stands : (target : Target) (function : Identifier) (slot : ℕ) (e : Expr) → function_named function ≡ Some GetArrayLength → ReferenceFits known e → HasAt code.instrs place (call_code known line slot (tree.Value e ∷ []))
       → TargetStands code known (λ p names. TasksStand code names p [] tail) (place + 1) (destination.Number slot) target → TasksStand code known place [] (call_task line target (record { function = function; arguments = tree.Value e ∷ [] }) ∷ tail)
   reference_stands target function slot (tree.Named tree.Null) built fits at goes =
@@ -163,31 +163,31 @@ scalar_kind tree.JBoolean x h = inl refl
 scalar_kind tree.JFieldId x h = absurd (cc)
 scalar_kind (tree.ReferenceVariable r) x h = absurd (cc)
 
--- a declaration's name is known behind it, and what was known before
+-- a declaration's name is known after it, and what was known before
 self_among : (x : Identifier) (s : Slot) (known : Known) → AreAmong ((x, s) ∷ known) ((x, s) ∷ known)
 self_among x s known = all_among ((x, s) ∷ known)
 
--- what a statement's code stands for, where the rest of the tasks stands behind it
+-- what a statement's code stands for, where the rest of the tasks stands after it
 abbrev pub StmtBegins : Listing → Stmt → Type 0
 StmtBegins code s =
-    (l : Layout) (place : ℕ) (tail : List Task) → HasAt code.instrs place (stmt_code l s) → StmtFits l s → IsLaidOut l.known l.slots → HasRoomFor code.slots (layout_behind l s).slots
-    → TasksStand code (layout_behind l s).known (place + length (stmt_code l s)) [] tail → TasksStand code l.known place [] (task_of s ∷ tail)
+    (l : Layout) (place : ℕ) (tail : List Task) → HasAt code.instrs place (stmt_code l s) → StmtFits l s → IsLaidOut l.known l.slots → HasRoomFor code.slots (layout_after l s).slots
+    → TasksStand code (layout_after l s).known (place + length (stmt_code l s)) [] tail → TasksStand code l.known place [] (task_of s ∷ tail)
 
--- the code of both ways of an `if` behind its test
+-- the code of both ways of an `if` after its test
 branch_stands : (code : Listing) (line : ℕ) (e : Expr) (then' else' : Block) (l : Layout) (slots_else : _) (place : ℕ) (tail : List Task)
-    → HasAt code.instrs place (expr_code l.known line e ++ ways_code (block_code l then') (block_code (record { known = l.known; slots = slots_else }) else' ++ instr.GoOn 0 ∷ []))
+    → HasAt code.instrs place (expr_code l.known line e ++ ways_code (block_code l then') (block_code (record { known = l.known; slots = slots_else }) else' ++ instr.Jump 0 ∷ []))
     → NumberFits l.known (term_of e) sort.Truth → BlockFits l then' → BlockFits (record { known = l.known; slots = slots_else }) else' → IsLaidOut l.known l.slots → IsLaidOut l.known slots_else
     → HasRoomFor code.slots (block_layout l then').slots → HasRoomFor code.slots (block_layout (record { known = l.known; slots = slots_else }) else').slots
-    → TasksStand code l.known (place + length (expr_code l.known line e ++ ways_code (block_code l then') (block_code (record { known = l.known; slots = slots_else }) else' ++ instr.GoOn 0 ∷ []))) [] tail
+    → TasksStand code l.known (place + length (expr_code l.known line e ++ ways_code (block_code l then') (block_code (record { known = l.known; slots = slots_else }) else' ++ instr.Jump 0 ∷ []))) [] tail
     → TasksStand code l.known place [] (Branch line (term_of e) then' else' ∷ tail)
 branch_stands code line e then' else' l slots_else place tail at test fits fits' laid laid' room room' further =
     let T = expr_code l.known line e in
     let A = block_code l then' in
     let B = block_code (record { known = l.known; slots = slots_else }) else' in
-    let ways = has_back code.instrs place T (ways_code A (B ++ instr.GoOn 0 ∷ [])) at in
-    let behind = has_back code.instrs (place + length T + 1) A (instr.GoOn (length (B ++ instr.GoOn 0 ∷ [])) ∷ (B ++ instr.GoOn 0 ∷ [])) ways.1 in
-    let size : place + length (T ++ ways_code A (B ++ instr.GoOn 0 ∷ [])) ≡ place + length T + 1 + length A + 1 + length B + 1 =
-    omega (arith, length-append T (ways_code A (B ++ instr.GoOn 0 ∷ [])), length-append A (instr.GoOn (length (B ++ instr.GoOn 0 ∷ [])) ∷ (B ++ instr.GoOn 0 ∷ [])), length-append B (instr.GoOn 0 ∷ [])) in
+    let ways = has_back code.instrs place T (ways_code A (B ++ instr.Jump 0 ∷ [])) at in
+    let after = has_back code.instrs (place + length T + 1) A (instr.Jump (length (B ++ instr.Jump 0 ∷ [])) ∷ (B ++ instr.Jump 0 ∷ [])) ways.1 in
+    let size : place + length (T ++ ways_code A (B ++ instr.Jump 0 ∷ [])) ≡ place + length T + 1 + length A + 1 + length B + 1 =
+    omega (arith, length-append T (ways_code A (B ++ instr.Jump 0 ∷ [])), length-append A (instr.Jump (length (B ++ instr.Jump 0 ∷ [])) ∷ (B ++ instr.Jump 0 ∷ [])), length-append B (instr.Jump 0 ∷ [])) in
     record {
       slots = l.slots;
       slots_else = slots_else;
@@ -197,8 +197,8 @@ branch_stands code line e then' else' l slots_else place tail at test fits fits'
       else_code = B;
       else_is = refl;
       at = at;
-      first = record { at = has_front code.instrs (place + length T + 1) A (instr.GoOn (length (B ++ instr.GoOn 0 ∷ [])) ∷ (B ++ instr.GoOn 0 ∷ [])) ways.1; fits = fits; laid = laid; room = room };
-      second = record { at = has_front code.instrs (place + length T + 1 + length A + 1) B (instr.GoOn 0 ∷ []) behind.1; fits = fits'; laid = laid'; room = room' };
+      first = record { at = has_front code.instrs (place + length T + 1) A (instr.Jump (length (B ++ instr.Jump 0 ∷ [])) ∷ (B ++ instr.Jump 0 ∷ [])) ways.1; fits = fits; laid = laid; room = room };
+      second = record { at = has_front code.instrs (place + length T + 1 + length A + 1) B (instr.Jump 0 ∷ []) after.1; fits = fits'; laid = laid'; room = room' };
       further = subst (λ p. TasksStand code l.known p [] tail) size further;
     }
 
@@ -215,7 +215,7 @@ loop_stands : (code : Listing) (line : ℕ) (test : Expr) (body : Block) → Stm
 loop_stands code line test body l place tail at fits laid room further =
     let T = expr_code l.known line test in
     let B = block_code l body in
-    let back = instr.GoBack (length T + 1 + length B) ∷ [] in
+    let back = instr.JumpBack (length T + 1 + length B) ∷ [] in
     let turn = has_back code.instrs place T (turn_code T B) at in
     let size : place + length (loop_code T B) ≡ place + length T + 1 + length B + 1 = omega (arith, length-append T (turn_code T B), length-append B back) in
     record {
@@ -337,7 +337,7 @@ stmt_begins code (tree.ReturnValue line e) l place tail at fits laid room furthe
 
 -- ---- blocks
 
--- Code that stands at a place stands for its statements and what is to do behind them, where all names are known that were
+-- Code that stands at a place stands for its statements and what is to do after them, where all names are known that were
 -- known in front of the block.
 pub begins : (code : Listing) (b : Block) (l : Layout) (place : ℕ) (tail : List Task) → BlockStands code l place b
     → ((names : Known) → AreAmong l.known names → TasksStand code names (place + length (block_code l b)) [] tail) → TasksStand code l.known place [] (tasks_of b ++ tail)
@@ -346,10 +346,10 @@ begins code (End line) l place tail stands further =
     subst (λ p. TasksStand code l.known p [] tail) e (further l.known (all_among l.known))
 begins code (Next s rest) l place tail stands further =
     let own = stmt_code l s in
-    let next = layout_behind l s in
+    let next = layout_after l s in
     let others = block_code next rest in
     let size : place + length own + length others ≡ place + length (own ++ others) = omega (arith, length-append own others) in
     stmt_begins code s l place (tasks_of rest ++ tail) (has_front code.instrs place own others stands.at) stands.fits.0 stands.laid (room_before code.slots next.slots (block_layout next rest).slots (block_grows rest next) stands.room)
     (begins code rest next (place + length own) tail
-    (record { at = has_back code.instrs place own others stands.at; fits = stands.fits.1; laid = laid_behind s l stands.fits.0 stands.laid; room = stands.room })
-    (λ names among. subst (λ p. TasksStand code names p [] tail) (sym size) (further names (λ x t h. among x t (known_behind_stmt s l stands.fits.0 x t h)))))
+    (record { at = has_back code.instrs place own others stands.at; fits = stands.fits.1; laid = laid_after s l stands.fits.0 stands.laid; room = stands.room })
+    (λ names among. subst (λ p. TasksStand code names p [] tail) (sym size) (further names (λ x t h. among x t (known_after_stmt s l stands.fits.0 x t h)))))

@@ -13,13 +13,13 @@ use Rattle.types.specs.SortRules.{variable_sort, with_declared, places_within, p
 use Rattle.regions.specs.RegionStates.{RegionState, state_of}
 use Rattle.regions.specs.RegionRules.{is_free}
 use Rattle.regions.specs.Regions.{where_true, where_false, Way, On, Returned, IsEnd, Keeps, KeepsBlock}
-use Rattle.lower.specs.Layout.{Slot, Known, Layout, new_slot, closed, layout_behind, block_layout}
+use Rattle.lower.specs.Layout.{Slot, Known, Layout, new_slot, closed, layout_after, block_layout}
 use Rattle.lower.specs.Fits.{StmtFits, BlockFits}
-use Rattle.lower.proofs.SlotLaws.{first_or_behind}
+use Rattle.lower.proofs.SlotLaws.{first_or_after}
 use Rattle.lower.proofs.SortFacts.{scope_of, HasNoTruth}
 use Rattle.lower.proofs.PlaceFacts.{and_left, and_right, or_left, IsKept, AreKept, own_kept, inside_kept, block_kept, ways_kept}
-use Rattle.lower.proofs.NameFacts.{AreTaken, taken_more, taken_behind, known_taken, stmt_others}
-use Rattle.lower.proofs.BufferFacts.{IsBuilt, AreBuilt, first_built, both_built, inside_built, AreFree, true_free, false_free, free_behind, no_free_buffer, own_not_free}
+use Rattle.lower.proofs.NameFacts.{AreTaken, taken_more, taken_after, known_taken, stmt_others}
+use Rattle.lower.proofs.BufferFacts.{IsBuilt, AreBuilt, first_built, both_built, inside_built, AreFree, true_free, false_free, free_after, no_free_buffer, own_not_free}
 use Rattle.lower.proofs.StatementFacts.{AreFine, are_fine, CallHolds, call_fits_name, right_fits, buffer_fits, assigned_fits, element_fits, jint_fits, truth_fits, tested_fits, returned_fits, size_fits}
 
 -- ---- what holds of a statement and of a block
@@ -89,18 +89,18 @@ module _ (l : Layout) (taken : List Identifier) (returns : ResultType) (before :
   call_holds : (s : Stmt) → StmtHolds l taken returns before way s → CallHolds l.known (own_call s)
   call_holds s h = record { built = first_built s h.calls; arguments = (kept s h).arguments; count = (kept s h).count }
 
--- ---- behind a statement
+-- ---- after a statement
 
-scope_behind : (s : Stmt) (l : Layout) → with_declared (scope_of l.known) s ≡ scope_of (layout_behind l s).known
-scope_behind (tree.Declare line t x r) l = refl
-scope_behind (tree.DeclareBuffer line t x r) l = refl
-scope_behind (tree.DeclareChars line x r) l = refl
-scope_behind (tree.DeclareArray line t x size) l = refl
-scope_behind s l = refl
+scope_after : (s : Stmt) (l : Layout) → with_declared (scope_of l.known) s ≡ scope_of (layout_after l s).known
+scope_after (tree.Declare line t x r) l = refl
+scope_after (tree.DeclareBuffer line t x r) l = refl
+scope_after (tree.DeclareChars line x r) l = refl
+scope_after (tree.DeclareArray line t x size) l = refl
+scope_after s l = refl
 
 no_truth_first : (x : Identifier) (slot : Slot) (known : Known) → (slot.sort ≡ Truth → ⊥) → HasNoTruth known → HasNoTruth ((x, slot) ∷ known)
 no_truth_first x slot known new h y s at e =
-    first_or_behind x y slot s known ⊥ (λ same is. new (ap (λ (t : Slot). t.sort) is ∙ e)) (λ other found. h y s found e) at
+    first_or_after x y slot s known ⊥ (λ same is. new (ap (λ (t : Slot). t.sort) is ∙ e)) (λ other found. h y s found e) at
 
 variable_no_truth : (t : tree.VariableType) → variable_sort t ≡ Truth → ⊥
 variable_no_truth tree.UInt32 e = cc
@@ -110,12 +110,12 @@ variable_no_truth tree.JBoolean e = cc
 variable_no_truth tree.JFieldId e = cc
 variable_no_truth (tree.ReferenceVariable r) e = cc
 
-no_truth_behind : (s : Stmt) (l : Layout) → HasNoTruth l.known → HasNoTruth (layout_behind l s).known
-no_truth_behind (tree.Declare line t x r) l h = no_truth_first x (new_slot (variable_sort t) l) l.known (variable_no_truth t) h
-no_truth_behind (tree.DeclareBuffer line t x r) l h = no_truth_first x (new_slot (Buffer t true) l) l.known (λ e. let c : Buffer t true ≡ Truth = e in cc) h
-no_truth_behind (tree.DeclareChars line x r) l h = no_truth_first x (new_slot (Buffer JChar false) l) l.known (λ e. let c : Buffer JChar false ≡ Truth = e in cc) h
-no_truth_behind (tree.DeclareArray line t x size) l h = no_truth_first x (new_slot (Array t size) l) l.known (λ e. let c : Array t size ≡ Truth = e in cc) h
-no_truth_behind s l h = h
+no_truth_after : (s : Stmt) (l : Layout) → HasNoTruth l.known → HasNoTruth (layout_after l s).known
+no_truth_after (tree.Declare line t x r) l h = no_truth_first x (new_slot (variable_sort t) l) l.known (variable_no_truth t) h
+no_truth_after (tree.DeclareBuffer line t x r) l h = no_truth_first x (new_slot (Buffer t true) l) l.known (λ e. let c : Buffer t true ≡ Truth = e in cc) h
+no_truth_after (tree.DeclareChars line x r) l h = no_truth_first x (new_slot (Buffer JChar false) l) l.known (λ e. let c : Buffer JChar false ≡ Truth = e in cc) h
+no_truth_after (tree.DeclareArray line t x size) l h = no_truth_first x (new_slot (Array t size) l) l.known (λ e. let c : Array t size ≡ Truth = e in cc) h
+no_truth_after s l h = h
 
 end_formed : (b : Block) → is_end b ≡ true → block_well_formed b ≡ true
 end_formed (End line) h = refl
@@ -148,19 +148,19 @@ module _ (l : Layout) (taken : List Identifier) (returns : ResultType) (outer be
     free = h.free;
   }
 
-  rest_holds : (middle : RegionState) → Keeps before s (On middle) → KeepsBlock outer middle rest way → BlockHolds (layout_behind l s) (taken ++ names_declared (statements_within s)) returns outer middle way rest
+  rest_holds : (middle : RegionState) → Keeps before s (On middle) → KeepsBlock outer middle rest way → BlockHolds (layout_after l s) (taken ++ names_declared (statements_within s)) returns outer middle way rest
   rest_holds middle keeps further =
       let first = first_holds (On middle) keeps in
       record {
-        sorted = subst (λ scope. AreKept (places_of returns scope (taken ++ names_declared (statements_within s)) rest)) (scope_behind s l) (block_kept returns (scope_of l.known) taken s rest h.sorted).1;
+        sorted = subst (λ scope. AreKept (places_of returns scope (taken ++ names_declared (statements_within s)) rest)) (scope_after s l) (block_kept returns (scope_of l.known) taken s rest h.sorted).1;
         numbers = (both_in_range (statements_within s) (statements_of rest) h.numbers).1;
         calls = (both_built (statements_within s) (statements_of rest) h.calls).1;
         formed = (next_formed s rest h.formed).1;
         low = omega (arith, h.low);
         keeps = further;
-        names = taken_behind s l taken h.names;
-        no_truth = no_truth_behind s l h.no_truth;
-        free = free_behind s l before middle first.calls (λ x slot at. stmt_others s returns (scope_of l.known) taken first.sorted x (known_taken taken l.known x slot h.names at)) keeps h.free;
+        names = taken_after s l taken h.names;
+        no_truth = no_truth_after s l h.no_truth;
+        free = free_after s l before middle first.calls (λ x slot at. stmt_others s returns (scope_of l.known) taken first.sorted x (known_taken taken l.known x slot h.names at)) keeps h.free;
       }
 
 -- ---- all statements
@@ -261,7 +261,7 @@ mutual
       elim h.keeps [
         | inl on ↦ (
           stmt_fits s l taken returns before (On on.0) (first_holds l taken returns outer before way s rest h (On on.0) on.1),
-          block_fits rest (layout_behind l s) (taken ++ names_declared (statements_within s)) returns outer on.0 way (rest_holds l taken returns outer before way s rest h on.0 on.1 on.2),
+          block_fits rest (layout_after l s) (taken ++ names_declared (statements_within s)) returns outer on.0 way (rest_holds l taken returns outer before way s rest h on.0 on.1 on.2),
         )
-        | inr stopped ↦ (stmt_fits s l taken returns before Returned (first_holds l taken returns outer before way s rest h Returned stopped.0), end_fits rest (layout_behind l s) stopped.1)
+        | inr stopped ↦ (stmt_fits s l taken returns before Returned (first_holds l taken returns outer before way s rest h Returned stopped.0), end_fits rest (layout_after l s) stopped.1)
       ]

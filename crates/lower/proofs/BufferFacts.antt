@@ -20,7 +20,7 @@ use Rattle.types.specs.SortRules.{variable_sort, has_name}
 use Rattle.regions.specs.RegionRules.{breaks_region_rule, is_free, Obeys, RegionRule, CallWhileCritical, ReturnWithBuffer, HeldBuffer, UntestedBuffer, WrongBuffer, ReturnInFrame, PopLastFrame, DeadReference, ArrayInUse, WrongLevel, is_mismatched}
 use Rattle.regions.specs.RegionStates.{Free, BufferState, VariableState, ReferenceAt, BufferIn, RegionState, FunctionCall, call_of, function_called, made_free, with_changed, after_call, release_of, get_of, buffer_from, buffer_set_to, set_to, with_set, state_after, state_of}
 use Rattle.regions.specs.Regions.{made_usable, where_true, where_false, has_variable, left, Way, On, Returned, Join, Keeps, KeepsBlock}
-use Rattle.lower.specs.Layout.{Slot, Known, Layout, new_slot, layout_behind}
+use Rattle.lower.specs.Layout.{Slot, Known, Layout, new_slot, layout_after}
 use Rattle.lower.proofs.PlaceFacts.{or_left, or_right, and_left, and_right, not_false, not_true}
 use Rattle.lower.proofs.SortFacts.{IsNoBuffer, ElementsFit}
 
@@ -92,8 +92,8 @@ false_free state (TestExpr e) x h = h
 false_free state (TestCall c) x h = h
 
 -- a variable of another name in front of it
-behind_other : (state : RegionState) (x y : Identifier) (new : VariableState) → bytes_eq x y ≡ false → IsFreeIn state x → lookup x ((y, new) ∷ state.variables) ≡ Some (BufferIn Free)
-behind_other state x y new other h = ap (λ b. if b then Some new else lookup x state.variables) other ∙ h
+after_other : (state : RegionState) (x y : Identifier) (new : VariableState) → bytes_eq x y ≡ false → IsFreeIn state x → lookup x ((y, new) ∷ state.variables) ≡ Some (BufferIn Free)
+after_other state x y new other h = ap (λ b. if b then Some new else lookup x state.variables) other ∙ h
 
 -- a buffer set to NULL is free
 free_from : (r : RightSide) → IsBuilt (call_of_right_side (Some r)) → buffer_set_to r ≡ Free
@@ -108,14 +108,14 @@ abbrev DeclaresOther : Stmt → Identifier → Type 0
 DeclaresOther s x = some_passes (bytes_eq x) (declared_name s) ≡ false
 
 set_free : (s : Stmt) (state : RegionState) (x : Identifier) → IsBuilt (own_call s) → DeclaresOther s x → IsFreeIn state x → IsFreeIn (with_set state s) x
-set_free (tree.Declare line (tree.ReferenceVariable t) y r) state x built other h = behind_other state x y (ReferenceAt state.frames true) other h
-set_free (tree.DeclareBuffer line t y r) state x built other h = behind_other state x y (BufferIn (buffer_set_to r)) other h
-set_free (tree.DeclareChars line y r) state x built other h = behind_other state x y (BufferIn (buffer_set_to r)) other h
+set_free (tree.Declare line (tree.ReferenceVariable t) y r) state x built other h = after_other state x y (ReferenceAt state.frames true) other h
+set_free (tree.DeclareBuffer line t y r) state x built other h = after_other state x y (BufferIn (buffer_set_to r)) other h
+set_free (tree.DeclareChars line y r) state x built other h = after_other state x y (BufferIn (buffer_set_to r)) other h
 set_free (tree.Assign line y r) state x built other h = changed_free state x y (set_to r) (ap BufferIn (free_from r built)) h
 set_free s state x built other h = h
 
-behind_free : (s : Stmt) (state : RegionState) (x : Identifier) → IsBuilt (own_call s) → DeclaresOther s x → IsFreeIn state x → IsFreeIn (state_after state s) x
-behind_free s state x built other h = subst (λ (after : RegionState). IsFreeIn (with_set after s) x) (sym (calm_after state (function_called s) (calm (own_call s) built))) (set_free s state x built other h)
+after_free : (s : Stmt) (state : RegionState) (x : Identifier) → IsBuilt (own_call s) → DeclaresOther s x → IsFreeIn state x → IsFreeIn (state_after state s) x
+after_free s state x built other h = subst (λ (after : RegionState). IsFreeIn (with_set after s) x) (sym (calm_after state (function_called s) (calm (own_call s) built))) (set_free s state x built other h)
 
 -- ---- ends of blocks
 
@@ -149,7 +149,7 @@ is_there ((y, w) ∷ vs) x v h =
 left_free : (outer state : RegionState) (x : Identifier) → IsFreeIn outer x → IsFreeIn state x → IsFreeIn (left outer state) x
 left_free outer state x there h = filtered state.variables x (has_variable outer) (is_there outer.variables x (BufferIn Free) there) ∙ h
 
--- ---- behind statements
+-- ---- after statements
 
 -- each call of the statements is built
 abbrev pub AreBuilt : List Stmt → Type 0
@@ -184,7 +184,7 @@ both_other front back x h =
 same_state : (a b : RegionState) → On a ≡ On b → b ≡ a
 same_state a b e = cc
 
--- the way behind an if is where its test is false
+-- the way after an if is where its test is false
 if_way : (yes : Way) (a after : RegionState) → Join yes (On a) (On after) → a ≡ after
 if_way Returned a after h = same_state after a h
 if_way (On b) a after h = sym h.0 ∙ same_state after b h.1
@@ -208,14 +208,14 @@ mutual
   stmt_free (tree.Return line) before after x built other h free = absurd (let e = h.1 in cc)
   stmt_free (tree.ReturnValue line e) before after x built other h free = absurd (let e = h.1 in cc)
   stmt_free (tree.Declare line t y r) before after x built other h free =
-      subst (λ (state : RegionState). IsFreeIn state x) (same_state after (state_after before (tree.Declare line t y r)) h.1) (behind_free (tree.Declare line t y r) before x (first_built (tree.Declare line t y r) built) (or_left (bytes_eq x y) false other) free)
+      subst (λ (state : RegionState). IsFreeIn state x) (same_state after (state_after before (tree.Declare line t y r)) h.1) (after_free (tree.Declare line t y r) before x (first_built (tree.Declare line t y r) built) (or_left (bytes_eq x y) false other) free)
   stmt_free (tree.DeclareBuffer line t y r) before after x built other h free =
-      subst (λ (state : RegionState). IsFreeIn state x) (same_state after (state_after before (tree.DeclareBuffer line t y r)) h.1) (behind_free (tree.DeclareBuffer line t y r) before x (first_built (tree.DeclareBuffer line t y r) built) (or_left (bytes_eq x y) false other) free)
+      subst (λ (state : RegionState). IsFreeIn state x) (same_state after (state_after before (tree.DeclareBuffer line t y r)) h.1) (after_free (tree.DeclareBuffer line t y r) before x (first_built (tree.DeclareBuffer line t y r) built) (or_left (bytes_eq x y) false other) free)
   stmt_free (tree.DeclareChars line y r) before after x built other h free =
-      subst (λ (state : RegionState). IsFreeIn state x) (same_state after (state_after before (tree.DeclareChars line y r)) h.1) (behind_free (tree.DeclareChars line y r) before x (first_built (tree.DeclareChars line y r) built) (or_left (bytes_eq x y) false other) free)
+      subst (λ (state : RegionState). IsFreeIn state x) (same_state after (state_after before (tree.DeclareChars line y r)) h.1) (after_free (tree.DeclareChars line y r) before x (first_built (tree.DeclareChars line y r) built) (or_left (bytes_eq x y) false other) free)
   stmt_free (tree.DeclareArray line t y size) before after x built other h free =
-      subst (λ (state : RegionState). IsFreeIn state x) (same_state after (state_after before (tree.DeclareArray line t y size)) h.1) (behind_free (tree.DeclareArray line t y size) before x (first_built (tree.DeclareArray line t y size) built) (or_left (bytes_eq x y) false other) free)
-  stmt_free s before after x built other h free = subst (λ (state : RegionState). IsFreeIn state x) (same_state after (state_after before s) h.1) (behind_free s before x (first_built s built) refl free)
+      subst (λ (state : RegionState). IsFreeIn state x) (same_state after (state_after before (tree.DeclareArray line t y size)) h.1) (after_free (tree.DeclareArray line t y size) before x (first_built (tree.DeclareArray line t y size) built) (or_left (bytes_eq x y) false other) free)
+  stmt_free s before after x built other h free = subst (λ (state : RegionState). IsFreeIn state x) (same_state after (state_after before s) h.1) (after_free s before x (first_built s built) refl free)
 
   pub block_free : (b : Block) (outer before after : RegionState) (x : Identifier) → AreBuilt (statements_of b) → IsOther (statements_of b) x → KeepsBlock outer before b (On after) → IsFreeIn outer x → IsFreeIn before x → IsFreeIn after x
   block_free (End line) outer before after x built other h there free = subst (λ (state : RegionState). IsFreeIn state x) (same_state after (left outer before) h.1) (left_free outer before x there free)
@@ -231,7 +231,7 @@ mutual
 abbrev pub AreFree : Known → RegionState → Type 0
 AreFree known state = (x : Identifier) (t : ElementType) (w : Bool) (i : ℕ) → lookup x known ≡ Some (record { sort = Buffer t w; index = i }) → IsFreeIn state x
 
--- behind a declaration
+-- after a declaration
 declared_free : (known : Known) (before after : RegionState) (y : Identifier) (slot : Slot) → AreFree known before → ((t : ElementType) (w : Bool) → slot.sort ≡ Buffer t w → lookup y after.variables ≡ Some (BufferIn Free))
     → ((x : Identifier) → bytes_eq x y ≡ false → IsFreeIn before x → IsFreeIn after x) → AreFree ((y, slot) ∷ known) after
 declared_free known before after y slot free own others x t w i at =
@@ -260,33 +260,33 @@ no_buffer (tree.ReferenceVariable r) u w e = cc
 no_array : (t u : ElementType) (size : ℕ) (w : Bool) → Array t size ≡ Buffer u w → ⊥
 no_array t u size w e = cc
 
--- the state behind a statement that goes on is that of its definition
+-- the state after a statement that goes on is that of its definition
 goes_on : (before after : RegionState) (s : Stmt) → On after ≡ On (state_after before s) → IsBuilt (own_call s) → after ≡ with_set before s
 goes_on before after s h built = sym (same_state after (state_after before s) h) ∙ ap (λ (state : RegionState). with_set state s) (calm_after before (function_called s) (calm (own_call s) built))
 
 others_free : (s : Stmt) (before after : RegionState) (y : Identifier) → declared_name s ≡ Some y → IsBuilt (own_call s) → On after ≡ On (state_after before s) → (x : Identifier) → bytes_eq x y ≡ false → IsFreeIn before x → IsFreeIn after x
 others_free s before after y declares built goes x other free =
-    subst (λ (state : RegionState). IsFreeIn state x) (same_state after (state_after before s) goes) (behind_free s before x built (ap (some_passes (bytes_eq x)) declares ∙ other) free)
+    subst (λ (state : RegionState). IsFreeIn state x) (same_state after (state_after before s) goes) (after_free s before x built (ap (some_passes (bytes_eq x)) declares ∙ other) free)
 
-pub free_behind : (s : Stmt) (l : Layout) (before after : RegionState) → AreBuilt (statements_within s) → ((x : Identifier) (slot : Slot) → lookup x l.known ≡ Some slot → IsOther (statements_within s) x) → Keeps before s (On after) → AreFree l.known before
-    → AreFree (layout_behind l s).known after
-free_behind (tree.Declare line t y r) l before after built others h free =
+pub free_after : (s : Stmt) (l : Layout) (before after : RegionState) → AreBuilt (statements_within s) → ((x : Identifier) (slot : Slot) → lookup x l.known ≡ Some slot → IsOther (statements_within s) x) → Keeps before s (On after) → AreFree l.known before
+    → AreFree (layout_after l s).known after
+free_after (tree.Declare line t y r) l before after built others h free =
     declared_free l.known before after y (new_slot (variable_sort t) l) free (λ u w e. absurd (no_buffer t u w e))
     (others_free (tree.Declare line t y r) before after y refl (first_built (tree.Declare line t y r) built) h.1)
-free_behind (tree.DeclareBuffer line t y r) l before after built others h free =
+free_after (tree.DeclareBuffer line t y r) l before after built others h free =
     let calls = first_built (tree.DeclareBuffer line t y r) built in
     declared_free l.known before after y (new_slot (Buffer t true) l) free
     (λ u w e. subst (λ (state : RegionState). lookup y state.variables ≡ Some (BufferIn Free)) (sym (goes_on before after (tree.DeclareBuffer line t y r) h.1 calls)) (new_free before.variables y (buffer_set_to r) (free_from r calls)))
     (others_free (tree.DeclareBuffer line t y r) before after y refl calls h.1)
-free_behind (tree.DeclareChars line y r) l before after built others h free =
+free_after (tree.DeclareChars line y r) l before after built others h free =
     let calls = first_built (tree.DeclareChars line y r) built in
     declared_free l.known before after y (new_slot (Buffer JChar false) l) free
     (λ u w e. subst (λ (state : RegionState). lookup y state.variables ≡ Some (BufferIn Free)) (sym (goes_on before after (tree.DeclareChars line y r) h.1 calls)) (new_free before.variables y (buffer_set_to r) (free_from r calls)))
     (others_free (tree.DeclareChars line y r) before after y refl calls h.1)
-free_behind (tree.DeclareArray line t y size) l before after built others h free =
+free_after (tree.DeclareArray line t y size) l before after built others h free =
     declared_free l.known before after y (new_slot (Array t size) l) free (λ u w e. absurd (no_array t u size w e))
     (others_free (tree.DeclareArray line t y size) before after y refl (first_built (tree.DeclareArray line t y size) built) h.1)
-free_behind s l before after built others h free = λ x t w i at. stmt_free s before after x built (others x (record { sort = Buffer t w; index = i }) at) h (free x t w i at)
+free_after s l before after built others h free = λ x t w i at. stmt_free s before after x built (others x (record { sort = Buffer t w; index = i }) at) h (free x t w i at)
 
 -- ---- elements
 
@@ -329,16 +329,16 @@ obeys (tree.Return line) before way h = h.0
 obeys (tree.ReturnValue line e) before way h = h.0
 obeys s before way h = h.0
 
--- the rules behind that on free buffers
-abbrev behind_wrong : List RegionRule
-behind_wrong = ReturnInFrame ∷ PopLastFrame ∷ DeadReference ∷ ArrayInUse ∷ WrongLevel ∷ []
+-- the rules after that on free buffers
+abbrev after_wrong : List RegionRule
+after_wrong = ReturnInFrame ∷ PopLastFrame ∷ DeadReference ∷ ArrayInUse ∷ WrongLevel ∷ []
 
 uses_no_free : (s : Stmt) (before : RegionState) → Obeys before s → AreNotFree before (used_names s)
 uses_no_free s before h =
     let p : RegionRule → Bool = λ rule. not (breaks_region_rule rule before s) in
     or_left (list_any (λ x. is_free (state_of before x)) (used_names s))
     (some_passes (λ release. (release.commits && is_critical release.access) || some_passes (λ x. is_mismatched release (state_of before x)) release.buffer) (release_of (function_called s)))
-    (not_true (breaks_region_rule WrongBuffer before s) (fifth (p CallWhileCritical) (p ReturnWithBuffer) (p HeldBuffer) (p UntestedBuffer) (p WrongBuffer) (list_all p behind_wrong) h))
+    (not_true (breaks_region_rule WrongBuffer before s) (fifth (p CallWhileCritical) (p ReturnWithBuffer) (p HeldBuffer) (p UntestedBuffer) (p WrongBuffer) (list_all p after_wrong) h))
 
 pub own_not_free : (s : Stmt) (before : RegionState) (way : Way) → Keeps before s way → AreNotFree before (option_to_list (written_name s)) × AreNotFree before (flat_map names_in (own_expressions s))
 own_not_free s before way h =

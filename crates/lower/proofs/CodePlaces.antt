@@ -20,12 +20,12 @@ has_both instrs place (i ∷ a) b h k =
     let e : place + length (i ∷ a) ≡ place + 1 + length a = omega arith in
     (h.0, has_both instrs (place + 1) a b h.1 (subst (λ n. HasAt instrs n b) e k))
 
--- the instruction just behind a list
+-- the instruction just after a list
 pub get-append_seam : {A : Type 0} (a b : List A) (i : A) → slice_get (a ++ i ∷ b) (length a) ≡ Some i
 get-append_seam [] b i = refl
 get-append_seam (x ∷ a) b i = get-append_seam a b i
 
--- behind its front a code has the rest
+-- after its front a code has the rest
 pub has_all : (is front : List Instr) → HasAt (front ++ is) (length front) is
 has_all [] front = tt
 has_all (i ∷ is) front =

@@ -14,7 +14,7 @@ use Rattle.regions.specs.Thread.{Shared, Thread}
 use Rattle.regions.specs.Value.{Int}
 use Rattle.regions.specs.Variable.{Variable, Scalar, LocalRef, StaticReference}
 use Rattle.code.specs.Depth.{Listing}
-use Rattle.lower.specs.Layout.{Slot, Known, parameter_slot, parameter_slots, numbers_behind, references_behind, numbers_of, references_of, entry_names, entry_layout}
+use Rattle.lower.specs.Layout.{Slot, Known, parameter_slot, parameter_slots, numbers_after, references_after, numbers_of, references_of, entry_names, entry_layout}
 use Rattle.lower.specs.Slots.{visible_to, Slots, ShowsSlot, Shows, ArgumentFits, ArgumentsFit, argument_word, argument_reference, EntrySlots, AreNull}
 use Rattle.lower.specs.Fits.{AreStatics}
 use Rattle.lower.proofs.CodePlaces.{get-append_seam}
@@ -30,8 +30,8 @@ record HasFrom (slots : Slots) (n r : ℕ) (words : List ℕ) (references : List
   held : slots.references ≡ references_front ++ (references ++ references_back)
   references_count : length references_front ≡ r
 
-behind_number : (slots : Slots) (n r w : ℕ) (words : List ℕ) (references : List Reference) → HasFrom slots n r (w ∷ words) references → HasFrom slots (n + 1) r words references
-behind_number slots n r w words references h = record {
+after_number : (slots : Slots) (n r w : ℕ) (words : List ℕ) (references : List Reference) → HasFrom slots n r (w ∷ words) references → HasFrom slots (n + 1) r words references
+after_number slots n r w words references h = record {
   numbers_front = h.numbers_front ++ w ∷ [];
   numbers_back = h.numbers_back;
   numbers = h.numbers ∙ sym (append_assoc h.numbers_front (w ∷ []) (words ++ h.numbers_back));
@@ -42,8 +42,8 @@ behind_number slots n r w words references h = record {
   references_count = h.references_count;
 }
 
-behind_reference : (slots : Slots) (n r : ℕ) (q : Reference) (words : List ℕ) (references : List Reference) → HasFrom slots n r words (q ∷ references) → HasFrom slots n (r + 1) words references
-behind_reference slots n r q words references h = record {
+after_reference : (slots : Slots) (n r : ℕ) (q : Reference) (words : List ℕ) (references : List Reference) → HasFrom slots n r words (q ∷ references) → HasFrom slots n (r + 1) words references
+after_reference slots n r q words references h = record {
   numbers_front = h.numbers_front;
   numbers_back = h.numbers_back;
   numbers = h.numbers;
@@ -64,25 +64,25 @@ ReferenceFound slots s v = (q : Reference) × (i : ℕ) × (s ≡ record { sort 
 abbrev Found : Slots → Slot → Option Variable → Type 0
 Found slots s v = NumberFound slots s v ⊎ ReferenceFound slots s v
 
--- a number for a parameter, and what stands behind it
+-- a number for a parameter, and what stands after it
 number_argument : (slots : Slots) (n r : ℕ) (z : ℤ) (words : List ℕ) (references : List Reference) (type : ParameterType) → ArgumentFits type (Number z) → HasFrom slots n r (cast_unsigned w32 z ∷ words) references
-    → Found slots (parameter_slot type n r) (Some (Scalar (Int z))) × HasFrom slots (numbers_behind type n) (references_behind type r) words references
+    → Found slots (parameter_slot type n r) (Some (Scalar (Int z))) × HasFrom slots (numbers_after type n) (references_after type r) words references
 number_argument slots n r z words references IntParameter fits h =
-    (inl (z, n, refl, refl, fits, rw (h.numbers, ← h.numbers_count) (get-append_seam h.numbers_front (words ++ h.numbers_back) (cast_unsigned w32 z))), behind_number slots n r (cast_unsigned w32 z) words references h)
+    (inl (z, n, refl, refl, fits, rw (h.numbers, ← h.numbers_count) (get-append_seam h.numbers_front (words ++ h.numbers_back) (cast_unsigned w32 z))), after_number slots n r (cast_unsigned w32 z) words references h)
 number_argument slots n r z words references (ReferenceParameter t) fits h = absurd fits
 
--- a reference for a parameter, and what stands behind it
+-- a reference for a parameter, and what stands after it
 reference_argument : (slots : Slots) (n r : ℕ) (q : Reference) (words : List ℕ) (references : List Reference) (type : ParameterType) → ArgumentFits type (Refers q) → HasFrom slots n r words (q ∷ references)
-    → Found slots (parameter_slot type n r) (Some (LocalRef 1 q)) × HasFrom slots (numbers_behind type n) (references_behind type r) words references
+    → Found slots (parameter_slot type n r) (Some (LocalRef 1 q)) × HasFrom slots (numbers_after type n) (references_after type r) words references
 reference_argument slots n r q words references IntParameter fits h = absurd fits
 reference_argument slots n r q words references (ReferenceParameter t) fits h =
-    (inr (q, r, refl, refl, rw (h.held, ← h.references_count) (get-append_seam h.references_front (references ++ h.references_back) q)), behind_reference slots n r q words references h)
+    (inr (q, r, refl, refl, rw (h.held, ← h.references_count) (get-append_seam h.references_front (references ++ h.references_back) q)), after_reference slots n r q words references h)
 
--- the name that is looked for is the first, or it stands behind
-at_name : (slots : Slots) (b : Bool) (slot s : Slot) (v : Variable) (slot_behind : Option Slot) (variable_behind : Option Variable) → Found slots slot (Some v) → (slot_behind ≡ Some s → Found slots s variable_behind)
-    → (if b then Some slot else slot_behind) ≡ Some s → Found slots s (if b then Some v else variable_behind)
-at_name slots true slot s v slot_behind variable_behind here further h = let same : slot ≡ s = cc in subst (λ (t : Slot). Found slots t (Some v)) same here
-at_name slots false slot s v slot_behind variable_behind here further h = further h
+-- the name that is looked for is the first, or it stands after
+at_name : (slots : Slots) (b : Bool) (slot s : Slot) (v : Variable) (slot_after : Option Slot) (variable_after : Option Variable) → Found slots slot (Some v) → (slot_after ≡ Some s → Found slots s variable_after)
+    → (if b then Some slot else slot_after) ≡ Some s → Found slots s (if b then Some v else variable_after)
+at_name slots true slot s v slot_after variable_after here further h = let same : slot ≡ s = cc in subst (λ (t : Slot). Found slots t (Some v)) same here
+at_name slots false slot s v slot_after variable_after here further h = further h
 
 parameters_found : (slots : Slots) (x : Identifier) (s : Slot) (ps : List Parameter) (vs : List ObjectValue) (n r : ℕ) → ArgumentsFit ps vs → HasFrom slots n r (filter_map argument_word vs) (filter_map argument_reference vs)
     → lookup x (parameter_slots ps n r) ≡ Some s → Found slots s (lookup x (parameter_variables (zip ps vs)))
@@ -90,23 +90,23 @@ parameters_found slots x s [] vs n r fit h at = absurd cc
 parameters_found slots x s (p ∷ ps) [] n r fit h at = absurd fit
 parameters_found slots x s (p ∷ ps) (Number z ∷ vs) n r fit h at =
     let own = number_argument slots n r z (filter_map argument_word vs) (filter_map argument_reference vs) p.type fit.0 h in
-    at_name slots (bytes_eq x p.name) (parameter_slot p.type n r) s (Scalar (Int z)) (lookup x (parameter_slots ps (numbers_behind p.type n) (references_behind p.type r))) (lookup x (parameter_variables (zip ps vs)))
-    own.0 (parameters_found slots x s ps vs (numbers_behind p.type n) (references_behind p.type r) fit.1 own.1) at
+    at_name slots (bytes_eq x p.name) (parameter_slot p.type n r) s (Scalar (Int z)) (lookup x (parameter_slots ps (numbers_after p.type n) (references_after p.type r))) (lookup x (parameter_variables (zip ps vs)))
+    own.0 (parameters_found slots x s ps vs (numbers_after p.type n) (references_after p.type r) fit.1 own.1) at
 parameters_found slots x s (p ∷ ps) (Refers q ∷ vs) n r fit h at =
     let own = reference_argument slots n r q (filter_map argument_word vs) (filter_map argument_reference vs) p.type fit.0 h in
-    at_name slots (bytes_eq x p.name) (parameter_slot p.type n r) s (LocalRef 1 q) (lookup x (parameter_slots ps (numbers_behind p.type n) (references_behind p.type r))) (lookup x (parameter_variables (zip ps vs)))
-    own.0 (parameters_found slots x s ps vs (numbers_behind p.type n) (references_behind p.type r) fit.1 own.1) at
+    at_name slots (bytes_eq x p.name) (parameter_slot p.type n r) s (LocalRef 1 q) (lookup x (parameter_slots ps (numbers_after p.type n) (references_after p.type r))) (lookup x (parameter_variables (zip ps vs)))
+    own.0 (parameters_found slots x s ps vs (numbers_after p.type n) (references_after p.type r) fit.1 own.1) at
 
 -- a name that is no parameter's has no variable
-none_behind : (b : Bool) (slot : Slot) (v : Variable) (slot_behind : Option Slot) (variable_behind : Option Variable) → (slot_behind ≡ None → variable_behind ≡ None) → (if b then Some slot else slot_behind) ≡ None → (if b then Some v else variable_behind) ≡ None
-none_behind true slot v slot_behind variable_behind further h = absurd (cc)
-none_behind false slot v slot_behind variable_behind further h = further h
+none_after : (b : Bool) (slot : Slot) (v : Variable) (slot_after : Option Slot) (variable_after : Option Variable) → (slot_after ≡ None → variable_after ≡ None) → (if b then Some slot else slot_after) ≡ None → (if b then Some v else variable_after) ≡ None
+none_after true slot v slot_after variable_after further h = absurd (cc)
+none_after false slot v slot_after variable_after further h = further h
 
 no_parameter : (x : Identifier) (ps : List Parameter) (vs : List ObjectValue) (n r : ℕ) → lookup x (parameter_slots ps n r) ≡ None → lookup x (parameter_variables (zip ps vs)) ≡ None
 no_parameter x [] vs n r h = refl
 no_parameter x (p ∷ ps) [] n r h = refl
-no_parameter x (p ∷ ps) (Number z ∷ vs) n r h = none_behind (bytes_eq x p.name) (parameter_slot p.type n r) (Scalar (Int z)) (lookup x (parameter_slots ps (numbers_behind p.type n) (references_behind p.type r))) (lookup x (parameter_variables (zip ps vs))) (no_parameter x ps vs (numbers_behind p.type n) (references_behind p.type r)) h
-no_parameter x (p ∷ ps) (Refers q ∷ vs) n r h = none_behind (bytes_eq x p.name) (parameter_slot p.type n r) (LocalRef 1 q) (lookup x (parameter_slots ps (numbers_behind p.type n) (references_behind p.type r))) (lookup x (parameter_variables (zip ps vs))) (no_parameter x ps vs (numbers_behind p.type n) (references_behind p.type r)) h
+no_parameter x (p ∷ ps) (Number z ∷ vs) n r h = none_after (bytes_eq x p.name) (parameter_slot p.type n r) (Scalar (Int z)) (lookup x (parameter_slots ps (numbers_after p.type n) (references_after p.type r))) (lookup x (parameter_variables (zip ps vs))) (no_parameter x ps vs (numbers_after p.type n) (references_after p.type r)) h
+no_parameter x (p ∷ ps) (Refers q ∷ vs) n r h = none_after (bytes_eq x p.name) (parameter_slot p.type n r) (LocalRef 1 q) (lookup x (parameter_slots ps (numbers_after p.type n) (references_after p.type r))) (lookup x (parameter_variables (zip ps vs))) (no_parameter x ps vs (numbers_after p.type n) (references_after p.type r)) h
 
 -- a name of joined lists is one of the first, or else one of the second
 pub in_both : (x : Identifier) (a b : Known) (o : Option Slot) → lookup x a ≡ o → (s : Slot) → lookup x (a ++ b) ≡ Some s → (o ≡ Some s) ⊎ ((o ≡ None) × (lookup x b ≡ Some s))
@@ -146,7 +146,7 @@ module _ (statics : Known) (f : Function) (code : Listing) (known : AreStatics s
       })) at
 
   entry_none : (x : Identifier) → lookup x (entry_names f) ≡ None → lookup x ((f.class_name, LocalRef 1 (Some class)) ∷ parameter_variables (zip f.parameters arguments)) ≡ None
-  entry_none x h = none_behind (bytes_eq x f.class_name) (record { sort = Ref; index = 0 }) (LocalRef 1 (Some class)) (lookup x (parameter_slots f.parameters 0 1)) (lookup x (parameter_variables (zip f.parameters arguments))) (no_parameter x f.parameters arguments 0 1) h
+  entry_none x h = none_after (bytes_eq x f.class_name) (record { sort = Ref; index = 0 }) (LocalRef 1 (Some class)) (lookup x (parameter_slots f.parameters 0 1)) (lookup x (parameter_variables (zip f.parameters arguments))) (no_parameter x f.parameters arguments 0 1) h
 
   static_shown : (x : Identifier) (s : Slot) → lookup x (entry_names f) ≡ None → lookup x statics ≡ Some s → ShowsSlot (visible_to shared (entered thread calls f class arguments)) x slots s s.sort
   static_shown x s none at =
@@ -173,11 +173,11 @@ entry_shows statics f code known shared thread calls class arguments slots fit e
 
 -- ---- room for the arguments
 
-number_counts : (type : ParameterType) (z : ℤ) (n r : ℕ) → ArgumentFits type (Number z) → (numbers_behind type n ≡ n + 1) × (references_behind type r ≡ r)
+number_counts : (type : ParameterType) (z : ℤ) (n r : ℕ) → ArgumentFits type (Number z) → (numbers_after type n ≡ n + 1) × (references_after type r ≡ r)
 number_counts IntParameter z n r fits = (refl, refl)
 number_counts (ReferenceParameter t) z n r fits = absurd fits
 
-reference_counts : (type : ParameterType) (q : Reference) (n r : ℕ) → ArgumentFits type (Refers q) → (numbers_behind type n ≡ n) × (references_behind type r ≡ r + 1)
+reference_counts : (type : ParameterType) (q : Reference) (n r : ℕ) → ArgumentFits type (Refers q) → (numbers_after type n ≡ n) × (references_after type r ≡ r + 1)
 reference_counts IntParameter q n r fits = absurd fits
 reference_counts (ReferenceParameter t) q n r fits = (refl, refl)
 
@@ -188,9 +188,9 @@ counts [] (v ∷ vs) n r fit = absurd fit
 counts (p ∷ ps) [] n r fit = absurd fit
 counts (p ∷ ps) (Number z ∷ vs) n r fit =
     let own = number_counts p.type z n r fit.0 in
-    let further = counts ps vs (numbers_behind p.type n) (references_behind p.type r) fit.1 in
+    let further = counts ps vs (numbers_after p.type n) (references_after p.type r) fit.1 in
     (omega arith, omega arith)
 counts (p ∷ ps) (Refers q ∷ vs) n r fit =
     let own = reference_counts p.type q n r fit.0 in
-    let further = counts ps vs (numbers_behind p.type n) (references_behind p.type r) fit.1 in
+    let further = counts ps vs (numbers_after p.type n) (references_after p.type r) fit.1 in
     (omega arith, omega arith)

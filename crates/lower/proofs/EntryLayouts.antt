@@ -4,9 +4,9 @@ use Rattle.base.specs.Bytes.{Identifier, lookup}
 use Rattle.syntax.specs.Tree.{ParameterType, IntParameter, ReferenceParameter, Parameter, Function, Static}
 use Rattle.types.specs.Sorts.{Sort, Jint, Ref, Global}
 use Rattle.code.specs.declared.slots.SlotCounts.{SlotCounts}
-use Rattle.lower.specs.Layout.{Slot, Known, with_static, parameter_slot, parameter_slots, numbers_behind, references_behind, numbers_of, references_of, entry_names, entry_layout}
+use Rattle.lower.specs.Layout.{Slot, Known, with_static, parameter_slot, parameter_slots, numbers_after, references_after, numbers_of, references_of, entry_names, entry_layout}
 use Rattle.lower.specs.Fits.{IndexWithin, AreApart, IsOwn, IsLaidOut, AreStatics}
-use Rattle.lower.proofs.SlotLaws.{first_or_behind}
+use Rattle.lower.proofs.SlotLaws.{first_or_after}
 use Rattle.lower.proofs.EntryLaws.{in_both}
 
 -- ---- statics
@@ -16,13 +16,13 @@ no_statics x s at = absurd (let e = at in cc)
 
 pub one_static_more : (s : Static) (statics : Known) → AreStatics statics → AreStatics (with_static s statics)
 one_static_more s statics h x slot at =
-    first_or_behind s.name x (record { sort = Global; index = length statics }) slot statics ((slot.sort ≡ Global) × (slot.index < length (with_static s statics)))
+    first_or_after s.name x (record { sort = Global; index = length statics }) slot statics ((slot.sort ≡ Global) × (slot.index < length (with_static s statics)))
     (λ same is. subst (λ (t : Slot). (t.sort ≡ Global) × (t.index < length (with_static s statics))) is (refl, omega arith))
     (λ other found. let k = h x slot found in (k.0, omega (arith, k.1))) at
 
 -- ---- parameters
 
-one_more : (type : ParameterType) (n r : ℕ) → (n ≤ numbers_behind type n) × (r ≤ references_behind type r)
+one_more : (type : ParameterType) (n r : ℕ) → (n ≤ numbers_after type n) × (r ≤ references_after type r)
 one_more IntParameter n r = (omega arith, omega arith)
 one_more (ReferenceParameter t) n r = (omega arith, omega arith)
 
@@ -30,14 +30,14 @@ counts_grow : (ps : List Parameter) (n r : ℕ) → (n ≤ numbers_of ps n) × (
 counts_grow [] n r = (omega arith, omega arith)
 counts_grow (p ∷ ps) n r =
     let own = one_more p.type n r in
-    let further = counts_grow ps (numbers_behind p.type n) (references_behind p.type r) in
+    let further = counts_grow ps (numbers_after p.type n) (references_after p.type r) in
     (omega arith, omega arith)
 
 -- a number's slot or a reference's, from these places on and in front of those
 abbrev Between : (n r n' r' : ℕ) → Slot → Type 0
 Between n r n' r' s = ((s.sort ≡ Jint) × (n ≤ s.index) × (s.index < n')) ⊎ ((s.sort ≡ Ref) × (r ≤ s.index) × (s.index < r'))
 
-slot_between : (type : ParameterType) (n r n' r' : ℕ) → numbers_behind type n ≤ n' → references_behind type r ≤ r' → Between n r n' r' (parameter_slot type n r)
+slot_between : (type : ParameterType) (n r n' r' : ℕ) → numbers_after type n ≤ n' → references_after type r ≤ r' → Between n r n' r' (parameter_slot type n r)
 slot_between IntParameter n r n' r' h k = inl (refl, omega arith, omega arith)
 slot_between (ReferenceParameter t) n r n' r' h k = inr (refl, omega arith, omega arith)
 
@@ -49,10 +49,10 @@ parameters_between : (ps : List Parameter) (n r : ℕ) (x : Identifier) (s : Slo
 parameters_between [] n r x s at = absurd (let e = at in cc)
 parameters_between (p ∷ ps) n r x s at =
     let own = one_more p.type n r in
-    let further = counts_grow ps (numbers_behind p.type n) (references_behind p.type r) in
-    first_or_behind p.name x (parameter_slot p.type n r) s (parameter_slots ps (numbers_behind p.type n) (references_behind p.type r)) (Between n r (numbers_of (p ∷ ps) n) (references_of (p ∷ ps) r) s)
+    let further = counts_grow ps (numbers_after p.type n) (references_after p.type r) in
+    first_or_after p.name x (parameter_slot p.type n r) s (parameter_slots ps (numbers_after p.type n) (references_after p.type r)) (Between n r (numbers_of (p ∷ ps) n) (references_of (p ∷ ps) r) s)
     (λ same is. subst (Between n r (numbers_of (p ∷ ps) n) (references_of (p ∷ ps) r)) is (slot_between p.type n r (numbers_of (p ∷ ps) n) (references_of (p ∷ ps) r) further.0 further.1))
-    (λ other h. earlier n r (numbers_behind p.type n) (references_behind p.type r) (numbers_of (p ∷ ps) n) (references_of (p ∷ ps) r) s own.0 own.1 (parameters_between ps (numbers_behind p.type n) (references_behind p.type r) x s h)) at
+    (λ other h. earlier n r (numbers_after p.type n) (references_after p.type r) (numbers_of (p ∷ ps) n) (references_of (p ∷ ps) r) s own.0 own.1 (parameters_between ps (numbers_after p.type n) (references_after p.type r) x s h)) at
 
 -- ---- slots apart
 
@@ -80,8 +80,8 @@ apart_static s i = record { numbers = λ k p q. absurd (omega (arith, q.0, q.1))
 pub apart_back : (s t : Slot) → AreApart s t → AreApart t s
 apart_back s t h = record { numbers = λ k p q. h.numbers k q p; references = λ e e' same. h.references e' e (sym same) }
 
--- of two slots one is at the place of its kind, and the other behind
-first_apart : (type : ParameterType) (n r n' r' : ℕ) (t : Slot) → Between (numbers_behind type n) (references_behind type r) n' r' t → AreApart (parameter_slot type n r) t
+-- of two slots one is at the place of its kind, and the other after
+first_apart : (type : ParameterType) (n r n' r' : ℕ) (t : Slot) → Between (numbers_after type n) (references_after type r) n' r' t → AreApart (parameter_slot type n r) t
 first_apart IntParameter n r n' r' t (inl b) = subst (AreApart (record { sort = Jint; index = n })) (sym (jint_at t b.0)) (apart_numbers n t.index (λ e. omega (arith, b.1, e)))
 first_apart IntParameter n r n' r' t (inr b) = subst (AreApart (record { sort = Jint; index = n })) (sym (ref_at t b.0)) (apart_number_reference n t.index)
 first_apart (ReferenceParameter p) n r n' r' t (inl b) = subst (AreApart (record { sort = Ref; index = r })) (sym (jint_at t b.0)) (apart_back (record { sort = Jint; index = t.index }) (record { sort = Ref; index = r }) (apart_number_reference t.index r))
@@ -90,13 +90,13 @@ first_apart (ReferenceParameter p) n r n' r' t (inr b) = subst (AreApart (record
 -- what is in front of all others is apart from each
 front_own : (y : Identifier) (slot : Slot) (known : Known) → ((z : Identifier) (t : Slot) → lookup z known ≡ Some t → AreApart slot t) → ((x : Identifier) (s : Slot) → lookup x known ≡ Some s → IsOwn known x s) → (x : Identifier) (s : Slot) → lookup x ((y, slot) ∷ known) ≡ Some s → IsOwn ((y, slot) ∷ known) x s
 front_own y slot known front own x s at z t at' other =
-    first_or_behind y x slot s known (AreApart t s)
+    first_or_after y x slot s known (AreApart t s)
     (λ same is.
-    first_or_behind y z slot t known (AreApart t s)
+    first_or_after y z slot t known (AreApart t s)
     (λ same' is'. absurd (other (same' ∙ sym same)))
     (λ other' h'. subst (AreApart t) is (apart_back slot t (front z t h'))) at')
     (λ other' h.
-    first_or_behind y z slot t known (AreApart t s)
+    first_or_after y z slot t known (AreApart t s)
     (λ same' is'. subst (λ (q : Slot). AreApart q s) is' (front x s h))
     (λ other'' h'. own x s h z t h' other) at')
     at
@@ -104,9 +104,9 @@ front_own y slot known front own x s at z t at' other =
 parameters_own : (ps : List Parameter) (n r : ℕ) (x : Identifier) (s : Slot) → lookup x (parameter_slots ps n r) ≡ Some s → IsOwn (parameter_slots ps n r) x s
 parameters_own [] n r x s at = absurd (let e = at in cc)
 parameters_own (p ∷ ps) n r x s at =
-    front_own p.name (parameter_slot p.type n r) (parameter_slots ps (numbers_behind p.type n) (references_behind p.type r))
-    (λ z t h. first_apart p.type n r (numbers_of ps (numbers_behind p.type n)) (references_of ps (references_behind p.type r)) t (parameters_between ps (numbers_behind p.type n) (references_behind p.type r) z t h))
-    (parameters_own ps (numbers_behind p.type n) (references_behind p.type r)) x s at
+    front_own p.name (parameter_slot p.type n r) (parameter_slots ps (numbers_after p.type n) (references_after p.type r))
+    (λ z t h. first_apart p.type n r (numbers_of ps (numbers_after p.type n)) (references_of ps (references_after p.type r)) t (parameters_between ps (numbers_after p.type n) (references_after p.type r) z t h))
+    (parameters_own ps (numbers_after p.type n) (references_after p.type r)) x s at
 
 class_apart : (n' r' : ℕ) (t : Slot) → Between 0 1 n' r' t → AreApart (record { sort = Ref; index = 0 }) t
 class_apart n' r' t (inl b) = subst (AreApart (record { sort = Ref; index = 0 })) (sym (jint_at t b.0)) (apart_back (record { sort = Jint; index = t.index }) (record { sort = Ref; index = 0 }) (apart_number_reference t.index 0))
@@ -121,7 +121,7 @@ entry_own f x s at =
 entry_between : (f : Function) (x : Identifier) (s : Slot) → lookup x (entry_names f) ≡ Some s → Between 0 0 (numbers_of f.parameters 0) (references_of f.parameters 1) s
 entry_between f x s at =
     let further = counts_grow f.parameters 0 1 in
-    first_or_behind f.class_name x (record { sort = Ref; index = 0 }) s (parameter_slots f.parameters 0 1) (Between 0 0 (numbers_of f.parameters 0) (references_of f.parameters 1) s)
+    first_or_after f.class_name x (record { sort = Ref; index = 0 }) s (parameter_slots f.parameters 0 1) (Between 0 0 (numbers_of f.parameters 0) (references_of f.parameters 1) s)
     (λ same is. subst (Between 0 0 (numbers_of f.parameters 0) (references_of f.parameters 1)) is (inr (refl, omega arith, omega (arith, further.1))))
     (λ other h. earlier 0 0 0 1 (numbers_of f.parameters 0) (references_of f.parameters 1) s (omega arith) (omega arith) (parameters_between f.parameters 0 1 x s h)) at
 

@@ -1,4 +1,4 @@
--- What is known behind some items of a unit that is lowered.
+-- What is known after some items of a unit that is lowered.
 use Rattle.std.proofs.Common.{◌≡◌, ℕ, ◌+◌, ◌<◌, ◌≤◌, ◌||◌, List, [], ◌∷◌, ◌++◌, length, get_or, drop, add-one, drop-cons, map, refl, sym, ap, ◌∙◌, subst, append_assoc}
 use Rattle.std.specs.Prelude.{IsTrue}
 use Rattle.std.proofs.Math.ListN.{drop_of_length-le}
@@ -13,7 +13,7 @@ use Rattle.lower.specs.Coding.{function_code, instruction_limit, has_long}
 use Rattle.lower.specs.Lowered.{IsCodeOf, AreCodesOf}
 use Rattle.lower.proofs.AcceptedFacts.{AllFit}
 
--- these items are left behind these statics, and the functions in front of them have these codes
+-- these items are left after these statics, and the functions in front of them have these codes
 pub record AreLeft (all : List Item) (statics : Known) (rest : List Item) (codes : List Listing) : Type 0 where
   pub fit : AllFit statics rest
   pub lowered : (further : List Listing) → AreCodesOf statics rest further → AreCodesOf [] all (codes ++ further)

@@ -9,7 +9,7 @@ use Rattle.base.specs.Bytes.{Identifier, lookup}
 use Rattle.lower.specs.declared.names.Known.{Known as KnownInMemory}
 use Rattle.types.specs.Sorts.{Sort}
 use Rattle.code.specs.declared.slots.SlotCounts.{SlotCounts}
-use Rattle.lower.specs.Layout.{Slot, Known, Layout, new_slot, slots_behind, with_name}
+use Rattle.lower.specs.Layout.{Slot, Known, Layout, new_slot, slots_after, with_name}
 use Rattle.lower.specs.Names.{slot_view, entry_view, known_behind, latest_of}
 
 -- one name more is the first
@@ -38,6 +38,6 @@ known_behind-length (k ∷ ks) known = let further = known_behind-length ks (ent
 
 -- a name that is declared is the first, with the next slot
 pub declared_names : (statics known : List KnownInMemory) (k : KnownInMemory) (slots slots' : SlotCounts) (x : Identifier) (s : Sort) (l : Layout) → record { known = known_behind known (known_behind statics []); slots = slots } ≡ l → k.name.now ≡ x → slot_view k.slot ≡ new_slot s l
-    → slots' ≡ slots_behind s slots → record { known = known_behind (known ++ k ∷ []) (known_behind statics []); slots = slots' } ≡ with_name x s l
+    → slots' ≡ slots_after s slots → record { known = known_behind (known ++ k ∷ []) (known_behind statics []); slots = slots' } ≡ with_name x s l
 declared_names statics known k slots slots' x s l is name slot taken =
-    rw (known_behind-append known k (known_behind statics []), name, slot, taken) (ap (λ (m : Layout). record { known = (x, new_slot s l) ∷ m.known; slots = slots_behind s m.slots }) is)
+    rw (known_behind-append known k (known_behind statics []), name, slot, taken) (ap (λ (m : Layout). record { known = (x, new_slot s l) ∷ m.known; slots = slots_after s m.slots }) is)

@@ -8,10 +8,10 @@ use Rattle.types.specs.Sorts.{Sort, Word, Jint, Flag, Truth, Ref, Global, FieldI
 use Rattle.types.specs.SortRules.{variable_sort}
 use Rattle.code.specs.declared.slots.SlotCounts.{SlotCounts}
 use Rattle.code.specs.Depth.{Listing}
-use Rattle.lower.specs.Layout.{Slot, Known, Layout, next_index, slots_behind, new_slot, with_name, closed, layout_behind, block_layout}
+use Rattle.lower.specs.Layout.{Slot, Known, Layout, next_index, slots_after, new_slot, with_name, closed, layout_after, block_layout}
 use Rattle.lower.specs.Fits.{IndexWithin, IsPlaceOf, AreApart, IsOwn, IsLaidOut, HasRoomFor, StmtFits}
 use Rattle.lower.specs.Stands.{AreAmong, IsSlotOf}
-use Rattle.lower.proofs.SlotLaws.{first_or_behind, new_among, all_among}
+use Rattle.lower.proofs.SlotLaws.{first_or_after, new_among, all_among}
 
 -- ---- slots grow
 
@@ -35,7 +35,7 @@ more_slots a b c h k = record {
   buffers = omega (arith, h.buffers, k.buffers);
 }
 
-pub slots_grow : (s : Sort) (c : SlotCounts) → AtLeast c (slots_behind s c)
+pub slots_grow : (s : Sort) (c : SlotCounts) → AtLeast c (slots_after s c)
 slots_grow Word c = record { numbers = omega arith; references = omega arith; statics = omega arith; field_ids = omega arith; buffers = omega arith }
 slots_grow Jint c = record { numbers = omega arith; references = omega arith; statics = omega arith; field_ids = omega arith; buffers = omega arith }
 slots_grow Flag c = record { numbers = omega arith; references = omega arith; statics = omega arith; field_ids = omega arith; buffers = omega arith }
@@ -47,7 +47,7 @@ slots_grow (Buffer t w) c = record { numbers = omega arith; references = omega a
 slots_grow (Array t n) c = record { numbers = omega arith; references = omega arith; statics = omega arith; field_ids = omega arith; buffers = omega arith }
 
 mutual
-  pub stmt_grows : (s : Stmt) (l : Layout) → AtLeast l.slots (layout_behind l s).slots
+  pub stmt_grows : (s : Stmt) (l : Layout) → AtLeast l.slots (layout_after l s).slots
   stmt_grows (tree.Declare line t x r) l = slots_grow (variable_sort t) l.slots
   stmt_grows (tree.DeclareBuffer line t x r) l = slots_grow (Buffer t true) l.slots
   stmt_grows (tree.DeclareChars line x r) l = slots_grow (Buffer JChar false) l.slots
@@ -65,7 +65,7 @@ mutual
 
   pub block_grows : (b : Block) (l : Layout) → AtLeast l.slots (block_layout l b).slots
   block_grows (End line) l = same_slots l.slots
-  block_grows (Next s rest) l = more_slots l.slots (layout_behind l s).slots (block_layout (layout_behind l s) rest).slots (stmt_grows s l) (block_grows rest (layout_behind l s))
+  block_grows (Next s rest) l = more_slots l.slots (layout_after l s).slots (block_layout (layout_after l s) rest).slots (stmt_grows s l) (block_grows rest (layout_after l s))
 
 pub room_before : (slots a b : SlotCounts) → AtLeast a b → HasRoomFor slots b → HasRoomFor slots a
 room_before slots a b h k = record {
@@ -103,7 +103,7 @@ SizeFits (Array t n) = (0 < n) × (n ≤ 1024)
 SizeFits Truth = ⊥
 SizeFits s = Unit {0}
 
-new_within : (s : Sort) (c : SlotCounts) → SizeFits s → IndexWithin (slots_behind s c) s (next_index s c)
+new_within : (s : Sort) (c : SlotCounts) → SizeFits s → IndexWithin (slots_after s c) s (next_index s c)
 new_within Word c h = omega arith
 new_within Jint c h = omega arith
 new_within Flag c h = omega arith
@@ -136,7 +136,7 @@ place_below FieldId i c k w h = absurd (omega (arith, h.0, h.1))
 place_below (Buffer t wr) i c k w h = absurd (omega (arith, h.0, h.1))
 place_below (Array t n) i c k w h = omega (arith, w.2, h.0, h.1)
 
--- the slot behind those that are taken is no known name's
+-- the slot after those that are taken is no known name's
 pub free_slot : (known : Known) (slots : SlotCounts) → IsLaidOut known slots → (x : Identifier) (s : Slot) → lookup x known ≡ Some s → IsPlaceOf s slots.numbers → ⊥
 free_slot known slots laid x s at place = let below : slots.numbers < slots.numbers = place_below s.sort s.index slots slots.numbers (laid.within x s at) place in absurd (omega (arith, below))
 
@@ -158,32 +158,32 @@ apart_back s t h = record { numbers = λ k p q. h.numbers k q p; references = λ
 pub new_own : (s : Sort) (l : Layout) (x : Identifier) → IsLaidOut l.known l.slots → IsOwn l.known x (new_slot s l)
 new_own s l x laid y t at other = new_apart s l y t laid at
 
-pub declared_slot : (code : Listing) (s : Sort) (l : Layout) (x : Identifier) → SizeFits s → IsLaidOut l.known l.slots → HasRoomFor code.slots (slots_behind s l.slots) → IsSlotOf code l.known x (new_slot s l)
+pub declared_slot : (code : Listing) (s : Sort) (l : Layout) (x : Identifier) → SizeFits s → IsLaidOut l.known l.slots → HasRoomFor code.slots (slots_after s l.slots) → IsSlotOf code l.known x (new_slot s l)
 declared_slot code s l x size laid room = record {
-  within = index_more (slots_behind s l.slots) code.slots s (next_index s l.slots) (room_at_least code.slots (slots_behind s l.slots) room) (new_within s l.slots size);
+  within = index_more (slots_after s l.slots) code.slots s (next_index s l.slots) (room_at_least code.slots (slots_after s l.slots) room) (new_within s l.slots size);
   own = new_own s l x laid;
 }
 
 pub laid_declared : (s : Sort) (l : Layout) (x : Identifier) → SizeFits s → IsLaidOut l.known l.slots → IsLaidOut (with_name x s l).known (with_name x s l).slots
 laid_declared s l x size laid = record {
   within = λ y t at.
-      first_or_behind x y (new_slot s l) t l.known (IndexWithin (slots_behind s l.slots) t.sort t.index)
-      (λ same is. subst (λ (r : Slot). IndexWithin (slots_behind s l.slots) r.sort r.index) is (new_within s l.slots size))
-      (λ other h. index_more l.slots (slots_behind s l.slots) t.sort t.index (slots_grow s l.slots) (laid.within y t h)) at;
+      first_or_after x y (new_slot s l) t l.known (IndexWithin (slots_after s l.slots) t.sort t.index)
+      (λ same is. subst (λ (r : Slot). IndexWithin (slots_after s l.slots) r.sort r.index) is (new_within s l.slots size))
+      (λ other h. index_more l.slots (slots_after s l.slots) t.sort t.index (slots_grow s l.slots) (laid.within y t h)) at;
   own = λ y t at z u at' other.
-      first_or_behind x y (new_slot s l) t l.known (AreApart u t)
+      first_or_after x y (new_slot s l) t l.known (AreApart u t)
       (λ same is.
-      first_or_behind x z (new_slot s l) u l.known (AreApart u t)
+      first_or_after x z (new_slot s l) u l.known (AreApart u t)
       (λ same' is'. absurd (other (same' ∙ sym same)))
       (λ other' h'. subst (AreApart u) is (new_apart s l z u laid h')) at')
       (λ other' h.
-      first_or_behind x z (new_slot s l) u l.known (AreApart u t)
+      first_or_after x z (new_slot s l) u l.known (AreApart u t)
       (λ same' is'. subst (λ (r : Slot). AreApart r t) is' (apart_back t (new_slot s l) (new_apart s l y t laid h)))
       (λ other'' h'. laid.own y t h z u h' other) at')
       at;
 }
 
--- ---- behind a statement
+-- ---- after a statement
 
 scalar_size : (t : tree.VariableType) → SizeFits (variable_sort t)
 scalar_size tree.UInt32 = tt
@@ -196,20 +196,20 @@ scalar_size (tree.ReferenceVariable r) = tt
 pub variable_size : (t : tree.VariableType) → SizeFits (variable_sort t)
 variable_size t = scalar_size t
 
-pub laid_behind : (s : Stmt) (l : Layout) → StmtFits l s → IsLaidOut l.known l.slots → IsLaidOut (layout_behind l s).known (layout_behind l s).slots
-laid_behind (tree.Declare line t x r) l fits laid = laid_declared (variable_sort t) l x (variable_size t) laid
-laid_behind (tree.DeclareBuffer line t x r) l fits laid = laid_declared (Buffer t true) l x tt laid
-laid_behind (tree.DeclareChars line x r) l fits laid = laid_declared (Buffer JChar false) l x tt laid
-laid_behind (tree.DeclareArray line t x size) l fits laid = laid_declared (Array t size) l x (fits.1, fits.2) laid
-laid_behind (tree.If line test then') l fits laid = laid_more l.known l.slots (block_layout l then').slots (block_grows then' l) laid
-laid_behind (tree.IfElse line test then' else') l fits laid = laid_more l.known l.slots (layout_behind l (tree.IfElse line test then' else')).slots (stmt_grows (tree.IfElse line test then' else') l) laid
-laid_behind (tree.While line test body) l fits laid = laid_more l.known l.slots (block_layout l body).slots (block_grows body l) laid
-laid_behind s l fits laid = laid
+pub laid_after : (s : Stmt) (l : Layout) → StmtFits l s → IsLaidOut l.known l.slots → IsLaidOut (layout_after l s).known (layout_after l s).slots
+laid_after (tree.Declare line t x r) l fits laid = laid_declared (variable_sort t) l x (variable_size t) laid
+laid_after (tree.DeclareBuffer line t x r) l fits laid = laid_declared (Buffer t true) l x tt laid
+laid_after (tree.DeclareChars line x r) l fits laid = laid_declared (Buffer JChar false) l x tt laid
+laid_after (tree.DeclareArray line t x size) l fits laid = laid_declared (Array t size) l x (fits.1, fits.2) laid
+laid_after (tree.If line test then') l fits laid = laid_more l.known l.slots (block_layout l then').slots (block_grows then' l) laid
+laid_after (tree.IfElse line test then' else') l fits laid = laid_more l.known l.slots (layout_after l (tree.IfElse line test then' else')).slots (stmt_grows (tree.IfElse line test then' else') l) laid
+laid_after (tree.While line test body) l fits laid = laid_more l.known l.slots (block_layout l body).slots (block_grows body l) laid
+laid_after s l fits laid = laid
 
--- what was known before a statement is known behind it
-pub known_behind_stmt : (s : Stmt) (l : Layout) → StmtFits l s → AreAmong l.known (layout_behind l s).known
-known_behind_stmt (tree.Declare line t x r) l fits = new_among x (new_slot (variable_sort t) l) l.known fits.0
-known_behind_stmt (tree.DeclareBuffer line t x r) l fits = new_among x (new_slot (Buffer t true) l) l.known fits.0
-known_behind_stmt (tree.DeclareChars line x r) l fits = new_among x (new_slot (Buffer JChar false) l) l.known fits.0
-known_behind_stmt (tree.DeclareArray line t x size) l fits = new_among x (new_slot (Array t size) l) l.known fits.0
-known_behind_stmt s l fits = all_among l.known
+-- what was known before a statement is known after it
+pub known_after_stmt : (s : Stmt) (l : Layout) → StmtFits l s → AreAmong l.known (layout_after l s).known
+known_after_stmt (tree.Declare line t x r) l fits = new_among x (new_slot (variable_sort t) l) l.known fits.0
+known_after_stmt (tree.DeclareBuffer line t x r) l fits = new_among x (new_slot (Buffer t true) l) l.known fits.0
+known_after_stmt (tree.DeclareChars line x r) l fits = new_among x (new_slot (Buffer JChar false) l) l.known fits.0
+known_after_stmt (tree.DeclareArray line t x size) l fits = new_among x (new_slot (Array t size) l) l.known fits.0
+known_after_stmt s l fits = all_among l.known

@@ -11,7 +11,7 @@ use Rattle.syntax.specs.Tree as tree
 use Rattle.syntax.specs.Tree.{ResultType, Stmt, Block, End, Next}
 use Rattle.types.specs.Sorts.{Scope, Buffer, Array}
 use Rattle.types.specs.SortRules.{variable_sort, has_name, places_within, places_of, with_declared}
-use Rattle.lower.specs.Layout.{Slot, Known, Layout, new_slot, layout_behind}
+use Rattle.lower.specs.Layout.{Slot, Known, Layout, new_slot, layout_after}
 use Rattle.lower.proofs.PlaceFacts.{or_left, or_right, AreKept, own_kept, block_kept, ways_kept, inside_kept}
 
 -- a name that isn't taken isn't known
@@ -35,12 +35,12 @@ taken_declared names known x s h y none =
     let both = both_none names (x ∷ []) y none in
     ap (λ b. if b then Some s else lookup y known) (or_left (bytes_eq y x) false both.1) ∙ h y both.0
 
-pub taken_behind : (s : Stmt) (l : Layout) (taken : List Identifier) → AreTaken taken l.known → AreTaken (taken ++ names_declared (statements_within s)) (layout_behind l s).known
-taken_behind (tree.Declare line t x r) l taken h = taken_declared taken l.known x (new_slot (variable_sort t) l) h
-taken_behind (tree.DeclareBuffer line t x r) l taken h = taken_declared taken l.known x (new_slot (Buffer t true) l) h
-taken_behind (tree.DeclareChars line x r) l taken h = taken_declared taken l.known x (new_slot (Buffer JChar false) l) h
-taken_behind (tree.DeclareArray line t x size) l taken h = taken_declared taken l.known x (new_slot (Array t size) l) h
-taken_behind s l taken h = taken_more taken (names_declared (statements_within s)) l.known h
+pub taken_after : (s : Stmt) (l : Layout) (taken : List Identifier) → AreTaken taken l.known → AreTaken (taken ++ names_declared (statements_within s)) (layout_after l s).known
+taken_after (tree.Declare line t x r) l taken h = taken_declared taken l.known x (new_slot (variable_sort t) l) h
+taken_after (tree.DeclareBuffer line t x r) l taken h = taken_declared taken l.known x (new_slot (Buffer t true) l) h
+taken_after (tree.DeclareChars line x r) l taken h = taken_declared taken l.known x (new_slot (Buffer JChar false) l) h
+taken_after (tree.DeclareArray line t x size) l taken h = taken_declared taken l.known x (new_slot (Array t size) l) h
+taken_after s l taken h = taken_more taken (names_declared (statements_within s)) l.known h
 
 pub known_taken : (taken : List Identifier) (known : Known) (x : Identifier) (s : Slot) → AreTaken taken known → lookup x known ≡ Some s → has_name taken x ≡ true
 known_taken taken known x s h at =

@@ -69,37 +69,37 @@ fitting a b c h = absurd (cc)
 abbrev pub statement_place : ResultType → Scope → List Identifier → Stmt → Place
 statement_place returns known taken s = record { line = line_of s; known = known; taken = taken; returns = returns; form = StatementForm s }
 
--- the rules behind others
-abbrev behind_counts : List SortRule
-behind_counts = ReferenceCopied ∷ BadMode ∷ ReadOnlyWrite ∷ []
+-- the rules after others
+abbrev after_counts : List SortRule
+after_counts = ReferenceCopied ∷ BadMode ∷ ReadOnlyWrite ∷ []
 
-abbrev behind_functions : List SortRule
-behind_functions = ArgumentCount ∷ behind_counts
+abbrev after_functions : List SortRule
+after_functions = ArgumentCount ∷ after_counts
 
-abbrev behind_sorts : List SortRule
-behind_sorts = UnknownFunction ∷ behind_functions
+abbrev after_sorts : List SortRule
+after_sorts = UnknownFunction ∷ after_functions
 
-abbrev behind_twice : List SortRule
-behind_twice = SortMisfit ∷ behind_sorts
+abbrev after_twice : List SortRule
+after_twice = SortMisfit ∷ after_sorts
 
-abbrev behind_names : List SortRule
-behind_names = DeclaredTwice ∷ behind_twice
+abbrev after_names : List SortRule
+after_names = DeclaredTwice ∷ after_twice
 
 is_kept : (returns : ResultType) (known : Scope) (taken : List Identifier) (s : Stmt) → broken_at (statement_place returns known taken s) ≡ [] → IsKept known taken returns s
 is_kept returns known taken s none =
     let place = statement_place returns known taken s in
     let p : SortRule → Bool = λ rule. breaks rule place place.form in
-    let names = or_right (p UnknownName) (list_any p behind_names) (none_passes p (line_of s) sort_rules none) in
-    let twice = or_right (p DeclaredTwice) (list_any p behind_twice) names in
-    let sorts = or_right (p SortMisfit) (list_any p behind_sorts) twice in
-    let functions = or_right (p UnknownFunction) (list_any p behind_functions) sorts in
-    let counts = or_right (p ArgumentCount) (list_any p behind_counts) functions in
-    let fit = fitting (list_all (is_formed known) (own_expressions s)) (statement_fits known returns s) (some_passes (λ c. not (call_arguments_fit known c (function_named c.function))) (own_call s)) (or_left (p SortMisfit) (list_any p behind_sorts) twice) in
+    let names = or_right (p UnknownName) (list_any p after_names) (none_passes p (line_of s) sort_rules none) in
+    let twice = or_right (p DeclaredTwice) (list_any p after_twice) names in
+    let sorts = or_right (p SortMisfit) (list_any p after_sorts) twice in
+    let functions = or_right (p UnknownFunction) (list_any p after_functions) sorts in
+    let counts = or_right (p ArgumentCount) (list_any p after_counts) functions in
+    let fit = fitting (list_all (is_formed known) (own_expressions s)) (statement_fits known returns s) (some_passes (λ c. not (call_arguments_fit known c (function_named c.function))) (own_call s)) (or_left (p SortMisfit) (list_any p after_sorts) twice) in
     record {
-      new = or_left (p DeclaredTwice) (list_any p behind_twice) names;
+      new = or_left (p DeclaredTwice) (list_any p after_twice) names;
       fits = fit.0;
       arguments = fit.1;
-      count = or_left (p ArgumentCount) (list_any p behind_counts) functions;
+      count = or_left (p ArgumentCount) (list_any p after_counts) functions;
       uncopied = or_left (p ReferenceCopied) (list_any p (BadMode ∷ ReadOnlyWrite ∷ [])) counts;
     }
 
@@ -141,12 +141,12 @@ own_kept returns known taken s h =
 pub inside_kept : (returns : ResultType) (known : Scope) (taken : List Identifier) (s : Stmt) → AreKept (places_within returns known taken s) → AreKept (places_inside returns known taken s)
 inside_kept returns known taken s h = rest_kept (statement_place returns known taken s) (places_inside returns known taken s) (parts_kept returns known taken s h)
 
--- the first statement of a block, and those behind it
+-- the first statement of a block, and those after it
 pub block_kept : (returns : ResultType) (known : Scope) (taken : List Identifier) (s : Stmt) (rest : Block) → AreKept (places_of returns known taken (Next s rest))
     → AreKept (places_within returns known taken s) × AreKept (places_of returns (with_declared known s) (taken ++ names_declared (statements_within s)) rest)
 block_kept returns known taken s rest h =
-    let behind = places_of returns (with_declared known s) (taken ++ names_declared (statements_within s)) rest in
-    (front_kept (places_within returns known taken s) behind h, back_kept (places_within returns known taken s) behind h)
+    let after = places_of returns (with_declared known s) (taken ++ names_declared (statements_within s)) rest in
+    (front_kept (places_within returns known taken s) after h, back_kept (places_within returns known taken s) after h)
 
 -- both blocks of an if-else
 pub ways_kept : (returns : ResultType) (known : Scope) (taken : List Identifier) (line : ℕ) (test : Test) (then' else' : Block) → AreKept (places_within returns known taken (IfElse line test then' else'))

@@ -16,7 +16,7 @@ use Rattle.code.specs.declared.instr.NullableVariable.{NullableVariable}
 use Rattle.code.specs.declared.instr.NullableVariable.TheVariants as nullable
 use Rattle.code.specs.Depth.{Listing}
 use Rattle.code.specs.Effect.{cleared}
-use Rattle.code.proofs.Arrays.{cleared_element, cleared_before, cleared_behind}
+use Rattle.code.proofs.Arrays.{cleared_element, cleared_before, cleared_after}
 use Rattle.lower.specs.Layout.{Slot, Known}
 use Rattle.lower.specs.Coding.{nullable_of}
 use Rattle.lower.specs.Slots.{word_of, ValueHasSort, IsNumberSort, Visible, IsAsBefore, OthersStay, IsSet, IsNulled, IsMade, IsElementSet, Slots, ShowsNumber, ShowsElement, ShowsSlot, Shows, with_null}
@@ -39,9 +39,9 @@ get-set_other (x ∷ xs) (suc i) (suc j) w other = get-set_other xs i j w (λ e.
 
 -- ---- names
 
--- the name that is looked for is the first, or it stands behind
-pub first_or_behind : (x y : Identifier) (s t : Slot) (known : Known) → (P : Type 0) → (y ≡ x → s ≡ t → P) → (y ≢ x → lookup y known ≡ Some t → P) → lookup y ((x, s) ∷ known) ≡ Some t → P
-first_or_behind x y s t known P here further at =
+-- the name that is looked for is the first, or it stands after
+pub first_or_after : (x y : Identifier) (s t : Slot) (known : Known) → (P : Type 0) → (y ≡ x → s ≡ t → P) → (y ≢ x → lookup y known ≡ Some t → P) → lookup y ((x, s) ∷ known) ≡ Some t → P
+first_or_after x y s t known P here further at =
     elim (bytes_eq y x) as (λ b. bytes_eq y x ≡ b → (if b then Some s else lookup y known) ≡ Some t → P) [
       | true ↦ λ e h. here ((bytes_eq-Decides y x).0 e) cc
       | false ↦ λ e h. further (not_from_Decides (bytes_eq y x) (bytes_eq-Decides y x) e) h
@@ -111,7 +111,7 @@ module _ (code : Listing) (known : Known) (old new : Visible) (slots slots' : Sl
     numbers = numbers ∙ shows.numbers;
     references = references ∙ shows.references;
     each = λ y t at.
-        first_or_behind x y s t known (ShowsSlot new y slots' t t.sort)
+        first_or_after x y s t known (ShowsSlot new y slots' t t.sort)
         (λ same is. subst (λ (z : Identifier). ShowsSlot new z slots' t t.sort) (sym same) (subst (λ (r : Slot). ShowsSlot new x slots' r r.sort) is here))
         (λ other h.
         let apart = own y t h other in
@@ -175,7 +175,7 @@ shows_nulled code known old new slots x kind i variable shows own same set = abs
 
 -- ---- a local array
 
--- a slot that is none of an array's is in front of it or behind it
+-- a slot that is none of an array's is in front of it or after it
 outside_array : (t : ElementType) (size start k : ℕ) → (IsPlaceOf (record { sort = Array t size; index = start }) k → ⊥) → (b : Bool) → nat_lt k start ≡ b → start ≤ k → start + size ≤ k
 outside_array t size start k outside true h above = absurd (let below = ltb-true k start h in omega arith)
 outside_array t size start k outside false h above =
@@ -189,7 +189,7 @@ cleared_outside : (t : ElementType) (size start k : ℕ) (numbers : List ℕ) �
 cleared_outside t size start k numbers inside outside true h = cleared_before (record { start = start; len = size }) numbers inside k (ltb-true k start h)
 cleared_outside t size start k numbers inside outside false h =
     let above : start ≤ k = ltb-false k start h in
-    cleared_behind (record { start = start; len = size }) numbers inside k (outside_array t size start k outside false h above)
+    cleared_after (record { start = start; len = size }) numbers inside k (outside_array t size start k outside false h above)
 
 pub shows_made : (code : Listing) (known : Known) (old new : Visible) (slots : Slots) (t : ElementType) (x : Identifier) (size start : ℕ) → Shows code known old slots → IsSlotOf code known x (record { sort = Array t size; index = start })
     → length (cleared (record { start = start; len = size }) slots.numbers) ≡ length slots.numbers → IsMade old t x size new

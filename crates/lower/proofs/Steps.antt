@@ -55,21 +55,21 @@ at_way P place (plain.Trap t line) skipped h k = absurd h
 module _ (code : Listing) (known : Known) (place : ℕ) (stack : List ℕ) (slots : Slots) (visible : Visible) (shows : Shows code known visible slots) where
   -- ---- a step inside an expression
 
-  -- The expression is on the stack in front of `base`, and its instructions stand in front of `behind`.
-  module _ (line : ℕ) (t : Term) (s : Sort) (base : List ℕ) (behind : List Instr) (task : Term → Task) (rest : List Task) where
+  -- The expression is on the stack in front of `base`, and its instructions stand in front of `after`.
+  module _ (line : ℕ) (t : Term) (s : Sort) (base : List ℕ) (rest_of : List Instr) (task : Term → Task) (rest : List Task) where
     -- what stands at the place that a step leads to
     abbrev Further : Type 0
     Further =
-        (p : ℕ) (u : Term) → TermHasSort known u s → IsBegun u → HasAt code.instrs p (term_code known line u ++ behind) → p + length (term_code known line u) ≡ place + length (term_code known line t)
+        (p : ℕ) (u : Term) → TermHasSort known u s → IsBegun u → HasAt code.instrs p (term_code known line u ++ rest_of) → p + length (term_code known line u) ≡ place + length (term_code known line t)
         → TasksStand code known p (held u ++ base) (task u ∷ rest)
 
-    outcome_does : (here : Instr) (more : List Instr) → term_code known line t ≡ here ∷ more → stack ≡ held t ++ base → HasAt code.instrs place (term_code known line t ++ behind) → ((u : Term) → IsTrue (list_any task_returns (task u ∷ rest))) → Further
+    outcome_does : (here : Instr) (more : List Instr) → term_code known line t ≡ here ∷ more → stack ≡ held t ++ base → HasAt code.instrs place (term_code known line t ++ rest_of) → ((u : Term) → IsTrue (list_any task_returns (task u ∷ rest))) → Further
         → TermGoes known line slots visible t s here more ⊎ TermTraps known line slots visible t here → DoesEffect code known place stack slots visible rest (goes_on line task (reduce visible.sight t))
     outcome_does here more is operands at returns further (inl g) =
-        let whole : HasAt code.instrs place ((here ∷ more) ++ behind) = subst (λ c. HasAt code.instrs place (c ++ behind)) is at in
-        let cut : HasAt code.instrs (place + 1) ((g.skipped ++ term_code known line g.next) ++ behind) = subst (λ c. HasAt code.instrs (place + 1) (c ++ behind)) g.code whole.1 in
-        let moved : HasAt code.instrs (place + 1) (g.skipped ++ (term_code known line g.next ++ behind)) = subst (HasAt code.instrs (place + 1)) (append_assoc g.skipped (term_code known line g.next) behind) cut in
-        let there = has_back code.instrs (place + 1) g.skipped (term_code known line g.next ++ behind) moved in
+        let whole : HasAt code.instrs place ((here ∷ more) ++ rest_of) = subst (λ c. HasAt code.instrs place (c ++ rest_of)) is at in
+        let cut : HasAt code.instrs (place + 1) ((g.skipped ++ term_code known line g.next) ++ rest_of) = subst (λ c. HasAt code.instrs (place + 1) (c ++ rest_of)) g.code whole.1 in
+        let moved : HasAt code.instrs (place + 1) (g.skipped ++ (term_code known line g.next ++ rest_of)) = subst (HasAt code.instrs (place + 1)) (append_assoc g.skipped (term_code known line g.next) rest_of) cut in
+        let there = has_back code.instrs (place + 1) g.skipped (term_code known line g.next ++ rest_of) moved in
         let size : place + 1 + length g.skipped + length (term_code known line g.next) ≡ place + length (term_code known line t) = omega (arith, ap length is, ap length g.code, length-append g.skipped (term_code known line g.next)) in
         subst (λ r. DoesEffect code known place stack slots visible rest (goes_on line task r)) (sym g.is) (record {
           here = here;
@@ -82,7 +82,7 @@ module _ (code : Listing) (known : Known) (place : ℕ) (stack : List ℕ) (slot
           stands = at_way (λ p. StandsFor code known p (held g.next ++ base) (task g.next ∷ rest)) place g.way g.skipped g.leads (record { stand = further (place + 1 + length g.skipped) g.next g.sort g.begun there size; returns = returns g.next });
         })
     outcome_does here more is operands at returns further (inr g) =
-        let whole : HasAt code.instrs place ((here ∷ more) ++ behind) = subst (λ c. HasAt code.instrs place (c ++ behind)) is at in
+        let whole : HasAt code.instrs place ((here ∷ more) ++ rest_of) = subst (λ c. HasAt code.instrs place (c ++ rest_of)) is at in
         subst (λ r. DoesEffect code known place stack slots visible rest (goes_on line task r)) (sym g.is) (record {
           here = here;
           trap = g.trap;
@@ -91,7 +91,7 @@ module _ (code : Listing) (known : Known) (place : ℕ) (stack : List ℕ) (slot
           plain = subst (λ a. plain_of here a slots.numbers ≡ Some (plain.Trap g.trap line, a, slots.numbers)) (sym operands) (g.plain base);
         })
 
-    pub step_inside : IsOpen t → TermHasSort known t s → IsBegun t → stack ≡ held t ++ base → HasAt code.instrs place (term_code known line t ++ behind) → ((u : Term) → IsTrue (list_any task_returns (task u ∷ rest))) → Further
+    pub step_inside : IsOpen t → TermHasSort known t s → IsBegun t → stack ≡ held t ++ base → HasAt code.instrs place (term_code known line t ++ rest_of) → ((u : Term) → IsTrue (list_any task_returns (task u ∷ rest))) → Further
         → DoesEffect code known place stack slots visible rest (goes_on line task (reduce visible.sight t))
     step_inside o sorted begun operands at returns further =
         let st = steps_term known line slots visible shows.each t s o sorted begun in

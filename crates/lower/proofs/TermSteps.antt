@@ -154,7 +154,7 @@ positive (suc n) h = omega arith
 
 -- A term in a statement on this line, where these names are known and the slots show what can be seen.
 module _ (known : Known) (line : ℕ) (slots : Slots) (visible : Visible) where
-  -- the instruction does what the term's step does; `more` stands behind it
+  -- the instruction does what the term's step does; `more` stands after it
   pub record TermGoes (t : Term) (s : Sort) (here : Instr) (more : List Instr) : Type 0 where
     pub next : Term
     pub is : reduce visible.sight t ≡ Gives next
@@ -300,7 +300,7 @@ module _ (known : Known) (line : ℕ) (slots : Slots) (visible : Visible) where
     begins = λ w g. g;
   }
 
-  -- ---- `&&` and `||` behind their left side
+  -- ---- `&&` and `||` after their left side
 
   goes_right : (t b : Term) (s : Sort) (here : Instr) → term_code known line t ≡ here ∷ term_code known line b → reduce visible.sight t ≡ Gives b
       → ((stack : List ℕ) → Works slots here (held t ++ stack) plain.Next stack) → IsUntouched b → TermHasSort known b s → StepsTerm t s
@@ -344,15 +344,15 @@ module _ (known : Known) (line : ℕ) (slots : Slots) (visible : Visible) where
   and_step b s (Word n) h k e u = absurd (let c : sort.Truth ≡ sort.Word = h.1 in cc)
   and_step b s (Int z) h k e u = absurd (let c : sort.Truth ≡ Jint = h.1 in cc)
   and_step b s (Flag q) h k e u = absurd (let c : sort.Truth ≡ sort.Flag = h in cc)
-  and_step b s (Truth true) h k e u = goes_right (And (Done (Truth true)) b) b s (instr.SkipUnless (length (term_code known line b))) refl refl (λ stack. refl) u (subst (TermHasSort known b) (sym e) k)
-  and_step b s (Truth false) h k e u = skips_right (And (Done (Truth false)) b) b (Truth false) s (instr.SkipUnless (length (term_code known line b))) refl refl (λ stack. refl) e
+  and_step b s (Truth true) h k e u = goes_right (And (Done (Truth true)) b) b s (instr.JumpIfFalseOrPop (length (term_code known line b))) refl refl (λ stack. refl) u (subst (TermHasSort known b) (sym e) k)
+  and_step b s (Truth false) h k e u = skips_right (And (Done (Truth false)) b) b (Truth false) s (instr.JumpIfFalseOrPop (length (term_code known line b))) refl refl (λ stack. refl) e
 
   or_step : (b : Term) (s : Sort) (v : Value) → ValueHasSort v sort.Truth → TermHasSort known b sort.Truth → s ≡ sort.Truth → IsUntouched b → StepsTerm (Or (Done v) b) s
   or_step b s (Word n) h k e u = absurd (let c : sort.Truth ≡ sort.Word = h.1 in cc)
   or_step b s (Int z) h k e u = absurd (let c : sort.Truth ≡ Jint = h.1 in cc)
   or_step b s (Flag q) h k e u = absurd (let c : sort.Truth ≡ sort.Flag = h in cc)
-  or_step b s (Truth true) h k e u = skips_right (Or (Done (Truth true)) b) b (Truth true) s (instr.SkipIf (length (term_code known line b))) refl refl (λ stack. refl) e
-  or_step b s (Truth false) h k e u = goes_right (Or (Done (Truth false)) b) b s (instr.SkipIf (length (term_code known line b))) refl refl (λ stack. refl) u (subst (TermHasSort known b) (sym e) k)
+  or_step b s (Truth true) h k e u = skips_right (Or (Done (Truth true)) b) b (Truth true) s (instr.JumpIfTrueOrPop (length (term_code known line b))) refl refl (λ stack. refl) e
+  or_step b s (Truth false) h k e u = goes_right (Or (Done (Truth false)) b) b s (instr.JumpIfTrueOrPop (length (term_code known line b))) refl refl (λ stack. refl) u (subst (TermHasSort known b) (sym e) k)
 
   -- ---- operators on values
 

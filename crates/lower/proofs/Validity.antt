@@ -14,7 +14,7 @@ use Rattle.code.specs.Depth.{depth_after}
 use Rattle.code.proofs.Pieces.{IsPiece, piece_none, piece_append, piece_one, piece_and, piece_or, piece_if, piece_end, piece_loop}
 use Rattle.regions.specs.Term as term
 use Rattle.regions.specs.Term.{Term, Done, Read, IsNull, Prefix, And, Or, Binary, term_of}
-use Rattle.lower.specs.Layout.{Slot, Known, Layout, new_slot, closed, layout_behind, block_layout}
+use Rattle.lower.specs.Layout.{Slot, Known, Layout, new_slot, closed, layout_after, block_layout}
 use Rattle.lower.specs.Coding.{nullable_of, test_of, null_code, element_of, element_code, write_code, of_slot, load_code, prefix_code, operator_code, is_signed, skip_code, term_code, expr_code, call_code, value_code, right_code, assign_code, returned_code, return_code, test_code, ways_code, if_code, stmt_code, block_code}
 use Rattle.lower.specs.Fits.{IsNullable, TermHasSort, IsUntouched, term_height, NumberFits, ArgumentsFit, ValueFits, RightFits, TestFits, ReturnFits, StmtFits, BlockFits}
 use Rattle.lower.proofs.Bodies.{value_is}
@@ -144,7 +144,7 @@ test_piece known line (TestCall c) fits = absurd fits
 
 if_piece : (known : Known) (line : ℕ) (test : Test) (then' else' : List Instr) → TestFits known test → IsPiece then' 0 0 → IsPiece else' 0 0 → IsPiece (if_code known line test then' else') 0 0
 if_piece known line test then' else' fits h k =
-    piece_append (test_code known line test) (ways_code then' (else' ++ instr.GoOn 0 ∷ [])) 0 1 0 (test_piece known line test fits) (piece_if then' (else' ++ instr.GoOn 0 ∷ []) h (piece_append else' (instr.GoOn 0 ∷ []) 0 0 0 k piece_end))
+    piece_append (test_code known line test) (ways_code then' (else' ++ instr.Jump 0 ∷ [])) 0 1 0 (test_piece known line test fits) (piece_if then' (else' ++ instr.Jump 0 ∷ []) h (piece_append else' (instr.Jump 0 ∷ []) 0 0 0 k piece_end))
 
 write_piece : (l : Layout) (line : ℕ) (x : Identifier) (i e : Expr) → StmtFits l (tree.AssignElement line x i e) → IsPiece (stmt_code l (tree.AssignElement line x i e)) 0 0
 write_piece l line x i e fits =
@@ -173,4 +173,4 @@ mutual
 
   pub block_piece : (b : Block) (l : Layout) → BlockFits l b → IsPiece (block_code l b) 0 0
   block_piece (End line) l fits = piece_none 0
-  block_piece (Next s rest) l fits = piece_append (stmt_code l s) (block_code (layout_behind l s) rest) 0 0 0 (stmt_piece s l fits.0) (block_piece rest (layout_behind l s) fits.1)
+  block_piece (Next s rest) l fits = piece_append (stmt_code l s) (block_code (layout_after l s) rest) 0 0 0 (stmt_piece s l fits.0) (block_piece rest (layout_after l s) fits.1)

@@ -55,7 +55,7 @@ any_right : (a b : List Task) → list_any task_returns b ≡ true → list_any 
 any_right [] b h = h
 any_right (t ∷ a) b h = or_true (task_returns t) (list_any task_returns (a ++ b)) (any_right a b h)
 
--- the way of a branch that is taken, and what is to do behind it
+-- the way of a branch that is taken, and what is to do after it
 way_or_rest : (b : Block) (rest : List Task) → (block_returns b ≡ true) ⊎ (list_any task_returns rest ≡ true) → list_any task_returns (tasks_of b ++ rest) ≡ true
 way_or_rest b rest (inl h) = any_left (tasks_of b) rest (block_tasks_return b h)
 way_or_rest b rest (inr h) = any_right (tasks_of b) rest h
@@ -73,12 +73,12 @@ either_rest : (b : Block) (rest rest' : List Task) → (list_any task_returns re
 either_rest b rest rest' f (inl h) = way_or_rest b rest' (inl h)
 either_rest b rest rest' f (inr h) = way_or_rest b rest' (inr (f h))
 
--- `rest'` is `rest` behind the end of the `if`
+-- `rest'` is `rest` after the end of the `if`
 pub then_returns : (a b : Block) (rest rest' : List Task) → (list_any task_returns rest ≡ true → list_any task_returns rest' ≡ true) → ((block_returns a && block_returns b) || list_any task_returns rest) ≡ true → list_any task_returns (tasks_of a ++ rest') ≡ true
 then_returns a b rest rest' f h = either_rest a rest rest' f (first_of (block_returns a) (block_returns b) (list_any task_returns rest) h)
 
 pub else_returns : (a b : Block) (rest rest' : List Task) → (list_any task_returns rest ≡ true → list_any task_returns rest' ≡ true) → ((block_returns a && block_returns b) || list_any task_returns rest) ≡ true → list_any task_returns (tasks_of b ++ rest') ≡ true
 else_returns a b rest rest' f h = either_rest b rest rest' f (second_of (block_returns a) (block_returns b) (list_any task_returns rest) h)
 
-pub any_behind : (b : Block) (rest : List Task) → list_any task_returns rest ≡ true → list_any task_returns (tasks_of b ++ rest) ≡ true
-any_behind b rest h = any_right (tasks_of b) rest h
+pub any_after : (b : Block) (rest : List Task) → list_any task_returns rest ≡ true → list_any task_returns (tasks_of b ++ rest) ≡ true
+any_after b rest h = any_right (tasks_of b) rest h

@@ -16,12 +16,12 @@ use Rattle.code.specs.declared.slots.SlotCounts.{SlotCounts}
 use Rattle.code.specs.Depth.{operand_within, within_slots}
 use Rattle.regions.specs.Term as term
 use Rattle.regions.specs.Term.{Term, Done, Read, IsNull, Prefix, And, Or, Binary, term_of}
-use Rattle.lower.specs.Layout.{Slot, Known, Layout, next_index, slots_behind, new_slot, closed, layout_behind, block_layout}
+use Rattle.lower.specs.Layout.{Slot, Known, Layout, next_index, slots_after, new_slot, closed, layout_after, block_layout}
 use Rattle.lower.specs.Coding.{nullable_of, test_of, null_code, element_code, write_code, of_slot, load_code, prefix_code, operator_code, is_signed, skip_code, term_code, expr_code, operand_of, operand_code, call_code, value_code, right_code, assign_code, returned_code, return_code, test_code, ways_code, turn_code, if_code, stmt_code, block_code}
 use Rattle.lower.specs.Fits.{IsNullable, TermHasSort, NumberFits, IndexWithin, IsLaidOut, HasRoomFor, ReferenceFits, ArgumentsFit, ValueFits, RightFits, TestFits, ReturnFits, StmtFits, BlockFits}
 use Rattle.lower.specs.Slots.{IsNumberSort}
 use Rattle.lower.proofs.Bodies.{value_is}
-use Rattle.lower.proofs.Layouts.{SizeFits, index_more, room_before, room_at_least, declared_slot, laid_behind, laid_more, variable_size, block_grows, stmt_grows}
+use Rattle.lower.proofs.Layouts.{SizeFits, index_more, room_before, room_at_least, declared_slot, laid_after, laid_more, variable_size, block_grows, stmt_grows}
 
 -- ---- instructions in these slots
 
@@ -166,10 +166,10 @@ module _ (slots : SlotCounts) where
 
   if_within : (known : Known) (line : ℕ) (test : Test) (then' else' : List Instr) → AllThere known → TestFits known test → AllWithin then' → AllWithin else' → AllWithin (if_code known line test then' else')
   if_within known line test then' else' all fits h k =
-      let second = both_within else' (instr.GoOn 0 ∷ []) k refl in
-      both_within (test_code known line test) (ways_code then' (else' ++ instr.GoOn 0 ∷ [])) (test_within known line test all fits)
-      (cons_within (instr.JumpUnless (length then' + 1)) (then' ++ instr.GoOn (length (else' ++ instr.GoOn 0 ∷ [])) ∷ (else' ++ instr.GoOn 0 ∷ [])) refl
-      (both_within then' (instr.GoOn (length (else' ++ instr.GoOn 0 ∷ [])) ∷ (else' ++ instr.GoOn 0 ∷ [])) h (cons_within (instr.GoOn (length (else' ++ instr.GoOn 0 ∷ []))) (else' ++ instr.GoOn 0 ∷ []) refl second)))
+      let second = both_within else' (instr.Jump 0 ∷ []) k refl in
+      both_within (test_code known line test) (ways_code then' (else' ++ instr.Jump 0 ∷ [])) (test_within known line test all fits)
+      (cons_within (instr.JumpIfFalse (length then' + 1)) (then' ++ instr.Jump (length (else' ++ instr.Jump 0 ∷ [])) ∷ (else' ++ instr.Jump 0 ∷ [])) refl
+      (both_within then' (instr.Jump (length (else' ++ instr.Jump 0 ∷ [])) ∷ (else' ++ instr.Jump 0 ∷ [])) h (cons_within (instr.Jump (length (else' ++ instr.Jump 0 ∷ []))) (else' ++ instr.Jump 0 ∷ []) refl second)))
 
   array_there : (known : Known) (x : Identifier) (t : _) (n i : ℕ) → AllThere known → lookup x known ≡ Some (record { sort = Array t n; index = i }) → IndexWithin slots (Array t n) i
   array_there known x t n i all found = all x (record { sort = Array t n; index = i }) found
@@ -183,14 +183,14 @@ module _ (slots : SlotCounts) where
       (subst AllWithin (sym (ap (of_slot (write_code line)) array.3)) (rw (lt-ltb 0 array.1 there.0, le-leb array.1 1024 there.1, le-leb (array.2 + array.1) slots.numbers there.2) refl)))
 
   -- the new slot of a declaration is there
-  new_there : (s : Sort) (l : Layout) (x : Identifier) → SizeFits s → IsLaidOut l.known l.slots → HasRoomFor slots (slots_behind s l.slots) → IndexWithin slots s (next_index s l.slots)
+  new_there : (s : Sort) (l : Layout) (x : Identifier) → SizeFits s → IsLaidOut l.known l.slots → HasRoomFor slots (slots_after s l.slots) → IndexWithin slots s (next_index s l.slots)
   new_there s l x size laid room = (declared_slot (record { instrs = []; slots = slots }) s l x size laid room).within
 
   all_there : (l : Layout) → IsLaidOut l.known l.slots → HasRoomFor slots l.slots → AllThere l.known
   all_there l laid room x s at = index_more l.slots slots s.sort s.index (room_at_least slots l.slots room) (laid.within x s at)
 
   mutual
-    stmt_within : (s : Stmt) (l : Layout) → StmtFits l s → IsLaidOut l.known l.slots → HasRoomFor slots (layout_behind l s).slots → AllThere l.known → AllWithin (stmt_code l s)
+    stmt_within : (s : Stmt) (l : Layout) → StmtFits l s → IsLaidOut l.known l.slots → HasRoomFor slots (layout_after l s).slots → AllThere l.known → AllWithin (stmt_code l s)
     stmt_within (tree.Declare line t x r) l fits laid room all = right_within l.known line (new_slot (variable_sort t) l) r all (new_there (variable_sort t) l x (variable_size t) laid room) fits.1
     stmt_within (tree.DeclareBuffer line t x r) l fits laid room all = right_within l.known line (new_slot (Buffer t true) l) r all (new_there (Buffer t true) l x tt laid room) fits.1
     stmt_within (tree.DeclareChars line x r) l fits laid room all = right_within l.known line (new_slot (Buffer JChar false) l) r all (new_there (Buffer JChar false) l x tt laid room) fits.1
@@ -210,16 +210,16 @@ module _ (slots : SlotCounts) where
     stmt_within (tree.While line test body) l fits laid room all =
         let T = expr_code l.known line test in
         let B = block_code l body in
-        let back = instr.GoBack (length T + 1 + length B) in
+        let back = instr.JumpBack (length T + 1 + length B) in
         both_within T (turn_code T B) (term_within l.known line (term_of test) sort.Truth all fits.0.sort)
-        (cons_within (instr.JumpUnless (length B + 1)) (B ++ back ∷ []) refl (both_within B (back ∷ []) (block_within body l fits.1 laid room) refl))
+        (cons_within (instr.JumpIfFalse (length B + 1)) (B ++ back ∷ []) refl (both_within B (back ∷ []) (block_within body l fits.1 laid room) refl))
     stmt_within (tree.Return line) l fits laid room all = refl
     stmt_within (tree.ReturnValue line e) l fits laid room all = return_within l.known line (term_of e) all fits
 
     pub block_within : (b : Block) (l : Layout) → BlockFits l b → IsLaidOut l.known l.slots → HasRoomFor slots (block_layout l b).slots → AllWithin (block_code l b)
     block_within (End line) l fits laid room = refl
     block_within (Next s rest) l fits laid room =
-        let next = layout_behind l s in
+        let next = layout_after l s in
         let enough = room_before slots next.slots (block_layout next rest).slots (block_grows rest next) room in
         let before = room_before slots l.slots next.slots (stmt_grows s l) enough in
-        both_within (stmt_code l s) (block_code next rest) (stmt_within s l fits.0 laid enough (all_there l laid before)) (block_within rest next fits.1 (laid_behind s l fits.0 laid) room)
+        both_within (stmt_code l s) (block_code next rest) (stmt_within s l fits.0 laid enough (all_there l laid before)) (block_within rest next fits.1 (laid_after s l fits.0 laid) room)

@@ -19,12 +19,12 @@ use Rattle.code.specs.declared.instr.ReferenceOperand.{ReferenceOperand}
 use Rattle.code.specs.declared.instr.ReferenceOperand.TheVariants.{Null, Local}
 use Rattle.code.specs.declared.instr.Target.TheVariants.{Number}
 use Rattle.code.specs.declared.instr.Instr.{Instr}
-use Rattle.code.specs.declared.instr.Instr.TheVariants.{Push, Load, Store, Convert, Operate, OperateOrTrap, SkipUnless, SkipIf, JumpUnless, GoOn, GoBack, LoadElement, StoreElement, ClearArray, TestNull, StoreNull, PutJint, Call, Return, ReturnJint, ReturnReference}
+use Rattle.code.specs.declared.instr.Instr.TheVariants.{Push, Load, Store, Convert, Operate, OperateOrTrap, JumpIfFalseOrPop, JumpIfTrueOrPop, JumpIfFalse, Jump, JumpBack, LoadElement, StoreElement, ClearArray, TestNull, StoreNull, PutJint, Call, Return, ReturnJint, ReturnReference}
 use Rattle.code.specs.declared.instr.Instr.TheVariants as instr
 use Rattle.regions.specs.Term as term
 use Rattle.regions.specs.Term.{Term, Done, Read, And, Or, IsNull, Prefix, Binary, term_of}
 use Rattle.regions.specs.Value.{Int}
-use Rattle.lower.specs.Layout.{Slot, Known, Layout, new_slot, with_static, entry_layout, closed, layout_behind, block_layout}
+use Rattle.lower.specs.Layout.{Slot, Known, Layout, new_slot, with_static, entry_layout, closed, layout_after, block_layout}
 
 -- ---- variables
 
@@ -85,14 +85,14 @@ constant_code tree.True = Push 1 ∷ []
 constant_code tree.False = Push 0 ∷ []
 constant_code c = []
 
--- a prefix operator behind its operand
+-- a prefix operator after its operand
 abbrev pub prefix_code : PrefixOp → Instr
 prefix_code LogicalNot = instr.Not
 prefix_code Complement = instr.Complement
 prefix_code ToWord = Convert
 prefix_code ToInt = Convert
 
--- An operator behind its operands, which are `jint`s where it says so. `&&` and `||` have instructions of their own,
+-- An operator after its operands, which are `jint`s where it says so. `&&` and `||` have instructions of their own,
 -- between their operands.
 abbrev pub operator_code : (line : ℕ) (signed : Bool) → BinaryOp → Instr
 operator_code line signed LogicalOr = Operate operator.Or
@@ -129,8 +129,8 @@ is_signed known t = false
 
 -- the jump over the right side of `&&`, or else of `||`
 abbrev pub skip_code : (and' : Bool) → ℕ → Instr
-skip_code true n = SkipUnless n
-skip_code false n = SkipIf n
+skip_code true n = JumpIfFalseOrPop n
+skip_code false n = JumpIfTrueOrPop n
 
 -- `&&` or `||` with the code of its sides
 abbrev pub logical_code : (and' : Bool) → (left right : List Instr) → List Instr
@@ -203,17 +203,17 @@ return_code known line (term.Named tree.Null) = ReturnReference Null ∷ []
 return_code known line (Read x) = of_slot returned_code (lookup x known)
 return_code known line t = term_code known line t ++ ReturnJint ∷ []
 
--- the two ways of an `if` behind its test, of which each ends by a jump
+-- the two ways of an `if` after its test, of which each ends by a jump
 abbrev pub ways_code : (then' else' : List Instr) → List Instr
-ways_code then' else' = JumpUnless (length then' + 1) ∷ (then' ++ GoOn (length else') ∷ else')
+ways_code then' else' = JumpIfFalse (length then' + 1) ∷ (then' ++ Jump (length else') ∷ else')
 
 -- an `if` up to the end of its first way, where it isn't known how far the jump there leads
 abbrev pub first_code : (test then' : List Instr) → List Instr
-first_code test then' = test ++ JumpUnless (length then' + 1) ∷ (then' ++ GoOn 0 ∷ [])
+first_code test then' = test ++ JumpIfFalse (length then' + 1) ∷ (then' ++ Jump 0 ∷ [])
 
--- a turn of a loop behind its test, and the way back
+-- a turn of a loop after its test, and the way back
 abbrev pub turn_code : (test body : List Instr) → List Instr
-turn_code test body = JumpUnless (length body + 1) ∷ (body ++ GoBack (length test + 1 + length body) ∷ [])
+turn_code test body = JumpIfFalse (length body + 1) ∷ (body ++ JumpBack (length test + 1 + length body) ∷ [])
 
 -- a loop with the code of its test and its body
 abbrev pub loop_code : (test body : List Instr) → List Instr
@@ -226,7 +226,7 @@ test_code known line (TestCall c) = []
 
 -- an `if` with the code of its ways
 abbrev pub if_code : Known → (line : ℕ) → Test → (then' else' : List Instr) → List Instr
-if_code known line test then' else' = test_code known line test ++ ways_code then' (else' ++ GoOn 0 ∷ [])
+if_code known line test then' else' = test_code known line test ++ ways_code then' (else' ++ Jump 0 ∷ [])
 
 abbrev mutual
   -- a statement
@@ -248,15 +248,15 @@ abbrev mutual
   -- the statements of a block
   pub block_code : Layout → Block → List Instr
   block_code l (End line) = []
-  block_code l (Next s rest) = stmt_code l s ++ block_code (layout_behind l s) rest
+  block_code l (Next s rest) = stmt_code l s ++ block_code (layout_after l s) rest
 
--- A function, behind these statics. The last instruction is for jumps to the end of the body.
+-- A function, after these statics. The last instruction is for jumps to the end of the body.
 abbrev pub function_code : (statics : Known) → Function → List Instr
 function_code statics f = block_code (entry_layout statics f) f.body ++ Return ∷ []
 
 -- ---- the limit
 
--- how many instructions a function may have: 65,535 for steps of the source, and the return behind them
+-- how many instructions a function may have: 65,535 for steps of the source, and the return after them
 abbrev pub instruction_limit : ℕ
 instruction_limit = 65536
 

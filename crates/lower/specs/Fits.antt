@@ -11,7 +11,7 @@ use Rattle.types.specs.SortRules.{variable_sort}
 use Rattle.code.specs.declared.slots.SlotCounts.{SlotCounts}
 use Rattle.regions.specs.Term as term
 use Rattle.regions.specs.Term.{Term, Done, Read, And, Or, IsNull, Prefix, Binary, term_of}
-use Rattle.lower.specs.Layout.{Slot, Known, Layout, width, closed, layout_behind, block_layout, entry_layout}
+use Rattle.lower.specs.Layout.{Slot, Known, Layout, width, closed, layout_after, block_layout, entry_layout}
 use Rattle.lower.specs.Slots.{ValueHasSort, IsNumberSort}
 
 -- ---- terms
@@ -198,8 +198,8 @@ abbrev mutual
   -- the statements of a block
   pub BlockFits : Layout → Block → Type 0
   BlockFits l (End line) = Unit {0}
-  BlockFits l (Next s rest) = StmtFits l s × BlockFits (layout_behind l s) rest
+  BlockFits l (Next s rest) = StmtFits l s × BlockFits (layout_after l s) rest
 
--- a function behind these statics
+-- a function after these statics
 abbrev pub FunctionFits : (statics : Known) → Function → Type 0
 FunctionFits statics f = BlockFits (entry_layout statics f) f.body

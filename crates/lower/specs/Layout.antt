@@ -41,12 +41,12 @@ next_index (Buffer t writable) slots = slots.buffers
 next_index s slots = slots.numbers
 
 -- the slots with those of one variable more
-abbrev pub slots_behind : Sort → SlotCounts → SlotCounts
-slots_behind Ref slots = record slots { references = slots.references + 1 }
-slots_behind Global slots = record slots { statics = slots.statics + 1 }
-slots_behind FieldId slots = record slots { field_ids = slots.field_ids + 1 }
-slots_behind (Buffer t writable) slots = record slots { buffers = slots.buffers + 1 }
-slots_behind s slots = record slots { numbers = slots.numbers + width s }
+abbrev pub slots_after : Sort → SlotCounts → SlotCounts
+slots_after Ref slots = record slots { references = slots.references + 1 }
+slots_after Global slots = record slots { statics = slots.statics + 1 }
+slots_after FieldId slots = record slots { field_ids = slots.field_ids + 1 }
+slots_after (Buffer t writable) slots = record slots { buffers = slots.buffers + 1 }
+slots_after s slots = record slots { numbers = slots.numbers + width s }
 
 -- the slot of a name that is declared next
 abbrev pub new_slot : Sort → Layout → Slot
@@ -54,7 +54,7 @@ new_slot s l = record { sort = s; index = next_index s l.slots }
 
 -- one name more
 abbrev pub with_name : Identifier → Sort → Layout → Layout
-with_name x s l = record { known = (x, new_slot s l) ∷ l.known; slots = slots_behind s l.slots }
+with_name x s l = record { known = (x, new_slot s l) ∷ l.known; slots = slots_after s l.slots }
 
 -- ---- the entry
 
@@ -67,64 +67,64 @@ abbrev pub parameter_slot : ParameterType → (numbers references : ℕ) → Slo
 parameter_slot IntParameter n r = record { sort = Jint; index = n }
 parameter_slot (ReferenceParameter type) n r = record { sort = Ref; index = r }
 
--- how many number slots are taken behind a parameter
-abbrev pub numbers_behind : ParameterType → ℕ → ℕ
-numbers_behind IntParameter n = n + 1
-numbers_behind (ReferenceParameter type) n = n
+-- how many number slots are taken after a parameter
+abbrev pub numbers_after : ParameterType → ℕ → ℕ
+numbers_after IntParameter n = n + 1
+numbers_after (ReferenceParameter type) n = n
 
--- how many slots of references are taken behind a parameter
-abbrev pub references_behind : ParameterType → ℕ → ℕ
-references_behind IntParameter r = r
-references_behind (ReferenceParameter type) r = r + 1
+-- how many slots of references are taken after a parameter
+abbrev pub references_after : ParameterType → ℕ → ℕ
+references_after IntParameter r = r
+references_after (ReferenceParameter type) r = r + 1
 
 -- the slots of parameters, each kind in their order
 abbrev pub parameter_slots : List Parameter → (numbers references : ℕ) → Known
 parameter_slots [] n r = []
-parameter_slots (p ∷ rest) n r = (p.name, parameter_slot p.type n r) ∷ parameter_slots rest (numbers_behind p.type n) (references_behind p.type r)
+parameter_slots (p ∷ rest) n r = (p.name, parameter_slot p.type n r) ∷ parameter_slots rest (numbers_after p.type n) (references_after p.type r)
 
--- how many number slots are taken behind parameters
+-- how many number slots are taken after parameters
 abbrev pub numbers_of : List Parameter → ℕ → ℕ
 numbers_of [] n = n
-numbers_of (p ∷ rest) n = numbers_of rest (numbers_behind p.type n)
+numbers_of (p ∷ rest) n = numbers_of rest (numbers_after p.type n)
 
--- how many slots of references are taken behind parameters
+-- how many slots of references are taken after parameters
 abbrev pub references_of : List Parameter → ℕ → ℕ
 references_of [] r = r
-references_of (p ∷ rest) r = references_of rest (references_behind p.type r)
+references_of (p ∷ rest) r = references_of rest (references_after p.type r)
 
 -- the class, which is the first reference, and the parameters
 abbrev pub entry_names : Function → Known
 entry_names f = (f.class_name, record { sort = Ref; index = 0 }) ∷ parameter_slots f.parameters 0 1
 
--- the slots at a function's first statement, behind these statics
+-- the slots at a function's first statement, after these statics
 abbrev pub entry_layout : (statics : Known) → Function → Layout
 entry_layout statics f = record {
   known = entry_names f ++ statics;
   slots = record { numbers = numbers_of f.parameters 0; references = references_of f.parameters 1; statics = length statics; field_ids = 0; buffers = 0 };
 }
 
--- ---- behind statements
+-- ---- after statements
 
--- behind a block its names are forgotten; its slots stay taken
+-- after a block its names are forgotten; its slots stay taken
 abbrev pub closed : (outer inner : Layout) → Layout
 closed outer inner = record { known = outer.known; slots = inner.slots }
 
 abbrev mutual
-  -- the slots behind a statement
-  pub layout_behind : Layout → Stmt → Layout
-  layout_behind l (tree.Declare line t x r) = with_name x (variable_sort t) l
-  layout_behind l (tree.DeclareBuffer line t x r) = with_name x (Buffer t true) l
-  layout_behind l (tree.DeclareChars line x r) = with_name x (Buffer JChar false) l
-  layout_behind l (tree.DeclareArray line t x size) = with_name x (Array t size) l
-  layout_behind l (tree.If line test then') = closed l (block_layout l then')
-  layout_behind l (tree.IfElse line test then' else') = closed l (block_layout (closed l (block_layout l then')) else')
-  layout_behind l (tree.While line test body) = closed l (block_layout l body)
-  layout_behind l s = l
+  -- the slots after a statement
+  pub layout_after : Layout → Stmt → Layout
+  layout_after l (tree.Declare line t x r) = with_name x (variable_sort t) l
+  layout_after l (tree.DeclareBuffer line t x r) = with_name x (Buffer t true) l
+  layout_after l (tree.DeclareChars line x r) = with_name x (Buffer JChar false) l
+  layout_after l (tree.DeclareArray line t x size) = with_name x (Array t size) l
+  layout_after l (tree.If line test then') = closed l (block_layout l then')
+  layout_after l (tree.IfElse line test then' else') = closed l (block_layout (closed l (block_layout l then')) else')
+  layout_after l (tree.While line test body) = closed l (block_layout l body)
+  layout_after l s = l
 
   -- the slots at the end of a block
   pub block_layout : Layout → Block → Layout
   block_layout l (End line) = l
-  block_layout l (Next s rest) = block_layout (layout_behind l s) rest
+  block_layout l (Next s rest) = block_layout (layout_after l s) rest
 
 -- the slots of a function; the last number slot takes results that are dropped, where no other is free
 abbrev pub function_slots : (statics : Known) → Function → SlotCounts

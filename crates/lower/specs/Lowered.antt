@@ -35,7 +35,7 @@ pub record IsCodeOf (statics : Known) (f : Function) (code : Listing) : Type 0 w
       → Shows code known visible slots → StandsFor code known place stack (task ∷ rest)
       → DoesEffect code known place stack slots visible rest (effect_of visible.sight task)
 
--- one code for each function, in their order, behind the statics so far
+-- one code for each function, in their order, after the statics so far
 abbrev pub AreCodesOf : (statics : Known) → List Item → List Listing → Type 0
 AreCodesOf statics [] [] = Unit {0}
 AreCodesOf statics [] (c ∷ codes) = ⊥

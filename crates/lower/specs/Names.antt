@@ -29,7 +29,7 @@ slot_view s = record { sort = sort_view s.sort; index = s.index }
 abbrev pub entry_view : KnownInMemory → Identifier × Slot
 entry_view k = (k.name.now, slot_view k.slot)
 
--- names behind those that are known already
+-- names after those that are known already
 abbrev pub known_behind : List KnownInMemory → Known → Known
 known_behind [] known = known
 known_behind (k ∷ rest) known = known_behind rest (entry_view k ∷ known)

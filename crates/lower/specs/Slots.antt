@@ -191,7 +191,7 @@ abbrev pub argument_reference : ObjectValue → Option Reference
 argument_reference (Number z) = None
 argument_reference (Refers r) = Some r
 
--- The slots at the entry: the words of the numbers, and the class and then the references, each kind in order. Behind them
+-- The slots at the entry: the words of the numbers, and the class and then the references, each kind in order. After them
 -- stands anything.
 pub record EntrySlots (code : Listing) (class : ℕ) (arguments : List ObjectValue) (slots : Slots) : Type 0 where
   pub numbers : length slots.numbers ≡ code.slots.numbers

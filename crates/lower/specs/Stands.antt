@@ -67,34 +67,34 @@ abbrev pub AreAmong : (fewer known : Known) → Type 0
 AreAmong fewer known = (x : Identifier) (s : Slot) → lookup x fewer ≡ Some s → lookup x known ≡ Some s
 
 -- what comes at a place with these names known
-abbrev pub Behind : Type 1
-Behind = (place : ℕ) → Known → Type 0
+abbrev pub After : Type 1
+After = (place : ℕ) → Known → Type 0
 
 -- it comes at a place with names that are known there
-abbrev pub ComesBehind : Behind → (place : ℕ) → Known → Type 0
-ComesBehind behind place known = (names : Known) × AreAmong names known × behind place names
+abbrev pub ComesAfter : After → (place : ℕ) → Known → Type 0
+ComesAfter after place known = (names : Known) × AreAmong names known × after place names
 
 -- a slot of the code that no known name but this has
 pub record IsSlotOf (code : Listing) (known : Known) (x : Identifier) (s : Slot) : Type 0 where
   pub within : IndexWithin code.slots s.sort s.index
   pub own : IsOwn known x s
 
--- an expression and the instructions behind it stand at the place
-abbrev pub NumberStands : Listing → Known → (place : ℕ) → (stack : List ℕ) → (line : ℕ) → Sort → Term → (behind : List Instr) → Type 0
-NumberStands code known place stack line s t behind = IsUnderWay known s t stack × HasAt code.instrs place (term_code known line t ++ behind)
+-- an expression and the instructions after it stand at the place
+abbrev pub NumberStands : Listing → Known → (place : ℕ) → (stack : List ℕ) → (line : ℕ) → Sort → Term → (after : List Instr) → Type 0
+NumberStands code known place stack line s t after = IsUnderWay known s t stack × HasAt code.instrs place (term_code known line t ++ after)
 
 -- ---- variables
 
--- a number variable is set by the instruction behind the number
-pub record SetStands (code : Listing) (known : Known) (place : ℕ) (stack : List ℕ) (behind : Behind) (line : ℕ) (x : Identifier) (t : Term) : Type 0 where
+-- a number variable is set by the instruction after the number
+pub record SetStands (code : Listing) (known : Known) (place : ℕ) (stack : List ℕ) (after : After) (line : ℕ) (x : Identifier) (t : Term) : Type 0 where
   pub slot : Slot
   pub number : IsNumberSort slot.sort
   pub value : NumberStands code known place stack line slot.sort t (instr.Store slot.index ∷ [])
   pub own : IsSlotOf code known x slot
-  pub further : ComesBehind behind (place + length (term_code known line t) + 1) ((x, slot) ∷ known)
+  pub further : ComesAfter after (place + length (term_code known line t) + 1) ((x, slot) ∷ known)
 
--- an element of an array is set by the instruction behind index and number, which are worked out like an operator's operands
-pub record SetElementStands (code : Listing) (known : Known) (place : ℕ) (stack : List ℕ) (behind : Behind) (line : ℕ) (x : Identifier) (i e : Term) : Type 0 where
+-- an element of an array is set by the instruction after index and number, which are worked out like an operator's operands
+pub record SetElementStands (code : Listing) (known : Known) (place : ℕ) (stack : List ℕ) (after : After) (line : ℕ) (x : Identifier) (i e : Term) : Type 0 where
   pub type : ElementType
   pub size : ℕ
   pub start : ℕ
@@ -105,7 +105,7 @@ pub record SetElementStands (code : Listing) (known : Known) (place : ℕ) (stac
   pub begun : IsBegun (Binary BitOr i e)
   pub operands : stack ≡ held e ++ held i
   pub at : HasAt code.instrs place (term_code known line i ++ (term_code known line e ++ instr.StoreElement (record { start = start; len = size }) (element_of type) line ∷ []))
-  pub further : behind (place + (length (term_code known line i) + length (term_code known line e)) + 1) known
+  pub further : after (place + (length (term_code known line i) + length (term_code known line e)) + 1) known
 
 -- the variable that a NULL goes to
 abbrev pub target_name : Target → Option Identifier
@@ -121,7 +121,7 @@ GoesTo known s (Assigned x) = lookup x known ≡ Some s
 GoesTo known s target = ⊥
 
 -- NULL is stored
-pub record SetNullStands (code : Listing) (known : Known) (place : ℕ) (stack : List ℕ) (behind : Behind) (target : Target) : Type 0 where
+pub record SetNullStands (code : Listing) (known : Known) (place : ℕ) (stack : List ℕ) (after : After) (target : Target) : Type 0 where
   pub empty : stack ≡ []
   pub name : Identifier
   pub is : target_name target ≡ Some name
@@ -131,15 +131,15 @@ pub record SetNullStands (code : Listing) (known : Known) (place : ℕ) (stack :
   pub takes : GoesTo known slot target
   pub at : slice_get code.instrs place ≡ Some (instr.StoreNull variable)
   pub own : IsSlotOf code known name slot
-  pub further : ComesBehind behind (place + 1) ((name, slot) ∷ known)
+  pub further : ComesAfter after (place + 1) ((name, slot) ∷ known)
 
 -- a local array is made
-pub record MakeArrayStands (code : Listing) (known : Known) (place : ℕ) (stack : List ℕ) (behind : Behind) (t : ElementType) (x : Identifier) (size : ℕ) : Type 0 where
+pub record MakeArrayStands (code : Listing) (known : Known) (place : ℕ) (stack : List ℕ) (after : After) (t : ElementType) (x : Identifier) (size : ℕ) : Type 0 where
   pub empty : stack ≡ []
   pub start : ℕ
   pub at : slice_get code.instrs place ≡ Some (instr.ClearArray (record { start = start; len = size }))
   pub own : IsSlotOf code known x (record { sort = Array t size; index = start })
-  pub further : ComesBehind behind (place + 1) ((x, record { sort = Array t size; index = start }) ∷ known)
+  pub further : ComesAfter after (place + 1) ((x, record { sort = Array t size; index = start }) ∷ known)
 
 -- ---- calls
 
@@ -160,30 +160,30 @@ abbrev pub CalleeStands : Known → (stack : List ℕ) → Callee → JniFunctio
 CalleeStands known stack (callee.GetArrayLength operand) f operands = (stack ≡ []) × (f ≡ GetArrayLength) × OperandStands known operand operands
 
 -- a variable takes a call's result, and then this comes
-pub record ResultStands (code : Listing) (known : Known) (behind : Behind) (place i : ℕ) (x : Identifier) : Type 0 where
+pub record ResultStands (code : Listing) (known : Known) (after : After) (place i : ℕ) (x : Identifier) : Type 0 where
   pub own : IsSlotOf code known x (record { sort = Jint; index = i })
-  pub further : ComesBehind behind place ((x, record { sort = Jint; index = i }) ∷ known)
+  pub further : ComesAfter after place ((x, record { sort = Jint; index = i }) ∷ known)
 
 -- a slot that no known name has takes a result that is dropped
-pub record DroppedStands (code : Listing) (known : Known) (behind : Behind) (place i : ℕ) : Type 0 where
+pub record DroppedStands (code : Listing) (known : Known) (after : After) (place i : ℕ) : Type 0 where
   pub within : i < code.slots.numbers
   pub free : (x : Identifier) (s : Slot) → lookup x known ≡ Some s → IsPlaceOf s i → ⊥
-  pub further : behind place known
+  pub further : after place known
 
 -- where a call's result goes, as an instruction has it, and then what comes
-abbrev pub TargetStands : Listing → Known → Behind → (place : ℕ) → Destination → Target → Type 0
-TargetStands code known behind place (destination.Number i) (Declared ScalarKind x) = ResultStands code known behind place i x
-TargetStands code known behind place (destination.Number i) (Assigned x) = ResultStands code known behind place i x × (lookup x known ≡ Some (record { sort = Jint; index = i }))
-TargetStands code known behind place (destination.Number i) Dropped = DroppedStands code known behind place i
-TargetStands code known behind place goes target = ⊥
+abbrev pub TargetStands : Listing → Known → After → (place : ℕ) → Destination → Target → Type 0
+TargetStands code known after place (destination.Number i) (Declared ScalarKind x) = ResultStands code known after place i x
+TargetStands code known after place (destination.Number i) (Assigned x) = ResultStands code known after place i x × (lookup x known ≡ Some (record { sort = Jint; index = i }))
+TargetStands code known after place (destination.Number i) Dropped = DroppedStands code known after place i
+TargetStands code known after place goes target = ⊥
 
 -- a call's instruction stands at the place, and then what comes
-pub record InvokeStands (code : Listing) (known : Known) (place : ℕ) (stack : List ℕ) (behind : Behind) (line : ℕ) (target : Target) (f : JniFunction) (operands : List Operand) : Type 0 where
+pub record InvokeStands (code : Listing) (known : Known) (place : ℕ) (stack : List ℕ) (after : After) (line : ℕ) (target : Target) (f : JniFunction) (operands : List Operand) : Type 0 where
   pub call : Call
   pub at : slice_get code.instrs place ≡ Some (instr.Call call)
   pub same_line : call.line ≡ line
   pub function : CalleeStands known stack call.function f operands
-  pub goes : TargetStands code known behind (place + 1) call.target target
+  pub goes : TargetStands code known after (place + 1) call.target target
 
 -- ---- blocks
 
@@ -195,7 +195,7 @@ pub record BlockStands (code : Listing) (l : Layout) (place : ℕ) (b : Block) :
   pub room : HasRoomFor code.slots (block_layout l b).slots
 
 -- an `if` whose test is under way, with its two ways, each of which ends by a jump
-pub record BranchStands (code : Listing) (known : Known) (place : ℕ) (stack : List ℕ) (behind : Behind) (line : ℕ) (t : Term) (then' else' : Block) : Type 0 where
+pub record BranchStands (code : Listing) (known : Known) (place : ℕ) (stack : List ℕ) (after : After) (line : ℕ) (t : Term) (then' else' : Block) : Type 0 where
   pub slots : SlotCounts
   pub slots_else : SlotCounts
   pub test : IsUnderWay known Truth t stack
@@ -203,20 +203,20 @@ pub record BranchStands (code : Listing) (known : Known) (place : ℕ) (stack : 
   pub then_is : then_code ≡ block_code (record { known = known; slots = slots }) then'
   pub else_code : List Instr
   pub else_is : else_code ≡ block_code (record { known = known; slots = slots_else }) else'
-  pub at : HasAt code.instrs place (term_code known line t ++ ways_code then_code (else_code ++ instr.GoOn 0 ∷ []))
+  pub at : HasAt code.instrs place (term_code known line t ++ ways_code then_code (else_code ++ instr.Jump 0 ∷ []))
   pub first : BlockStands code (record { known = known; slots = slots }) (place + length (term_code known line t) + 1) then'
   pub second : BlockStands code (record { known = known; slots = slots_else }) (place + length (term_code known line t) + 1 + length then_code + 1) else'
-  pub further : behind (place + length (term_code known line t) + 1 + length then_code + 1 + length else_code + 1) known
+  pub further : after (place + length (term_code known line t) + 1 + length then_code + 1 + length else_code + 1) known
 
 -- the jump at the end of a way
-pub record EndStands (code : Listing) (known : Known) (place : ℕ) (stack : List ℕ) (behind : Behind) : Type 0 where
+pub record EndStands (code : Listing) (known : Known) (place : ℕ) (stack : List ℕ) (after : After) : Type 0 where
   pub empty : stack ≡ []
   pub skipped : ℕ
-  pub at : slice_get code.instrs place ≡ Some (instr.GoOn skipped)
-  pub further : ComesBehind behind (place + 1 + skipped) known
+  pub at : slice_get code.instrs place ≡ Some (instr.Jump skipped)
+  pub further : ComesAfter after (place + 1 + skipped) known
 
 -- a loop whose test is under way; its code begins at `start`
-pub record LoopStands (code : Listing) (known : Known) (place : ℕ) (stack : List ℕ) (behind : Behind) (line : ℕ) (test : Expr) (t : Term) (body : Block) : Type 0 where
+pub record LoopStands (code : Listing) (known : Known) (place : ℕ) (stack : List ℕ) (after : After) (line : ℕ) (test : Expr) (t : Term) (body : Block) : Type 0 where
   pub slots : SlotCounts
   pub start : ℕ
   pub under_way : IsUnderWay known Truth t stack
@@ -229,17 +229,17 @@ pub record LoopStands (code : Listing) (known : Known) (place : ℕ) (stack : Li
   pub here : HasAt code.instrs place (term_code known line t)
   pub meets : place + length (term_code known line t) ≡ start + length test_code
   pub turn : BlockStands code (record { known = known; slots = slots }) (start + length test_code + 1) body
-  pub further : behind (start + length test_code + 1 + length body_code + 1) known
+  pub further : after (start + length test_code + 1 + length body_code + 1) known
 
 -- the jump at the end of a turn, back to the test
-pub record TurnStands (code : Listing) (known : Known) (place : ℕ) (stack : List ℕ) (behind : Behind) (line : ℕ) (test : Expr) (body : Block) : Type 0 where
+pub record TurnStands (code : Listing) (known : Known) (place : ℕ) (stack : List ℕ) (after : After) (line : ℕ) (test : Expr) (body : Block) : Type 0 where
   pub empty : stack ≡ []
   pub back : ℕ
-  pub at : slice_get code.instrs place ≡ Some (instr.GoBack back)
+  pub at : slice_get code.instrs place ≡ Some (instr.JumpBack back)
   pub inside : back ≤ place
   pub names : Known
   pub among : AreAmong names known
-  pub loop : LoopStands code names (place - back) [] behind line test (term_of test) body
+  pub loop : LoopStands code names (place - back) [] after line test (term_of test) body
 
 -- ---- returns
 
@@ -255,23 +255,23 @@ ReturnStands code known place stack line t = NumberStands code known place stack
 
 -- ---- tasks
 
--- the place, with these names known and these operands, stands for a task, and the place behind it for what is to do then
-abbrev pub TaskStands : Listing → Known → (place : ℕ) → (stack : List ℕ) → Behind → Task → Type 0
-TaskStands code known place stack behind (SetScalar line x t) = SetStands code known place stack behind line x t
-TaskStands code known place stack behind (SetElement line x i e) = SetElementStands code known place stack behind line x i e
-TaskStands code known place stack behind (SetNull target) = SetNullStands code known place stack behind target
-TaskStands code known place stack behind (MakeArray t x size) = MakeArrayStands code known place stack behind t x size
-TaskStands code known place stack behind (Invoke line target f operands) = InvokeStands code known place stack behind line target f operands
-TaskStands code known place stack behind (Print line t) = NumberStands code known place stack line Jint t (instr.PutJint ∷ []) × behind (place + length (term_code known line t) + 1) known
-TaskStands code known place stack behind (Branch line t then' else') = BranchStands code known place stack behind line t then' else'
-TaskStands code known place stack behind EndIf = EndStands code known place stack behind
-TaskStands code known place stack behind (Loop line test t body) = LoopStands code known place stack behind line test t body
-TaskStands code known place stack behind (EndTurn line test body) = TurnStands code known place stack behind line test body
-TaskStands code known place stack behind Return = (stack ≡ []) × (slice_get code.instrs place ≡ Some instr.Return)
-TaskStands code known place stack behind (ReturnValue line t) = ReturnStands code known place stack line t
-TaskStands code known place stack behind Impossible = ⊥
+-- the place, with these names known and these operands, stands for a task, and the place after it for what is to do then
+abbrev pub TaskStands : Listing → Known → (place : ℕ) → (stack : List ℕ) → After → Task → Type 0
+TaskStands code known place stack after (SetScalar line x t) = SetStands code known place stack after line x t
+TaskStands code known place stack after (SetElement line x i e) = SetElementStands code known place stack after line x i e
+TaskStands code known place stack after (SetNull target) = SetNullStands code known place stack after target
+TaskStands code known place stack after (MakeArray t x size) = MakeArrayStands code known place stack after t x size
+TaskStands code known place stack after (Invoke line target f operands) = InvokeStands code known place stack after line target f operands
+TaskStands code known place stack after (Print line t) = NumberStands code known place stack line Jint t (instr.PutJint ∷ []) × after (place + length (term_code known line t) + 1) known
+TaskStands code known place stack after (Branch line t then' else') = BranchStands code known place stack after line t then' else'
+TaskStands code known place stack after EndIf = EndStands code known place stack after
+TaskStands code known place stack after (Loop line test t body) = LoopStands code known place stack after line test t body
+TaskStands code known place stack after (EndTurn line test body) = TurnStands code known place stack after line test body
+TaskStands code known place stack after Return = (stack ≡ []) × (slice_get code.instrs place ≡ Some instr.Return)
+TaskStands code known place stack after (ReturnValue line t) = ReturnStands code known place stack line t
+TaskStands code known place stack after Impossible = ⊥
 
--- so it does for tasks one behind another; what stands behind a return is never done
+-- so it does for tasks one after another; what stands after a return is never done
 abbrev pub TasksStand : Listing → Known → (place : ℕ) → (stack : List ℕ) → List Task → Type 0
 TasksStand code known place stack [] = Unit {0}
 TasksStand code known place stack (task ∷ rest) = TaskStands code known place stack (λ p names. TasksStand code names p [] rest) task

@@ -1,4 +1,4 @@
-//! One instruction behind another.
+//! One instruction after another.
 
 ghost use Rattle.std.specs.Prelude.{◌≡◌, ◌<◌, [], ◌∷◌, ◌++◌, OnOk, vec_len, slice_set};
 

@@ -20,7 +20,7 @@ use regions::Checked;
 use std::alloc::{AllocError, Global};
 use syntax::{Function, Item, Static};
 
-/// How many instructions a function has at most: 65,535 for steps of the source, and the return behind them.
+/// How many instructions a function has at most: 65,535 for steps of the source, and the return after them.
 const LIMIT: usize = 65536;
 
 /// The program's code, of which each instruction is one step of the source.
@@ -35,7 +35,7 @@ pub fn lower<'a>(alloc: Global, checked: &'a Checked) -> Result<Program<'a>, Low
     let mut codes = Vec::new(alloc);
     for item in checked.items() {
         match item {
-            Item::Static(named) => learn(&mut statics, named)?,
+            Item::Static(named) => declare_static(&mut statics, named)?,
             Item::Function(function) => match lower_function(alloc, &statics, function) {
                 Ok(code) => codes.push(code)?,
                 Err(fault) => return Err(fault),
@@ -46,7 +46,7 @@ pub fn lower<'a>(alloc: Global, checked: &'a Checked) -> Result<Program<'a>, Low
 }
 
 /// One static more; their slots are counted in the order of the text.
-fn learn<'a>(statics: &mut Vec<Known<'a>>, named: &'a Static) -> Result<(), AllocError>
+fn declare_static<'a>(statics: &mut Vec<Known<'a>>, named: &'a Static) -> Result<(), AllocError>
     ensures { OnOk result (known_behind statics.new.items [] ≡ with_static (static_tree named.now) (known_behind statics.old.items [])) }
 {
     let index = statics.len();
@@ -60,7 +60,7 @@ fn learn<'a>(statics: &mut Vec<Known<'a>>, named: &'a Static) -> Result<(), Allo
     Ok(())
 }
 
-/// The code of a function behind these statics.
+/// The code of a function after these statics.
 pub(crate) fn lower_function(
     alloc: Global,
     statics: &[Known<'_>],

@@ -4,7 +4,7 @@ ghost use Rattle.std.specs.Prelude.{◌≡◌, ◌+◌, IfOk, OnOk};
 ghost use Rattle.std.specs.Option.{option_map};
 ghost use Rattle.base.specs.Bytes.{lookup};
 ghost use Rattle.syntax.specs.Views.{function_tree};
-ghost use Rattle.lower.specs.Layout.{new_slot, slots_behind, with_name, closed, entry_layout};
+ghost use Rattle.lower.specs.Layout.{new_slot, slots_after, with_name, closed, entry_layout};
 ghost use Rattle.lower.specs.Names.{sort_view, slot_view, known_behind, latest_of};
 
 use code::slots::SlotCounts;
@@ -129,7 +129,7 @@ impl<'a> Names<'a> {
         ensures { OnOk result (self.new ≡ with_name name.now (sort_view sort) self.old) }
     {
         let slot = self.new_slot(sort);
-        let slots = slots_behind(self.slots, sort)?;
+        let slots = slots_after(self.slots, sort)?;
         self.known.push(Known { name, slot })?;
         self.slots = slots;
         Ok(())
@@ -201,19 +201,19 @@ fn more(count: usize, by: usize) -> Result<usize, AllocError>
 }
 
 /// The slots with those of one variable more.
-fn slots_behind(slots: SlotCounts, sort: Sort) -> Result<SlotCounts, AllocError>
-    ensures { IfOk result (λ s. s ≡ slots_behind (sort_view sort) slots) }
+fn slots_after(slots: SlotCounts, sort: Sort) -> Result<SlotCounts, AllocError>
+    ensures { IfOk result (λ s. s ≡ slots_after (sort_view sort) slots) }
 {
-    let mut behind = slots;
+    let mut after = slots;
     match sort {
-        Sort::Reference => behind.references = one_more(slots.references)?,
-        Sort::Static => behind.statics = one_more(slots.statics)?,
-        Sort::FieldId => behind.field_ids = one_more(slots.field_ids)?,
-        Sort::Buffer(..) => behind.buffers = one_more(slots.buffers)?,
-        Sort::Word | Sort::Jint | Sort::Flag => behind.numbers = one_more(slots.numbers)?,
-        Sort::Array(_, len) => behind.numbers = more(slots.numbers, len)?,
+        Sort::Reference => after.references = one_more(slots.references)?,
+        Sort::Static => after.statics = one_more(slots.statics)?,
+        Sort::FieldId => after.field_ids = one_more(slots.field_ids)?,
+        Sort::Buffer(..) => after.buffers = one_more(slots.buffers)?,
+        Sort::Word | Sort::Jint | Sort::Flag => after.numbers = one_more(slots.numbers)?,
+        Sort::Array(_, len) => after.numbers = more(slots.numbers, len)?,
     }
-    Ok(behind)
+    Ok(after)
 }
 
 /// The slots of a function: one number slot more than its statements take, for results that are dropped.

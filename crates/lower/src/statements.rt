@@ -5,7 +5,7 @@ ghost use Rattle.base.specs.Bytes.{lookup};
 ghost use Rattle.syntax.specs.Views.{element_tree, expr_tree, argument_tree, right_side_tree, test_tree, variable_type_tree, form_tree, block_tree};
 ghost use Rattle.types.specs.SortRules.{variable_sort};
 ghost use Rattle.regions.specs.Term.{term_of};
-ghost use Rattle.lower.specs.Layout.{closed, layout_behind, block_layout, with_name, new_slot};
+ghost use Rattle.lower.specs.Layout.{closed, layout_after, block_layout, with_name, new_slot};
 ghost use Rattle.lower.specs.Coding.{operand_code, call_code, right_code, assign_code, write_code, of_slot, return_code, returned_code, test_code, first_code, loop_code, expr_code, stmt_code, block_code};
 ghost use Rattle.lower.specs.Names.{sort_view, slot_view};
 
@@ -19,7 +19,7 @@ use syntax::{
     Argument, Block, Constant, ElementType, Expr, Form, Name, RightSide, Test, VariableType,
 };
 
-/// A statement on this line, with the names that are known behind it.
+/// A statement on this line, with the names that are known after it.
 #[cycle(statements)]
 pub(crate) fn emit_form<'a>(
     alloc: Global,
@@ -29,7 +29,7 @@ pub(crate) fn emit_form<'a>(
     form: &'a Form,
 ) -> Result<(), AllocError>
     ensures code { OnOk result (code.new.items ≡ code.old.items ++ stmt_code names.old (form_tree line form.now)) }
-    ensures names { OnOk result (names.new ≡ layout_behind names.old (form_tree line form.now)) }
+    ensures names { OnOk result (names.new ≡ layout_after names.old (form_tree line form.now)) }
 {
     match form {
         Form::Declare(kind, name, right) => {
@@ -74,7 +74,7 @@ pub(crate) fn emit_form<'a>(
     }
 }
 
-/// The statements of a block, whose names are forgotten behind it.
+/// The statements of a block, whose names are forgotten after it.
 #[cycle(statements)]
 pub(crate) fn emit_block<'a>(
     alloc: Global,
@@ -109,22 +109,22 @@ fn emit_first<'a>(
 {
     emit_test(code, names, line, test)?;
     let jump = code.len();
-    emit(code, Instr::JumpUnless(0))?;
+    emit(code, Instr::JumpIfFalse(0))?;
     emit_block(alloc, code, names, first)?;
     let end = code.len();
-    emit(code, Instr::GoOn(0))?;
-    replace(code, jump, Instr::JumpUnless(end - jump));
+    emit(code, Instr::Jump(0))?;
+    replace(code, jump, Instr::JumpIfFalse(end - jump));
     Ok(end)
 }
 
-/// The end of an `if`: the jump behind its second way, and how far that behind its first one leads.
+/// The end of an `if`: the jump after its second way, and how far that after its first one leads.
 fn emit_end(code: &mut Vec<Instr>, end: usize) -> Result<(), AllocError>
     requires { end < vec_len code.old }
-    ensures { OnOk result (code.new.items ≡ slice_set (code.old.items ++ Instr.GoOn 0 ∷ []) end (Instr.GoOn (vec_len code.old - end))) }
+    ensures { OnOk result (code.new.items ≡ slice_set (code.old.items ++ Instr.Jump 0 ∷ []) end (Instr.Jump (vec_len code.old - end))) }
 {
     let skipped = code.len() - end;
-    emit(code, Instr::GoOn(0))?;
-    replace(code, end, Instr::GoOn(skipped));
+    emit(code, Instr::Jump(0))?;
+    replace(code, end, Instr::Jump(skipped));
     Ok(())
 }
 
@@ -144,11 +144,11 @@ fn emit_loop<'a>(
     let start = code.len();
     emit_expr(code, names, line, test)?;
     let jump = code.len();
-    emit(code, Instr::JumpUnless(0))?;
+    emit(code, Instr::JumpIfFalse(0))?;
     emit_block(alloc, code, names, body)?;
     let back = code.len();
-    emit(code, Instr::GoBack(back - start))?;
-    replace(code, jump, Instr::JumpUnless(back - jump));
+    emit(code, Instr::JumpBack(back - start))?;
+    replace(code, jump, Instr::JumpIfFalse(back - jump));
     Ok(())
 }
 
@@ -251,7 +251,7 @@ fn emit_right(
     }
 }
 
-/// An element of a named array, behind its index and its value.
+/// An element of a named array, after its index and its value.
 fn emit_write(
     code: &mut Vec<Instr>,
     names: &Names<'_>,

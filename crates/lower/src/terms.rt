@@ -61,7 +61,7 @@ fn emit_constant(code: &mut Vec<Instr>, constant: Constant) -> Result<(), AllocE
     }
 }
 
-/// An element of a named array, behind its index.
+/// An element of a named array, after its index.
 fn emit_element(
     code: &mut Vec<Instr>,
     names: &Names<'_>,
@@ -124,7 +124,7 @@ fn emit_binary(
     }
 }
 
-/// An operator behind its operands.
+/// An operator after its operands.
 #[cycle(expressions)]
 fn emit_operator(
     code: &mut Vec<Instr>,
@@ -167,9 +167,9 @@ fn skip(conjunction: bool, skipped: usize) -> Instr
     ensures { result ≡ skip_code conjunction skipped }
 {
     if conjunction {
-        Instr::SkipUnless(skipped)
+        Instr::JumpIfFalseOrPop(skipped)
     } else {
-        Instr::SkipIf(skipped)
+        Instr::JumpIfTrueOrPop(skipped)
     }
 }
 

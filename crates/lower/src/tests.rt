@@ -102,17 +102,17 @@ fn ways_of_an_if(rt: HostRuntime) -> Result<(), Fail> {
     assert_eq!(rt; code.len(), 12);
     assert!(rt; code[0] == Instr::Load(0));
     assert!(rt; code[2] == Instr::Operate(Operator::SignedLess));
-    assert!(rt; code[3] == Instr::SkipUnless(1));
+    assert!(rt; code[3] == Instr::JumpIfFalseOrPop(1));
     let there = Instr::TestNull {
         variable: NullableVariable::Local(1),
         equal: false,
     };
     assert!(rt; code[4] == there);
-    assert!(rt; code[5] == Instr::JumpUnless(3));
+    assert!(rt; code[5] == Instr::JumpIfFalse(3));
     assert!(rt; code[7] == Instr::PutJint);
-    assert!(rt; code[8] == Instr::GoOn(3));
+    assert!(rt; code[8] == Instr::Jump(3));
     assert!(rt; code[10] == Instr::Store(0));
-    assert!(rt; code[11] == Instr::GoOn(0));
+    assert!(rt; code[11] == Instr::Jump(0));
     Ok(())
 }
 
@@ -173,11 +173,11 @@ fn a_loop_and_an_array(rt: HostRuntime) -> Result<(), Fail> {
     assert_eq!(rt; code.len(), 13);
     assert!(rt; code[3] == Instr::OperateOrTrap(TrappingOperator::Divide, 3));
     assert!(rt; code[5] == Instr::Operate(Operator::Equal));
-    assert!(rt; code[6] == Instr::JumpUnless(6));
+    assert!(rt; code[6] == Instr::JumpIfFalse(6));
     assert!(rt; code[7] == Instr::ClearArray(elements));
     assert!(rt; code[10] == Instr::StoreElement(elements, ElementOfCode::Short, 5));
     assert!(rt; code[11] == Instr::Call(call));
-    assert!(rt; code[12] == Instr::GoBack(12));
+    assert!(rt; code[12] == Instr::JumpBack(12));
     Ok(())
 }
 

@@ -78,7 +78,7 @@ pub array_made : (s : Space) (addresses : List ℕ) (objects : Heap) (class i : 
 array_made s addresses objects class i zs h room l fit =
     let o : Object = record { class = class; values = map Number zs } in
     let counted : length addresses ≡ length objects = h.table.counted in
-    let next : IsNext s objects (array_block s class (length addresses + 1) zs i) o = record { behind = refl; birth = ap (λ n. n + 1) counted; class = refl; values = words_agree s zs i l fit } in
+    let next : IsNext s objects (array_block s class (length addresses + 1) zs i) o = record { after = refl; birth = ap (λ n. n + 1) counted; class = refl; values = words_agree s zs i l fit } in
     made_more s addresses objects (array_block s class (length addresses + 1) zs i) o h next (omega (arith, length-map zs (λ (z : ℤ). Number z)))
 
 -- ---- the world's arrays, one after another

@@ -68,13 +68,13 @@ row_is s heap classes a n o zs h there numbers =
 
 -- ---- the world's objects
 
-get_behind : (first rest : Heap) (j : ℕ) → slice_get (first ++ rest) (length first + j) ≡ slice_get rest j
-get_behind [] rest j = let e : 0 + j ≡ j = omega arith in ap (slice_get rest) e
-get_behind (x ∷ first) rest j = let e : suc (length first) + j ≡ suc (length first + j) = omega arith in ap (slice_get ((x ∷ first) ++ rest)) e ∙ get_behind first rest j
+get_after : (first rest : Heap) (j : ℕ) → slice_get (first ++ rest) (length first + j) ≡ slice_get rest j
+get_after [] rest j = let e : 0 + j ≡ j = omega arith in ap (slice_get rest) e
+get_after (x ∷ first) rest j = let e : suc (length first) + j ≡ suc (length first + j) = omega arith in ap (slice_get ((x ∷ first) ++ rest)) e ∙ get_after first rest j
 
 -- by its name
 pub object_there : (w : World) (place j : ℕ) (o : Object) → place ≡ length w.classes + 1 + j → slice_get w.objects j ≡ Some o → object_at (loaded_objects w) (place + 1) ≡ Some o
 object_there w place j o is at =
     let before = length-before w.classes in
     let e : place + 1 ≡ suc (length (made_before w.classes) + j) = omega arith in
-    ap (object_at (loaded_objects w)) e ∙ ap (λ (h : Heap). slice_get h (length (made_before w.classes) + j)) (loaded_is w) ∙ get_behind (made_before w.classes) w.objects j ∙ at
+    ap (object_at (loaded_objects w)) e ∙ ap (λ (h : Heap). slice_get h (length (made_before w.classes) + j)) (loaded_is w) ∙ get_after (made_before w.classes) w.objects j ∙ at

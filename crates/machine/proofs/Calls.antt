@@ -201,9 +201,9 @@ module _ (p : Lowered) (space : Space) (call : Activation) (code : Listing) (vis
     pub leads : (way : Plain) (stack numbers : List ℕ) → plain_of i call.stack call.numbers.items ≡ Some (way, stack, numbers) → LeadsInside code.instrs call.place way (length stack)
     leads way stack numbers is = runs.leads call.stack call.numbers.items stack numbers way r.depth is
 
-    -- the depth behind one that isn't plain
+    -- the depth after one that isn't plain
     pub depth_behind : (after : ℕ) → (Leaves i → ⊥) → depth_after i (length call.stack) ≡ Some after → depth_at code.instrs (call.place + 1) ≡ Some after
-    depth_behind after stays is = (runs.behind (length call.stack) after stays r.depth is).words
+    depth_behind after stays is = (runs.rest_of (length call.stack) after stays r.depth is).words
 
 -- what a look-up gave is there
 pub is_there : {A : Type 0} (o : Option (Bor A)) (x : A) → option_copied o ≡ Some x → IsSome o

@@ -24,7 +24,7 @@ use Rattle.regions.specs.Effect as effects
 use Rattle.regions.specs.Effect.{Effect, Becomes, Sets, SetsNull, SetsElement, MakesArray, Prints, Calls, TrapsAt, effect_of}
 use Rattle.regions.specs.Task.{Task, Target}
 use Rattle.regions.specs.Thread as source
-use Rattle.regions.specs.Thread.{Lent, Shared, sight_of}
+use Rattle.regions.specs.Thread.{BuffersInUse, Shared, sight_of}
 use Rattle.regions.specs.ThreadStep.{with_tasks, after_effect, set_element}
 use Rattle.regions.specs.Value.{Trap, convert}
 use Rattle.regions.specs.Variable.{Variable, Scalar, LocalArray, assign}
@@ -200,7 +200,7 @@ module _ (p : Lowered) (space : Space) (call : Activation) (code : Listing) (vis
 
 -- ---- what an instruction did
 
-module _ (p : Lowered) (classes : Classes) (space : Space) (lent : Lent) (k : ℕ) (shared : Shared) (statics : StaticsAgree p shared) (s : source.Thread) (call : Activation) (code : Listing) (task : Task) (rest : List Task) (r : Ready p space call code (visible_to shared s) task rest) (i : Instr) (at : slice_get code.instrs call.place ≡ Some i) where
+module _ (p : Lowered) (classes : Classes) (space : Space) (lent : BuffersInUse) (k : ℕ) (shared : Shared) (statics : StaticsAgree p shared) (s : source.Thread) (call : Activation) (code : Listing) (task : Task) (rest : List Task) (r : Ready p space call code (visible_to shared s) task rest) (i : Instr) (at : slice_get code.instrs call.place ≡ Some i) where
   abbrev seen : Visible
   seen = visible_to shared s
 

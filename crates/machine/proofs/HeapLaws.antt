@@ -17,14 +17,14 @@ use Rattle.machine.specs.HeapAgrees.{ReferenceAgrees, WordAgrees, WordsAgree, Bl
 
 -- ---- the block at an address
 
--- no block begins behind the end
-none_behind : (from a : ℕ) (bs : List Block) (cells : ℕ) → LieFrom from bs cells → end_from from bs ≤ a → find (λ (b : Block). eqb b.address a) bs ≡ None
-none_behind from a [] cells h e = refl
-none_behind from a (b ∷ bs) cells h e =
+-- no block begins after the end
+none_after : (from a : ℕ) (bs : List Block) (cells : ℕ) → LieFrom from bs cells → end_from from bs ≤ a → find (λ (b : Block). eqb b.address a) bs ≡ None
+none_after from a [] cells h e = refl
+none_after from a (b ∷ bs) cells h e =
     let later = from_below_end (block_end b) bs cells h.1 in
     ⊎_elim
     (λ (t : (eqb b.address a ≡ true) × (b.address ≡ a)). absurd (let same : b.address ≡ a = t.1 in omega arith))
-    (λ (t : (eqb b.address a ≡ false) × (b.address ≡ a → ⊥)). ap (λ (c : Bool). cond c (Some b) (find (λ (b : Block). eqb b.address a) bs)) t.0 ∙ none_behind (block_end b) a bs cells h.1 e)
+    (λ (t : (eqb b.address a ≡ false) × (b.address ≡ a → ⊥)). ap (λ (c : Bool). cond c (Some b) (find (λ (b : Block). eqb b.address a) bs)) t.0 ∙ none_after (block_end b) a bs cells h.1 e)
     (eqb_tells b.address a)
 
 eqb_same : (a : ℕ) → eqb a a ≡ true
@@ -44,7 +44,7 @@ name_kept s b a n h =
 pub block_new : (s : Space) (b : Block) → IsLaidOut s → b.address ≡ end_of s → block_at (with_block s b) b.address ≡ Some b
 block_new s b laid at =
     find-append (λ (c : Block). eqb c.address b.address) s.blocks (b ∷ [])
-    ∙ ap (λ (o : Option Block). option_or o (find (λ (c : Block). eqb c.address b.address) (b ∷ []))) (none_behind 0 b.address s.blocks s.cells laid (omega arith))
+    ∙ ap (λ (o : Option Block). option_or o (find (λ (c : Block). eqb c.address b.address) (b ∷ []))) (none_after 0 b.address s.blocks s.cells laid (omega arith))
     ∙ ap (λ (t : Bool). cond t (Some b) None) (eqb_same b.address)
 
 pub name_new : (s : Space) (b : Block) → IsLaidOut s → b.address ≡ end_of s → name_at (with_block s b) b.address ≡ Some b.birth
@@ -134,7 +134,7 @@ Needs Before After new = (n : ℕ) → After n → Before n ⊎ (n ≡ new)
 
 -- a block as that of the next object
 pub record IsNext (s : Space) (heap : Heap) (b : Block) (o : Object) : Type 0 where
-  pub behind : b.address ≡ end_of s
+  pub after : b.address ≡ end_of s
   pub birth : b.birth ≡ length heap + 1
   pub class : b.class ≡ o.class
   pub values : WordsAgree s b.values o.values
@@ -146,7 +146,7 @@ agrees_with_block s heap Before After b o h laid next needs = record {
   unique = unique_push s heap s.blocks b h.blocks next.birth h.unique;
   there = λ n need. ⊎_elim
       (λ (old : Before n). let t = h.there n old in (t.0, name_kept s b t.0 n t.1))
-      (λ (new : n ≡ b.birth). (b.address, name_new s b laid next.behind ∙ ap (λ (m : ℕ). Some m) (sym new)))
+      (λ (new : n ≡ b.birth). (b.address, name_new s b laid next.after ∙ ap (λ (m : ℕ). Some m) (sym new)))
       (needs n need);
 }
 
@@ -164,7 +164,7 @@ get_push (y ∷ xs) x (suc i) a h =
 
 -- the table with the next object
 pub table_push : (s : Space) (b : Block) (addresses : List ℕ) (count : ℕ) → IsTable s addresses count → IsLaidOut s → b.address ≡ end_of s → b.birth ≡ count + 1 → IsTable (with_block s b) (addresses ++ b.address ∷ []) (count + 1)
-table_push s b addresses count h laid behind birth = record {
+table_push s b addresses count h laid after birth = record {
   counted = let counted : length addresses ≡ count = h.counted in omega (arith, length-append addresses (b.address ∷ []));
   named = λ i a at. ⊎_elim
       (λ (old : slice_get addresses i ≡ Some a). name_kept s b a (i + 1) (h.named i a old))
@@ -172,7 +172,7 @@ table_push s b addresses count h laid behind birth = record {
       let here : i ≡ length addresses = new.0 in
       let counted : length addresses ≡ count = h.counted in
       let same : b.birth ≡ i + 1 = omega arith in
-      ap (name_at (with_block s b)) new.1 ∙ name_new s b laid behind ∙ ap (λ (m : ℕ). Some m) same)
+      ap (name_at (with_block s b)) new.1 ∙ name_new s b laid after ∙ ap (λ (m : ℕ). Some m) same)
       (get_push addresses b.address i a at);
 }
 

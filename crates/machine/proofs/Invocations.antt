@@ -25,7 +25,7 @@ use Rattle.regions.specs.Effect.{Calls, tasks_after, effect_of}
 use Rattle.regions.specs.Heap.{Heap, object_at, class_of, values_of}
 use Rattle.regions.specs.Task.{Task, Target, ScalarKind, ReferenceKind, FieldKind, BufferKind, Declared, Assigned, Dropped, Tested}
 use Rattle.regions.specs.Thread as source
-use Rattle.regions.specs.Thread.{Lent, Shared}
+use Rattle.regions.specs.Thread.{BuffersInUse, Shared}
 use Rattle.regions.specs.Value.{Value, Int}
 use Rattle.regions.specs.Variable.{Variables, Scalar, assign, as_static}
 use Rattle.lower.specs.Layout.{Known}
@@ -173,7 +173,7 @@ module _ (p : Lowered) (space : Space) (call : Activation) (code : Listing) (vis
         within (destination.Number j) (Tested a b) h = absurd h
         within (destination.Number j) Dropped h = h.within
 
-module _ (p : Lowered) (classes : Classes) (space : Space) (lent : Lent) (k : ℕ) (shared : Shared) (s : source.Thread) (call : Activation) (code : Listing) (task : Task) (rest : List Task) (r : Ready p space call code (visible_to shared s) task rest) where
+module _ (p : Lowered) (classes : Classes) (space : Space) (lent : BuffersInUse) (k : ℕ) (shared : Shared) (s : source.Thread) (call : Activation) (code : Listing) (task : Task) (rest : List Task) (r : Ready p space call code (visible_to shared s) task rest) where
   abbrev seen : Visible
   seen = visible_to shared s
 

@@ -12,7 +12,7 @@ use Rattle.regions.specs.Checks.{call_trap, go_together, first_trap}
 use Rattle.regions.specs.Effect.{tasks_after}
 use Rattle.regions.specs.Heap.{Heap, class_of, values_of}
 use Rattle.regions.specs.Task.{Task, Target}
-use Rattle.regions.specs.Thread.{Thread, Shared, Lent, Trapped, Advances}
+use Rattle.regions.specs.Thread.{Thread, Shared, BuffersInUse, Trapped, Advances}
 use Rattle.regions.specs.Value.{Int, Trap, ExceptionPending, NullReference, WrongObject, DeletedReference, NoCapacity}
 use Rattle.regions.specs.Variable.{Empty, Live, Deleted}
 
@@ -49,7 +49,7 @@ module _ (classes : Classes) (s : Shared) (t : Thread) (target : Target) (x : Id
 
   -- ---- the call
 
-  module _ (lent : Lent) (k line : ℕ) (rest : List Task) where
+  module _ (lent : BuffersInUse) (k line : ℕ) (rest : List Task) where
     -- a trap that a check found stops the machine
     stops : (args : List Actual) (trap : Trap) → trap_of_call classes s t target GetArrayLength args ≡ Some trap → call_step classes lent k s t line target GetArrayLength args rest false ≡ Advances s t (Trapped trap line)
     stops args trap h = ap (λ o. after_call classes lent k s t line target GetArrayLength args rest (checked o (call_effect classes lent k s t args GetArrayLength))) h

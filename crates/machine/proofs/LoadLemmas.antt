@@ -26,7 +26,7 @@ use Rattle.regions.specs.Activation.{class_of_function}
 use Rattle.regions.specs.Load.{call_loads, is_callable, fits_parameter, fit_parameters}
 use Rattle.lower.specs.Lowered.{Lowered}
 use Rattle.lower.specs.Slots.{ArgumentFits, ArgumentsFit}
-use Rattle.machine.specs.declared.thread.CallToCome.{CallToCome}
+use Rattle.machine.specs.declared.thread.PendingCall.{PendingCall}
 use Rattle.machine.specs.Agrees.{CallAgrees, CallsAgree}
 use Rattle.machine.specs.Loading.{IsNumberOf, IsCallOf, refused_calls}
 
@@ -63,7 +63,7 @@ class_made classes made None c few h = absurd (cc)
 class_made classes made (Some name) c few h = let w = class_within classes name c h in (w.0, omega (arith, w.1))
 
 -- a call whose function and class are there, and whose arguments fit
-pub call_found : (p : Lowered) (classes : Classes) (made : ℕ) (call : CallScene) (f : FunctionInMemory) (next : CallToCome) → IsNumberOf p call.function next.function f → length classes ≤ made → option_and_then (class_named classes) (native_class call.function) ≡ Some next.class
+pub call_found : (p : Lowered) (classes : Classes) (made : ℕ) (call : CallScene) (f : FunctionInMemory) (next : PendingCall) → IsNumberOf p call.function next.function f → length classes ≤ made → option_and_then (class_named classes) (native_class call.function) ≡ Some next.class
     → map argument_view next.arguments.items ≡ call.arguments → are_arguments made call ≡ true → fit_parameters (function_tree f).parameters call.arguments ≡ true → IsCallOf p classes made (invocation_of call) (Some next)
 call_found p classes made call f next n few known arguments given fits =
     let function : Function = function_tree f in
@@ -118,18 +118,18 @@ module _ (unit : SourceUnit) (classes : Classes) where
   refused_at calls i x h l = ap (λ (cs : List CallScene). refused_calls unit classes (map invocation_of cs)) (calls_drop calls i x h) ∙ next_refused x (drop (i + 1) calls) l
 
 -- the calls so far agree, and so do those that are still to come
-abbrev pub AgreeSoFar : Lowered → Classes → (made : ℕ) → List CallScene → (i : ℕ) → List CallToCome → Type 0
-AgreeSoFar p classes made calls i nexts = (rest : List CallToCome) → CallsAgree p classes made rest (map invocation_of (drop i calls)) → CallsAgree p classes made (nexts ++ rest) (map invocation_of calls)
+abbrev pub AgreeSoFar : Lowered → Classes → (made : ℕ) → List CallScene → (i : ℕ) → List PendingCall → Type 0
+AgreeSoFar p classes made calls i nexts = (rest : List PendingCall) → CallsAgree p classes made rest (map invocation_of (drop i calls)) → CallsAgree p classes made (nexts ++ rest) (map invocation_of calls)
 
-pub one_more : (p : Lowered) (classes : Classes) (made : ℕ) (calls : List CallScene) (i : ℕ) (x : CallScene) (n : CallToCome) (nexts : List CallToCome) → slice_get calls i ≡ Some x → CallAgrees p classes made n (invocation_of x) → AgreeSoFar p classes made calls i nexts → AgreeSoFar p classes made calls (i + 1) (nexts ++ n ∷ [])
+pub one_more : (p : Lowered) (classes : Classes) (made : ℕ) (calls : List CallScene) (i : ℕ) (x : CallScene) (n : PendingCall) (nexts : List PendingCall) → slice_get calls i ≡ Some x → CallAgrees p classes made n (invocation_of x) → AgreeSoFar p classes made calls i nexts → AgreeSoFar p classes made calls (i + 1) (nexts ++ n ∷ [])
 one_more p classes made calls i x n nexts at a so_far rest h =
-    subst (λ (l : List CallToCome). CallsAgree p classes made l (map invocation_of calls)) (sym (append_assoc nexts (n ∷ []) rest))
+    subst (λ (l : List PendingCall). CallsAgree p classes made l (map invocation_of calls)) (sym (append_assoc nexts (n ∷ []) rest))
     (so_far (n ∷ rest) (subst (λ (cs : List CallScene). CallsAgree p classes made (n ∷ rest) (map invocation_of cs)) (sym (calls_drop calls i x at)) (a, h)))
 
-pub all_agree : (p : Lowered) (classes : Classes) (made : ℕ) (calls : List CallScene) (i : ℕ) (nexts : List CallToCome) → length calls ≤ i → AgreeSoFar p classes made calls i nexts → CallsAgree p classes made nexts (map invocation_of calls)
+pub all_agree : (p : Lowered) (classes : Classes) (made : ℕ) (calls : List CallScene) (i : ℕ) (nexts : List PendingCall) → length calls ≤ i → AgreeSoFar p classes made calls i nexts → CallsAgree p classes made nexts (map invocation_of calls)
 all_agree p classes made calls i nexts past so_far =
     let none : CallsAgree p classes made [] (map invocation_of (drop i calls)) = rw (drop_of_length-le calls past) tt in
-    subst (λ (n : List CallToCome). CallsAgree p classes made n (map invocation_of calls)) (append-nil nexts) (so_far [] none)
+    subst (λ (n : List PendingCall). CallsAgree p classes made n (map invocation_of calls)) (append-nil nexts) (so_far [] none)
 
 -- each call of several
 pub given_at : (made : ℕ) (calls : List CallScene) (i : ℕ) (x : CallScene) → list_all (are_arguments made) calls ≡ true → slice_get calls i ≡ Some x → are_arguments made x ≡ true

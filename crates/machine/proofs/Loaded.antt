@@ -1,4 +1,4 @@
--- Objects that are made one behind another.
+-- Objects that are made one after another.
 use Rattle.std.proofs.Common.{◌≡◌, ℕ, suc, ◌+◌, ◌<◌, ◌≤◌, Bool, true, false, cond, eqb, List, [], ◌∷◌, ◌++◌, length, map, replicate, Option, refl, sym, ap, ◌∙◌, subst, arith, ⊎_elim, ◌⊎◌, length-append}
 use Rattle.std.specs.Prelude.{slice_set}
 use Rattle.std.specs.Option.{option_map_or}
@@ -36,14 +36,14 @@ pub made_more : (s : Space) (addresses : List ℕ) (objects : Heap) (b : Block) 
 made_more s addresses objects b o h next room =
     let count = length-append objects (o ∷ []) in
     let long = agree_length s b.values o.values next.values in
-    let behind : b.address ≡ end_of s = next.behind in
+    let after : b.address ≡ end_of s = next.after in
     let filled : end_of s ≡ sizes objects = h.filled in
     let both = sum_by-append size objects (o ∷ []) in
     let one = sum_by-cons size o [] in
     let birth : b.birth ≡ length objects + 1 = next.birth in
     record {
       agree = agrees_with_block s objects (IsName objects) (IsName (objects ++ o ∷ [])) b o h.agree h.laid_out next (subst (λ (n : ℕ). (m : ℕ) → IsName (objects ++ o ∷ []) m → IsName objects m ⊎ (m ≡ n)) (sym birth) (IsName-more objects o));
-      table = subst (IsTable (with_block s b) (addresses ++ b.address ∷ [])) (sym count) (table_push s b addresses (length objects) h.table h.laid_out behind birth);
+      table = subst (IsTable (with_block s b) (addresses ++ b.address ∷ [])) (sym count) (table_push s b addresses (length objects) h.table h.laid_out after birth);
       laid_out = LieFrom-push 0 s.blocks b s.cells h.laid_out (omega arith) (omega arith);
       filled = end_from-push 0 s.blocks b ∙ omega arith;
     }
@@ -62,7 +62,7 @@ blocks_below change from a (b ∷ bs) cells h e =
     (eqb_tells b.address a)
 
 pub changed_new : (s : Space) (b : Block) (change : Block → Block) → IsLaidOut s → b.address ≡ end_of s → with_changed (with_block s b) b.address change ≡ with_block s (change b)
-changed_new s b change laid behind =
+changed_new s b change laid after =
     let here : map (λ (c : Block). cond (eqb c.address b.address) (change c) c) (b ∷ []) ≡ change b ∷ [] =
     ⊎_elim
     (λ (t : (eqb b.address b.address ≡ true) × (b.address ≡ b.address)). ap (λ (c : Bool). cond c (change b) b ∷ []) t.0)
@@ -77,7 +77,7 @@ changed_new s b change laid behind =
 -- ---- the objects made at load
 
 pub values_new : (s : Space) (b : Block) → IsLaidOut s → b.address ≡ end_of s → values_at (with_block s b) b.address ≡ b.values
-values_new s b laid behind = ap (λ (o : Option Block). option_map_or (λ (b : Block). b.values) o []) (block_new s b laid behind)
+values_new s b laid after = ap (λ (o : Option Block). option_map_or (λ (b : Block). b.values) o []) (block_new s b laid after)
 
 -- a further class object
 pub class_made : (s : Space) (addresses : List ℕ) (i : ℕ) → AreMade s addresses (replicate i plain_class_object) → 3 ≤ left_of s
@@ -85,7 +85,7 @@ pub class_made : (s : Space) (addresses : List ℕ) (i : ℕ) → AreMade s addr
 class_made s addresses i h room =
     let counted : length addresses ≡ length (replicate i plain_class_object) = h.table.counted in
     let next : IsNext s (replicate i plain_class_object) (fresh_block (end_of s) class_class (length addresses + 1) 0) plain_class_object =
-    record { behind = refl; birth = ap (λ n. n + 1) counted; class = refl; values = tt } in
+    record { after = refl; birth = ap (λ n. n + 1) counted; class = refl; values = tt } in
     subst (AreMade (with_block s (fresh_block (end_of s) class_class (length addresses + 1) 0)) (addresses ++ end_of s ∷ [])) (replicate-append-replicate i 1 plain_class_object)
     (made_more s addresses (replicate i plain_class_object) (fresh_block (end_of s) class_class (length addresses + 1) 0) plain_class_object h next room)
 
@@ -102,6 +102,6 @@ error_made s addresses n h room =
     let fresh : Block = fresh_block (end_of s) out_of_memory_error (length addresses + 1) 1 in
     let filled : Block = record fresh { values = null_word ∷ [] } in
     let counted : length addresses ≡ length (replicate n plain_class_object) = h.table.counted in
-    let next : IsNext s (replicate n plain_class_object) filled error_object = record { behind = refl; birth = ap (λ n. n + 1) counted; class = refl; values = (refl, tt) } in
+    let next : IsNext s (replicate n plain_class_object) filled error_object = record { after = refl; birth = ap (λ n. n + 1) counted; class = refl; values = (refl, tt) } in
     subst (λ (t : Space). AreMade t (addresses ++ end_of s ∷ []) (made_first n)) (sym (changed_new s fresh (λ b. record b { values = slice_set b.values 0 null_word }) h.laid_out refl))
     (made_more s addresses (replicate n plain_class_object) filled error_object h next room)

@@ -20,7 +20,7 @@ use Rattle.machine.specs.HeapAgrees.{made_before}
 
 -- ---- how the table of classes grows
 
--- the classes behind the first ones
+-- the classes after the first ones
 grown : (names : List Identifier) (T : Classes) → (X : Classes) × (fold with_named_class T names ≡ T ++ X)
 grown [] T = ([], sym (append-nil T))
 grown (n ∷ names) T =

@@ -34,7 +34,7 @@ array_there [] j h = absurd (omega arith)
 array_there (a ∷ arrays) zero h = (a, refl)
 array_there (a ∷ arrays) (suc j) h = array_there arrays j (omega arith)
 
--- the row of the object at a place of the table, and those behind it
+-- the row of the object at a place of the table, and those after it
 pub row_here : (scene : Scene) (s : Space) (addresses : List ℕ) (place address : ℕ) → AgreesAtLoad s addresses (world_of_scene scene) → slice_get addresses place ≡ Some address → length (world_of_scene scene).classes + 1 ≤ place → place < length addresses
     → row_lines (drop (place - (length (world_of_scene scene).classes + 1)) (loaded_rows (world_of_scene scene)))
     ≡ object_line (block_row (world_of_scene scene).classes s (place + 1) address) ++ row_lines (drop (place + 1 - (length (world_of_scene scene).classes + 1)) (loaded_rows (world_of_scene scene)))
@@ -55,7 +55,7 @@ row_here scene s addresses place address h at low high =
     ∙ ap (λ r. object_line r ++ row_lines (drop (suc j) (loaded_rows w))) (sym row)
     ∙ ap (λ n. object_line (block_row w.classes s (place + 1) address) ++ row_lines (drop n (loaded_rows w))) next
 
--- no row is left behind the last
+-- no row is left after the last
 pub rows_end : (scene : Scene) (place : ℕ) → place ≡ length (world_of_scene scene).classes + 1 + length scene.objects → row_lines (drop (place - (length (world_of_scene scene).classes + 1)) (loaded_rows (world_of_scene scene))) ≡ []
 rows_end scene place e =
     let w = world_of_scene scene in

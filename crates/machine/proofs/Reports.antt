@@ -7,8 +7,8 @@ use Rattle.syntax.specs.Views.{unit_tree}
 use Rattle.classes.specs.Class.{Classes}
 use Rattle.world.specs.declared.journal.Entry.{Entry}
 use Rattle.world.specs.declared.report.Printed.{Printed}
-use Rattle.world.specs.declared.report.Standing.{Standing}
-use Rattle.world.specs.declared.report.Standing.TheVariants as held
+use Rattle.world.specs.declared.report.ThreadStatus.{ThreadStatus}
+use Rattle.world.specs.declared.report.ThreadStatus.TheVariants as held
 use Rattle.world.specs.Journal.{journal_line}
 use Rattle.world.specs.Report.{ThreadStanding, HasTrapped, ShownRow, Report, report_text}
 use Rattle.world.specs.Sink as sink
@@ -16,7 +16,7 @@ use Rattle.world.specs.Sink.{Written}
 use Rattle.world.specs.Scene.{Scene}
 use Rattle.world.specs.SceneWorld.{world_of_scene}
 use Rattle.world.specs.Shown.{report_with}
-use Rattle.world.specs.Standing.{standing_view}
+use Rattle.world.specs.ThreadStatus.{standing_view}
 use Rattle.regions.specs.ReportOf.{standing_by_ending, standing_of, shown, shown_row, report}
 use Rattle.regions.specs.Run as source_run
 use Rattle.regions.specs.State as state
@@ -59,7 +59,7 @@ stands : (classes : Classes) (blocked : Bool) (e : Ending) (f : source.Ending) �
 stands classes blocked ending.Unfinished f b e = rw (b, e) refl
 stands classes blocked ending.Ended f b e = rw (b, e) refl
 
-trapped_or : (b : Bool) (trap : ThreadStanding) (held : Standing) (other : ThreadStanding) (kept : Standing) → trap ≡ standing_view held → other ≡ standing_view kept → cond b trap other ≡ standing_view (cond b held kept)
+trapped_or : (b : Bool) (trap : ThreadStanding) (held : ThreadStatus) (other : ThreadStanding) (kept : ThreadStatus) → trap ≡ standing_view held → other ≡ standing_view kept → cond b trap other ≡ standing_view (cond b held kept)
 trapped_or true trap held other kept h k = h
 trapped_or false trap held other kept h k = k
 
@@ -127,7 +127,7 @@ is_finished p scene space addresses ts printed stop journal c now view answer h 
 -- what is written of these parts is what the run writes
 pub writes_run : {T E : Type 0} (p : Lowered) (scene : Scene) (space : Space) (addresses : List ℕ) (ts : List Thread) (printed : List Printed) (stop : Option Stop) (journal : List Entry) (c : Corresponds p scene space addresses ts printed stop journal) (now : Run)
     → ◌≡◌ {A = Run} (record { unit = p.unit; world = scene; journal = journal }) now
-    → (old new : Written) (result : Result T E) (numbers : List Printed) (shown : List Standing) (rows : List ShownRow) (entries : List Entry)
+    → (old new : Written) (result : Result T E) (numbers : List Printed) (shown : List ThreadStatus) (rows : List ShownRow) (entries : List Entry)
     → numbers ≡ printed → shown ≡ standings stop 1 ts → rows ≡ loaded_rows (world_of_scene scene) → entries ≡ journal
     → sink.Writes old new result (report_text (report_with numbers shown rows) ++ journal_line entries)
     → WritesRun now old new result
@@ -135,7 +135,7 @@ writes_run p scene space addresses ts printed stop journal c now view old new re
     let threads = standings stop 1 ts in
     let same : report_text (report_with numbers shown rows) ++ journal_line entries ≡ report_text (report (world_of_scene scene) c.state) ++ journal_line journal =
     ap (λ (l : List Printed). report_text (report_with l shown rows) ++ journal_line entries) n
-    ∙ ap (λ (l : List Standing). report_text (report_with printed l rows) ++ journal_line entries) s
+    ∙ ap (λ (l : List ThreadStatus). report_text (report_with printed l rows) ++ journal_line entries) s
     ∙ ap (λ (l : List ShownRow). report_text (report_with printed threads l) ++ journal_line entries) o
     ∙ ap (λ (l : List Entry). report_text (report_with printed threads (loaded_rows (world_of_scene scene))) ++ journal_line l) e
     ∙ ap (λ (r : Report). report_text r ++ journal_line journal) (sym (report_is p scene space addresses ts printed stop journal c)) in

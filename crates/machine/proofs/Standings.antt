@@ -2,13 +2,13 @@
 use Rattle.std.proofs.Common.{◌≡◌, ℕ, zero, suc, ◌+◌, List, [], ◌∷◌, ◌++◌, length, map, take, Option, Some, refl, ap, ◌∙◌, arith}
 use Rattle.std.specs.Prelude.{slice_get}
 use Rattle.std.specs.List.{enumerate_from}
-use Rattle.world.specs.declared.report.Standing.{Standing}
+use Rattle.world.specs.declared.report.ThreadStatus.{ThreadStatus}
 use Rattle.machine.specs.declared.stop.Stop.{Stop}
 use Rattle.machine.specs.declared.thread.Thread.{Thread}
 use Rattle.machine.specs.Stops.{standing_of}
 
 -- those of the threads from number n on
-abbrev pub standings : Option Stop → (n : ℕ) → List Thread → List Standing
+abbrev pub standings : Option Stop → (n : ℕ) → List Thread → List ThreadStatus
 standings stop n ts = map (λ (t : ℕ × Thread). standing_of stop t.0 t.1.ending) (enumerate_from n ts)
 
 pub length-standings : (stop : Option Stop) (n : ℕ) (ts : List Thread) → length (standings stop n ts) ≡ length ts
@@ -24,4 +24,4 @@ standings-more stop n (x ∷ ts) zero t h =
     ap (λ (y : Thread). standing_of stop n y.ending ∷ []) same ∙ ap (λ (k : ℕ). standing_of stop k t.ending ∷ []) place
 standings-more stop n (x ∷ ts) (suc i) t h =
     let place : n + 1 + i ≡ n + suc i = omega arith in
-    ap (λ (l : List Standing). standing_of stop n x.ending ∷ l) (standings-more stop (n + 1) ts i t h ∙ ap (λ (k : ℕ). standings stop (n + 1) (take i ts) ++ standing_of stop k t.ending ∷ []) place)
+    ap (λ (l : List ThreadStatus). standing_of stop n x.ending ∷ l) (standings-more stop (n + 1) ts i t h ∙ ap (λ (k : ℕ). standings stop (n + 1) (take i ts) ++ standing_of stop k t.ending ∷ []) place)

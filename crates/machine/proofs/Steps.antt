@@ -13,7 +13,7 @@ use Rattle.world.specs.SceneWorld.{world_of_scene}
 use Rattle.regions.specs.State.{State, thread_at, set_thread, lent, with_event, advanced}
 use Rattle.regions.specs.Step.{can_step, is_unfinished, world_step}
 use Rattle.regions.specs.Thread as source
-use Rattle.regions.specs.Thread.{Lent, Shared}
+use Rattle.regions.specs.Thread.{BuffersInUse, Shared}
 use Rattle.regions.proofs.RunLaws.{replay_more, has_room-more}
 use Rattle.regions.specs.Run.{HasRoom, made_between}
 use Rattle.regions.specs.Start.{start}
@@ -82,7 +82,7 @@ threads_next s k t (event.Trapped trap line) = refl
 -- the thread took the step that the source's thread takes, whatever state it stands for
 abbrev pub AdvancesAlways : Lowered → Classes → Space → (addresses : List ℕ) → Thread → Thread → Event → Type 0
 AdvancesAlways p classes space addresses t after e =
-    (lent : Lent) (k : ℕ) (shared : Shared) (s : source.Thread) → shared.monitors ≡ [] → StaticsAgree p shared → BlocksAgree space shared.heap space.blocks → IsTable space addresses (length addresses) → ThreadAgrees p classes space (length addresses) shared t s
+    (lent : BuffersInUse) (k : ℕ) (shared : Shared) (s : source.Thread) → shared.monitors ≡ [] → StaticsAgree p shared → BlocksAgree space shared.heap space.blocks → IsTable space addresses (length addresses) → ThreadAgrees p classes space (length addresses) shared t s
     → Advances p classes space (length addresses) lent k shared s after e
 
 -- ---- thread k of the state that the journal leads to, which is the machine's at i

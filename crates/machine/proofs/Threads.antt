@@ -27,7 +27,7 @@ use Rattle.regions.specs.Effect.{Calls, Returns, effect_of}
 use Rattle.regions.specs.Start.{null_static, waiting_thread}
 use Rattle.regions.specs.Task.{Task, Target, tasks_of}
 use Rattle.regions.specs.Thread as source
-use Rattle.regions.specs.Thread.{Lent, Shared, Monitor, sight_of, without_owner}
+use Rattle.regions.specs.Thread.{BuffersInUse, Shared, Monitor, sight_of, without_owner}
 use Rattle.regions.specs.Variable.{Empty, Statics}
 use Rattle.regions.specs.ThreadStep.{thread_step, step_within, after_effect, next_effect, waits}
 use Rattle.lower.specs.Layout.{Slot, Known, with_static, entry_layout}
@@ -40,7 +40,7 @@ use Rattle.machine.specs.declared.thread.Ending.TheVariants.{Unfinished}
 use Rattle.machine.specs.declared.thread.Event.{Event}
 use Rattle.machine.specs.declared.thread.Event.TheVariants as event
 use Rattle.machine.specs.declared.thread.Thread.{Thread}
-use Rattle.machine.specs.declared.thread.CallToCome.{CallToCome}
+use Rattle.machine.specs.declared.thread.PendingCall.{PendingCall}
 use Rattle.machine.specs.declared.thread.Activation.{Activation}
 use Rattle.machine.specs.Agrees.{StaticsAgree, CallAgrees, CallsAgree, CallStands, WorkAgrees, ReferencesAgree, ThreadAgrees, GoesOn, Advances, ending_view, ending_after}
 use Rattle.machine.specs.Entry.{argument_address, Begins, IsReady}
@@ -93,7 +93,7 @@ unblocked p classes space made k shared t s l h = not_waiting p space classes k 
 -- ---- an instruction
 
 -- One step of a thread, where no monitor is owned.
-module _ (p : Lowered) (classes : Classes) (space : Space) (made : ℕ) (lent : Lent) (k : ℕ) (shared : Shared) (none_owned : shared.monitors ≡ []) (t : Thread) (s : source.Thread) (h : ThreadAgrees p classes space made shared t s) where
+module _ (p : Lowered) (classes : Classes) (space : Space) (made : ℕ) (lent : BuffersInUse) (k : ℕ) (shared : Shared) (none_owned : shared.monitors ≡ []) (t : Thread) (s : source.Thread) (h : ThreadAgrees p classes space made shared t s) where
   -- a step of the source's thread within its call
   steps_by : (task : Task) (rest : List Task) → s.tasks ≡ Some (task ∷ rest) → thread_step (unit_tree p.unit) classes lent k shared s false ≡ after_effect classes lent k shared s rest (effect_of (sight_of shared s) task)
   steps_by task rest tasks = ap (step_within (unit_tree p.unit) classes lent k shared s false) tasks
@@ -144,19 +144,19 @@ returns_by k shared s none pending =
     (record { calls = calls_after ending s.calls; tasks = None; variables = []; frames = []; pending = None; ending = ending }) source.Quiet) pending
     ∙ leaves k shared s.calls none
 
-ending_agrees : (p : Lowered) (classes : Classes) (made : ℕ) (nexts : List CallToCome) (calls : List Invocation) (ending : Ending) → CallsAgree p classes made nexts calls → ending ≡ Unfinished → ending_of calls ≡ ending_view (ending_after nexts ending)
+ending_agrees : (p : Lowered) (classes : Classes) (made : ℕ) (nexts : List PendingCall) (calls : List Invocation) (ending : Ending) → CallsAgree p classes made nexts calls → ending ≡ Unfinished → ending_of calls ≡ ending_view (ending_after nexts ending)
 unfolding ending_of
 ending_agrees p classes made [] [] ending h o = refl
 ending_agrees p classes made [] (c ∷ calls) ending h o = absurd h
 ending_agrees p classes made (n ∷ nexts) [] ending h o = absurd h
 ending_agrees p classes made (n ∷ nexts) (c ∷ calls) ending h o = ap ending_view (sym o)
 
-something_to_do : (p : Lowered) (classes : Classes) (made : ℕ) (nexts : List CallToCome) (calls : List Invocation) (ending : Ending) → CallsAgree p classes made nexts calls → ending_after nexts ending ≡ Unfinished → calls ≡ [] → ⊥
+something_to_do : (p : Lowered) (classes : Classes) (made : ℕ) (nexts : List PendingCall) (calls : List Invocation) (ending : Ending) → CallsAgree p classes made nexts calls → ending_after nexts ending ≡ Unfinished → calls ≡ [] → ⊥
 something_to_do p classes made [] calls ending h o e = cc
 something_to_do p classes made (n ∷ nexts) [] ending h o e = h
 something_to_do p classes made (n ∷ nexts) (c ∷ calls) ending h o e = cc
 
-pub returned : (p : Lowered) (classes : Classes) (space : Space) (made : ℕ) (lent : Lent) (k : ℕ) (shared : Shared) (none_owned : shared.monitors ≡ []) (t : Thread) (s : source.Thread) (h : ThreadAgrees p classes space made shared t s) (call : Activation) (w : Working p space call (visible_to shared s) s.tasks)
+pub returned : (p : Lowered) (classes : Classes) (space : Space) (made : ℕ) (lent : BuffersInUse) (k : ℕ) (shared : Shared) (none_owned : shared.monitors ≡ []) (t : Thread) (s : source.Thread) (h : ThreadAgrees p classes space made shared t s) (call : Activation) (w : Working p space call (visible_to shared s) s.tasks)
     → t.ending ≡ Unfinished → effect_of (sight_of shared s) w.task ≡ Returns
     → Advances p classes space made lent k shared s (record { calls = t.calls; call = None; ending = ending_after t.calls.items t.ending }) event.Quiet
 returned p classes space made lent k shared none_owned t s h call w o is = record {
@@ -177,7 +177,7 @@ returned p classes space made lent k shared none_owned t s h call w o is = recor
 abbrev AreAmongStatics : (statics : Known) → List Static → Type 0
 AreAmongStatics statics all = (x : Identifier) (slot : Slot) → lookup x statics ≡ Some slot → IsTrue (list_any (λ (g : Static). bytes_eq x g.name) all)
 
--- a function's code, behind statics of the file
+-- a function's code, after statics of the file
 record HasCode (all : List Static) (codes : List Listing) (n : ℕ) (f : Function) : Type 0 where
   code : Listing
   at : slice_get codes n ≡ Some code
@@ -185,7 +185,7 @@ record HasCode (all : List Static) (codes : List Listing) (n : ℕ) (f : Functio
   among : AreAmongStatics statics all
   is : IsCodeOf statics f code
 
--- so it is one behind a code more
+-- so it is one after a code more
 later : (all : List Static) (c : Listing) (codes : List Listing) (n : ℕ) (f : Function) → HasCode all codes n f → HasCode all (c ∷ codes) (suc n) f
 later all c codes n f h = record { code = h.code; at = h.at; statics = h.statics; among = h.among; is = h.is }
 
@@ -243,14 +243,14 @@ statics_null : (p : Lowered) (shared : Shared) (statics : Known) → StaticsAgre
 statics_null p shared statics agree among x slot h = ap (λ (ss : Statics). lookup x ss) agree ∙ null_in x (statics_of (unit_tree p.unit)) (among x slot h)
 
 -- the next call to come
-pub record Coming (p : Lowered) (classes : Classes) (made : ℕ) (n : CallToCome) (nexts : List CallToCome) (calls : List Invocation) : Type 0 where
+pub record Coming (p : Lowered) (classes : Classes) (made : ℕ) (n : PendingCall) (nexts : List PendingCall) (calls : List Invocation) : Type 0 where
   pub call : Invocation
   pub rest : List Invocation
   pub is : calls ≡ call ∷ rest
   pub function : CallAgrees p classes made n call
   pub agrees : CallsAgree p classes made nexts rest
 
-pub coming : (p : Lowered) (classes : Classes) (made : ℕ) (n : CallToCome) (all nexts : List CallToCome) (calls : List Invocation) → CallsAgree p classes made all calls → all ≡ n ∷ nexts → Coming p classes made n nexts calls
+pub coming : (p : Lowered) (classes : Classes) (made : ℕ) (n : PendingCall) (all nexts : List PendingCall) (calls : List Invocation) → CallsAgree p classes made all calls → all ≡ n ∷ nexts → Coming p classes made n nexts calls
 coming p classes made n [] nexts calls h e = absurd (cc)
 coming p classes made n (x ∷ xs) nexts [] h e = absurd h
 coming p classes made n (x ∷ xs) nexts (c ∷ calls) h e =
@@ -259,7 +259,7 @@ coming p classes made n (x ∷ xs) nexts (c ∷ calls) h e =
     record { call = c; rest = calls; is = refl; function = subst (λ m. CallAgrees p classes made m c) head h.0; agrees = subst (λ l. CallsAgree p classes made l calls) tail h.1 }
 
 -- a call to come is ready
-pub ready_to_begin : (p : Lowered) (classes : Classes) (made : ℕ) (n : CallToCome) (call : Invocation) → IsLowered p → CallAgrees p classes made n call → IsReady p made n
+pub ready_to_begin : (p : Lowered) (classes : Classes) (made : ℕ) (n : PendingCall) (call : Invocation) → IsLowered p → CallAgrees p classes made n call → IsReady p made n
 ready_to_begin p classes made n call lowered f =
     let code = code_of p n.function f.function lowered f.numbered in
     record {
@@ -309,7 +309,7 @@ module _ (space : Space) (loaded : List ℕ) (made : ℕ) (table : IsTable space
       (made_agrees n w.0 w.1, given_agree vs k b.1)
 
 -- the call stands for the function's statements
-begun : (p : Lowered) (classes : Classes) (space : Space) (loaded : List ℕ) (made : ℕ) (shared : Shared) (s : source.Thread) (rest : List Invocation) (n : CallToCome) (c : Invocation) (call : Activation) → IsLowered p → IsTable space loaded made → StaticsAgree p shared → (f : CallAgrees p classes made n c) → Begins p loaded n call
+begun : (p : Lowered) (classes : Classes) (space : Space) (loaded : List ℕ) (made : ℕ) (shared : Shared) (s : source.Thread) (rest : List Invocation) (n : PendingCall) (c : Invocation) (call : Activation) → IsLowered p → IsTable space loaded made → StaticsAgree p shared → (f : CallAgrees p classes made n c) → Begins p loaded n call
     → CallStands p space call (visible_to shared (entered s rest f.function n.class c.arguments)) (tasks_of f.function.body)
 begun p classes space loaded made shared s rest n c call lowered table statics f b =
     let found = code_of p n.function f.function lowered f.numbered in
@@ -344,7 +344,7 @@ begun p classes space loaded made shared s rest n c call lowered table statics f
       depth = ap (depth_at b.code.instrs) begins.place ∙ ap (λ (st : List ℕ). Some (length st)) (sym begins.stack);
     }
 
-pub enters : (p : Lowered) (classes : Classes) (space : Space) (loaded : List ℕ) (made : ℕ) (lent : Lent) (k : ℕ) (shared : Shared) (t after : Thread) (s : source.Thread) (n : CallToCome) (call : Activation) → IsLowered p → IsTable space loaded made → StaticsAgree p shared → ThreadAgrees p classes space made shared t s → t.call ≡ None → t.calls.items ≡ n ∷ after.calls.items
+pub enters : (p : Lowered) (classes : Classes) (space : Space) (loaded : List ℕ) (made : ℕ) (lent : BuffersInUse) (k : ℕ) (shared : Shared) (t after : Thread) (s : source.Thread) (n : PendingCall) (call : Activation) → IsLowered p → IsTable space loaded made → StaticsAgree p shared → ThreadAgrees p classes space made shared t s → t.call ≡ None → t.calls.items ≡ n ∷ after.calls.items
     → after.call ≡ Some call → Begins p loaded n call → after.ending ≡ t.ending → Advances p classes space made lent k shared s after event.Quiet
 enters p classes space loaded made lent k shared t after s n call lowered table statics h none calls is begins ending =
     let c = coming p classes made n t.calls.items after.calls.items s.calls h.calls calls in

@@ -16,7 +16,7 @@ use Rattle.regions.specs.Effect.{Effect, Returns}
 use Rattle.regions.specs.Start.{null_statics}
 use Rattle.regions.specs.Task.{Task}
 use Rattle.regions.specs.Thread as source
-use Rattle.regions.specs.Thread.{Lent, Shared}
+use Rattle.regions.specs.Thread.{BuffersInUse, Shared}
 use Rattle.regions.specs.ThreadStep.{thread_step, after_effect}
 use Rattle.lower.specs.Layout.{Known}
 use Rattle.lower.specs.Slots.{ArgumentsFit, Visible, visible_to, Shows}
@@ -27,7 +27,7 @@ use Rattle.machine.specs.declared.thread.Ending.TheVariants.{Unfinished, Ended}
 use Rattle.machine.specs.declared.thread.Event.{Event}
 use Rattle.machine.specs.declared.thread.Event.TheVariants.{Quiet, Printed, Trapped}
 use Rattle.machine.specs.declared.thread.Thread.{Thread}
-use Rattle.machine.specs.declared.thread.CallToCome.{CallToCome}
+use Rattle.machine.specs.declared.thread.PendingCall.{PendingCall}
 use Rattle.machine.specs.declared.thread.Activation.{Activation}
 use Rattle.machine.specs.declared.thread.Executed.{Executed}
 use Rattle.machine.specs.declared.thread.Executed.TheVariants.{Did, Returned}
@@ -48,7 +48,7 @@ event_view (Trapped trap line) = source.Trapped (trap_view trap) line
 -- ---- calls
 
 -- A call to come, where so many objects were made at load. A function's number is its place among the unit's functions.
-pub record CallAgrees (p : Lowered) (classes : Classes) (made : ℕ) (next : CallToCome) (call : Invocation) : Type 0 where
+pub record CallAgrees (p : Lowered) (classes : Classes) (made : ℕ) (next : PendingCall) (call : Invocation) : Type 0 where
   pub function : Function
   pub named : function_at (unit_tree p.unit) call.function ≡ Some function
   pub numbered : slice_get (functions_of (unit_tree p.unit)) next.function ≡ Some function
@@ -59,7 +59,7 @@ pub record CallAgrees (p : Lowered) (classes : Classes) (made : ℕ) (next : Cal
   pub fit : ArgumentsFit function.parameters call.arguments
 
 -- call by call
-abbrev pub CallsAgree : Lowered → Classes → (made : ℕ) → List CallToCome → List Invocation → Type 0
+abbrev pub CallsAgree : Lowered → Classes → (made : ℕ) → List PendingCall → List Invocation → Type 0
 CallsAgree p classes made [] [] = Unit {0}
 CallsAgree p classes made [] (c ∷ calls) = ⊥
 CallsAgree p classes made (n ∷ nexts) [] = ⊥
@@ -119,7 +119,7 @@ ThreadsAgree p classes space made shared (t ∷ ts) (s ∷ ss) = ThreadAgrees p 
 
 -- The first task had this effect on thread k, with the rest still to do: the thread goes on within its call, and the
 -- shared state is as it was.
-pub record GoesOn (p : Lowered) (classes : Classes) (space : Space) (lent : Lent) (k : ℕ) (shared : Shared) (s : source.Thread) (rest : List Task) (call : Activation) (effect : Effect) (event : Event) : Type 0 where
+pub record GoesOn (p : Lowered) (classes : Classes) (space : Space) (lent : BuffersInUse) (k : ℕ) (shared : Shared) (s : source.Thread) (rest : List Task) (call : Activation) (effect : Effect) (event : Event) : Type 0 where
   pub next : source.Thread
   pub steps : after_effect classes lent k shared s rest effect ≡ source.Advances shared next (event_view event)
   pub work : WorkAgrees p space (visible_to shared next) (Some call) next.tasks
@@ -128,17 +128,17 @@ pub record GoesOn (p : Lowered) (classes : Classes) (space : Space) (lent : Lent
   pub ending : next.ending ≡ s.ending
 
 -- what an instruction did is the effect of the first of the tasks
-abbrev pub Executes : Lowered → Classes → Space → Lent → ℕ → Shared → source.Thread → (rest : List Task) → Activation → Effect → Executed → Type 0
+abbrev pub Executes : Lowered → Classes → Space → BuffersInUse → ℕ → Shared → source.Thread → (rest : List Task) → Activation → Effect → Executed → Type 0
 Executes p classes space lent k shared s rest call effect (Did event) = GoesOn p classes space lent k shared s rest call effect event
 Executes p classes space lent k shared s rest call effect Returned = effect ≡ Returns
 
 -- the thread took the step that the source's thread takes, which leaves the shared state as it was
-pub record Advances (p : Lowered) (classes : Classes) (space : Space) (made : ℕ) (lent : Lent) (k : ℕ) (shared : Shared) (s : source.Thread) (t : Thread) (event : Event) : Type 0 where
+pub record Advances (p : Lowered) (classes : Classes) (space : Space) (made : ℕ) (lent : BuffersInUse) (k : ℕ) (shared : Shared) (s : source.Thread) (t : Thread) (event : Event) : Type 0 where
   pub next : source.Thread
   pub steps : thread_step (unit_tree p.unit) classes lent k shared s false ≡ source.Advances shared next (event_view event)
   pub agrees : ThreadAgrees p classes space made shared t next
 
 -- how a thread with these calls to come stands after a call
-abbrev pub ending_after : List CallToCome → Ending → Ending
+abbrev pub ending_after : List PendingCall → Ending → Ending
 ending_after [] ending = Ended
 ending_after (n ∷ rest) ending = ending

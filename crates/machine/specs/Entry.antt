@@ -8,7 +8,7 @@ use Rattle.code.specs.Depth.{Listing}
 use Rattle.lower.specs.Lowered.{Lowered}
 use Rattle.lower.specs.Slots.{argument_word, HasRoom}
 use Rattle.machine.specs.declared.thread.Activation.{Activation}
-use Rattle.machine.specs.declared.thread.CallToCome.{CallToCome}
+use Rattle.machine.specs.declared.thread.PendingCall.{PendingCall}
 
 -- where the object lies that an argument refers to
 abbrev pub argument_address : (loaded : List ℕ) → ObjectValue → Option (Option ℕ)
@@ -29,7 +29,7 @@ pub record IsReferencesOf (count : ℕ) (loaded : List ℕ) (class : ℕ) (argum
   pub given : slots ≡ slice_get loaded (class - 1) ∷ filter_map (argument_address loaded) arguments ++ replicate more None
 
 -- a call with this code before its first instruction
-pub record BeginsIn (code : Listing) (loaded : List ℕ) (next : CallToCome) (call : Activation) : Type 0 where
+pub record BeginsIn (code : Listing) (loaded : List ℕ) (next : PendingCall) (call : Activation) : Type 0 where
   pub function : call.function ≡ next.function
   pub place : call.place ≡ 0
   pub stack : call.stack ≡ []
@@ -37,13 +37,13 @@ pub record BeginsIn (code : Listing) (loaded : List ℕ) (next : CallToCome) (ca
   pub references : IsReferencesOf code.slots.references loaded next.class (map argument_view next.arguments.items) call.references.items
 
 -- a call of a program before its first instruction
-pub record Begins (p : Lowered) (loaded : List ℕ) (next : CallToCome) (call : Activation) : Type 0 where
+pub record Begins (p : Lowered) (loaded : List ℕ) (next : PendingCall) (call : Activation) : Type 0 where
   pub code : Listing
   pub of_function : slice_get p.codes next.function ≡ Some code
   pub begins : BeginsIn code loaded next call
 
 -- the class and the arguments of a call are among so many objects, and its code has room for them
-pub record IsReady (p : Lowered) (made : ℕ) (next : CallToCome) : Type 0 where
+pub record IsReady (p : Lowered) (made : ℕ) (next : PendingCall) : Type 0 where
   pub class : (0 < next.class) × (next.class ≤ made)
   pub given : IsTrue (list_all (is_argument made) (map argument_view next.arguments.items))
   pub code : Listing

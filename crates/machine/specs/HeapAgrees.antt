@@ -67,7 +67,7 @@ pub record IsTable (space : Space) (addresses : List ℕ) (count : ℕ) : Type 0
   pub counted : length addresses ≡ count
   pub named : (i a : ℕ) → slice_get addresses i ≡ Some a → name_at space a ≡ Some (i + 1)
 
--- These objects have been made, one behind another from the lowest cell on, and nothing else.
+-- These objects have been made, one after another from the lowest cell on, and nothing else.
 pub record AreMade (space : Space) (addresses : List ℕ) (objects : Heap) : Type 0 where
   pub agree : HeapAgrees space objects (IsName objects)
   pub table : IsTable space addresses (length objects)

@@ -47,7 +47,7 @@ LengthIs classes space None (Err trap) = trap ≡ NullReference
 LengthIs classes space (Some a) (Ok n) = HasArrayClass classes space a × (n ≡ length (values_at space a)) × (n < 2 ^ 31)
 LengthIs classes space (Some a) (Err trap) = HasPlainClass classes space a × (trap ≡ WrongObject)
 
--- the call goes on behind the instruction, with a word in its slot
+-- the call goes on after the instruction, with a word in its slot
 abbrev pub HasWord : Activation → ℕ → ℕ → Activation → Type 0
 HasWord call slot word after =
     (after.function ≡ call.function) × (after.place ≡ call.place + 1) × (after.stack ≡ call.stack)

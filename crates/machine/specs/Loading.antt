@@ -11,7 +11,7 @@ use Rattle.regions.specs.Load.{call_loads, first_load_fault}
 use Rattle.lower.specs.Lowered.{Lowered}
 use Rattle.machine.specs.declared.fault.LoadFault.{LoadFault}
 use Rattle.machine.specs.declared.fault.LoadFault.TheVariants.{DoesNotFit, Memory}
-use Rattle.machine.specs.declared.thread.CallToCome.{CallToCome}
+use Rattle.machine.specs.declared.thread.PendingCall.{PendingCall}
 use Rattle.machine.specs.Agrees.{CallAgrees}
 
 -- the function of a name, and its place among the functions
@@ -21,7 +21,7 @@ pub record IsNumberOf (p : Lowered) (name : List ℕ) (number : ℕ) (f : Functi
   pub has_name : f.name ≡ name
 
 -- a call to come, where so many objects are made at load; none where the call doesn't load
-abbrev pub IsCallOf : Lowered → Classes → (made : ℕ) → Invocation → Option CallToCome → Type 0
+abbrev pub IsCallOf : Lowered → Classes → (made : ℕ) → Invocation → Option PendingCall → Type 0
 IsCallOf p classes made call None = call_loads (unit_tree p.unit) classes call ≡ false
 IsCallOf p classes made call (Some next) = CallAgrees p classes made next call × (call_loads (unit_tree p.unit) classes call ≡ true)
 

@@ -14,7 +14,7 @@ use Rattle.regions.specs.ReportOf.{shown_value}
 abbrev pub object_row : Classes → ℕ × Object → ShownRow
 object_row classes (name, o) = record { name = name; class = class_name classes o.class; values = map (shown_value classes) o.values }
 
--- The rows of the world's objects as they are made at load, behind the class objects and the OutOfMemoryError object.
+-- The rows of the world's objects as they are made at load, after the class objects and the OutOfMemoryError object.
 abbrev pub loaded_rows : World → List ShownRow
 loaded_rows w = map (object_row w.classes) (enumerate_from (length w.classes + 2) w.objects)
 

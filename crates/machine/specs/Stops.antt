@@ -1,7 +1,7 @@
 -- Why and where the machine has stopped, as it is held in memory.
 use Rattle.std.specs.Prelude.{ℕ, ◌==◌, if◌then◌else◌, Option, Some, None}
-use Rattle.world.specs.declared.report.Standing.{Standing}
-use Rattle.world.specs.declared.report.Standing.TheVariants as standing
+use Rattle.world.specs.declared.report.ThreadStatus.{ThreadStatus}
+use Rattle.world.specs.declared.report.ThreadStatus.TheVariants as standing
 use Rattle.regions.specs.State as state
 use Rattle.regions.specs.Value as source
 use Rattle.machine.specs.declared.stop.Trap.{Trap}
@@ -35,11 +35,11 @@ stop_after stop k (Printed z) = stop
 stop_after stop k (Trapped trap line) = Some (record { thread = k; trap = trap; line = line })
 
 -- how a thread stands that didn't trap
-abbrev pub standing_by_ending : Ending → Standing
+abbrev pub standing_by_ending : Ending → ThreadStatus
 standing_by_ending Unfinished = standing.Running
 standing_by_ending Ended = standing.Ended
 
 -- the same of thread k; only the one that stopped the machine trapped
-abbrev pub standing_of : Option Stop → (k : ℕ) → Ending → Standing
+abbrev pub standing_of : Option Stop → (k : ℕ) → Ending → ThreadStatus
 standing_of None k ending = standing_by_ending ending
 standing_of (Some stop) k ending = if stop.thread == k then standing.Trapped (source.trap_number (trap_view stop.trap)) stop.line else standing_by_ending ending

@@ -7,7 +7,7 @@ ghost use Rattle.world.specs.CallArguments.{is_argument};
 ghost use Rattle.lower.specs.Slots.{argument_word, HasRoom};
 ghost use Rattle.machine.specs.Entry.{argument_address, IsNumbersOf, IsReferencesOf, BeginsIn};
 
-use crate::thread::{Activation, CallToCome};
+use crate::thread::{Activation, PendingCall};
 use code::code::Code;
 use code::stack::Stack;
 use heap::Addr;
@@ -20,7 +20,7 @@ pub fn begin(
     alloc: Global,
     code: &Code,
     loaded: &[Addr],
-    next: &CallToCome,
+    next: &PendingCall,
 ) -> Result<Activation, AllocError>
     requires class { 0 < next.now.class }
     requires given { IsTrue (list_all (is_argument (length loaded.now)) (map argument_view next.now.arguments.items)) }

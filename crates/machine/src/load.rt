@@ -20,7 +20,7 @@ ghost use Rattle.machine.specs.Agrees.{ThreadAgrees, ThreadsAgree};
 ghost use Rattle.machine.specs.Loading.{IsNumberOf, IsCallOf, IsFirstOf, refused_calls};
 
 use crate::fault::LoadFault;
-use crate::thread::{CallToCome, Ending, Thread};
+use crate::thread::{Ending, PendingCall, Thread};
 use classes::mangling::unmangle;
 use lower::Program;
 use std::alloc::{AllocError, Global};
@@ -83,7 +83,7 @@ fn load_call(
     program: &Program<'_>,
     world: &World,
     call: &Call,
-) -> Result<Option<CallToCome>, AllocError>
+) -> Result<Option<PendingCall>, AllocError>
     requires { IsTrue (are_arguments (length (loaded_objects (world_of_scene world.now))) call.now) }
     ensures { IfOk result (IsCallOf program.now (world_of_scene world.now).classes (length (loaded_objects (world_of_scene world.now))) (invocation_of call.now)) }
 {
@@ -96,7 +96,7 @@ fn load_call(
     if !fit(&found.function.parameters, call.arguments()) {
         return Ok(None);
     }
-    Ok(Some(CallToCome {
+    Ok(Some(PendingCall {
         function: found.number,
         class,
         arguments: Vec::from_slice(alloc, call.arguments())?,

@@ -22,7 +22,9 @@ use heap::{Addr, Heap};
 use lower::Program;
 use std::alloc::{AllocError, Global};
 use std::marker::Model;
-use world::{Entry, Printed, Schedule, ScheduleWord, Sink, SinkFailed, Standing, World, write_run};
+use world::{
+    Entry, Printed, Schedule, ScheduleWord, Sink, SinkFailed, ThreadStatus, World, write_run,
+};
 
 /// How many entries a journal has at most.
 pub const MOST_ENTRIES: usize = 1_000_000;
@@ -267,7 +269,7 @@ fn has_ended(thread: &Thread) -> bool
 }
 
 /// How each thread stands.
-fn standings_of(threads: &[Thread], stop: Option<Stop>) -> ArrayVec<Standing, 8>
+fn standings_of(threads: &[Thread], stop: Option<Stop>) -> ArrayVec<ThreadStatus, 8>
     requires { length threads.now ≤ 8 }
     ensures { result.items ≡ map (λ thread. standing_of stop thread.0 thread.1.ending) (enumerate_from 1 threads.now) }
 {
@@ -281,21 +283,21 @@ fn standings_of(threads: &[Thread], stop: Option<Stop>) -> ArrayVec<Standing, 8>
 }
 
 /// How thread `k` stands.
-fn standing_of(stop: Option<Stop>, k: u8, ending: Ending) -> Standing
+fn standing_of(stop: Option<Stop>, k: u8, ending: Ending) -> ThreadStatus
     ensures { result ≡ standing_of stop k ending }
 {
     match stop {
-        Some(stop) if stop.thread == k => Standing::Trapped(stop.trap.number(), stop.line),
+        Some(stop) if stop.thread == k => ThreadStatus::Trapped(stop.trap.number(), stop.line),
         _ => standing_by_ending(ending),
     }
 }
 
 /// How a thread stands that didn't trap.
-fn standing_by_ending(ending: Ending) -> Standing
+fn standing_by_ending(ending: Ending) -> ThreadStatus
     ensures { result ≡ standing_by_ending ending }
 {
     match ending {
-        Ending::Unfinished => Standing::Running,
-        Ending::Ended => Standing::Ended,
+        Ending::Unfinished => ThreadStatus::Running,
+        Ending::Ended => ThreadStatus::Ended,
     }
 }

@@ -24,7 +24,7 @@ const CLASS: u32 = 2;
 const OUT_OF_MEMORY_ERROR: u32 = 11;
 
 /// The heap with the objects that are made before the first step: the class objects, the OutOfMemoryError object and
-/// the world's, in this order. Behind it the address of each, by its name, counted from 1.
+/// the world's, in this order. After it the address of each, by its name, counted from 1.
 pub fn load_heap(alloc: Global, world: &World) -> Result<(Heap, Vec<Addr>), AllocError>
     ensures made { IfOk result (λ made. AreMade made.0 made.1.items (loaded_objects (world_of_scene world.now))) }
 {

@@ -4,7 +4,7 @@ ghost use Rattle.std.specs.Prelude.{◌≡◌, ℕ, ◌<◌, Some, None, [], ◌
 ghost use Rattle.std.specs.VecDeque.{deque_len};
 ghost use Rattle.regions.specs.Effect.{effect_of};
 ghost use Rattle.regions.specs.Task.{Task};
-ghost use Rattle.regions.specs.Thread.{Lent, Shared, Thread as SourceThread, sight_of};
+ghost use Rattle.regions.specs.Thread.{BuffersInUse, Shared, Thread as SourceThread, sight_of};
 ghost use Rattle.world.specs.SceneWorld.{world_of_scene};
 ghost use Rattle.lower.specs.Lowered.{IsLowered};
 ghost use Rattle.lower.specs.Slots.{Visible, visible_to};
@@ -45,7 +45,7 @@ pub enum Event {
 /// A thread: the calls that it has still to make, and the call in progress.
 #[derive(Drop, Debug)]
 pub struct Thread {
-    pub calls: VecDeque<CallToCome>,
+    pub calls: VecDeque<PendingCall>,
     pub call: Option<Activation>,
     pub ending: Ending,
 }
@@ -53,7 +53,7 @@ pub struct Thread {
 /// A call that a thread has still to make: its function and the function's class by their numbers, and what the function
 /// is given.
 #[derive(Drop, Debug)]
-pub struct CallToCome {
+pub struct PendingCall {
     pub function: usize,
     pub class: usize,
     pub arguments: Vec<Argument>,
@@ -77,7 +77,7 @@ pub enum Executed {
     Returned,
 }
 
-/// Takes one step of a thread that has not ended. Behind `heap` stand the addresses of the objects made at load, by their
+/// Takes one step of a thread that has not ended. After `heap` stand the addresses of the objects made at load, by their
 /// names, counted from 1. Only the entry into a call takes host memory.
 pub fn advance(
     program: &Program<'_>,
@@ -88,7 +88,7 @@ pub fn advance(
 ) -> Result<Event, AllocError>
     requires lowered { IsLowered program.now }
     requires agrees { (shared : Shared) × (s : SourceThread) × ThreadAgrees program.now (world_of_scene world.now).classes heap.now (length loaded.now) shared thread.old s × (thread.old.ending ≡ Ending.Unfinished) }
-    ensures advances { IfOk result (λ event. (lent : Lent) (k : ℕ) (shared : Shared) (s : SourceThread) → shared.monitors ≡ [] → StaticsAgree program.now shared → BlocksAgree heap.now shared.heap heap.now.blocks
+    ensures advances { IfOk result (λ event. (lent : BuffersInUse) (k : ℕ) (shared : Shared) (s : SourceThread) → shared.monitors ≡ [] → StaticsAgree program.now shared → BlocksAgree heap.now shared.heap heap.now.blocks
         → IsTable heap.now loaded.now (length loaded.now) → ThreadAgrees program.now (world_of_scene world.now).classes heap.now (length loaded.now) shared thread.old s
         → Advances program.now (world_of_scene world.now).classes heap.now (length loaded.now) lent k shared s thread.new event) }
     ensures err { OnErr result (thread.new ≡ thread.old) }
@@ -112,8 +112,8 @@ pub fn advance(
 fn enter(program: &Program<'_>, loaded: &[Addr], thread: &mut Thread) -> Result<(), AllocError>
     requires lowered { IsLowered program.now }
     requires some { 0 < deque_len thread.old.calls }
-    requires ready { (next : CallToCome) (rest : List CallToCome) → thread.old.calls.items ≡ next ∷ rest → IsReady program.now (length loaded.now) next }
-    ensures calls { OnOk result ((next : CallToCome) × (call : Activation) × (thread.old.calls.items ≡ next ∷ thread.new.calls.items)
+    requires ready { (next : PendingCall) (rest : List PendingCall) → thread.old.calls.items ≡ next ∷ rest → IsReady program.now (length loaded.now) next }
+    ensures calls { OnOk result ((next : PendingCall) × (call : Activation) × (thread.old.calls.items ≡ next ∷ thread.new.calls.items)
         × (thread.new.call ≡ Some call) × Begins program.now loaded.now next call) }
     ensures ending { OnOk result (thread.new.ending ≡ thread.old.ending) }
     ensures err { OnErr result (thread.new ≡ thread.old) }
@@ -144,7 +144,7 @@ fn leave(thread: &mut Thread)
 fn execute(program: &Program<'_>, world: &World, heap: &Heap, call: &mut Activation) -> Executed
     requires lowered { IsLowered program.now }
     requires stands { (visible : Visible) × (task : Task) × (rest : List Task) × CallStands program.now heap.now call.old visible (task ∷ rest) }
-    ensures { (lent : Lent) (k : ℕ) (shared : Shared) (s : SourceThread) (task : Task) (rest : List Task) → s.tasks ≡ Some (task ∷ rest) → s.pending ≡ None → StaticsAgree program.now shared
+    ensures { (lent : BuffersInUse) (k : ℕ) (shared : Shared) (s : SourceThread) (task : Task) (rest : List Task) → s.tasks ≡ Some (task ∷ rest) → s.pending ≡ None → StaticsAgree program.now shared
         → BlocksAgree heap.now shared.heap heap.now.blocks → CallStands program.now heap.now call.old (visible_to shared s) (task ∷ rest)
         → Executes program.now (world_of_scene world.now).classes heap.now lent k shared s rest call.new (effect_of (sight_of shared s) task) result }
 {

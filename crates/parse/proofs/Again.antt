@@ -12,7 +12,7 @@ use Rattle.parse.specs.declared.lexemes.Fixed.TheVariants as fixed
 use Rattle.parse.specs.Meaning.{Meaning, Fixed', Name'}
 use Rattle.parse.specs.Lexemes.{Lexed, same_fixed, is_fixed_meaning, expect}
 use Rattle.parse.specs.Spelling.{Spelled, Anywhere, OnLine, mark, word, reference_word, element_word, variable_word, result_word, parameter_word, expression, setting, test_tokens, statement, inside, parameter, function, item}
-use Rattle.parse.specs.Reading.{starts_with, behind, ReadStmt, simple_at, ReadBlock, BlockReader, else_by, if_by, while_by, statement_by, is_return, block_by, inner, block_at, parameter_at, parameters_at, head_at, body_at, function_at, static_at, item_at, items_at}
+use Rattle.parse.specs.Reading.{starts_with, rest_of, ReadStmt, simple_at, ReadBlock, BlockReader, else_by, if_by, while_by, statement_by, is_return, block_by, inner, block_at, parameter_at, parameters_at, head_at, body_at, function_at, static_at, item_at, items_at}
 use Rattle.parse.proofs.Forms.{names_of, names_in, IsTest, IsForm, MayFollow, IsBlock, IsFunction, AreItems, IsExpr}
 use Rattle.parse.proofs.Singles.{Begins, same_itself, begins_split, begins_length, shortens, first_rest, first_is, expect_again, name_again, on_is, on_line_is}
 use Rattle.parse.proofs.Table.{Closes, closes_mark}
@@ -140,7 +140,7 @@ plain_simple room free s ls rest h first none is plain =
 
 -- ---- blocks
 
--- a test in its parentheses, and what stands behind them
+-- a test in its parentheses, and what stands after them
 record Tested (test more : List Spelled) (ls rest : List Lexed) : Type 0 where
   inner_ls : List Lexed
   closing : List Lexed
@@ -149,7 +149,7 @@ record Tested (test more : List Spelled) (ls rest : List Lexed) : Type 0 where
   parts : Begins test inner_ls closing
   closed : Closes closing
   closes : expect (fixed.Mark marks.CloseParen) closing ≡ Ok mid
-  behind_it : Begins more mid rest
+  after_it : Begins more mid rest
 
 abbrev rest_read : List Lexed → Result (List Lexed) ParseFault
 rest_read ls = Ok ls
@@ -168,7 +168,7 @@ tested_again test more ls rest h =
       parts = p.1;
       closed = closes_mark marks.CloseParen refl refl [] p.0 s.0 p.2;
       closes = c.1 ∙ ap rest_read c.2;
-      behind_it = s.2;
+      after_it = s.2;
     }
 
 abbrev AllBlocksAgain : BlockReader → ℕ → Type 0
@@ -183,7 +183,7 @@ module _ (deep : BlockReader) (room : ℕ) (all : AllBlocksAgain deep room) wher
   unfolding if_by
   if_head free line test b ls mid h some is_test is_block few =
       let t = tested_again (test_tokens test) (mark marks.OpenBrace ∷ inside b) ls mid h in
-      let d = expect_again (fixed.Mark marks.OpenBrace) (inside b) t.mid mid t.behind_it in
+      let d = expect_again (fixed.Mark marks.OpenBrace) (inside b) t.mid mid t.after_it in
       rw (t.opens, test_again room test t.inner_ls t.closing t.parts is_test t.closed, t.closes, d.1, all free b d.0 mid some d.2 is_block few) refl
 
   if_again : (free line : ℕ) (test : Test) (b : Block) (ls rest : List Lexed) → Begins (tested_tail (test_tokens test) ++ mark marks.OpenBrace ∷ inside b) ls rest → 1 ≤ room → IsTest room test → IsBlock (room - 1) b → names_in b ≤ free → starts_with (fixed.Word words.Else) rest ≡ false → if_by deep room free line ls ≡ Ok (If line test b, free - names_in b, rest)
@@ -194,14 +194,14 @@ module _ (deep : BlockReader) (room : ℕ) (all : AllBlocksAgain deep room) wher
   unfolding else_by
   else_again free line test b d ls rest h some is_block few =
       let s = first_is (Fixed' (fixed.Word words.Else)) (mark marks.OpenBrace ∷ inside d) ls rest (fixed.Word words.Else) h in
-      let o = expect_again (fixed.Mark marks.OpenBrace) (inside d) (behind ls) rest (first_rest (word words.Else) (mark marks.OpenBrace ∷ inside d) ls rest h) in
+      let o = expect_again (fixed.Mark marks.OpenBrace) (inside d) (rest_of ls) rest (first_rest (word words.Else) (mark marks.OpenBrace ∷ inside d) ls rest h) in
       rw (s, o.1, all free d o.0 rest some o.2 is_block few) refl
 
   while_again : (free line : ℕ) (test : Expr) (b : Block) (ls rest : List Lexed) → Begins (tested_tail (expression test) ++ mark marks.OpenBrace ∷ inside b) ls rest → 1 ≤ room → IsExpr room test → IsBlock (room - 1) b → names_in b ≤ free → while_by deep room free line ls ≡ Ok (While line test b, free - names_in b, rest)
   unfolding while_by
   while_again free line test b ls rest h some is_test is_block few =
       let t = tested_again (expression test) (mark marks.OpenBrace ∷ inside b) ls rest h in
-      let d = expect_again (fixed.Mark marks.OpenBrace) (inside b) t.mid rest t.behind_it in
+      let d = expect_again (fixed.Mark marks.OpenBrace) (inside b) t.mid rest t.after_it in
       rw (t.opens, expr_reads_again room t.inner_ls t.closing test t.parts is_test t.closed, t.closes, d.1, all free b d.0 rest some d.2 is_block few) refl
 
   simple_again : (free : ℕ) (s : Stmt) (ls rest : List Lexed) → Begins (statement s) ls rest → is_fixed_meaning (first_meaning s) (fixed.Word words.If) ≡ false → is_fixed_meaning (first_meaning s) (fixed.Word words.While) ≡ false → simple_at room free ls ≡ Ok (s, free - names_of s, rest) → statement_by deep room free ls ≡ Ok (s, free - names_of s, rest)
@@ -212,7 +212,7 @@ module _ (deep : BlockReader) (room : ℕ) (all : AllBlocksAgain deep room) wher
   declared_statement free s ls rest h first one is declared few =
       simple_again free s ls rest h (declares_no (first_meaning s) (fixed.Word words.If) first refl) (declares_no (first_meaning s) (fixed.Word words.While) first refl) (declared_simple room free s ls rest h first one is declared few)
 
-  -- a statement, behind which no `else` stands
+  -- a statement, after which no `else` stands
   statement_again : (free : ℕ) (s : Stmt) (ls rest : List Lexed) → Begins (statement s) ls rest → IsForm room s → names_of s ≤ free → starts_with (fixed.Word words.Else) rest ≡ false → statement_by deep room free ls ≡ Ok (s, free - names_of s, rest)
   unfolding statement_by first_meaning
   statement_again free (Declare line t x r) ls rest h is few other = declared_statement free (Declare line t x r) ls rest h (variable_declares t) refl is tt few
@@ -229,14 +229,14 @@ module _ (deep : BlockReader) (room : ℕ) (all : AllBlocksAgain deep room) wher
       let m : Meaning = Fixed' (fixed.Word words.If) in
       let es : List Spelled = tested_tail (test_tokens test) ++ mark marks.OpenBrace ∷ inside b in
       let s = on_is line m es ls rest (fixed.Word words.If) h in
-      rw (s, ne_eqb room 0 (omega (arith, is.0)), on_line_is line m es ls rest h) (if_again free line test b (behind ls) rest (first_rest (OnLine line m) es ls rest h) is.0 is.1 is.2 few other)
+      rw (s, ne_eqb room 0 (omega (arith, is.0)), on_line_is line m es ls rest h) (if_again free line test b (rest_of ls) rest (first_rest (OnLine line m) es ls rest h) is.0 is.1 is.2 few other)
   statement_again free (IfElse line test b d) ls rest h is few other =
       let m : Meaning = Fixed' (fixed.Word words.If) in
       let es : List Spelled = tested_tail (test_tokens test) ++ mark marks.OpenBrace ∷ inside b in
       let parts = begins_split (OnLine line m ∷ es) (word words.Else ∷ mark marks.OpenBrace ∷ inside d) ls rest h in
       let split = names_split (statements_of b) (statements_of d) in
       let s = on_is line m es ls parts.0 (fixed.Word words.If) parts.1 in
-      let first = if_head free line test b (behind ls) parts.0 (first_rest (OnLine line m) es ls parts.0 parts.1) is.0 is.1 is.2 (omega (arith, few, split)) in
+      let first = if_head free line test b (rest_of ls) parts.0 (first_rest (OnLine line m) es ls parts.0 parts.1) is.0 is.1 is.2 (omega (arith, few, split)) in
       let second = else_again (free - names_in b) line test b d parts.0 rest parts.2 is.0 is.3 (omega (arith, few, split)) in
       let left : free - names_in b - names_in d ≡ free - names_of (IfElse line test b d) = omega (arith, split) in
       rw (s, ne_eqb room 0 (omega (arith, is.0)), on_line_is line m es ls parts.0 parts.1, first, second) (ap (λ (n : ℕ). statement_read (IfElse line test b d) n rest) left)
@@ -245,7 +245,7 @@ module _ (deep : BlockReader) (room : ℕ) (all : AllBlocksAgain deep room) wher
       let es : List Spelled = tested_tail (expression test) ++ mark marks.OpenBrace ∷ inside b in
       let s = on_is line m es ls rest (fixed.Word words.If) h in
       let t = on_is line m es ls rest (fixed.Word words.While) h in
-      rw (s, t, ne_eqb room 0 (omega (arith, is.0)), on_line_is line m es ls rest h) (while_again free line test b (behind ls) rest (first_rest (OnLine line m) es ls rest h) is.0 is.1 is.2 few)
+      rw (s, t, ne_eqb room 0 (omega (arith, is.0)), on_line_is line m es ls rest h) (while_again free line test b (rest_of ls) rest (first_rest (OnLine line m) es ls rest h) is.0 is.1 is.2 few)
 
   block_by_again : (free : ℕ) (b : Block) (steps : ℕ) (returned : Bool) (ls rest : List Lexed) → length ls ≤ steps → Begins (inside b) ls rest → IsBlock room b → MayFollow returned b → names_in b ≤ free → block_by deep room free (suc steps) returned ls ≡ Ok (b, free - names_in b, rest)
   unfolding block_by
@@ -280,7 +280,7 @@ block_again room free b ls rest h is few = rw (add-one (length ls)) (block_by_ag
 
 -- ---- functions
 
-expect_on : (line : ℕ) (f : Fixed) (es : List Spelled) (ls rest : List Lexed) → Begins (OnLine line (Fixed' f) ∷ es) ls rest → expect f ls ≡ Ok (behind ls)
+expect_on : (line : ℕ) (f : Fixed) (es : List Spelled) (ls rest : List Lexed) → Begins (OnLine line (Fixed' f) ∷ es) ls rest → expect f ls ≡ Ok (rest_of ls)
 unfolding expect
 expect_on line f es [] rest h = absurd h
 expect_on line f es (l ∷ ls) rest h = rw (h.0.0, same_itself f) refl
@@ -296,11 +296,11 @@ head_again es ls rest h =
     let f = expect_again (fixed.Word words.Jclass) es e.0 rest e.2 in
     (f.0, rw (a.1, b.1, c.1, d.1, e.1) f.1, f.2)
 
-parameter_again : (p : Parameter) (es : List Spelled) (ls rest : List Lexed) → Begins (word (parameter_word p.type) ∷ Anywhere (Name' p.name) ∷ es) ls rest → parameter_at ls ≡ Ok (p, behind (behind ls))
+parameter_again : (p : Parameter) (es : List Spelled) (ls rest : List Lexed) → Begins (word (parameter_word p.type) ∷ Anywhere (Name' p.name) ∷ es) ls rest → parameter_at ls ≡ Ok (p, rest_of (rest_of ls))
 unfolding parameter_at
 parameter_again p es ls rest h =
     let inside_type = first_rest (word (parameter_word p.type)) (Anywhere (Name' p.name) ∷ es) ls rest h in
-    rw (parameter_type_again p.type (Anywhere (Name' p.name) ∷ es) ls rest h, name_again p.name es (behind ls) rest inside_type) refl
+    rw (parameter_type_again p.type (Anywhere (Name' p.name) ∷ es) ls rest h, name_again p.name es (rest_of ls) rest inside_type) refl
 
 abbrev parameters_read : List Parameter → List Lexed → Result (List Parameter × List Lexed) ParseFault
 parameters_read ps ls = Ok (ps, ls)
@@ -315,10 +315,10 @@ parameters_again (suc free) (p ∷ ps) ls rest few h comma =
     let es : List Spelled = word (parameter_word p.type) ∷ es1 in
     let s = first_is (Fixed' (fixed.Mark marks.Comma)) es ls rest (fixed.Mark marks.Comma) h in
     let h1 = first_rest (mark marks.Comma) es ls rest h in
-    let h2 = first_rest (word (parameter_word p.type)) es1 (behind ls) rest h1 in
-    let h3 = first_rest (Anywhere (Name' p.name)) (flat_map parameter ps) (behind (behind ls)) rest h2 in
-    let one = parameter_again p (flat_map parameter ps) (behind ls) rest h1 in
-    let more = parameters_again free ps (behind (behind (behind ls))) rest (omega (arith, few)) h3 comma in
+    let h2 = first_rest (word (parameter_word p.type)) es1 (rest_of ls) rest h1 in
+    let h3 = first_rest (Anywhere (Name' p.name)) (flat_map parameter ps) (rest_of (rest_of ls)) rest h2 in
+    let one = parameter_again p (flat_map parameter ps) (rest_of ls) rest h1 in
+    let more = parameters_again free ps (rest_of (rest_of (rest_of ls))) rest (omega (arith, few)) h3 comma in
     rw (s, one, more) refl
 
 body_again : (free : ℕ) (b : Block) (ls rest : List Lexed) → Begins (mark marks.CloseParen ∷ mark marks.OpenBrace ∷ inside b) ls rest → IsBlock 31 b → names_in b ≤ free → body_at free ls ≡ Ok (b, rest)
@@ -347,17 +347,17 @@ function_again f ls rest h is =
     let es1 : List Spelled = word (result_word f.result) ∷ es2 in
     let first : Spelled = OnLine f.line (Fixed' (fixed.Word words.JniExport)) in
     let h1 = first_rest first es1 ls rest h in
-    let r = result_type_again f.result es2 (behind ls) rest h1 in
-    let h2 = first_rest (word (result_word f.result)) es2 (behind ls) rest h1 in
-    let c = expect_again (fixed.Word words.JniCall) es3 (behind (behind ls)) rest h2 in
+    let r = result_type_again f.result es2 (rest_of ls) rest h1 in
+    let h2 = first_rest (word (result_word f.result)) es2 (rest_of ls) rest h1 in
+    let c = expect_again (fixed.Word words.JniCall) es3 (rest_of (rest_of ls)) rest h2 in
     let n = name_again f.name es4 c.0 rest c.2 in
     let h4 = first_rest (Anywhere (Name' f.name)) es4 c.0 rest c.2 in
-    let e = head_again es5 (behind c.0) rest h4 in
+    let e = head_again es5 (rest_of c.0) rest h4 in
     let k = name_again f.class_name es6 e.0 rest e.2 in
     let h6 = first_rest (Anywhere (Name' f.class_name)) es6 e.0 rest e.2 in
-    let parts = begins_split (flat_map parameter f.parameters) es7 (behind e.0) rest h6 in
+    let parts = begins_split (flat_map parameter f.parameters) es7 (rest_of e.0) rest h6 in
     let comma = first_is (Fixed' (fixed.Mark marks.CloseParen)) (mark marks.OpenBrace ∷ inside f.body) parts.0 rest (fixed.Mark marks.Comma) parts.2 in
-    let q = parameters_again 255 f.parameters (behind e.0) parts.0 (omega (arith, names)) parts.1 comma in
+    let q = parameters_again 255 f.parameters (rest_of e.0) parts.0 (omega (arith, names)) parts.1 comma in
     let b = body_again (255 - length f.parameters) f.body parts.0 rest parts.2 is.body (omega (arith, names)) in
     let p = begins_length (first ∷ es1) ls rest h in
     record {
@@ -388,10 +388,10 @@ static_again s ls rest h =
     let es2 : List Spelled = Anywhere (Name' s.name) ∷ es3 in
     let es1 : List Spelled = word (reference_word s.type) ∷ es2 in
     let h1 = first_rest (OnLine s.line m) es1 ls rest h in
-    let t = reference_type_again s.type es2 (behind ls) rest h1 in
-    let h2 = first_rest (word (reference_word s.type)) es2 (behind ls) rest h1 in
-    let n = name_again s.name es3 (behind (behind ls)) rest h2 in
-    let a = expect_again (fixed.Mark marks.Assign) es4 (behind (behind (behind ls))) rest (first_rest (Anywhere (Name' s.name)) es3 (behind (behind ls)) rest h2) in
+    let t = reference_type_again s.type es2 (rest_of ls) rest h1 in
+    let h2 = first_rest (word (reference_word s.type)) es2 (rest_of ls) rest h1 in
+    let n = name_again s.name es3 (rest_of (rest_of ls)) rest h2 in
+    let a = expect_again (fixed.Mark marks.Assign) es4 (rest_of (rest_of (rest_of ls))) rest (first_rest (Anywhere (Name' s.name)) es3 (rest_of (rest_of ls)) rest h2) in
     let b = expect_again (fixed.Word words.Null) (mark marks.Semicolon ∷ []) a.0 rest a.2 in
     let c = expect_again (fixed.Mark marks.Semicolon) [] b.0 rest b.2 in
     let p = begins_length (OnLine s.line m ∷ es1) ls rest h in

@@ -11,7 +11,7 @@ use Rattle.parse.specs.declared.fault.ParseFault.TheVariants.{Memory, Found}
 use Rattle.parse.specs.declared.lexemes.Fixed.TheVariants as fixed
 use Rattle.parse.specs.Results.{◌>>=◌, Fails}
 use Rattle.parse.specs.Lexemes.{Lexed, line_at, fault_at}
-use Rattle.parse.specs.Reading.{starts_with, behind, is_return, ReadBlock, block_by, inner, statement_at, block_at, item_at, items_at}
+use Rattle.parse.specs.Reading.{starts_with, rest_of, is_return, ReadBlock, block_by, inner, statement_at, block_at, item_at, items_at}
 use Rattle.parse.proofs.Nested.{statement_takes}
 use Rattle.parse.proofs.Programs.{item_takes}
 
@@ -39,7 +39,7 @@ before_end (s ∷ ss) line = ap (λ (c : Block). Next (stmt_tree s) c) (before_e
 abbrev pub with_before : List StmtInMemory → Result ReadBlock ParseFault → Result ReadBlock ParseFault
 with_before ss read = read >>= λ b. Ok (before ss b.0, b.1, b.2)
 
--- What is read from here, behind the statements so far, is all that is read.
+-- What is read from here, after the statements so far, is all that is read.
 pub record Fills (room free : ℕ) (ss : List StmtInMemory) (returned : Bool) (ls : List Lexed) (total : Result ReadBlock ParseFault) : Type 0 where
   pub steps : ℕ
   pub enough : length ls ≤ steps
@@ -60,10 +60,10 @@ regroup ss s (Ok x) = ap (given x.1 x.2) (before_push ss s x.0)
 regroup ss s (Err e) = refl
 
 module _ (room free : ℕ) (ss : List StmtInMemory) (returned : Bool) (ls : List Lexed) (total : Result ReadBlock ParseFault) (f : Fills room free ss returned ls total) where
-  pub fills_done : starts_with (fixed.Mark marks.CloseBrace) ls ≡ true → total ≡ Ok (statements_tree ss (line_at ls), free, behind ls)
+  pub fills_done : starts_with (fixed.Mark marks.CloseBrace) ls ≡ true → total ≡ Ok (statements_tree ss (line_at ls), free, rest_of ls)
   unfolding block_by
   fills_done s =
-      let one : with_before ss (block_by (inner room) room free (suc f.steps) returned ls) ≡ Ok (statements_tree ss (line_at ls), free, behind ls) = rw s (ap (given free (behind ls)) (before_end ss (line_at ls))) in
+      let one : with_before ss (block_by (inner room) room free (suc f.steps) returned ls) ≡ Ok (statements_tree ss (line_at ls), free, rest_of ls) = rw s (ap (given free (rest_of ls)) (before_end ss (line_at ls))) in
       sym f.same ∙ one
 
   pub fills_refuses : starts_with (fixed.Mark marks.CloseBrace) ls ≡ false → returned ≡ true → total ≡ Err (fault_at NoForm ls)

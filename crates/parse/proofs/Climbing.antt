@@ -9,7 +9,7 @@ use Rattle.parse.specs.declared.fault.ParseFault.{ParseFault}
 use Rattle.parse.specs.declared.fault.ParseFault.TheVariants.{Memory, Found}
 use Rattle.parse.specs.Results.{◌>>=◌, Fails}
 use Rattle.parse.specs.Lexemes.{Lexed, fault_at}
-use Rattle.parse.specs.Reading.{ReadExpr, behind, operator_at, climb, climb_step, deeper, operand_at, expr_by, expr_at}
+use Rattle.parse.specs.Reading.{ReadExpr, rest_of, operator_at, climb, climb_step, deeper, operand_at, expr_by, expr_at}
 
 -- Some steps are left, and what is read from here is all that is read.
 pub record Climbs (room least : ℕ) (left : Expr) (high : ℕ) (ls : List Lexed) (total : Result ReadExpr ParseFault) : Type 0 where
@@ -49,15 +49,15 @@ module _ (room least : ℕ) (left : Expr) (high : ℕ) (ls : List Lexed) (total 
   pub climb_high : (op : BinaryOp) → Some op ≡ operator_at ls → least ≤ operator_level op → room ≤ high → total ≡ Err (fault_at TooHigh ls)
   climb_high op e le full = sym (step_is (Some op) e) ∙ rw (le-ltb (operator_level op) least le, le-ltb high room full) refl
 
-  joined : (op : BinaryOp) → Some op ≡ operator_at ls → least ≤ operator_level op → high < room → total ≡ (expr_at (room - 1) (operator_level op + 1) (behind ls) >>= λ r. climb (deeper room) room least c.steps (Binary op left r.0) (1 + max high r.1) r.2)
+  joined : (op : BinaryOp) → Some op ≡ operator_at ls → least ≤ operator_level op → high < room → total ≡ (expr_at (room - 1) (operator_level op + 1) (rest_of ls) >>= λ r. climb (deeper room) room least c.steps (Binary op left r.0) (1 + max high r.1) r.2)
   joined op e le lt =
-      sym (step_is (Some op) e) ∙ rw (le-ltb (operator_level op) least le, lt-ltb high room lt, deeper_is room (operator_level op + 1) (behind ls) (omega arith)) refl
+      sym (step_is (Some op) e) ∙ rw (le-ltb (operator_level op) least le, lt-ltb high room lt, deeper_is room (operator_level op + 1) (rest_of ls) (omega arith)) refl
 
-  pub climb_fails : (op : BinaryOp) (f : ParseFault) → Some op ≡ operator_at ls → least ≤ operator_level op → high < room → Fails f (expr_at (room - 1) (operator_level op + 1) (behind ls)) → Fails f total
+  pub climb_fails : (op : BinaryOp) (f : ParseFault) → Some op ≡ operator_at ls → least ≤ operator_level op → high < room → Fails f (expr_at (room - 1) (operator_level op + 1) (rest_of ls)) → Fails f total
   climb_fails op Memory e le lt h = tt
   climb_fails op (Found fault line) e le lt h = joined op e le lt ∙ rw h refl
 
-  pub climb_on : (op : BinaryOp) (right : Expr) (right_high high' : ℕ) (rest : List Lexed) → Some op ≡ operator_at ls → least ≤ operator_level op → high < room → right_high ≤ room - 1 → high' ≡ 1 + max high right_high → expr_at (room - 1) (operator_level op + 1) (behind ls) ≡ Ok (right, right_high, rest) → Climbs room least (Binary op left right) high' rest total
+  pub climb_on : (op : BinaryOp) (right : Expr) (right_high high' : ℕ) (rest : List Lexed) → Some op ≡ operator_at ls → least ≤ operator_level op → high < room → right_high ≤ room - 1 → high' ≡ 1 + max high right_high → expr_at (room - 1) (operator_level op + 1) (rest_of ls) ≡ Ok (right, right_high, rest) → Climbs room least (Binary op left right) high' rest total
   climb_on op right right_high high' rest e le lt fits is h =
       let on : climb (deeper room) room least c.steps (Binary op left right) (1 + max high right_high) rest ≡ total = sym (joined op e le lt ∙ rw h refl) in
       climbs_from op right high' rest (omega arith) c.steps (omega (arith, c.enough)) (rw is on)

@@ -9,10 +9,10 @@ use Rattle.parse.specs.declared.fault.ParseFault.TheVariants.{Memory, Found}
 use Rattle.parse.specs.declared.lexemes.Fixed.TheVariants as fixed
 use Rattle.parse.specs.Results.{◌>>=◌, Fails}
 use Rattle.parse.specs.Lexemes.{Lexed, fault_at}
-use Rattle.parse.specs.Reading.{starts_with, behind, argument_at, arguments_at, parameter_at, parameters_at}
+use Rattle.parse.specs.Reading.{starts_with, rest_of, argument_at, arguments_at, parameter_at, parameters_at}
 use Rattle.parse.proofs.JniCalls.{argument_shorter}
 
--- what is read, behind what came before
+-- what is read, after what came before
 abbrev pub with_more : {A : Type 0} → List A → Result (List A × List Lexed) ParseFault → Result (List A × List Lexed) ParseFault
 with_more before read = read >>= λ more. Ok (before ++ more.0, more.1)
 
@@ -32,7 +32,7 @@ regroup before x (Err e) = refl
 abbrev pub ReadArguments : Type 0
 ReadArguments = Result (List Argument × List Lexed) ParseFault
 
--- What is read from here, behind the arguments so far, is all that is read.
+-- What is read from here, after the arguments so far, is all that is read.
 pub record FillsArguments (room : ℕ) (before : List Argument) (ls : List Lexed) (total : ReadArguments) : Type 0 where
   pub steps : ℕ
   pub enough : length ls ≤ steps
@@ -48,14 +48,14 @@ module _ (room : ℕ) (before : List Argument) (ls : List Lexed) (total : ReadAr
       let one : with_more before (arguments_at room (suc f.steps) ls) ≡ Ok (before, ls) = rw s (ap (given ls) (append-nil before)) in
       sym f.same ∙ one
 
-  pub arguments_fail : (e : ParseFault) → starts_with (fixed.Mark marks.Comma) ls ≡ true → Fails e (argument_at room (behind ls)) → Fails e total
+  pub arguments_fail : (e : ParseFault) → starts_with (fixed.Mark marks.Comma) ls ≡ true → Fails e (argument_at room (rest_of ls)) → Fails e total
   unfolding arguments_at
   arguments_fail Memory s h = tt
   arguments_fail (Found fault line) s h =
       let one : with_more before (arguments_at room (suc f.steps) ls) ≡ Err (Found fault line) = rw (s, h) refl in
       sym f.same ∙ one
 
-  pub arguments_on : (a : Argument) (after : List Lexed) → starts_with (fixed.Mark marks.Comma) ls ≡ true → argument_at room (behind ls) ≡ Ok (a, after) → FillsArguments room (before ++ a ∷ []) after total
+  pub arguments_on : (a : Argument) (after : List Lexed) → starts_with (fixed.Mark marks.Comma) ls ≡ true → argument_at room (rest_of ls) ≡ Ok (a, after) → FillsArguments room (before ++ a ∷ []) after total
   unfolding arguments_at
   arguments_on a after s h =
       go f.steps f.enough f.same
@@ -91,7 +91,7 @@ unfolding parameters_at
 none_free zero ls none s = rw s refl
 none_free (suc free) ls none s = absurd (omega (arith, none))
 
-some_free : (free left : ℕ) (ls : List Lexed) → free ≡ suc left → starts_with (fixed.Mark marks.Comma) ls ≡ true → parameters_at free ls ≡ (parameter_at (behind ls) >>= λ p. parameters_at left p.1 >>= λ more. Ok (p.0 ∷ more.0, more.1))
+some_free : (free left : ℕ) (ls : List Lexed) → free ≡ suc left → starts_with (fixed.Mark marks.Comma) ls ≡ true → parameters_at free ls ≡ (parameter_at (rest_of ls) >>= λ p. parameters_at left p.1 >>= λ more. Ok (p.0 ∷ more.0, more.1))
 unfolding parameters_at
 some_free free left ls same s = rw (same, s) refl
 
@@ -106,16 +106,16 @@ module _ (before : List Parameter) (ls : List Lexed) (total : ReadParameters) (f
       let one : with_more before (parameters_at (255 - length before) ls) ≡ Err (fault_at TooMany ls) = rw (none_free (255 - length before) ls (omega (arith, n)) s) refl in
       sym f.same ∙ one
 
-  next_is : (length before ≡ 255 → ⊥) → starts_with (fixed.Mark marks.Comma) ls ≡ true → parameters_at (255 - length before) ls ≡ (parameter_at (behind ls) >>= λ p. parameters_at (255 - (length before + 1)) p.1 >>= λ more. Ok (p.0 ∷ more.0, more.1))
+  next_is : (length before ≡ 255 → ⊥) → starts_with (fixed.Mark marks.Comma) ls ≡ true → parameters_at (255 - length before) ls ≡ (parameter_at (rest_of ls) >>= λ p. parameters_at (255 - (length before + 1)) p.1 >>= λ more. Ok (p.0 ∷ more.0, more.1))
   next_is n s = let low = f.low in some_free (255 - length before) (255 - (length before + 1)) ls (omega (arith, n, low)) s
 
-  pub parameters_fail : (e : ParseFault) → starts_with (fixed.Mark marks.Comma) ls ≡ true → (length before ≡ 255 → ⊥) → Fails e (parameter_at (behind ls)) → Fails e total
+  pub parameters_fail : (e : ParseFault) → starts_with (fixed.Mark marks.Comma) ls ≡ true → (length before ≡ 255 → ⊥) → Fails e (parameter_at (rest_of ls)) → Fails e total
   parameters_fail Memory s n h = tt
   parameters_fail (Found fault line) s n h =
       let one : with_more before (parameters_at (255 - length before) ls) ≡ Err (Found fault line) = rw (next_is n s, h) refl in
       sym f.same ∙ one
 
-  pub parameters_on : (p : Parameter) (after : List Lexed) → starts_with (fixed.Mark marks.Comma) ls ≡ true → (length before ≡ 255 → ⊥) → parameter_at (behind ls) ≡ Ok (p, after) → FillsParameters (before ++ p ∷ []) after total
+  pub parameters_on : (p : Parameter) (after : List Lexed) → starts_with (fixed.Mark marks.Comma) ls ≡ true → (length before ≡ 255 → ⊥) → parameter_at (rest_of ls) ≡ Ok (p, after) → FillsParameters (before ++ p ∷ []) after total
   parameters_on p after s n h =
       let count : length (before ++ p ∷ []) ≡ length before + 1 = length-append before (p ∷ []) in
       let low = f.low in

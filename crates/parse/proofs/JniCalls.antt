@@ -10,7 +10,7 @@ use Rattle.parse.specs.Results.{◌>>=◌}
 use Rattle.parse.specs.Meaning.{Meaning, Fixed', Name', Number', Text'}
 use Rattle.parse.specs.Lexemes.{Lexed, expect, name_at}
 use Rattle.parse.specs.Spelling.{Spelled, Anywhere, mark, word, constant_word, operator_mark, expression, argument, call, right, test_tokens}
-use Rattle.parse.specs.Reading.{starts_with, behind, expr_at, interface_at, text_of, text_at, value_at, argument_by, argument_at, arguments_at, call_at, starts_call, right_at, number_at, test_at}
+use Rattle.parse.specs.Reading.{starts_with, rest_of, expr_at, interface_at, text_of, text_at, value_at, argument_by, argument_at, arguments_at, call_at, starts_call, right_at, number_at, test_at}
 use Rattle.parse.proofs.Forms.{IsArgument, AreArguments, IsRight, IsTest}
 use Rattle.parse.proofs.Singles.{Begins, bind_ok, ok_is, chosen, begins_append, begins_split, begins_length, shortens, first_takes, first_rest, first_is, starts_takes, expect_takes, expect_again, then_takes, name_takes, name_again, zero_takes, number_again}
 use Rattle.parse.proofs.Table.{Closes, closes_mark}
@@ -46,9 +46,9 @@ unfolding value_at
 value_takes room ls x h =
     elim (chosen (starts_with (fixed.Mark marks.Ampersand) ls) _ _ (Ok x) h) [
       | inl w ↦
-          let a = bind_ok (name_at (behind ls)) (λ name. Ok (AddressOf name.0, name.1)) x w.1 in
+          let a = bind_ok (name_at (rest_of ls)) (λ name. Ok (AddressOf name.0, name.1)) x w.1 in
           let made : Argument × List Lexed = (AddressOf a.0.0, a.0.1) in
-          let parts = first_takes (Fixed' (fixed.Mark marks.Ampersand)) (Anywhere (Name' a.0.0) ∷ []) ls a.0.1 (starts_takes (fixed.Mark marks.Ampersand) ls w.0) (name_takes (behind ls) a.0 a.1) in
+          let parts = first_takes (Fixed' (fixed.Mark marks.Ampersand)) (Anywhere (Name' a.0.0) ∷ []) ls a.0.1 (starts_takes (fixed.Mark marks.Ampersand) ls w.0) (name_takes (rest_of ls) a.0 a.1) in
           subst (λ (y : Argument × List Lexed). TakesArgument room ls y) (ok_is made x a.2) (parts, tt)
       | inr w ↦
           let a = bind_ok (expr_at room 0 ls) (λ e. Ok (Value e.0, e.2)) x w.1 in
@@ -62,23 +62,23 @@ text_meaning (Fixed' found) bytes e = absurd cc
 text_meaning (Name' found) bytes e = absurd cc
 text_meaning (Number' value unsigned) bytes e = absurd cc
 
-text_takes : (bytes : List ℕ) (ls : List Lexed) → text_at ls ≡ Some bytes → Begins (Anywhere (Text' bytes) ∷ []) ls (behind ls)
+text_takes : (bytes : List ℕ) (ls : List Lexed) → text_at ls ≡ Some bytes → Begins (Anywhere (Text' bytes) ∷ []) ls (rest_of ls)
 text_takes bytes [] e = absurd cc
 text_takes bytes (l ∷ ls) e = (text_meaning l.meaning bytes e, refl)
 
 argument_by_takes : (room : ℕ) (o : Option (List ℕ)) (ls : List Lexed) (x : Argument × List Lexed) → text_at ls ≡ o → argument_by room o ls ≡ Ok x → TakesArgument room ls x
 argument_by_takes room None ls x same e = value_takes room ls x e
-argument_by_takes room (Some bytes) ls x same e = subst (λ (y : Argument × List Lexed). TakesArgument room ls y) (ok_is (Text bytes, behind ls) x e) (text_takes bytes ls same, tt)
+argument_by_takes room (Some bytes) ls x same e = subst (λ (y : Argument × List Lexed). TakesArgument room ls y) (ok_is (Text bytes, rest_of ls) x e) (text_takes bytes ls same, tt)
 
 argument_takes : (room : ℕ) (ls : List Lexed) (x : Argument × List Lexed) → argument_at room ls ≡ Ok x → TakesArgument room ls x
 unfolding argument_at
 argument_takes room ls x h = argument_by_takes room (text_at ls) ls x refl h
 
 -- an argument with its comma
-argument_with_comma : (room : ℕ) (ls : List Lexed) (x : Argument × List Lexed) → starts_with (fixed.Mark marks.Comma) ls ≡ true → argument_at room (behind ls) ≡ Ok x → Begins (mark marks.Comma ∷ argument x.0) ls x.1
-argument_with_comma room ls x s h = first_takes (Fixed' (fixed.Mark marks.Comma)) (argument x.0) ls x.1 (starts_takes (fixed.Mark marks.Comma) ls s) (argument_takes room (behind ls) x h).0
+argument_with_comma : (room : ℕ) (ls : List Lexed) (x : Argument × List Lexed) → starts_with (fixed.Mark marks.Comma) ls ≡ true → argument_at room (rest_of ls) ≡ Ok x → Begins (mark marks.Comma ∷ argument x.0) ls x.1
+argument_with_comma room ls x s h = first_takes (Fixed' (fixed.Mark marks.Comma)) (argument x.0) ls x.1 (starts_takes (fixed.Mark marks.Comma) ls s) (argument_takes room (rest_of ls) x h).0
 
-pub argument_shorter : (room : ℕ) (ls : List Lexed) (x : Argument × List Lexed) → starts_with (fixed.Mark marks.Comma) ls ≡ true → argument_at room (behind ls) ≡ Ok x → length x.1 < length ls
+pub argument_shorter : (room : ℕ) (ls : List Lexed) (x : Argument × List Lexed) → starts_with (fixed.Mark marks.Comma) ls ≡ true → argument_at room (rest_of ls) ≡ Ok x → length x.1 < length ls
 argument_shorter room ls x s h = shortens (mark marks.Comma) (argument x.0) ls x.1 (argument_with_comma room ls x s h)
 
 abbrev TakesArguments : ℕ → List Lexed → List Argument × List Lexed → Type 0
@@ -90,9 +90,9 @@ arguments_take room zero ls x e = absurd cc
 arguments_take room (suc steps) ls x e =
     elim (chosen (starts_with (fixed.Mark marks.Comma) ls) _ _ (Ok x) e) [
       | inl w ↦
-          let a = bind_ok (argument_at room (behind ls)) (λ a. arguments_at room steps a.1 >>= λ more. Ok (a.0 ∷ more.0, more.1)) x w.1 in
+          let a = bind_ok (argument_at room (rest_of ls)) (λ a. arguments_at room steps a.1 >>= λ more. Ok (a.0 ∷ more.0, more.1)) x w.1 in
           let b = bind_ok (arguments_at room steps a.0.1) (λ more. Ok (a.0.0 ∷ more.0, more.1)) x a.2 in
-          let t = argument_takes room (behind ls) a.0 a.1 in
+          let t = argument_takes room (rest_of ls) a.0 a.1 in
           let r = arguments_take room steps a.0.1 b.0 b.1 in
           let made : List Argument × List Lexed = (a.0.0 ∷ b.0.0, b.0.1) in
           let parts = begins_append (mark marks.Comma ∷ argument a.0.0) (argument_tokens b.0.0) ls a.0.1 b.0.1 (argument_with_comma room ls a.0 w.0 a.1) r.0 in
@@ -238,7 +238,7 @@ argument_again room (AddressOf x) ls rest h is closed =
     let t = first_no_text (Fixed' (fixed.Mark marks.Ampersand)) refl es ls rest h in
     let s = first_is (Fixed' (fixed.Mark marks.Ampersand)) es ls rest (fixed.Mark marks.Ampersand) h in
     let within = first_rest (mark marks.Ampersand) es ls rest h in
-    rw (t, s, name_again x [] (behind ls) rest within) (ap (argument_read (AddressOf x)) (first_rest (Anywhere (Name' x)) [] (behind ls) rest within))
+    rw (t, s, name_again x [] (rest_of ls) rest within) (ap (argument_read (AddressOf x)) (first_rest (Anywhere (Name' x)) [] (rest_of ls) rest within))
 
 -- nothing before arguments goes on from an expression
 closed_before : (arguments : List Argument) (ls rest : List Lexed) → Begins (argument_tokens arguments) ls rest → Closes rest → Closes ls
@@ -257,7 +257,7 @@ arguments_again room (a ∷ more) zero ls rest enough h is comma closed =
 arguments_again room (a ∷ more) (suc steps) ls rest enough h is comma closed =
     let parts = begins_split (mark marks.Comma ∷ argument a) (argument_tokens more) ls rest h in
     let s = first_is (Fixed' (fixed.Mark marks.Comma)) (argument a) ls parts.0 (fixed.Mark marks.Comma) parts.1 in
-    let one = argument_again room a (behind ls) parts.0 (first_rest (mark marks.Comma) (argument a) ls parts.0 parts.1) is.0 (closed_before more parts.0 rest parts.2 closed) in
+    let one = argument_again room a (rest_of ls) parts.0 (first_rest (mark marks.Comma) (argument a) ls parts.0 parts.1) is.0 (closed_before more parts.0 rest parts.2 closed) in
     let p = shortens (mark marks.Comma) (argument a) ls parts.0 parts.1 in
     let others = arguments_again room more steps parts.0 rest (omega (arith, enough, p)) parts.2 is.1 comma closed in
     rw (s, one, others) refl
@@ -275,7 +275,7 @@ call_again room c ls rest h is =
     let es2 : List Spelled = Anywhere (Name' c.function) ∷ es3 in
     let a = interface_again es2 ls rest h in
     let n = name_again c.function es3 a.0 rest a.2 in
-    let b = expect_again (fixed.Mark marks.OpenParen) es4 (behind a.0) rest (first_rest (Anywhere (Name' c.function)) es3 a.0 rest a.2) in
+    let b = expect_again (fixed.Mark marks.OpenParen) es4 (rest_of a.0) rest (first_rest (Anywhere (Name' c.function)) es3 a.0 rest a.2) in
     let d = expect_again (fixed.Word words.Env) es5 b.0 rest b.2 in
     let parts = begins_split (argument_tokens c.arguments) closing d.0 rest d.2 in
     let comma = first_is (Fixed' (fixed.Mark marks.CloseParen)) [] parts.0 rest (fixed.Mark marks.Comma) parts.2 in
@@ -284,20 +284,20 @@ call_again room c ls rest h is =
     let f = expect_again (fixed.Mark marks.CloseParen) [] parts.0 rest parts.2 in
     rw (a.1, n, b.1, d.1, add-one (length d.0), e, f.1) (ap (call_read c) f.2)
 
--- what stands behind the first two tokens of a call
-abbrev call_behind : Call → List Spelled
-call_behind c = word words.Env ∷ mark marks.CloseParen ∷ mark marks.Arrow ∷ Anywhere (Name' c.function) ∷ mark marks.OpenParen ∷ word words.Env ∷ (argument_tokens c.arguments ++ mark marks.CloseParen ∷ [])
+-- what stands after the first two tokens of a call
+abbrev call_after : Call → List Spelled
+call_after c = word words.Env ∷ mark marks.CloseParen ∷ mark marks.Arrow ∷ Anywhere (Name' c.function) ∷ mark marks.OpenParen ∷ word words.Env ∷ (argument_tokens c.arguments ++ mark marks.CloseParen ∷ [])
 
 call_starts : (es : List Spelled) (ls rest : List Lexed) → Begins (mark marks.OpenParen ∷ mark marks.Star ∷ es) ls rest → starts_call ls ≡ true
 call_starts es ls rest h =
     let s = first_is (Fixed' (fixed.Mark marks.OpenParen)) (mark marks.Star ∷ es) ls rest (fixed.Mark marks.OpenParen) h in
-    let t = first_is (Fixed' (fixed.Mark marks.Star)) es (behind ls) rest (fixed.Mark marks.Star) (first_rest (mark marks.OpenParen) (mark marks.Star ∷ es) ls rest h) in
+    let t = first_is (Fixed' (fixed.Mark marks.Star)) es (rest_of ls) rest (fixed.Mark marks.Star) (first_rest (mark marks.OpenParen) (mark marks.Star ∷ es) ls rest h) in
     rw (s, t) refl
 
 pub right_again : (room : ℕ) (r : RightSide) (ls rest : List Lexed) → Begins (right r) ls rest → IsRight room r → Closes rest → right_at room ls ≡ Ok (r, rest)
 unfolding right_at
 right_again room (FromExpr e) ls rest h is closed = rw (no_call 0 e is.levelled ls rest h, expr_reads_again room ls rest e h is closed) refl
-right_again room (FromCall c) ls rest h is closed = rw (call_starts (call_behind c) ls rest h, call_again room c ls rest h is) refl
+right_again room (FromCall c) ls rest h is closed = rw (call_starts (call_after c) ls rest h, call_again room c ls rest h is) refl
 
 abbrev test_read : Test → List Lexed → Result (Test × List Lexed) ParseFault
 test_read t ls = Ok (t, ls)
@@ -309,4 +309,4 @@ test_again room (TestCall c) ls rest h is closed =
     let parts = begins_split (call c) is_zero ls rest h in
     let a = expect_again (fixed.Mark marks.Equal) (Anywhere (Number' 0 false) ∷ []) parts.0 rest parts.2 in
     let n = number_again 0 0 0 [] a.0 rest (omega arith) (omega arith) a.2 in
-    rw (call_starts (call_behind c) ls parts.0 parts.1, call_again room c ls parts.0 parts.1 is, a.1, n) (ap (test_read (TestCall c)) (first_rest (Anywhere (Number' 0 false)) [] a.0 rest a.2))
+    rw (call_starts (call_after c) ls parts.0 parts.1, call_again room c ls parts.0 parts.1 is, a.1, n) (ap (test_read (TestCall c)) (first_rest (Anywhere (Number' 0 false)) [] a.0 rest a.2))

@@ -16,7 +16,7 @@ use Rattle.parse.specs.Results.{◌>>=◌}
 use Rattle.parse.specs.Meaning.{Meaning, Fixed', Name', Number', Text'}
 use Rattle.parse.specs.Lexemes.{Lexed, same_mark, same_fixed, is_fixed_meaning, expect, name_at}
 use Rattle.parse.specs.Spelling.{Spelled, Anywhere, mark, word, constant_word, operator_mark, prefix_tokens, expression}
-use Rattle.parse.specs.Reading.{Reader, ReadExpr, starts_with, behind, operator_at, climb, climb_step, under_prefix, in_parens, behind_paren, index_by, index_at, starts_element, element_by, constant_of_word, named_of, primary_of, primary_at, operand_by, expr_by, deeper, expr_at, starts_name, starts_call}
+use Rattle.parse.specs.Reading.{Reader, ReadExpr, starts_with, rest_of, operator_at, climb, climb_step, under_prefix, in_parens, after_paren, index_by, index_at, starts_element, element_by, constant_of_word, named_of, primary_of, primary_at, operand_by, expr_by, deeper, expr_at, starts_name, starts_call}
 use Rattle.parse.proofs.Forms.{IsLevelled, IsExpr}
 use Rattle.parse.proofs.Singles.{Begins, bind_ok, ok_is, chosen, begins_append, begins_split, first_takes, first_rest, first_is, starts_takes, expect_takes, expect_again, then_takes, name_takes, name_again, starts_name_again, first_no_name}
 use Rattle.parse.proofs.TypeWords.{constant_again, constant_is}
@@ -98,31 +98,31 @@ module _ (deep : Reader) (room : ℕ) (all : AllTakes deep room) where
         low = omega (arith, t.1);
       })
 
-  parens_take : (ls : List Lexed) (x : ReadExpr) → Begins (mark marks.OpenParen ∷ []) ls (behind ls) → in_parens deep (behind ls) ≡ Ok x → TakesOperand room ls x
+  parens_take : (ls : List Lexed) (x : ReadExpr) → Begins (mark marks.OpenParen ∷ []) ls (rest_of ls) → in_parens deep (rest_of ls) ≡ Ok x → TakesOperand room ls x
   unfolding in_parens
   parens_take ls x h e =
-      let a = bind_ok (deep 0 (behind ls)) (λ y. expect (fixed.Mark marks.CloseParen) y.2 >>= λ after. Ok (Paren y.0, 1 + y.1, after)) x e in
+      let a = bind_ok (deep 0 (rest_of ls)) (λ y. expect (fixed.Mark marks.CloseParen) y.2 >>= λ after. Ok (Paren y.0, 1 + y.1, after)) x e in
       let b = bind_ok (expect (fixed.Mark marks.CloseParen) a.0.2) (λ after. Ok (Paren a.0.0, 1 + a.0.1, after)) x a.2 in
-      let t = all 0 (behind ls) a.0 a.1 in
+      let t = all 0 (rest_of ls) a.0 a.1 in
       let made : ReadExpr = (Paren a.0.0, 1 + a.0.1, b.0) in
       subst (λ (y : ReadExpr). TakesOperand room ls y) (ok_is made x b.2) (record {
-        parts = first_takes _ _ ls b.0 h (begins_append (expression a.0.0) (mark marks.CloseParen ∷ []) (behind ls) a.0.2 b.0 t.0.parts (expect_takes _ a.0.2 b.0 b.1));
+        parts = first_takes _ _ ls b.0 h (begins_append (expression a.0.0) (mark marks.CloseParen ∷ []) (rest_of ls) a.0.2 b.0 t.0.parts (expect_takes _ a.0.2 b.0 b.1));
         levelled = λ least. t.0.levelled;
         high = ap (λ n. 1 + n) t.0.high;
         low = omega (arith, t.1);
       })
 
-  cast_takes : (op : PrefixOp) (w : Fixed) (ls : List Lexed) (x : ReadExpr) → prefix_tokens op ≡ mark marks.OpenParen ∷ Anywhere (Fixed' w) ∷ mark marks.CloseParen ∷ [] → Begins (mark marks.OpenParen ∷ []) ls (behind ls) → starts_with w (behind ls) ≡ true → (expect (fixed.Mark marks.CloseParen) (behind (behind ls)) >>= λ after. under_prefix deep op after) ≡ Ok x → TakesOperand room ls x
+  cast_takes : (op : PrefixOp) (w : Fixed) (ls : List Lexed) (x : ReadExpr) → prefix_tokens op ≡ mark marks.OpenParen ∷ Anywhere (Fixed' w) ∷ mark marks.CloseParen ∷ [] → Begins (mark marks.OpenParen ∷ []) ls (rest_of ls) → starts_with w (rest_of ls) ≡ true → (expect (fixed.Mark marks.CloseParen) (rest_of (rest_of ls)) >>= λ after. under_prefix deep op after) ≡ Ok x → TakesOperand room ls x
   cast_takes op w ls x is h s e =
-      let a = bind_ok (expect (fixed.Mark marks.CloseParen) (behind (behind ls))) (λ after. under_prefix deep op after) x e in
-      prefix_takes op (mark marks.OpenParen ∷ Anywhere (Fixed' w) ∷ mark marks.CloseParen ∷ []) ls a.0 x is (first_takes (Fixed' (fixed.Mark marks.OpenParen)) (Anywhere (Fixed' w) ∷ mark marks.CloseParen ∷ []) ls a.0 h (first_takes (Fixed' w) (mark marks.CloseParen ∷ []) (behind ls) a.0 (starts_takes w (behind ls) s) (expect_takes _ (behind (behind ls)) a.0 a.1))) a.2
+      let a = bind_ok (expect (fixed.Mark marks.CloseParen) (rest_of (rest_of ls))) (λ after. under_prefix deep op after) x e in
+      prefix_takes op (mark marks.OpenParen ∷ Anywhere (Fixed' w) ∷ mark marks.CloseParen ∷ []) ls a.0 x is (first_takes (Fixed' (fixed.Mark marks.OpenParen)) (Anywhere (Fixed' w) ∷ mark marks.CloseParen ∷ []) ls a.0 h (first_takes (Fixed' w) (mark marks.CloseParen ∷ []) (rest_of ls) a.0 (starts_takes w (rest_of ls) s) (expect_takes _ (rest_of (rest_of ls)) a.0 a.1))) a.2
 
-  paren_takes : (ls : List Lexed) (x : ReadExpr) → Begins (mark marks.OpenParen ∷ []) ls (behind ls) → behind_paren deep (behind ls) ≡ Ok x → TakesOperand room ls x
-  unfolding behind_paren
+  paren_takes : (ls : List Lexed) (x : ReadExpr) → Begins (mark marks.OpenParen ∷ []) ls (rest_of ls) → after_paren deep (rest_of ls) ≡ Ok x → TakesOperand room ls x
+  unfolding after_paren
   paren_takes ls x h e =
-      elim (chosen (starts_with (fixed.Word words.Uint32) (behind ls)) _ _ (Ok x) e) [
+      elim (chosen (starts_with (fixed.Word words.Uint32) (rest_of ls)) _ _ (Ok x) e) [
         | inl w ↦ cast_takes ToWord (fixed.Word words.Uint32) ls x refl h w.0 w.1
-        | inr w ↦ elim (chosen (starts_with (fixed.Word words.Jint) (behind ls)) _ _ (Ok x) w.1) [
+        | inr w ↦ elim (chosen (starts_with (fixed.Word words.Jint) (rest_of ls)) _ _ (Ok x) w.1) [
           | inl v ↦ cast_takes ToInt (fixed.Word words.Jint) ls x refl h v.0 v.1
           | inr v ↦ parens_take ls x h v.1
         ]
@@ -190,12 +190,12 @@ module _ (deep : Reader) (room : ℕ) (all : AllTakes deep room) where
       elim (chosen (starts_with (fixed.Mark marks.Tilde) ls) _ _ (Ok x) e) [
         | inl w ↦ elim (chosen (room == 0) _ _ (Ok x) w.1) [
           | inl v ↦ absurd cc
-          | inr v ↦ prefix_takes Complement (mark marks.Tilde ∷ []) ls (behind ls) x refl (starts_takes (fixed.Mark marks.Tilde) ls w.0) v.1
+          | inr v ↦ prefix_takes Complement (mark marks.Tilde ∷ []) ls (rest_of ls) x refl (starts_takes (fixed.Mark marks.Tilde) ls w.0) v.1
         ]
         | inr w ↦ elim (chosen (starts_with (fixed.Mark marks.Exclamation) ls) _ _ (Ok x) w.1) [
           | inl v ↦ elim (chosen (room == 0) _ _ (Ok x) v.1) [
             | inl u ↦ absurd cc
-            | inr u ↦ prefix_takes LogicalNot (mark marks.Exclamation ∷ []) ls (behind ls) x refl (starts_takes (fixed.Mark marks.Exclamation) ls v.0) u.1
+            | inr u ↦ prefix_takes LogicalNot (mark marks.Exclamation ∷ []) ls (rest_of ls) x refl (starts_takes (fixed.Mark marks.Exclamation) ls v.0) u.1
           ]
           | inr v ↦ elim (chosen (starts_with (fixed.Mark marks.OpenParen) ls) _ _ (Ok x) v.1) [
             | inl u ↦ elim (chosen (room == 0) _ _ (Ok x) u.1) [
@@ -231,15 +231,15 @@ module _ (deep : Reader) (room : ℕ) (all : AllTakes deep room) where
               | inl v ↦
                   let le = ltb-false (operator_level op) least w.0 in
                   let lt = ltb-true high room v.0 in
-                  let a = bind_ok (deep (operator_level op + 1) (behind ls)) (λ r. climb deep room least steps (Binary op left r.0) (1 + max high r.1) r.2) x v.1 in
-                  let t = all (operator_level op + 1) (behind ls) a.0 a.1 in
+                  let a = bind_ok (deep (operator_level op + 1) (rest_of ls)) (λ r. climb deep room least steps (Binary op left r.0) (1 + max high r.1) r.2) x v.1 in
+                  let t = all (operator_level op + 1) (rest_of ls) a.0 a.1 in
                   let now_high : 1 + max high a.0.1 ≡ height (Binary op left a.0.0) = omega (arith, t.0.high) in
                   let now_low : height (Binary op left a.0.0) ≤ room = omega (arith, t.1) in
                   let m = rec (Binary op left a.0.0) (1 + max high a.0.1) a.0.2 x now_high now_low (le, takeable op o, t.0.levelled) (λ other same. (let n = t.0.stops other same in omega (arith, n), takeable op o, t.0.levelled)) a.2 in
                   record {
                     more = (mark (operator_mark op) ∷ expression a.0.0) ++ m.more;
                     spelled = m.spelled ∙ append_assoc (expression left) (mark (operator_mark op) ∷ expression a.0.0) m.more;
-                    parts = first_takes (Fixed' (fixed.Mark (operator_mark op))) (expression a.0.0 ++ m.more) ls x.2 (operator_is op ls o) (begins_append (expression a.0.0) m.more (behind ls) a.0.2 x.2 t.0.parts m.parts);
+                    parts = first_takes (Fixed' (fixed.Mark (operator_mark op))) (expression a.0.0 ++ m.more) ls x.2 (operator_is op ls o) (begins_append (expression a.0.0) m.more (rest_of ls) a.0.2 x.2 t.0.parts m.parts);
                     levelled = m.levelled;
                     high = m.high;
                     low = m.low;
@@ -324,11 +324,11 @@ no_jint = record { tilde = refl; exclamation = refl; paren = refl; constant = ot
 not_paren : (ls : List Lexed) → starts_with (fixed.Mark marks.OpenParen) ls ≡ false → starts_call ls ≡ false
 not_paren ls e = rw e refl
 
-not_star : (ls : List Lexed) → starts_with (fixed.Mark marks.OpenParen) ls ≡ true → starts_with (fixed.Mark marks.Star) (behind ls) ≡ false → starts_call ls ≡ false
+not_star : (ls : List Lexed) → starts_with (fixed.Mark marks.OpenParen) ls ≡ true → starts_with (fixed.Mark marks.Star) (rest_of ls) ≡ false → starts_call ls ≡ false
 not_star ls e f = rw (e, f) refl
 
 cast_no_call : (w : Word) (es : List Spelled) (ls rest : List Lexed) → Begins (mark marks.OpenParen ∷ word w ∷ es) ls rest → starts_call ls ≡ false
-cast_no_call w es ls rest h = not_star ls (first_is (Fixed' (fixed.Mark marks.OpenParen)) (word w ∷ es) ls rest (fixed.Mark marks.OpenParen) h) (first_is (Fixed' (fixed.Word w)) es (behind ls) rest (fixed.Mark marks.Star) (first_rest (mark marks.OpenParen) (word w ∷ es) ls rest h))
+cast_no_call w es ls rest h = not_star ls (first_is (Fixed' (fixed.Mark marks.OpenParen)) (word w ∷ es) ls rest (fixed.Mark marks.OpenParen) h) (first_is (Fixed' (fixed.Word w)) es (rest_of ls) rest (fixed.Mark marks.Star) (first_rest (mark marks.OpenParen) (word w ∷ es) ls rest h))
 
 pub no_call : (least : ℕ) (e : Expr) → IsLevelled least e → (ls rest : List Lexed) → Begins (expression e) ls rest → starts_call ls ≡ false
 no_call least (Number value unsigned) levelled ls rest h = not_paren ls (first_is (Number' value unsigned) [] ls rest (fixed.Mark marks.OpenParen) h)
@@ -342,14 +342,14 @@ no_call least (Prefix ToInt e) levelled ls rest h = cast_no_call words.Jint (mar
 no_call least (Binary op a b) levelled ls rest h = let parts = begins_split (expression a) (mark (operator_mark op) ∷ expression b) ls rest h in no_call (operator_level op) a levelled.1 ls parts.0 parts.1
 no_call least (Paren e) levelled ls rest h =
     let es : List Spelled = expression e ++ mark marks.CloseParen ∷ [] in
-    let parts = begins_split (expression e) (mark marks.CloseParen ∷ []) (behind ls) rest (first_rest (mark marks.OpenParen) es ls rest h) in
-    not_star ls (first_is (Fixed' (fixed.Mark marks.OpenParen)) es ls rest (fixed.Mark marks.OpenParen) h) (no_first (fixed.Mark marks.Star) (no_first_mark marks.Star refl refl refl) 0 e levelled (behind ls) parts.0 parts.1)
+    let parts = begins_split (expression e) (mark marks.CloseParen ∷ []) (rest_of ls) rest (first_rest (mark marks.OpenParen) es ls rest h) in
+    not_star ls (first_is (Fixed' (fixed.Mark marks.OpenParen)) es ls rest (fixed.Mark marks.OpenParen) h) (no_first (fixed.Mark marks.Star) (no_first_mark marks.Star refl refl refl) 0 e levelled (rest_of ls) parts.0 parts.1)
 
 -- no name with an index comes next
 no_element : (ls : List Lexed) → starts_name ls ≡ false → starts_element ls ≡ false
 no_element ls e = rw e refl
 
-no_index : (ls : List Lexed) → starts_name ls ≡ true → starts_with (fixed.Mark marks.OpenBracket) (behind ls) ≡ false → starts_element ls ≡ false
+no_index : (ls : List Lexed) → starts_name ls ≡ true → starts_with (fixed.Mark marks.OpenBracket) (rest_of ls) ≡ false → starts_element ls ≡ false
 no_index ls e f = rw (e, f) refl
 
 abbrev IsOperand : Expr → Type 0
@@ -379,9 +379,9 @@ module _ (deep : Reader) (room : ℕ) (all : AllAgain deep room) where
   room_left : (e : Expr) → height e < room → (room == 0) ≡ false
   room_left e low = ne_eqb room 0 (omega arith)
 
-  cast_again : (op : PrefixOp) (w : Fixed) (e : Expr) (ls rest : List Lexed) → Begins (Anywhere (Fixed' w) ∷ mark marks.CloseParen ∷ expression e) ls rest → IsLevelled prefix_level e → height e < room → NoIndex rest → (expect (fixed.Mark marks.CloseParen) (behind ls) >>= λ after. under_prefix deep op after) ≡ Ok (Prefix op e, 1 + height e, rest)
+  cast_again : (op : PrefixOp) (w : Fixed) (e : Expr) (ls rest : List Lexed) → Begins (Anywhere (Fixed' w) ∷ mark marks.CloseParen ∷ expression e) ls rest → IsLevelled prefix_level e → height e < room → NoIndex rest → (expect (fixed.Mark marks.CloseParen) (rest_of ls) >>= λ after. under_prefix deep op after) ≡ Ok (Prefix op e, 1 + height e, rest)
   cast_again op w e ls rest h levelled low bare =
-      let a = expect_again (fixed.Mark marks.CloseParen) (expression e) (behind ls) rest (first_rest (Anywhere (Fixed' w)) (mark marks.CloseParen ∷ expression e) ls rest h) in
+      let a = expect_again (fixed.Mark marks.CloseParen) (expression e) (rest_of ls) rest (first_rest (Anywhere (Fixed' w)) (mark marks.CloseParen ∷ expression e) ls rest h) in
       rw a.1 (prefix_again op e a.0 rest a.2 levelled low bare)
 
   primary_again : (m : Meaning) (e : Expr) → is_fixed_meaning m (fixed.Mark marks.Tilde) ≡ false → is_fixed_meaning m (fixed.Mark marks.Exclamation) ≡ false → is_fixed_meaning m (fixed.Mark marks.OpenParen) ≡ false → ((from after : List Lexed) → primary_of m from after ≡ answer (e, 0, after)) → (ls rest : List Lexed) → Begins (Anywhere m ∷ []) ls rest → starts_element ls ≡ false → operand_by room deep ls ≡ Ok (e, 0, rest)
@@ -403,7 +403,7 @@ module _ (deep : Reader) (room : ℕ) (all : AllAgain deep room) where
 
   -- each operand
   operand_again : (e : Expr) (ls rest : List Lexed) → IsOperand e → Begins (expression e) ls rest → IsLevelled 0 e → height e ≤ room → NoIndex rest → operand_by room deep ls ≡ Ok (e, height e, rest)
-  unfolding operand_by behind_paren in_parens element_by
+  unfolding operand_by after_paren in_parens element_by
   operand_again (Number value unsigned) ls rest is h levelled low bare = primary_again (Number' value unsigned) (Number value unsigned) refl refl refl (λ from after. refl) ls rest h (no_element ls (first_no_name (Number' value unsigned) refl [] ls rest h))
   operand_again (Named c) ls rest is h levelled low bare = primary_again (Fixed' (fixed.Word (constant_word c))) (Named c) refl refl refl (λ from after. rw (constant_again c) refl) ls rest h (no_element ls (first_no_name (Fixed' (fixed.Word (constant_word c))) refl [] ls rest h))
   operand_again (Variable x) ls rest is h levelled low bare = primary_again (Name' x) (Variable x) refl refl refl (λ from after. refl) ls rest h (no_index ls (starts_name_again x [] ls rest h) (ap (starts_with (fixed.Mark marks.OpenBracket)) (first_rest (Anywhere (Name' x)) [] ls rest h) ∙ bare))
@@ -414,32 +414,32 @@ module _ (deep : Reader) (room : ℕ) (all : AllAgain deep room) where
       let f = first_is (Name' x) es ls rest (fixed.Mark marks.OpenParen) h in
       let within = first_rest (Anywhere (Name' x)) es ls rest h in
       let s = starts_name_again x es ls rest h in
-      let b = first_is (Fixed' (fixed.Mark marks.OpenBracket)) (expression i ++ mark marks.CloseBracket ∷ []) (behind ls) rest (fixed.Mark marks.OpenBracket) within in
-      rw (t, e, f, s, b, name_again x es ls rest h, index_again i (behind ls) rest within levelled (under _ room low)) refl
+      let b = first_is (Fixed' (fixed.Mark marks.OpenBracket)) (expression i ++ mark marks.CloseBracket ∷ []) (rest_of ls) rest (fixed.Mark marks.OpenBracket) within in
+      rw (t, e, f, s, b, name_again x es ls rest h, index_again i (rest_of ls) rest within levelled (under _ room low)) refl
   operand_again (Prefix LogicalNot e) ls rest is h levelled low bare =
       let t = first_is (Fixed' (fixed.Mark marks.Exclamation)) (expression e) ls rest (fixed.Mark marks.Tilde) h in
       let f = first_is (Fixed' (fixed.Mark marks.Exclamation)) (expression e) ls rest (fixed.Mark marks.Exclamation) h in
-      rw (t, f, room_left e (under _ room low)) (prefix_again LogicalNot e (behind ls) rest (first_rest (mark marks.Exclamation) (expression e) ls rest h) levelled (under _ room low) bare)
+      rw (t, f, room_left e (under _ room low)) (prefix_again LogicalNot e (rest_of ls) rest (first_rest (mark marks.Exclamation) (expression e) ls rest h) levelled (under _ room low) bare)
   operand_again (Prefix Complement e) ls rest is h levelled low bare =
       let f = first_is (Fixed' (fixed.Mark marks.Tilde)) (expression e) ls rest (fixed.Mark marks.Tilde) h in
-      rw (f, room_left e (under _ room low)) (prefix_again Complement e (behind ls) rest (first_rest (mark marks.Tilde) (expression e) ls rest h) levelled (under _ room low) bare)
+      rw (f, room_left e (under _ room low)) (prefix_again Complement e (rest_of ls) rest (first_rest (mark marks.Tilde) (expression e) ls rest h) levelled (under _ room low) bare)
   operand_again (Prefix ToWord e) ls rest is h levelled low bare =
       let es : List Spelled = word words.Uint32 ∷ mark marks.CloseParen ∷ expression e in
       let inside = first_rest (mark marks.OpenParen) es ls rest h in
       let t = first_is (Fixed' (fixed.Mark marks.OpenParen)) es ls rest (fixed.Mark marks.Tilde) h in
       let q = first_is (Fixed' (fixed.Mark marks.OpenParen)) es ls rest (fixed.Mark marks.Exclamation) h in
       let f = first_is (Fixed' (fixed.Mark marks.OpenParen)) es ls rest (fixed.Mark marks.OpenParen) h in
-      let g = first_is (Fixed' (fixed.Word words.Uint32)) (mark marks.CloseParen ∷ expression e) (behind ls) rest (fixed.Word words.Uint32) inside in
-      rw (t, q, f, room_left e (under _ room low), g) (cast_again ToWord (fixed.Word words.Uint32) e (behind ls) rest inside levelled (under _ room low) bare)
+      let g = first_is (Fixed' (fixed.Word words.Uint32)) (mark marks.CloseParen ∷ expression e) (rest_of ls) rest (fixed.Word words.Uint32) inside in
+      rw (t, q, f, room_left e (under _ room low), g) (cast_again ToWord (fixed.Word words.Uint32) e (rest_of ls) rest inside levelled (under _ room low) bare)
   operand_again (Prefix ToInt e) ls rest is h levelled low bare =
       let es : List Spelled = word words.Jint ∷ mark marks.CloseParen ∷ expression e in
       let inside = first_rest (mark marks.OpenParen) es ls rest h in
       let t = first_is (Fixed' (fixed.Mark marks.OpenParen)) es ls rest (fixed.Mark marks.Tilde) h in
       let q = first_is (Fixed' (fixed.Mark marks.OpenParen)) es ls rest (fixed.Mark marks.Exclamation) h in
       let f = first_is (Fixed' (fixed.Mark marks.OpenParen)) es ls rest (fixed.Mark marks.OpenParen) h in
-      let u = first_is (Fixed' (fixed.Word words.Jint)) (mark marks.CloseParen ∷ expression e) (behind ls) rest (fixed.Word words.Uint32) inside in
-      let g = first_is (Fixed' (fixed.Word words.Jint)) (mark marks.CloseParen ∷ expression e) (behind ls) rest (fixed.Word words.Jint) inside in
-      rw (t, q, f, room_left e (under _ room low), u, g) (cast_again ToInt (fixed.Word words.Jint) e (behind ls) rest inside levelled (under _ room low) bare)
+      let u = first_is (Fixed' (fixed.Word words.Jint)) (mark marks.CloseParen ∷ expression e) (rest_of ls) rest (fixed.Word words.Uint32) inside in
+      let g = first_is (Fixed' (fixed.Word words.Jint)) (mark marks.CloseParen ∷ expression e) (rest_of ls) rest (fixed.Word words.Jint) inside in
+      rw (t, q, f, room_left e (under _ room low), u, g) (cast_again ToInt (fixed.Word words.Jint) e (rest_of ls) rest inside levelled (under _ room low) bare)
   operand_again (Binary op a b) ls rest is h levelled low bare = absurd is
   operand_again (Paren e) ls rest is h levelled low bare =
       let es : List Spelled = expression e ++ mark marks.CloseParen ∷ [] in
@@ -447,11 +447,11 @@ module _ (deep : Reader) (room : ℕ) (all : AllAgain deep room) where
       let t = first_is (Fixed' (fixed.Mark marks.OpenParen)) es ls rest (fixed.Mark marks.Tilde) h in
       let q = first_is (Fixed' (fixed.Mark marks.OpenParen)) es ls rest (fixed.Mark marks.Exclamation) h in
       let f = first_is (Fixed' (fixed.Mark marks.OpenParen)) es ls rest (fixed.Mark marks.OpenParen) h in
-      let parts = begins_split (expression e) (mark marks.CloseParen ∷ []) (behind ls) rest inside in
-      let u = no_first (fixed.Word words.Uint32) no_uint32 0 e levelled (behind ls) parts.0 parts.1 in
-      let v = no_first (fixed.Word words.Jint) no_jint 0 e levelled (behind ls) parts.0 parts.1 in
+      let parts = begins_split (expression e) (mark marks.CloseParen ∷ []) (rest_of ls) rest inside in
+      let u = no_first (fixed.Word words.Uint32) no_uint32 0 e levelled (rest_of ls) parts.0 parts.1 in
+      let v = no_first (fixed.Word words.Jint) no_jint 0 e levelled (rest_of ls) parts.0 parts.1 in
       let closed = closes_mark marks.CloseParen refl refl [] parts.0 rest parts.2 in
-      let d = all 0 (behind ls) parts.0 e parts.1 levelled (under _ room low) (λ op same. let g : None ≡ Some op = sym closed.none ∙ same in absurd cc) closed.index in
+      let d = all 0 (rest_of ls) parts.0 e parts.1 levelled (under _ room low) (λ op same. let g : None ≡ Some op = sym closed.none ∙ same in absurd cc) closed.index in
       let a = expect_again (fixed.Mark marks.CloseParen) [] parts.0 rest parts.2 in
       rw (t, q, f, room_left e (under _ room low), u, v, d, a.1) (ap (λ (r : List Lexed). answer (Paren e, 1 + height e, r)) a.2)
 
@@ -459,7 +459,7 @@ module _ (deep : Reader) (room : ℕ) (all : AllAgain deep room) where
   unfolding expr_by
   from_operand e least ls rest h = record { steps = room + 1; enough = omega arith; same = rw h refl }
 
-  climb_next : (steps least : ℕ) (op : BinaryOp) (a b : Expr) (mid rest : List Lexed) → height a < room → room < height a + steps → least ≤ operator_level op → operator_at mid ≡ Some op → deep (operator_level op + 1) (behind mid) ≡ Ok (b, height b, rest) → (s : ℕ) × (room < height (Binary op a b) + s) × (climb deep room least steps a (height a) mid ≡ climb deep room least s (Binary op a b) (height (Binary op a b)) rest)
+  climb_next : (steps least : ℕ) (op : BinaryOp) (a b : Expr) (mid rest : List Lexed) → height a < room → room < height a + steps → least ≤ operator_level op → operator_at mid ≡ Some op → deep (operator_level op + 1) (rest_of mid) ≡ Ok (b, height b, rest) → (s : ℕ) × (room < height (Binary op a b) + s) × (climb deep room least steps a (height a) mid ≡ climb deep room least s (Binary op a b) (height (Binary op a b)) rest)
   unfolding climb
   climb_next zero least op a b mid rest low enough le o d = absurd (omega arith)
   climb_next (suc s) least op a b mid rest low enough le o d =
@@ -478,7 +478,7 @@ module _ (deep : Reader) (room : ℕ) (all : AllAgain deep room) where
       let low_a : height a < room = omega arith in
       let low_b : height b < room = omega arith in
       let first = climbed a least ls parts.0 parts.1 (weaker a (operator_level op) least levelled.0 levelled.1) (omega (arith, low_a)) (λ other same. subst (λ (q : BinaryOp). IsLevelled (operator_level q) a) (same_op (operator_at parts.0) op other o same) levelled.1) (operator_no_index op parts.0 o) in
-      let d = all (operator_level op + 1) (behind parts.0) rest b (first_rest (mark (operator_mark op)) (expression b) parts.0 rest parts.2) levelled.2 low_b (λ other same. let q = takeable other same in omega (arith, q.0)) bare in
+      let d = all (operator_level op + 1) (rest_of parts.0) rest b (first_rest (mark (operator_mark op)) (expression b) parts.0 rest parts.2) levelled.2 low_b (λ other same. let q = takeable other same in omega (arith, q.0)) bare in
       let more = climb_next first.steps least op a b parts.0 rest low_a first.enough levelled.0 o d in
       record { steps = more.0; enough = more.1; same = first.same ∙ more.2 }
 
@@ -509,7 +509,7 @@ index_reads room ls y e = index_takes (deeper room) room (deeper_takes room) ls 
 pub index_reads_again : (room : ℕ) (i : Expr) (ls rest : List Lexed) → Begins (index_tokens i) ls rest → IsLevelled 0 i → height i < room → index_at room ls ≡ Ok (i, height i, rest)
 index_reads_again room i ls rest h levelled low = index_again (deeper room) room (deeper_again room) i ls rest h levelled low
 
--- what stands behind an index
+-- what stands after an index
 pub index_more : (i : Expr) (more : List Spelled) (ls rest : List Lexed) → Begins (index_tokens i ++ more) ls rest → Begins (mark marks.OpenBracket ∷ (expression i ++ mark marks.CloseBracket ∷ more)) ls rest
 index_more i more ls rest h = subst (λ (es : List Spelled). Begins (mark marks.OpenBracket ∷ es) ls rest) (append_assoc (expression i) (mark marks.CloseBracket ∷ []) more) h
 

@@ -15,7 +15,7 @@ use Rattle.parse.specs.Results.{◌>>=◌}
 use Rattle.parse.specs.Meaning.{Fixed'}
 use Rattle.parse.specs.Lexemes.{Lexed, line_at, expect}
 use Rattle.parse.specs.Spelling.{Spelled, OnLine, mark, word, expression, test_tokens, statement, inside}
-use Rattle.parse.specs.Reading.{starts_with, behind, ReadExpr, expr_at, plain_at, declared_at, starts_declaration, ReadStmt, simple_at, ReadBlock, BlockReader, test_at, else_by, if_by, while_by, statement_by, is_return, block_by, inner, statement_at, block_at}
+use Rattle.parse.specs.Reading.{starts_with, rest_of, ReadExpr, expr_at, plain_at, declared_at, starts_declaration, ReadStmt, simple_at, ReadBlock, BlockReader, test_at, else_by, if_by, while_by, statement_by, is_return, block_by, inner, statement_at, block_at}
 use Rattle.parse.proofs.Forms.{IsForm, IsTest, IsBlock, MayFollow, names_of, names_in}
 use Rattle.parse.proofs.Singles.{Begins, bind_ok, ok_is, chosen, begins_append, first_takes, starts_takes, expect_takes, then_takes, shortens, on_takes}
 use Rattle.parse.proofs.Levels.{expr_reads}
@@ -56,7 +56,7 @@ simple_takes room free ls x e =
           subst (λ (y : ReadStmt). TakesStmt room free ls y) (ok_is made x a.2) (record { parts = t.parts; formed = t.formed; count = omega (arith, none); shorter = t.shorter })
     ]
 
--- the names of statements one behind the other
+-- the names of statements one after the other
 pub names_split : (a b : List Stmt) → length (names_declared (a ++ b)) ≡ length (names_declared a) + length (names_declared b)
 names_split a b = ap length (filter_map-append declared_name a b) ∙ length-append (names_declared a) (names_declared b)
 
@@ -69,7 +69,7 @@ pub record TakesBlock (room free : ℕ) (returned : Bool) (ls : List Lexed) (x :
 abbrev AllTakeBlocks : BlockReader → ℕ → Type 0
 AllTakeBlocks deep room = (free : ℕ) (ls : List Lexed) (x : ReadBlock) → deep free ls ≡ Ok x → TakesBlock (room - 1) free false ls x
 
--- what stands behind the test's opening parenthesis, before the block's brace
+-- what stands after the test's opening parenthesis, before the block's brace
 abbrev pub tested_tail : List Spelled → List Spelled
 tested_tail test = mark marks.OpenParen ∷ (test ++ mark marks.CloseParen ∷ [])
 
@@ -108,24 +108,24 @@ module _ (deep : BlockReader) (room : ℕ) (all : AllTakeBlocks deep room) where
   braced : (free : ℕ) (ls mid : List Lexed) (x : ReadBlock) → expect (fixed.Mark marks.OpenBrace) ls ≡ Ok mid → deep free mid ≡ Ok x → Begins (mark marks.OpenBrace ∷ inside x.0) ls x.2
   braced free ls mid x e h = then_takes (fixed.Mark marks.OpenBrace) (inside x.0) ls mid x.2 e (all free mid x h).parts
 
-  -- a test in its parentheses, behind its word
-  tested : (w : Word) (test : List Spelled) (ls a b c : List Lexed) → starts_with (fixed.Word w) ls ≡ true → expect (fixed.Mark marks.OpenParen) (behind ls) ≡ Ok a → Begins test a b → expect (fixed.Mark marks.CloseParen) b ≡ Ok c → Begins (OnLine (line_at ls) (Fixed' (fixed.Word w)) ∷ tested_tail test) ls c
+  -- a test in its parentheses, after its word
+  tested : (w : Word) (test : List Spelled) (ls a b c : List Lexed) → starts_with (fixed.Word w) ls ≡ true → expect (fixed.Mark marks.OpenParen) (rest_of ls) ≡ Ok a → Begins test a b → expect (fixed.Mark marks.CloseParen) b ≡ Ok c → Begins (OnLine (line_at ls) (Fixed' (fixed.Word w)) ∷ tested_tail test) ls c
   tested w test ls a b c s opened h closed =
-      on_takes (fixed.Word w) (tested_tail test) ls c s (then_takes (fixed.Mark marks.OpenParen) (test ++ mark marks.CloseParen ∷ []) (behind ls) a c opened (begins_append test (mark marks.CloseParen ∷ []) a b c h (expect_takes (fixed.Mark marks.CloseParen) b c closed)))
+      on_takes (fixed.Word w) (tested_tail test) ls c s (then_takes (fixed.Mark marks.OpenParen) (test ++ mark marks.CloseParen ∷ []) (rest_of ls) a c opened (begins_append test (mark marks.CloseParen ∷ []) a b c h (expect_takes (fixed.Mark marks.CloseParen) b c closed)))
 
-  -- behind the first block of an `if`, whose tokens up to that block's end are these
+  -- after the first block of an `if`, whose tokens up to that block's end are these
   else_takes : (free line : ℕ) (test : Test) (b : Block) (count : ℕ) (ls mid : List Lexed) (x : ReadStmt) → 1 ≤ room → IsTest room test → IsBlock (room - 1) b → names_in b + count ≡ free → Begins (statement (If line test b)) ls mid → else_by deep line test b count mid ≡ Ok x → TakesStmt room free ls x
   unfolding else_by
   else_takes free line test b count ls mid x some is_test is_block is_count h e =
       elim (chosen (starts_with (fixed.Word words.Else) mid) _ _ (Ok x) e) [
         | inl w ↦
-            let c = bind_ok (expect (fixed.Mark marks.OpenBrace) (behind mid)) (λ within. deep count within >>= λ d. Ok (IfElse line test b d.0, d.1, d.2)) x w.1 in
+            let c = bind_ok (expect (fixed.Mark marks.OpenBrace) (rest_of mid)) (λ within. deep count within >>= λ d. Ok (IfElse line test b d.0, d.1, d.2)) x w.1 in
             let d = bind_ok (deep count c.0) (λ d. Ok (IfElse line test b d.0, d.1, d.2)) x c.2 in
             let t = all count c.0 d.0 d.1 in
             let split = names_split (statements_of b) (statements_of d.0.0) in
             let other_count = t.count in
             let made : ReadStmt = (IfElse line test b d.0.0, d.0.1, d.0.2) in
-            let other = first_takes (Fixed' (fixed.Word words.Else)) (mark marks.OpenBrace ∷ inside d.0.0) mid d.0.2 (starts_takes (fixed.Word words.Else) mid w.0) (braced count (behind mid) c.0 d.0 c.1 d.1) in
+            let other = first_takes (Fixed' (fixed.Word words.Else)) (mark marks.OpenBrace ∷ inside d.0.0) mid d.0.2 (starts_takes (fixed.Word words.Else) mid w.0) (braced count (rest_of mid) c.0 d.0 c.1 d.1) in
             let parts = begins_append (statement (If line test b)) (word words.Else ∷ mark marks.OpenBrace ∷ inside d.0.0) ls mid d.0.2 h other in
             subst (λ (y : ReadStmt). TakesStmt room free ls y) (ok_is made x d.2) (record {
               parts = parts;
@@ -143,11 +143,11 @@ module _ (deep : BlockReader) (room : ℕ) (all : AllTakeBlocks deep room) where
             })
       ]
 
-  if_takes : (free : ℕ) (ls : List Lexed) (x : ReadStmt) → starts_with (fixed.Word words.If) ls ≡ true → 1 ≤ room → if_by deep room free (line_at ls) (behind ls) ≡ Ok x → TakesStmt room free ls x
+  if_takes : (free : ℕ) (ls : List Lexed) (x : ReadStmt) → starts_with (fixed.Word words.If) ls ≡ true → 1 ≤ room → if_by deep room free (line_at ls) (rest_of ls) ≡ Ok x → TakesStmt room free ls x
   unfolding if_by
   if_takes free ls x s some e =
       let line = line_at ls in
-      let a = bind_ok (expect (fixed.Mark marks.OpenParen) (behind ls)) (if_step0 deep room free line) x e in
+      let a = bind_ok (expect (fixed.Mark marks.OpenParen) (rest_of ls)) (if_step0 deep room free line) x e in
       let b = bind_ok (test_at room a.0) (if_step1 deep free line) x a.2 in
       let c = bind_ok (expect (fixed.Mark marks.CloseParen) b.0.1) (if_step2 deep free line b.0.0) x b.2 in
       let d = bind_ok (expect (fixed.Mark marks.OpenBrace) c.0) (if_step3 deep free line b.0.0) x c.2 in
@@ -158,11 +158,11 @@ module _ (deep : BlockReader) (room : ℕ) (all : AllTakeBlocks deep room) where
       let parts = begins_append (OnLine line (Fixed' (fixed.Word words.If)) ∷ tested_tail (test_tokens b.0.0)) (mark marks.OpenBrace ∷ inside f.0.0) ls c.0 f.0.2 head (braced free c.0 d.0 f.0 d.1 f.1) in
       else_takes free line b.0.0 f.0.0 f.0.1 ls f.0.2 x some t.1 k.formed k.count parts f.2
 
-  while_takes : (free : ℕ) (ls : List Lexed) (x : ReadStmt) → starts_with (fixed.Word words.While) ls ≡ true → 1 ≤ room → while_by deep room free (line_at ls) (behind ls) ≡ Ok x → TakesStmt room free ls x
+  while_takes : (free : ℕ) (ls : List Lexed) (x : ReadStmt) → starts_with (fixed.Word words.While) ls ≡ true → 1 ≤ room → while_by deep room free (line_at ls) (rest_of ls) ≡ Ok x → TakesStmt room free ls x
   unfolding while_by
   while_takes free ls x s some e =
       let line = line_at ls in
-      let a = bind_ok (expect (fixed.Mark marks.OpenParen) (behind ls)) (while_step0 deep room free line) x e in
+      let a = bind_ok (expect (fixed.Mark marks.OpenParen) (rest_of ls)) (while_step0 deep room free line) x e in
       let b = bind_ok (expr_at room 0 a.0) (while_step1 deep free line) x a.2 in
       let c = bind_ok (expect (fixed.Mark marks.CloseParen) b.0.2) (while_step2 deep free line b.0.0) x b.2 in
       let d = bind_ok (expect (fixed.Mark marks.OpenBrace) c.0) (while_step3 deep free line b.0.0) x c.2 in
@@ -202,7 +202,7 @@ module _ (deep : BlockReader) (room : ℕ) (all : AllTakeBlocks deep room) where
   block_by_takes free zero returned ls x e = absurd cc
   block_by_takes free (suc steps) returned ls x e =
       elim (chosen (starts_with (fixed.Mark marks.CloseBrace) ls) _ _ (Ok x) e) [
-        | inl w ↦ subst (λ (y : ReadBlock). TakesBlock room free returned ls y) (ok_is (End (line_at ls), free, behind ls) x w.1) (record { parts = on_takes (fixed.Mark marks.CloseBrace) [] ls (behind ls) w.0 refl; formed = tt; follows = may_end returned; count = omega arith })
+        | inl w ↦ subst (λ (y : ReadBlock). TakesBlock room free returned ls y) (ok_is (End (line_at ls), free, rest_of ls) x w.1) (record { parts = on_takes (fixed.Mark marks.CloseBrace) [] ls (rest_of ls) w.0 refl; formed = tt; follows = may_end returned; count = omega arith })
         | inr v ↦ elim (chosen returned _ _ (Ok x) v.1) [
           | inl w ↦ absurd cc
           | inr w ↦

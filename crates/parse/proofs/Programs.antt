@@ -13,7 +13,7 @@ use Rattle.parse.specs.Results.{◌>>=◌}
 use Rattle.parse.specs.Meaning.{Fixed', Name'}
 use Rattle.parse.specs.Lexemes.{Lexed, line_at, expect, name_at}
 use Rattle.parse.specs.Spelling.{Spelled, Anywhere, OnLine, mark, word, reference_word, result_word, parameter_word, inside, parameter, function, item}
-use Rattle.parse.specs.Reading.{starts_with, behind, found, reference_type_at, result_type_at, parameter_type_at, parameter_at, parameters_at, head_at, body_at, block_at, function_at, static_at, ReadItem, item_at, items_at}
+use Rattle.parse.specs.Reading.{starts_with, rest_of, found, reference_type_at, result_type_at, parameter_type_at, parameter_at, parameters_at, head_at, body_at, block_at, function_at, static_at, ReadItem, item_at, items_at}
 use Rattle.parse.proofs.Forms.{names_in, IsBlock, IsFunction, AreItems}
 use Rattle.parse.proofs.Singles.{Begins, bind_ok, ok_is, chosen, begins_append, first_takes, starts_takes, expect_takes, then_takes, name_takes, shortens}
 use Rattle.parse.proofs.TypeWords.{reference_type_takes, result_type_takes, parameter_type_takes}
@@ -39,10 +39,10 @@ head_takes ls rest h =
 
 -- ---- parameters
 
-found_ok : {A : Type 0} (o : Option A) (ls : List Lexed) (x : A × List Lexed) → found o ls ≡ Ok x → (o ≡ Some x.0) × (behind ls ≡ x.1)
+found_ok : {A : Type 0} (o : Option A) (ls : List Lexed) (x : A × List Lexed) → found o ls ≡ Ok x → (o ≡ Some x.0) × (rest_of ls ≡ x.1)
 found_ok None ls x e = absurd cc
 found_ok {A = A} (Some y) ls x e =
-    let same : (y, behind ls) ≡ x = ok_is (y, behind ls) x e in
+    let same : (y, rest_of ls) ≡ x = ok_is (y, rest_of ls) x e in
     (ap (λ (p : A × List Lexed). Some p.0) same, ap (λ (p : A × List Lexed). p.1) same)
 
 abbrev TakesParameter : List Lexed → Parameter × List Lexed → Type 0
@@ -77,9 +77,9 @@ parameters_take zero ls x e =
 parameters_take (suc free) ls x e =
     elim (chosen (starts_with (fixed.Mark marks.Comma) ls) _ _ (Ok x) e) [
       | inl w ↦
-          let a = bind_ok (parameter_at (behind ls)) (λ p. parameters_at free p.1 >>= λ more. Ok (p.0 ∷ more.0, more.1)) x w.1 in
+          let a = bind_ok (parameter_at (rest_of ls)) (λ p. parameters_at free p.1 >>= λ more. Ok (p.0 ∷ more.0, more.1)) x w.1 in
           let b = bind_ok (parameters_at free a.0.1) (λ more. Ok (a.0.0 ∷ more.0, more.1)) x a.2 in
-          let t = parameter_takes (behind ls) a.0 a.1 in
+          let t = parameter_takes (rest_of ls) a.0 a.1 in
           let r = parameters_take free a.0.1 b.0 b.1 in
           let one = first_takes (Fixed' (fixed.Mark marks.Comma)) (word (parameter_word a.0.0.type) ∷ Anywhere (Name' a.0.0.name) ∷ []) ls a.0.1 (starts_takes (fixed.Mark marks.Comma) ls w.0) t in
           let made : List Parameter × List Lexed = (a.0.0 ∷ b.0.0, b.0.1) in

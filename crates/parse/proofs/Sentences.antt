@@ -10,7 +10,7 @@ use Rattle.parse.specs.Results.{◌>>=◌}
 use Rattle.parse.specs.Meaning.{Meaning, Fixed', Name'}
 use Rattle.parse.specs.Lexemes.{Lexed, line_at, expect, name_at}
 use Rattle.parse.specs.Spelling.{Spelled, Anywhere, OnLine, mark, word, expression, call, right, setting, statement}
-use Rattle.parse.specs.Reading.{starts_with, behind, ReadExpr, expr_at, index_at, starts_name, starts_element, call_at, right_at, setting_at, ReadPlain, put_at, return_at, perform_at, set_element_at, set_at, plain_at}
+use Rattle.parse.specs.Reading.{starts_with, rest_of, ReadExpr, expr_at, index_at, starts_name, starts_element, call_at, right_at, setting_at, ReadPlain, put_at, return_at, perform_at, set_element_at, set_at, plain_at}
 use Rattle.parse.proofs.Forms.{IsExpr, IsIndex, AreArguments, IsRight, IsForm, names_of}
 use Rattle.parse.proofs.Singles.{Begins, bind_ok, ok_is, chosen, begins_append, begins_split, starts_takes, expect_takes, then_takes, name_takes, shortens, on_takes, on_first, off_first, on_is, on_line_is, first_is, first_rest, expect_again, name_again, starts_name_again}
 use Rattle.parse.proofs.Table.{closes_mark}
@@ -50,7 +50,7 @@ unfolding return_at
 return_takes room line ls x e =
     elim (chosen (starts_with (fixed.Mark marks.Semicolon) ls) _ _ (Ok x) e) [
       | inl w ↦
-          let made : ReadPlain = (Return line, behind ls) in
+          let made : ReadPlain = (Return line, rest_of ls) in
           let same : made ≡ x = ok_is made x w.1 in
           (None, ap (λ (p : ReadPlain). p.0) same, tt, subst (λ (p : ReadPlain). Begins (mark marks.Semicolon ∷ []) ls p.1) same (starts_takes (fixed.Mark marks.Semicolon) ls w.0))
       | inr w ↦
@@ -107,7 +107,7 @@ return_stmt : (room line : ℕ) (o : Option Expr) (ls rest : List Lexed) → IsO
 return_stmt room line None ls rest is h = record { parts = h; formed = tt; none = refl; shorter = shortens (OnLine line (Fixed' (fixed.Word words.Return))) (mark marks.Semicolon ∷ []) ls rest h }
 return_stmt room line (Some e) ls rest is h = record { parts = h; formed = is; none = refl; shorter = shortens (OnLine line (Fixed' (fixed.Word words.Return))) (expression e ++ mark marks.Semicolon ∷ []) ls rest h }
 
--- what stands behind the first token of a call
+-- what stands after the first token of a call
 abbrev pub call_tail : Call → List Spelled
 call_tail c = mark marks.Star ∷ word words.Env ∷ mark marks.CloseParen ∷ mark marks.Arrow ∷ Anywhere (Name' c.function) ∷ mark marks.OpenParen ∷ word words.Env ∷ (argument_tokens c.arguments ++ mark marks.CloseParen ∷ [])
 
@@ -128,7 +128,7 @@ perform_takes room ls x e =
       shorter = shortens (OnLine (line_at ls) (Fixed' (fixed.Mark marks.OpenParen))) es ls b.0 parts;
     })
 
--- what stands behind the name of an element that is set
+-- what stands after the name of an element that is set
 abbrev pub element_tail : Expr → Expr → List Spelled
 element_tail i e = mark marks.OpenBracket ∷ (expression i ++ mark marks.CloseBracket ∷ mark marks.Assign ∷ (expression e ++ mark marks.Semicolon ∷ []))
 
@@ -169,7 +169,7 @@ set_element_takes room ls x h =
       shorter = shortens (OnLine line (Name' a.0.0)) (element_tail b.0.0 d.0.0) ls e.0 parts;
     })
 
--- what stands behind a name that is set
+-- what stands after a name that is set
 abbrev pub setting_tail : RightSide → List Spelled
 setting_tail r = mark marks.Assign ∷ (right r ++ mark marks.Semicolon ∷ [])
 
@@ -196,13 +196,13 @@ unfolding plain_at
 plain_takes room ls x e =
     elim (chosen (starts_with (fixed.Word words.PutJint) ls) _ _ (Ok x) e) [
       | inl w ↦
-          let t = put_takes room (line_at ls) (behind ls) x w.1 in
+          let t = put_takes room (line_at ls) (rest_of ls) x w.1 in
           let es : List Spelled = mark marks.OpenParen ∷ (expression t.0 ++ (mark marks.CloseParen ∷ mark marks.Semicolon ∷ [])) in
           let parts = on_takes (fixed.Word words.PutJint) es ls x.1 w.0 t.3 in
           subst (λ (s : Stmt). TakesPlain room ls (s, x.1)) t.1 (record { parts = parts; formed = t.2; none = refl; shorter = shortens (OnLine (line_at ls) (Fixed' (fixed.Word words.PutJint))) es ls x.1 parts })
       | inr v ↦ elim (chosen (starts_with (fixed.Word words.Return) ls) _ _ (Ok x) v.1) [
         | inl w ↦
-            let t = return_takes room (line_at ls) (behind ls) x w.1 in
+            let t = return_takes room (line_at ls) (rest_of ls) x w.1 in
             let parts = on_takes (fixed.Word words.Return) (operand_tokens t.0 ++ mark marks.Semicolon ∷ []) ls x.1 w.0 t.3 in
             subst (λ (s : Stmt). TakesPlain room ls (s, x.1)) t.1 (return_stmt room (line_at ls) t.0 ls x.1 t.2 parts)
         | inr w ↦ elim (chosen (starts_with (fixed.Mark marks.OpenParen) ls) _ _ (Ok x) w.1) [
@@ -251,7 +251,7 @@ unfolding setting_at
 setting_again room x r ls rest h is =
     let closing : List Spelled = mark marks.Semicolon ∷ [] in
     let n = name_again x (mark marks.Assign ∷ (right r ++ closing)) ls rest h in
-    let a = expect_again (fixed.Mark marks.Assign) (right r ++ closing) (behind ls) rest (first_rest (Anywhere (Name' x)) (mark marks.Assign ∷ (right r ++ closing)) ls rest h) in
+    let a = expect_again (fixed.Mark marks.Assign) (right r ++ closing) (rest_of ls) rest (first_rest (Anywhere (Name' x)) (mark marks.Assign ∷ (right r ++ closing)) ls rest h) in
     let parts = begins_split (right r) closing a.0 rest a.2 in
     let d = right_again room r a.0 parts.0 parts.1 is (closes_mark marks.Semicolon refl refl [] parts.0 rest parts.2) in
     let c = expect_again (fixed.Mark marks.Semicolon) [] parts.0 rest parts.2 in
@@ -270,8 +270,8 @@ unfolding set_element_at
 set_element_again room line x i e ls rest h is_index is =
     let closing : List Spelled = expression e ++ mark marks.Semicolon ∷ [] in
     let n = name_again x (element_tail i e) ls rest h in
-    let parts = index_split i (mark marks.Assign ∷ closing) (behind ls) rest (first_rest (Anywhere (Name' x)) (element_tail i e) ls rest h) in
-    let k = index_reads_again room i (behind ls) parts.0 parts.1 is_index.levelled is_index.low in
+    let parts = index_split i (mark marks.Assign ∷ closing) (rest_of ls) rest (first_rest (Anywhere (Name' x)) (element_tail i e) ls rest h) in
+    let k = index_reads_again room i (rest_of ls) parts.0 parts.1 is_index.levelled is_index.low in
     let a = expect_again (fixed.Mark marks.Assign) closing parts.0 rest parts.2 in
     let last = begins_split (expression e) (mark marks.Semicolon ∷ []) a.0 rest a.2 in
     let d = expr_reads_again room a.0 last.0 e last.1 is (closes_mark marks.Semicolon refl refl [] last.0 rest last.2) in
@@ -279,7 +279,7 @@ set_element_again room line x i e ls rest h is_index is =
     rw (n, k, a.1, d, c.1) (ap (plain_read (AssignElement line x i e)) c.2)
 
 -- a name that is set is no element
-not_bracket : (ls : List Lexed) → starts_with (fixed.Mark marks.OpenBracket) (behind ls) ≡ false → starts_element ls ≡ false
+not_bracket : (ls : List Lexed) → starts_with (fixed.Mark marks.OpenBracket) (rest_of ls) ≡ false → starts_element ls ≡ false
 not_bracket ls e = bool_cases (starts_name ls) refl
   where
     bool_cases : (b : Bool) → starts_name ls ≡ b → starts_element ls ≡ false
@@ -289,7 +289,7 @@ not_bracket ls e = bool_cases (starts_name ls) refl
 element_starts : (x : Identifier) (i e : Expr) (ls rest : List Lexed) → Begins (Anywhere (Name' x) ∷ element_tail i e) ls rest → starts_element ls ≡ true
 element_starts x i e ls rest h =
     let n = starts_name_again x (element_tail i e) ls rest h in
-    let b = first_is (Fixed' (fixed.Mark marks.OpenBracket)) (expression i ++ mark marks.CloseBracket ∷ mark marks.Assign ∷ (expression e ++ mark marks.Semicolon ∷ [])) (behind ls) rest (fixed.Mark marks.OpenBracket) (first_rest (Anywhere (Name' x)) (element_tail i e) ls rest h) in
+    let b = first_is (Fixed' (fixed.Mark marks.OpenBracket)) (expression i ++ mark marks.CloseBracket ∷ mark marks.Assign ∷ (expression e ++ mark marks.Semicolon ∷ [])) (rest_of ls) rest (fixed.Mark marks.OpenBracket) (first_rest (Anywhere (Name' x)) (element_tail i e) ls rest h) in
     rw (n, b) refl
 
 -- each of these statements
@@ -308,19 +308,19 @@ plain_again room (PutJint line e) ls rest h is plain =
     let m : Meaning = Fixed' (fixed.Word words.PutJint) in
     let es : List Spelled = mark marks.OpenParen ∷ (expression e ++ (mark marks.CloseParen ∷ mark marks.Semicolon ∷ [])) in
     let s = on_is line m es ls rest (fixed.Word words.PutJint) h in
-    rw (s, on_line_is line m es ls rest h, put_again room line e (behind ls) rest (first_rest (OnLine line m) es ls rest h) is) refl
+    rw (s, on_line_is line m es ls rest h, put_again room line e (rest_of ls) rest (first_rest (OnLine line m) es ls rest h) is) refl
 plain_again room (Return line) ls rest h is plain =
     let m : Meaning = Fixed' (fixed.Word words.Return) in
     let es : List Spelled = mark marks.Semicolon ∷ [] in
     let s = on_is line m es ls rest (fixed.Word words.PutJint) h in
     let t = on_is line m es ls rest (fixed.Word words.Return) h in
-    rw (s, t, on_line_is line m es ls rest h, return_again room line (behind ls) rest (first_rest (OnLine line m) es ls rest h)) refl
+    rw (s, t, on_line_is line m es ls rest h, return_again room line (rest_of ls) rest (first_rest (OnLine line m) es ls rest h)) refl
 plain_again room (ReturnValue line e) ls rest h is plain =
     let m : Meaning = Fixed' (fixed.Word words.Return) in
     let es : List Spelled = expression e ++ mark marks.Semicolon ∷ [] in
     let s = on_is line m es ls rest (fixed.Word words.PutJint) h in
     let t = on_is line m es ls rest (fixed.Word words.Return) h in
-    rw (s, t, on_line_is line m es ls rest h, value_again room line e (behind ls) rest (first_rest (OnLine line m) es ls rest h) is) refl
+    rw (s, t, on_line_is line m es ls rest h, value_again room line e (rest_of ls) rest (first_rest (OnLine line m) es ls rest h) is) refl
 plain_again room (Perform line c) ls rest h is plain =
     let m : Meaning = Fixed' (fixed.Mark marks.OpenParen) in
     let es : List Spelled = call_tail c ++ mark marks.Semicolon ∷ [] in
@@ -333,7 +333,7 @@ plain_again room (Assign line x r) ls rest h is plain =
     let s = on_is line (Name' x) es ls rest (fixed.Word words.PutJint) h in
     let t = on_is line (Name' x) es ls rest (fixed.Word words.Return) h in
     let u = on_is line (Name' x) es ls rest (fixed.Mark marks.OpenParen) h in
-    let b = first_is (Fixed' (fixed.Mark marks.Assign)) (right r ++ mark marks.Semicolon ∷ []) (behind ls) rest (fixed.Mark marks.OpenBracket) (first_rest (OnLine line (Name' x)) es ls rest h) in
+    let b = first_is (Fixed' (fixed.Mark marks.Assign)) (right r ++ mark marks.Semicolon ∷ []) (rest_of ls) rest (fixed.Mark marks.OpenBracket) (first_rest (OnLine line (Name' x)) es ls rest h) in
     rw (s, t, u, not_bracket ls b, on_line_is line (Name' x) es ls rest h, setting_again room x r ls rest (off_first line (Name' x) es ls rest h) is) refl
 plain_again room (AssignElement line x i e) ls rest h is plain =
     let es : List Spelled = element_tail i e in

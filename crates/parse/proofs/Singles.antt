@@ -15,7 +15,7 @@ use Rattle.parse.specs.Results.{◌>>=◌}
 use Rattle.parse.specs.Meaning.{Meaning, Fixed', Name', Number', Text'}
 use Rattle.parse.specs.Lexemes.{Lexed, mark_code, word_code, same_mark, same_word, same_fixed, is_fixed_meaning, is_fixed, line_at, expect, name_in, name_at}
 use Rattle.parse.specs.Spelling.{Spelled, Anywhere, OnLine}
-use Rattle.parse.specs.Reading.{starts_with, behind, is_name, starts_name, number_in, number_at}
+use Rattle.parse.specs.Reading.{starts_with, rest_of, is_name, starts_name, number_in, number_at}
 
 -- ---- results
 
@@ -176,7 +176,7 @@ abbrev pub Fits : Spelled → Lexed → Type 0
 Fits (Anywhere meaning) l = l.meaning ≡ meaning
 Fits (OnLine line meaning) l = (l.meaning ≡ meaning) × (l.line ≡ line)
 
--- the lexemes begin as is spelled, and the rest stands behind
+-- the lexemes begin as is spelled, and the rest stands after
 abbrev pub Begins : List Spelled → List Lexed → List Lexed → Type 0
 Begins [] ls rest = ls ≡ rest
 Begins (e ∷ es) [] rest = ⊥
@@ -193,11 +193,11 @@ begins_split (e ∷ a) b [] rest h = absurd h
 begins_split (e ∷ a) b (l ∷ ls) rest h = let w = begins_split a b ls rest h.1 in (w.0, (h.0, w.1), w.2)
 
 -- a first lexeme that may stand on any line
-pub first_takes : (m : Meaning) (es : List Spelled) (ls rest : List Lexed) → Begins (Anywhere m ∷ []) ls (behind ls) → Begins es (behind ls) rest → Begins (Anywhere m ∷ es) ls rest
+pub first_takes : (m : Meaning) (es : List Spelled) (ls rest : List Lexed) → Begins (Anywhere m ∷ []) ls (rest_of ls) → Begins es (rest_of ls) rest → Begins (Anywhere m ∷ es) ls rest
 first_takes m es [] rest h k = h
 first_takes m es (l ∷ ls) rest h k = (h.0, k)
 
-pub first_rest : (e : Spelled) (es : List Spelled) (ls rest : List Lexed) → Begins (e ∷ es) ls rest → Begins es (behind ls) rest
+pub first_rest : (e : Spelled) (es : List Spelled) (ls rest : List Lexed) → Begins (e ∷ es) ls rest → Begins es (rest_of ls) rest
 first_rest e es [] rest h = absurd h
 first_rest e es (l ∷ ls) rest h = h.1
 
@@ -205,7 +205,7 @@ pub first_is : (m : Meaning) (es : List Spelled) (ls rest : List Lexed) (f : Fix
 first_is m es [] rest f h = absurd h
 first_is m es (l ∷ ls) rest f h = ap (λ (x : Meaning). is_fixed_meaning x f) h.0
 
-pub starts_takes : (f : Fixed) (ls : List Lexed) → starts_with f ls ≡ true → Begins (Anywhere (Fixed' f) ∷ []) ls (behind ls)
+pub starts_takes : (f : Fixed) (ls : List Lexed) → starts_with f ls ≡ true → Begins (Anywhere (Fixed' f) ∷ []) ls (rest_of ls)
 starts_takes f [] e = absurd cc
 starts_takes f (l ∷ ls) e = (fixed_is l.meaning f e, refl)
 
@@ -223,7 +223,7 @@ unfolding expect
 expect_again f es [] rest h = absurd h
 expect_again f es (l ∷ ls) rest h = (ls, rw (h.0, same_itself f) refl, h.1)
 
--- a fixed lexeme, and what stands behind it
+-- a fixed lexeme, and what stands after it
 pub then_takes : (f : Fixed) (es : List Spelled) (ls mid rest : List Lexed) → expect f ls ≡ Ok mid → Begins es mid rest → Begins (Anywhere (Fixed' f) ∷ es) ls rest
 then_takes f es ls mid rest e h = begins_append (Anywhere (Fixed' f) ∷ []) es ls mid rest (expect_takes f ls mid e) h
 
@@ -249,7 +249,7 @@ pub first_no_name : (m : Meaning) → is_name m ≡ false → (es : List Spelled
 first_no_name m other es [] rest h = absurd h
 first_no_name m other es (l ∷ ls) rest h = ap is_name h.0 ∙ other
 
-pub name_again : (n : List ℕ) (es : List Spelled) (ls rest : List Lexed) → Begins (Anywhere (Name' n) ∷ es) ls rest → name_at ls ≡ Ok (n, behind ls)
+pub name_again : (n : List ℕ) (es : List Spelled) (ls rest : List Lexed) → Begins (Anywhere (Name' n) ∷ es) ls rest → name_at ls ≡ Ok (n, rest_of ls)
 unfolding name_at
 name_again n es [] rest h = absurd h
 name_again n es (l ∷ ls) rest h = rw h.0 refl
@@ -267,7 +267,7 @@ shortens e es ls rest h = let p = begins_length (e ∷ es) ls rest h in omega (a
 -- ---- the first lexeme of a statement
 
 -- a first lexeme on its line
-pub on_takes : (f : Fixed) (es : List Spelled) (ls rest : List Lexed) → starts_with f ls ≡ true → Begins es (behind ls) rest → Begins (OnLine (line_at ls) (Fixed' f) ∷ es) ls rest
+pub on_takes : (f : Fixed) (es : List Spelled) (ls rest : List Lexed) → starts_with f ls ≡ true → Begins es (rest_of ls) rest → Begins (OnLine (line_at ls) (Fixed' f) ∷ es) ls rest
 on_takes f es [] rest s h = absurd cc
 on_takes f es (l ∷ ls) rest s h = ((fixed_is l.meaning f s, refl), h)
 
@@ -316,7 +316,7 @@ unfolding number_at
 number_takes least most [] x e = absurd cc
 number_takes least most (l ∷ ls) x e = number_in_takes least most l ls x l.meaning refl e
 
-pub number_again : (least most n : ℕ) (es : List Spelled) (ls rest : List Lexed) → least ≤ n → n ≤ most → Begins (Anywhere (Number' n false) ∷ es) ls rest → number_at least most ls ≡ Ok (n, behind ls)
+pub number_again : (least most n : ℕ) (es : List Spelled) (ls rest : List Lexed) → least ≤ n → n ≤ most → Begins (Anywhere (Number' n false) ∷ es) ls rest → number_at least most ls ≡ Ok (n, rest_of ls)
 unfolding number_at
 number_again least most n es [] rest some bound h = absurd h
 number_again least most n es (l ∷ ls) rest some bound h = rw (h.0, le-ltb n least some, le-ltb most n bound) refl

@@ -9,7 +9,7 @@ use Rattle.parse.specs.declared.lexemes.Fixed.TheVariants as fixed
 use Rattle.parse.specs.Meaning.{Meaning, Fixed', Name', Number', Text'}
 use Rattle.parse.specs.Lexemes.{Lexed, same_mark, is_fixed_meaning}
 use Rattle.parse.specs.Spelling.{Spelled, Anywhere, mark, operator_mark}
-use Rattle.parse.specs.Reading.{starts_with, binary_of_mark, binary_of, operator_at, behind}
+use Rattle.parse.specs.Reading.{starts_with, binary_of_mark, binary_of, operator_at, rest_of}
 use Rattle.parse.proofs.Singles.{Begins, first_is, starts_takes}
 
 pub level_small : (op : BinaryOp) → operator_level op < prefix_level
@@ -81,7 +81,7 @@ meaning_is (Name' bytes) op e = absurd cc
 meaning_is (Number' value unsigned) op e = absurd cc
 meaning_is (Text' bytes) op e = absurd cc
 
-pub operator_is : (op : BinaryOp) (ls : List Lexed) → operator_at ls ≡ Some op → Begins (mark (operator_mark op) ∷ []) ls (behind ls)
+pub operator_is : (op : BinaryOp) (ls : List Lexed) → operator_at ls ≡ Some op → Begins (mark (operator_mark op) ∷ []) ls (rest_of ls)
 operator_is op [] e = absurd cc
 operator_is op (l ∷ ls) e = (meaning_is l.meaning op e, refl)
 
@@ -93,7 +93,7 @@ pub operator_first : (m : Meaning) (es : List Spelled) (ls rest : List Lexed) �
 operator_first m es [] rest h = absurd h
 operator_first m es (l ∷ ls) rest h = ap binary_of h.0
 
--- ---- what may stand behind an expression
+-- ---- what may stand after an expression
 
 -- no index
 abbrev pub NoIndex : List Lexed → Type 0
@@ -113,6 +113,6 @@ closes_mark m none index es ls rest h = closes (Fixed' (fixed.Mark m)) none inde
 -- no operator is a bracket
 pub operator_no_index : (op : BinaryOp) (ls : List Lexed) → operator_at ls ≡ Some op → NoIndex ls
 operator_no_index op ls e = false_from_ne_true _ (λ s.
-    let f : operator_at ls ≡ None = operator_first (Fixed' (fixed.Mark marks.OpenBracket)) [] ls (behind ls) (starts_takes (fixed.Mark marks.OpenBracket) ls s) in
+    let f : operator_at ls ≡ None = operator_first (Fixed' (fixed.Mark marks.OpenBracket)) [] ls (rest_of ls) (starts_takes (fixed.Mark marks.OpenBracket) ls s) in
     let g : Some op ≡ None = sym e ∙ f in
     absurd cc)

@@ -216,8 +216,8 @@ own_facts room (AssignElement line x i e) is =
     record {
       levels = and_from (levelled i) _ (levelled_of 0 i is.0.levelled) (one_expression e (levelled_of 0 e is.1.levelled));
       numbers = λ h.
-          let behind_index = range_right (expression i) (mark marks.CloseBracket ∷ mark marks.Assign ∷ closing) h.1.1 in
-          and_from (numbers_in_range i) _ (numbers_of i (range_left (expression i) (mark marks.CloseBracket ∷ mark marks.Assign ∷ closing) h.1.1)) (one_number e (numbers_of e (range_left (expression e) (mark marks.Semicolon ∷ []) behind_index.1.1)));
+          let after_index = range_right (expression i) (mark marks.CloseBracket ∷ mark marks.Assign ∷ closing) h.1.1 in
+          and_from (numbers_in_range i) _ (numbers_of i (range_left (expression i) (mark marks.CloseBracket ∷ mark marks.Assign ∷ closing) h.1.1)) (one_number e (numbers_of e (range_left (expression e) (mark marks.Semicolon ∷ []) after_index.1.1)));
       low = omega (arith, low_i, low_e);
     }
 own_facts room (Perform line c) is =
@@ -255,14 +255,14 @@ alone room s own within same formed = record {
   low = let low = own.low in omega (arith, same, low);
 }
 
--- the range of a block's tokens, behind a test, and behind `else`
+-- the range of a block's tokens, after a test, and after `else`
 block_range : (first : Spelled) (test : List Spelled) (b : Block) → AreInRange (first ∷ (tested_tail test ++ mark marks.OpenBrace ∷ inside b)) → AreInRange (inside b)
 block_range first test b h = (range_right (tested_tail test) (mark marks.OpenBrace ∷ inside b) h.1).1
 
 else_range : (line : ℕ) (test : Test) (b d : Block) → AreInRange (statement (IfElse line test b d)) → AreInRange (inside d)
 else_range line test b d h = (range_right (statement (If line test b)) (word words.Else ∷ mark marks.OpenBrace ∷ inside d) h).1.1
 
--- a statement, and a block behind it that may follow
+-- a statement, and a block after it that may follow
 well_formed_of : (s : Stmt) (rest : Block) → MayFollow (is_return s) rest → well_formed s ≡ true → block_well_formed rest ≡ true → block_well_formed (Next s rest) ≡ true
 well_formed_of (Declare line t x r) rest follows own h = and_from (well_formed (Declare line t x r)) (block_well_formed rest) own h
 well_formed_of (DeclareBuffer line t x r) rest follows own h = and_from (well_formed (DeclareBuffer line t x r)) (block_well_formed rest) own h
@@ -419,14 +419,14 @@ pub record FunctionFacts (f : Function) : Type 0 where
 names_count : (f : Function) → length (parameter_names f ++ names_declared (statements_of f.body)) ≡ 1 + length f.parameters + names_in f.body
 names_count f =
     let all = length-append (parameter_names f) (names_declared (statements_of f.body)) in
-    let behind_class = length-map f.parameters (λ p. p.name) in
-    omega (arith, all, behind_class)
+    let after_class = length-map f.parameters (λ p. p.name) in
+    omega (arith, all, after_class)
 
 body_range : (f : Function) → AreInRange (function f) → AreInRange (inside f.body)
 body_range f range =
-    let behind_name = range.1.1.1.1 in
-    let behind_parameters = range_right (parameters f) (mark marks.CloseParen ∷ mark marks.OpenBrace ∷ inside f.body) behind_name in
-    behind_parameters.1.1
+    let after_name = range.1.1.1.1 in
+    let after_parameters = range_right (parameters f) (mark marks.CloseParen ∷ mark marks.OpenBrace ∷ inside f.body) after_name in
+    after_parameters.1.1
 
 function_facts : (f : Function) → IsFunction f → AreInRange (function f) → FunctionFacts f
 function_facts f is range =

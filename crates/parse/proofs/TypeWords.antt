@@ -10,7 +10,7 @@ use Rattle.parse.specs.declared.lexemes.Fixed.TheVariants as fixed
 use Rattle.parse.specs.Meaning.{Meaning, Fixed', Name', Number', Text'}
 use Rattle.parse.specs.Lexemes.{Lexed, same_word, line_at}
 use Rattle.parse.specs.Spelling.{Spelled, OnLine, word, reference_word, constant_word, element_word, variable_word, result_word, parameter_word}
-use Rattle.parse.specs.Reading.{behind, constant_of_word, word_in, word_at, reference_of_word, result_of_word, element_of_word, parameter_of_word, variable_of_word, reference_type_at, result_type_at, element_type_at, parameter_type_at, variable_type_at}
+use Rattle.parse.specs.Reading.{rest_of, constant_of_word, word_in, word_at, reference_of_word, result_of_word, element_of_word, parameter_of_word, variable_of_word, reference_type_at, result_type_at, element_type_at, parameter_type_at, variable_type_at}
 use Rattle.parse.proofs.Singles.{Begins, chosen, word_is}
 
 -- ---- constants
@@ -154,11 +154,11 @@ flat_some : {A B : Type 0} (f : A → Option B) (o : Option A) (y : B) → optio
 flat_some f None y e = absurd cc
 flat_some f (Some x) y e = (x, refl, e)
 
-word_takes : (w : Word) (ls : List Lexed) → word_at ls ≡ Some w → Begins (word w ∷ []) ls (behind ls)
+word_takes : (w : Word) (ls : List Lexed) → word_at ls ≡ Some w → Begins (word w ∷ []) ls (rest_of ls)
 word_takes w [] e = absurd cc
 word_takes w (l ∷ ls) e = (word_meaning l.meaning w e, refl)
 
-pub parameter_type_takes : (t : ParameterType) (ls : List Lexed) → parameter_type_at ls ≡ Some t → Begins (word (parameter_word t) ∷ []) ls (behind ls)
+pub parameter_type_takes : (t : ParameterType) (ls : List Lexed) → parameter_type_at ls ≡ Some t → Begins (word (parameter_word t) ∷ []) ls (rest_of ls)
 parameter_type_takes t ls e =
     let w = flat_some parameter_of_word (word_at ls) t e in
     word_takes (parameter_word t) ls (w.1 ∙ ap (λ (v : Word). Some v) (parameter_is w.0 t w.2))
@@ -167,11 +167,11 @@ pub parameter_type_again : (t : ParameterType) (es : List Spelled) (ls rest : Li
 parameter_type_again t es [] rest h = absurd h
 parameter_type_again t es (l ∷ ls) rest h = rw h.0 (parameter_again t)
 
-word_on : (w : Word) (es : List Spelled) (ls rest : List Lexed) → word_at ls ≡ Some w → Begins es (behind ls) rest → Begins (OnLine (line_at ls) (Fixed' (fixed.Word w)) ∷ es) ls rest
+word_on : (w : Word) (es : List Spelled) (ls rest : List Lexed) → word_at ls ≡ Some w → Begins es (rest_of ls) rest → Begins (OnLine (line_at ls) (Fixed' (fixed.Word w)) ∷ es) ls rest
 word_on w es [] rest e h = absurd cc
 word_on w es (l ∷ ls) rest e h = ((word_meaning l.meaning w e, refl), h)
 
-pub reference_type_takes : (t : ReferenceType) (ls : List Lexed) → reference_type_at ls ≡ Some t → Begins (word (reference_word t) ∷ []) ls (behind ls)
+pub reference_type_takes : (t : ReferenceType) (ls : List Lexed) → reference_type_at ls ≡ Some t → Begins (word (reference_word t) ∷ []) ls (rest_of ls)
 reference_type_takes t ls e =
     let w = flat_some reference_of_word (word_at ls) t e in
     word_takes (reference_word t) ls (w.1 ∙ ap (λ (v : Word). Some v) (reference_is w.0 t w.2))
@@ -180,7 +180,7 @@ pub reference_type_again : (t : ReferenceType) (es : List Spelled) (ls rest : Li
 reference_type_again t es [] rest h = absurd h
 reference_type_again t es (l ∷ ls) rest h = rw h.0 (reference_again t)
 
-pub result_type_takes : (t : ResultType) (ls : List Lexed) → result_type_at ls ≡ Some t → Begins (word (result_word t) ∷ []) ls (behind ls)
+pub result_type_takes : (t : ResultType) (ls : List Lexed) → result_type_at ls ≡ Some t → Begins (word (result_word t) ∷ []) ls (rest_of ls)
 result_type_takes t ls e =
     let w = flat_some result_of_word (word_at ls) t e in
     word_takes (result_word t) ls (w.1 ∙ ap (λ (v : Word). Some v) (result_is w.0 t w.2))
@@ -191,12 +191,12 @@ result_type_again t es (l ∷ ls) rest h = rw h.0 (result_again t)
 
 -- ---- the type that stands first in a line
 
-pub element_type_takes : (t : ElementType) (es : List Spelled) (ls rest : List Lexed) → element_type_at ls ≡ Some t → Begins es (behind ls) rest → Begins (OnLine (line_at ls) (Fixed' (fixed.Word (element_word t))) ∷ es) ls rest
+pub element_type_takes : (t : ElementType) (es : List Spelled) (ls rest : List Lexed) → element_type_at ls ≡ Some t → Begins es (rest_of ls) rest → Begins (OnLine (line_at ls) (Fixed' (fixed.Word (element_word t))) ∷ es) ls rest
 element_type_takes t es ls rest e h =
     let w = flat_some element_of_word (word_at ls) t e in
     word_on (element_word t) es ls rest (w.1 ∙ ap (λ (v : Word). Some v) (element_is w.0 t w.2)) h
 
-pub variable_type_takes : (t : VariableType) (es : List Spelled) (ls rest : List Lexed) → variable_type_at ls ≡ Some t → Begins es (behind ls) rest → Begins (OnLine (line_at ls) (Fixed' (fixed.Word (variable_word t))) ∷ es) ls rest
+pub variable_type_takes : (t : VariableType) (es : List Spelled) (ls rest : List Lexed) → variable_type_at ls ≡ Some t → Begins es (rest_of ls) rest → Begins (OnLine (line_at ls) (Fixed' (fixed.Word (variable_word t))) ∷ es) ls rest
 variable_type_takes t es ls rest e h =
     let w = flat_some variable_of_word (word_at ls) t e in
     word_on (variable_word t) es ls rest (w.1 ∙ ap (λ (v : Word). Some v) (variable_is w.0 t w.2)) h

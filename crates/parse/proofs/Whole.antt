@@ -61,7 +61,7 @@ lexemes_is text place line (t ∷ tokens) order is =
     let w = lexemes_is text t.start (line + line_ends (slice_range text place t.start)) tokens (order_later text t.start t.end tokens order.1.ordered order.2) now in
     (w.0, ap (λ (ls : List Lexed). record { meaning = token_meaning text t; line = line + line_ends (slice_range text place t.start) } ∷ ls) w.1 ∙ ap (λ n. record { meaning = token_meaning text t; line = n } ∷ (lexemes_of text tokens ++ record { meaning = Fixed' fixed.End; line = w.0 } ∷ [])) now)
 
--- ---- the End stands behind all tokens and nowhere else
+-- ---- the End stands after all tokens and nowhere else
 
 word_not_end : (o : Option Word) (bytes : List ℕ) → is_fixed_meaning (name_or_word o bytes) fixed.End ≡ false
 word_not_end None bytes = refl
@@ -132,10 +132,10 @@ extend (e ∷ es) (l ∷ ls) more h = (h.0, extend es ls more h.1)
 pub items_only : (text : List ℕ) (tokens : List Token) (unit : SourceUnit) → ((others : List Token) → Spells text others → others ≡ tokens) → Spells text tokens → SpellsUnit text unit → items_of text tokens ≡ Ok unit.items
 items_only text tokens unit unique spelled s =
     let w = lexemes_is text 0 1 tokens (order_of text spelled) refl in
-    let behind_all : List Lexed = record { meaning = Fixed' fixed.End; line = w.0 } ∷ [] in
+    let after_all : List Lexed = record { meaning = Fixed' fixed.End; line = w.0 } ∷ [] in
     let stand = subst (λ (ts : List Token). AllZip (Stands text) ts (spell unit)) (unique s.0 s.1) s.2.1 in
-    let parts = subst (λ (ls : List Lexed). Begins (spell unit) ls behind_all) (sym w.1) (extend (spell unit) (lexemes_of text tokens) behind_all (begins_of text tokens (spell unit) stand)) in
-    rw (add-one (length (lexemes text 0 1 tokens))) (items_again unit.items (length (lexemes text 0 1 tokens)) 256 256 (lexemes text 0 1 tokens) behind_all (omega arith) parts refl (tree_items unit s.2.0) s.2.0.few_functions s.2.0.few_statics)
+    let parts = subst (λ (ls : List Lexed). Begins (spell unit) ls after_all) (sym w.1) (extend (spell unit) (lexemes_of text tokens) after_all (begins_of text tokens (spell unit) stand)) in
+    rw (add-one (length (lexemes text 0 1 tokens))) (items_again unit.items (length (lexemes text 0 1 tokens)) 256 256 (lexemes text 0 1 tokens) after_all (omega arith) parts refl (tree_items unit s.2.0) s.2.0.few_functions s.2.0.few_statics)
 
 -- ---- from items to units
 

@@ -37,7 +37,7 @@ views ls = map view ls
 abbrev pub line_ends : List ℕ → ℕ
 line_ends bytes = count_by (λ byte. byte == 10) bytes
 
--- the lexemes of tokens, with the lines counted on from a place, and the end behind them
+-- the lexemes of tokens, with the lines counted on from a place, and the end after them
 unfoldable pub lexemes : List ℕ → ℕ → ℕ → List Token → List Lexed
 lexemes text place line [] = record { meaning = Fixed' fixed.End; line = line } ∷ []
 lexemes text place line (token ∷ tokens) =
@@ -48,7 +48,7 @@ pub record IsInside (text : List ℕ) (token : Token) : Type 0 where
   pub ordered : token.start ≤ token.end
   pub within : token.end ≤ length text
 
--- the tokens stand one behind the other, from a place on
+-- the tokens stand one after the other, from a place on
 abbrev pub AreInOrder : List ℕ → ℕ → List Token → Type 0
 AreInOrder text place [] = place ≤ length text
 AreInOrder text place (token ∷ tokens) = (place ≤ token.start) × IsInside text token × AreInOrder text token.end tokens

@@ -22,9 +22,9 @@ abbrev pub starts_with : Fixed → List Lexed → Bool
 starts_with f [] = false
 starts_with f (l ∷ ls) = is_fixed l f
 
-abbrev pub behind : List Lexed → List Lexed
-behind [] = []
-behind (l ∷ ls) = ls
+abbrev pub rest_of : List Lexed → List Lexed
+rest_of [] = []
+rest_of (l ∷ ls) = ls
 
 -- ---- expressions
 
@@ -62,7 +62,7 @@ abbrev pub operator_at : List Lexed → Option BinaryOp
 operator_at [] = None
 operator_at (l ∷ ls) = binary_of l.meaning
 
--- an expression, its height, and what stands behind it
+-- an expression, its height, and what stands after it
 abbrev pub ReadExpr : Type 0
 ReadExpr = Expr × ℕ × List Lexed
 
@@ -77,10 +77,10 @@ abbrev pub climb_step : Reader → ℕ → ℕ → More → Expr → ℕ → Lis
 climb_step deep room least more left high ls None = Ok (left, high, ls)
 climb_step deep room least more left high ls (Some op) =
     if nat_lt (operator_level op) least then Ok (left, high, ls)
-    else if nat_lt high room then (deep (operator_level op + 1) (behind ls) >>= λ r. more (Binary op left r.0) (1 + max high r.1) r.2)
+    else if nat_lt high room then (deep (operator_level op + 1) (rest_of ls) >>= λ r. more (Binary op left r.0) (1 + max high r.1) r.2)
     else Err (fault_at TooHigh ls)
 
--- operators of a level or tighter, behind an expression; a step for each, and deep reads what stands behind it
+-- operators of a level or tighter, after an expression; a step for each, and deep reads what stands after it
 unfoldable pub climb : Reader → ℕ → ℕ → ℕ → More
 climb deep room least zero left high ls = Err (fault_at TooHigh ls)
 climb deep room least (suc steps) left high ls = climb_step deep room least (climb deep room least steps) left high ls (operator_at ls)
@@ -97,11 +97,11 @@ in_parens deep ls = do
   after ← expect (fixed.Mark marks.CloseParen) e.2
   Ok (Paren e.0, 1 + e.1, after)
 
--- behind an opening parenthesis: a type, or an expression
-unfoldable pub behind_paren : Reader → List Lexed → Result ReadExpr ParseFault
-behind_paren deep ls =
-    if starts_with (fixed.Word words.Uint32) ls then (expect (fixed.Mark marks.CloseParen) (behind ls) >>= λ after. under_prefix deep ToWord after)
-    else if starts_with (fixed.Word words.Jint) ls then (expect (fixed.Mark marks.CloseParen) (behind ls) >>= λ after. under_prefix deep ToInt after)
+-- after an opening parenthesis: a type, or an expression
+unfoldable pub after_paren : Reader → List Lexed → Result ReadExpr ParseFault
+after_paren deep ls =
+    if starts_with (fixed.Word words.Uint32) ls then (expect (fixed.Mark marks.CloseParen) (rest_of ls) >>= λ after. under_prefix deep ToWord after)
+    else if starts_with (fixed.Word words.Jint) ls then (expect (fixed.Mark marks.CloseParen) (rest_of ls) >>= λ after. under_prefix deep ToInt after)
     else in_parens deep ls
 
 -- an index in its brackets
@@ -123,7 +123,7 @@ starts_name (l ∷ ls) = is_name l.meaning
 
 -- whether a name with an index comes next
 abbrev pub starts_element : List Lexed → Bool
-starts_element ls = if starts_name ls then starts_with (fixed.Mark marks.OpenBracket) (behind ls) else false
+starts_element ls = if starts_name ls then starts_with (fixed.Mark marks.OpenBracket) (rest_of ls) else false
 
 unfoldable pub element_by : ℕ → Reader → List Lexed → Result ReadExpr ParseFault
 element_by room deep ls = do
@@ -159,9 +159,9 @@ primary_at (l ∷ after) = primary_of l.meaning (l ∷ after) after
 -- a prefix with its operand, parentheses, an element, or what holds best
 unfoldable pub operand_by : ℕ → Reader → List Lexed → Result ReadExpr ParseFault
 operand_by room deep ls =
-    if starts_with (fixed.Mark marks.Tilde) ls then (if room == 0 then Err (fault_at TooHigh ls) else under_prefix deep Complement (behind ls))
-    else if starts_with (fixed.Mark marks.Exclamation) ls then (if room == 0 then Err (fault_at TooHigh ls) else under_prefix deep LogicalNot (behind ls))
-    else if starts_with (fixed.Mark marks.OpenParen) ls then (if room == 0 then Err (fault_at TooHigh ls) else behind_paren deep (behind ls))
+    if starts_with (fixed.Mark marks.Tilde) ls then (if room == 0 then Err (fault_at TooHigh ls) else under_prefix deep Complement (rest_of ls))
+    else if starts_with (fixed.Mark marks.Exclamation) ls then (if room == 0 then Err (fault_at TooHigh ls) else under_prefix deep LogicalNot (rest_of ls))
+    else if starts_with (fixed.Mark marks.OpenParen) ls then (if room == 0 then Err (fault_at TooHigh ls) else after_paren deep (rest_of ls))
     else if starts_element ls then element_by room deep ls
     else primary_at ls
 
@@ -251,10 +251,10 @@ element_type_at ls = option_flatten (option_map element_of_word (word_at ls))
 abbrev pub variable_type_at : List Lexed → Option VariableType
 variable_type_at ls = option_flatten (option_map variable_of_word (word_at ls))
 
--- what the first lexeme stands for, and what stands behind it
+-- what the first lexeme stands for, and what stands after it
 abbrev pub found : {A : Type 0} → Option A → List Lexed → Result (A × List Lexed) ParseFault
 found None ls = Err (fault_at NoForm ls)
-found (Some x) ls = Ok (x, behind ls)
+found (Some x) ls = Ok (x, rest_of ls)
 
 -- ---- calls
 
@@ -281,12 +281,12 @@ text_at (l ∷ ls) = text_of l.meaning
 -- an argument that is no string
 unfoldable pub value_at : ℕ → List Lexed → Result (Argument × List Lexed) ParseFault
 value_at room ls =
-    if starts_with (fixed.Mark marks.Ampersand) ls then (name_at (behind ls) >>= λ name. Ok (AddressOf name.0, name.1))
+    if starts_with (fixed.Mark marks.Ampersand) ls then (name_at (rest_of ls) >>= λ name. Ok (AddressOf name.0, name.1))
     else (expr_at room 0 ls >>= λ e. Ok (Value e.0, e.2))
 
 abbrev pub argument_by : ℕ → Option (List ℕ) → List Lexed → Result (Argument × List Lexed) ParseFault
 argument_by room None ls = value_at room ls
-argument_by room (Some bytes) ls = Ok (Text bytes, behind ls)
+argument_by room (Some bytes) ls = Ok (Text bytes, rest_of ls)
 
 unfoldable pub argument_at : ℕ → List Lexed → Result (Argument × List Lexed) ParseFault
 argument_at room ls = argument_by room (text_at ls) ls
@@ -296,7 +296,7 @@ unfoldable pub arguments_at : (room steps : ℕ) → List Lexed → Result (List
 arguments_at room zero ls = Err (fault_at NoForm ls)
 arguments_at room (suc steps) ls =
     if starts_with (fixed.Mark marks.Comma) ls
-    then (argument_at room (behind ls) >>= λ a. arguments_at room steps a.1 >>= λ more. Ok (a.0 ∷ more.0, more.1))
+    then (argument_at room (rest_of ls) >>= λ a. arguments_at room steps a.1 >>= λ more. Ok (a.0 ∷ more.0, more.1))
     else Ok ([], ls)
 
 unfoldable pub call_at : ℕ → List Lexed → Result (Call × List Lexed) ParseFault
@@ -311,7 +311,7 @@ call_at room ls = do
 
 -- no expression begins with these two
 abbrev pub starts_call : List Lexed → Bool
-starts_call ls = if starts_with (fixed.Mark marks.OpenParen) ls then starts_with (fixed.Mark marks.Star) (behind ls) else false
+starts_call ls = if starts_with (fixed.Mark marks.OpenParen) ls then starts_with (fixed.Mark marks.Star) (rest_of ls) else false
 
 unfoldable pub right_at : ℕ → List Lexed → Result (RightSide × List Lexed) ParseFault
 right_at room ls =
@@ -359,7 +359,7 @@ put_at room line ls = do
 
 unfoldable pub return_at : (room line : ℕ) → List Lexed → Result ReadPlain ParseFault
 return_at room line ls =
-    if starts_with (fixed.Mark marks.Semicolon) ls then Ok (Return line, behind ls)
+    if starts_with (fixed.Mark marks.Semicolon) ls then Ok (Return line, rest_of ls)
     else (expr_at room 0 ls >>= λ e. expect (fixed.Mark marks.Semicolon) e.2 >>= λ rest. Ok (ReturnValue line e.0, rest))
 
 unfoldable pub perform_at : (room line : ℕ) → List Lexed → Result ReadPlain ParseFault
@@ -385,8 +385,8 @@ set_at room line ls =
 -- a statement that declares no name and has no block
 unfoldable pub plain_at : ℕ → List Lexed → Result ReadPlain ParseFault
 plain_at room ls =
-    if starts_with (fixed.Word words.PutJint) ls then put_at room (line_at ls) (behind ls)
-    else if starts_with (fixed.Word words.Return) ls then return_at room (line_at ls) (behind ls)
+    if starts_with (fixed.Word words.PutJint) ls then put_at room (line_at ls) (rest_of ls)
+    else if starts_with (fixed.Word words.Return) ls then return_at room (line_at ls) (rest_of ls)
     else if starts_with (fixed.Mark marks.OpenParen) ls then perform_at room (line_at ls) ls
     else set_at room (line_at ls) ls
 
@@ -411,28 +411,28 @@ array_at line t ls = do
   rest ← zeros_at b
   Ok (DeclareArray line t name.0 size.0, rest)
 
--- whether an array is declared behind an element's type, of which `jint` alone is a variable's too
+-- whether an array is declared after an element's type, of which `jint` alone is a variable's too
 abbrev pub is_array : ElementType → List Lexed → Bool
-is_array JInt ls = starts_with (fixed.Mark marks.OpenBracket) (behind ls)
+is_array JInt ls = starts_with (fixed.Mark marks.OpenBracket) (rest_of ls)
 is_array JShort ls = true
 is_array JByte ls = true
 is_array JChar ls = true
 
--- what stands behind an element's type
-unfoldable pub behind_element : (room line : ℕ) → ElementType → List Lexed → Result ReadPlain ParseFault
-behind_element room line t ls =
-    if starts_with (fixed.Mark marks.Star) ls then (setting_at room (behind ls) >>= λ s. Ok (DeclareBuffer line t s.0 s.1, s.2))
+-- what stands after an element's type
+unfoldable pub after_element : (room line : ℕ) → ElementType → List Lexed → Result ReadPlain ParseFault
+after_element room line t ls =
+    if starts_with (fixed.Mark marks.Star) ls then (setting_at room (rest_of ls) >>= λ s. Ok (DeclareBuffer line t s.0 s.1, s.2))
     else if is_array t ls then array_at line t ls
     else (setting_at room ls >>= λ s. Ok (Declare line JIntVariable s.0 s.1, s.2))
 
-unfoldable pub behind_variable : (room line : ℕ) → VariableType → List Lexed → Result ReadPlain ParseFault
-behind_variable room line t ls = do
+unfoldable pub after_variable : (room line : ℕ) → VariableType → List Lexed → Result ReadPlain ParseFault
+after_variable room line t ls = do
   s ← setting_at room ls
   Ok (Declare line t s.0 s.1, s.2)
 
 -- const jchar *
-unfoldable pub behind_const : (room line : ℕ) → List Lexed → Result ReadPlain ParseFault
-behind_const room line ls = do
+unfoldable pub after_const : (room line : ℕ) → List Lexed → Result ReadPlain ParseFault
+after_const room line ls = do
   a ← expect (fixed.Word words.Jchar) ls
   b ← expect (fixed.Mark marks.Star) a
   s ← setting_at room b
@@ -440,9 +440,9 @@ behind_const room line ls = do
 
 -- a declaration that begins with one of these types, or with `const`
 abbrev pub declared_by : ℕ → Option ElementType → Option VariableType → List Lexed → Result ReadPlain ParseFault
-declared_by room (Some t) o ls = behind_element room (line_at ls) t (behind ls)
-declared_by room None (Some t) ls = behind_variable room (line_at ls) t (behind ls)
-declared_by room None None ls = behind_const room (line_at ls) (behind ls)
+declared_by room (Some t) o ls = after_element room (line_at ls) t (rest_of ls)
+declared_by room None (Some t) ls = after_variable room (line_at ls) t (rest_of ls)
+declared_by room None None ls = after_const room (line_at ls) (rest_of ls)
 
 unfoldable pub declared_at : ℕ → List Lexed → Result ReadPlain ParseFault
 declared_at room ls = declared_by room (element_type_at ls) (variable_type_at ls) ls
@@ -451,7 +451,7 @@ declared_at room ls = declared_by room (element_type_at ls) (variable_type_at ls
 abbrev pub starts_declaration : List Lexed → Bool
 starts_declaration ls = is_some (element_type_at ls) || is_some (variable_type_at ls) || starts_with (fixed.Word words.Const) ls
 
--- a statement, how many more names may be declared behind it, and what stands behind it
+-- a statement, how many more names may be declared after it, and what stands after it
 abbrev pub ReadStmt : Type 0
 ReadStmt = Stmt × ℕ × List Lexed
 
@@ -463,11 +463,11 @@ simple_at room free ls =
 
 -- ---- blocks
 
--- a block, how many more names may be declared behind it, and what stands behind it
+-- a block, how many more names may be declared after it, and what stands after it
 abbrev pub ReadBlock : Type 0
 ReadBlock = Block × ℕ × List Lexed
 
--- reads what stands behind an opening brace, where so many more names may be declared
+-- reads what stands after an opening brace, where so many more names may be declared
 abbrev pub BlockReader : Type 0
 BlockReader = ℕ → List Lexed → Result ReadBlock ParseFault
 
@@ -477,11 +477,11 @@ test_at room ls =
     if starts_call ls then (call_at room ls >>= λ c. expect (fixed.Mark marks.Equal) c.1 >>= λ a. number_at 0 0 a >>= λ number. Ok (TestCall c.0, number.1))
     else (expr_at room 0 ls >>= λ e. Ok (TestExpr e.0, e.2))
 
--- behind the first block of an `if`
+-- after the first block of an `if`
 unfoldable pub else_by : BlockReader → (line : ℕ) → Test → Block → (free : ℕ) → List Lexed → Result ReadStmt ParseFault
 else_by deep line test then' free ls =
     if starts_with (fixed.Word words.Else) ls
-    then (expect (fixed.Mark marks.OpenBrace) (behind ls) >>= λ within. deep free within >>= λ b. Ok (IfElse line test then' b.0, b.1, b.2))
+    then (expect (fixed.Mark marks.OpenBrace) (rest_of ls) >>= λ within. deep free within >>= λ b. Ok (IfElse line test then' b.0, b.1, b.2))
     else Ok (If line test then', free, ls)
 
 unfoldable pub if_by : BlockReader → (room free line : ℕ) → List Lexed → Result ReadStmt ParseFault
@@ -504,8 +504,8 @@ while_by deep room free line ls = do
 
 unfoldable pub statement_by : BlockReader → (room free : ℕ) → List Lexed → Result ReadStmt ParseFault
 statement_by deep room free ls =
-    if starts_with (fixed.Word words.If) ls then (if room == 0 then Err (fault_at TooHigh ls) else if_by deep room free (line_at ls) (behind ls))
-    else if starts_with (fixed.Word words.While) ls then (if room == 0 then Err (fault_at TooHigh ls) else while_by deep room free (line_at ls) (behind ls))
+    if starts_with (fixed.Word words.If) ls then (if room == 0 then Err (fault_at TooHigh ls) else if_by deep room free (line_at ls) (rest_of ls))
+    else if starts_with (fixed.Word words.While) ls then (if room == 0 then Err (fault_at TooHigh ls) else while_by deep room free (line_at ls) (rest_of ls))
     else simple_at room free ls
 
 abbrev pub is_return : Stmt → Bool
@@ -514,11 +514,11 @@ is_return (ReturnValue line e) = true
 is_return s = false
 
 -- statements up to the closing brace, of which there are fewer than steps, where so many more names
--- may be declared; none stands behind a return
+-- may be declared; none stands after a return
 unfoldable pub block_by : BlockReader → (room free steps : ℕ) → Bool → List Lexed → Result ReadBlock ParseFault
 block_by deep room free zero returned ls = Err (fault_at NoForm ls)
 block_by deep room free (suc steps) returned ls =
-    if starts_with (fixed.Mark marks.CloseBrace) ls then Ok (End (line_at ls), free, behind ls)
+    if starts_with (fixed.Mark marks.CloseBrace) ls then Ok (End (line_at ls), free, rest_of ls)
     else if returned then Err (fault_at NoForm ls)
     else (statement_by deep room free ls >>= λ s. block_by deep room s.1 steps (is_return s.0) s.2 >>= λ b. Ok (Next s.0 b.0, b.1, b.2))
 
@@ -557,7 +557,7 @@ unfoldable pub parameters_at : ℕ → List Lexed → Result (List Parameter × 
 parameters_at zero ls = if starts_with (fixed.Mark marks.Comma) ls then Err (fault_at TooMany ls) else Ok ([], ls)
 parameters_at (suc free) ls =
     if starts_with (fixed.Mark marks.Comma) ls
-    then (parameter_at (behind ls) >>= λ p. parameters_at free p.1 >>= λ more. Ok (p.0 ∷ more.0, more.1))
+    then (parameter_at (rest_of ls) >>= λ p. parameters_at free p.1 >>= λ more. Ok (p.0 ∷ more.0, more.1))
     else Ok ([], ls)
 
 -- a function's block, with what closes its parameters
@@ -568,7 +568,7 @@ body_at free ls = do
   body ← block_at 31 free b
   Ok (body.0, body.2)
 
--- a function; behind the class it may have 255 more names
+-- a function; after the class it may have 255 more names
 unfoldable pub function_at : List Lexed → Result (Function × List Lexed) ParseFault
 function_at ls = do
   a ← expect (fixed.Word words.JniExport) ls
@@ -591,7 +591,7 @@ static_at ls = do
   rest ← expect (fixed.Mark marks.Semicolon) c
   Ok (record { line = line_at ls; type = t.0; name = name.0 }, rest)
 
--- an item, how many more functions and statics there may be behind it, and what stands behind it
+-- an item, how many more functions and statics there may be after it, and what stands after it
 abbrev pub ReadItem : Type 0
 ReadItem = Item × ℕ × ℕ × List Lexed
 

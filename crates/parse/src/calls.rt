@@ -8,13 +8,13 @@ ghost use Rattle.parse.specs.Reading.{interface_at, value_at, argument_at, argum
 
 use crate::expressions::expression;
 use crate::fault::ParseFault;
-use crate::lexemes::{Fixed, Lexeme, behind, expect, name_at, number_at, starts_with, text_at};
+use crate::lexemes::{Fixed, Lexeme, expect, name_at, number_at, rest_of, starts_with, text_at};
 use crate::words::Word;
 use scan::Mark;
 use std::alloc::Global;
 use syntax::{Argument, Call, Name, RightSide, Test};
 
-/// What stands behind `(*env)->`.
+/// What stands after `(*env)->`.
 #[tactic(auto, unfolding(crate::specs::Reading::interface_at))]
 fn interface(lexemes: &[Lexeme]) -> Result<&[Lexeme], ParseFault>
     ensures { Gives (λ x. views x.now) result (interface_at (views lexemes.now)) }
@@ -33,7 +33,7 @@ fn value(alloc: Global, room: u32, lexemes: &[Lexeme]) -> Result<(Argument, &[Le
     ensures { Gives (λ x. (argument_tree x.0, views x.1.now)) result (value_at room (views lexemes.now)) }
 {
     if starts_with(Fixed::Mark(Mark::Ampersand), lexemes) {
-        let (name, rest) = name_at(behind(lexemes))?;
+        let (name, rest) = name_at(rest_of(lexemes))?;
         return Ok((Argument::AddressOf(Name::new(alloc, name)?), rest));
     }
     let (value, _, rest) = expression(alloc, room, 0, lexemes)?;
@@ -53,7 +53,7 @@ fn argument(
     match text_at(lexemes) {
         Some(bytes) => {
             let bytes = Vec::from_slice(alloc, bytes)?;
-            Ok((Argument::Text(bytes), behind(lexemes)))
+            Ok((Argument::Text(bytes), rest_of(lexemes)))
         }
         None => value(alloc, room, lexemes),
     }
@@ -71,7 +71,7 @@ fn arguments(
     let mut arguments = Vec::new(alloc);
     let mut rest = lexemes;
     'arguments: while starts_with(Fixed::Mark(Mark::Comma), rest) {
-        let (argument, after) = argument(alloc, room, behind(rest))?;
+        let (argument, after) = argument(alloc, room, rest_of(rest))?;
         arguments.push(argument)?;
         rest = after;
     }
@@ -109,7 +109,7 @@ fn starts_call(lexemes: &[Lexeme]) -> bool
     ensures { result ≡ starts_call (views lexemes.now) }
 {
     starts_with(Fixed::Mark(Mark::OpenParen), lexemes)
-        && starts_with(Fixed::Mark(Mark::Star), behind(lexemes))
+        && starts_with(Fixed::Mark(Mark::Star), rest_of(lexemes))
 }
 
 /// An expression or a call.
@@ -130,7 +130,7 @@ pub(crate) fn right_side(
     Ok((RightSide::Expr(value), rest))
 }
 
-/// A name, what it is set to, and what stands behind the semicolon.
+/// A name, what it is set to, and what stands after the semicolon.
 #[tactic(auto, unfolding(crate::specs::Reading::setting_at))]
 pub(crate) fn setting(
     alloc: Global,

@@ -4,11 +4,11 @@ ghost use Rattle.std.specs.Prelude.{◌≡◌, ◌≤◌};
 ghost use Rattle.syntax.specs.Views.{element_tree, variable_type_tree, stmt_tree};
 ghost use Rattle.parse.specs.Results.{Gives};
 ghost use Rattle.parse.specs.Lexemes.{views};
-ghost use Rattle.parse.specs.Reading.{zeros_at, array_at, is_array, behind_element, behind_variable, behind_const, declared_at, starts_declaration};
+ghost use Rattle.parse.specs.Reading.{zeros_at, array_at, is_array, after_element, after_variable, after_const, declared_at, starts_declaration};
 
 use crate::calls::setting;
 use crate::fault::ParseFault;
-use crate::lexemes::{Fixed, Lexeme, behind, expect, line_at, name_at, number_at, starts_with};
+use crate::lexemes::{Fixed, Lexeme, expect, line_at, name_at, number_at, rest_of, starts_with};
 use crate::type_words::{element_type, variable_type};
 use crate::words::Word;
 use scan::Mark;
@@ -18,7 +18,7 @@ use syntax::{ElementType, Form, Name, Stmt, VariableType};
 /// How many elements a local array may have.
 const ELEMENTS: u32 = 1024;
 
-/// What stands behind the zeros of a local array.
+/// What stands after the zeros of a local array.
 #[tactic(auto, unfolding(crate::specs::Reading::zeros_at))]
 fn zeros(lexemes: &[Lexeme]) -> Result<&[Lexeme], ParseFault>
     ensures { Gives (λ x. views x.now) result (zeros_at (views lexemes.now)) }
@@ -49,19 +49,19 @@ fn array(
     Ok((Stmt { line, form }, rest))
 }
 
-/// Whether an array is declared behind an element's type, of which `jint` alone is a variable's too.
+/// Whether an array is declared after an element's type, of which `jint` alone is a variable's too.
 fn is_array(element: ElementType, lexemes: &[Lexeme]) -> bool
     ensures { result ≡ is_array (element_tree element) (views lexemes.now) }
 {
     match element {
-        ElementType::Jint => starts_with(Fixed::Mark(Mark::OpenBracket), behind(lexemes)),
+        ElementType::Jint => starts_with(Fixed::Mark(Mark::OpenBracket), rest_of(lexemes)),
         ElementType::Jshort | ElementType::Jbyte | ElementType::Jchar => true,
     }
 }
 
-/// What stands behind an element's type.
-#[tactic(auto, unfolding(crate::specs::Reading::behind_element))]
-fn behind_element(
+/// What stands after an element's type.
+#[tactic(auto, unfolding(crate::specs::Reading::after_element))]
+fn after_element(
     alloc: Global,
     room: u32,
     line: usize,
@@ -69,10 +69,10 @@ fn behind_element(
     lexemes: &[Lexeme],
 ) -> Result<(Stmt, &[Lexeme]), ParseFault>
     requires { room ≤ 32 }
-    ensures { Gives (λ x. (stmt_tree x.0, views x.1.now)) result (behind_element room line (element_tree element) (views lexemes.now)) }
+    ensures { Gives (λ x. (stmt_tree x.0, views x.1.now)) result (after_element room line (element_tree element) (views lexemes.now)) }
 {
     if starts_with(Fixed::Mark(Mark::Star), lexemes) {
-        let (name, right, rest) = setting(alloc, room, behind(lexemes))?;
+        let (name, right, rest) = setting(alloc, room, rest_of(lexemes))?;
         let form = Form::DeclareBuffer(element, name, right);
         return Ok((Stmt { line, form }, rest));
     }
@@ -84,9 +84,9 @@ fn behind_element(
     Ok((Stmt { line, form }, rest))
 }
 
-/// What stands behind another variable's type.
-#[tactic(auto, unfolding(crate::specs::Reading::behind_variable))]
-fn behind_variable(
+/// What stands after another variable's type.
+#[tactic(auto, unfolding(crate::specs::Reading::after_variable))]
+fn after_variable(
     alloc: Global,
     room: u32,
     line: usize,
@@ -94,23 +94,23 @@ fn behind_variable(
     lexemes: &[Lexeme],
 ) -> Result<(Stmt, &[Lexeme]), ParseFault>
     requires { room ≤ 32 }
-    ensures { Gives (λ x. (stmt_tree x.0, views x.1.now)) result (behind_variable room line (variable_type_tree kind) (views lexemes.now)) }
+    ensures { Gives (λ x. (stmt_tree x.0, views x.1.now)) result (after_variable room line (variable_type_tree kind) (views lexemes.now)) }
 {
     let (name, right, rest) = setting(alloc, room, lexemes)?;
     let form = Form::Declare(kind, name, right);
     Ok((Stmt { line, form }, rest))
 }
 
-/// What stands behind `const`.
-#[tactic(auto, unfolding(crate::specs::Reading::behind_const))]
-fn behind_const(
+/// What stands after `const`.
+#[tactic(auto, unfolding(crate::specs::Reading::after_const))]
+fn after_const(
     alloc: Global,
     room: u32,
     line: usize,
     lexemes: &[Lexeme],
 ) -> Result<(Stmt, &[Lexeme]), ParseFault>
     requires { room ≤ 32 }
-    ensures { Gives (λ x. (stmt_tree x.0, views x.1.now)) result (behind_const room line (views lexemes.now)) }
+    ensures { Gives (λ x. (stmt_tree x.0, views x.1.now)) result (after_const room line (views lexemes.now)) }
 {
     let rest = expect(Fixed::Word(Word::Jchar), lexemes)?;
     let rest = expect(Fixed::Mark(Mark::Star), rest)?;
@@ -131,12 +131,12 @@ pub(crate) fn declared(
 {
     let line = line_at(lexemes);
     if let Some(element) = element_type(lexemes) {
-        return behind_element(alloc, room, line, element, behind(lexemes));
+        return after_element(alloc, room, line, element, rest_of(lexemes));
     }
     if let Some(kind) = variable_type(lexemes) {
-        return behind_variable(alloc, room, line, kind, behind(lexemes));
+        return after_variable(alloc, room, line, kind, rest_of(lexemes));
     }
-    behind_const(alloc, room, line, behind(lexemes))
+    after_const(alloc, room, line, rest_of(lexemes))
 }
 
 /// Whether a declaration comes next.

@@ -10,14 +10,14 @@ ghost use Rattle.parse.specs.Reading.{operator_at, binary_of_mark, constant_of_w
 
 use crate::fault::{Fault, ParseFault};
 use crate::lexemes::{
-    Fixed, Lexeme, Shape, behind, expect, fault_at, name_at, starts_name, starts_with, unexpected,
+    Fixed, Lexeme, Shape, expect, fault_at, name_at, rest_of, starts_name, starts_with, unexpected,
 };
 use crate::words::Word;
 use scan::Mark;
 use std::alloc::Global;
 use syntax::{BinaryOp, Constant, Expr, Name, PrefixOp};
 
-/// An expression, its height, and what stands behind it.
+/// An expression, its height, and what stands after it.
 type ReadExpr<'t> = (Expr, u32, &'t [Lexeme]);
 
 /// Prefixes bind tighter than all operators.
@@ -120,7 +120,7 @@ fn primary(alloc: Global, lexemes: &[Lexeme]) -> Result<ReadExpr<'_>, ParseFault
 pub(crate) fn starts_element(lexemes: &[Lexeme]) -> bool
     ensures { result ≡ starts_element (views lexemes.now) }
 {
-    starts_name(lexemes) && starts_with(Fixed::Mark(Mark::OpenBracket), behind(lexemes))
+    starts_name(lexemes) && starts_with(Fixed::Mark(Mark::OpenBracket), rest_of(lexemes))
 }
 
 /// An expression of this level or tighter, no higher than there is room.
@@ -148,7 +148,7 @@ pub(crate) fn expression(
             alloc,
             room - 1,
             level(op) + 1,
-            behind(rest),
+            rest_of(rest),
         )?;
         left = Expr::Binary(op, Box::new(alloc, left)?, Box::new(alloc, right)?);
         height = 1 + height.max(right_height);
@@ -159,7 +159,7 @@ pub(crate) fn expression(
 
 /// A prefix with its operand, parentheses, an element, or what holds best.
 #[cycle(expressions)]
-#[tactic(auto, using(crate::proofs::Climbing::deeps), unfolding(crate::specs::Reading::operand_by, crate::specs::Reading::behind_paren, crate::specs::Reading::in_parens, crate::specs::Reading::element_by))]
+#[tactic(auto, using(crate::proofs::Climbing::deeps), unfolding(crate::specs::Reading::operand_by, crate::specs::Reading::after_paren, crate::specs::Reading::in_parens, crate::specs::Reading::element_by))]
 fn operand(alloc: Global, room: u32, lexemes: &[Lexeme]) -> Result<ReadExpr<'_>, ParseFault>
     requires { room ≤ 32 }
     ensures low { IfOk result (λ x. x.1 ≤ room) }
@@ -169,25 +169,25 @@ fn operand(alloc: Global, room: u32, lexemes: &[Lexeme]) -> Result<ReadExpr<'_>,
         if room == 0 {
             return Err(fault_at(Fault::TooHigh, lexemes));
         }
-        return prefixed(alloc, room, PrefixOp::Complement, behind(lexemes));
+        return prefixed(alloc, room, PrefixOp::Complement, rest_of(lexemes));
     }
     if starts_with(Fixed::Mark(Mark::Exclamation), lexemes) {
         if room == 0 {
             return Err(fault_at(Fault::TooHigh, lexemes));
         }
-        return prefixed(alloc, room, PrefixOp::LogicalNot, behind(lexemes));
+        return prefixed(alloc, room, PrefixOp::LogicalNot, rest_of(lexemes));
     }
     if starts_with(Fixed::Mark(Mark::OpenParen), lexemes) {
         if room == 0 {
             return Err(fault_at(Fault::TooHigh, lexemes));
         }
-        let rest = behind(lexemes);
+        let rest = rest_of(lexemes);
         if starts_with(Fixed::Word(Word::Uint32), rest) {
-            let rest = expect(Fixed::Mark(Mark::CloseParen), behind(rest))?;
+            let rest = expect(Fixed::Mark(Mark::CloseParen), rest_of(rest))?;
             return prefixed(alloc, room, PrefixOp::ToWord, rest);
         }
         if starts_with(Fixed::Word(Word::Jint), rest) {
-            let rest = expect(Fixed::Mark(Mark::CloseParen), behind(rest))?;
+            let rest = expect(Fixed::Mark(Mark::CloseParen), rest_of(rest))?;
             return prefixed(alloc, room, PrefixOp::ToInt, rest);
         }
         let (inside, height, rest) = expression(alloc, room - 1, 0, rest)?;

@@ -11,7 +11,7 @@ ghost use Rattle.parse.specs.Reading.{head_at, body_at, function_at, static_at, 
 
 use crate::fault::{Fault, ParseFault};
 use crate::lexemes::{
-    Fixed, Lexeme, behind, expect, fault_at, lexemes, line_at, name_at, starts_with, unexpected,
+    Fixed, Lexeme, expect, fault_at, lexemes, line_at, name_at, rest_of, starts_with, unexpected,
 };
 use crate::parameters::{NAMES, parameters};
 use crate::statements::block;
@@ -30,7 +30,7 @@ const FUNCTIONS: usize = 256;
 /// How many statics there may be.
 const STATICS: usize = 256;
 
-/// What stands behind the parameters that each function has.
+/// What stands after the parameters that each function has.
 #[tactic(auto, unfolding(crate::specs::Reading::head_at))]
 fn head(lexemes: &[Lexeme]) -> Result<&[Lexeme], ParseFault>
     ensures { Gives (λ x. views x.now) result (head_at (views lexemes.now)) }
@@ -64,7 +64,7 @@ fn function(alloc: Global, lexemes: &[Lexeme]) -> Result<(Function, &[Lexeme]), 
     let Some(result) = result_type(rest) else {
         return Err(unexpected(rest));
     };
-    let rest = expect(Fixed::Word(Word::JniCall), behind(rest))?;
+    let rest = expect(Fixed::Word(Word::JniCall), rest_of(rest))?;
     let (name, rest) = name_at(rest)?;
     let rest = head(rest)?;
     let (class_name, rest) = name_at(rest)?;
@@ -93,7 +93,7 @@ fn static_reference(alloc: Global, lexemes: &[Lexeme]) -> Result<(Static, &[Lexe
     let Some(kind) = reference_type(rest) else {
         return Err(unexpected(rest));
     };
-    let (name, rest) = name_at(behind(rest))?;
+    let (name, rest) = name_at(rest_of(rest))?;
     let rest = expect(Fixed::Mark(Mark::Assign), rest)?;
     let rest = expect(Fixed::Word(Word::Null), rest)?;
     let rest = expect(Fixed::Mark(Mark::Semicolon), rest)?;
@@ -101,7 +101,7 @@ fn static_reference(alloc: Global, lexemes: &[Lexeme]) -> Result<(Static, &[Lexe
     Ok((Static { line, kind, name }, rest))
 }
 
-/// An item, how many more functions and statics there may be behind it, and what stands behind it.
+/// An item, how many more functions and statics there may be after it, and what stands after it.
 type ReadItem<'t> = (Item, usize, usize, &'t [Lexeme]);
 
 /// An item, where there may be so many more functions and statics.

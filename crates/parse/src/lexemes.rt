@@ -6,7 +6,7 @@ ghost use Rattle.parse.specs.Meaning.{between_quotes, token_meaning};
 ghost use Rattle.parse.specs.Results.{Gives};
 ghost use Rattle.parse.specs.Lexemes.{IsInside, AreInOrder, line_ends, lexemes, expect, same_mark, same_word, is_fixed, name_at, fault_at, line_at, view_shape, view, views};
 ghost use Rattle.std.specs.Option.{option_map};
-ghost use Rattle.parse.specs.Reading.{behind, starts_with, starts_name, text_at, number_at, word_at};
+ghost use Rattle.parse.specs.Reading.{rest_of, starts_with, starts_name, text_at, number_at, word_at};
 
 use crate::fault::{Fault, ParseFault};
 use crate::words::{Word, word_of};
@@ -18,7 +18,7 @@ use std::alloc::{AllocError, Global};
 pub(crate) enum Fixed {
     Mark(Mark),
     Word(Word),
-    /// Behind the last token.
+    /// After the last token.
     End,
 }
 
@@ -76,7 +76,7 @@ fn line_ends(bytes: &[u8]) -> usize
     bytes.iter().filter(|b| **b == b'\n').count()
 }
 
-/// The lexemes of a text with these tokens, and the end behind them, on the last one's line.
+/// The lexemes of a text with these tokens, and the end after them, on the last one's line.
 pub(crate) fn lexemes(
     alloc: Global,
     text: &[u8],
@@ -130,9 +130,9 @@ pub(crate) fn line_at(rest: &[Lexeme]) -> usize
     }
 }
 
-/// What stands behind the first lexeme.
-pub(crate) fn behind(rest: &[Lexeme]) -> &[Lexeme]
-    ensures { views result.now ≡ behind (views rest.now) }
+/// What stands after the first lexeme.
+pub(crate) fn rest_of(rest: &[Lexeme]) -> &[Lexeme]
+    ensures { views result.now ≡ rest_of (views rest.now) }
 {
     match rest {
         [_, after @ ..] => after,
@@ -140,7 +140,7 @@ pub(crate) fn behind(rest: &[Lexeme]) -> &[Lexeme]
     }
 }
 
-/// What stands behind this lexeme, which has to come next.
+/// What stands after this lexeme, which has to come next.
 #[tactic(auto, unfolding(crate::specs::Lexemes::expect))]
 pub(crate) fn expect(fixed: Fixed, rest: &[Lexeme]) -> Result<&[Lexeme], ParseFault>
     ensures { Gives (λ l. views l.now) result (expect fixed (views rest.now)) }
@@ -217,7 +217,7 @@ pub(crate) fn text_at(rest: &[Lexeme]) -> Option<&[u8]>
     }
 }
 
-/// A number without `u`, from the least to the most, and what stands behind it.
+/// A number without `u`, from the least to the most, and what stands after it.
 #[tactic(auto, unfolding(crate::specs::Reading::number_at))]
 pub(crate) fn number_at(
     least: u32,
@@ -241,7 +241,7 @@ pub(crate) fn number_at(
     }
 }
 
-/// A name's bytes, and what stands behind it.
+/// A name's bytes, and what stands after it.
 #[tactic(auto, unfolding(crate::specs::Lexemes::name_at))]
 pub(crate) fn name_at(rest: &[Lexeme]) -> Result<(&[u8], &[Lexeme]), ParseFault>
     ensures { Gives (λ x. (x.0.now, views x.1.now)) result (name_at (views rest.now)) }

@@ -7,16 +7,16 @@ ghost use Rattle.parse.specs.Lexemes.{views};
 ghost use Rattle.parse.specs.Reading.{parameter_at, parameters_at};
 
 use crate::fault::{Fault, ParseFault};
-use crate::lexemes::{Fixed, Lexeme, behind, fault_at, name_at, starts_with, unexpected};
+use crate::lexemes::{Fixed, Lexeme, fault_at, name_at, rest_of, starts_with, unexpected};
 use crate::type_words::parameter_type;
 use scan::Mark;
 use std::alloc::Global;
 use syntax::{Name, Parameter};
 
-/// How many names a function may have behind that of its class.
+/// How many names a function may have after that of its class.
 pub(crate) const NAMES: usize = 255;
 
-/// A parameter behind its comma.
+/// A parameter after its comma.
 #[tactic(auto, unfolding(crate::specs::Reading::parameter_at))]
 fn parameter(alloc: Global, lexemes: &[Lexeme]) -> Result<(Parameter, &[Lexeme]), ParseFault>
     ensures { Gives (λ x. (parameter_tree x.0, views x.1.now)) result (parameter_at (views lexemes.now)) }
@@ -24,12 +24,12 @@ fn parameter(alloc: Global, lexemes: &[Lexeme]) -> Result<(Parameter, &[Lexeme])
     let Some(kind) = parameter_type(lexemes) else {
         return Err(unexpected(lexemes));
     };
-    let (name, rest) = name_at(behind(lexemes))?;
+    let (name, rest) = name_at(rest_of(lexemes))?;
     let name = Name::new(alloc, name)?;
     Ok((Parameter { kind, name }, rest))
 }
 
-/// The parameters behind the class, each with the comma before it.
+/// The parameters after the class, each with the comma before it.
 pub(crate) fn parameters(
     alloc: Global,
     lexemes: &[Lexeme],
@@ -43,7 +43,7 @@ pub(crate) fn parameters(
         if parameters.len() == NAMES {
             return Err(fault_at(Fault::TooMany, rest));
         }
-        let (parameter, after) = parameter(alloc, behind(rest))?;
+        let (parameter, after) = parameter(alloc, rest_of(rest))?;
         parameters.push(parameter)?;
         rest = after;
     }

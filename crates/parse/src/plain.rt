@@ -9,13 +9,13 @@ ghost use Rattle.parse.specs.Reading.{put_at, return_at, perform_at, set_element
 use crate::calls::{call, setting};
 use crate::expressions::{expression, index, starts_element};
 use crate::fault::ParseFault;
-use crate::lexemes::{Fixed, Lexeme, behind, expect, line_at, name_at, starts_with};
+use crate::lexemes::{Fixed, Lexeme, expect, line_at, name_at, rest_of, starts_with};
 use crate::words::Word;
 use scan::Mark;
 use std::alloc::Global;
 use syntax::{Form, Name, Stmt};
 
-/// What stands behind the `put_jint` of this line.
+/// What stands after the `put_jint` of this line.
 #[tactic(auto, unfolding(crate::specs::Reading::put_at))]
 fn put(
     alloc: Global,
@@ -34,7 +34,7 @@ fn put(
     Ok((Stmt { line, form }, rest))
 }
 
-/// What stands behind the `return` of this line.
+/// What stands after the `return` of this line.
 #[tactic(auto, unfolding(crate::specs::Reading::return_at))]
 fn returned(
     alloc: Global,
@@ -47,7 +47,7 @@ fn returned(
 {
     if starts_with(Fixed::Mark(Mark::Semicolon), lexemes) {
         let form = Form::Return(None);
-        return Ok((Stmt { line, form }, behind(lexemes)));
+        return Ok((Stmt { line, form }, rest_of(lexemes)));
     }
     let (operand, _, rest) = expression(alloc, room, 0, lexemes)?;
     let rest = expect(Fixed::Mark(Mark::Semicolon), rest)?;
@@ -123,10 +123,10 @@ pub(crate) fn plain(
 {
     let line = line_at(lexemes);
     if starts_with(Fixed::Word(Word::PutJint), lexemes) {
-        return put(alloc, room, line, behind(lexemes));
+        return put(alloc, room, line, rest_of(lexemes));
     }
     if starts_with(Fixed::Word(Word::Return), lexemes) {
-        return returned(alloc, room, line, behind(lexemes));
+        return returned(alloc, room, line, rest_of(lexemes));
     }
     if starts_with(Fixed::Mark(Mark::OpenParen), lexemes) {
         return perform(alloc, room, line, lexemes);

@@ -10,17 +10,17 @@ use crate::calls::test;
 use crate::declarations::{declared, starts_declaration};
 use crate::expressions::expression;
 use crate::fault::{Fault, ParseFault};
-use crate::lexemes::{Fixed, Lexeme, behind, expect, fault_at, line_at, starts_with, unexpected};
+use crate::lexemes::{Fixed, Lexeme, expect, fault_at, line_at, rest_of, starts_with, unexpected};
 use crate::plain::plain;
 use crate::words::Word;
 use scan::Mark;
 use std::alloc::Global;
 use syntax::{Block, Form, Stmt};
 
-/// A statement, how many more names may be declared behind it, and what stands behind it.
+/// A statement, how many more names may be declared after it, and what stands after it.
 type ReadStmt<'t> = (Stmt, usize, &'t [Lexeme]);
 
-/// A block, how many more names may be declared behind it, and what stands behind it.
+/// A block, how many more names may be declared after it, and what stands after it.
 type ReadBlock<'t> = (Block, usize, &'t [Lexeme]);
 
 /// A statement without a block, where so many more names may be declared.
@@ -52,7 +52,7 @@ fn is_return(stmt: &Stmt) -> bool
     matches!(stmt.form, Form::Return(_))
 }
 
-/// What stands behind the `if` of this line.
+/// What stands after the `if` of this line.
 #[cycle(blocks)]
 #[tactic(auto, using(crate::proofs::Blocks::inners), unfolding(crate::specs::Reading::if_by, crate::specs::Reading::else_by))]
 fn if_statement(
@@ -75,13 +75,13 @@ fn if_statement(
         let form = Form::If(test, body);
         return Ok((Stmt { line, form }, left, rest));
     }
-    let rest = expect(Fixed::Mark(Mark::OpenBrace), behind(rest))?;
+    let rest = expect(Fixed::Mark(Mark::OpenBrace), rest_of(rest))?;
     let (other, left, rest) = block(alloc, room - 1, left, rest)?;
     let form = Form::IfElse(test, body, other);
     Ok((Stmt { line, form }, left, rest))
 }
 
-/// What stands behind the `while` of this line.
+/// What stands after the `while` of this line.
 #[cycle(blocks)]
 #[tactic(auto, using(crate::proofs::Blocks::inners), unfolding(crate::specs::Reading::while_by))]
 fn while_statement(
@@ -121,13 +121,13 @@ fn statement(
         if room == 0 {
             return Err(fault_at(Fault::TooHigh, lexemes));
         }
-        return if_statement(alloc, room, free, line, behind(lexemes));
+        return if_statement(alloc, room, free, line, rest_of(lexemes));
     }
     if starts_with(Fixed::Word(Word::While), lexemes) {
         if room == 0 {
             return Err(fault_at(Fault::TooHigh, lexemes));
         }
-        return while_statement(alloc, room, free, line, behind(lexemes));
+        return while_statement(alloc, room, free, line, rest_of(lexemes));
     }
     simple(alloc, room, free, lexemes)
 }
@@ -162,5 +162,5 @@ pub(crate) fn block(
         statements,
         end_line,
     };
-    Ok((block, free, behind(rest)))
+    Ok((block, free, rest_of(rest)))
 }

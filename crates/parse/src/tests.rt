@@ -352,7 +352,7 @@ fn heights(rt: HostRuntime) {
     }
 }
 
-/// What parsing answers of a function with so many parameters behind the class and so many
+/// What parsing answers of a function with so many parameters after the class and so many
 /// declarations, each in a line of its own, of which the class's is the first.
 fn outcome_of_names(
     rt: &(impl AllocGlobal + Abort),

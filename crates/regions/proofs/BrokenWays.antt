@@ -6,9 +6,9 @@ use Rattle.syntax.specs.Tree.{Stmt, Declare, DeclareBuffer, DeclareChars, Declar
 use Rattle.regions.specs.FirstFaults.{first_broken}
 use Rattle.regions.specs.RegionRules.{RegionRule, CallWhileCritical, ReturnWithBuffer, HeldBuffer, UntestedBuffer, WrongBuffer, ReturnInFrame, PopLastFrame, DeadReference, ArrayInUse, WaysDiffer, WrongLevel, NoReturn, breaks_region_rule, own_rules, Obeys}
 use Rattle.regions.specs.RegionStates.{RegionState, state_at_entry}
-use Rattle.regions.specs.Regions.{Way, On, Returned, Join, ComesBack, IsEnd, Keeps, KeepsBlock, holds_own, left, where_true, where_false, Differ, EndLine, BreaksBehind, BreaksHere, BreaksIn, BreaksBlock, BreaksFunction, AcceptedFunction}
+use Rattle.regions.specs.Regions.{Way, On, Returned, Join, ComesBack, IsEnd, Keeps, KeepsBlock, holds_own, left, where_true, where_false, Differ, EndLine, BreaksAfter, BreaksHere, BreaksIn, BreaksBlock, BreaksFunction, AcceptedFunction}
 use Rattle.regions.specs.SameStates.{same_state}
-use Rattle.regions.specs.Ways.{Fault, own_way, behind, way_if, returned_before, join_ways, turn_way, way_of, way_of_block}
+use Rattle.regions.specs.Ways.{Fault, own_way, rest_of, way_if, returned_before, join_ways, turn_way, way_of, way_of_block}
 use Rattle.regions.proofs.Same.{state_decides}
 use Rattle.regions.proofs.Ways.{find_some, ok_is, obeys, keeps, keeps_block, answers, answers_block}
 
@@ -45,11 +45,11 @@ turn_err line before (Ok (On after)) f h =
     let both = if_err (same_state after before) (On before) (line, WaysDiffer) f h in
     inr (On after, refl, (λ e. true≢false (sym ((state_decides after before).1 e) ∙ both.0)), both.1)
 
-pub behind_err : (r : Result Way Fault) (go : RegionState → Result Way Fault) (stop : Result Way Fault) (f : Fault) → behind r go stop ≡ Err f
+pub after_err : (r : Result Way Fault) (go : RegionState → Result Way Fault) (stop : Result Way Fault) (f : Fault) → rest_of r go stop ≡ Err f
     → (r ≡ Err f) ⊎ (((middle : RegionState) × (r ≡ Ok (On middle)) × (go middle ≡ Err f)) ⊎ ((r ≡ Ok Returned) × (stop ≡ Err f)))
-behind_err (Err e) go stop f h = inl h
-behind_err (Ok (On middle)) go stop f h = inr (inl (middle, refl, h))
-behind_err (Ok Returned) go stop f h = inr (inr (refl, h))
+after_err (Err e) go stop f h = inl h
+after_err (Ok (On middle)) go stop f h = inr (inl (middle, refl, h))
+after_err (Ok Returned) go stop f h = inr (inr (refl, h))
 
 -- the statement itself breaks the rule
 pub here : (before : RegionState) (s : Stmt) (line : ℕ) (rule : RegionRule) (f : Fault) → line ≡ line_of s → first_broken before s ≡ Some rule → f ≡ (line, rule) → BreaksHere f.1 f.0 before s
@@ -63,7 +63,7 @@ pub plain_fault : (before : RegionState) (s : Stmt) (line : ℕ) (a : Way) (f : 
 plain_fault before s line a f k h =
     elim (own_err (first_broken before s) line (Ok a) f h) [ inl own ↦ here before s line own.0 f k own.1 own.2 | inr none ↦ absurd (ok_err' a f none.1) ]
 
-pub returned_err : (rest : Block) (f : Fault) → returned_before rest ≡ Err f → BreaksBehind f.1 f.0 rest
+pub returned_err : (rest : Block) (f : Fault) → returned_before rest ≡ Err f → BreaksAfter f.1 f.0 rest
 returned_err (End line) f h = cc
 returned_err (Next s rest) f h = let e = err_is (line_of s, NoReturn) f h in (ap (λ (g : Fault). g.1) e, ap (λ (g : Fault). g.0) e)
 
@@ -128,7 +128,7 @@ mutual
       let e = if_err (not (holds_own outer before)) (On (left outer before)) (line, HeldBuffer) f h in
       (ap (λ (g : Fault). g.1) e.1, ap (λ (g : Fault). g.0) e.1, not_false (holds_own outer before) e.0)
   faults_block outer before (Next s rest) f h =
-      elim (behind_err (way_of before s) (λ middle. way_of_block outer middle rest) (returned_before rest) f h) [
+      elim (after_err (way_of before s) (λ middle. way_of_block outer middle rest) (returned_before rest) f h) [
         | inl first ↦ inl (faults before s f first)
         | inr (inl on) ↦ inr (inl (on.0, keeps before s (On on.0) on.1, faults_block outer on.0 rest f on.2))
         | inr (inr stopped) ↦ inr (inr (keeps before s Returned stopped.0, returned_err rest f stopped.1))
@@ -197,7 +197,7 @@ kept before s WrongLevel h b = unbroken_at before s WrongLevel 9 refl h b
 kept before s WaysDiffer h b = absurd (true≢false (sym b))
 kept before s NoReturn h b = absurd (true≢false (sym b))
 
-pub not_end : (rule : RegionRule) (l : ℕ) (rest : Block) → BreaksBehind rule l rest → IsEnd rest → ⊥
+pub not_end : (rule : RegionRule) (l : ℕ) (rest : Block) → BreaksAfter rule l rest → IsEnd rest → ⊥
 not_end rule l (End line) b e = b
 not_end rule l (Next s rest) b e = e
 

@@ -6,12 +6,12 @@ use Rattle.syntax.specs.Tree.{Stmt, Declare, DeclareBuffer, DeclareChars, Declar
 use Rattle.regions.specs.FirstFaults.{FirstInFunction, FirstInFunctions, first_broken, FirstHere, FirstIn, FirstBlock}
 use Rattle.regions.specs.RegionRules.{RegionRule, HeldBuffer, WaysDiffer, NoReturn, Obeys}
 use Rattle.regions.specs.RegionStates.{RegionState, state_at_entry}
-use Rattle.regions.specs.Regions.{Way, On, Returned, holds_own, left, where_true, where_false, Differ, BreaksBehind, AcceptedFunction}
+use Rattle.regions.specs.Regions.{Way, On, Returned, holds_own, left, where_true, where_false, Differ, BreaksAfter, AcceptedFunction}
 use Rattle.regions.specs.SameStates.{same_state}
-use Rattle.regions.specs.Ways.{Fault, own_way, behind, way_if, returned_before, join_ways, turn_way, way_of, way_of_block}
+use Rattle.regions.specs.Ways.{Fault, own_way, rest_of, way_if, returned_before, join_ways, turn_way, way_of, way_of_block}
 use Rattle.regions.proofs.Same.{state_decides}
 use Rattle.regions.proofs.Ways.{ok_is, obeys, unbroken, keeps, keeps_block, answers, answers_block}
-use Rattle.regions.proofs.BrokenWays.{ok_err', err_is, if_err, own_err, join_err, turn_err, behind_err, returned_err, not_false, one_end, on_returned, end_line_of}
+use Rattle.regions.proofs.BrokenWays.{ok_err', err_is, if_err, own_err, join_err, turn_err, after_err, returned_err, not_false, one_end, on_returned, end_line_of}
 
 -- ---- the first fault is the answer
 
@@ -53,9 +53,9 @@ pub not_of : (b : Bool) → b ≡ true → not b ≡ false
 not_of true h = refl
 not_of false h = absurd (true≢false (sym h))
 
-pub behind_of : (rest : Block) (rule : RegionRule) (l : ℕ) → BreaksBehind rule l rest → returned_before rest ≡ Err (l, rule)
-behind_of (End line) rule l b = absurd b
-behind_of (Next s rest) rule l b = ap (λ r. Err (line_of s, r)) (sym b.0) ∙ ap (λ n. Err (n, rule)) (sym b.1)
+pub after_of : (rest : Block) (rule : RegionRule) (l : ℕ) → BreaksAfter rule l rest → returned_before rest ≡ Err (l, rule)
+after_of (End line) rule l b = absurd b
+after_of (Next s rest) rule l b = ap (λ r. Err (line_of s, r)) (sym b.0) ∙ ap (λ n. Err (n, rule)) (sym b.1)
 
 mutual
   pub first_is : (before : RegionState) (s : Stmt) (rule : RegionRule) (l : ℕ) → FirstIn rule l before s → way_of before s ≡ Err (l, rule)
@@ -105,9 +105,9 @@ mutual
       ∙ ap (λ r. Err (line, r)) (sym b.0) ∙ ap (λ n. Err (n, rule)) (sym b.1)
   first_block_is outer before (Next s rest) rule l b =
       elim b [
-        | inl one ↦ ap (λ r. behind r (λ middle. way_of_block outer middle rest) (returned_before rest)) (first_is before s rule l one)
-        | inr (inl on) ↦ ap (λ r. behind r (λ middle. way_of_block outer middle rest) (returned_before rest)) (answers before s (On on.0) on.1) ∙ first_block_is outer on.0 rest rule l on.2
-        | inr (inr stopped) ↦ ap (λ r. behind r (λ middle. way_of_block outer middle rest) (returned_before rest)) (answers before s Returned stopped.0) ∙ behind_of rest rule l stopped.1
+        | inl one ↦ ap (λ r. rest_of r (λ middle. way_of_block outer middle rest) (returned_before rest)) (first_is before s rule l one)
+        | inr (inl on) ↦ ap (λ r. rest_of r (λ middle. way_of_block outer middle rest) (returned_before rest)) (answers before s (On on.0) on.1) ∙ first_block_is outer on.0 rest rule l on.2
+        | inr (inr stopped) ↦ ap (λ r. rest_of r (λ middle. way_of_block outer middle rest) (returned_before rest)) (answers before s Returned stopped.0) ∙ after_of rest rule l stopped.1
       ]
 
 -- the fault of a join is the first way's, or the first way is kept
@@ -183,7 +183,7 @@ mutual
       let e = if_err (not (holds_own outer before)) (On (left outer before)) (line, HeldBuffer) f h in
       (ap (λ (g : Fault). g.1) e.1, ap (λ (g : Fault). g.0) e.1, not_false (holds_own outer before) e.0)
   firsts_block outer before (Next s rest) f h =
-      elim (behind_err (way_of before s) (λ middle. way_of_block outer middle rest) (returned_before rest) f h) [
+      elim (after_err (way_of before s) (λ middle. way_of_block outer middle rest) (returned_before rest) f h) [
         | inl first ↦ inl (firsts before s f first)
         | inr (inl on) ↦ inr (inl (on.0, keeps before s (On on.0) on.1, firsts_block outer on.0 rest f on.2))
         | inr (inr stopped) ↦ inr (inr (keeps before s Returned stopped.0, returned_err rest f stopped.1))

@@ -1,4 +1,4 @@
--- The rules and the state behind a statement, by what its call does, are those of the definitions.
+-- The rules and the state after a statement, by what its call does, are those of the definitions.
 use Rattle.std.proofs.Common.{◌≡◌, ◌-◌, Bool, true, false, not, ◌&&◌, ◌||◌, List, [], ◌∷◌, Option, Some, refl, ap, ap₂, ◌∙◌, if◌then◌else◌, find, is_some, nat_le, bytes_eq, None}
 use Rattle.std.specs.Option.{option_map}
 use Rattle.base.specs.Bytes.{Identifier}
@@ -9,7 +9,7 @@ use Rattle.syntax.specs.Tree.{ReferenceVariable, RightSide, Declare, DeclareBuff
 use Rattle.regions.specs.declared.standing.Condition.TheVariants as condition
 use Rattle.regions.specs.Effects.{call_effect, got, released, popped}
 use Rattle.regions.specs.FirstFaults.{first_broken}
-use Rattle.regions.specs.Judgements.{judged, first_judged, is_wrong_release, effected, set_from, settled, behind_judged}
+use Rattle.regions.specs.Judgements.{judged, first_judged, is_wrong_release, effected, set_from, settled, after_judged}
 use Rattle.regions.specs.RegionRules.{RegionRule, CallWhileCritical, ReturnWithBuffer, HeldBuffer, UntestedBuffer, WrongBuffer, ReturnInFrame, PopLastFrame, DeadReference, ArrayInUse, WaysDiffer, WrongLevel, NoReturn, breaks_region_rule, own_rules, is_put_jint, is_array_in_use, is_level, is_reference_now}
 use Rattle.regions.specs.RegionStates.{RegionState, VariableState, ReferenceAt, BufferIn, FunctionCall, state_of, function_called, call_of, deleted_name, with_new, with_changed, with_some_changed, after_pop, after_release, after_call, killed, buffer_from, set_to, with_set, state_after}
 use Rattle.regions.specs.Standings.{asks, holds_of}
@@ -68,7 +68,7 @@ settled_is state (DeclareChars line x r) = ap (λ g. with_new state x (BufferIn 
 settled_is state (Assign line x r) = λ i. with_changed state x (λ v. set_is r v i)
 settled_is state s = refl
 
-pub behind_is : (state : RegionState) (s : Stmt) → state_after state s ≡ behind_judged state s (option_map call_effect (function_called s))
+pub behind_is : (state : RegionState) (s : Stmt) → state_after state s ≡ after_judged state s (option_map call_effect (function_called s))
 behind_is state s = ap (λ after. with_set after s) (effected_is state (function_called s)) ∙ settled_is (effected state (option_map call_effect (function_called s))) s
 
 -- ---- the rules one after the other

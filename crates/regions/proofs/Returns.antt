@@ -19,7 +19,7 @@ both_return Returned (On b) h = absurd (returns_not b h)
 both_return (On a) Returned h = absurd (returns_not a h)
 both_return (On a) (On b) h = absurd (returns_not a h.1)
 
--- a statement behind which a way goes on
+-- a statement after which a way goes on
 later : (before middle : RegionState) (s : Stmt) (rest : Block) → Keeps before s (On middle) → EndsByReturn rest → EndsByReturn (Next s rest)
 later before middle (Return line) rest h e = absurd (goes_on middle h.1)
 later before middle (ReturnValue line x) rest h e = absurd (goes_on middle h.1)
@@ -27,7 +27,7 @@ later before middle (IfElse line test then' else') rest h e = inr e
 later before middle s rest h e = e
 
 mutual
-  -- a statement behind which no way goes on
+  -- a statement after which no way goes on
   last : (before : RegionState) (s : Stmt) (rest : Block) → Keeps before s Returned → IsEnd rest → EndsByReturn (Next s rest)
   last before (Return line) rest h end = end
   last before (ReturnValue line x) rest h end = end

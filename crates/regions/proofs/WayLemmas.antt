@@ -21,7 +21,7 @@ use Rattle.regions.specs.RegionRules.{RegionRule, HeldBuffer, NoReturn}
 use Rattle.regions.specs.RegionStates.{RegionState}
 use Rattle.regions.specs.Regions.{Way, On, Returned, left}
 use Rattle.regions.specs.Walks.{holds_other, Stops, Goes, go_on, inner_way}
-use Rattle.regions.specs.Ways.{Fault, way_if, own_way, behind, returned_before, join_ways, turn_way, way_of, way_of_block}
+use Rattle.regions.specs.Ways.{Fault, way_if, own_way, after, returned_before, join_ways, turn_way, way_of, way_of_block}
 use Rattle.syntax.specs.declared.unit.Item.{Item as ItemInMemory}
 use Rattle.regions.proofs.StateLemmas.{own_is}
 use Rattle.regions.proofs.UnitLemmas.{both_hold}
@@ -70,7 +70,7 @@ rest_known s rest h = (both_hold (list_all calls_known (statements_within s)) (l
 pub two_known : (b d : Block) → IsTrue (list_all calls_known (statements_of b ++ statements_of d)) → IsTrue (list_all calls_known (statements_of b)) × IsTrue (list_all calls_known (statements_of d))
 two_known b d h = both_hold (list_all calls_known (statements_of b)) (list_all calls_known (statements_of d)) (sym (list_all-append calls_known (statements_of b) (statements_of d)) ∙ h)
 
--- the statement's own fault, and the way behind it where it has none
+-- the statement's own fault, and the way after it where it has none
 pub stmt_fault : (r : Result WayInMemory CheckFault) (before : RegionState) (s : StmtInMemory) (rule : RegionRule) → Some rule ≡ first_broken before (stmt_tree s) → Goes r (Err (s.line, rule)) → Goes r (way_of before (stmt_tree s))
 stmt_fault r before s rule h k =
     Goes-along r _ _ (way_is before (stmt_tree s) ∙ ap (λ o. own_way o (line_of (stmt_tree s)) (inner_way before (stmt_tree s))) (sym h) ∙ ap (λ n. Err (n, rule)) (line_is s.line s.form)) k
@@ -94,17 +94,17 @@ known_next items i s end_line h e k = subst (λ rest. IsTrue (list_all calls_kno
 
 -- one statement more
 pub go_step : (outer before : RegionState) (w : Way) (s : Stmt) (rest : Block) → way_of before s ≡ Ok w → go_on outer (On before) (Next s rest) ≡ go_on outer w rest
-go_step outer before w s rest h = ap (λ r. behind r (λ m. way_of_block outer m rest) (returned_before rest)) h
+go_step outer before w s rest h = ap (λ r. after r (λ m. way_of_block outer m rest) (returned_before rest)) h
 
 pub go_fault : (outer before : RegionState) (s : Stmt) (rest : Block) (e : CheckFault) → Stops e (way_of before s) → Stops e (go_on outer (On before) (Next s rest))
 go_fault outer before s rest Memory h = tt
-go_fault outer before s rest (Broken f) h = ap (λ r. behind r (λ m. way_of_block outer m rest) (returned_before rest)) h
+go_fault outer before s rest (Broken f) h = ap (λ r. after r (λ m. way_of_block outer m rest) (returned_before rest)) h
 
--- a statement behind a return
-pub go_behind : (r : Result WayInMemory CheckFault) (outer : RegionState) (s : StmtInMemory) (rest : Block) → Goes r (Err (s.line, NoReturn)) → Goes r (go_on outer Returned (Next (stmt_tree s) rest))
-go_behind r outer s rest k = Goes-along r _ _ (ap (λ n. Err (n, NoReturn)) (line_is s.line s.form)) k
+-- a statement after a return
+pub go_after : (r : Result WayInMemory CheckFault) (outer : RegionState) (s : StmtInMemory) (rest : Block) → Goes r (Err (s.line, NoReturn)) → Goes r (go_on outer Returned (Next (stmt_tree s) rest))
+go_after r outer s rest k = Goes-along r _ _ (ap (λ n. Err (n, NoReturn)) (line_is s.line s.form)) k
 
--- behind its end a list has nothing
+-- after its end a list has nothing
 pub past : {A : Type 0} (i : ℕ) (xs : List A) → length xs ≤ i → drop i xs ≡ []
 past zero [] h = refl
 past zero (x ∷ xs) h = absurd (omega arith)
@@ -150,8 +150,8 @@ end_held outer before line h = ap (λ b. way_if (not b) (On (left outer before))
 pub end_left : (outer before : RegionState) (line : ℕ) → false ≡ holds_other outer before → way_of_block outer before (End line) ≡ Ok (On (left outer before))
 end_left outer before line h = ap (λ b. way_if (not b) (On (left outer before)) (line, HeldBuffer)) (own_is outer before ∙ sym h)
 
-pub behind_line : (outer : RegionState) (s : StmtInMemory) (rest : Block) → go_on outer Returned (Next (stmt_tree s) rest) ≡ Err (s.line, NoReturn)
-behind_line outer s rest = ap (λ n. Err (n, NoReturn)) (line_is s.line s.form)
+pub after_line : (outer : RegionState) (s : StmtInMemory) (rest : Block) → go_on outer Returned (Next (stmt_tree s) rest) ≡ Err (s.line, NoReturn)
+after_line outer s rest = ap (λ n. Err (n, NoReturn)) (line_is s.line s.form)
 
 -- ---- items
 

@@ -7,7 +7,7 @@ use Rattle.regions.specs.RegionRules.{RegionRule, HeldBuffer, WaysDiffer, breaks
 use Rattle.regions.specs.RegionStates.{RegionState}
 use Rattle.regions.specs.Regions.{Way, On, Returned, Join, ComesBack, IsEnd, Keeps, KeepsBlock, holds_own, left, where_true, where_false}
 use Rattle.regions.specs.SameStates.{same_state}
-use Rattle.regions.specs.Ways.{Fault, own_way, behind, way_if, returned_before, join_ways, turn_way, way_of, way_of_block}
+use Rattle.regions.specs.Ways.{Fault, own_way, rest_of, way_if, returned_before, join_ways, turn_way, way_of, way_of_block}
 use Rattle.regions.proofs.Same.{state_decides}
 
 -- ---- the first rule of a list that is broken
@@ -87,12 +87,12 @@ obeys before s e = find_none (λ rule. breaks_region_rule rule before s) own_rul
 pub unbroken : (before : RegionState) (s : Stmt) → Obeys before s → first_broken before s ≡ None
 unbroken before s h = all_none (λ rule. breaks_region_rule rule before s) own_rules h
 
--- of what is behind a statement: its way goes on or has returned
-pub behind_ok : (r : Result Way Fault) (go : RegionState → Result Way Fault) (stop : Result Way Fault) (w : Way) → behind r go stop ≡ Ok w
+-- of what is after a statement: its way goes on or has returned
+pub after_ok : (r : Result Way Fault) (go : RegionState → Result Way Fault) (stop : Result Way Fault) (w : Way) → rest_of r go stop ≡ Ok w
     → ((middle : RegionState) × (r ≡ Ok (On middle)) × (go middle ≡ Ok w)) ⊎ ((r ≡ Ok Returned) × (stop ≡ Ok w))
-behind_ok (Err e) go stop w h = cc
-behind_ok (Ok (On middle)) go stop w h = inl (middle, refl, h)
-behind_ok (Ok Returned) go stop w h = inr (refl, h)
+after_ok (Err e) go stop w h = cc
+after_ok (Ok (On middle)) go stop w h = inl (middle, refl, h)
+after_ok (Ok Returned) go stop w h = inr (refl, h)
 
 pub returned_ok : (rest : Block) (w : Way) → returned_before rest ≡ Ok w → IsEnd rest × (w ≡ Returned)
 returned_ok (End line) w h = (tt, ok_is Returned w h)
@@ -139,7 +139,7 @@ mutual
   pub keeps_block : (outer before : RegionState) (b : Block) (w : Way) → way_of_block outer before b ≡ Ok w → KeepsBlock outer before b w
   keeps_block outer before (End line) w h = if_ok (not (holds_own outer before)) (On (left outer before)) w (line, HeldBuffer) h
   keeps_block outer before (Next s rest) w h =
-      elim (behind_ok (way_of before s) (λ middle. way_of_block outer middle rest) (returned_before rest) w h) [
+      elim (after_ok (way_of before s) (λ middle. way_of_block outer middle rest) (returned_before rest) w h) [
         | inl on ↦ inl (on.0, keeps before s (On on.0) on.1, keeps_block outer on.0 rest w on.2)
         | inr stopped ↦ inr (keeps before s Returned stopped.0, (returned_ok rest w stopped.1).0, (returned_ok rest w stopped.1).1)
       ]
@@ -176,6 +176,6 @@ mutual
   answers_block outer before (End line) w h = if_true (not (holds_own outer before)) (On (left outer before)) (line, HeldBuffer) h.0 ∙ ap Ok (sym h.1)
   answers_block outer before (Next s rest) w h =
       elim h [
-        | inl on ↦ ap (λ r. behind r (λ middle. way_of_block outer middle rest) (returned_before rest)) (answers before s (On on.0) on.1) ∙ answers_block outer on.0 rest w on.2
-        | inr stopped ↦ ap (λ r. behind r (λ middle. way_of_block outer middle rest) (returned_before rest)) (answers before s Returned stopped.0) ∙ returned_is rest stopped.1 ∙ ap Ok (sym stopped.2)
+        | inl on ↦ ap (λ r. rest_of r (λ middle. way_of_block outer middle rest) (returned_before rest)) (answers before s (On on.0) on.1) ∙ answers_block outer on.0 rest w on.2
+        | inr stopped ↦ ap (λ r. rest_of r (λ middle. way_of_block outer middle rest) (returned_before rest)) (answers before s Returned stopped.0) ∙ returned_is rest stopped.1 ∙ ap Ok (sym stopped.2)
       ]

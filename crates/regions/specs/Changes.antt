@@ -28,7 +28,7 @@ change_value (change.Kill x) = λ y old. if bytes_eq x.now y then killed old els
 change_value (change.KillFrom level) = λ y old. killed_from level old
 change_value (change.Set x get) = λ y old. if bytes_eq x.now y then set_from (option_map get_value get) old else old
 
--- a variable with what is known of it behind a change
+-- a variable with what is known of it after a change
 abbrev pub changed_named : Change → Identifier × VariableState → Identifier × VariableState
 changed_named made v = (v.0, change_value made v.0 v.1)
 

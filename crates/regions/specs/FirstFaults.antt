@@ -4,7 +4,7 @@ use Rattle.syntax.specs.Parts.{line_of, functions_of}
 use Rattle.syntax.specs.Tree.{Stmt, If, IfElse, While, Block, End, Next, Function, SourceUnit}
 use Rattle.regions.specs.RegionRules.{RegionRule, HeldBuffer, WaysDiffer, NoReturn, breaks_region_rule, own_rules, Obeys}
 use Rattle.regions.specs.RegionStates.{RegionState, state_at_entry}
-use Rattle.regions.specs.Regions.{Way, On, Returned, Keeps, KeepsBlock, AcceptedFunction, where_true, where_false, holds_own, Differ, EndLine, BreaksBehind, BreaksFunction, HasRegions}
+use Rattle.regions.specs.Regions.{Way, On, Returned, Keeps, KeepsBlock, AcceptedFunction, where_true, where_false, holds_own, Differ, EndLine, BreaksAfter, BreaksFunction, HasRegions}
 
 -- the rule of least number that a statement breaks by itself
 abbrev pub first_broken : RegionState → Stmt → Option RegionRule
@@ -39,7 +39,7 @@ abbrev mutual
   FirstBlock rule l outer before (Next s rest) =
       FirstIn rule l before s
       ⊎ ((middle : RegionState) × Keeps before s (On middle) × FirstBlock rule l outer middle rest)
-      ⊎ Keeps before s Returned × BreaksBehind rule l rest
+      ⊎ Keeps before s Returned × BreaksAfter rule l rest
 
 -- a function's first fault; that no way returns is the last of all, at its closing brace
 abbrev pub FirstInFunction : RegionRule → ℕ → Function → Type 0

@@ -1,4 +1,4 @@
--- The rules on one statement and the state behind it, by what the statement's call does.
+-- The rules on one statement and the state after it, by what the statement's call does.
 use Rattle.std.specs.Prelude.{ℕ, ◌-◌, Bool, true, false, not, ◌&&◌, ◌||◌, Option, nat_lt, nat_le, if◌then◌else◌, find}
 use Rattle.std.specs.Option.{is_some}
 use Rattle.base.specs.Bytes.{Identifier}
@@ -56,7 +56,7 @@ judged rule state s call = false
 abbrev pub first_judged : RegionState → Stmt → Option EffectCall → Option RegionRule
 first_judged state s call = find (λ rule. judged rule state s call) own_rules
 
--- ---- the state behind a statement
+-- ---- the state after a statement
 
 -- after the call
 abbrev pub effected : RegionState → Option EffectCall → RegionState
@@ -76,5 +76,5 @@ settled state (Assign line x r) call = with_changed state x (set_from (got call)
 settled state s call = state
 
 -- after a statement without blocks
-abbrev pub behind_judged : RegionState → Stmt → Option EffectCall → RegionState
-behind_judged state s call = settled (effected state call) s call
+abbrev pub after_judged : RegionState → Stmt → Option EffectCall → RegionState
+after_judged state s call = settled (effected state call) s call

@@ -42,7 +42,7 @@ holds_own outer state = holds_buffer (record state { variables = filter (λ v. n
 
 -- ---- the ways through a function
 
--- how a way goes on behind a statement: with a state, or not at all
+-- how a way goes on after a statement: with a state, or not at all
 pub data Way : Type 0 where
   On : RegionState → Way
   Returned : Way
@@ -64,7 +64,7 @@ IsEnd (End line) = Unit {0}
 IsEnd (Next s rest) = ⊥
 
 abbrev mutual
-  -- with this state before it, the statement keeps the rules, and this is its way behind it
+  -- with this state before it, the statement keeps the rules, and this is its way after it
   pub Keeps : RegionState → Stmt → Way → Type 0
   Keeps before (If line test then') way =
       Obeys before (If line test then')
@@ -106,9 +106,9 @@ EndLine (End line) l = l ≡ line
 EndLine (Next s rest) l = EndLine rest l
 
 -- a statement where no way goes
-abbrev pub BreaksBehind : RegionRule → ℕ → Block → Type 0
-BreaksBehind rule l (End line) = ⊥
-BreaksBehind rule l (Next s rest) = (rule ≡ NoReturn) × (l ≡ line_of s)
+abbrev pub BreaksAfter : RegionRule → ℕ → Block → Type 0
+BreaksAfter rule l (End line) = ⊥
+BreaksAfter rule l (Next s rest) = (rule ≡ NoReturn) × (l ≡ line_of s)
 
 -- the statement itself breaks the rule, at its own line
 abbrev pub BreaksHere : RegionRule → ℕ → RegionState → Stmt → Type 0
@@ -138,7 +138,7 @@ abbrev mutual
   BreaksBlock rule l outer before (Next s rest) =
       BreaksIn rule l before s
       ⊎ ((middle : RegionState) × Keeps before s (On middle) × BreaksBlock rule l outer middle rest)
-      ⊎ Keeps before s Returned × BreaksBehind rule l rest
+      ⊎ Keeps before s Returned × BreaksAfter rule l rest
 
 -- a function's end reached without a return breaks a rule at its closing brace
 abbrev pub BreaksFunction : RegionRule → ℕ → Function → Type 0

@@ -1,7 +1,7 @@
 -- The state of a run.
 use Rattle.std.specs.Prelude.{ℕ, zero, suc, ◌++◌, ◌∷◌, [], List, length, flat_map, slice_get, slice_set, sum_by, Option, Some, None}
 use Rattle.world.specs.declared.report.Printed.{Printed}
-use Rattle.regions.specs.Thread.{Thread, Shared, Lent, Event, Quiet, Trapped, Advance, Advances, NoAdvance, copied_by, viewed_by, PrintedNumber}
+use Rattle.regions.specs.Thread.{Thread, Shared, BuffersInUse, Event, Quiet, Trapped, Advance, Advances, NoAdvance, copied_by, viewed_by, PrintedNumber}
 use Rattle.regions.specs.Value.{Trap}
 
 -- the trap that stopped the machine
@@ -37,7 +37,7 @@ abbrev pub views : State → List ℕ
 views s = flat_map viewed_by s.threads
 
 -- what all buffers together take
-abbrev pub lent : State → Lent
+abbrev pub lent : State → BuffersInUse
 lent s = record { copied = copied s; views = length (views s) }
 
 -- what thread k prints, and the trap that it stops the machine with

@@ -49,7 +49,7 @@ pub record Shared : Type 0 where
   pub monitors : List Monitor
 
 -- what the buffers of all threads together take of what there is for them
-pub record Lent : Type 0 where
+pub record BuffersInUse : Type 0 where
   -- the lengths of all copied lists
   pub copied : ℕ
   -- how many views there are

@@ -10,7 +10,7 @@ use Rattle.regions.specs.CallStep.{put, call_step, waits_with}
 use Rattle.regions.specs.Effect.{Effect, Becomes, Sets, SetsNull, SetsElement, MakesArray, Prints, Calls, Returns, TrapsAt, NoEffect, effect_of}
 use Rattle.regions.specs.Heap.{with_value_at}
 use Rattle.regions.specs.Task.{Task}
-use Rattle.regions.specs.Thread.{Thread, Shared, Lent, Quiet, Trapped, Advance, Advances, NoAdvance, sight_of, PrintedNumber}
+use Rattle.regions.specs.Thread.{Thread, Shared, BuffersInUse, Quiet, Trapped, Advance, Advances, NoAdvance, sight_of, PrintedNumber}
 use Rattle.regions.specs.Value.{convert}
 use Rattle.regions.specs.Variable.{Variable, Scalar, Elements, LocalArray, Copy, View, assign}
 
@@ -32,7 +32,7 @@ abbrev pub with_tasks : Thread → List Task → Thread
 with_tasks t tasks = record t { tasks = Some tasks }
 
 -- Thread k, where the buffers of all threads together take what is lent; the rest of its tasks is still to do.
-module _ (classes : Classes) (lent : Lent) (k : ℕ) (s : Shared) (t : Thread) (rest : List Task) where
+module _ (classes : Classes) (lent : BuffersInUse) (k : ℕ) (s : Shared) (t : Thread) (rest : List Task) where
   -- what an effect of the first task leaves
   abbrev pub after_effect : Effect → Advance
   after_effect (Becomes tasks) = Advances s (with_tasks t (tasks ++ rest)) Quiet
@@ -63,12 +63,12 @@ abbrev pub waits : Classes → (k : ℕ) → Shared → Thread → Bool
 waits classes k s t = waits_with classes k s t (next_effect s t t.tasks)
 
 -- thread k's step in a call, or into its next one
-abbrev pub step_within : SourceUnit → Classes → Lent → (k : ℕ) → Shared → Thread → (refused : Bool) → Option (List Task) → Advance
+abbrev pub step_within : SourceUnit → Classes → BuffersInUse → (k : ℕ) → Shared → Thread → (refused : Bool) → Option (List Task) → Advance
 step_within unit classes lent k s t false None = entry_step unit classes s t
 step_within unit classes lent k s t false (Some (task ∷ rest)) = after_effect classes lent k s t rest (effect_of (sight_of s t) task)
 step_within unit classes lent k s t true (Some (task ∷ rest)) = after_refused_effect classes lent k s t rest (effect_of (sight_of s t) task)
 step_within unit classes lent k s t refused tasks = NoAdvance
 
 -- thread k's step, or the same with its allocation refused
-abbrev pub thread_step : SourceUnit → Classes → Lent → (k : ℕ) → Shared → Thread → (refused : Bool) → Advance
+abbrev pub thread_step : SourceUnit → Classes → BuffersInUse → (k : ℕ) → Shared → Thread → (refused : Bool) → Advance
 thread_step unit classes lent k s t refused = step_within unit classes lent k s t refused t.tasks

@@ -1,4 +1,4 @@
--- The way behind a statement or its first fault, as a function of the tree.
+-- The way after a statement or its first fault, as a function of the tree.
 use Rattle.std.specs.Prelude.{ℕ, Bool, true, false, not, Option, Some, None, Result, Ok, Err}
 use Rattle.syntax.specs.Tree.{Stmt, If, IfElse, While, Return, ReturnValue, Block, End, Next}
 use Rattle.syntax.specs.Parts.{line_of}
@@ -17,18 +17,18 @@ abbrev pub own_way : Option RegionRule → ℕ → Result Way Fault → Result W
 own_way None line go = go
 own_way (Some rule) line go = Err (line, rule)
 
--- how a way goes on behind a statement
-abbrev pub behind : Result Way Fault → (RegionState → Result Way Fault) → Result Way Fault → Result Way Fault
-behind (Err e) go stop = Err e
-behind (Ok (On middle)) go stop = go middle
-behind (Ok Returned) go stop = stop
+-- how a way goes on after a statement
+abbrev pub rest_of : Result Way Fault → (RegionState → Result Way Fault) → Result Way Fault → Result Way Fault
+rest_of (Err e) go stop = Err e
+rest_of (Ok (On middle)) go stop = go middle
+rest_of (Ok Returned) go stop = stop
 
 -- the way where the test holds, and else the fault
 abbrev pub way_if : Bool → Way → Fault → Result Way Fault
 way_if true w fault = Ok w
 way_if false w fault = Err fault
 
--- behind a return stands nothing
+-- after a return stands nothing
 abbrev pub returned_before : Block → Result Way Fault
 returned_before (End line) = Ok Returned
 returned_before (Next s rest) = Err (line_of s, NoReturn)
@@ -41,14 +41,14 @@ join_ways line (Ok Returned) (Ok b) = Ok b
 join_ways line (Ok (On a)) (Ok Returned) = Ok (On a)
 join_ways line (Ok (On a)) (Ok (On b)) = way_if (same_state a b) (On a) (line, WaysDiffer)
 
--- the way behind a loop, whose body comes back to the state in which it began
+-- the way after a loop, whose body comes back to the state in which it began
 abbrev pub turn_way : ℕ → RegionState → Result Way Fault → Result Way Fault
 turn_way line before (Err e) = Err e
 turn_way line before (Ok Returned) = Ok (On before)
 turn_way line before (Ok (On after)) = way_if (same_state after before) (On before) (line, WaysDiffer)
 
 abbrev mutual
-  -- the way behind a statement, or its first fault
+  -- the way after a statement, or its first fault
   pub way_of : RegionState → Stmt → Result Way Fault
   way_of before (If line test then') = own_way (first_broken before (If line test then')) line (join_ways line (way_of_block before (where_true before test) then') (Ok (On (where_false before test))))
   way_of before (IfElse line test then' else') = own_way (first_broken before (IfElse line test then' else')) line (join_ways line (way_of_block before (where_true before test) then') (way_of_block before (where_false before test) else'))
@@ -60,4 +60,4 @@ abbrev mutual
   -- the same of the rest of a block
   pub way_of_block : RegionState → RegionState → Block → Result Way Fault
   way_of_block outer before (End line) = way_if (not (holds_own outer before)) (On (left outer before)) (line, HeldBuffer)
-  way_of_block outer before (Next s rest) = behind (way_of before s) (λ middle. way_of_block outer middle rest) (returned_before rest)
+  way_of_block outer before (Next s rest) = rest_of (way_of before s) (λ middle. way_of_block outer middle rest) (returned_before rest)

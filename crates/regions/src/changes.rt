@@ -1,4 +1,4 @@
-//! The state behind a statement, and on the ways of a test.
+//! The state after a statement, and on the ways of a test.
 
 ghost use Rattle.std.specs.Prelude.{◌≡◌, ℕ, true, OnOk, IsTrue};
 ghost use Rattle.std.specs.Option.{option_map};
@@ -40,7 +40,7 @@ pub(crate) enum NullTest<'a> {
     IsNot(&'a [u8]),
 }
 
-/// A buffer behind a Get, or behind NULL.
+/// A buffer after a Get, or after NULL.
 fn buffer_standing<'a>(get: Option<(Access, Option<&'a [u8]>)>) -> Standing<'a>
     ensures { standing_value result ≡ BufferIn (buffer_from (option_map get_value get.entry)) }
 {
@@ -106,8 +106,8 @@ fn set_to<'a>(standing: Standing<'a>, get: Option<(Access, Option<&'a [u8]>)>) -
     }
 }
 
-/// What is known of a variable behind a change.
-fn standing_behind<'a>(name: &[u8], old: Standing<'a>, change: Change<'a>) -> Standing<'a>
+/// What is known of a variable after a change.
+fn standing_after<'a>(name: &[u8], old: Standing<'a>, change: Change<'a>) -> Standing<'a>
     ensures { standing_value result ≡ change_value change.entry name.now (standing_value old.entry) }
 {
     match change {
@@ -139,17 +139,17 @@ fn standing_behind<'a>(name: &[u8], old: Standing<'a>, change: Change<'a>) -> St
     }
 }
 
-/// A variable behind a change.
+/// A variable after a change.
 fn changed<'a>(v: Variable<'a>, change: Change<'a>) -> Variable<'a>
     ensures { named_value result ≡ changed_named change.entry (named_value v.entry) }
 {
     Variable {
         name: v.name,
-        standing: standing_behind(v.name, v.standing, change),
+        standing: standing_after(v.name, v.standing, change),
     }
 }
 
-/// What is known of all variables behind a change.
+/// What is known of all variables after a change.
 fn change_each<'a>(state: &mut State<'a>, change: Change<'a>)
     ensures { state_value state.new ≡ with_each (state_value state.old) (change_value change.entry) }
 {
@@ -250,7 +250,7 @@ fn settle<'a>(
     }
 }
 
-/// The state behind a statement without blocks.
+/// The state after a statement without blocks.
 pub(crate) fn pass<'a>(state: &mut State<'a>, form: &'a Form) -> Result<(), AllocError>
     requires { (line : ℕ) → IsTrue (calls_known (form_tree line form.now)) }
     ensures { OnOk result ((line : ℕ) → state_value state.new ≡ state_after (state_value state.old) (form_tree line form.now)) }

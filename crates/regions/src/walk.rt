@@ -23,7 +23,7 @@ use crate::standing::{Standing, State, Variable, copy, is_held, is_same, same_ac
 use std::alloc::{AllocError, Global};
 use syntax::{Block, Form, Function, Item, ParameterType, Stmt, Test};
 
-/// How a way goes on behind a statement: with a state, or not at all.
+/// How a way goes on after a statement: with a state, or not at all.
 #[derive(Drop)]
 pub(crate) enum Way<'a> {
     On(State<'a>),
@@ -169,7 +169,7 @@ pub(crate) fn join_ways<'a>(
     }
 }
 
-/// The way behind a loop, whose body comes back to the state in which it began.
+/// The way after a loop, whose body comes back to the state in which it began.
 fn turn_way<'a>(line: usize, before: State<'a>, turn: Way<'a>) -> Result<Way<'a>, CheckFault>
     ensures { Goes result (turn_way line (state_value before.entry) (Ok (way_value turn.entry))) }
 {
@@ -206,7 +206,7 @@ fn state_false<'a>(
     Ok(inside)
 }
 
-/// The way behind a statement without blocks.
+/// The way after a statement without blocks.
 fn pass_way<'a>(mut before: State<'a>, form: &'a Form) -> Result<Way<'a>, CheckFault>
     requires { (line : ℕ) → IsTrue (calls_known (form_tree line form.now)) }
     ensures { (line : ℕ) → Goes result (Ok (On (state_after (state_value before.entry) (form_tree line form.now)))) }
@@ -215,7 +215,7 @@ fn pass_way<'a>(mut before: State<'a>, form: &'a Form) -> Result<Way<'a>, CheckF
     Ok(Way::On(before))
 }
 
-/// The way through the block behind a test that holds.
+/// The way through the block after a test that holds.
 #[cycle(walk)]
 fn then_way<'a>(
     alloc: Global,
@@ -230,7 +230,7 @@ fn then_way<'a>(
     block_way(alloc, before, inside, then)
 }
 
-/// The way through the block behind a test that does not.
+/// The way through the block after a test that does not.
 #[cycle(walk)]
 fn else_way<'a>(
     alloc: Global,
@@ -245,7 +245,7 @@ fn else_way<'a>(
     block_way(alloc, before, inside, otherwise)
 }
 
-/// The way behind an `if` without `else`.
+/// The way after an `if` without `else`.
 #[cycle(walk)]
 fn if_way<'a>(
     alloc: Global,
@@ -263,7 +263,7 @@ fn if_way<'a>(
     join_ways(line, way, Way::On(passed))
 }
 
-/// The way behind a `while`.
+/// The way after a `while`.
 #[cycle(walk)]
 fn while_way<'a>(
     alloc: Global,
@@ -279,7 +279,7 @@ fn while_way<'a>(
     turn_way(line, before, turn)
 }
 
-/// The way behind a statement on this line that keeps the rules itself.
+/// The way after a statement on this line that keeps the rules itself.
 #[cycle(walk)]
 fn inner_way<'a>(
     alloc: Global,
@@ -311,7 +311,7 @@ fn inner_way<'a>(
     }
 }
 
-/// The way behind a statement.
+/// The way after a statement.
 #[cycle(walk)]
 fn stmt_way<'a>(alloc: Global, before: State<'a>, stmt: &'a Stmt) -> Result<Way<'a>, CheckFault>
     requires { IsTrue (list_all calls_known (statements_within (stmt_tree stmt.now))) }
@@ -323,7 +323,7 @@ fn stmt_way<'a>(alloc: Global, before: State<'a>, stmt: &'a Stmt) -> Result<Way<
     }
 }
 
-/// The way through a block, where the variables of the outer state are not its own. Behind a return stands nothing.
+/// The way through a block, where the variables of the outer state are not its own. After a return stands nothing.
 #[cycle(walk)]
 fn block_way<'a>(
     alloc: Global,

@@ -12,7 +12,7 @@ use Rattle.regions.specs.Start.{null_statics}
 use Rattle.regions.specs.Task.{Task, Loop}
 use Rattle.regions.specs.Term as tree
 use Rattle.regions.specs.Term.{term_of}
-use Rattle.regions.specs.Thread.{Thread, Shared, Lent, Event, Quiet, PrintedNumber, Trapped, Advance, NoAdvance}
+use Rattle.regions.specs.Thread.{Thread, Shared, BuffersInUse, Event, Quiet, PrintedNumber, Trapped, Advance, NoAdvance}
 use Rattle.regions.specs.Thread as thread
 use Rattle.regions.specs.ThreadStep.{step_within, with_tasks}
 use Rattle.replay.specs.declared.activation.Activation.{Activation}
@@ -34,9 +34,9 @@ use Rattle.replay.specs.Views.{variables_view, trap_view, term_view}
 -- ---- blocks around the one in progress
 
 -- the innermost is told last
-pub around_more : (behind : List Task) (os : List Outer) (o : Outer) → tasks_around behind (os ++ o ∷ []) ≡ end_view o.end ∷ tasks_of_statements o.rest.now ++ tasks_around behind os
-around_more behind [] o = refl
-around_more behind (p ∷ os) o = around_more (end_view p.end ∷ tasks_of_statements p.rest.now ++ behind) os o
+pub around_more : (rest_of : List Task) (os : List Outer) (o : Outer) → tasks_around rest_of (os ++ o ∷ []) ≡ end_view o.end ∷ tasks_of_statements o.rest.now ++ tasks_around rest_of os
+around_more rest_of [] o = refl
+around_more rest_of (p ∷ os) o = around_more (end_view p.end ∷ tasks_of_statements p.rest.now ++ rest_of) os o
 
 pub outer_parts : (os : List Outer) (o : Outer) → OuterInRange (os ++ o ∷ []) → OuterInRange os × EndInRange o.end × StatementsInRange o.rest.now
 outer_parts [] o h = (tt, h.0, h.1)
@@ -47,9 +47,9 @@ outer_joined [] o h e r = (e, r, tt)
 outer_joined (p ∷ os) o h e r = (h.0, h.1, outer_joined os o h.2 e r)
 
 left_is : (a : Activation) (o : Option TaskInMemory) (rest : List Stmt) (os : List Outer) → a.task ≡ o → a.rest.now ≡ rest → a.outer.items ≡ os → tasks_left a ≡ tasks_from o (tasks_behind rest os)
-left_is a o rest os begun behind outer =
+left_is a o rest os begun rest_of outer =
     ap (λ (p : Option TaskInMemory). tasks_from p (tasks_behind a.rest.now a.outer.items)) begun
-    ∙ ap (λ (b : List Stmt). tasks_from o (tasks_behind b a.outer.items)) behind
+    ∙ ap (λ (b : List Stmt). tasks_from o (tasks_behind b a.outer.items)) rest_of
     ∙ ap (λ (ps : List Outer). tasks_from o (tasks_behind rest ps)) outer
 
 -- a thread with other tasks, and the variables that it has
@@ -101,7 +101,7 @@ module _ (unit : SourceUnit) (w : World) (old begun : Activation) (begun_task af
   holds s t ts sees = record { variables = sees.variables; frames = sees.frames; statics = sees.statics }
 
   stepped : (took : Outcome) → Does w (variables_view begun.variables.items) (null_statics unit) begun_task took after
-      → ((k : ℕ) (s : Shared) (t : Thread) → Sees w (variables_view begun.variables.items) (null_statics unit) s t → left_by k s t rest took after ≡ advance_by k s t new outcome.Nothing) → Advances unit w old outcome.Nothing new
+      → ((k : ℕ) (s : Shared) (t : Thread) → Sees w (variables_view begun.variables.items) (null_statics unit) s t → left_by k s t rest took after ≡ advance_by k s t new outcome.Impossible) → Advances unit w old outcome.Impossible new
   stepped took does left = λ lent k s t sees has.
       ap (λ (ts : List Task). step_within unit w.classes lent k s t false (Some ts)) first
       ∙ does lent k s t rest (seen s t sees) (has ∙ ap (λ (ts : List Task). let o : Option (List Task) = Some ts in o) first)
@@ -109,7 +109,7 @@ module _ (unit : SourceUnit) (w : World) (old begun : Activation) (begun_task af
 
   -- a step that isn't possible
   pub fails : (took : Outcome) → Does w (variables_view begun.variables.items) (null_statics unit) begun_task took after
-      → LeavesIf (null_statics unit) begun.variables.items (variable_step took) false variables.items → Advances unit w old outcome.Nothing new
+      → LeavesIf (null_statics unit) begun.variables.items (variable_step took) false variables.items → Advances unit w old outcome.Impossible new
   fails took does none = stepped took does (by_outcome took none)
     where
       by_outcome : (took : Outcome) → LeavesIf (null_statics unit) begun.variables.items (variable_step took) false variables.items
@@ -125,7 +125,7 @@ module _ (unit : SourceUnit) (w : World) (old begun : Activation) (begun_task af
       by_outcome outcome.Over none k s t sees = absurd (let bad = none s (with_tasks t rest) (holds s t rest sees) in cc)
       by_outcome outcome.Returned none k s t sees = absurd (let bad = none s (with_tasks t rest) (holds s t rest sees) in cc)
       by_outcome (outcome.Trapped trap line) none k s t sees = absurd (let bad = none s (with_tasks t rest) (holds s t rest sees) in cc)
-      by_outcome outcome.Nothing none k s t sees = refl
+      by_outcome outcome.Impossible none k s t sees = refl
 
   module _ (k : ℕ) (s : Shared) (t : Thread) (sees : Sees w (variables_view begun.variables.items) (null_statics unit) s t) where
     -- the variables are those before
@@ -164,7 +164,7 @@ module _ (unit : SourceUnit) (w : World) (old begun : Activation) (begun_task af
     left_in outcome.Over leaves a = kept Quiet rest leaves (left_with None a.task a.rest a.outer) a.variables
     left_in outcome.Returned leaves a = refl
     left_in (outcome.Trapped trap line) leaves a = kept (Trapped (trap_view trap) line) (task_view after ∷ rest) leaves (left_with (Some after) a.task a.rest a.outer) a.variables
-    left_in outcome.Nothing leaves a = refl
+    left_in outcome.Impossible leaves a = refl
 
   -- what the task's step does is done to the call
   pub advances : (took : Outcome) → Does w (variables_view begun.variables.items) (null_statics unit) begun_task took after
@@ -177,8 +177,8 @@ module _ (unit : SourceUnit) (w : World) (old begun : Activation) (begun_task af
 -- ---- what is known of accepted programs
 
 module _ (begun new : Activation) (after : TaskInMemory) (variables : Vec VariableInMemory) (known : IsInRange begun) (known_after : TaskInRange after) where
-  built : (o : Option TaskInMemory) (behind : Bor (List Stmt)) (os : List Outer) → new.task ≡ o → new.rest ≡ behind → new.outer.items ≡ os → BegunInRange o → StatementsInRange behind.now → OuterInRange os → IsInRange new
-  built o behind os same_task same_rest same_outer task' rest' outer' = record {
+  built : (o : Option TaskInMemory) (rest_of : Bor (List Stmt)) (os : List Outer) → new.task ≡ o → new.rest ≡ rest_of → new.outer.items ≡ os → BegunInRange o → StatementsInRange rest_of.now → OuterInRange os → IsInRange new
+  built o rest_of os same_task same_rest same_outer task' rest' outer' = record {
     begun = subst BegunInRange (sym same_task) task';
     rest = subst (λ (b : Bor (List Stmt)). StatementsInRange b.now) (sym same_rest) rest';
     outer = subst OuterInRange (sym same_outer) outer';
@@ -199,16 +199,16 @@ module _ (begun new : Activation) (after : TaskInMemory) (variables : Vec Variab
   range_after outcome.Over h a = built None begun.rest begun.outer.items a.task a.rest a.outer tt known.rest known.outer
   range_after outcome.Returned h a = built (Some after) begun.rest begun.outer.items a.task a.rest a.outer known_after known.rest known.outer
   range_after (outcome.Trapped trap line) h a = built (Some after) begun.rest begun.outer.items a.task a.rest a.outer known_after known.rest known.outer
-  range_after outcome.Nothing h a = built (Some after) begun.rest begun.outer.items a.task a.rest a.outer known_after known.rest known.outer
+  range_after outcome.Impossible h a = built (Some after) begun.rest begun.outer.items a.task a.rest a.outer known_after known.rest known.outer
 
 -- ---- the end of a block
 
 module _ (unit : SourceUnit) (w : World) (old new : Activation) (idle : old.task ≡ None) (done : old.rest.now ≡ []) where
   -- no task is left
-  pub nothing_to_do : old.outer.items ≡ [] → Advances unit w old outcome.Nothing new
+  pub nothing_to_do : old.outer.items ≡ [] → Advances unit w old outcome.Impossible new
   nothing_to_do none = λ lent k s t sees has. ap (λ (tasks : List Task). step_within unit w.classes lent k s t false (Some tasks)) (left_is old None [] [] idle done none)
 
-  module _ (os : List Outer) (o : Outer) (outer : old.outer.items ≡ os ++ o ∷ []) (rest : new.rest ≡ o.rest) (behind : new.outer.items ≡ os) (same : new.variables ≡ old.variables) where
+  module _ (os : List Outer) (o : Outer) (outer : old.outer.items ≡ os ++ o ∷ []) (rest : new.rest ≡ o.rest) (rest_of : new.outer.items ≡ os) (same : new.variables ≡ old.variables) where
     abbrev after : List Task
     after = tasks_behind o.rest.now os
 
@@ -221,9 +221,9 @@ module _ (unit : SourceUnit) (w : World) (old new : Activation) (idle : old.task
         ∙ thread_is s t new Quiet tasks old.variables.items left (ap (λ (v : Vec VariableInMemory). v.items) same)
 
     left : (p : Option TaskInMemory) → new.task ≡ p → tasks_left new ≡ tasks_from p after
-    left p begun = left_is new p o.rest.now os begun (ap (λ (b : Bor (List Stmt)). b.now) rest) behind
+    left p begun = left_is new p o.rest.now os begun (ap (λ (b : Bor (List Stmt)). b.now) rest) rest_of
 
-    -- behind an `if`
+    -- after an `if`
     pub if_over : o.end ≡ end.If → new.task ≡ None → Advances unit w old outcome.Over new
     if_over is none = λ lent k s t sees has.
         ap (λ (ts : List Task). step_within unit w.classes lent k s t false (Some ts)) (at_end ∙ ap (λ (e : End). end_view e ∷ after) is)

@@ -25,7 +25,7 @@ use Rattle.regions.specs.Heap.{Heap, class_of, values_of}
 use Rattle.regions.specs.Sight.{Sight, seen}
 use Rattle.regions.specs.Start.{null_statics}
 use Rattle.regions.specs.Task.{Task, invocation, call_task}
-use Rattle.regions.specs.Thread.{Thread, Shared, Lent, Event, Trapped, Advance, Advances, sight_of}
+use Rattle.regions.specs.Thread.{Thread, Shared, BuffersInUse, Event, Trapped, Advance, Advances, sight_of}
 use Rattle.regions.specs.ThreadStep.{after_effect, with_tasks}
 use Rattle.regions.specs.Value.{Int, NullReference, WrongObject}
 use Rattle.regions.specs.Variable.{Variables, StaticReference, Empty, Live}
@@ -62,7 +62,7 @@ module _ (vs : Variables) (unit : SourceUnit) (heap : Heap) where
   actual_is (tree.Binary op a b) = ([], refl)
   actual_is (tree.Paren e) = ([], refl)
 
-module _ (w : World) (lent : Lent) (k : ℕ) (s : Shared) (t : Thread) (rest : List Task) (line : ℕ) where
+module _ (w : World) (lent : BuffersInUse) (k : ℕ) (s : Shared) (t : Thread) (rest : List Task) (line : ℕ) where
   abbrev called : TargetInMemory → List Actual → Advance
   called to args = call_step w.classes lent k s t line (target_view to) GetArrayLength args rest false
 

@@ -64,7 +64,7 @@ module _ (names : List Identifier) where
   by_object heap n (Some o) is = rw is refl
 
   module _ (others : List ArrayScene) where
-    -- an object behind k plain ones
+    -- an object after k plain ones
     beyond : (k i : ℕ) (rest : List Object) → slice_get (replicate k plain_class_object ++ rest) (k + i) ≡ slice_get rest i
     beyond zero i rest = let same : zero + i ≡ i = omega arith in ap (slice_get rest) same
     beyond (suc k) i rest = let same : suc k + i ≡ suc (k + i) = omega arith in ap (slice_get (replicate (suc k) plain_class_object ++ rest)) same ∙ beyond k i rest
@@ -96,7 +96,7 @@ module _ (names : List Identifier) where
         by_object (heap k) (suc i) (Some error_object) (ap (slice_get (heap k)) same ∙ beyond k 0 (error_object ∷ map array_object others)) ∙ rw error_is_plain refl)
         (below i k (omega arith))
 
-    -- the arrays behind it
+    -- the arrays after it
     higher : (k n i : ℕ) (a : ArrayScene) → n ≡ k + 2 + i → slice_get others i ≡ Some a → array_length classes (heap k) n ≡ Some (length a.values)
     higher k zero i a at is = absurd (omega arith)
     higher k (suc m) i a at is =

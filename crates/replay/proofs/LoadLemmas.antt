@@ -66,19 +66,19 @@ module _ (unit : SourceUnit) (classes : Classes) where
   refused threads = flat_map (refused_calls unit classes) threads
 
   module _ (items : List (Vec CallScene)) (i : ℕ) (v : Vec CallScene) (line : Option ℕ) (at : slice_get items i ≡ Some v) (is : line ≡ first_line (refused_calls unit classes (map invocation_of v.items))) (so_far : refused (calls_of items) ≡ refused (calls_of (drop i items))) where
-    behind : refused (calls_of (drop i items)) ≡ refused_calls unit classes (map invocation_of v.items) ++ refused (calls_of (drop (i + 1) items))
-    behind = ap (λ (vs : List (Vec CallScene)). refused (calls_of vs)) (drop_more items i v at)
+    after : refused (calls_of (drop i items)) ≡ refused_calls unit classes (map invocation_of v.items) ++ refused (calls_of (drop (i + 1) items))
+    after = ap (λ (vs : List (Vec CallScene)). refused (calls_of vs)) (drop_more items i v at)
 
     -- the first refused call is in this thread
     pub line_here : is_some line ≡ true → line ≡ first_line (refused (calls_of items))
     line_here some =
         first_of_both (refused_calls unit classes (map invocation_of v.items)) (refused (calls_of (drop (i + 1) items))) line is some
-        ∙ ap first_line (sym (so_far ∙ behind))
+        ∙ ap first_line (sym (so_far ∙ after))
 
-    -- or it is behind this thread
+    -- or it is after this thread
     pub line_later : is_some line ≡ false → refused (calls_of items) ≡ refused (calls_of (drop (i + 1) items))
     line_later none =
-        so_far ∙ behind
+        so_far ∙ after
         ∙ ap (λ (cs : List Invocation). cs ++ refused (calls_of (drop (i + 1) items))) (no_call (refused_calls unit classes (map invocation_of v.items)) line is none)
 
   -- a thread whose calls all fit

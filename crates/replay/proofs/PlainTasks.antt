@@ -19,7 +19,7 @@ use Rattle.regions.specs.Effect.{Effect, Becomes, Sets, SetsNull, SetsElement, M
 use Rattle.regions.specs.Sight.{Sight}
 use Rattle.regions.specs.Task.{Task, SetScalar, SetElement, SetNull, MakeArray, Invoke, Print, Branch, EndIf, Loop, EndTurn, Return, ReturnValue, Impossible, Operand, Target, Declared, Assigned, Tested, Dropped, BufferKind, kind_of, set_task, right_side_task, invocation, call_task, task_of}
 use Rattle.regions.specs.Term.{Term, Done, Number, Named, Read, Element, IsNull, Prefix, And, Or, Binary, index_of, reduce}
-use Rattle.regions.specs.Thread.{Thread, Shared, Lent, NoAdvance, sight_of}
+use Rattle.regions.specs.Thread.{Thread, Shared, BuffersInUse, NoAdvance, sight_of}
 use Rattle.regions.specs.ThreadStep.{thread_step, step_within, after_refused_effect, next_effect, waits}
 use Rattle.regions.specs.Value.{Value, Word, Int, Flag, Truth, Trap, Outcome, Gives, Traps, Stuck}
 use Rattle.replay.specs.Activations.{tasks_from, tasks_around, tasks_behind, tasks_left, BegunInRange}
@@ -205,9 +205,9 @@ end-plain : (e : End) → IsPlain (end_view e)
 end-plain end.If = tt
 end-plain (end.Turn line test body) = tt
 
-around-plain : (behind : List Task) (os : List Outer) → BeginsPlain behind → BeginsPlain (tasks_around behind os)
-around-plain behind [] h = h
-around-plain behind (o ∷ os) h = around-plain (end_view o.end ∷ tasks_of_statements o.rest.now ++ behind) os (end-plain o.end)
+around-plain : (after : List Task) (os : List Outer) → BeginsPlain after → BeginsPlain (tasks_around after os)
+around-plain after [] h = h
+around-plain after (o ∷ os) h = around-plain (end_view o.end ∷ tasks_of_statements o.rest.now ++ after) os (end-plain o.end)
 
 begins-plain : (o : Option TaskInMemory) (rest : List StmtInMemory) (os : List Outer) → BegunInRange o → StatementsInRange rest → BeginsPlain (tasks_from o (tasks_behind rest os))
 begins-plain None [] os h r = around-plain [] os tt
@@ -216,7 +216,7 @@ begins-plain (Some t) rest os h r = task-plain t h
 
 -- ---- threads
 
-module _ (unit : SourceUnit) (classes : Classes) (shared : Shared) (lent : Lent) (k : ℕ) where
+module _ (unit : SourceUnit) (classes : Classes) (shared : Shared) (lent : BuffersInUse) (k : ℕ) where
   -- the length of an array makes no object
   makes_none : (s : Thread) (args : List Actual) (o : Option Trap) → makes_objects (checked o (call_effect classes lent k shared s args GetArrayLength)) ≡ false
   unfolding call_effect

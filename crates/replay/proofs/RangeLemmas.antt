@@ -36,7 +36,7 @@ found_passes p q (y ∷ ys) x e h =
     let parts = and_parts (q y) (list_all q ys) h in
     chosen q (p y) y x (find p ys) e parts.0 (λ later. found_passes p q ys x later parts.1)
 
--- ---- a statement, what is inside it, and what stands behind it
+-- ---- a statement, what is inside it, and what stands after it
 
 module _ (q : tree.Stmt → Bool) where
   both : (xs ys : List tree.Stmt) → list_all q (xs ++ ys) ≡ true → (list_all q xs ≡ true) × (list_all q ys ≡ true)
@@ -65,9 +65,9 @@ module _ (q : tree.Stmt → Bool) where
   inside (Return line) h = ((and_parts (q (Return line)) true h).0, tt)
   inside (ReturnValue line e) h = ((and_parts (q (ReturnValue line e)) true h).0, tt)
 
-  first : (s : tree.Stmt) (behind : List tree.Stmt) → list_all q (statements_within s ++ behind) ≡ true → (q s ≡ true) × Inside s × (list_all q behind ≡ true)
-  first s behind h =
-      let parts = both (statements_within s) behind h in
+  first : (s : tree.Stmt) (after : List tree.Stmt) → list_all q (statements_within s ++ after) ≡ true → (q s ≡ true) × Inside s × (list_all q after ≡ true)
+  first s after h =
+      let parts = both (statements_within s) after h in
       let s_parts = inside s parts.0 in
       (s_parts.0, s_parts.1, parts.1)
 

@@ -39,7 +39,7 @@ module _ (scene : Scene) where
   length-rows : length (rows_of scene) ≡ length scene.objects
   length-rows = length-map (enumerate_from first scene.objects) (array_row w.classes) ∙ length-enumerate_from first scene.objects
 
-  -- the line of an object, and those behind it
+  -- the line of an object, and those after it
   pub row_at : (i n : ℕ) (a : ArrayScene) (class : Identifier) (numbers : List ℤ) → i < length scene.objects → n ≡ length w.classes + 1 + i + 1 → get_or scene.objects i a ≡ a
       → class ≡ class_name w.classes (number_array a.element) → numbers ≡ a.values
       → flat_map object_line (drop i (rows_of scene)) ≡ object_line (number_row n class numbers) ++ flat_map object_line (drop (i + 1) (rows_of scene))

@@ -142,28 +142,28 @@ names_above limit (suc k) =
     ∙ ap (λ n. numbers_from (limit + 1) k ++ n ∷ []) f
     ∙ sym (numbers_push (limit + 1) k)
 
-get_behind : (first : Heap) (o : Object) (rest : Heap) → slice_get (first ++ o ∷ rest) (length first) ≡ Some o
-get_behind [] o rest = refl
-get_behind (x ∷ first) o rest = get_behind first o rest
+get_after : (first : Heap) (o : Object) (rest : Heap) → slice_get (first ++ o ∷ rest) (length first) ≡ Some o
+get_after [] o rest = refl
+get_after (x ∷ first) o rest = get_after first o rest
 
-object_behind : (first : Heap) (o : Object) (rest : Heap) → object_at (first ++ o ∷ rest) (length first + 1) ≡ Some o
-object_behind first o rest = let e : length first + 1 ≡ suc (length first) = omega arith in ap (object_at (first ++ o ∷ rest)) e ∙ get_behind first o rest
+object_after : (first : Heap) (o : Object) (rest : Heap) → object_at (first ++ o ∷ rest) (length first + 1) ≡ Some o
+object_after first o rest = let e : length first + 1 ≡ suc (length first) = omega arith in ap (object_at (first ++ o ∷ rest)) e ∙ get_after first o rest
 
 one_row : (classes : Classes) (heap : Heap) (n : ℕ) (o : Object) → object_at heap n ≡ Some o → shown_row classes heap n ≡ object_row classes (n, o)
 one_row classes heap n o at =
     ap (λ (x : Option Object). let r : ShownRow = record { name = n; class = class_name classes (option_map_or (λ (y : Object). y.class) x 0); values = map (shown_value classes) (option_map_or (λ (y : Object). y.values) x []) } in r) at
 
-rows_behind : (classes : Classes) (first rest : Heap) → map (shown_row classes (first ++ rest)) (numbers_from (length first + 1) (length rest)) ≡ map (object_row classes) (enumerate_from (length first + 1) rest)
+rows_after : (classes : Classes) (first rest : Heap) → map (shown_row classes (first ++ rest)) (numbers_from (length first + 1) (length rest)) ≡ map (object_row classes) (enumerate_from (length first + 1) rest)
 unfolding numbers_from
-rows_behind classes first [] = refl
-rows_behind classes first (o ∷ rest) =
-    let further = rows_behind classes (first ++ o ∷ []) rest in
+rows_after classes first [] = refl
+rows_after classes first (o ∷ rest) =
+    let further = rows_after classes (first ++ o ∷ []) rest in
     let whole : (first ++ o ∷ []) ++ rest ≡ first ++ o ∷ rest = append_assoc first (o ∷ []) rest in
     let count : length (first ++ o ∷ []) ≡ length first + 1 = length-append first (o ∷ []) in
     let later : map (shown_row classes (first ++ o ∷ rest)) (numbers_from (length first + 1 + 1) (length rest)) ≡ map (object_row classes) (enumerate_from (length first + 1 + 1) rest) =
     subst (λ n. map (shown_row classes (first ++ o ∷ rest)) (numbers_from (n + 1) (length rest)) ≡ map (object_row classes) (enumerate_from (n + 1) rest)) count
     (subst (λ (h : Heap). map (shown_row classes h) (numbers_from (length (first ++ o ∷ []) + 1) (length rest)) ≡ map (object_row classes) (enumerate_from (length (first ++ o ∷ []) + 1) rest)) whole further) in
-    ap (λ (r : ShownRow). r ∷ map (shown_row classes (first ++ o ∷ rest)) (numbers_from (length first + 1 + 1) (length rest))) (one_row classes (first ++ o ∷ rest) (length first + 1) o (object_behind first o rest))
+    ap (λ (r : ShownRow). r ∷ map (shown_row classes (first ++ o ∷ rest)) (numbers_from (length first + 1 + 1) (length rest))) (one_row classes (first ++ o ∷ rest) (length first + 1) o (object_after first o rest))
     ∙ ap (λ (l : List ShownRow). object_row classes (length first + 1, o) ∷ l) later
 
 -- the report shows the world's objects as they were made
@@ -176,7 +176,7 @@ shown_rows w s heap =
     let first : length (made_before w.classes) + 1 ≡ length w.classes + 2 = omega arith in
     ap (map (shown_row w.classes s.shared.heap)) names
     ∙ ap (λ (h : Heap). map (shown_row w.classes h) (numbers_from (length (made_before w.classes) + 1) (length w.objects))) (heap ∙ loaded_is w)
-    ∙ rows_behind w.classes (made_before w.classes) w.objects
+    ∙ rows_after w.classes (made_before w.classes) w.objects
     ∙ ap (λ n. map (object_row w.classes) (enumerate_from n w.objects)) first
 
 -- ---- the world's objects are arrays

@@ -3,7 +3,7 @@ use Rattle.std.proofs.Common.{◌≡◌, ℕ, ◌+◌, ◌<◌, ◌≤◌, List,
 use Rattle.std.specs.List.{enumerate_from}
 use Rattle.std.proofs.lemmas.List.{at_drop_more, drop_all}
 use Rattle.std.proofs.lemmas.List.FromFn.{length-enumerate_from, get_or-enumerate_from}
-use Rattle.world.specs.declared.report.Standing.{Standing}
+use Rattle.world.specs.declared.report.ThreadStatus.{ThreadStatus}
 use Rattle.replay.specs.declared.thread.Thread.{Thread}
 use Rattle.replay.specs.declared.state.Stop.{Stop}
 use Rattle.replay.specs.States.{standing_of}
@@ -13,7 +13,7 @@ module _ (stop : Option Stop) (ts : List Thread) where
   numbered = enumerate_from 1 ts
 
   -- one thread more
-  pub standing_more : (acc : List Standing) (i k : ℕ) (x : Thread) (out : Standing) → i < length ts → k ≡ i → x ≡ get_or ts i x → out ≡ standing_of stop (k + 1, x) → map (standing_of stop) numbered ≡ acc ++ map (standing_of stop) (drop i numbered)
+  pub standing_more : (acc : List ThreadStatus) (i k : ℕ) (x : Thread) (out : ThreadStatus) → i < length ts → k ≡ i → x ≡ get_or ts i x → out ≡ standing_of stop (k + 1, x) → map (standing_of stop) numbered ≡ acc ++ map (standing_of stop) (drop i numbered)
       → map (standing_of stop) numbered ≡ (acc ++ out ∷ []) ++ map (standing_of stop) (drop (i + 1) numbered)
   standing_more acc i k x out low counted is gives h =
       let long : i < length numbered = omega (arith, low, length-enumerate_from 1 ts) in
@@ -23,12 +23,12 @@ module _ (stop : Option Stop) (ts : List Thread) where
       ∙ ap (λ (n : ℕ). (n, get_or ts i x)) number
       ∙ ap (λ (t : Thread). (k + 1, t)) (sym is) in
       h
-      ∙ ap (λ (l : List Standing). acc ++ l) (at_drop_more (map (standing_of stop)) numbered i (1, x) long)
+      ∙ ap (λ (l : List ThreadStatus). acc ++ l) (at_drop_more (map (standing_of stop)) numbered i (1, x) long)
       ∙ ap (λ (v : ℕ × Thread). acc ++ standing_of stop v ∷ map (standing_of stop) (drop (i + 1) numbered)) item
-      ∙ ap (λ (o : Standing). acc ++ o ∷ map (standing_of stop) (drop (i + 1) numbered)) (sym gives)
+      ∙ ap (λ (o : ThreadStatus). acc ++ o ∷ map (standing_of stop) (drop (i + 1) numbered)) (sym gives)
       ∙ sym (append_assoc acc (out ∷ []) (map (standing_of stop) (drop (i + 1) numbered)))
 
   -- all of them
-  pub standings_all : (acc : List Standing) (i : ℕ) → length ts ≤ i → map (standing_of stop) numbered ≡ acc ++ map (standing_of stop) (drop i numbered) → acc ≡ map (standing_of stop) numbered
+  pub standings_all : (acc : List ThreadStatus) (i : ℕ) → length ts ≤ i → map (standing_of stop) numbered ≡ acc ++ map (standing_of stop) (drop i numbered) → acc ≡ map (standing_of stop) numbered
   standings_all acc i past h =
       sym (h ∙ ap (λ (l : List (ℕ × Thread)). acc ++ map (standing_of stop) l) (drop_all i numbered (omega (arith, past, length-enumerate_from 1 ts))) ∙ append-nil acc)

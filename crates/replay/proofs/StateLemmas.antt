@@ -10,12 +10,12 @@ use Rattle.world.specs.declared.journal.Entry.{Entry}
 use Rattle.world.specs.declared.report.Printed.{Printed}
 use Rattle.world.specs.Report.{ThreadStanding, HasTrapped}
 use Rattle.world.specs.Shown.{report_with}
-use Rattle.world.specs.Standing.{standing_view}
+use Rattle.world.specs.ThreadStatus.{standing_view}
 use Rattle.world.specs.Scene.{Scene}
 use Rattle.world.specs.SceneWorld.{world_of_scene}
 use Rattle.world.specs.World.{World, loaded_objects}
 use Rattle.regions.specs.Value.{trap_number}
-use Rattle.world.specs.declared.report.Standing.TheVariants as standing
+use Rattle.world.specs.declared.report.ThreadStatus.TheVariants as standing
 use Rattle.regions.specs.ReportOf.{report, shown, shown_row}
 use Rattle.regions.specs.ReportOf as language
 use Rattle.regions.specs.State.{State, thread_at, set_thread, lent, with_event, advanced}
@@ -224,7 +224,7 @@ module _ (unit : SourceUnit) (w : World) (m : StateInMemory) (s : State) (h : St
       step_is ∙ ap (advanced s (suc i)) l.advances,
       record { world = same_world; shared = h.shared; threads = all_stand l.next l.stands; printed = h.printed ∙ sym printed; stop = ap (option_map stop_view) (sym stop) },
     )
-    by_step step.Nothing l printed stop = step_is ∙ ap (advanced s (suc i)) l
+    by_step step.Impossible l printed stop = step_is ∙ ap (advanced s (suc i)) l
 
     takes_at : (took : Step) → TakesStep unit w t took after → new.printed.items ≡ printed_after m.printed.items (suc i) took → new.stop ≡ stop_after m.stop (suc i) took
         → Leads unit w s (record { thread = suc i; refused = false }) new (is_possible took)

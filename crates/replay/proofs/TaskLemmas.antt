@@ -17,7 +17,7 @@ use Rattle.regions.specs.Sight.{Sight, seen, elements_of, in_range}
 use Rattle.regions.specs.Task.{Task, SetScalar, SetElement, Print, Branch, Loop, ReturnValue, tasks_of}
 use Rattle.regions.specs.Term as tree
 use Rattle.regions.specs.Term.{index_of, reduce}
-use Rattle.regions.specs.Thread.{Thread, Shared, Lent, sight_of, Trapped, Advances}
+use Rattle.regions.specs.Thread.{Thread, Shared, BuffersInUse, sight_of, Trapped, Advances}
 use Rattle.regions.specs.ThreadStep.{after_effect, with_tasks}
 use Rattle.regions.specs.Value.{Value, Outcome as Outcomes, Gives, Traps, Stuck, outcome_then, outcome_map}
 use Rattle.regions.specs.Variable.{Variables, Statics}
@@ -47,7 +47,7 @@ same_thread t tasks has = ap (λ (o : Option (List Task)). let u : Thread = reco
 
 module _ (w : World) (vs : Variables) (ss : Statics) (old new : TaskInMemory) where
   by_effect : (took : Outcome) → ((heap : Heap) → effect_of (seen vs ss heap) (task_view old) ≡ effect_by took new)
-      → ((lent : Lent) (k : ℕ) (s : Shared) (t : Thread) (rest : List Task) → t.tasks ≡ Some (task_view old ∷ rest) → after_effect w.classes lent k s t rest (effect_by took new) ≡ left_by k s t rest took new) → Does w vs ss old took new
+      → ((lent : BuffersInUse) (k : ℕ) (s : Shared) (t : Thread) (rest : List Task) → t.tasks ≡ Some (task_view old ∷ rest) → after_effect w.classes lent k s t rest (effect_by took new) ≡ left_by k s t rest took new) → Does w vs ss old took new
   by_effect took h left = λ lent k s t rest sees has.
       ap (λ (sight : Sight). after_effect w.classes lent k s t rest (effect_of sight (task_view old))) (sees_so w vs ss s t sees)
       ∙ ap (after_effect w.classes lent k s t rest) (h s.heap)
@@ -68,7 +68,7 @@ module _ (w : World) (vs : Variables) (ss : Statics) (old new : TaskInMemory) wh
   does (outcome.Trapped trap line) h = by_effect (outcome.Trapped trap line) h.0 (λ lent k s t rest has.
       ap (λ (u : Thread). Advances s u (Trapped (trap_view trap) line)) (same_thread t (task_view old ∷ rest) has)
       ∙ ap (λ (u : TaskInMemory). Advances s (with_tasks t (task_view u ∷ rest)) (Trapped (trap_view trap) line)) (sym h.1))
-  does outcome.Nothing h = by_effect outcome.Nothing h (λ lent k s t rest has. refl)
+  does outcome.Impossible h = by_effect outcome.Impossible h (λ lent k s t rest has. refl)
 
 -- the same of a task that is written another way
 pub does_as : (w : World) (vs : Variables) (ss : Statics) (old written new : TaskInMemory) (took : Outcome) → old ≡ written → HasEffect vs ss written took new → Does w vs ss old took new

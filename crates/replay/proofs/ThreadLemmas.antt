@@ -13,7 +13,7 @@ use Rattle.regions.specs.Task.{tasks_of}
 use Rattle.classes.specs.Class.{Classes}
 use Rattle.world.specs.Scene.{CallScene}
 use Rattle.world.specs.SceneWorld.{invocation_of}
-use Rattle.regions.specs.Thread.{Thread, Shared, Lent, Event, Quiet, PrintedNumber, Trapped, Advances as AdvancesTo, NoAdvance, Unfinished, Ended}
+use Rattle.regions.specs.Thread.{Thread, Shared, BuffersInUse, Event, Quiet, PrintedNumber, Trapped, Advances as AdvancesTo, NoAdvance, Unfinished, Ended}
 use Rattle.regions.specs.Activation.{return_step, enter, entered, entry_advance, entered_function, class_of_function, function_at}
 use Rattle.regions.specs.ThreadStep.{thread_step, step_within}
 use Rattle.replay.specs.declared.activation.Activation.{Activation}
@@ -28,7 +28,7 @@ use Rattle.std.specs.Prelude.{zip}
 use Rattle.replay.specs.declared.outcome.Outcome.{Outcome}
 use Rattle.replay.specs.Threads.{ThreadStands, VariablesIn, FramesIn, IsAsLoaded, Leaves, StepIs, step_of, tasks_in, ending_in}
 
-module _ (unit : SourceUnit) (w : World) (shared : Shared) (lent : Lent) (k : ℕ) where
+module _ (unit : SourceUnit) (w : World) (shared : Shared) (lent : BuffersInUse) (k : ℕ) where
   abbrev classes : Classes
   classes = w.classes
 
@@ -90,7 +90,7 @@ module _ (unit : SourceUnit) (w : World) (shared : Shared) (lent : Lent) (k : �
     goes outcome.Over other does = on Quiet (advances_so outcome.Over does)
     goes outcome.Returned other does = absurd (other refl)
     goes (outcome.Trapped trap line) other does = on (Trapped (trap_view trap) line) (advances_so (outcome.Trapped trap line) does)
-    goes outcome.Nothing other does = advances_so outcome.Nothing does
+    goes outcome.Impossible other does = advances_so outcome.Impossible does
 
     -- the call is over
     pub returns : Advances unit w a outcome.Returned new

@@ -107,7 +107,7 @@ module _ (x : Identifier) (content : Content) where
 
 pub ruleset assigned_rules = (assigned_there, assigned_new)
 
--- one variable, and then those behind it
+-- one variable, and then those after it
 pub added : (old new : List Variable) (v : Variable) (rest : Variables) → variables_view new ≡ variables_view (old ++ v ∷ []) ++ rest → variables_view new ≡ variables_view old ++ variable_view v ∷ rest
 added old new v rest is =
     is ∙ ap (λ (l : Variables). l ++ rest) (map-append variable_view old (v ∷ [])) ∙ append_assoc (variables_view old) (variable_view v ∷ []) rest

@@ -7,7 +7,7 @@ use Rattle.world.specs.World.{World}
 use Rattle.regions.specs.Activation.{return_step}
 use Rattle.regions.specs.Start.{null_statics}
 use Rattle.regions.specs.Task.{Task}
-use Rattle.regions.specs.Thread.{Thread, Shared, Lent, Quiet, PrintedNumber, Trapped, Advance, NoAdvance}
+use Rattle.regions.specs.Thread.{Thread, Shared, BuffersInUse, Quiet, PrintedNumber, Trapped, Advance, NoAdvance}
 use Rattle.regions.specs.Thread as thread
 use Rattle.regions.specs.ThreadStep.{step_within}
 use Rattle.replay.specs.declared.activation.Activation.{Activation}
@@ -19,17 +19,17 @@ use Rattle.replay.specs.Steps.{Sees}
 use Rattle.replay.specs.Tasks.{task_view, end_view, tasks_of_statements, StatementsInRange, TaskInRange, EndInRange}
 use Rattle.replay.specs.Views.{variables_view, trap_view}
 
--- the task that is begun, if there is one, and those behind it
+-- the task that is begun, if there is one, and those after it
 abbrev pub tasks_from : Option TaskInMemory → List Task → List Task
 tasks_from None rest = rest
 tasks_from (Some task) rest = task_view task ∷ rest
 
--- the tasks around a block, of which these are behind the outermost that is told
+-- the tasks around a block, of which these are after the outermost that is told
 abbrev pub tasks_around : List Task → List Outer → List Task
-tasks_around behind [] = behind
-tasks_around behind (o ∷ inner) = tasks_around (end_view o.end ∷ tasks_of_statements o.rest.now ++ behind) inner
+tasks_around after [] = after
+tasks_around after (o ∷ inner) = tasks_around (end_view o.end ∷ tasks_of_statements o.rest.now ++ after) inner
 
--- the tasks behind the one that is begun
+-- the tasks after the one that is begun
 abbrev pub tasks_behind : List StmtInMemory → List Outer → List Task
 tasks_behind rest outer = tasks_of_statements rest ++ tasks_around [] outer
 
@@ -62,13 +62,13 @@ abbrev pub advance_by : (k : ℕ) → Shared → Thread → Activation → Outco
 advance_by k s t a (outcome.Printed z) = thread.Advances s (thread_in t a) (PrintedNumber z)
 advance_by k s t a outcome.Returned = return_step k s t
 advance_by k s t a (outcome.Trapped trap line) = thread.Advances s (thread_in t a) (Trapped (trap_view trap) line)
-advance_by k s t a outcome.Nothing = NoAdvance
+advance_by k s t a outcome.Impossible = NoAdvance
 advance_by k s t a took = thread.Advances s (thread_in t a) Quiet
 
 -- what a step in memory did is the step of each thread that has these tasks and sees these variables
 abbrev pub Advances : SourceUnit → World → Activation → Outcome → Activation → Type 0
 Advances unit w old took new =
-    (lent : Lent) (k : ℕ) (s : Shared) (t : Thread) → Sees w (variables_view old.variables.items) (null_statics unit) s t → t.tasks ≡ Some (tasks_left old)
+    (lent : BuffersInUse) (k : ℕ) (s : Shared) (t : Thread) → Sees w (variables_view old.variables.items) (null_statics unit) s t → t.tasks ≡ Some (tasks_left old)
     → step_within unit w.classes lent k s t false (Some (tasks_left old)) ≡ advance_by k s t new took
 
 -- the task that is begun, after a step
@@ -76,10 +76,10 @@ abbrev pub task_after : Option TaskInMemory → Outcome → Option TaskInMemory
 task_after task outcome.Stays = task
 task_after task outcome.Returned = task
 task_after task (outcome.Trapped trap line) = task
-task_after task outcome.Nothing = task
+task_after task outcome.Impossible = task
 task_after task took = None
 
--- the statements behind it
+-- the statements after it
 abbrev pub rest_after : Bor (List StmtInMemory) → Outcome → Bor (List StmtInMemory)
 rest_after rest (outcome.Enters statements e) = statements
 rest_after rest took = rest

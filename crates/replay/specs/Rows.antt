@@ -10,7 +10,7 @@ use Rattle.world.specs.Scene.{ArrayScene, Scene}
 use Rattle.world.specs.SceneWorld.{world_of_scene}
 use Rattle.world.specs.Shown.{row_lines}
 
--- a number of a row, behind a space
+-- a number of a row, after a space
 abbrev pub number_text : ℤ → List ℕ
 number_text z = codes " " ++ signed_decimal z
 
@@ -22,7 +22,7 @@ number_row name class numbers = record { name = name; class = class; values = ma
 abbrev pub array_row : Classes → ℕ × ArrayScene → ShownRow
 array_row classes (n, a) = number_row n (class_name classes (number_array a.element)) a.values
 
--- the rows of all arrays, which are made behind the class objects and the OutOfMemoryError object
+-- the rows of all arrays, which are made after the class objects and the OutOfMemoryError object
 abbrev pub rows_of : Scene → List ShownRow
 rows_of scene =
     let classes = (world_of_scene scene).classes in

@@ -6,8 +6,8 @@ use Rattle.syntax.specs.Tree.{SourceUnit}
 use Rattle.classes.specs.Class.{Classes}
 use Rattle.world.specs.declared.journal.Entry.{Entry}
 use Rattle.world.specs.declared.report.Printed.{Printed}
-use Rattle.world.specs.declared.report.Standing.{Standing}
-use Rattle.world.specs.declared.report.Standing.TheVariants as standing
+use Rattle.world.specs.declared.report.ThreadStatus.{ThreadStatus}
+use Rattle.world.specs.declared.report.ThreadStatus.TheVariants as standing
 use Rattle.world.specs.SceneWorld.{world_of_scene}
 use Rattle.world.specs.World.{World}
 use Rattle.regions.specs.Thread.{Thread}
@@ -67,7 +67,7 @@ pub record IsNoted (old : StateInMemory) (k : ℕ) (took : Step) (new : StateInM
 
 -- the step was possible
 abbrev pub is_possible : Step → Bool
-is_possible step.Nothing = false
+is_possible step.Impossible = false
 is_possible took = true
 
 -- an entry is possible and leaves this, or is not possible
@@ -82,15 +82,15 @@ TakesEntry unit old e possible new = (w : World) (s : State) → Stands unit w o
 -- ---- the report
 
 -- how a thread that didn't trap stands
-abbrev pub standing_by : (ended : Bool) → Standing
+abbrev pub standing_by : (ended : Bool) → ThreadStatus
 standing_by true = standing.Ended
 standing_by false = standing.Running
 
 -- how thread k stands
-abbrev pub standing_of : Option StopInMemory → ℕ × ThreadInMemory → Standing
+abbrev pub standing_of : Option StopInMemory → ℕ × ThreadInMemory → ThreadStatus
 standing_of None (k, t) = standing_by t.ended
 standing_of (Some stop) (k, t) = if stop.thread == k then standing.Trapped (trap_number (trap_view stop.trap)) stop.line else standing_by t.ended
 
 -- how all threads stand
-abbrev pub standings_of : StateInMemory → List Standing
+abbrev pub standings_of : StateInMemory → List ThreadStatus
 standings_of m = map (standing_of m.stop) (enumerate_from 1 m.threads.items)

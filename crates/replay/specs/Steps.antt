@@ -10,7 +10,7 @@ use Rattle.regions.specs.Effect.{Effect, Becomes, Sets, SetsNull, SetsElement, M
 use Rattle.regions.specs.Heap.{Heap}
 use Rattle.regions.specs.Sight.{seen}
 use Rattle.regions.specs.Task.{Task}
-use Rattle.regions.specs.Thread.{Thread, Shared, Lent, Quiet, PrintedNumber, Trapped, Advance, Advances, NoAdvance, sight_of}
+use Rattle.regions.specs.Thread.{Thread, Shared, BuffersInUse, Quiet, PrintedNumber, Trapped, Advance, Advances, NoAdvance, sight_of}
 use Rattle.regions.specs.ThreadStep.{after_effect, with_tasks}
 use Rattle.regions.specs.Variable.{Variables, Statics}
 use Rattle.replay.specs.declared.outcome.Outcome.{Outcome}
@@ -39,7 +39,7 @@ length_outcome line to (Some n) = outcome.Puts to (pos n)
 abbrev pub worked : ℕ → ReductionInMemory → Outcome
 worked line reduction.Reduced = outcome.Stays
 worked line (reduction.Trapped trap) = outcome.Trapped trap line
-worked line reduction.Stuck = outcome.Nothing
+worked line reduction.Stuck = outcome.Impossible
 
 -- the effect of a step that left this task
 abbrev pub effect_by : Outcome → TaskInMemory → Effect
@@ -54,7 +54,7 @@ effect_by (outcome.Enters statements e) new = Becomes (tasks_of_statements state
 effect_by outcome.Over new = Becomes []
 effect_by outcome.Returned new = Returns
 effect_by (outcome.Trapped trap line) new = TrapsAt (trap_view trap) line
-effect_by outcome.Nothing new = NoEffect
+effect_by outcome.Impossible new = NoEffect
 
 -- with these variables and statics, what a step in memory did is the effect of the task, which is no call
 abbrev pub HasEffect : Variables → Statics → TaskInMemory → Outcome → TaskInMemory → Type 0
@@ -78,11 +78,11 @@ left_by k s t rest (outcome.Enters statements e) new = Advances s (with_tasks t 
 left_by k s t rest outcome.Over new = Advances s (with_tasks t rest) Quiet
 left_by k s t rest outcome.Returned new = return_step k s t
 left_by k s t rest (outcome.Trapped trap line) new = Advances s (with_tasks t (task_view new ∷ rest)) (Trapped (trap_view trap) line)
-left_by k s t rest outcome.Nothing new = NoAdvance
+left_by k s t rest outcome.Impossible new = NoAdvance
 left_by k s t rest took new = variable_step took s (with_tasks t rest)
 
 -- what a step in memory did is what the task's step does to each thread that it stands in
 abbrev pub Does : World → Variables → Statics → TaskInMemory → Outcome → TaskInMemory → Type 0
 Does w vs ss old took new =
-    (lent : Lent) (k : ℕ) (s : Shared) (t : Thread) (rest : List Task) → Sees w vs ss s t → t.tasks ≡ Some (task_view old ∷ rest)
+    (lent : BuffersInUse) (k : ℕ) (s : Shared) (t : Thread) (rest : List Task) → Sees w vs ss s t → t.tasks ≡ Some (task_view old ∷ rest)
     → after_effect w.classes lent k s t rest (effect_of (sight_of s t) (task_view old)) ≡ left_by k s t rest took new

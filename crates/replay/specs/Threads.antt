@@ -9,7 +9,7 @@ use Rattle.world.specs.World.{World, loaded_objects}
 use Rattle.regions.specs.Load.{call_loads}
 use Rattle.regions.specs.Start.{null_statics}
 use Rattle.regions.specs.Task.{Task}
-use Rattle.regions.specs.Thread.{Frame, Ending, Unfinished, Ended, Thread, Shared, Lent, Event, Quiet, PrintedNumber, Trapped, Advance, Advances, NoAdvance}
+use Rattle.regions.specs.Thread.{Frame, Ending, Unfinished, Ended, Thread, Shared, BuffersInUse, Event, Quiet, PrintedNumber, Trapped, Advance, Advances, NoAdvance}
 use Rattle.regions.specs.ThreadStep.{thread_step}
 use Rattle.regions.specs.Value.{Int}
 use Rattle.regions.specs.Variable.{Variable, Scalar, LocalRef, Variables}
@@ -54,7 +54,7 @@ argument_content (Refers r) = LocalRef 1 r
 abbrev pub step_of : Outcome → Step
 step_of (outcome.Printed z) = step.Printed z
 step_of (outcome.Trapped trap line) = step.Trapped trap line
-step_of outcome.Nothing = step.Nothing
+step_of outcome.Impossible = step.Impossible
 step_of took = step.Quiet
 
 -- a thread in memory stands for one of the language; frames aren't stored, as no function that can be called reads them
@@ -78,7 +78,7 @@ abbrev pub StepIs : SourceUnit → Classes → Shared → ThreadInMemory → Ste
 StepIs unit classes shared t step.Quiet advance = Leaves unit classes shared t Quiet advance
 StepIs unit classes shared t (step.Printed z) advance = Leaves unit classes shared t (PrintedNumber z) advance
 StepIs unit classes shared t (step.Trapped trap line) advance = Leaves unit classes shared t (Trapped (trap_view trap) line) advance
-StepIs unit classes shared t step.Nothing advance = advance ≡ NoAdvance
+StepIs unit classes shared t step.Impossible advance = advance ≡ NoAdvance
 
 -- the objects are those made at load, each static is NULL, and nobody owns a monitor
 pub record IsAsLoaded (unit : SourceUnit) (w : World) (shared : Shared) : Type 0 where
@@ -89,5 +89,5 @@ pub record IsAsLoaded (unit : SourceUnit) (w : World) (shared : Shared) : Type 0
 -- the same for each thread that it stands for
 abbrev pub TakesStep : SourceUnit → World → ThreadInMemory → Step → ThreadInMemory → Type 0
 TakesStep unit w old took new =
-    (s : Thread) (shared : Shared) (lent : Lent) (k : ℕ) → ThreadStands unit w.classes old s → s.ending ≡ Unfinished → IsAsLoaded unit w shared
+    (s : Thread) (shared : Shared) (lent : BuffersInUse) (k : ℕ) → ThreadStands unit w.classes old s → s.ending ≡ Unfinished → IsAsLoaded unit w shared
     → StepIs unit w.classes shared new took (thread_step unit w.classes lent k shared s false)

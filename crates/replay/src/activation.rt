@@ -17,14 +17,14 @@ use std::alloc::{AllocError, Global};
 use syntax::{Item, Stmt};
 use world::World;
 
-/// What is still to do around a block: what stands at the block's end, and the statements behind it.
+/// What is still to do around a block: what stands at the block's end, and the statements after it.
 #[derive(Clone, Copy, Debug)]
 pub(crate) struct Outer<'a> {
     pub end: End<'a>,
     pub rest: &'a [Stmt],
 }
 
-/// A call in progress: the task that is begun, the statements behind it in its block, what is to do around the block,
+/// A call in progress: the task that is begun, the statements after it in its block, what is to do around the block,
 /// the outermost first, and the variables, in the order in which they came to be.
 #[derive(Debug, Drop)]
 pub(crate) struct Activation<'a> {
@@ -61,7 +61,7 @@ fn begin<'a>(alloc: Global, activation: &mut Activation<'a>) -> Result<(), Alloc
     Ok(())
 }
 
-/// Goes on behind a block whose statements are all done: behind an `if`, or with its loop's test.
+/// Goes on after a block whose statements are all done: after an `if`, or with its loop's test.
 fn leave_block<'a>(
     alloc: Global,
     activation: &mut Activation<'a>,
@@ -73,7 +73,7 @@ fn leave_block<'a>(
     ensures range { IfOk result (λ _. IsInRange activation.new) }
 {
     let Some(outer) = activation.outer.pop() else {
-        return Ok(Outcome::Nothing);
+        return Ok(Outcome::Impossible);
     };
     activation.rest = outer.rest;
     match outer.end {
@@ -94,7 +94,7 @@ fn set_tasks<'a>(activation: &mut Activation<'a>, outcome: Outcome<'a>) -> Resul
     ensures { IfOk result (λ _. AreSet activation.old outcome.entry activation.new) }
 {
     match outcome {
-        Outcome::Stays | Outcome::Returned | Outcome::Trapped(_, _) | Outcome::Nothing => {}
+        Outcome::Stays | Outcome::Returned | Outcome::Trapped(_, _) | Outcome::Impossible => {}
         Outcome::Enters(statements, end) => {
             let rest = activation.rest;
             activation.outer.push(Outer { end, rest })?;
@@ -130,7 +130,7 @@ pub(crate) fn advance<'a>(
     let outcome = step(items, world, &activation.variables, task)?;
     let done = set_variables(alloc, items, &mut activation.variables, outcome)?;
     if !done {
-        return Ok(Outcome::Nothing);
+        return Ok(Outcome::Impossible);
     }
     set_tasks(activation, outcome)?;
     Ok(outcome)

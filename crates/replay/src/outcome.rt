@@ -28,7 +28,7 @@ pub(crate) enum Target<'a> {
     Dropped,
 }
 
-/// What stands at the end of a block, behind its statements.
+/// What stands at the end of a block, after its statements.
 #[derive(Clone, Copy, Debug)]
 pub(crate) enum End<'a> {
     /// The end of an `if`.
@@ -63,7 +63,7 @@ pub(crate) enum Outcome<'a> {
     /// The machine stops, by a statement of this line.
     Trapped(Trap, usize),
     /// It can take no step.
-    Nothing,
+    Impossible,
 }
 
 /// What a declaration of this type makes.

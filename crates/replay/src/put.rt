@@ -136,7 +136,7 @@ pub(crate) fn set_variables<'a>(
             return Ok(set_element(variables, name, index, number));
         }
         Outcome::Stays | Outcome::Printed(_) | Outcome::Enters(_, _) | Outcome::Over => {}
-        Outcome::Returned | Outcome::Trapped(_, _) | Outcome::Nothing => {}
+        Outcome::Returned | Outcome::Trapped(_, _) | Outcome::Impossible => {}
     }
     Ok(true)
 }

@@ -34,7 +34,7 @@ fn take(term: &mut Term) -> Term
     mem::replace(term, Term::Done(Value::Truth(false)))
 }
 
-/// What `&&` is behind its left side; none where its right side decides.
+/// What `&&` is after its left side; none where its right side decides.
 fn and_then(left: Value) -> Option<Evaluated>
     ensures { (right : TermOfTree) → decided result right ≡ and_then right (value_view left) }
 {
@@ -45,7 +45,7 @@ fn and_then(left: Value) -> Option<Evaluated>
     }
 }
 
-/// What `||` is behind its left side; none where its right side decides.
+/// What `||` is after its left side; none where its right side decides.
 fn or_else(left: Value) -> Option<Evaluated>
     ensures { (right : TermOfTree) → decided result right ≡ or_else right (value_view left) }
 {

@@ -10,7 +10,7 @@ use crate::thread::{Step, Thread, take_step};
 use crate::trap::{Trap, trap_number};
 use std::alloc::{AllocError, Global};
 use syntax::Item;
-use world::{Entry, Printed, Standing, World};
+use world::{Entry, Printed, ThreadStatus, World};
 
 /// The trap that stopped the machine.
 #[derive(Clone, Copy, Debug, PartialEq, Eq)]
@@ -51,7 +51,7 @@ fn note(state: &mut State<'_>, k: u8, step: Step) -> Result<bool, AllocError>
             });
             Ok(true)
         }
-        Step::Nothing => Ok(false),
+        Step::Impossible => Ok(false),
     }
 }
 
@@ -92,23 +92,26 @@ pub(crate) fn take_entry<'a>(
 }
 
 /// How thread `k` stands.
-fn standing_of(stop: Option<Stop>, k: usize, thread: &Thread<'_>) -> Standing
+fn standing_of(stop: Option<Stop>, k: usize, thread: &Thread<'_>) -> ThreadStatus
     ensures { result ≡ standing_of stop (k, thread.now) }
 {
     if let Some(stop) = stop {
         if usize::from(stop.thread) == k {
-            return Standing::Trapped(trap_number(stop.trap), stop.line);
+            return ThreadStatus::Trapped(trap_number(stop.trap), stop.line);
         }
     }
     if thread.ended {
-        Standing::Ended
+        ThreadStatus::Ended
     } else {
-        Standing::Running
+        ThreadStatus::Running
     }
 }
 
 /// How the threads stand.
-pub(crate) fn standings_of(alloc: Global, state: &State<'_>) -> Result<Vec<Standing>, AllocError>
+pub(crate) fn standings_of(
+    alloc: Global,
+    state: &State<'_>,
+) -> Result<Vec<ThreadStatus>, AllocError>
     ensures { IfOk result (λ standings. standings.items ≡ standings_of state.now) }
 {
     let stop = state.stop;

@@ -32,7 +32,7 @@ fn worked<'a>(line: usize, reduction: Reduction) -> Outcome<'a>
     match reduction {
         Reduction::Reduced => Outcome::Stays,
         Reduction::Trapped(trap) => Outcome::Trapped(trap, line),
-        Reduction::Stuck => Outcome::Nothing,
+        Reduction::Stuck => Outcome::Impossible,
     }
 }
 
@@ -46,7 +46,7 @@ fn print<'a>(items: &[Item], variables: &[Variable<'_>], line: usize, t: &mut Te
     match t {
         Term::Done(v) => match v {
             Value::Int(z) => Outcome::Printed(*z),
-            Value::Word(_) | Value::Flag(_) | Value::Truth(_) => Outcome::Nothing,
+            Value::Word(_) | Value::Flag(_) | Value::Truth(_) => Outcome::Impossible,
         },
         t => worked(line, reduce(items, variables, t)),
     }
@@ -86,9 +86,9 @@ fn write<'a>(
         Value::Int(z) => match place_in(variables, name, index) {
             Indexed::At(i) => Outcome::SetsElement(name, i, z),
             Indexed::Traps(trap) => Outcome::Trapped(trap, line),
-            Indexed::Stuck => Outcome::Nothing,
+            Indexed::Stuck => Outcome::Impossible,
         },
-        Value::Word(_) | Value::Flag(_) | Value::Truth(_) => Outcome::Nothing,
+        Value::Word(_) | Value::Flag(_) | Value::Truth(_) => Outcome::Impossible,
     }
 }
 
@@ -149,13 +149,13 @@ fn branch<'a>(
         Term::Done(v) => match v {
             Value::Truth(true) => Outcome::Enters(statements_of(Some(block)), End::If),
             Value::Truth(false) => Outcome::Enters(statements_of(otherwise), End::If),
-            Value::Word(_) | Value::Int(_) | Value::Flag(_) => Outcome::Nothing,
+            Value::Word(_) | Value::Int(_) | Value::Flag(_) => Outcome::Impossible,
         },
         t => worked(line, reduce(items, variables, t)),
     }
 }
 
-/// Works the test of a loop out, or takes a turn, or goes on behind it.
+/// Works the test of a loop out, or takes a turn, or goes on after it.
 fn turn<'a>(
     items: &[Item],
     variables: &[Variable<'_>],
@@ -177,7 +177,7 @@ fn turn<'a>(
                 Outcome::Enters(statements_of(Some(body)), End::Turn(line, test, body))
             }
             Value::Truth(false) => Outcome::Over,
-            Value::Word(_) | Value::Int(_) | Value::Flag(_) => Outcome::Nothing,
+            Value::Word(_) | Value::Int(_) | Value::Flag(_) => Outcome::Impossible,
         },
         t => worked(line, reduce(items, variables, t)),
     }

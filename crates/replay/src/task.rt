@@ -34,7 +34,7 @@ pub(crate) enum Task<'a> {
     Print(usize, Term),
     /// A value for a variable.
     Set(usize, &'a Name, Term),
-    /// A number for an element, behind its index.
+    /// A number for an element, after its index.
     SetElement(usize, &'a Name, Term, Term),
     SetNull(Target<'a>),
     MakeArray(ElementType, &'a Name, u32),

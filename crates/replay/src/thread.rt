@@ -38,7 +38,7 @@ pub(crate) enum Step {
     /// The machine stops, by a statement of this line.
     Trapped(Trap, usize),
     /// It is not possible.
-    Nothing,
+    Impossible,
 }
 
 /// The function of this name; it compares the name with each.
@@ -141,13 +141,13 @@ fn enter<'a>(
     ensures range { IfOk result (λ _. WorkInRange thread.new.activation) }
 {
     let Some((call, rest)) = thread.calls.split_first() else {
-        return Ok(Step::Nothing);
+        return Ok(Step::Impossible);
     };
     let Some(function) = function_at(items, call.function()) else {
-        return Ok(Step::Nothing);
+        return Ok(Step::Impossible);
     };
     let Some(class) = class_of(alloc, world, function)? else {
-        return Ok(Step::Nothing);
+        return Ok(Step::Impossible);
     };
     let variables = entry_variables(alloc, function, class, call.arguments())?;
     thread.calls = rest;
@@ -171,7 +171,7 @@ fn step_of(outcome: Outcome<'_>) -> Step
         Outcome::Over | Outcome::Returned => Step::Quiet,
         Outcome::Printed(z) => Step::Printed(z),
         Outcome::Trapped(trap, line) => Step::Trapped(trap, line),
-        Outcome::Nothing => Step::Nothing,
+        Outcome::Impossible => Step::Impossible,
     }
 }
 

@@ -140,8 +140,8 @@ returned_between_frames-breaks = (_, (0, omega arith, refl), inl (inl (inr (inl 
 -- (*env)->DeleteLocalRef(env, x);
 -- jobject y = (*env)->NewLocalRef(env, x);
 -- return; }
-abbrev pub used_behind_delete : SourceUnit
-used_behind_delete =
+abbrev pub used_after_delete : SourceUnit
+used_after_delete =
     unit_of
     (native 1 Void (codes "Java_A_f") []
     (Declare 2 (ReferenceVariable JObject) (codes "x")
@@ -153,17 +153,17 @@ used_behind_delete =
     ∷ []) 5
     ∷ [])
 
-used_behind_delete-sorted : IsSorted used_behind_delete
+used_after_delete-sorted : IsSorted used_after_delete
 unfolding function_named unmangle
-used_behind_delete-sorted = refl
+used_after_delete-sorted = refl
 
-used_behind_delete-first : first_faults used_behind_delete ≡ (4, DeadReference) ∷ []
+used_after_delete-first : first_faults used_after_delete ≡ (4, DeadReference) ∷ []
 unfolding function_named unmangle
-used_behind_delete-first = refl
+used_after_delete-first = refl
 
-used_behind_delete-breaks : BreaksRegionRule DeadReference 4 used_behind_delete
+used_after_delete-breaks : BreaksRegionRule DeadReference 4 used_after_delete
 unfolding function_named unmangle
-used_behind_delete-breaks = (_, (0, omega arith, refl), inl (inr (inl (_, (refl, refl), inr (inl (_, (refl, refl), inl (refl, refl)))))))
+used_after_delete-breaks = (_, (0, omega arith, refl), inl (inr (inl (_, (refl, refl), inr (inl (_, (refl, refl), inl (refl, refl)))))))
 
 -- JNIEXPORT void JNICALL Java_A_f(JNIEnv *env, jclass cls) {
 -- jobject x = (*env)->NewLocalRef(env, cls);

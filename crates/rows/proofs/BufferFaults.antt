@@ -240,8 +240,8 @@ committed_critical-first = refl
 -- if (p != NULL) { (*env)->ReleaseIntArrayElements(env, a, p, 0);
 -- p[0] = 1; }
 -- return; }
-abbrev pub used_behind_release : SourceUnit
-used_behind_release =
+abbrev pub used_after_release : SourceUnit
+used_after_release =
     unit_of
     (native 1 Void (codes "Java_A_f") (reference_parameter JIntArray (codes "a") ∷ [])
     (DeclareBuffer 2 JInt (codes "p")
@@ -261,13 +261,13 @@ used_behind_release =
     ∷ []) 5
     ∷ [])
 
-used_behind_release-sorted : IsSorted used_behind_release
+used_after_release-sorted : IsSorted used_after_release
 unfolding function_named unmangle
-used_behind_release-sorted = refl
+used_after_release-sorted = refl
 
-used_behind_release-first : first_faults used_behind_release ≡ (4, WrongBuffer) ∷ []
+used_after_release-first : first_faults used_after_release ≡ (4, WrongBuffer) ∷ []
 unfolding function_named unmangle
-used_behind_release-first = refl
+used_after_release-first = refl
 
 -- JNIEXPORT void JNICALL Java_A_f(JNIEnv *env, jclass cls, jintArray a) {
 -- jint *q = (*env)->GetPrimitiveArrayCritical(env, a, NULL);

@@ -27,7 +27,7 @@ use Rattle.regions.specs.Step.{world_step}
 abbrev pub unit_of : List Item → SourceUnit
 unit_of items = record { items = items }
 
--- these statements, and the line of the brace behind them
+-- these statements, and the line of the brace after them
 abbrev pub block : List Stmt → (end_line : ℕ) → Block
 block [] end_line = End end_line
 block (s ∷ rest) end_line = Next s (block rest end_line)

@@ -80,8 +80,8 @@ deleted_twice-first = refl
 -- jint n = (*env)->GetArrayLength(env, y);
 -- }
 -- return; }
-abbrev pub used_behind_its_frame : SourceUnit
-used_behind_its_frame =
+abbrev pub used_after_its_frame : SourceUnit
+used_after_its_frame =
     unit_of
     (native 1 Void (codes "Java_A_f") []
     (If 2 (TestCall (call (codes "PushLocalFrame") (Value (Number 4 false) ∷ [])))
@@ -97,13 +97,13 @@ used_behind_its_frame =
     ∷ []) 7
     ∷ [])
 
-used_behind_its_frame-sorted : IsSorted used_behind_its_frame
+used_after_its_frame-sorted : IsSorted used_after_its_frame
 unfolding function_named unmangle
-used_behind_its_frame-sorted = refl
+used_after_its_frame-sorted = refl
 
-used_behind_its_frame-first : first_faults used_behind_its_frame ≡ (5, DeadReference) ∷ []
+used_after_its_frame-first : first_faults used_after_its_frame ≡ (5, DeadReference) ∷ []
 unfolding function_named unmangle
-used_behind_its_frame-first = refl
+used_after_its_frame-first = refl
 
 -- JNIEXPORT void JNICALL Java_A_f(JNIEnv *env, jclass cls) {
 -- jobject x = (*env)->NewLocalRef(env, cls);
@@ -211,8 +211,8 @@ outer_set_in_frame-first = refl
 -- JNIEXPORT void JNICALL Java_A_f(JNIEnv *env, jclass cls) {
 -- if (1u == 1u) { return; } else { return; }
 -- put_jint(1); }
-abbrev pub behind_two_returns : SourceUnit
-behind_two_returns =
+abbrev pub after_two_returns : SourceUnit
+after_two_returns =
     unit_of
     (native 1 Void (codes "Java_A_f") []
     (IfElse 2 (TestExpr (Binary Equal (Number 1 true) (Number 1 true))) (block (Return 2 ∷ []) 2)
@@ -221,13 +221,13 @@ behind_two_returns =
     ∷ []) 3
     ∷ [])
 
-behind_two_returns-sorted : IsSorted behind_two_returns
+after_two_returns-sorted : IsSorted after_two_returns
 unfolding function_named unmangle
-behind_two_returns-sorted = refl
+after_two_returns-sorted = refl
 
-behind_two_returns-first : first_faults behind_two_returns ≡ (3, NoReturn) ∷ []
+after_two_returns-first : first_faults after_two_returns ≡ (3, NoReturn) ∷ []
 unfolding function_named unmangle
-behind_two_returns-first = refl
+after_two_returns-first = refl
 
 -- JNIEXPORT void JNICALL Java_A_f(JNIEnv *env, jclass cls) {
 -- while (1u == 1u) { return; }

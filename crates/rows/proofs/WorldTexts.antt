@@ -10,14 +10,14 @@ use Rattle.classes.specs.Mangling.{unmangle}
 use Rattle.classes.specs.Additions.{NameTaken, BadSuperclass, BadSignature}
 use Rattle.world.specs.WorldLines.{ClassLine, FieldLine, ObjectLine, ArrayLine, StringLine, ThreadLine, CallLine, NumberValue, NullValue, NamedObject, NamedClass, Lines}
 use Rattle.world.specs.WorldMeaning.{world_of, cells_of}
-use Rattle.world.specs.WorldRules.{IsWorldText, broken_behind, OfClass, LineForm, WrongName, OutOfLimit, HeapFull}
+use Rattle.world.specs.WorldRules.{IsWorldText, broken_after, OfClass, LineForm, WrongName, OutOfLimit, HeapFull}
 use Rattle.regions.specs.Load.{Loads}
 use Rattle.rows.proofs.CallArguments.{not_begun}
 
 abbrev small_lines : Lines
 small_lines = (2, ClassLine (codes "A") None) ∷ (4, ArrayLine (codes "a") JInt (NumberValue (pos 7) ∷ NumberValue (negsuc 7) ∷ [])) ∷ (5, StringLine (codes "s") []) ∷ (6, StringLine (codes "t") []) ∷ (7, ThreadLine (codes "Java_A_f") (NamedObject (codes "a") ∷ [])) ∷ []
 
--- an empty string with and without a space behind its name
+-- an empty string with and without a space after its name
 small_world-text : IsWorldText (codes "heap 512\nclass A\n\narray @a I 7 -8\nstring @s \nstring @t\nthread Java_A_f @a") (world_of 512 small_lines)
 unfolding digits built_ins
 small_world-text = record {
@@ -75,68 +75,68 @@ used-cells : cells_of ((2, ClassLine (codes "A") None) ∷ []) ≡ 136
 unfolding built_ins
 used-cells = refl
 
-name_taken : broken_behind 512 [] ((2, ClassLine (codes "A") None) ∷ (3, ClassLine (codes "A") None) ∷ []) ≡ (3, OfClass NameTaken) ∷ []
+name_taken : broken_after 512 [] ((2, ClassLine (codes "A") None) ∷ (3, ClassLine (codes "A") None) ∷ []) ≡ (3, OfClass NameTaken) ∷ []
 unfolding digits built_ins
 name_taken = refl
 
-no_superclass : broken_behind 512 [] ((2, ClassLine (codes "A") (Some (codes "B"))) ∷ []) ≡ (2, OfClass BadSuperclass) ∷ []
+no_superclass : broken_after 512 [] ((2, ClassLine (codes "A") (Some (codes "B"))) ∷ []) ≡ (2, OfClass BadSuperclass) ∷ []
 unfolding digits built_ins
 no_superclass = refl
 
-bad_signature : broken_behind 512 [] ((2, ClassLine (codes "A") None) ∷ (3, FieldLine (codes "A") (codes "n") (codes "Q")) ∷ []) ≡ (3, OfClass BadSignature) ∷ []
+bad_signature : broken_after 512 [] ((2, ClassLine (codes "A") None) ∷ (3, FieldLine (codes "A") (codes "n") (codes "Q")) ∷ []) ≡ (3, OfClass BadSignature) ∷ []
 unfolding digits built_ins
 bad_signature = refl
 
-values_of_an_object : broken_behind 512 [] ((2, ClassLine (codes "A") None) ∷ (3, FieldLine (codes "A") (codes "n") (codes "I")) ∷ (4, ObjectLine (codes "o") (codes "A") (NumberValue (pos 3) ∷ [])) ∷ []) ≡ []
+values_of_an_object : broken_after 512 [] ((2, ClassLine (codes "A") None) ∷ (3, FieldLine (codes "A") (codes "n") (codes "I")) ∷ (4, ObjectLine (codes "o") (codes "A") (NumberValue (pos 3) ∷ [])) ∷ []) ≡ []
 unfolding digits built_ins
 values_of_an_object = refl
 
-too_few_values : broken_behind 512 [] ((2, ClassLine (codes "A") None) ∷ (3, FieldLine (codes "A") (codes "n") (codes "I")) ∷ (4, ObjectLine (codes "o") (codes "A") []) ∷ []) ≡ (4, LineForm) ∷ []
+too_few_values : broken_after 512 [] ((2, ClassLine (codes "A") None) ∷ (3, FieldLine (codes "A") (codes "n") (codes "I")) ∷ (4, ObjectLine (codes "o") (codes "A") []) ∷ []) ≡ (4, LineForm) ∷ []
 unfolding digits built_ins
 too_few_values = refl
 
-byte_out_of_range : broken_behind 512 [] ((2, ClassLine (codes "A") None) ∷ (3, FieldLine (codes "A") (codes "n") (codes "B")) ∷ (4, ObjectLine (codes "o") (codes "A") (NumberValue (pos 128) ∷ [])) ∷ []) ≡ (4, OutOfLimit) ∷ []
+byte_out_of_range : broken_after 512 [] ((2, ClassLine (codes "A") None) ∷ (3, FieldLine (codes "A") (codes "n") (codes "B")) ∷ (4, ObjectLine (codes "o") (codes "A") (NumberValue (pos 128) ∷ [])) ∷ []) ≡ (4, OutOfLimit) ∷ []
 unfolding digits built_ins
 byte_out_of_range = refl
 
-null_field : broken_behind 512 [] ((2, ClassLine (codes "A") None) ∷ (3, FieldLine (codes "A") (codes "n") (codes "LA;")) ∷ (4, ObjectLine (codes "o") (codes "A") (NullValue ∷ [])) ∷ (5, ObjectLine (codes "p") (codes "A") (NamedObject (codes "o") ∷ [])) ∷ (6, ObjectLine (codes "q") (codes "A") (NamedClass (codes "A") ∷ [])) ∷ []) ≡ (6, WrongName) ∷ []
+null_field : broken_after 512 [] ((2, ClassLine (codes "A") None) ∷ (3, FieldLine (codes "A") (codes "n") (codes "LA;")) ∷ (4, ObjectLine (codes "o") (codes "A") (NullValue ∷ [])) ∷ (5, ObjectLine (codes "p") (codes "A") (NamedObject (codes "o") ∷ [])) ∷ (6, ObjectLine (codes "q") (codes "A") (NamedClass (codes "A") ∷ [])) ∷ []) ≡ (6, WrongName) ∷ []
 unfolding digits built_ins
 null_field = refl
 
-line_out_of_order : broken_behind 512 [] ((2, ClassLine (codes "A") None) ∷ (3, ThreadLine (codes "f") []) ∷ (4, StringLine (codes "s") (codes "hi")) ∷ []) ≡ (4, LineForm) ∷ []
+line_out_of_order : broken_after 512 [] ((2, ClassLine (codes "A") None) ∷ (3, ThreadLine (codes "f") []) ∷ (4, StringLine (codes "s") (codes "hi")) ∷ []) ≡ (4, LineForm) ∷ []
 unfolding digits built_ins
 line_out_of_order = refl
 
-full : broken_behind 512 [] ((2, ClassLine (codes "A") None) ∷ (3, ArrayLine (codes "a") JInt (replicate 374 (NumberValue (pos 0)))) ∷ []) ≡ (3, HeapFull) ∷ []
+full : broken_after 512 [] ((2, ClassLine (codes "A") None) ∷ (3, ArrayLine (codes "a") JInt (replicate 374 (NumberValue (pos 0)))) ∷ []) ≡ (3, HeapFull) ∷ []
 unfolding digits built_ins
 full = refl
 
-fits : broken_behind 512 [] ((2, ClassLine (codes "A") None) ∷ (3, ArrayLine (codes "a") JInt (replicate 373 (NumberValue (pos 0)))) ∷ []) ≡ []
+fits : broken_after 512 [] ((2, ClassLine (codes "A") None) ∷ (3, ArrayLine (codes "a") JInt (replicate 373 (NumberValue (pos 0)))) ∷ []) ≡ []
 unfolding digits built_ins
 fits = refl
 
-null_in_an_array : broken_behind 512 [] ((2, ClassLine (codes "A") None) ∷ (3, ArrayLine (codes "a") JInt (NullValue ∷ [])) ∷ []) ≡ (3, WrongName) ∷ []
+null_in_an_array : broken_after 512 [] ((2, ClassLine (codes "A") None) ∷ (3, ArrayLine (codes "a") JInt (NullValue ∷ [])) ∷ []) ≡ (3, WrongName) ∷ []
 unfolding digits built_ins
 null_in_an_array = refl
 
-string_by_an_object_line : broken_behind 512 [] ((2, ClassLine (codes "A") None) ∷ (3, ObjectLine (codes "s") (codes "java/lang/String") (NumberValue (pos 1) ∷ [])) ∷ []) ≡ (3, WrongName) ∷ []
+string_by_an_object_line : broken_after 512 [] ((2, ClassLine (codes "A") None) ∷ (3, ObjectLine (codes "s") (codes "java/lang/String") (NumberValue (pos 1) ∷ [])) ∷ []) ≡ (3, WrongName) ∷ []
 unfolding digits built_ins
 string_by_an_object_line = refl
 
-argument_out_of_range : broken_behind 512 [] ((2, ClassLine (codes "A") None) ∷ (3, ThreadLine (codes "f") (NumberValue (pos 2147483648) ∷ [])) ∷ []) ≡ (3, OutOfLimit) ∷ []
+argument_out_of_range : broken_after 512 [] ((2, ClassLine (codes "A") None) ∷ (3, ThreadLine (codes "f") (NumberValue (pos 2147483648) ∷ [])) ∷ []) ≡ (3, OutOfLimit) ∷ []
 unfolding digits built_ins
 argument_out_of_range = refl
 
-call_before_a_thread : broken_behind 512 [] ((2, ClassLine (codes "A") None) ∷ (3, CallLine (codes "f") []) ∷ []) ≡ (3, LineForm) ∷ []
+call_before_a_thread : broken_after 512 [] ((2, ClassLine (codes "A") None) ∷ (3, CallLine (codes "f") []) ∷ []) ≡ (3, LineForm) ∷ []
 unfolding digits built_ins
 call_before_a_thread = refl
 
 -- a line out of its order breaks that rule alone
-out-of-order : broken_behind 512 [] ((2, ThreadLine (codes "f") []) ∷ (3, ClassLine (codes "java/lang/Error") None) ∷ []) ≡ (3, LineForm) ∷ []
+out-of-order : broken_after 512 [] ((2, ThreadLine (codes "f") []) ∷ (3, ClassLine (codes "java/lang/Error") None) ∷ []) ≡ (3, LineForm) ∷ []
 unfolding digits built_ins
 out-of-order = refl
 
 -- a badly formed name of an object, where it is used
-bad-name : broken_behind 512 [] ((2, ClassLine (codes "A") None) ∷ (3, ThreadLine (codes "f") (NamedObject (codes "9") ∷ [])) ∷ []) ≡ (3, LineForm) ∷ (3, WrongName) ∷ []
+bad-name : broken_after 512 [] ((2, ClassLine (codes "A") None) ∷ (3, ThreadLine (codes "f") (NamedObject (codes "9") ∷ [])) ∷ []) ≡ (3, LineForm) ∷ (3, WrongName) ∷ []
 unfolding digits built_ins
 bad-name = refl

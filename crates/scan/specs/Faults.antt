@@ -15,7 +15,7 @@ pub data IsFilledTo (text : List ℕ) : ℕ → Type 0 where
   with_gap : {at : ℕ} (n : ℕ) → IsFilledTo text at → IsGap (drop at text) n → IsFilledTo text (at + n)
   with_token : {at : ℕ} (kind : Kind) (n : ℕ) → IsFilledTo text at → IsToken kind (drop at text) n → IsFilledTo text (at + n)
 
--- a byte with which nothing begins, whatever stands behind it; a comment begins as a mark does
+-- a byte with which nothing begins, whatever stands after it; a comment begins as a mark does
 pub record BeginsNothing (byte : ℕ) : Type 0 where
   pub no_blank : is_blank byte ≡ false
   pub no_lexeme : (kind : Kind) (rest : List ℕ) → IsLexeme kind (byte ∷ rest) → ⊥
@@ -23,7 +23,7 @@ pub record BeginsNothing (byte : ℕ) : Type 0 where
 -- what is wrong with a text that begins so
 abbrev pub HasFault : List ℕ → Fault → Type 0
 HasFault text BadByte = (byte : ℕ) × (rest : List ℕ) × (text ≡ byte ∷ rest) × BeginsNothing byte
-HasFault text OpenComment = (rest : List ℕ) × (text ≡ 47 ∷ 42 ∷ rest) × ((inside behind : List ℕ) → rest ≢ inside ++ 42 ∷ 47 ∷ behind)
+HasFault text OpenComment = (rest : List ℕ) × (text ≡ 47 ∷ 42 ∷ rest) × ((inside rest_of : List ℕ) → rest ≢ inside ++ 42 ∷ 47 ∷ rest_of)
 HasFault text BadNumber = (digit : ℕ) × (rest : List ℕ) × (text ≡ digit ∷ rest) × IsTrue (is_within 48 57 digit) × ((value : ℕ) (unsigned : Bool) (n : ℕ) → IsToken (Number value unsigned) text n → ⊥)
 HasFault text BadText = (rest : List ℕ) × (text ≡ 34 ∷ rest) × ((n : ℕ) → IsToken Text text n → ⊥)
 

@@ -91,9 +91,9 @@ IsLexeme (Number value unsigned) word = IsNumber word value unsigned
 IsLexeme Text word = IsQuoted word
 IsLexeme (Symbol mark) word = word ≡ mark_bytes mark
 
--- ---- what may stand behind a token
+-- ---- what may stand after a token
 
--- No letter, digit or underscore stands behind a number, nor a sign behind one that ends in e.
+-- No letter, digit or underscore stands after a number, nor a sign after one that ends in e.
 abbrev pub IsApart : Kind → List ℕ → List ℕ → Type 0
 IsApart Name word rest = Unit {0}
 IsApart (Number value unsigned) word rest =

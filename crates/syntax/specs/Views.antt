@@ -156,7 +156,7 @@ abbrev mutual
 abbrev pub stmt_tree : StmtInMemory → Stmt
 stmt_tree s = form_tree s.line s.form
 
--- statements, and the line of the brace behind them; `block_is` says that a block's tree is that of its statements
+-- statements, and the line of the brace after them; `block_is` says that a block's tree is that of its statements
 abbrev pub statements_tree : List StmtInMemory → ℕ → Block
 statements_tree [] end_line = End end_line
 statements_tree (s ∷ rest) end_line = Next (stmt_tree s) (statements_tree rest end_line)

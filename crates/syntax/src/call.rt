@@ -7,7 +7,7 @@ use crate::name::Name;
 #[derive(Debug, Drop)]
 pub struct Call {
     pub function: Name,
-    /// The arguments behind `env`.
+    /// The arguments after `env`.
     pub arguments: Vec<Argument>,
 }
 

@@ -34,7 +34,7 @@ pub struct Function {
     pub name: Name,
     /// The name of its parameter for the class.
     pub class_name: Name,
-    /// The parameters behind that for the class.
+    /// The parameters after that for the class.
     pub parameters: Vec<Parameter>,
     pub body: Block,
 }

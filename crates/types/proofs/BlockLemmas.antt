@@ -17,7 +17,7 @@ use Rattle.types.proofs.PlaceLemmas.{found-statement}
 stmt_next : (items : List StmtInMemory) (i : ℕ) (s : StmtInMemory) → i < length items → s ≡ get_or items i s → drop i items ≡ s ∷ drop (i + 1) items
 stmt_next items i s h e = rw add-one (drop-cons items i s h ∙ ap (λ x. x ∷ drop (suc i) items) (sym e))
 
--- what is refused at a statement and behind it
+-- what is refused at a statement and after it
 pub found-rest : (returns : ResultType) (known : Scope) (taken : List Identifier) (items : List StmtInMemory) (i : ℕ) (s : StmtInMemory) (end_line : ℕ) → i < length items → s ≡ get_or items i s
     → found (places_of returns known taken (statements_tree (drop i items) end_line))
     ≡ (refused_at (statement_place returns known taken (stmt_tree s)) ++ found (places_inside returns known taken (stmt_tree s)))
@@ -25,7 +25,7 @@ pub found-rest : (returns : ResultType) (known : Scope) (taken : List Identifier
 found-rest returns known taken items i s end_line h e =
     ap (λ rest. found (places_of returns known taken (statements_tree rest end_line))) (stmt_next items i s h e) ∙ found-statement returns known taken (stmt_tree s) _
 
--- the names that it declares, and those declared behind it
+-- the names that it declares, and those declared after it
 pub declared-rest : (taken : List Identifier) (items : List StmtInMemory) (i : ℕ) (s : StmtInMemory) (end_line : ℕ) → i < length items → s ≡ get_or items i s
     → taken ++ names_declared (statements_of (statements_tree (drop i items) end_line))
     ≡ (taken ++ names_declared (statements_within (stmt_tree s))) ++ names_declared (statements_of (statements_tree (drop (i + 1) items) end_line))

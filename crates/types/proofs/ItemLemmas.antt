@@ -1,4 +1,4 @@
--- What is refused at an item, and at the items behind it.
+-- What is refused at an item, and at the items after it.
 use Rattle.std.proofs.Common.{◌≡◌, ℕ, suc, ◌+◌, ◌<◌, not, ◌||◌, List, [], ◌∷◌, ◌++◌, Option, Some, None, map, drop, length, get_or, refl, sym, ap, ap₂, ◌∙◌, add-one, append-nil, drop-cons}
 use Rattle.std.specs.Option.{is_some, is_none}
 use Rattle.base.specs.Bytes.{Identifier}
@@ -83,7 +83,7 @@ one_item taken statics (FunctionItem f) rest = found-append (own_places taken st
 item_next : (items : List ItemInMemory) (i : ℕ) (item : ItemInMemory) → i < length items → item ≡ get_or items i item → drop i items ≡ item ∷ drop (i + 1) items
 item_next items i item h e = rw add-one (drop-cons items i item h ∙ ap (λ x. x ∷ drop (suc i) items) (sym e))
 
--- what is refused at an item and behind it
+-- what is refused at an item and after it
 pub found-item : (taken : List Identifier) (statics : Scope) (items : List ItemInMemory) (i : ℕ) (item : ItemInMemory) → i < length items → item ≡ get_or items i item
     → found (item_places taken statics (map item_tree (drop i items)))
     ≡ found (own_places taken statics (item_tree item)) ++ found (item_places (item_name (item_tree item) ∷ taken) (with_static statics (item_tree item)) (map item_tree (drop (i + 1) items)))

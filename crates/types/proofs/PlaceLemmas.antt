@@ -40,7 +40,7 @@ pub found-is : (ps : List Place) → found ps ≡ flat_map refused_at ps
 unfolding found
 found-is ps = refl
 
--- behind its end a list has nothing
+-- after its end a list has nothing
 pub past : {A : Type 0} (i : ℕ) (xs : List A) → length xs ≤ i → drop i xs ≡ []
 past zero [] h = refl
 past zero (x ∷ xs) h = absurd (omega arith)

@@ -50,7 +50,7 @@ or_left : (a b : Bool) → (a || b) ≡ false → a ≡ false
 or_left true b e = absurd cc
 or_left false b e = refl
 
--- the rules behind the one on functions
+-- the rules after the one on functions
 abbrev later : List SortRule
 later = ArgumentCount ∷ ReferenceCopied ∷ BadMode ∷ ReadOnlyWrite ∷ []
 
@@ -58,10 +58,10 @@ later = ArgumentCount ∷ ReferenceCopied ∷ BadMode ∷ ReadOnlyWrite ∷ []
 none_unbuilt : (place : Place) → refused_at place ≡ [] → has_unbuilt_call place.form ≡ false
 none_unbuilt place none =
     let p : SortRule → Bool = λ rule. refuses rule place in
-    let behind_names = or_right (p UnknownName) (list_any p (DeclaredTwice ∷ SortMisfit ∷ UnknownFunction ∷ later)) (none_passes p place.line sort_rules none) in
-    let behind_twice = or_right (p DeclaredTwice) (list_any p (SortMisfit ∷ UnknownFunction ∷ later)) behind_names in
-    let behind_sorts = or_right (p SortMisfit) (list_any p (UnknownFunction ∷ later)) behind_twice in
-    or_right (breaks UnknownFunction place place.form) (has_unbuilt_call place.form) (or_left (p UnknownFunction) (list_any p later) behind_sorts)
+    let after_names = or_right (p UnknownName) (list_any p (DeclaredTwice ∷ SortMisfit ∷ UnknownFunction ∷ later)) (none_passes p place.line sort_rules none) in
+    let after_twice = or_right (p DeclaredTwice) (list_any p (SortMisfit ∷ UnknownFunction ∷ later)) after_names in
+    let after_sorts = or_right (p SortMisfit) (list_any p (UnknownFunction ∷ later)) after_twice in
+    or_right (breaks UnknownFunction place place.form) (has_unbuilt_call place.form) (or_left (p UnknownFunction) (list_any p later) after_sorts)
 
 -- ---- all places
 

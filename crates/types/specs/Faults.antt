@@ -103,12 +103,12 @@ abbrev pub own_places : List Identifier → Scope → Item → List Place
 own_places taken statics (StaticItem s) = record { line = s.line; known = statics; taken = taken; returns = Void; form = StaticForm s } ∷ []
 own_places taken statics (FunctionItem f) = function_places taken statics f
 
--- the statics behind an item
+-- the statics after an item
 abbrev pub with_static : Scope → Item → Scope
 with_static statics (StaticItem s) = (s.name, Global) ∷ statics
 with_static statics (FunctionItem f) = statics
 
--- what is refused at a function's head behind items of these names, where its parameters and the statics have those
+-- what is refused at a function's head after items of these names, where its parameters and the statics have those
 abbrev pub head_faults : List Identifier → List Identifier → FunctionInMemory → Faults
 head_faults taken entry f = broken_if (not (is_some (unmangle f.name))) UnknownName f.line ++ broken_if (has_name taken f.name || has_repeated entry) DeclaredTwice f.line
 
@@ -119,6 +119,6 @@ pub record IsAbove (all below : List Known) : Type 0 where
   pub above : List Known
   pub joined : all ≡ above ++ below
 
--- what is known at a function's beginning, behind these statics
+-- what is known at a function's beginning, after these statics
 abbrev pub entry_scope : Scope → FunctionInMemory → Scope
 entry_scope statics f = (f.class_name, Ref) ∷ map (λ p. (p.name, parameter_sort (parameter_type_tree p.kind))) f.parameters.items ++ statics

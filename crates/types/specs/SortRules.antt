@@ -77,7 +77,7 @@ function_places taken statics f =
     record { line = f.line; known = statics; taken = taken; returns = f.result; form = HeadForm f }
     ∷ places_of f.result ((f.class_name, Ref) ∷ map (λ p. (p.name, parameter_sort p.type)) f.parameters ++ statics) (parameter_names f ++ map (λ s. s.0) statics) f.body
 
--- the places of items, behind the names of the file so far and its statics so far
+-- the places of items, after the names of the file so far and its statics so far
 abbrev pub item_places : List Identifier → Scope → List Item → List Place
 item_places taken statics [] = []
 item_places taken statics (StaticItem s ∷ items) =

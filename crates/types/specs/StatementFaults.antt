@@ -24,8 +24,8 @@ abbrev pub call_miscounts : Option Call → Bool
 call_miscounts c = some_passes (λ c. has_wrong_count c (function_named c.function)) c
 
 -- it has a mode that is none
-abbrev pub call_mistakes_mode : Option Call → Bool
-call_mistakes_mode c = some_passes (λ c. has_wrong_mode c (function_named c.function)) c
+abbrev pub call_has_bad_mode : Option Call → Bool
+call_has_bad_mode c = some_passes (λ c. has_wrong_mode c (function_named c.function)) c
 
 -- its names and sorts, where these names are known and these are taken
 abbrev pub sort_faults : Scope → List Identifier → ResultType → Stmt → ℕ → Faults
@@ -42,7 +42,7 @@ call_faults s line = broken_if (calls_unknown (own_call s)) UnknownFunction line
 abbrev pub use_faults : Scope → Stmt → ℕ → Faults
 use_faults known s line =
     broken_if (copies_reference known (set_sort known s) (right_side s)) ReferenceCopied line
-    ++ (broken_if (call_mistakes_mode (own_call s)) BadMode line
+    ++ (broken_if (call_has_bad_mode (own_call s)) BadMode line
     ++ broken_if (breaks_sort_rule ReadOnlyWrite known [] Void s) ReadOnlyWrite line)
 
 -- all of it

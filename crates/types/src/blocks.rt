@@ -7,7 +7,7 @@ ghost use Rattle.types.specs.SortRules.{places_of, with_declared};
 ghost use Rattle.types.specs.Faults.{Finds, IsAbove, sort_value, scope_of, found, places_inside};
 
 use crate::fault::TypeFault;
-use crate::scope::{Known, forget, learn, take};
+use crate::scope::{Known, declare, leave_scope, take};
 use crate::sort::{Sort, variable_sort};
 use crate::statements::check_statement;
 use std::alloc::{AllocError, Global};
@@ -25,7 +25,7 @@ fn add(
     ensures above { OnOk result (IsAbove known.new.items known.old.items) }
     ensures taken { OnOk result (taken.new.items ≡ taken.old.items ++ name.now ∷ []) }
 {
-    learn(alloc, known, name, sort)?;
+    declare(alloc, known, name, sort)?;
     take(alloc, taken, name)?;
     Ok(())
 }
@@ -73,7 +73,7 @@ fn check_inside(
     }
 }
 
-/// A block of a function with this result, where these names are known and these are taken. Behind it the names that it
+/// A block of a function with this result, where these names are known and these are taken. After it the names that it
 /// declares are known no more, and stay taken.
 #[cycle(blocks)]
 pub(crate) fn check_block(
@@ -92,6 +92,6 @@ pub(crate) fn check_block(
         check_statement(known, taken, returns, stmt)?;
         check_inside(alloc, known, taken, returns, &stmt.form)?;
     }
-    forget(known, outside);
+    leave_scope(known, outside);
     Ok(())
 }

@@ -8,13 +8,13 @@ ghost use Rattle.types.specs.Faults.{Finds, scope_of, found, head_faults, own_pl
 
 use crate::blocks::check_block;
 use crate::fault::{SortRule, TypeFault, refuse_if};
-use crate::scope::{Known, has_name, has_repeated, known_at_entry, learn, names_of};
+use crate::scope::{Known, declare, has_name, has_repeated, known_at_entry, names_of};
 use crate::sort::Sort;
 use classes::mangling::is_mangled;
 use std::alloc::Global;
 use syntax::{Function, Item, Name, Static};
 
-/// The head of a function behind items of these names, where its parameters and the statics have those.
+/// The head of a function after items of these names, where its parameters and the statics have those.
 fn check_head(names: &[Name], entry: &[Name], f: &Function) -> Result<(), TypeFault>
     ensures { Finds result (head_faults names.now entry.now f.now) }
 {
@@ -30,7 +30,7 @@ fn check_head(names: &[Name], entry: &[Name], f: &Function) -> Result<(), TypeFa
     )
 }
 
-/// A function behind items of these names and these statics.
+/// A function after items of these names and these statics.
 fn check_function(
     alloc: Global,
     names: &[Name],
@@ -45,7 +45,7 @@ fn check_function(
     check_block(alloc, &mut known, &mut taken, f.result, &f.body)
 }
 
-/// An item behind items of these names and these statics, which become more by it.
+/// An item after items of these names and these statics, which become more by it.
 fn check_item(
     alloc: Global,
     names: &mut Vec<Name>,
@@ -59,7 +59,7 @@ fn check_item(
     match item {
         Item::Static(s) => {
             refuse_if(has_name(names, &s.name), SortRule::DeclaredTwice, s.line)?;
-            learn(alloc, statics, &s.name, Sort::Global)?;
+            declare(alloc, statics, &s.name, Sort::Global)?;
             names.insert(0, Name::new(alloc, s.name.as_bytes())?)?;
         }
         Item::Function(f) => {

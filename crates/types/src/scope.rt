@@ -71,7 +71,7 @@ pub(crate) fn take(alloc: Global, taken: &mut Vec<Name>, name: &Name) -> Result<
 }
 
 /// One name more is known. The youngest stand first.
-pub(crate) fn learn(
+pub(crate) fn declare(
     alloc: Global,
     known: &mut Vec<Known>,
     name: &Name,
@@ -86,7 +86,7 @@ pub(crate) fn learn(
 }
 
 /// Only this many of the names stay known, the oldest.
-pub(crate) fn forget(known: &mut Vec<Known>, count: usize)
+pub(crate) fn leave_scope(known: &mut Vec<Known>, count: usize)
     ensures { known.new.items ≡ drop (length known.old.items - count) known.old.items }
 {
     while known.len() > count {
@@ -94,7 +94,7 @@ pub(crate) fn forget(known: &mut Vec<Known>, count: usize)
     }
 }
 
-/// What is known at a function's beginning, behind these statics.
+/// What is known at a function's beginning, after these statics.
 pub(crate) fn known_at_entry(
     alloc: Global,
     statics: &[Known],

@@ -12,7 +12,7 @@ ghost use Rattle.types.specs.SortRules.{has_name, is_formed, value_sets, right_s
 ghost use Rattle.types.specs.BuiltCalls.{refused_at};
 ghost use Rattle.types.specs.Faults.{scope_of, sort_value, Finds, statement_place};
 ghost use Rattle.types.specs.Unknown.{right_unknown, test_unknown, uses_unknown};
-ghost use Rattle.types.specs.StatementFaults.{sort_faults, call_faults, use_faults, statement_faults, call_misfits, calls_unknown, call_miscounts, call_mistakes_mode};
+ghost use Rattle.types.specs.StatementFaults.{sort_faults, call_faults, use_faults, statement_faults, call_misfits, calls_unknown, call_miscounts, call_has_bad_mode};
 
 use crate::calls::{
     call_arguments_fit, call_fits, call_formed, call_unknown, has_wrong_count, has_wrong_mode,
@@ -277,8 +277,8 @@ fn miscounts(form: &Form) -> bool
 }
 
 /// Whether a statement's call has a mode that is none.
-fn mistakes_mode(form: &Form) -> bool
-    ensures { (line : ℕ) → result ≡ call_mistakes_mode (own_call (form_tree line form.now)) }
+fn has_bad_mode(form: &Form) -> bool
+    ensures { (line : ℕ) → result ≡ call_has_bad_mode (own_call (form_tree line form.now)) }
 {
     match own_call(form) {
         Some(call) => has_wrong_mode(call),
@@ -362,7 +362,7 @@ fn check_uses(known: &[Known], form: &Form, line: usize) -> Result<(), TypeFault
         SortRule::ReferenceCopied,
         line,
     )?;
-    refuse_if(mistakes_mode(form), SortRule::BadMode, line)?;
+    refuse_if(has_bad_mode(form), SortRule::BadMode, line)?;
     refuse_if(writes_read_only(known, form), SortRule::ReadOnlyWrite, line)
 }
 

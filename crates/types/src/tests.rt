@@ -12,7 +12,7 @@ use syntax::{
     VariableType,
 };
 
-/// Statements on the lines behind this one, in braces.
+/// Statements on the lines after this one, in braces.
 fn block(alloc: Global, line: usize, forms: Vec<Form>) -> Result<Block, AllocError> {
     let mut statements = Vec::new(alloc);
     let mut end_line = line;
@@ -29,7 +29,7 @@ fn block(alloc: Global, line: usize, forms: Vec<Form>) -> Result<Block, AllocErr
     })
 }
 
-/// A function on these lines, with a reference `a` and a number `n`; its statements stand on the lines behind the first.
+/// A function on these lines, with a reference `a` and a number `n`; its statements stand on the lines after the first.
 fn function(alloc: Global, line: usize, name: &[u8], forms: Vec<Form>) -> Result<Item, AllocError> {
     let mut parameters = Vec::new(alloc);
     parameters.push(Parameter {
@@ -79,7 +79,7 @@ fn word(value: u32) -> Expr {
     }
 }
 
-/// A block with one declaration of a number, on the line behind this one.
+/// A block with one declaration of a number, on the line after this one.
 fn declaring(alloc: Global, line: usize, name: &[u8]) -> Result<Block, AllocError> {
     let mut forms = Vec::new(alloc);
     forms.push(declare(alloc, name, jint(0))?)?;
@@ -268,7 +268,7 @@ fn null_before_a_name(rt: HostRuntime) -> Result<(), Fail> {
 }
 
 #[test]
-fn a_name_behind_its_block(rt: HostRuntime) -> Result<(), Fail> {
+fn a_name_after_its_block(rt: HostRuntime) -> Result<(), Fail> {
     let alloc = rt.alloc();
     let mut forms = Vec::new(alloc);
     forms.push(Form::If(holds(alloc)?, declaring(alloc, 10, b"m")?))?;

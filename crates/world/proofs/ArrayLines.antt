@@ -42,7 +42,7 @@ lines_before cs bs = class_lines cs ++ array_lines bs
 abbrev pub all_lines : Named → Arrays → ℕ → Identifier → List WorldValue → Lines
 all_lines cs bs n function values = lines_before cs bs ++ (n, ThreadLine function values) ∷ []
 
--- the lines behind some that are no class lines
+-- the lines after some that are no class lines
 module _ (cs : Named) (bs : Arrays) where
   -- ---- classes
 

@@ -9,7 +9,7 @@ use Rattle.world.specs.BuiltLines.{is_built_line}
 use Rattle.world.specs.World.{Invocation}
 use Rattle.world.specs.WorldLines.{WorldValue, WorldLine, ClassLine, FieldLine, StaticLine, ObjectLine, ObjectsLine, ArrayLine, StringLine, ThreadLine, CallLine, Lines, line_text, IsBareString, IsLineText}
 use Rattle.world.specs.WorldMeaning.{threads_with, invocation_of_line}
-use Rattle.world.specs.WorldRules.{part_of, broken_behind}
+use Rattle.world.specs.WorldRules.{part_of, broken_after}
 use Rattle.world.proofs.MeantRules.{kept_line, behind_one, each_keeps}
 use Rattle.world.proofs.WordLaws.{both_true}
 
@@ -58,11 +58,11 @@ more_threads L ((n, line) ∷ rest) ts h =
         subst (λ l. length ts ≤ length (fold (threads_with L) (threads_with L ts (n, l)) rest)) (sym is)
         (omega (arith, further (ts ++ (call ∷ []) ∷ []), length-append ts ((call ∷ []) ∷ [])))
 
--- nothing stands behind the one thread
-pub no_line_behind : (cells : ℕ) (L earlier : Lines) (n : ℕ) (f : Identifier) (vs : List WorldValue) (call : Invocation) (rest : Lines) → all_built rest ≡ true → broken_behind cells (earlier ++ (n, ThreadLine f vs) ∷ []) rest ≡ []
+-- nothing stands after the one thread
+pub no_line_after : (cells : ℕ) (L earlier : Lines) (n : ℕ) (f : Identifier) (vs : List WorldValue) (call : Invocation) (rest : Lines) → all_built rest ≡ true → broken_after cells (earlier ++ (n, ThreadLine f vs) ∷ []) rest ≡ []
     → length (fold (threads_with L) ((call ∷ []) ∷ []) rest) ≤ 1 → rest ≡ []
-no_line_behind cells L earlier n f vs call [] h k one = refl
-no_line_behind cells L earlier n f vs call ((m, line) ∷ rest) h k one =
+no_line_after cells L earlier n f vs call [] h k one = refl
+no_line_after cells L earlier n f vs call ((m, line) ∷ rest) h k one =
     let b = both_true (is_built_line line) (all_built rest) h in
     let e = each_keeps cells (earlier ++ (n, ThreadLine f vs) ∷ []) rest (m, line) k in
     let order = behind_one earlier (n, ThreadLine f vs) line ((kept_line cells (earlier ++ (n, ThreadLine f vs) ∷ []) (m, line) e.0).ordered) in

@@ -60,8 +60,8 @@ module _ (classes : List (Vec ℕ)) (number : ℕ) where
   named : (i : ℕ) → number ≡ suc i → class_name (classes_named own) number ≡ get_or (first_names ++ pairs own) i []
   named i h = ap (class_name (classes_named own)) h ∙ name_at (classes_named own) i ∙ ap (λ (xs : List Identifier). get_or xs i []) (all_names own)
 
-  behind : (i : ℕ) → number ≡ 43 + i → class_name (classes_named own) number ≡ get_or (pairs own) i []
-  behind i h =
+  after : (i : ℕ) → number ≡ 43 + i → class_name (classes_named own) number ≡ get_or (pairs own) i []
+  after i h =
       let e : (42 + i) - 42 ≡ i = omega arith in
       named (42 + i) (omega (arith, h)) ∙ get_or-append_right first_names (pairs own) (42 + i) [] (omega arith) ∙ ap (λ k. get_or (pairs own) k []) e
 
@@ -74,12 +74,12 @@ module _ (classes : List (Vec ℕ)) (number : ℕ) where
   built_in_is i h less = sym (named i (omega (arith, h)) ∙ get_or_append_left first_names (pairs own) [] i less)
 
   pub own_is : (j : ℕ) (d : Vec ℕ) → number ≡ 43 + 2 * j → j < length classes → (get_or classes j d).items ≡ class_name (classes_named own) number
-  own_is j d h less = sym (behind (2 * j) h ∙ pair_first own j (2 * j) refl ∙ get_or-map (λ (c : Vec ℕ). c.items) classes j d [] less)
+  own_is j d h less = sym (after (2 * j) h ∙ pair_first own j (2 * j) refl ∙ get_or-map (λ (c : Vec ℕ). c.items) classes j d [] less)
 
   pub array_is : (j : ℕ) (d : Vec ℕ) → number ≡ 44 + 2 * j → j < length classes → array_name (get_or classes j d).items ≡ class_name (classes_named own) number
   array_is j d h less =
-      sym (behind (2 * j + 1) (omega (arith, h)) ∙ pair_second own j (2 * j + 1) (omega (arith, less, length-map classes (λ (c : Vec ℕ). c.items))) refl
+      sym (after (2 * j + 1) (omega (arith, h)) ∙ pair_second own j (2 * j + 1) (omega (arith, less, length-map classes (λ (c : Vec ℕ). c.items))) refl
       ∙ ap array_name (get_or-map (λ (c : Vec ℕ). c.items) classes j d [] less))
 
   pub past_is : (j : ℕ) → number ≡ 43 + j → 2 * length classes ≤ j → [] ≡ class_name (classes_named own) number
-  past_is j h more = sym (behind j h ∙ get_or_past (pairs own) j [] (omega (arith, more, pair_count own, length-map classes (λ (c : Vec ℕ). c.items))))
+  past_is j h more = sym (after j h ∙ get_or_past (pairs own) j [] (omega (arith, more, pair_count own, length-map classes (λ (c : Vec ℕ). c.items))))

@@ -34,7 +34,7 @@ built_ins_length = refl
 pub classes_length : (names : List Identifier) → length (classes_named names) ≡ 42 + 2 * length names
 classes_length names = omega (arith, length-fold names built_ins, built_ins_length)
 
--- the classes behind the first ones
+-- the classes after the first ones
 grown : (names : List Identifier) (T : Classes) → (X : Classes) × (fold with_named_class T names ≡ T ++ X)
 grown [] T = ([], sym (append-nil T))
 grown (n ∷ names) T =

@@ -108,17 +108,17 @@ pub not_false : (a : Bool) → not a ≡ false → a ≡ true
 not_false true h = refl
 not_false false h = cc
 
-pub class_asked : (taken formed : Bool) (classes behind cells : ℕ) → least_class_rule taken formed classes behind cells ≡ None → IsClass taken formed classes cells × ((behind == 0) ≡ true)
-class_asked taken formed classes behind cells h =
-    let a = passes (cells == 0 || not (behind == 0)) _ _ h in
+pub class_asked : (taken formed : Bool) (classes after cells : ℕ) → least_class_rule taken formed classes after cells ≡ None → IsClass taken formed classes cells × ((after == 0) ≡ true)
+class_asked taken formed classes after cells h =
+    let a = passes (cells == 0 || not (after == 0)) _ _ h in
     let b = passes taken _ _ a.1 in
     let c = passes (nat_le 107 classes) _ _ b.1 in
     let d = passes (not formed) _ _ c.1 in
     let e = passes (nat_lt cells (136 + 6 * classes)) _ _ d.1 in
-    let first = either_false (cells == 0) (not (behind == 0)) a.0 in
+    let first = either_false (cells == 0) (not (after == 0)) a.0 in
     let few : classes ≤ 106 = grind (arith, nat_tests, c.0) in
     let room : 136 + 6 * classes ≤ cells = grind (arith, nat_tests, e.0) in
-    (record { heap = first.0; free = b.0; few = few; named = not_false formed d.0; room = room }, not_false (behind == 0) first.1)
+    (record { heap = first.0; free = b.0; few = few; named = not_false formed d.0; room = room }, not_false (after == 0) first.1)
 
 pub in_part : (p : ℕ) (cs : Named) → nat_le 0 p ≡ true → list_all (λ (l : ℕ × WorldLine). nat_le (part_of l.1) p) (class_lines cs) ≡ true
 in_part p [] h = refl

@@ -123,9 +123,9 @@ module _ (scene : Scene) (n : ℕ) where
         let range = values_in_jint a.element vs ((both_true (list_all (value_in_range a.element) vs) (nat_lt (length scene.objects) 65536) ask.2).0) in
         let formed = numbers_formed a.values in
         let free = values_free scene classes vs formed range (numbers_there scene a.values) in
-        let behind = and_from (is_free (λ c. c == 32) (element_letter a.element)) (list_all (is_free (λ c. c == 32)) (map value_text vs)) (element_free a.element) free in
+        let after = and_from (is_free (λ c. c == 32) (element_letter a.element)) (list_all (is_free (λ c. c == 32)) (map value_text vs)) (element_free a.element) free in
         let made : Identifier → ElementType → List ℤ → ArrayScene = λ x t zs. record { name = x; element = t; values = zs } in
-        ap (words_scene scene n) (more_are (codes "array") (at_name a.name) (element_letter a.element ∷ map value_text vs) refl (simple_name_free a.name named) behind)
+        ap (words_scene scene n) (more_are (codes "array") (at_name a.name) (element_letter a.element ∷ map value_text vs) refl (simple_name_free a.name named) after)
         ∙ ap (λ o. array_scene scene n o (element_named (element_letter a.element)) (values_named (map value_text vs))) (object_read a.name named)
         ∙ ap (λ o. array_scene scene n (Some a.name) o (values_named (map value_text vs))) (element_read a.element)
         ∙ ap (λ o. array_scene scene n (Some a.name) (Some a.element) o) (values_read vs formed range)

@@ -18,7 +18,7 @@ use Rattle.world.specs.Scene.{ArrayScene, array_size, cells_used}
 use Rattle.world.specs.SceneWorld.{classes_named}
 use Rattle.world.specs.WorldLines.{WorldValue, NumberValue, NullValue, NamedObject, NamedClass, WorldLine, ClassLine, ArrayLine, ThreadLine, Lines}
 use Rattle.world.specs.WorldMeaning.{objects_defined, threads_of, cells_of}
-use Rattle.world.specs.WorldRules.{part_of, is_thread_line, is_call_line, is_in_order, is_line_word, is_formed_value, each_holds, value_in_range, each_in_range, is_known_value, is_name_taken, is_within_limits, WorldRule, OfClass, LineForm, WrongName, OutOfLimit, HeapFull, world_rules, line_breaks, broken_by_line, broken_behind}
+use Rattle.world.specs.WorldRules.{part_of, is_thread_line, is_call_line, is_in_order, is_line_word, is_formed_value, each_holds, value_in_range, each_in_range, is_known_value, is_name_taken, is_within_limits, WorldRule, OfClass, LineForm, WrongName, OutOfLimit, HeapFull, world_rules, line_breaks, broken_by_line, broken_after}
 use Rattle.world.proofs.ArrayLines.{Arrays, arrays, array_line, array_lines, lines_before, objects_before, cells_before}
 use Rattle.world.proofs.ClassTables.{classes_length}
 use Rattle.world.proofs.KeptArrays.{before_threads, known_name, known_values, lines_more}
@@ -231,6 +231,6 @@ map_none : {X Y : Type 0} (f : X → Y) (xs : List X) (ys : List Y) → map f xs
 map_none f [] ys h = (refl, h)
 map_none f (x ∷ xs) ys h = absurd (cc)
 
--- the first keeps them, and the others behind it
-pub each_keeps : (cells : ℕ) (earlier rest : Lines) (line : ℕ × WorldLine) → broken_behind cells earlier (line ∷ rest) ≡ [] → (broken_by_line cells earlier line ≡ []) × (broken_behind cells (earlier ++ line ∷ []) rest ≡ [])
-each_keeps cells earlier rest line h = map_none (λ rule. (line.0, rule)) (broken_by_line cells earlier line) (broken_behind cells (earlier ++ line ∷ []) rest) h
+-- the first keeps them, and the others after it
+pub each_keeps : (cells : ℕ) (earlier rest : Lines) (line : ℕ × WorldLine) → broken_after cells earlier (line ∷ rest) ≡ [] → (broken_by_line cells earlier line ≡ []) × (broken_after cells (earlier ++ line ∷ []) rest ≡ [])
+each_keeps cells earlier rest line h = map_none (λ rule. (line.0, rule)) (broken_by_line cells earlier line) (broken_after cells (earlier ++ line ∷ []) rest) h

@@ -20,9 +20,9 @@ use Rattle.world.specs.TextLaws.{world_of_text, IsBuiltWorldText}
 use Rattle.world.specs.World.{World}
 use Rattle.world.specs.WorldLines.{WorldValue, NumberValue, WorldLine, ClassLine, ArrayLine, ThreadLine, Lines, spaced, line_text}
 use Rattle.world.specs.WorldMeaning.{threads_with, threads_of, invocation_of_line, world_of}
-use Rattle.world.specs.WorldRules.{is_thread_line, broken_by_line, broken_behind, IsNumberedLine}
+use Rattle.world.specs.WorldRules.{is_thread_line, broken_by_line, broken_after, IsNumberedLine}
 use Rattle.world.proofs.ArrayLines.{Arrays, arrays, lines_before, all_lines}
-use Rattle.world.proofs.BuiltForms.{Built, BuiltClass, BuiltArray, BuiltThread, built, all_built, built_text, no_line_behind}
+use Rattle.world.proofs.BuiltForms.{Built, BuiltClass, BuiltArray, BuiltThread, built, all_built, built_text, no_line_after}
 use Rattle.world.proofs.KeptArrays.{before_threads, lines_more}
 use Rattle.world.proofs.KeptLines.{Named, names, class_lines}
 use Rattle.world.proofs.LineForms.{TookHeap, TookClass, TookArray, TookThread}
@@ -32,7 +32,7 @@ use Rattle.world.proofs.PartLemmas.{slice_split-split_at}
 use Rattle.world.proofs.WordLaws.{both_true}
 use Rattle.world.proofs.WorldLaws.{written, whole_scene, nothing, names-append, lines-append, scene_world}
 
--- ---- the lines behind the thread
+-- ---- the lines after the thread
 
 no_lines : (scene : Scene) (number last : ℕ) (texts : List (List ℕ)) → written number texts ≡ [] → lines_scene scene number last texts ≡ finished_scene scene last
 unfolding lines_scene
@@ -48,9 +48,9 @@ is_finished : (cells : ℕ) (cs : Named) (bs : Arrays) (n last : ℕ) (f : Ident
 unfolding finished_scene
 is_finished cells cs bs n last f vs full = ap (λ b. cond b (refused Form 1) (Ok (whole_scene cells cs bs n f vs))) full
 
--- ---- the lines behind the heap's
+-- ---- the lines after the heap's
 
--- lines behind earlier ones are read as the rest of a world
+-- lines after earlier ones are read as the rest of a world
 record IsReadRest (cells : ℕ) (earlier rest : Lines) (scene : Scene) (number last : ℕ) (texts : List (List ℕ)) : Type 0 where
   cs : Named
   bs : Arrays
@@ -60,9 +60,9 @@ record IsReadRest (cells : ℕ) (earlier rest : Lines) (scene : Scene) (number l
   are : earlier ++ rest ≡ all_lines cs bs at function values
   read : lines_scene scene number last texts ≡ Ok (whole_scene cells cs bs at function values)
 
--- one line, and the rest behind it
+-- one line, and the rest after it
 module _ (cells : ℕ) (full : (cells == 0) ≡ false) (L : Lines) (cs : Named) (bs : Arrays) (named : list_all is_class_name (names cs) ≡ true) (number last c : ℕ) (ds : List ℕ) (texts : List (List ℕ)) (n : ℕ) (rest : Lines)
-    (further : (es : Named) (fs : Arrays) → list_all is_class_name (names es) ≡ true → broken_behind cells (lines_before es fs) rest ≡ [] → length (fold (threads_with L) [] rest) ≤ 1
+    (further : (es : Named) (fs : Arrays) → list_all is_class_name (names es) ≡ true → broken_after cells (lines_before es fs) rest ≡ [] → length (fold (threads_with L) [] rest) ≤ 1
     → list_any (λ (l : ℕ × WorldLine). is_thread_line l.1) rest ≡ true → IsReadRest cells (lines_before es fs) rest (before_threads cells es fs) (number + 1) number texts) where
   step : (es : Named) (fs : Arrays) (line : WorldLine) → lines_before cs bs ++ (n, line) ∷ [] ≡ lines_before es fs → line_scene (before_threads cells cs bs) number (c ∷ ds) ≡ Ok (before_threads cells es fs)
       → IsReadRest cells (lines_before es fs) rest (before_threads cells es fs) (number + 1) number texts → IsReadRest cells (lines_before cs bs) ((n, line) ∷ rest) (before_threads cells cs bs) number last ((c ∷ ds) ∷ texts)
@@ -77,9 +77,9 @@ module _ (cells : ℕ) (full : (cells == 0) ≡ false) (L : Lines) (cs : Named) 
     read = ap (λ x. x >>= λ s. lines_scene s (number + 1) number texts) taken ∙ r.read;
   }
 
-  class_step : (name : Identifier) → c ∷ ds ≡ line_text (ClassLine name None) → broken_by_line cells (lines_before cs bs) (n, ClassLine name None) ≡ [] → broken_behind cells (lines_before cs bs ++ (n, ClassLine name None) ∷ []) rest ≡ []
+  class_step : (name : Identifier) → c ∷ ds ≡ line_text (ClassLine name None) → broken_by_line cells (lines_before cs bs) (n, ClassLine name None) ≡ [] → broken_after cells (lines_before cs bs ++ (n, ClassLine name None) ∷ []) rest ≡ []
       → length (fold (threads_with L) [] rest) ≤ 1 → list_any (λ (l : ℕ × WorldLine). is_thread_line l.1) rest ≡ true → IsReadRest cells (lines_before cs bs) ((n, ClassLine name None) ∷ rest) (before_threads cells cs bs) number last ((c ∷ ds) ∷ texts)
-  class_step name text kept behind one some =
+  class_step name text kept rest_of one some =
       let d : ℕ × Identifier = (n, name) in
       let line : WorldLine = ClassLine name None in
       let asked = class_is_asked cells cs bs d full kept in
@@ -92,11 +92,11 @@ module _ (cells : ℕ) (full : (cells == 0) ≡ false) (L : Lines) (cs : Named) 
       let all_named : list_all is_class_name (names (cs ++ d ∷ [])) ≡ true =
       ap (list_all is_class_name) (names-append cs (d ∷ [])) ∙ list_all-append is_class_name (names cs) (name ∷ []) ∙ and_from (list_all is_class_name (names cs)) (is_class_name name && true) named (and_from (is_class_name name) true asked.formed refl) in
       step (cs ++ d ∷ []) [] line after (taken_is_read (before_threads cells cs bs) number (c ∷ ds) next named (TookClass name text asked.rule scene))
-      (further (cs ++ d ∷ []) [] all_named (ap (λ (E : Lines). broken_behind cells E rest) (sym after) ∙ behind) one some)
+      (further (cs ++ d ∷ []) [] all_named (ap (λ (E : Lines). broken_after cells E rest) (sym after) ∙ rest_of) one some)
 
-  array_step : (x : Identifier) (t : ElementType) (vs : List WorldValue) → c ∷ ds ≡ line_text (ArrayLine x t vs) → broken_by_line cells (lines_before cs bs) (n, ArrayLine x t vs) ≡ [] → broken_behind cells (lines_before cs bs ++ (n, ArrayLine x t vs) ∷ []) rest ≡ []
+  array_step : (x : Identifier) (t : ElementType) (vs : List WorldValue) → c ∷ ds ≡ line_text (ArrayLine x t vs) → broken_by_line cells (lines_before cs bs) (n, ArrayLine x t vs) ≡ [] → broken_after cells (lines_before cs bs ++ (n, ArrayLine x t vs) ∷ []) rest ≡ []
       → length (fold (threads_with L) [] rest) ≤ 1 → list_any (λ (l : ℕ × WorldLine). is_thread_line l.1) rest ≡ true → IsReadRest cells (lines_before cs bs) ((n, ArrayLine x t vs) ∷ rest) (before_threads cells cs bs) number last ((c ∷ ds) ∷ texts)
-  array_step x t vs text kept behind one some =
+  array_step x t vs text kept rest_of one some =
       let a : ArrayScene = record { name = x; element = t; values = map number_of vs } in
       let b : ℕ × ArrayScene = (n, a) in
       let numbers : ArrayLine x t vs ≡ ArrayLine x t (map NumberValue (map number_of vs)) = ap (ArrayLine x t) (array_numbers cells (lines_before cs bs) n x t vs kept) in
@@ -107,7 +107,7 @@ module _ (cells : ℕ) (full : (cells == 0) ≡ false) (L : Lines) (cs : Named) 
       ap (λ (xs : List ArrayScene). let t : Scene = record { heap = cells; classes = names cs; objects = xs; threads = [] } in t) (map-append (λ (y : ℕ × ArrayScene). y.1) bs (b ∷ [])) in
       step cs (bs ++ b ∷ []) (ArrayLine x t vs) after
       (taken_is_read (before_threads cells cs bs) number (c ∷ ds) next named (TookArray a (text ∙ ap line_text numbers) asked.0 asked.1 scene))
-      (further cs (bs ++ b ∷ []) named (ap (λ (E : Lines). broken_behind cells E rest) (sym after) ∙ behind) one some)
+      (further cs (bs ++ b ∷ []) named (ap (λ (E : Lines). broken_after cells E rest) (sym after) ∙ rest_of) one some)
 
   thread_step : (f : Identifier) (vs : List WorldValue) → number ≡ n → c ∷ ds ≡ line_text (ThreadLine f vs) → broken_by_line cells (lines_before cs bs) (n, ThreadLine f vs) ≡ [] → rest ≡ [] → AllZip IsNumberedLine (written (number + 1) texts) rest
       → IsReadRest cells (lines_before cs bs) ((n, ThreadLine f vs) ∷ rest) (before_threads cells cs bs) number last ((c ∷ ds) ∷ texts)
@@ -131,27 +131,27 @@ module _ (cells : ℕ) (full : (cells == 0) ≡ false) (L : Lines) (cs : Named) 
             ∙ ap (λ m. Ok (whole_scene cells cs bs m f vs)) same;
       }
 
-  by_form : (line : WorldLine) → Built line → all_built rest ≡ true → number ≡ n → c ∷ ds ≡ line_text line → broken_behind cells (lines_before cs bs) ((n, line) ∷ rest) ≡ [] → AllZip IsNumberedLine (written (number + 1) texts) rest
+  by_form : (line : WorldLine) → Built line → all_built rest ≡ true → number ≡ n → c ∷ ds ≡ line_text line → broken_after cells (lines_before cs bs) ((n, line) ∷ rest) ≡ [] → AllZip IsNumberedLine (written (number + 1) texts) rest
       → length (fold (threads_with L) [] ((n, line) ∷ rest)) ≤ 1 → list_any (λ (l : ℕ × WorldLine). is_thread_line l.1) ((n, line) ∷ rest) ≡ true
       → IsReadRest cells (lines_before cs bs) ((n, line) ∷ rest) (before_threads cells cs bs) number last ((c ∷ ds) ∷ texts)
   by_form line (BuiltClass name is) b same text rules zip one some =
-      let e = each_keeps cells (lines_before cs bs) rest (n, ClassLine name None) (subst (λ (l : WorldLine). broken_behind cells (lines_before cs bs) ((n, l) ∷ rest) ≡ []) is rules) in
+      let e = each_keeps cells (lines_before cs bs) rest (n, ClassLine name None) (subst (λ (l : WorldLine). broken_after cells (lines_before cs bs) ((n, l) ∷ rest) ≡ []) is rules) in
       subst (λ (l : WorldLine). IsReadRest cells (lines_before cs bs) ((n, l) ∷ rest) (before_threads cells cs bs) number last ((c ∷ ds) ∷ texts)) (sym is)
       (class_step name (text ∙ ap line_text is) e.0 e.1 (subst (λ (l : WorldLine). length (fold (threads_with L) (threads_with L [] (n, l)) rest) ≤ 1) is one)
       (subst (λ (l : WorldLine). (is_thread_line l || list_any (λ (k : ℕ × WorldLine). is_thread_line k.1) rest) ≡ true) is some))
   by_form line (BuiltArray x t vs is) b same text rules zip one some =
-      let e = each_keeps cells (lines_before cs bs) rest (n, ArrayLine x t vs) (subst (λ (l : WorldLine). broken_behind cells (lines_before cs bs) ((n, l) ∷ rest) ≡ []) is rules) in
+      let e = each_keeps cells (lines_before cs bs) rest (n, ArrayLine x t vs) (subst (λ (l : WorldLine). broken_after cells (lines_before cs bs) ((n, l) ∷ rest) ≡ []) is rules) in
       subst (λ (l : WorldLine). IsReadRest cells (lines_before cs bs) ((n, l) ∷ rest) (before_threads cells cs bs) number last ((c ∷ ds) ∷ texts)) (sym is)
       (array_step x t vs (text ∙ ap line_text is) e.0 e.1 (subst (λ (l : WorldLine). length (fold (threads_with L) (threads_with L [] (n, l)) rest) ≤ 1) is one)
       (subst (λ (l : WorldLine). (is_thread_line l || list_any (λ (k : ℕ × WorldLine). is_thread_line k.1) rest) ≡ true) is some))
   by_form line (BuiltThread f vs is) b same text rules zip one some =
-      let e = each_keeps cells (lines_before cs bs) rest (n, ThreadLine f vs) (subst (λ (l : WorldLine). broken_behind cells (lines_before cs bs) ((n, l) ∷ rest) ≡ []) is rules) in
-      let none = no_line_behind cells L (lines_before cs bs) n f vs (invocation_of_line L n f vs) rest b e.1 (subst (λ (l : WorldLine). length (fold (threads_with L) (threads_with L [] (n, l)) rest) ≤ 1) is one) in
+      let e = each_keeps cells (lines_before cs bs) rest (n, ThreadLine f vs) (subst (λ (l : WorldLine). broken_after cells (lines_before cs bs) ((n, l) ∷ rest) ≡ []) is rules) in
+      let none = no_line_after cells L (lines_before cs bs) n f vs (invocation_of_line L n f vs) rest b e.1 (subst (λ (l : WorldLine). length (fold (threads_with L) (threads_with L [] (n, l)) rest) ≤ 1) is one) in
       subst (λ (l : WorldLine). IsReadRest cells (lines_before cs bs) ((n, l) ∷ rest) (before_threads cells cs bs) number last ((c ∷ ds) ∷ texts)) (sym is)
       (thread_step f vs same (text ∙ ap line_text is) e.0 none zip)
 
 rest_is_read : (cells : ℕ) (full : (cells == 0) ≡ false) (L : Lines) (cs : Named) (bs : Arrays) (number last : ℕ) (texts : List (List ℕ)) (rest : Lines) → list_all is_class_name (names cs) ≡ true → AllZip IsNumberedLine (written number texts) rest
-    → all_built rest ≡ true → broken_behind cells (lines_before cs bs) rest ≡ [] → length (fold (threads_with L) [] rest) ≤ 1 → list_any (λ (l : ℕ × WorldLine). is_thread_line l.1) rest ≡ true
+    → all_built rest ≡ true → broken_after cells (lines_before cs bs) rest ≡ [] → length (fold (threads_with L) [] rest) ≤ 1 → list_any (λ (l : ℕ × WorldLine). is_thread_line l.1) rest ≡ true
     → IsReadRest cells (lines_before cs bs) rest (before_threads cells cs bs) number last texts
 unfolding lines_scene
 rest_is_read cells full L cs bs number last [] [] named zip b rules one some = absurd (cc)
@@ -175,7 +175,7 @@ others_of : List (ℕ × List ℕ) → List (ℕ × List ℕ)
 others_of [] = []
 others_of (w ∷ ws) = ws
 
-module _ (cells : ℕ) (low : 512 ≤ cells) (high : cells ≤ 1048576) (rest : Lines) (b : all_built rest ≡ true) (rules : broken_behind cells [] rest ≡ []) (one : length (threads_of rest) ≤ 1)
+module _ (cells : ℕ) (low : 512 ≤ cells) (high : cells ≤ 1048576) (rest : Lines) (b : all_built rest ≡ true) (rules : broken_after cells [] rest ≡ []) (one : length (threads_of rest) ≤ 1)
     (some : list_any (λ (l : ℕ × WorldLine). is_thread_line l.1) rest ≡ true) where
   whole_is_read : (number last : ℕ) (texts : List (List ℕ)) (heap_line : ℕ) (ws : List (ℕ × List ℕ)) → written number texts ≡ (heap_line, spaced (codes "heap" ∷ decimal cells ∷ [])) ∷ ws → AllZip IsNumberedLine ws rest
       → IsReadRest cells [] rest nothing number last texts

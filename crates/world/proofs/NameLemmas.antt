@@ -132,7 +132,7 @@ later_place p (x ∷ xs) ys h =
 abbrev pub is_named : Identifier → Class → Bool
 is_named name c = bytes_eq c.name name
 
--- the class itself, or the class of its arrays behind it
+-- the class itself, or the class of its arrays after it
 abbrev pub or_array : Identifier → List Identifier → ℕ → ℕ
 or_array name names i = cond (bytes_eq (get_or names i []) name) 0 1
 
@@ -193,20 +193,20 @@ module _ (name : Identifier) (classes : List (Vec ℕ)) where
   pub built_in_below : (i : ℕ) → Some i ≡ position (λ class. bytes_eq class.now name) BUILT_INS → i < 42
   built_in_below i h = omega (arith, found_below (is_named name) built_ins i (sym (h ∙ built)), built_in_count)
 
-  behind : None ≡ position (λ class. bytes_eq class.now name) BUILT_INS → class_named (classes_named own) name ≡ option_map (λ (i : ℕ). i + 1) (option_map (number_in name own (length built_ins)) (found (is_of name) own))
-  behind h = numbered name (classes_named own) ∙ ap (option_map (λ (i : ℕ). i + 1)) (found_in_fold name own built_ins (sym (h ∙ built)))
+  after : None ≡ position (λ class. bytes_eq class.now name) BUILT_INS → class_named (classes_named own) name ≡ option_map (λ (i : ℕ). i + 1) (option_map (number_in name own (length built_ins)) (found (is_of name) own))
+  after h = numbered name (classes_named own) ∙ ap (option_map (λ (i : ℕ). i + 1)) (found_in_fold name own built_ins (sym (h ∙ built)))
 
   -- one of the world's, or the class of its arrays
   pub in_world : (i : ℕ) → None ≡ position (λ class. bytes_eq class.now name) BUILT_INS → Some i ≡ position (λ (c : Vec ℕ). is_of name c.items) classes
       → class_named (classes_named own) name ≡ Some (43 + 2 * i + or_array name own i)
-  in_world i h k = behind h ∙ ap (λ o. option_map (λ (i : ℕ). i + 1) (option_map (number_in name own (length built_ins)) o)) (sym (k ∙ world)) ∙ ap Some (omega (arith, built_in_count))
+  in_world i h k = after h ∙ ap (λ o. option_map (λ (i : ℕ). i + 1) (option_map (number_in name own (length built_ins)) o)) (sym (k ∙ world)) ∙ ap Some (omega (arith, built_in_count))
 
   pub in_world_below : (i : ℕ) → Some i ≡ position (λ (c : Vec ℕ). is_of name c.items) classes → i < length classes
   in_world_below i k = omega (arith, found_below (is_of name) own i (sym (k ∙ world)), length-map classes (λ (c : Vec ℕ). c.items))
 
   -- in neither
   pub nowhere : None ≡ position (λ class. bytes_eq class.now name) BUILT_INS → None ≡ position (λ (c : Vec ℕ). is_of name c.items) classes → class_named (classes_named own) name ≡ None
-  nowhere h k = behind h ∙ ap (λ o. option_map (λ (i : ℕ). i + 1) (option_map (number_in name own (length built_ins)) o)) (sym (k ∙ world))
+  nowhere h k = after h ∙ ap (λ o. option_map (λ (i : ℕ). i + 1) (option_map (number_in name own (length built_ins)) o)) (sym (k ∙ world))
 
   -- which of the two
   pub is_itself : (i : ℕ) (d : Vec ℕ) → i < length classes → bytes_eq (get_or classes i d).items name ≡ true → or_array name own i ≡ 0

@@ -75,8 +75,8 @@ module _ (classes : List (Vec ℕ)) (number : ℕ) where
   at : (i : ℕ) → number ≡ suc i → is_array ≡ get_or (first_arrays ++ pairs own) i false
   at i h = ap (λ n. not (is_plain (class_kind (classes_named own) n))) h ∙ array_at (classes_named own) i ∙ ap (λ (xs : List Bool). get_or xs i false) (all_arrays own)
 
-  behind : (i : ℕ) → number ≡ 43 + i → is_array ≡ get_or (pairs own) i false
-  behind i h =
+  after : (i : ℕ) → number ≡ 43 + i → is_array ≡ get_or (pairs own) i false
+  after i h =
       let e : (42 + i) - 42 ≡ i = omega arith in
       at (42 + i) (omega (arith, h)) ∙ get_or-append_right first_arrays (pairs own) (42 + i) false (omega arith) ∙ ap (λ k. get_or (pairs own) k false) e
 
@@ -95,13 +95,13 @@ module _ (classes : List (Vec ℕ)) (number : ℕ) where
       ∙ get_or-append_right (replicate 19 false) (replicate 23 true) (19 + i) false (omega arith) ∙ ap (λ k. get_or (replicate 23 true) k false) e ∙ all_true 23 i less
 
   pub own_is : (j : ℕ) → number ≡ 43 + 2 * j → is_array ≡ false
-  own_is j h = behind (2 * j) h ∙ pair_first own j (2 * j) refl
+  own_is j h = after (2 * j) h ∙ pair_first own j (2 * j) refl
 
   pub array_is : (j : ℕ) → number ≡ 44 + 2 * j → j < length classes → is_array ≡ true
-  array_is j h less = behind (2 * j + 1) (omega (arith, h)) ∙ pair_second own j (2 * j + 1) (omega (arith, less, length-map classes (λ (c : Vec ℕ). c.items))) refl
+  array_is j h less = after (2 * j + 1) (omega (arith, h)) ∙ pair_second own j (2 * j + 1) (omega (arith, less, length-map classes (λ (c : Vec ℕ). c.items))) refl
 
   pub past_is : (j : ℕ) → number ≡ 43 + j → 2 * length classes ≤ j → is_array ≡ false
-  past_is j h more = behind j h ∙ get_or_past (pairs own) j false (omega (arith, more, pair_count own, length-map classes (λ (c : Vec ℕ). c.items)))
+  past_is j h more = after j h ∙ get_or_past (pairs own) j false (omega (arith, more, pair_count own, length-map classes (λ (c : Vec ℕ). c.items)))
 
   pub of_first : number < 43 → nat_le 20 number ≡ is_array
   of_first less =

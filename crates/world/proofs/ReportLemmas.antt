@@ -7,22 +7,22 @@ use Rattle.std.proofs.KnownBytes.{Appends-kept}
 use Rattle.std.proofs.lemmas.List.{get_or-map, length-map}
 use Rattle.std.proofs.lemmas.List.FromFn.{length-enumerate_from, get_or-enumerate_from}
 use Rattle.world.specs.declared.report.Printed.{Printed}
-use Rattle.world.specs.declared.report.Standing.{Standing}
+use Rattle.world.specs.declared.report.ThreadStatus.{ThreadStatus}
 use Rattle.world.specs.Report.{ShownRow, thread_line, printed_line, report_text}
 use Rattle.world.specs.Shown.{row_lines, report_with}
-use Rattle.world.specs.Standing.{standing_view}
+use Rattle.world.specs.ThreadStatus.{standing_view}
 use Rattle.world.specs.Sink.{Written, AppendsText, Writes}
 use Rattle.world.proofs.Puts.{flat_map-at, flat_map-past}
 
 -- threads with their numbers
-abbrev pub numbered : List Standing → List (ℕ × Rattle.world.specs.Report.ThreadStanding)
+abbrev pub numbered : List ThreadStatus → List (ℕ × Rattle.world.specs.Report.ThreadStanding)
 numbered xs = enumerate_from 1 (map standing_view xs)
 
-pub length-numbered : (xs : List Standing) → length (numbered xs) ≡ length xs
+pub length-numbered : (xs : List ThreadStatus) → length (numbered xs) ≡ length xs
 length-numbered xs = length-enumerate_from 1 (map standing_view xs) ∙ length-map xs standing_view
 
--- the line of a thread, and those behind it
-pub standings_at : (xs : List Standing) (i n : ℕ) (d : Standing) → i < length xs → n ≡ i
+-- the line of a thread, and those after it
+pub standings_at : (xs : List ThreadStatus) (i n : ℕ) (d : ThreadStatus) → i < length xs → n ≡ i
     → flat_map thread_line (drop i (numbered xs)) ≡ thread_line (n + 1, standing_view (get_or xs i d)) ++ flat_map thread_line (drop (i + 1) (numbered xs))
 standings_at xs i n d h e =
     let long : i < length (map standing_view xs) = omega (arith, h, length-map xs standing_view) in
@@ -35,11 +35,11 @@ standings_at xs i n d h e =
     ∙ ap (λ v. thread_line v ++ flat_map thread_line (drop (i + 1) (numbered xs))) item
 
 -- no thread is left
-pub standings_past : (xs : List Standing) (i : ℕ) → length xs ≤ i → flat_map thread_line (drop i (numbered xs)) ≡ []
+pub standings_past : (xs : List ThreadStatus) (i : ℕ) → length xs ≤ i → flat_map thread_line (drop i (numbered xs)) ≡ []
 standings_past xs i h = flat_map-past thread_line (numbered xs) i (omega (arith, h, length-numbered xs))
 
 -- a report is what was printed, the threads and the rows
-pub report_text-with : (printed : List Printed) (standings : List Standing) (rows : List ShownRow)
+pub report_text-with : (printed : List Printed) (standings : List ThreadStatus) (rows : List ShownRow)
     → report_text (report_with printed standings rows) ≡ (flat_map printed_line printed ++ flat_map thread_line (numbered standings)) ++ row_lines rows
 unfolding report_text
 report_text-with printed standings rows = refl

@@ -24,7 +24,7 @@ use Rattle.world.specs.TextLaws.{world_of_text, IsBuiltWorldText}
 use Rattle.world.specs.World.{Invocation, World}
 use Rattle.world.specs.WorldLines.{WorldValue, NumberValue, WorldLine, ClassLine, ArrayLine, ThreadLine, Lines, spaced, line_text}
 use Rattle.world.specs.WorldMeaning.{table_of, object_of, threads_of, world_of}
-use Rattle.world.specs.WorldRules.{is_thread_line, is_line_word, is_formed_value, value_in_range, WorldRule, broken_by_line, broken_behind, IsNumberedLine, IsWorldText}
+use Rattle.world.specs.WorldRules.{is_thread_line, is_line_word, is_formed_value, value_in_range, WorldRule, broken_by_line, broken_after, IsNumberedLine, IsWorldText}
 use Rattle.world.proofs.PartLemmas.{slice_split-split_at}
 use Rattle.world.proofs.WordLaws.{and_then_ok, both_true}
 use Rattle.world.proofs.KeptLines.{Named, names, class_lines, class_asked, class_keeps}
@@ -32,7 +32,7 @@ use Rattle.world.proofs.ArrayLines.{Arrays, arrays, array_line, array_lines, lin
 use Rattle.world.proofs.KeptArrays.{before_threads, values_mean, least_kept, lines_more, array_keeps, thread_keeps}
 use Rattle.world.proofs.LineForms.{Taken, TookHeap, TookClass, TookArray, TookThread, line_taken}
 
--- ---- the lines behind the thread
+-- ---- the lines after the thread
 
 -- lines of a text with their numbers, the empty ones left out
 abbrev pub written : ℕ → List (List ℕ) → List (ℕ × List ℕ)
@@ -56,8 +56,8 @@ apart false h k = cc
 
 -- what the lines that are taken were asked
 
-nothing_behind : (scene : Scene) (name : Identifier) → class_rule scene name ≡ None → (length scene.objects + length scene.threads == 0) ≡ true
-nothing_behind scene name h = (class_asked (is_some (class_named (classes_named scene.classes) name)) (is_class_name name) (length scene.classes) (length scene.objects + length scene.threads) scene.heap h).1
+nothing_after : (scene : Scene) (name : Identifier) → class_rule scene name ≡ None → (length scene.objects + length scene.threads == 0) ≡ true
+nothing_after scene name h = (class_asked (is_some (class_named (classes_named scene.classes) name)) (is_class_name name) (length scene.classes) (length scene.objects + length scene.threads) scene.heap h).1
 
 module _ (scene : Scene) (x : Identifier) (t : ElementType) (vs : List WorldValue) (h : array_rule scene x t vs ≡ None) where
   pub array_asked : ((not (scene.heap == 0) && (length scene.threads == 0)) ≡ true) × ((is_none (place_of scene x) && list_all is_number vs) ≡ true)
@@ -73,7 +73,7 @@ module _ (scene : Scene) (f : Identifier) (vs : List WorldValue) (h : thread_rul
 none_of_two : (m n : ℕ) → (m + n == 0) ≡ true → (n == 0) ≡ true
 none_of_two m n h = grind (arith, nat_tests, h)
 
--- nothing is written behind the thread's line
+-- nothing is written after the thread's line
 nothing_more : (scene : Scene) (number last : ℕ) (lines : List (List ℕ)) (final : Scene) → (scene.heap == 0) ≡ false → (length scene.threads == 0) ≡ false → lines_scene scene number last lines ≡ Ok final → (written number lines ≡ []) × (final ≡ scene)
 unfolding lines_scene
 nothing_more scene number last [] final a b h = (refl, (finished scene last final h).2)
@@ -84,13 +84,13 @@ nothing_more scene number last ((c ∷ cs) ∷ lines) final a b h =
   where
     refuses : {line : List ℕ} {next : Scene} → Taken scene number line next → ⊥
     refuses (TookHeap cells empty text low high is) = full_heap scene.heap a empty
-    refuses (TookClass name text asked is) = apart (length scene.threads == 0) (none_of_two (length scene.objects) (length scene.threads) (nothing_behind scene name asked)) b
+    refuses (TookClass name text asked is) = apart (length scene.threads == 0) (none_of_two (length scene.objects) (length scene.threads) (nothing_after scene name asked)) b
     refuses (TookArray d text named asked is) =
         apart (length scene.threads == 0) ((both_true (not (scene.heap == 0)) (length scene.threads == 0) ((array_asked scene d.name d.element (map NumberValue d.values) asked).0)).1) b
     refuses (TookThread function values text word formed asked is) =
         apart (length scene.threads == 0) ((both_true (list_all (value_in_range JInt) values) (length scene.threads == 0) ((thread_asked scene function values asked).2)).1) b
 
--- ---- the lines behind the heap's
+-- ---- the lines after the heap's
 
 abbrev pub whole_scene : (cells : ℕ) → Named → Arrays → ℕ → Identifier → List WorldValue → Scene
 whole_scene cells cs bs n function values = record {
@@ -100,7 +100,7 @@ whole_scene cells cs bs n function values = record {
   threads = (record { function = function; line = n; arguments = map (argument_of (before_threads cells cs bs)) values } ∷ []) ∷ [];
 }
 
--- what is read of these lines, behind others
+-- what is read of these lines, after others
 record IsRest (cells : ℕ) (L : Lines) (number : ℕ) (lines : List (List ℕ)) (final : Scene) : Type 0 where
   rest : Lines
   cs : Named
@@ -109,7 +109,7 @@ record IsRest (cells : ℕ) (L : Lines) (number : ℕ) (lines : List (List ℕ))
   function : Identifier
   values : List WorldValue
   spelled : AllZip IsNumberedLine (written number lines) rest
-  rules : broken_behind cells L rest ≡ []
+  rules : broken_after cells L rest ≡ []
   whole : L ++ rest ≡ all_lines cs bs at function values
   is : final ≡ whole_scene cells cs bs at function values
 
@@ -122,9 +122,9 @@ lines-append [] ds = refl
 lines-append (c ∷ cs) ds = ap (λ (ls : Lines). (c.0, ClassLine c.1 None) ∷ ls) (lines-append cs ds)
 
 -- one line more that keeps the rules
-keeps_behind : (cells : ℕ) (earlier rest : Lines) (line : ℕ × WorldLine) → broken_by_line cells earlier line ≡ [] → broken_behind cells (earlier ++ line ∷ []) rest ≡ [] → broken_behind cells earlier (line ∷ rest) ≡ []
-keeps_behind cells earlier rest line a b =
-    ap (λ (rs : List WorldRule). map (λ rule. (line.0, rule)) rs ++ broken_behind cells (earlier ++ line ∷ []) rest) a ∙ b
+keeps_after : (cells : ℕ) (earlier rest : Lines) (line : ℕ × WorldLine) → broken_by_line cells earlier line ≡ [] → broken_after cells (earlier ++ line ∷ []) rest ≡ [] → broken_after cells earlier (line ∷ rest) ≡ []
+keeps_after cells earlier rest line a b =
+    ap (λ (rs : List WorldRule). map (λ rule. (line.0, rule)) rs ++ broken_after cells (earlier ++ line ∷ []) rest) a ∙ b
 
 -- a line in front of the rest
 one_more : (cells : ℕ) (L : Lines) (number : ℕ) (c : ℕ) (ds : List ℕ) (lines : List (List ℕ)) (final : Scene) (line : WorldLine) → c ∷ ds ≡ line_text line → broken_by_line cells L (number, line) ≡ []
@@ -137,7 +137,7 @@ one_more cells L number c ds lines final line text kept r = record {
   function = r.function;
   values = r.values;
   spelled = ((refl, inl text), r.spelled);
-  rules = keeps_behind cells L r.rest (number, line) kept r.rules;
+  rules = keeps_after cells L r.rest (number, line) kept r.rules;
   whole = sym (append_assoc L ((number, line) ∷ []) r.rest) ∙ r.whole;
   is = r.is;
 }
@@ -247,7 +247,7 @@ record IsWhole (number : ℕ) (lines : List (List ℕ)) (final : Scene) : Type 0
   spelled : AllZip IsNumberedLine texts rest
   low : 512 ≤ cells
   high : cells ≤ 1048576
-  rules : broken_behind cells [] rest ≡ []
+  rules : broken_after cells [] rest ≡ []
   whole : rest ≡ all_lines cs bs at function values
   is : final ≡ whole_scene cells cs bs at function values
 

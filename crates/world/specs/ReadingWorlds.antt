@@ -43,12 +43,12 @@ heap_rule scene None = Some Form
 heap_rule scene (Some cells) =
     if not (scene.heap == 0) then Some Form else (if nat_lt cells 512 || nat_lt 1048576 cells then Some Limit else None)
 
--- A line out of its order breaks one rule alone: objects and threads stand behind all classes. There are 42 classes at
+-- A line out of its order breaks one rule alone: objects and threads stand after all classes. There are 42 classes at
 -- the start and at most 256, and each world class brings its array class. A class object has 3 cells, and the
 -- OutOfMemoryError object has 4.
 abbrev pub least_class_rule : Bool → Bool → ℕ → ℕ → ℕ → Option Rule
-least_class_rule is_taken is_formed classes behind cells =
-    if cells == 0 || not (behind == 0) then Some Form
+least_class_rule is_taken is_formed classes after cells =
+    if cells == 0 || not (after == 0) then Some Form
     else (if is_taken then Some NameTaken
     else (if nat_le 107 classes then Some Classes
     else (if not is_formed then Some Form
@@ -120,7 +120,7 @@ abbrev pub number_of : WorldValue → ℤ
 number_of (NumberValue z) = z
 number_of value = pos 0
 
--- behind the class objects and the OutOfMemoryError object
+-- after the class objects and the OutOfMemoryError object
 abbrev pub object_at : Scene → ℕ → ℕ
 object_at scene place = 44 + 2 * length scene.classes + place
 
@@ -143,7 +143,7 @@ thread_scene scene number function (Some values) =
     (record scene { threads = scene.threads ++ (record { function = function; line = number; arguments = map (argument_of scene) values } ∷ []) ∷ [] })
 thread_scene scene number function None = refused Form number
 
--- the line of an array, behind its name
+-- the line of an array, after its name
 abbrev pub array_words_scene : Scene → ℕ → List ℕ → List (List ℕ) → Result Scene TextFault
 array_words_scene scene number x [] = refused Form number
 array_words_scene scene number x (kind ∷ words) = array_scene scene number (object_named x) (element_named kind) (values_named words)

@@ -13,7 +13,7 @@ use Rattle.world.specs.Scene.{ArrayScene, CallScene, Scene}
 abbrev pub with_named_class : Classes → Identifier → Classes
 with_named_class classes name = with_class classes (new_class name (Some object_class))
 
--- the built-in classes, and behind them those of these names
+-- the built-in classes, and after them those of these names
 abbrev pub classes_named : List Identifier → Classes
 classes_named names = fold with_named_class built_ins names
 

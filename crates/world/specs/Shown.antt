@@ -7,9 +7,9 @@ use Rattle.world.specs.declared.names.ClassName.TheVariants.{Plain, Array}
 use Rattle.world.specs.declared.rows.Shown.{Shown}
 use Rattle.world.specs.declared.rows.Shown.TheVariants as held
 use Rattle.world.specs.declared.report.Printed.{Printed}
-use Rattle.world.specs.declared.report.Standing.{Standing}
+use Rattle.world.specs.declared.report.ThreadStatus.{ThreadStatus}
 use Rattle.world.specs.Report.{ShownValue, ShownNumber, ShownNull, ShownClass, ShownObject, ShownRow, object_line, Report}
-use Rattle.world.specs.Standing.{standing_view}
+use Rattle.world.specs.ThreadStatus.{standing_view}
 
 -- the name of a class
 abbrev pub name_view : ClassName → Identifier
@@ -32,5 +32,5 @@ abbrev pub row_lines : List ShownRow → List ℕ
 row_lines rows = flat_map object_line rows
 
 -- the report of these numbers, threads and objects
-abbrev pub report_with : List Printed → List Standing → List ShownRow → Report
+abbrev pub report_with : List Printed → List ThreadStatus → List ShownRow → Report
 report_with printed standings rows = record { printed = printed; standings = map standing_view standings; objects = rows }

@@ -27,7 +27,7 @@ pub use array::{Array, Element};
 pub use fault::{ReadError, Rule, TextFault};
 pub use journal::{Entry, entries_are_read_again, journals_are_read, read_journal};
 pub use names::ClassName;
-pub use report::{Printed, Standing};
+pub use report::{Printed, ThreadStatus};
 pub use rows::{NoRows, Rows, Shown, put_row_end, put_row_head, put_value};
 pub use schedule::{Repetition, Schedule, ScheduleWord, read_schedule, schedules_are_read};
 pub use sink::{Sink, SinkFailed, put_all, put_pieces};

@@ -4,7 +4,7 @@ ghost use Rattle.std.specs.Prelude.{◌≡◌, ℕ, List, [], ◌∷◌, ◌++�
 ghost use Rattle.std.specs.List.{flat_map, enumerate_from};
 ghost use Rattle.world.specs.Sink.{CanFail, Writes};
 ghost use Rattle.world.specs.Report.{thread_line};
-ghost use Rattle.world.specs.Standing.{standing_view};
+ghost use Rattle.world.specs.ThreadStatus.{standing_view};
 
 use crate::sink::{Sink, SinkFailed, put_pieces};
 use crate::text::Text;
@@ -20,7 +20,7 @@ pub struct Printed {
 
 /// How a thread stands when the run is over.
 #[derive(Clone, Copy, Debug, PartialEq, Eq)]
-pub enum Standing {
+pub enum ThreadStatus {
     /// Its step was a trap, of this number, in a statement of this line.
     Trapped(u8, usize),
     /// It has taken all its steps.
@@ -31,9 +31,9 @@ pub enum Standing {
     Running,
 }
 
-impl Default for Standing {
-    fn default() -> Standing {
-        Standing::Running
+impl Default for ThreadStatus {
+    fn default() -> ThreadStatus {
+        ThreadStatus::Running
     }
 }
 
@@ -55,17 +55,21 @@ impl Text for Printed {
 }
 
 /// Puts the line of a thread.
-fn put_standing<S: Sink>(sink: &mut S, thread: usize, standing: Standing) -> Result<(), SinkFailed>
+fn put_standing<S: Sink>(
+    sink: &mut S,
+    thread: usize,
+    standing: ThreadStatus,
+) -> Result<(), SinkFailed>
     requires { CanFail (S.written sink.old) }
     ensures { Writes (S.written sink.old) (S.written sink.new) result (thread_line (thread, standing_view standing)) }
 {
     let mut name = Buffer::new();
     let name = name.format(thread);
     match standing {
-        Standing::Ended => put_pieces(sink, &[b"T", name.as_bytes(), b" ended\n"]),
-        Standing::Blocked => put_pieces(sink, &[b"T", name.as_bytes(), b" blocked\n"]),
-        Standing::Running => put_pieces(sink, &[b"T", name.as_bytes(), b" running\n"]),
-        Standing::Trapped(trap, line) => {
+        ThreadStatus::Ended => put_pieces(sink, &[b"T", name.as_bytes(), b" ended\n"]),
+        ThreadStatus::Blocked => put_pieces(sink, &[b"T", name.as_bytes(), b" blocked\n"]),
+        ThreadStatus::Running => put_pieces(sink, &[b"T", name.as_bytes(), b" running\n"]),
+        ThreadStatus::Trapped(trap, line) => {
             let mut number = Buffer::new();
             let mut place = Buffer::new();
             let number = number.format(trap);
@@ -87,7 +91,10 @@ fn put_standing<S: Sink>(sink: &mut S, thread: usize, standing: Standing) -> Res
 }
 
 /// Puts the lines of the threads, the first of which is T1.
-pub(crate) fn put_standings<S: Sink>(sink: &mut S, standings: &[Standing]) -> Result<(), SinkFailed>
+pub(crate) fn put_standings<S: Sink>(
+    sink: &mut S,
+    standings: &[ThreadStatus],
+) -> Result<(), SinkFailed>
     requires { CanFail (S.written sink.old) }
     ensures { Writes (S.written sink.old) (S.written sink.new) result
         (flat_map thread_line (enumerate_from 1 (map standing_view standings.now))) }

@@ -58,7 +58,7 @@ pub fn put_row_head<S: Sink>(sink: &mut S, number: u32, class: ClassName) -> Res
     }
 }
 
-/// Puts a value of a row, behind a space.
+/// Puts a value of a row, after a space.
 pub fn put_value<S: Sink>(sink: &mut S, value: Shown) -> Result<(), SinkFailed>
     requires { CanFail (S.written sink.old) }
     ensures { Writes (S.written sink.old) (S.written sink.new) result (codes " " ++ shown_text (shown_view value.entry)) }

@@ -44,7 +44,7 @@ fn write_text<W: Write>(sink: &mut StdSink<W>) -> Result<(), SinkFailed> {
             number: 0,
         },
     ];
-    let standings = [Standing::Trapped(3, 7), Standing::Running];
+    let standings = [ThreadStatus::Trapped(3, 7), ThreadStatus::Running];
     let entries = [(1, false), (1, true), (2, false)].map(|(thread, refused)| Entry {
         thread,
         refused,

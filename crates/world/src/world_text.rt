@@ -43,12 +43,12 @@ fn least_class_rule(
     is_taken: bool,
     is_formed: bool,
     classes: usize,
-    behind: usize,
+    after: usize,
     cells: u32,
 ) -> Option<Rule>
-    ensures { result ≡ least_class_rule is_taken is_formed classes behind cells }
+    ensures { result ≡ least_class_rule is_taken is_formed classes after cells }
 {
-    if cells == 0 || behind != 0 {
+    if cells == 0 || after != 0 {
         return Some(Rule::Form);
     }
     if is_taken {
@@ -130,7 +130,7 @@ fn are_in_range(element: Element, values: &[Value]) -> bool
         .all(|value| is_value_in_range(element, *value))
 }
 
-/// Whether an array of so many numbers fits behind the cells that are used.
+/// Whether an array of so many numbers fits after the cells that are used.
 fn has_room(cells: usize, used: usize, numbers: usize) -> bool
     ensures { result ≡ nat_le (used + 3 + numbers) cells }
 {
@@ -183,7 +183,7 @@ impl WorldBuilder {
     }
 
     /// Whether the heap's line was there, and the function has a name.
-    fn is_behind_heap(&self, function: &[u8]) -> bool
+    fn is_after_heap(&self, function: &[u8]) -> bool
         ensures { result ≡ (not (self.now.heap == 0) && not (length function.now == 0)) }
     {
         self.heap != 0 && !function.is_empty()
@@ -232,7 +232,7 @@ impl WorldBuilder {
         ensures { result ≡ thread_rule (scene_of self.now) function.now (map value_view values.now) }
     {
         least_rule(
-            self.is_behind_heap(function),
+            self.is_after_heap(function),
             self.are_there(values),
             self.is_thread_within(values),
             true,
@@ -385,7 +385,7 @@ fn take_array(
     Ok(())
 }
 
-/// Takes the words of a line of an array, behind its name.
+/// Takes the words of a line of an array, after its name.
 fn take_array_words(
     alloc: Global,
     builder: &mut WorldBuilder,

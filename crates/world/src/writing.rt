@@ -7,7 +7,7 @@ ghost use Rattle.world.specs.Shown.{report_with};
 ghost use Rattle.world.specs.Journal.{journal_line};
 
 use crate::journal::Entry;
-use crate::report::{Printed, Standing, put_standings};
+use crate::report::{Printed, ThreadStatus, put_standings};
 use crate::rows::Rows;
 use crate::sink::{Sink, SinkFailed, put_all, put_pieces};
 use crate::text::{Text, put_each};
@@ -34,7 +34,7 @@ impl Text for Entry {
 fn write_report<S: Sink, R: Rows>(
     sink: &mut S,
     printed: &[Printed],
-    standings: &[Standing],
+    standings: &[ThreadStatus],
     rows: &R,
 ) -> Result<(), SinkFailed>
     requires { CanFail (S.written sink.old) }
@@ -62,7 +62,7 @@ fn write_journal<S: Sink>(sink: &mut S, entries: &[Entry]) -> Result<(), SinkFai
 pub fn write_run<S: Sink, R: Rows>(
     sink: &mut S,
     printed: &[Printed],
-    standings: &[Standing],
+    standings: &[ThreadStatus],
     rows: &R,
     entries: &[Entry],
 ) -> Result<(), SinkFailed>

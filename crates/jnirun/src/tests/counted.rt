@@ -14,7 +14,7 @@ struct Counted {
     head: &'static [u8],
     last: u32,
     tail: &'static [u8],
-    behind: &'static [u8],
+    after: &'static [u8],
     answer: &'static [u8],
 }
 
@@ -28,7 +28,7 @@ const COUNTED: [Counted; 3] = [
         last: 257,
         tail: br#" = NULL;
 "#,
-        behind: b"",
+        after: b"",
         answer: b"fault 13 line 257\n",
     },
     Counted {
@@ -41,7 +41,7 @@ const COUNTED: [Counted; 3] = [
         last: 32768,
         tail: br#");
 "#,
-        behind: br#"    return;
+        after: br#"    return;
 }
 "#,
         answer: b"fault 51 line 0\n",
@@ -60,7 +60,7 @@ class A
         last: 107,
         tail: br#"
 "#,
-        behind: br#"thread Java_A_f
+        after: br#"thread Java_A_f
 "#,
         answer: b"fault 64 line 109\n",
     },
@@ -74,7 +74,7 @@ fn text(rt: &impl AllocGlobal, counted: &Counted) -> Result<Vec<u8>, AllocError>
         text.extend_from_slice(digits.format(number).as_bytes())?;
         text.extend_from_slice(counted.tail)?;
     }
-    text.extend_from_slice(counted.behind)?;
+    text.extend_from_slice(counted.after)?;
     Ok(text)
 }
 

@@ -37,14 +37,14 @@ fn items(
     rt: &impl AllocGlobal,
     count: usize,
     before: &[u8],
-    behind: &[u8],
+    after: &[u8],
 ) -> Result<Vec<u8>, AllocError> {
     let mut text = Vec::new(rt.alloc());
     for number in 0..count {
         let mut digits = Buffer::new();
         text.extend_from_slice(before)?;
         text.extend_from_slice(digits.format(number).as_bytes())?;
-        text.extend_from_slice(behind)?;
+        text.extend_from_slice(after)?;
     }
     Ok(text)
 }
@@ -115,10 +115,10 @@ fn many_items(rt: HostRuntime) -> Result<(), Fail> {
         ),
         (b"static jobject s".as_slice(), b" = NULL;\n".as_slice()),
     ];
-    for (before, behind) in cases {
-        let most = items(&rt, 256, before, behind)?;
+    for (before, after) in cases {
+        let most = items(&rt, 256, before, after)?;
         assert_eq!(rt; checked(&rt, &most).1.as_slice(), b"ok\n".as_slice());
-        let more = items(&rt, 257, before, behind)?;
+        let more = items(&rt, 257, before, after)?;
         assert_eq!(rt;
             checked(&rt, &more).1.as_slice(),
             b"fault 13 line 257\n".as_slice()

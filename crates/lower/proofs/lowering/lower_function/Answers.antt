@@ -13,9 +13,9 @@ use Rattle.lower.proofs.Functions.{listing_of, function_valid, is_code_of}
 use Rattle.lower.proofs.lowering.lower_function.Goals as goal
 
 -- what is emitted is the code of the function, with its slots
-listed : (statics : Known) (f : Function) (names behind : Layout) (old a b : List Instr) (counts taken : SlotCounts) → names ≡ entry_layout statics f → old ≡ [] → a ≡ old ++ block_code names f.body → b ≡ a ++ instr.Return ∷ []
-    → behind ≡ closed names (block_layout names f.body) → counts ≡ behind.slots → taken ≡ record counts { numbers = counts.numbers + 1 } → listing_of statics f ≡ record { instrs = b; slots = taken }
-listed statics f names behind old a b counts taken en eo ea eb el ec et = rw (et, ec, el, eb, ea, eo, en) refl
+listed : (statics : Known) (f : Function) (names after : Layout) (old a b : List Instr) (counts taken : SlotCounts) → names ≡ entry_layout statics f → old ≡ [] → a ≡ old ++ block_code names f.body → b ≡ a ++ instr.Return ∷ []
+    → after ≡ closed names (block_layout names f.body) → counts ≡ after.slots → taken ≡ record counts { numbers = counts.numbers + 1 } → listing_of statics f ≡ record { instrs = b; slots = taken }
+listed statics f names after old a b counts taken en eo ea eb el ec et = rw (et, ec, el, eb, ea, eo, en) refl
 
 -- code with these parts
 same_listing : (code : Listing) (instrs : List Instr) (slots : SlotCounts) → code.instrs ≡ instrs → code.slots ≡ slots → record { instrs = instrs; slots = slots } ≡ code

@@ -13,9 +13,9 @@ use Rattle.lower.proofs.Jumps.{first_made, ways_made, loop_made}
 use Rattle.lower.proofs.statements.+statements.Goals as goal
 
 -- what four calls append, and the jump that is set at the end
-first_whole : (old a b c d new test then' : List Instr) (jump end : ℕ) → a ≡ old ++ test → b ≡ a ++ instr.JumpUnless 0 ∷ [] → c ≡ b ++ then' → d ≡ c ++ instr.GoOn 0 ∷ [] → jump ≡ length a → end ≡ length c → new ≡ slice_set d jump (instr.JumpUnless (end - jump)) → new ≡ old ++ first_code test then'
+first_whole : (old a b c d new test then' : List Instr) (jump end : ℕ) → a ≡ old ++ test → b ≡ a ++ instr.JumpIfFalse 0 ∷ [] → c ≡ b ++ then' → d ≡ c ++ instr.Jump 0 ∷ [] → jump ≡ length a → end ≡ length c → new ≡ slice_set d jump (instr.JumpIfFalse (end - jump)) → new ≡ old ++ first_code test then'
 first_whole old a b c d new test then' jump end ea eb ec ed ej ee en =
-    let size : end - jump ≡ length then' + 1 = omega (arith, ej, ee, ap length ec, ap length eb, length-append b then', length-append a (instr.JumpUnless 0 ∷ [])) in
+    let size : end - jump ≡ length then' + 1 = omega (arith, ej, ee, ap length ec, ap length eb, length-append b then', length-append a (instr.JumpIfFalse 0 ∷ [])) in
     let place : jump ≡ length (old ++ test) = ej ∙ ap length ea in
     en ∙ rw (ed, ec, eb, ea) (first_made old test then' jump (end - jump) place size)
 
@@ -24,12 +24,12 @@ emit_first-returns-clause-code t c =
     first_whole c.args.code.now.items _ _ _ _ _ _ _ c.len-jump.result c.len-end.result c.in_ok-emit_test.ensures c.in_ok-emit.ensures c.in_ok-emit_block.ensures.code c.in_ok-emit-2.ensures (omega (arith, c.len-jump.ensures)) (omega (arith, c.len-end.ensures)) c.replace.ensures
 
 -- what the test, the jump and the body append, and the jump that is set at the end
-loop_whole : (old a b c d new test body : List Instr) (start jump back m n : ℕ) → a ≡ old ++ test → b ≡ a ++ instr.JumpUnless 0 ∷ [] → c ≡ b ++ body → d ≡ c ++ instr.GoBack m ∷ [] → start ≡ length old → jump ≡ length a → back ≡ length c → m ≡ back - start → n ≡ back - jump
-    → new ≡ slice_set d jump (instr.JumpUnless n) → new ≡ old ++ loop_code test body
+loop_whole : (old a b c d new test body : List Instr) (start jump back m n : ℕ) → a ≡ old ++ test → b ≡ a ++ instr.JumpIfFalse 0 ∷ [] → c ≡ b ++ body → d ≡ c ++ instr.JumpBack m ∷ [] → start ≡ length old → jump ≡ length a → back ≡ length c → m ≡ back - start → n ≡ back - jump
+    → new ≡ slice_set d jump (instr.JumpIfFalse n) → new ≡ old ++ loop_code test body
 loop_whole old a b c d new test body start jump back m n ea eb ec ed es ej ee em size en =
     let first = ap length ea ∙ length-append old test in
     let all = ap length ec ∙ length-append b body in
-    let more = ap length eb ∙ length-append a (instr.JumpUnless 0 ∷ []) in
+    let more = ap length eb ∙ length-append a (instr.JumpIfFalse 0 ∷ []) in
     let far : n ≡ length body + 1 = omega (arith, size, ej, ee, all, more) in
     let turn : m ≡ length test + 1 + length body = omega (arith, em, es, ee, all, more, first) in
     let place : jump ≡ length (old ++ test) = ej ∙ ap length ea in
@@ -40,13 +40,13 @@ emit_loop-returns-clause-code t c =
     loop_whole c.args.code.now.items _ _ _ _ _ _ _ c.len-start.result c.len-jump.result c.len-back.result _ _ c.in_ok-emit_expr.ensures c.in_ok-emit.ensures c.in_ok-emit_block.ensures.code c.in_ok-emit-2.ensures (omega (arith, c.len-start.ensures)) (omega (arith, c.len-jump.ensures)) (omega (arith, c.len-back.ensures)) refl refl c.replace.ensures
 
 -- both ways of an `if`, of which the jump at the end of the first is set at the end
-ways_whole : (old a b new test then' else' : List Instr) (end n : ℕ) → a ≡ old ++ first_code test then' → b ≡ a ++ else' → end + 1 ≡ length a → n ≡ length b → new ≡ slice_set (b ++ instr.GoOn 0 ∷ []) end (instr.GoOn (n - end)) → new ≡ old ++ (test ++ ways_code then' (else' ++ instr.GoOn 0 ∷ []))
+ways_whole : (old a b new test then' else' : List Instr) (end n : ℕ) → a ≡ old ++ first_code test then' → b ≡ a ++ else' → end + 1 ≡ length a → n ≡ length b → new ≡ slice_set (b ++ instr.Jump 0 ∷ []) end (instr.Jump (n - end)) → new ≡ old ++ (test ++ ways_code then' (else' ++ instr.Jump 0 ∷ []))
 ways_whole old a b new test then' else' end n ea eb at size en =
     let place : end + 1 ≡ length (old ++ first_code test then') = at ∙ ap length ea in
     let far : n - end ≡ length else' + 1 = omega (arith, at, size, ap length eb, length-append a else') in
     en ∙ rw (eb, ea) (ways_made old test then' else' end (n - end) place far)
 
-way_whole : (old a new test then' : List Instr) (end n : ℕ) → a ≡ old ++ first_code test then' → end + 1 ≡ length a → n ≡ length a → new ≡ slice_set (a ++ instr.GoOn 0 ∷ []) end (instr.GoOn (n - end)) → new ≡ old ++ (test ++ ways_code then' (instr.GoOn 0 ∷ []))
+way_whole : (old a new test then' : List Instr) (end n : ℕ) → a ≡ old ++ first_code test then' → end + 1 ≡ length a → n ≡ length a → new ≡ slice_set (a ++ instr.Jump 0 ∷ []) end (instr.Jump (n - end)) → new ≡ old ++ (test ++ ways_code then' (instr.Jump 0 ∷ []))
 way_whole old a new test then' end n ea at size en = ways_whole old a a new test then' [] end n ea (sym (append-nil a)) at size en
 
 on_ok : {A E : Type 0} (r : Result A E) (P Q : Type 0) → (P → Q) → OnOk r P → OnOk r Q
@@ -57,7 +57,7 @@ pub emit_form-returns-in_ok-end-in-If-clause-code : goal.emit_form-returns-in_ok
 emit_form-returns-in_ok-end-in-If-clause-code t c =
     let first = c.emit_first.new.code in
     on_ok c.emit_end.result _ _
-    (λ (e : c.emit_end.new.code.items ≡ slice_set (first.items ++ instr.GoOn 0 ∷ []) c.in_ok-end-in-If.end (instr.GoOn (vec_len first - c.in_ok-end-in-If.end))).
+    (λ (e : c.emit_end.new.code.items ≡ slice_set (first.items ++ instr.Jump 0 ∷ []) c.in_ok-end-in-If.end (instr.Jump (vec_len first - c.in_ok-end-in-If.end))).
     way_whole c.args.code.now.items first.items _ _ _ c.in_ok-end-in-If.end (vec_len first) c.in_ok-end-in-If.ensures.code (c.in_ok-end-in-If.ensures.end ∙ first.ok.0) first.ok.0 e
     ∙ ap (λ f. c.args.code.now.items ++ stmt_code c.args.names.now (form_tree c.args.line f)) (sym c.in-If.is))
     c.emit_end.ensures
@@ -69,7 +69,7 @@ emit_form-returns-in_ok-emit_block-in-IfElse-clause-code t c =
     let end = c.in_ok-end-in-IfElse.end in
     let names = c.in_ok-end-in-IfElse.ensures.names in
     on_ok c.emit_end-in-IfElse.result _ _
-    (λ (e : c.emit_end-in-IfElse.new.code.items ≡ slice_set (second.items ++ instr.GoOn 0 ∷ []) end (instr.GoOn (vec_len second - end))).
+    (λ (e : c.emit_end-in-IfElse.new.code.items ≡ slice_set (second.items ++ instr.Jump 0 ∷ []) end (instr.Jump (vec_len second - end))).
     ways_whole c.args.code.now.items first.items second.items _ _ _ _ end (vec_len second) c.in_ok-end-in-IfElse.ensures.code
     (c.in_ok-emit_block-in-IfElse.ensures.code ∙ ap (λ l. first.items ++ block_code l (block_tree c.in-IfElse.second)) names) (c.in_ok-end-in-IfElse.ensures.end ∙ first.ok.0) second.ok.0 e
     ∙ ap (λ f. c.args.code.now.items ++ stmt_code c.args.names.now (form_tree c.args.line f)) (sym c.in-IfElse.is))

@@ -1,6 +1,6 @@
 use Rattle.std.proofs.Common.{◌≡◌, ℕ, suc, ◌+◌, ◌<◌, List, ◌∷◌, [], ◌++◌, length, take, refl, sym, ap, ◌∙◌, arith, length-take}
 use Rattle.std.proofs.lemmas.Option.{slice_get_read}
-use Rattle.world.specs.declared.report.Standing.{Standing}
+use Rattle.world.specs.declared.report.ThreadStatus.{ThreadStatus}
 use Rattle.machine.specs.Stops.{standing_of}
 use Rattle.machine.proofs.Standings.{standings, length-standings, standings-more}
 use Rattle.machine.proofs.machine.standings_of.Goals as goal
@@ -21,8 +21,8 @@ loop-thread-preserved c =
     let more : standings c.args.stop 1 (take (suc i) ts) ≡ c.push.new.self.items =
     standings-more c.args.stop 1 ts i c.thread-item.result at
     ∙ ap (λ (k : ℕ). standings c.args.stop 1 (take i ts) ++ standing_of c.args.stop k c.thread-item.result.ending ∷ []) (sym place)
-    ∙ ap (λ (s : Standing). standings c.args.stop 1 (take i ts) ++ s ∷ []) (sym c.standing_of.ensures)
-    ∙ ap (λ (l : List Standing). l ++ c.standing_of.result ∷ []) (sym c.loop-thread.invariant.standings)
+    ∙ ap (λ (s : ThreadStatus). standings c.args.stop 1 (take i ts) ++ s ∷ []) (sym c.standing_of.ensures)
+    ∙ ap (λ (l : List ThreadStatus). l ++ c.standing_of.result ∷ []) (sym c.loop-thread.invariant.standings)
     ∙ sym c.push.ensures.items in
     record {
       count = omega arith;

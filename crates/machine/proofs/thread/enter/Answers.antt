@@ -5,15 +5,15 @@ use Rattle.std.specs.Option.{MatchOption, option_copied}
 use Rattle.world.specs.Views.{argument_view}
 use Rattle.code.specs.Depth.{Listing}
 use Rattle.lower.specs.Slots.{HasRoom}
-use Rattle.machine.specs.declared.thread.CallToCome.{CallToCome}
+use Rattle.machine.specs.declared.thread.PendingCall.{PendingCall}
 use Rattle.machine.proofs.Calls.{is_there}
 use Rattle.machine.proofs.thread.enter.Goals as goal
 
 -- what stands in front
-in_front : (items : List CallToCome) (o : Option (Bor CallToCome)) (r : Bor CallToCome) → o ≡ Some r → MatchOption o (length items ≤ 0) (λ x. (0 < length items) × HoldsAt (λ y. x.now ≡ y) items 0) → (rest : List CallToCome) × (items ≡ r.now ∷ rest)
+in_front : (items : List PendingCall) (o : Option (Bor PendingCall)) (r : Bor PendingCall) → o ≡ Some r → MatchOption o (length items ≤ 0) (λ x. (0 < length items) × HoldsAt (λ y. x.now ≡ y) items 0) → (rest : List PendingCall) × (items ≡ r.now ∷ rest)
 in_front items None r e h = absurd (cc)
 in_front [] (Some x) r e h = absurd (omega (arith, h.0))
-in_front (n ∷ rest) (Some x) r e h = (rest, let same : x ≡ r = cc in subst (λ (y : Bor CallToCome). n ∷ rest ≡ y.now ∷ rest) same (ap (λ (m : CallToCome). m ∷ rest) (sym (h.1 n))))
+in_front (n ∷ rest) (Some x) r e h = (rest, let same : x ≡ r = cc in subst (λ (y : Bor PendingCall). n ∷ rest ≡ y.now ∷ rest) same (ap (λ (m : PendingCall). m ∷ rest) (sym (h.1 n))))
 
 pub unwrap-code-requires : goal.unwrap-code-requires
 unwrap-code-requires c =
@@ -43,6 +43,6 @@ pub returns-clause-calls : goal.returns-clause-calls
 returns-clause-calls c =
     let next = c.unwrap-next.result.now in
     let f = in_front c.args.thread.now.calls.items c.front.result c.unwrap-next.result c.unwrap-next.ensures c.front.ensures.item.3 in
-    let rest : c.pop_front.new.self.items ≡ f.0 = c.pop_front.ensures.rest ∙ ap (λ (l : List CallToCome). drop 1 l) f.1 in
+    let rest : c.pop_front.new.self.items ≡ f.0 = c.pop_front.ensures.rest ∙ ap (λ (l : List PendingCall). drop 1 l) f.1 in
     let here : slice_get c.args.program.now.codes next.function ≡ Some c.unwrap-code.result.now = sym c.code.ensures.code ∙ ap option_copied c.unwrap-code.ensures in
-    (next, c.in_ok-call.call, f.1 ∙ ap (λ (l : List CallToCome). next ∷ l) (sym rest), refl, record { code = c.unwrap-code.result.now; of_function = here; begins = c.in_ok-call.ensures })
+    (next, c.in_ok-call.call, f.1 ∙ ap (λ (l : List PendingCall). next ∷ l) (sym rest), refl, record { code = c.unwrap-code.result.now; of_function = here; begins = c.in_ok-call.ensures })

@@ -5,7 +5,7 @@ use Rattle.parse.specs.Lexemes.{views}
 use Rattle.std.specs.Option.{option_map}
 use Rattle.syntax.specs.Limits.{operator_level}
 use Rattle.syntax.specs.Views.{expr_tree, binary_tree}
-use Rattle.parse.specs.Reading.{behind, expr_at}
+use Rattle.parse.specs.Reading.{rest_of, expr_at}
 use Rattle.parse.proofs.Climbing.{climbs_start, climb_none, climb_loose, climb_high, climb_fails, climb_on, none_since}
 use Rattle.parse.proofs.expressions.+expressions.Goals as goal
 use Rattle.parse.proofs.expressions.+expressions.Goals.{expression-in-Some+then-level-least, expression-in_default}
@@ -21,12 +21,12 @@ expression-returns-then-height-room-clause-gives t c =
 pub expression-returns-in_err-right-clause-gives : goal.expression-returns-in_err-right-clause-gives
 expression-returns-in_err-right-clause-gives t c =
     let p = err_from_is_err_and c.from_residual-in_err-right.result c.from_residual-in_err-right.ensures.1 in
-    let h : Fails c.in_err-right.field-0.0 (expr_at (c.args.room - 1) (operator_level (binary_tree c.in-Some.op) + 1) (behind (views c.loop-op.rest.now))) = rw (sym c.level-in-Some.ensures, sym c.behind.ensures) c.in_err-right.ensures.gives in
+    let h : Fails c.in_err-right.field-0.0 (expr_at (c.args.room - 1) (operator_level (binary_tree c.in-Some.op) + 1) (rest_of (views c.loop-op.rest.now))) = rw (sym c.level-in-Some.ensures, sym c.rest_of.ensures) c.in_err-right.ensures.gives in
     rw (p.1, p.2) (climb_fails c.args.room c.args.least (expr_tree c.loop-op.left) c.loop-op.height (views c.loop-op.rest.now) (expr_at c.args.room c.args.least (views c.args.lexemes.now)) c.loop-op.invariant (binary_tree c.in-Some.op) c.in_err-right.field-0.0 c.in-Some.ensures (omega (arith, c.level.ensures)) c.if-height-room.false h)
 
 pub expression-loop-op-preserved : goal.expression-loop-op-preserved
 expression-loop-op-preserved t c =
-    let h : expr_at (c.args.room - 1) (operator_level (binary_tree c.in-Some.op) + 1) (behind (views c.loop-op.rest.now)) ≡ Ok (expr_tree c.in_ok-right.right, c.in_ok-right.right_height, views c.in_ok-right.after.now) = rw (sym c.level-in-Some.ensures, sym c.behind.ensures) c.in_ok-right.ensures.gives in
+    let h : expr_at (c.args.room - 1) (operator_level (binary_tree c.in-Some.op) + 1) (rest_of (views c.loop-op.rest.now)) ≡ Ok (expr_tree c.in_ok-right.right, c.in_ok-right.right_height, views c.in_ok-right.after.now) = rw (sym c.level-in-Some.ensures, sym c.rest_of.ensures) c.in_ok-right.ensures.gives in
     let k = climb_on c.args.room c.args.least (expr_tree c.loop-op.left) c.loop-op.height (views c.loop-op.rest.now) (expr_at c.args.room c.args.least (views c.args.lexemes.now)) c.loop-op.invariant (binary_tree c.in-Some.op) (expr_tree c.in_ok-right.right) c.in_ok-right.right_height (1 + c.max-height.result) (views c.in_ok-right.after.now) c.in-Some.ensures (omega (arith, c.level.ensures)) c.if-height-room.false c.in_ok-right.ensures.low (ap (λ n. 1 + n) c.max-height.ensures) h in
     rw (c.in_ok-new.ensures.ok, c.in_ok-new-2.ensures.ok) k
 

@@ -29,4 +29,4 @@ block-statements-preserved t c =
 
 pub block-returns : goal.block-returns
 block-returns t c =
-    rw (c.line_at-end_line.ensures, c.behind.ensures, block_made (record { statements = c.statements.statements; end_line = line_at (views c.statements.rest.now) })) (fills_done c.args.room c.statements.free c.statements.statements.items c.statements.returned (views c.statements.rest.now) (block_at c.args.room c.args.names (views c.args.lexemes.now)) c.statements.invariant (sym c.starts_with.ensures ∙ c.statements-test.false))
+    rw (c.line_at-end_line.ensures, c.rest_of.ensures, block_made (record { statements = c.statements.statements; end_line = line_at (views c.statements.rest.now) })) (fills_done c.args.room c.statements.free c.statements.statements.items c.statements.returned (views c.statements.rest.now) (block_at c.args.room c.args.names (views c.args.lexemes.now)) c.statements.invariant (sym c.starts_with.ensures ∙ c.statements-test.false))

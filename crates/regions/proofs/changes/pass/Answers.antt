@@ -3,7 +3,7 @@ use Rattle.std.proofs.lemmas.Result.{on_ok_weaker}
 use Rattle.std.specs.Option.{option_map}
 use Rattle.syntax.specs.Views.{form_tree}
 use Rattle.regions.specs.Effects.{EffectCall, made_value}
-use Rattle.regions.specs.Judgements.{settled, behind_judged}
+use Rattle.regions.specs.Judgements.{settled, after_judged}
 use Rattle.regions.specs.RegionStates.{RegionState}
 use Rattle.regions.specs.Standings.{state_value}
 use Rattle.regions.proofs.JudgementLemmas.{behind_is}
@@ -17,6 +17,6 @@ returns c =
     let s = form_tree line c.args.form.now in
     e line
     ∙ ap (λ (middle : RegionState). settled middle s (option_map made_value c.called-call.result)) c.take_effect.ensures
-    ∙ ap (λ (call : Option EffectCall). behind_judged old s call) (c.called-call.ensures line)
+    ∙ ap (λ (call : Option EffectCall). after_judged old s call) (c.called-call.ensures line)
     ∙ sym (behind_is old s))
     c.settle.ensures

@@ -16,7 +16,7 @@ use Rattle.regions.specs.Standings.{state_value}
 use Rattle.regions.specs.Walks.{way_value, go_on}
 use Rattle.regions.specs.Ways.{way_of_block}
 use Rattle.regions.proofs.UnitLemmas.{both_hold}
-use Rattle.regions.proofs.WayLemmas.{Goes-along, own_known, known_anywhere, first_known, rest_known, two_known, stmt_fault, go_rest, known_next, go_step, behind_line}
+use Rattle.regions.proofs.WayLemmas.{Goes-along, own_known, known_anywhere, first_known, rest_known, two_known, stmt_fault, go_rest, known_next, go_step, after_line}
 use Rattle.regions.proofs.walk.+walk.Goals as goal
 
 -- ---- the loop over a block's statements
@@ -49,7 +49,7 @@ block_way-returns-in-Returned t c =
     (c.loop-stmt.invariant.goes
     ∙ go_rest outer (way_value c.loop-stmt.way) items i s end_line c.loop-stmt-test.true c.stmt-item.is
     ∙ ap (λ (w : WayInMemory). go_on outer (way_value w) (Next (stmt_tree s) rest)) c.in-Returned.is
-    ∙ behind_line outer s rest)
+    ∙ after_line outer s rest)
     c.refuse.ensures
 
 pub block_way-loop-stmt-preserved : goal.block_way-loop-stmt-preserved

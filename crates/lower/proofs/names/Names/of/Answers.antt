@@ -11,7 +11,7 @@ use Rattle.lower.specs.Names.{entry_view, known_behind}
 use Rattle.lower.proofs.KnownNames.{known_behind-reverse, known_behind-length}
 use Rattle.lower.proofs.names.Names.of.Goals as goal
 
--- behind the last parameter all names are known
+-- after the last parameter all names are known
 whole : (f : Function) (statics : List Known) (items : List Parameter) (i n r : ℕ) (ks : List Known) → items ≡ f.parameters.items → length items ≤ i
     → (f.class_name, record { sort = Ref; index = 0 }) ∷ parameter_slots (map parameter_tree items) 0 1 ≡ map entry_view ks ++ parameter_slots (map parameter_tree (drop i items)) n r
     → numbers_of (map parameter_tree items) 0 ≡ numbers_of (map parameter_tree (drop i items)) n

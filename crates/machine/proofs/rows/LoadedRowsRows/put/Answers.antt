@@ -47,7 +47,7 @@ put_row-requires-clause-address g c =
     let at = slice_get-get_or c.self.inside.loaded.now place c.index-self-place.result c.loop-place-test.true in
     is_address c.self.inside.heap.now (slice_index_or c.self.inside.loaded.now place c.index-self-place.result) (place + 1) (c.self.invariant.table.named place (slice_index_or c.self.inside.loaded.now place c.index-self-place.result) at)
 
--- the row that is put, and those behind it
+-- the row that is put, and those after it
 pub returns-in_err-put_row : goal.returns-in_err-put_row
 returns-in_err-put_row g c =
     let p = err_from_is_err_and c.from_residual.result c.from_residual.ensures.1 in

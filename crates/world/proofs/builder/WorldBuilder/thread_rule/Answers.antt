@@ -13,7 +13,7 @@ returns c =
     let scene = scene_of c.args.self.now in
     let values = c.args.values.now in
     c.least_rule.ensures
-    ∙ least_same _ _ _ true _ _ _ true c.is_behind_heap.ensures
+    ∙ least_same _ _ _ true _ _ _ true c.is_after_heap.ensures
     (c.are_there.ensures ∙ sym (list_all-map (is_there scene) value_view values))
     (c.is_thread_within.ensures ∙ ap (λ b. b && (length scene.threads == 0)) (sym (list_all-map (value_in_range JInt) value_view values)))
     refl

@@ -1,6 +1,6 @@
 use Rattle.std.proofs.Common.{◌≡◌, ℕ, suc, ◌-◌, ◌<◌, List, [], ◌∷◌, drop, length, sym, ap, ◌∙◌, arith}
 use Rattle.std.specs.List.{remove}
-use Rattle.types.proofs.scope.forget.Goals as goal
+use Rattle.types.proofs.scope.leave_scope.Goals as goal
 
 -- without its first the list has the same end
 same_end : {A : Type 0} (xs : List A) (n m : ℕ) → length xs ≡ m → n < m → drop (length (remove xs 0) - n) (remove xs 0) ≡ drop (length xs - n) xs

@@ -2,7 +2,7 @@ use Rattle.std.proofs.Common.{ℕ, [], ◌∷◌, ◌∙◌, ap, arith}
 use Rattle.types.specs.Sorts.{Global}
 use Rattle.lower.specs.Names.{known_behind}
 use Rattle.lower.proofs.KnownNames.{known_behind-append, known_behind-length}
-use Rattle.lower.proofs.lowering.learn.Goals as goal
+use Rattle.lower.proofs.lowering.declare_static.Goals as goal
 
 pub returns : goal.returns
 returns c =
