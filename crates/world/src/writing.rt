@@ -31,7 +31,7 @@ impl Text for Entry {
 }
 
 /// Writes what was printed, how the threads stand, and the rows.
-fn write_report<S: Sink, R: Rows>(
+pub fn write_report<S: Sink, R: Rows>(
     sink: &mut S,
     printed: &[Printed],
     standings: &[ThreadStatus],
@@ -47,7 +47,7 @@ fn write_report<S: Sink, R: Rows>(
 }
 
 /// Writes the line of the journal.
-fn write_journal<S: Sink>(sink: &mut S, entries: &[Entry]) -> Result<(), SinkFailed>
+pub fn write_journal<S: Sink>(sink: &mut S, entries: &[Entry]) -> Result<(), SinkFailed>
     requires { CanFail (S.written sink.old) }
     ensures { Writes (S.written sink.old) (S.written sink.new) result (journal_line entries.now) }
 {
