@@ -162,20 +162,3 @@ fn split(alloc: Global, path: &[u8]) -> Result<Option<Native>, AllocError>
     let method = Vec::from_slice(alloc, &path[at + 1..])?;
     Ok(Some(Native { class, method }))
 }
-
-#[cfg(test)]
-mod tests {
-    use super::*;
-    use std::test::Fail;
-
-    #[test]
-    fn there_and_back(rt: HostRuntime) -> Result<(), Fail> {
-        let name = mangle(rt.alloc(), b"a_b/C", b"f_g")?;
-        assert_eq!(rt; name.as_slice(), b"Java_a_1b_C_f_1g".as_slice());
-        assert!(rt; is_mangled(&name));
-        let native = unmangle(rt.alloc(), &name)?.ok_or("it is mangled")?;
-        assert_eq!(rt; native.class.as_slice(), b"a_b/C".as_slice());
-        assert_eq!(rt; native.method.as_slice(), b"f_g".as_slice());
-        Ok(())
-    }
-}

@@ -35,7 +35,4 @@ pub use std_sink::StdSink;
 pub use words::MOST_WORDS;
 pub use world::{Call, World};
 pub use world_text::{read_world, worlds_are_read};
-pub use writing::write_run;
-
-#[cfg(test)]
-mod tests;
+pub use writing::{write_journal, write_report, write_run};

@@ -1,37 +1,70 @@
 //! Reports and journals as text.
 
-ghost use Rattle.std.specs.Prelude.{◌≡◌, ◌++◌, OnOk};
+ghost use Rattle.std.specs.Prelude.{◌≡◌, ◌+◌, ◌≤◌, ◌++◌, OnOk, codes, decimal};
+ghost use Rattle.arrayvec.specs.ArrayVec.{array_vec_len};
 ghost use Rattle.world.specs.Sink.{CanFail, Writes};
 ghost use Rattle.world.specs.Report.{report_text};
 ghost use Rattle.world.specs.Shown.{report_with};
-ghost use Rattle.world.specs.Journal.{journal_line};
+ghost use Rattle.world.specs.Journal.{entry_text, journal_line};
+ghost use Rattle.world.specs.ReadingJournals.{spelled_entries};
 
 use crate::journal::Entry;
 use crate::report::{Printed, ThreadStatus, put_standings};
 use crate::rows::Rows;
-use crate::sink::{Sink, SinkFailed, put_all, put_pieces};
-use crate::text::{Text, put_each};
+use crate::sink::{Sink, SinkFailed, put_all};
+use crate::text::put_each;
+use arrayvec::ArrayVec;
 use itoa::Buffer;
 
-impl Text for Entry {
-    ghost use Rattle.std.specs.Prelude.{codes, ◌++◌};
-    ghost use Rattle.world.specs.Journal.{entry_text};
-
-    ghost text = { λ e. codes " " ++ entry_text e };
-
-    fn put<S: Sink>(&self, sink: &mut S) -> Result<(), SinkFailed> {
-        let mut thread = Buffer::new();
-        let thread = thread.format(self.thread);
-        if self.refused {
-            put_pieces(sink, &[b" ", thread.as_bytes(), b"!"])
-        } else {
-            put_pieces(sink, &[b" ", thread.as_bytes()])
-        }
+/// Appends a number in decimal.
+#[tactic(auto, using(std::proofs::lemmas::Fmt::decimal_digit))]
+fn push_number(text: &mut ArrayVec<u8, 4096>, number: u8)
+    requires { array_vec_len text.old + 3 ≤ 4096 }
+    ensures items { text.new.items ≡ text.old.items ++ decimal number }
+    ensures short { array_vec_len text.new ≤ array_vec_len text.old + 3 }
+{
+    if number < 10 {
+        text.push(b'0' + number);
+        return;
+    }
+    let mut digits = Buffer::new();
+    let digits = digits.format(number);
+    match text.try_extend_from_slice(digits.as_bytes()) {
+        Ok(()) => {}
+        Err(_) => unreachable!(),
     }
 }
 
+/// Appends the word of an entry, after a space.
+fn push_entry(text: &mut ArrayVec<u8, 4096>, entry: Entry)
+    requires { array_vec_len text.old + 5 ≤ 4096 }
+    ensures { text.new.items ≡ text.old.items ++ (codes " " ++ entry_text entry) }
+{
+    text.push(b' ');
+    push_number(text, entry.thread);
+    if entry.refused {
+        text.push(b'!');
+    }
+}
+
+/// Puts the words of the entries, each after a space. They are gathered, and put 4,096 bytes or a few fewer at a time.
+fn put_entries<S: Sink>(sink: &mut S, entries: &[Entry]) -> Result<(), SinkFailed>
+    requires { CanFail (S.written sink.old) }
+    ensures { Writes (S.written sink.old) (S.written sink.new) result (spelled_entries entries.now) }
+{
+    let mut text = ArrayVec::<u8, 4096>::new();
+    for entry in entries {
+        if text.remaining_capacity() < 5 {
+            put_all(sink, text.as_slice())?;
+            text.clear();
+        }
+        push_entry(&mut text, *entry);
+    }
+    put_all(sink, text.as_slice())
+}
+
 /// Writes what was printed, how the threads stand, and the rows.
-fn write_report<S: Sink, R: Rows>(
+pub fn write_report<S: Sink, R: Rows>(
     sink: &mut S,
     printed: &[Printed],
     standings: &[ThreadStatus],
@@ -47,12 +80,12 @@ fn write_report<S: Sink, R: Rows>(
 }
 
 /// Writes the line of the journal.
-fn write_journal<S: Sink>(sink: &mut S, entries: &[Entry]) -> Result<(), SinkFailed>
+pub fn write_journal<S: Sink>(sink: &mut S, entries: &[Entry]) -> Result<(), SinkFailed>
     requires { CanFail (S.written sink.old) }
     ensures { Writes (S.written sink.old) (S.written sink.new) result (journal_line entries.now) }
 {
     put_all(sink, b"journal")?;
-    put_each(sink, entries)?;
+    put_entries(sink, entries)?;
     put_all(sink, b"\n")
 }
 
