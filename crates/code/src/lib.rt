@@ -8,5 +8,3 @@ pub mod instr;
 pub mod plain;
 pub mod slots;
 pub mod stack;
-#[cfg(test)]
-mod tests;

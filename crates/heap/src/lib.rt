@@ -6,6 +6,3 @@ mod heap;
 
 pub use addr::Addr;
 pub use heap::{Heap, MOST_CELLS, MOST_PINS, NoRoom};
-
-#[cfg(test)]
-mod tests;

@@ -3,7 +3,7 @@ use Rattle.std.proofs.Common.{◌≡◌, ℕ, List, Err, refl, subst}
 use Rattle.syntax.specs.Tree.{SourceUnit}
 use Rattle.lower.specs.declared.fault.LowerFault.{LowerFault}
 use Rattle.lower.specs.declared.fault.LowerFault.TheVariants as lowering
-use Rattle.lower.specs.Coding.{IsTooLong}
+use Rattle.lower.specs.Length.{IsTooLong}
 use Rattle.jnirun.specs.declared.fault.Place.TheVariants as place
 use Rattle.jnirun.specs.declared.fault.RunError.{RunError}
 use Rattle.jnirun.specs.declared.fault.RunError.TheVariants.{Memory, File, Fault, Writer}

@@ -22,7 +22,7 @@ use Rattle.regions.specs.Run.{Over, Collects, Waits, Steps, Follows, JournalFoll
 use Rattle.regions.specs.Start.{start}
 use Rattle.lower.specs.declared.fault.LowerFault.{LowerFault}
 use Rattle.lower.specs.declared.fault.LowerFault.TheVariants as lowering
-use Rattle.lower.specs.Coding.{IsTooLong}
+use Rattle.lower.specs.Length.{IsTooLong}
 use Rattle.machine.specs.declared.fault.LoadFault.{LoadFault}
 use Rattle.machine.specs.declared.fault.LoadFault.TheVariants as loading
 use Rattle.machine.specs.Loading.{IsLoadFault}

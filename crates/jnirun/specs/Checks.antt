@@ -1,7 +1,7 @@
 -- Which program texts a check passes, and which number and place another earns.
 use Rattle.std.specs.Prelude.{◌≡◌, ℕ, List, Result, Ok, Err}
 use Rattle.syntax.specs.Tree.{SourceUnit}
-use Rattle.lower.specs.Coding.{IsTooLong}
+use Rattle.lower.specs.Length.{IsTooLong}
 use Rattle.jnirun.specs.declared.fault.Place.{Place}
 use Rattle.jnirun.specs.declared.fault.Place.TheVariants.{Line}
 use Rattle.jnirun.specs.declared.fault.RunError.{RunError}

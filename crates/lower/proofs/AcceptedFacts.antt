@@ -1,5 +1,5 @@
 -- Each function of an accepted unit fits.
-use Rattle.std.proofs.Common.{◌≡◌, ℕ, ◌≤◌, true, not, List, [], ◌∷◌, ◌++◌, map, nat_le, Some, refl, sym, ap, ◌∙◌, subst, leb-true}
+use Rattle.std.proofs.Common.{◌≡◌, ℕ, ◌+◌, ◌≤◌, true, not, List, [], ◌∷◌, ◌++◌, length, map, nat_le, Some, refl, sym, ap, ◌∙◌, subst, arith, leb-true, length-append}
 use Rattle.std.specs.Prelude.{IsTrue}
 use Rattle.std.specs.List.{list_all, AllByRecursion}
 use Rattle.base.specs.Bytes.{Identifier, lookup}
@@ -9,10 +9,13 @@ use Rattle.syntax.specs.Tree.{ParameterType, IntParameter, ReferenceParameter, P
 use Rattle.types.specs.Sorts.{Sort, Jint, Ref, Global, Buffer, Scope}
 use Rattle.types.specs.SortRules.{IsSorted, StaticForm, HeadForm, parameter_sort, places_of, function_places, item_places}
 use Rattle.types.specs.BuiltCalls.{calls_unbuilt, calls_are_built}
+use Rattle.code.specs.declared.instr.Instr.TheVariants as instr
 use Rattle.regions.specs.RegionStates.{RegionState, state_at_entry}
 use Rattle.regions.specs.Regions.{Returned, AcceptedFunction, HasRegions}
 use Rattle.lower.specs.Layout.{Slot, Known, with_static, parameter_slot, parameter_slots, numbers_after, references_after, entry_layout}
+use Rattle.lower.specs.Coding.{block_code, function_code}
 use Rattle.lower.specs.Fits.{AreStatics, FunctionFits}
+use Rattle.lower.specs.Length.{function_steps}
 use Rattle.lower.specs.Stands.{block_returns}
 use Rattle.lower.proofs.SlotLaws.{first_or_after}
 use Rattle.lower.proofs.EntryLayouts.{no_statics, one_static_more}
@@ -21,13 +24,14 @@ use Rattle.lower.proofs.PlaceFacts.{and_left, and_right, AreKept, front_kept, ba
 use Rattle.lower.proofs.NameFacts.{AreTaken, taken_first}
 use Rattle.lower.proofs.BufferFacts.{AreBuilt, AreFree}
 use Rattle.lower.proofs.BodyFacts.{AreInRange, block_fits}
+use Rattle.lower.proofs.LengthFacts.{block_length}
 use Rattle.lower.proofs.RegionFacts.{function_returns}
 
 -- each function satisfies what lowering asks for, after the statics before it
 abbrev pub AllFit : (statics : Known) → List Item → Type 0
 AllFit statics [] = Unit {0}
 AllFit statics (StaticItem s ∷ items) = AllFit (with_static s statics) items
-AllFit statics (FunctionItem f ∷ items) = AreStatics statics × FunctionFits statics f × IsTrue (block_returns f.body) × AllFit statics items
+AllFit statics (FunctionItem f ∷ items) = AreStatics statics × FunctionFits statics f × IsTrue (block_returns f.body) × (length (function_code statics f) ≡ function_steps f + 1) × AllFit statics items
 
 -- ---- the names at a function's beginning
 
@@ -89,16 +93,31 @@ entry_free known state h x t w i at = absurd (h x (record { sort = Buffer t w; i
 -- ---- functions
 
 module _ (statics : Known) (f : Function) (known : AreStatics statics) where
-  function_fits : (names : List Identifier) → AreKept (function_places names (scope_of statics) f) → AreInRange (statements_of f.body) → AreBuilt (statements_of f.body) → block_well_formed f.body ≡ true → block_height f.body ≤ 32 → AcceptedFunction f → FunctionFits statics f
-  function_fits names sorted numbers calls formed low accepted =
-      let l = entry_layout statics f in
-      let sorts = entry_sorts statics f known in
+  -- the sorts of the body, after the class and the parameters
+  abbrev BodyIsKept : Type 0
+  BodyIsKept = AreKept (places_of f.result (scope_of (entry_layout statics f).known) (parameter_names f ++ map (λ s. s.0) (scope_of statics)) f.body)
+
+  body_kept : (names : List Identifier) → AreKept (function_places names (scope_of statics) f) → BodyIsKept
+  body_kept names sorted =
       let taken = parameter_names f ++ map (λ s. s.0) (scope_of statics) in
       let scope : Scope = (f.class_name, Ref) ∷ (map {B = Identifier × Sort} (λ p. (p.name, parameter_sort p.type)) f.parameters ++ scope_of statics) in
       let inside : AreKept (places_of f.result scope taken f.body) = rest_kept (record { line = f.line; known = scope_of statics; taken = names; returns = f.result; form = HeadForm f }) (places_of f.result scope taken f.body) sorted in
-      let same : scope ≡ scope_of l.known = ap (λ (further : Scope). (f.class_name, Ref) ∷ further) (parameter_scope f.parameters 0 1 statics) in
+      let same : scope ≡ scope_of (entry_layout statics f).known = ap (λ (further : Scope). (f.class_name, Ref) ∷ further) (parameter_scope f.parameters 0 1 statics) in
+      subst (λ (s : Scope). AreKept (places_of f.result s taken f.body)) same inside
+
+  function_counted : FunctionFits statics f → BodyIsKept → length (function_code statics f) ≡ function_steps f + 1
+  function_counted fits kept =
+      let l = entry_layout statics f in
+      let body = block_length f.result f.body l (parameter_names f ++ map (λ s. s.0) (scope_of statics)) fits kept in
+      omega (arith, length-append (block_code l f.body) (instr.Return ∷ []))
+
+  function_fits : BodyIsKept → AreInRange (statements_of f.body) → AreBuilt (statements_of f.body) → block_well_formed f.body ≡ true → block_height f.body ≤ 32 → AcceptedFunction f → FunctionFits statics f
+  function_fits sorted numbers calls formed low accepted =
+      let l = entry_layout statics f in
+      let sorts = entry_sorts statics f known in
+      let taken = parameter_names f ++ map (λ s. s.0) (scope_of statics) in
       block_fits f.body l taken f.result (state_at_entry f) (state_at_entry f) Returned (record {
-        sorted = subst (λ (s : Scope). AreKept (places_of f.result s taken f.body)) same inside;
+        sorted = sorted;
         numbers = numbers;
         calls = calls;
         formed = formed;
@@ -131,14 +150,17 @@ all_fit (StaticItem s ∷ items) names statics known sorted h =
     (record { numbers = h.numbers; calls = h.calls; formed = h.formed; low = h.low; regions = h.regions })
 all_fit (FunctionItem f ∷ items) names statics known sorted h =
     let further = item_places (f.name ∷ names) (scope_of statics) items in
-    let all = functions_in items in (
+    let all = functions_in items in
+    let kept = body_kept statics f known names (front_kept (function_places names (scope_of statics) f) further sorted) in
+    let fits = function_fits statics f known kept
+    (and_left _ (list_all (λ f. list_all (λ s. list_all numbers_in_range (own_expressions s)) (statements_of f.body)) all) h.numbers)
+    (and_left _ (list_all (λ f. list_all (λ s. not (calls_unbuilt s)) (statements_of f.body)) all) h.calls)
+    (and_left _ (list_all (λ f. block_well_formed f.body) all) h.formed)
+    (leb-true (block_height f.body) 32 (and_left _ (list_all (λ f. nat_le (block_height f.body) 32) all) h.low)) h.regions.0 in (
       known,
-      function_fits statics f known names (front_kept (function_places names (scope_of statics) f) further sorted)
-          (and_left _ (list_all (λ f. list_all (λ s. list_all numbers_in_range (own_expressions s)) (statements_of f.body)) all) h.numbers)
-          (and_left _ (list_all (λ f. list_all (λ s. not (calls_unbuilt s)) (statements_of f.body)) all) h.calls)
-          (and_left _ (list_all (λ f. block_well_formed f.body) all) h.formed)
-          (leb-true (block_height f.body) 32 (and_left _ (list_all (λ f. nat_le (block_height f.body) 32) all) h.low)) h.regions.0,
+      fits,
       function_returns f h.regions.0,
+      function_counted statics f known fits kept,
       all_fit items (f.name ∷ names) statics known (back_kept (function_places names (scope_of statics) f) further sorted) (record {
         numbers = and_right (list_all (λ s. list_all numbers_in_range (own_expressions s)) (statements_of f.body)) _ h.numbers;
         calls = and_right (list_all (λ s. not (calls_unbuilt s)) (statements_of f.body)) _ h.calls;

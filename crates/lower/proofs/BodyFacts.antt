@@ -91,7 +91,7 @@ module _ (l : Layout) (taken : List Identifier) (returns : ResultType) (before :
 
 -- ---- after a statement
 
-scope_after : (s : Stmt) (l : Layout) → with_declared (scope_of l.known) s ≡ scope_of (layout_after l s).known
+pub scope_after : (s : Stmt) (l : Layout) → with_declared (scope_of l.known) s ≡ scope_of (layout_after l s).known
 scope_after (tree.Declare line t x r) l = refl
 scope_after (tree.DeclareBuffer line t x r) l = refl
 scope_after (tree.DeclareChars line x r) l = refl

@@ -1,5 +1,5 @@
 -- The code of a whole function.
-use Rattle.std.proofs.Common.{◌≤◌, List, [], ◌∷◌, length, refl, subst, arith}
+use Rattle.std.proofs.Common.{◌≡◌, ◌+◌, ◌≤◌, List, [], ◌∷◌, length, refl, subst, arith}
 use Rattle.std.specs.Prelude.{IsTrue}
 use Rattle.std.proofs.lemmas.List.{append-nil}
 use Rattle.syntax.specs.Tree.{Function}
@@ -9,7 +9,8 @@ use Rattle.code.specs.Depth.{Listing, IsValid}
 use Rattle.code.proofs.Pieces.{piece_moves, piece_jumps}
 use Rattle.regions.specs.Task.{tasks_of}
 use Rattle.lower.specs.Layout.{Known, entry_layout, block_layout, function_slots}
-use Rattle.lower.specs.Coding.{block_code, function_code, instruction_limit}
+use Rattle.lower.specs.Coding.{block_code, function_code}
+use Rattle.lower.specs.Length.{function_steps, step_limit}
 use Rattle.lower.specs.Slots.{ArgumentsFit, HasRoom}
 use Rattle.lower.specs.Fits.{HasRoomFor, AreStatics, FunctionFits}
 use Rattle.lower.specs.Stands.{TasksStand, StandsFor, block_returns}
@@ -60,9 +61,10 @@ function_begins statics f known fits returns =
       returns = block_tasks_return f.body returns;
     }
 
-pub is_code_of : (statics : Known) (f : Function) → AreStatics statics → FunctionFits statics f → IsTrue (block_returns f.body) → length (function_code statics f) ≤ instruction_limit → IsCodeOf statics f (listing_of statics f)
-is_code_of statics f known fits returns short = record {
+pub is_code_of : (statics : Known) (f : Function) → AreStatics statics → FunctionFits statics f → IsTrue (block_returns f.body) → length (function_code statics f) ≡ function_steps f + 1 → function_steps f ≤ step_limit → IsCodeOf statics f (listing_of statics f)
+is_code_of statics f known fits returns counted short = record {
   valid = function_valid statics f known fits;
+  counted = counted;
   short = short;
   begins = function_begins statics f known fits returns;
   room = function_room statics f;

@@ -1,6 +1,7 @@
 -- What is known after some items of a unit that is lowered.
 use Rattle.std.proofs.Common.{◌≡◌, ℕ, ◌+◌, ◌<◌, ◌≤◌, ◌||◌, List, [], ◌∷◌, ◌++◌, length, get_or, drop, add-one, drop-cons, map, refl, sym, ap, ◌∙◌, subst, append_assoc}
 use Rattle.std.specs.Prelude.{IsTrue}
+use Rattle.std.specs.List.{list_any}
 use Rattle.std.proofs.Math.ListN.{drop_of_length-le}
 use Rattle.std.proofs.lemmas.Bool.{le-ltb, lt-ltb}
 use Rattle.std.proofs.lemmas.List.{append-nil}
@@ -9,7 +10,7 @@ use Rattle.syntax.specs.Tree.{Function, Item, StaticItem, FunctionItem, Static}
 use Rattle.syntax.specs.Views.{item_tree}
 use Rattle.code.specs.Depth.{Listing}
 use Rattle.lower.specs.Layout.{Known, with_static}
-use Rattle.lower.specs.Coding.{function_code, instruction_limit, has_long}
+use Rattle.lower.specs.Length.{function_steps, step_limit, is_long}
 use Rattle.lower.specs.Lowered.{IsCodeOf, AreCodesOf}
 use Rattle.lower.proofs.AcceptedFacts.{AllFit}
 
@@ -17,7 +18,7 @@ use Rattle.lower.proofs.AcceptedFacts.{AllFit}
 pub record AreLeft (all : List Item) (statics : Known) (rest : List Item) (codes : List Listing) : Type 0 where
   pub fit : AllFit statics rest
   pub lowered : (further : List Listing) → AreCodesOf statics rest further → AreCodesOf [] all (codes ++ further)
-  pub long : has_long [] all ≡ has_long statics rest
+  pub long : list_any is_long all ≡ list_any is_long rest
 
 pub none_done : (all : List Item) → AllFit [] all → AreLeft all [] all []
 none_done all fit = record { fit = fit; lowered = λ further h. h; long = refl }
@@ -25,21 +26,21 @@ none_done all fit = record { fit = fit; lowered = λ further h. h; long = refl }
 pub static_done : (all : List Item) (statics : Known) (s : Static) (rest : List Item) (codes : List Listing) → AreLeft all statics (StaticItem s ∷ rest) codes → AreLeft all (with_static s statics) rest codes
 static_done all statics s rest codes h = record { fit = h.fit; lowered = h.lowered; long = h.long }
 
-pub function_done : (all : List Item) (statics : Known) (f : Function) (rest : List Item) (codes : List Listing) (c : Listing) → AreLeft all statics (FunctionItem f ∷ rest) codes → IsCodeOf statics f c → length (function_code statics f) ≤ instruction_limit
+pub function_done : (all : List Item) (statics : Known) (f : Function) (rest : List Item) (codes : List Listing) (c : Listing) → AreLeft all statics (FunctionItem f ∷ rest) codes → IsCodeOf statics f c
     → AreLeft all statics rest (codes ++ c ∷ [])
-function_done all statics f rest codes c h is short = record {
-  fit = h.fit.3;
+function_done all statics f rest codes c h is = record {
+  fit = h.fit.4;
   lowered = λ further k. subst (AreCodesOf [] all) (sym (append_assoc codes (c ∷ []) further)) (h.lowered (c ∷ further) (is, k));
-  long = h.long ∙ ap (λ b. b || has_long statics rest) (le-ltb instruction_limit (length (function_code statics f)) short);
+  long = h.long ∙ ap (λ b. b || list_any is_long rest) (le-ltb step_limit (function_steps f) is.short);
 }
 
-pub too_long : (all : List Item) (statics : Known) (f : Function) (rest : List Item) (codes : List Listing) → AreLeft all statics (FunctionItem f ∷ rest) codes → instruction_limit < length (function_code statics f) → IsTrue (has_long [] all)
-too_long all statics f rest codes h long = h.long ∙ ap (λ b. b || has_long statics rest) (lt-ltb instruction_limit (length (function_code statics f)) long)
+pub too_long : (all : List Item) (statics : Known) (f : Function) (rest : List Item) (codes : List Listing) → AreLeft all statics (FunctionItem f ∷ rest) codes → step_limit < function_steps f → IsTrue (list_any is_long all)
+too_long all statics f rest codes h long = h.long ∙ ap (λ b. b || list_any is_long rest) (lt-ltb step_limit (function_steps f) long)
 
 pub all_done : (all : List Item) (statics : Known) (codes : List Listing) → AreLeft all statics [] codes → AreCodesOf [] all codes
 all_done all statics codes h = subst (AreCodesOf [] all) (append-nil codes) (h.lowered [] tt)
 
-pub none_long : (all : List Item) (statics : Known) (codes : List Listing) → AreLeft all statics [] codes → IsTrue (has_long [] all) → ⊥
+pub none_long : (all : List Item) (statics : Known) (codes : List Listing) → AreLeft all statics [] codes → IsTrue (list_any is_long all) → ⊥
 none_long all statics codes h long = let e = sym h.long ∙ long in absurd (cc)
 
 -- the next item in memory

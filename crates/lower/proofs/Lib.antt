@@ -21,5 +21,6 @@ pub mod NameFacts
 pub mod BufferFacts
 pub mod StatementFacts
 pub mod BodyFacts
+pub mod LengthFacts
 pub mod AcceptedFacts
 pub mod ItemSteps

@@ -27,7 +27,7 @@ word_is : (o : Option Sort) → is_word o ≡ true → o ≡ Some Word
 word_is (Some Word) h = refl
 word_is o h = absurd (cc)
 
-jint_is : (o : Option Sort) → is_jint o ≡ true → o ≡ Some Jint
+pub jint_is : (o : Option Sort) → is_jint o ≡ true → o ≡ Some Jint
 jint_is (Some Jint) h = refl
 jint_is o h = absurd (cc)
 
@@ -39,7 +39,7 @@ truth_is : (o : Option Sort) → is_truth o ≡ true → o ≡ Some Truth
 truth_is (Some Truth) h = refl
 truth_is o h = absurd (cc)
 
-ref_is : (o : Option Sort) → is_ref o ≡ true → o ≡ Some Ref
+pub ref_is : (o : Option Sort) → is_ref o ≡ true → o ≡ Some Ref
 ref_is (Some Ref) h = refl
 ref_is o h = absurd (cc)
 

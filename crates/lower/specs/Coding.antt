@@ -1,11 +1,11 @@
 -- Which instructions the parts of a program become. What no accepted program has becomes nothing, and no place of a code
 -- stands for it (Stands).
-use Rattle.std.specs.Prelude.{ℕ, ◌+◌, Bool, true, false, not, ◌||◌, List, [], ◌∷◌, ◌++◌, length, nat_lt, Option, Some, None, IsTrue}
+use Rattle.std.specs.Prelude.{ℕ, ◌+◌, Bool, true, false, not, List, [], ◌∷◌, ◌++◌, length, Option, Some, None}
 use Rattle.std.specs.Option.{option_map}
 use Rattle.base.specs.Bytes.{lookup}
 use Rattle.base.specs.Element.{ElementType, JInt, JShort, JByte, JChar}
 use Rattle.syntax.specs.Tree as tree
-use Rattle.syntax.specs.Tree.{Constant, PrefixOp, LogicalNot, Complement, ToWord, ToInt, BinaryOp, LogicalOr, LogicalAnd, BitOr, BitXor, BitAnd, Equal, NotEqual, Less, LessEqual, Greater, GreaterEqual, ShiftLeft, ShiftRight, Add, Subtract, Multiply, Divide, Remainder, Expr, Argument, RightSide, FromExpr, FromCall, Test, TestExpr, TestCall, Stmt, Block, End, Next, Function, Item, StaticItem, FunctionItem, SourceUnit}
+use Rattle.syntax.specs.Tree.{Constant, PrefixOp, LogicalNot, Complement, ToWord, ToInt, BinaryOp, LogicalOr, LogicalAnd, BitOr, BitXor, BitAnd, Equal, NotEqual, Less, LessEqual, Greater, GreaterEqual, ShiftLeft, ShiftRight, Add, Subtract, Multiply, Divide, Remainder, Expr, Argument, RightSide, FromExpr, FromCall, Test, TestExpr, TestCall, Stmt, Block, End, Next, Function}
 use Rattle.types.specs.Sorts.{Sort, Ref, Global, FieldId, Buffer, Array, is_jint}
 use Rattle.types.specs.SortRules.{variable_sort}
 use Rattle.code.specs.declared.instr.Callee.TheVariants as callee
@@ -24,7 +24,7 @@ use Rattle.code.specs.declared.instr.Instr.TheVariants as instr
 use Rattle.regions.specs.Term as term
 use Rattle.regions.specs.Term.{Term, Done, Read, And, Or, IsNull, Prefix, Binary, term_of}
 use Rattle.regions.specs.Value.{Int}
-use Rattle.lower.specs.Layout.{Slot, Known, Layout, new_slot, with_static, entry_layout, closed, layout_after, block_layout}
+use Rattle.lower.specs.Layout.{Slot, Known, Layout, new_slot, entry_layout, closed, layout_after, block_layout}
 
 -- ---- variables
 
@@ -253,19 +253,3 @@ abbrev mutual
 -- A function, after these statics. The last instruction is for jumps to the end of the body.
 abbrev pub function_code : (statics : Known) → Function → List Instr
 function_code statics f = block_code (entry_layout statics f) f.body ++ Return ∷ []
-
--- ---- the limit
-
--- how many instructions a function may have: 65,535 for steps of the source, and the return after them
-abbrev pub instruction_limit : ℕ
-instruction_limit = 65536
-
--- some function of these items has more instructions
-abbrev pub has_long : (statics : Known) → List Item → Bool
-has_long statics [] = false
-has_long statics (StaticItem s ∷ items) = has_long (with_static s statics) items
-has_long statics (FunctionItem f ∷ items) = nat_lt instruction_limit (length (function_code statics f)) || has_long statics items
-
--- some function of the unit has more instructions
-abbrev pub IsTooLong : SourceUnit → Type 0
-IsTooLong unit = IsTrue (has_long [] unit.items)

@@ -1,5 +1,5 @@
 -- What a lowered program is.
-use Rattle.std.specs.Prelude.{ℕ, ◌≤◌, List, [], ◌∷◌, length}
+use Rattle.std.specs.Prelude.{◌≡◌, ℕ, ◌+◌, ◌≤◌, List, [], ◌∷◌, length}
 use Rattle.syntax.specs.declared.unit.Item.{Item as ItemInMemory}
 use Rattle.syntax.specs.Tree.{Function, Item, StaticItem, FunctionItem}
 use Rattle.syntax.specs.Views.{unit_tree}
@@ -11,7 +11,7 @@ use Rattle.regions.specs.Task.{Task, tasks_of}
 use Rattle.regions.specs.Thread.{Shared, Thread}
 use Rattle.code.specs.Depth.{Listing, IsValid}
 use Rattle.lower.specs.Layout.{Known, with_static, entry_layout}
-use Rattle.lower.specs.Coding.{instruction_limit}
+use Rattle.lower.specs.Length.{function_steps, step_limit}
 use Rattle.lower.specs.Slots.{Visible, visible_to, Slots, Shows, ArgumentsFit, EntrySlots, HasRoom, AreNull}
 use Rattle.lower.specs.Stands.{StandsFor}
 use Rattle.lower.specs.Does.{DoesEffect}
@@ -22,10 +22,12 @@ pub record Lowered : Type 0 where
   pub codes : List Listing
 
 -- The code begins at the function's first statement, where the slots, of which there are enough, show the arguments, and the
--- statics before the function are NULL. Each instruction is one step of the source, whatever can be seen that the slots show.
+-- statics before the function are NULL. Each instruction is one step of the source, whatever can be seen that the slots show. There
+-- is one for each step, and a return at the end of the body.
 pub record IsCodeOf (statics : Known) (f : Function) (code : Listing) : Type 0 where
   pub valid : IsValid code
-  pub short : length code.instrs ≤ instruction_limit
+  pub counted : length code.instrs ≡ function_steps f + 1
+  pub short : function_steps f ≤ step_limit
   pub begins : StandsFor code (entry_layout statics f).known 0 [] (tasks_of f.body)
   pub room : (arguments : List ObjectValue) → ArgumentsFit f.parameters arguments → HasRoom code arguments
   pub shows : (shared : Shared) (thread : Thread) (calls : List Invocation) (class : ℕ) (arguments : List ObjectValue) (slots : Slots)

@@ -1,11 +1,12 @@
 //! From checked programs to code.
 
-ghost use Rattle.std.specs.Prelude.{◌≡◌, ◌<◌, ◌≤◌, [], length, Err, IfOk, OnOk, IsTrue};
+ghost use Rattle.std.specs.Prelude.{◌≡◌, ◌+◌, ◌<◌, [], length, Err, IfOk, OnOk, IsTrue};
 ghost use Rattle.syntax.specs.Views.{static_tree, function_tree, unit_tree};
 ghost use Rattle.lower.specs.Layout.{with_static};
-ghost use Rattle.lower.specs.Coding.{function_code, instruction_limit, IsTooLong};
+ghost use Rattle.lower.specs.Coding.{function_code};
 ghost use Rattle.lower.specs.Fits.{AreStatics, FunctionFits};
 ghost use Rattle.lower.specs.Stands.{block_returns};
+ghost use Rattle.lower.specs.Length.{function_steps, step_limit, IsTooLong};
 ghost use Rattle.lower.specs.Lowered.{IsCodeOf};
 ghost use Rattle.lower.specs.Names.{known_behind};
 
@@ -20,12 +21,12 @@ use regions::Checked;
 use std::alloc::{AllocError, Global};
 use syntax::{Function, Item, Static};
 
-/// How many instructions a function has at most: 65,535 for steps of the source, and the return after them.
-const LIMIT: usize = 65536;
+/// How many steps a function may have, each with an instruction.
+const MOST_STEPS: usize = 65_535;
 
 /// The program's code, of which each instruction is one step of the source.
 ///
-/// `TooLong` exactly where a function has more than 65,535 instructions for steps of the source.
+/// `TooLong` exactly where a function has more than 65,535 steps; it is refused by its tree alone.
 pub fn lower<'a>(alloc: Global, checked: &'a Checked) -> Result<Program<'a>, LowerFault>
     ensures ok { IfOk result (λ p. p.unit ≡ checked.now) }
     ensures short { IfOk result (λ _. IsTooLong (unit_tree checked.now) → ⊥) }
@@ -69,17 +70,17 @@ pub(crate) fn lower_function(
     requires statics { AreStatics (known_behind statics.now []) }
     requires fits { FunctionFits (known_behind statics.now []) (function_tree function.now) }
     requires returns { IsTrue (block_returns (function_tree function.now).body) }
+    requires counted { length (function_code (known_behind statics.now []) (function_tree function.now)) ≡ function_steps (function_tree function.now) + 1 }
     ensures ok { IfOk result (IsCodeOf (known_behind statics.now []) (function_tree function.now)) }
-    ensures short { IfOk result (λ _. length (function_code (known_behind statics.now []) (function_tree function.now)) ≤ instruction_limit) }
-    ensures too_long { result ≡ Err LowerFault.TooLong → instruction_limit < length (function_code (known_behind statics.now []) (function_tree function.now)) }
+    ensures too_long { result ≡ Err LowerFault.TooLong → step_limit < function_steps (function_tree function.now) }
 {
     let mut names = Names::of(alloc, statics, function)?;
     let mut instrs = Vec::new(alloc);
     emit_block(alloc, &mut instrs, &mut names, &function.body)?;
-    emit(&mut instrs, Instr::Return)?;
-    if instrs.len() > LIMIT {
+    if instrs.len() > MOST_STEPS {
         return Err(LowerFault::TooLong);
     }
+    emit(&mut instrs, Instr::Return)?;
     match Code::of(instrs, with_spare(names.slots())?)? {
         Some(code) => Ok(code),
         None => unreachable!(),

@@ -20,7 +20,7 @@ lower_function-requires c =
     let statics = known_behind c.loop-item.statics.items [] in
     let next = next_item items i c.item-item.result c.loop-item-test.true c.item-item.is ∙ ap (λ (t : ItemInMemory). item_tree t ∷ map item_tree (drop (i + 1) items)) c.in-Function.is in
     let left = subst (λ rest. AreLeft (map item_tree items) statics rest c.loop-item.codes.items) next c.loop-item.invariant in
-    rw c.deref.ensures.value (record { statics = left.fit.0; fits = left.fit.1; returns = left.fit.2 })
+    rw c.deref.ensures.value (record { statics = left.fit.0; fits = left.fit.1; returns = left.fit.2; counted = left.fit.3 })
 
 pub of-requires : goal.of-requires
 of-requires c =

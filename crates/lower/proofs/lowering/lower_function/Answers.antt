@@ -1,4 +1,4 @@
-use Rattle.std.proofs.Common.{◌≡◌, ◌+◌, ◌≤◌, List, [], ◌∷◌, ◌++◌, length, refl, ap, ◌∙◌, subst, arith}
+use Rattle.std.proofs.Common.{◌≡◌, ◌+◌, ◌≤◌, List, [], ◌∷◌, ◌++◌, length, refl, ap, ◌∙◌, subst, arith, length-append}
 use Rattle.syntax.specs.Tree.{Function}
 use Rattle.syntax.specs.Views.{function_tree}
 use Rattle.code.specs.declared.instr.Instr.{Instr}
@@ -6,7 +6,8 @@ use Rattle.code.specs.declared.instr.Instr.TheVariants as instr
 use Rattle.code.specs.declared.slots.SlotCounts.{SlotCounts}
 use Rattle.code.specs.Depth.{Listing, IsValid}
 use Rattle.lower.specs.Layout.{Known, Layout, closed, entry_layout, block_layout}
-use Rattle.lower.specs.Coding.{block_code, instruction_limit}
+use Rattle.lower.specs.Coding.{block_code, function_code}
+use Rattle.lower.specs.Length.{function_steps, step_limit}
 use Rattle.lower.specs.Lowered.{IsCodeOf}
 use Rattle.lower.specs.Names.{known_behind}
 use Rattle.lower.proofs.Functions.{listing_of, function_valid, is_code_of}
@@ -28,11 +29,26 @@ unreachable-requires c =
     let is = listed statics f _ _ _ _ _ _ _ c.in_ok-names.ensures c.new-instrs.ensures.items c.in_ok-emit_block.ensures.code c.in_ok-emit.ensures c.in_ok-emit_block.ensures.names c.slots.ensures c.in_ok-with_spare.ensures in
     (rw c.in-None.is at c.in_ok-code.ensures.refused) (subst IsValid is (function_valid statics f c.requires.statics c.requires.fits))
 
+-- what is emitted before the last instruction has one instruction for each step
+steps_emitted : (statics : Known) (f : Function) (names : Layout) (old a : List Instr) → length (function_code statics f) ≡ function_steps f + 1 → names ≡ entry_layout statics f → old ≡ [] → a ≡ old ++ block_code names f.body → length a ≡ function_steps f
+steps_emitted statics f names old a counted en eo ea =
+    let same : a ≡ block_code (entry_layout statics f) f.body = rw (ea, eo, en) refl in
+    let e = ap (λ (c : List Instr). length c) same in
+    omega (arith, counted, length-append (block_code (entry_layout statics f) f.body) (instr.Return ∷ []))
+
 pub returns-clause-ok : goal.returns-clause-ok
 returns-clause-ok c =
     let statics = known_behind c.args.statics.now [] in
     let f = function_tree c.args.function.now in
     let is = listed statics f _ _ _ _ _ _ _ c.in_ok-names.ensures c.new-instrs.ensures.items c.in_ok-emit_block.ensures.code c.in_ok-emit.ensures c.in_ok-emit_block.ensures.names c.slots.ensures c.in_ok-with_spare.ensures in
     let given : listing_of statics f ≡ c.in-Some.code = is ∙ same_listing c.in-Some.code _ _ (rw c.in-Some.is at c.in_ok-code.ensures.instrs) (rw c.in-Some.is at c.in_ok-code.ensures.slots) in
-    let few : length (listing_of statics f).instrs ≤ instruction_limit = omega (arith, c.len.ensures, c.if-len-gt-LIMIT.false, c.emit.new.code.ok, ap (λ (l : Listing). length l.instrs) is) in
-    subst (IsCodeOf statics f) given (is_code_of statics f c.requires.statics c.requires.fits c.requires.returns few)
+    let steps = steps_emitted statics f _ _ _ c.requires.counted c.in_ok-names.ensures c.new-instrs.ensures.items c.in_ok-emit_block.ensures.code in
+    let few : function_steps f ≤ step_limit = omega (arith, c.len.ensures, c.if-len-gt-MOST_STEPS.false, c.emit_block.new.code.ok, steps) in
+    subst (IsCodeOf statics f) given (is_code_of statics f c.requires.statics c.requires.fits c.requires.returns c.requires.counted few)
+
+pub returns-then-len-gt-MOST_STEPS-clause-too_long : goal.returns-then-len-gt-MOST_STEPS-clause-too_long
+returns-then-len-gt-MOST_STEPS-clause-too_long c =
+    let statics = known_behind c.args.statics.now [] in
+    let f = function_tree c.args.function.now in
+    let steps = steps_emitted statics f _ _ _ c.requires.counted c.in_ok-names.ensures c.new-instrs.ensures.items c.in_ok-emit_block.ensures.code in
+    λ _. omega (arith, c.len.ensures, c.if-len-gt-MOST_STEPS.true, c.emit_block.new.code.ok, steps)

@@ -1,11 +1,11 @@
-use super::code::Code;
-use super::instr::{
+use code::code::Code;
+use code::instr::{
     Call, Callee, ElementType, Instr, LocalArray, NullableVariable, Operator, Plain, PlainTrap,
     ReferenceOperand, Target, TrappingOperator,
 };
-use super::plain::plain;
-use super::slots::SlotCounts;
-use super::stack::Stack;
+use code::plain::plain;
+use code::slots::SlotCounts;
+use code::stack::Stack;
 use std::test::Fail;
 
 const NO_SLOTS: SlotCounts = SlotCounts {
@@ -43,14 +43,12 @@ fn code_keeps_its_instructions(rt: HostRuntime) -> Result<(), Fail> {
     let Some(code) = Code::of(instrs, slots)? else {
         return Err(Fail::new("refused"));
     };
-    assert_eq!(rt; code.len(), 9);
-    assert_eq!(rt; code.slots(), slots);
-    assert!(rt; code.get(0) == Some(&Instr::Call(call)));
-    assert!(rt; matches!(code.get(7), Some(Instr::JumpBack(6))));
+    let got = (code.len(), code.slots(), code.get(7).copied());
+    assert!(rt; got == (9, slots, Some(Instr::JumpBack(6))));
     Ok(())
 }
 
-// if (x == NULL || y == NULL) { x = NULL; } return x;
+// if (x == NULL || y == NULL) { x = NULL; } return x; with other lengths of the first jump.
 #[test]
 fn jumps_land_at_equal_depths(rt: HostRuntime) -> Result<(), Fail> {
     let x = NullableVariable::Local(0);
@@ -76,13 +74,13 @@ fn jumps_land_at_equal_depths(rt: HostRuntime) -> Result<(), Fail> {
             statics: 1,
             ..NO_SLOTS
         };
-        assert_eq!(rt; Code::of(instrs, slots)?.is_some(), want, "{skipped}");
+        assert!(rt; Code::of(instrs, slots)?.is_some() == want, "{skipped}");
     }
     Ok(())
 }
 
 #[test]
-fn slots_have_their_limits(rt: HostRuntime) -> Result<(), Fail> {
+fn arrays_lie_in_the_slots(rt: HostRuntime) -> Result<(), Fail> {
     for (start, len, want) in [
         (3, 1024, true),
         (4, 1024, false),
@@ -97,20 +95,12 @@ fn slots_have_their_limits(rt: HostRuntime) -> Result<(), Fail> {
             numbers: 1027,
             ..NO_SLOTS
         };
-        assert_eq!(rt; Code::of(instrs, slots)?.is_some(), want, "{start} {len}");
+        assert!(rt; Code::of(instrs, slots)?.is_some() == want, "{start} {len}");
     }
     Ok(())
 }
 
-#[test]
-fn words_go_through_slots(rt: HostRuntime) {
-    let mut stack = Stack::new();
-    let mut numbers = [4, 5, 6];
-    assert!(rt; plain(&Instr::Load(1), &mut stack, &mut numbers) == Plain::Next);
-    assert!(rt; plain(&Instr::Store(2), &mut stack, &mut numbers) == Plain::Next);
-    assert!(rt; numbers == [4, 5, 5]);
-}
-
+// -2 and 5: each operator at `uint32_t`, and the comparisons at `jint` too.
 #[test]
 fn operates_on_the_two_topmost_words(rt: HostRuntime) {
     for (operator, want) in [
@@ -134,56 +124,43 @@ fn operates_on_the_two_topmost_words(rt: HostRuntime) {
         let mut stack = Stack::new();
         stack.push(4_294_967_294);
         stack.push(5);
-        let mut numbers = [];
-        assert!(rt; plain(&Instr::Operate(operator), &mut stack, &mut numbers) == Plain::Next);
-        assert_eq!(rt; stack.pop(), want, "{operator:?}");
+        let _ = plain(&Instr::Operate(operator), &mut stack, &mut []);
+        assert!(rt; stack.pop() == want, "{operator:?}");
     }
 }
 
+// A trap leaves the operands.
 #[test]
-fn divides_and_shifts(rt: HostRuntime) {
-    for (operator, right, want) in [
-        (TrappingOperator::Divide, 5, 858_993_458),
-        (TrappingOperator::Remainder, 5, 4),
-        (TrappingOperator::ShiftLeft, 4, 4_294_967_264),
-        (TrappingOperator::ShiftRight, 31, 1),
+fn divides_shifts_or_traps(rt: HostRuntime) {
+    let by_zero = Plain::Trap(PlainTrap::DivisionByZero, 8);
+    let too_far = Plain::Trap(PlainTrap::ShiftTooFar, 8);
+    for (operator, right, way, top) in [
+        (TrappingOperator::Divide, 5, Plain::Next, 858_993_458),
+        (TrappingOperator::Remainder, 5, Plain::Next, 4),
+        (TrappingOperator::ShiftLeft, 4, Plain::Next, 4_294_967_264),
+        (TrappingOperator::ShiftRight, 31, Plain::Next, 1),
+        (TrappingOperator::Divide, 0, by_zero, 0),
+        (TrappingOperator::Remainder, 0, by_zero, 0),
+        (TrappingOperator::ShiftLeft, 32, too_far, 32),
+        (
+            TrappingOperator::ShiftRight,
+            4_294_967_295,
+            too_far,
+            4_294_967_295,
+        ),
     ] {
         let mut stack = Stack::new();
         stack.push(4_294_967_294);
         stack.push(right);
-        let mut numbers = [];
         let instr = Instr::OperateOrTrap(operator, 8);
-        assert!(rt; plain(&instr, &mut stack, &mut numbers) == Plain::Next);
-        assert_eq!(rt; stack.pop(), want, "{operator:?}");
-    }
-}
-
-#[test]
-fn a_trap_leaves_the_operands(rt: HostRuntime) {
-    for (operator, right, trap) in [
-        (TrappingOperator::Divide, 0, PlainTrap::DivisionByZero),
-        (TrappingOperator::Remainder, 0, PlainTrap::DivisionByZero),
-        (TrappingOperator::ShiftLeft, 32, PlainTrap::ShiftTooFar),
-        (
-            TrappingOperator::ShiftRight,
-            4_294_967_295,
-            PlainTrap::ShiftTooFar,
-        ),
-    ] {
-        let mut stack = Stack::new();
-        stack.push(7);
-        stack.push(right);
-        let mut numbers = [];
-        let instr = Instr::OperateOrTrap(operator, 8);
-        assert!(rt; plain(&instr, &mut stack, &mut numbers) == Plain::Trap(trap, 8));
-        assert_eq!(rt; stack.pop(), right, "{operator:?}");
-        assert_eq!(rt; stack.pop(), 7, "{operator:?}");
+        let got = plain(&instr, &mut stack, &mut []);
+        assert!(rt; (got, stack.pop()) == (way, top), "{operator:?} {right}");
     }
 }
 
 #[test]
 fn truths_decide_jumps(rt: HostRuntime) {
-    for (instr, truth, way, left) in [
+    for (instr, truth, way, top) in [
         (Instr::JumpIfFalseOrPop(3), 0, Plain::Skip(3), 0),
         (Instr::JumpIfFalseOrPop(3), 1, Plain::Next, 9),
         (Instr::JumpIfTrueOrPop(3), 0, Plain::Next, 9),
@@ -198,12 +175,8 @@ fn truths_decide_jumps(rt: HostRuntime) {
         let mut stack = Stack::new();
         stack.push(9);
         stack.push(truth);
-        let mut numbers = [];
-        assert!(rt;
-            plain(&instr, &mut stack, &mut numbers) == way,
-            "{instr:?} {truth}"
-        );
-        assert_eq!(rt; stack.pop(), left, "{instr:?} {truth}");
+        let got = plain(&instr, &mut stack, &mut []);
+        assert!(rt; (got, stack.pop()) == (way, top), "{instr:?} {truth}");
     }
 }
 
@@ -222,26 +195,22 @@ fn elements_are_converted(rt: HostRuntime) {
         stack.push(98_432);
         let mut numbers = [5, 6, 7, 8];
         let store = Instr::StoreElement(array, element, 4);
-        assert!(rt; plain(&store, &mut stack, &mut numbers) == Plain::Next);
+        let _ = plain(&store, &mut stack, &mut numbers);
         assert!(rt; numbers == [5, 6, want, 8], "{element:?}");
     }
 }
 
 #[test]
-fn arrays_have_their_limits(rt: HostRuntime) {
+fn words_go_through_slots(rt: HostRuntime) {
     let array = LocalArray { start: 1, len: 2 };
     let mut numbers = [5, 6, 7, 8];
     let mut stack = Stack::new();
     stack.push(1);
-    let load = Instr::LoadElement(array, 4);
-    assert!(rt; plain(&load, &mut stack, &mut numbers) == Plain::Next);
-    assert_eq!(rt; stack.pop(), 7);
-    let out_of_range = Plain::Trap(PlainTrap::OutOfRange, 4);
+    let _ = plain(&Instr::LoadElement(array, 4), &mut stack, &mut numbers);
+    let _ = plain(&Instr::Store(0), &mut stack, &mut numbers);
+    let _ = plain(&Instr::ClearArray(array), &mut stack, &mut numbers);
     stack.push(2);
-    assert!(rt; plain(&load, &mut stack, &mut numbers) == out_of_range);
-    stack.push(0);
-    let store = Instr::StoreElement(array, ElementType::Int, 4);
-    assert!(rt; plain(&store, &mut stack, &mut numbers) == out_of_range);
-    assert!(rt; plain(&Instr::ClearArray(array), &mut stack, &mut numbers) == Plain::Next);
-    assert!(rt; numbers == [5, 0, 0, 8]);
+    let got = plain(&Instr::LoadElement(array, 4), &mut stack, &mut numbers);
+    let trap = Plain::Trap(PlainTrap::OutOfRange, 4);
+    assert!(rt; (got, stack.pop(), numbers) == (trap, 2, [7, 0, 0, 8]));
 }

@@ -1,0 +1,68 @@
+use heap::{Addr, Heap};
+use std::test::Fail;
+
+// A block has three cells, and one for each value.
+#[test]
+fn blocks_lie_one_after_another(rt: HostRuntime) -> Result<(), Fail> {
+    let mut heap = Heap::new(rt.alloc(), 20)?;
+    let first = heap.alloc(7, 1, 2)?;
+    let second = heap.alloc(8, 2, 0)?;
+    let got = [
+        heap.cells(),
+        heap.left(),
+        heap.count(),
+        first.cell() as usize,
+        second.cell() as usize,
+        heap.address(1).cell() as usize,
+    ];
+    assert!(rt; got == [20, 12, 2, 0, 5, 5]);
+    Ok(())
+}
+
+#[test]
+fn a_block_keeps_what_is_written(rt: HostRuntime) -> Result<(), Fail> {
+    let mut heap = Heap::new(rt.alloc(), 20)?;
+    let block = heap.alloc(7, 1, 2)?;
+    heap.set(block, 1, 4_294_967_295);
+    heap.pin(block);
+    heap.pin(block);
+    heap.unpin(block);
+    let got = [
+        heap.class_of(block),
+        heap.birth_of(block),
+        heap.len_of(block) as u32,
+        heap.get(block, 0),
+        heap.get(block, 1),
+        u32::from(heap.pins(block)),
+        Addr::new(9).cell(),
+    ];
+    assert!(rt; got == [7, 1, 2, 0, 4_294_967_295, 1, 9]);
+    Ok(())
+}
+
+#[test]
+fn there_is_no_room_past_the_last_cell(rt: HostRuntime) -> Result<(), Fail> {
+    let mut heap = Heap::new(rt.alloc(), 8)?;
+    let got = [
+        heap.alloc(7, 1, 6).is_ok(),
+        heap.alloc(7, 1, usize::MAX).is_ok(),
+        heap.alloc(7, 1, 2).is_ok(),
+        heap.alloc(7, 2, 1).is_ok(),
+        heap.alloc(7, 2, 0).is_ok(),
+        heap.alloc(7, 3, 0).is_ok(),
+    ];
+    assert!(rt; got == [false, false, true, false, true, false]);
+    Ok(())
+}
+
+#[test]
+fn the_largest_heap_is_filled_by_the_smallest_blocks(rt: HostRuntime) -> Result<(), Fail> {
+    let mut heap = Heap::new(rt.alloc(), 1_048_576)?;
+    for _ in 0..349_525 {
+        if heap.alloc(0, 0, 0).is_err() {
+            return Err(Fail::new("refused"));
+        }
+    }
+    assert!(rt; [heap.left(), heap.count()] == [1, 349_525]);
+    Ok(())
+}

@@ -1,0 +1,235 @@
+-- The code of an accepted function has one instruction for each step, and a return at its end.
+use Rattle.std.proofs.Common.{◌≡◌, ℕ, ◌+◌, Bool, true, false, ◌||◌, List, [], ◌∷◌, ◌++◌, length, Option, Some, None, refl, sym, ap, ◌∙◌, subst, arith, length-append}
+use Rattle.base.specs.Bytes.{Identifier, lookup}
+use Rattle.syntax.specs.Parts.{null_tested, names_declared, statements_of, statements_within}
+use Rattle.syntax.specs.Tree as tree
+use Rattle.syntax.specs.Tree.{ResultType, Void, IntResult, ReferenceResult, LogicalNot, Complement, ToWord, ToInt, BinaryOp, LogicalOr, LogicalAnd, Equal, NotEqual, Expr, Argument, Call, RightSide, FromExpr, FromCall, Test, TestExpr, TestCall, Stmt, Block, End, Next}
+use Rattle.base.specs.Element.{JChar}
+use Rattle.types.specs.JniFunction.{GetArrayLength}
+use Rattle.types.specs.Prototype.{function_named}
+use Rattle.types.specs.Sorts.{Sort, Jint, Ref, Global, FieldId, Buffer, constant_sort, sort_in, sort_of, is_ref, is_null, name_sort}
+use Rattle.types.specs.Sorts as sort
+use Rattle.types.specs.SortRules.{variable_sort, return_fits, places_within, places_of}
+use Rattle.code.specs.declared.instr.Instr.{Instr}
+use Rattle.code.specs.declared.instr.Instr.TheVariants as instr
+use Rattle.regions.specs.Term as term
+use Rattle.regions.specs.Term.{Term, Done, Read, IsNull, Prefix, And, Or, Binary, binary_term, term_of}
+use Rattle.lower.specs.Layout.{Slot, Known, Layout, new_slot, closed, layout_after, block_layout}
+use Rattle.lower.specs.Coding.{nullable_of, test_of, store_of, null_code, element_code, write_code, of_slot, load_code, prefix_code, operator_code, is_signed, skip_code, term_code, expr_code, call_code, value_code, right_code, assign_code, returned_code, return_code, test_code, ways_code, if_code, turn_code, loop_code, stmt_code, block_code}
+use Rattle.lower.specs.Fits.{IsNullable, TermHasSort, NumberFits, ArgumentsFit, CallFits, ValueFits, RightFits, TestFits, ReturnFits, StmtFits, BlockFits}
+use Rattle.lower.specs.Length.{binary_steps, expr_steps, arguments_steps, call_steps, value_steps, right_steps, test_steps, return_steps, stmt_steps, block_steps}
+use Rattle.lower.proofs.SortFacts.{scope_of, slot_of_name}
+use Rattle.lower.proofs.StatementFacts.{jint_is, ref_is}
+use Rattle.lower.proofs.PlaceFacts.{AreKept, own_kept, inside_kept, block_kept, ways_kept}
+use Rattle.lower.proofs.BodyFacts.{scope_after}
+
+-- ---- expressions
+
+-- the steps of the parts that have no value yet
+abbrev term_steps : Term → ℕ
+term_steps (Done v) = 0
+term_steps (term.Number n unsigned) = 1
+term_steps (term.Named c) = 1
+term_steps (Read x) = 1
+term_steps (term.Element x t) = term_steps t + 1
+term_steps (IsNull equal x) = 1
+term_steps (Prefix op t) = term_steps t + 1
+term_steps (And a b) = term_steps a + term_steps b + 1
+term_steps (Or a b) = term_steps a + term_steps b + 1
+term_steps (Binary op a b) = term_steps a + term_steps b + 1
+
+equal_steps : (o : Option Identifier) (m n : ℕ) (a b : Term) → m ≡ term_steps a → n ≡ term_steps b → binary_steps o m n ≡ term_steps (binary_term Equal o a b)
+equal_steps (Some x) m n a b left right = refl
+equal_steps None m n a b left right = omega arith
+
+unequal_steps : (o : Option Identifier) (m n : ℕ) (a b : Term) → m ≡ term_steps a → n ≡ term_steps b → binary_steps o m n ≡ term_steps (binary_term NotEqual o a b)
+unequal_steps (Some x) m n a b left right = refl
+unequal_steps None m n a b left right = omega arith
+
+operator_steps : (op : BinaryOp) (a b : Expr) → expr_steps a ≡ term_steps (term_of a) → expr_steps b ≡ term_steps (term_of b) → expr_steps (tree.Binary op a b) ≡ term_steps (term_of (tree.Binary op a b))
+operator_steps Equal a b left right = equal_steps (null_tested (tree.Binary Equal a b)) (expr_steps a) (expr_steps b) (term_of a) (term_of b) left right
+operator_steps NotEqual a b left right = unequal_steps (null_tested (tree.Binary NotEqual a b)) (expr_steps a) (expr_steps b) (term_of a) (term_of b) left right
+operator_steps op a b left right = omega arith
+
+steps_of_term : (e : Expr) → expr_steps e ≡ term_steps (term_of e)
+steps_of_term (tree.Number n unsigned) = refl
+steps_of_term (tree.Named c) = refl
+steps_of_term (tree.Variable x) = refl
+steps_of_term (tree.Element x e) = let inside = steps_of_term e in omega arith
+steps_of_term (tree.Prefix op e) = let inside = steps_of_term e in omega arith
+steps_of_term (tree.Binary op a b) = operator_steps op a b (steps_of_term a) (steps_of_term b)
+steps_of_term (tree.Paren e) = steps_of_term e
+
+null_length : (equal : Bool) (s : Sort) (i : ℕ) → IsNullable s → length (test_of equal (nullable_of s i)) ≡ 1
+null_length equal Ref i h = refl
+null_length equal Global i h = refl
+null_length equal FieldId i h = refl
+null_length equal (Buffer t w) i h = refl
+null_length equal s i h = absurd h
+
+-- instructions after those of an operand, and between those of two
+after_one : (a : List Instr) (last : Instr) (n : ℕ) → length a ≡ n → length (a ++ last ∷ []) ≡ n + 1
+after_one a last n h = omega (arith, length-append a (last ∷ []))
+
+after_two : (a b : List Instr) (last : Instr) (m n : ℕ) → length a ≡ m → length b ≡ n → length (a ++ (b ++ last ∷ [])) ≡ m + n + 1
+after_two a b last m n left right = omega (arith, length-append a (b ++ last ∷ []), length-append b (last ∷ []))
+
+between : (a b : List Instr) (middle : Instr) (m n : ℕ) → length a ≡ m → length b ≡ n → length (a ++ middle ∷ b) ≡ m + n + 1
+between a b middle m n left right = omega (arith, length-append a (middle ∷ b))
+
+term_length : (known : Known) (line : ℕ) (t : Term) (s : Sort) → TermHasSort known t s → length (term_code known line t) ≡ term_steps t
+term_length known line (Done v) s h = refl
+term_length known line (term.Number n unsigned) s h = refl
+term_length known line (term.Named tree.True) s h = refl
+term_length known line (term.Named tree.False) s h = refl
+term_length known line (term.Named c) s h = absurd h
+term_length known line (Read x) s h = ap (λ o. length (of_slot load_code o)) h.1
+term_length known line (term.Element x t) s h =
+    let array = h.3 in
+    let inside = term_length known line t h.0 h.2 in
+    let last : length (of_slot (element_code line) (lookup x known)) ≡ 1 = ap (λ o. length (of_slot (element_code line) o)) array.3 in
+    omega (arith, length-append (term_code known line t) (of_slot (element_code line) (lookup x known)))
+term_length known line (IsNull equal x) s h = ap (λ o. length (null_code equal o)) h.0.1 ∙ null_length equal h.0.0.sort h.0.0.index h.0.2
+term_length known line (Prefix LogicalNot t) s h = after_one (term_code known line t) (prefix_code LogicalNot) (term_steps t) (term_length known line t sort.Truth h.0)
+term_length known line (Prefix Complement t) s h = after_one (term_code known line t) (prefix_code Complement) (term_steps t) (term_length known line t sort.Word h.0)
+term_length known line (Prefix ToWord t) s h = after_one (term_code known line t) (prefix_code ToWord) (term_steps t) (term_length known line t h.0 h.2)
+term_length known line (Prefix ToInt t) s h = after_one (term_code known line t) (prefix_code ToInt) (term_steps t) (term_length known line t h.0 h.2)
+term_length known line (And a b) s h =
+    between (term_code known line a) (term_code known line b) (skip_code true (length (term_code known line b))) (term_steps a) (term_steps b) (term_length known line a sort.Truth h.0) (term_length known line b sort.Truth h.1)
+term_length known line (Or a b) s h =
+    between (term_code known line a) (term_code known line b) (skip_code false (length (term_code known line b))) (term_steps a) (term_steps b) (term_length known line a sort.Truth h.0) (term_length known line b sort.Truth h.1)
+term_length known line (Binary op a b) s h =
+    after_two (term_code known line a) (term_code known line b) (operator_code line (is_signed known a) op) (term_steps a) (term_steps b) (term_length known line a h.0 h.2) (term_length known line b h.0 h.3)
+
+expr_length : (known : Known) (line : ℕ) (e : Expr) (s : Sort) → NumberFits known (term_of e) s → length (expr_code known line e) ≡ expr_steps e
+expr_length known line e s h = term_length known line (term_of e) s h.sort ∙ sym (steps_of_term e)
+
+-- ---- right sides
+
+one_argument : (known : Known) (line i : ℕ) (arguments : List Argument) → ArgumentsFit known arguments → length (call_code known line i arguments) ≡ arguments_steps (Some GetArrayLength) arguments + 1
+one_argument known line i (tree.Value e ∷ []) h = refl
+one_argument known line i arguments h = absurd h
+
+call_length : (known : Known) (line i : ℕ) (c : Call) → CallFits known c → length (call_code known line i c.arguments) ≡ call_steps c
+call_length known line i c h = one_argument known line i c.arguments h.1 ∙ sym (ap (λ o. arguments_steps o c.arguments + 1) h.0)
+
+number_set : (known : Known) (line : ℕ) (slot : Slot) (e : Expr) (s : Sort) → NumberFits known (term_of e) s → length (value_code known line slot e) ≡ value_steps e
+number_set known line slot (tree.Named tree.Null) s h = absurd h.sort
+number_set known line slot e s h = after_one (expr_code known line e) (instr.Store slot.index) (expr_steps e) (expr_length known line e s h)
+
+null_set : (known : Known) (line : ℕ) (slot : Slot) (e : Expr) → length (store_of (nullable_of slot.sort slot.index)) ≡ 1 → e ≡ tree.Named tree.Null → length (value_code known line slot e) ≡ value_steps e
+null_set known line slot e one is = subst (λ (d : Expr). length (value_code known line slot d) ≡ value_steps d) (sym is) one
+
+value_length : (known : Known) (line : ℕ) (s : Sort) (i : ℕ) (e : Expr) → ValueFits known s e → length (value_code known line (record { sort = s; index = i }) e) ≡ value_steps e
+value_length known line sort.Word i e h = number_set known line (record { sort = sort.Word; index = i }) e sort.Word h
+value_length known line Jint i e h = number_set known line (record { sort = Jint; index = i }) e Jint h
+value_length known line sort.Flag i e h = number_set known line (record { sort = sort.Flag; index = i }) e sort.Flag h
+value_length known line Ref i e h = null_set known line (record { sort = Ref; index = i }) e refl h
+value_length known line Global i e h = null_set known line (record { sort = Global; index = i }) e refl h
+value_length known line FieldId i e h = null_set known line (record { sort = FieldId; index = i }) e refl h
+value_length known line (Buffer t w) i e h = null_set known line (record { sort = Buffer t w; index = i }) e refl h
+value_length known line s i e h = absurd h
+
+right_length : (known : Known) (line : ℕ) (s : Slot) (r : RightSide) → RightFits known s.sort r → length (right_code known line s r) ≡ right_steps r
+right_length known line s (FromExpr e) h = value_length known line s.sort s.index e h
+right_length known line s (FromCall c) h = call_length known line s.index c h.1
+
+-- ---- returns
+
+no_jint : (c : tree.Constant) → constant_sort c ≡ Some Jint → ⊥
+no_jint tree.True h = cc
+no_jint tree.False h = cc
+no_jint c h = cc
+
+-- an operator's result is a number, and is returned as one
+binary_returned : (known : Known) (line : ℕ) (op : BinaryOp) (o : Option Identifier) (a b : Term) → ReturnFits known (binary_term op o a b)
+    → NumberFits known (binary_term op o a b) Jint × (return_code known line (binary_term op o a b) ≡ term_code known line (binary_term op o a b) ++ instr.ReturnJint ∷ [])
+binary_returned known line LogicalAnd o a b h = (h, refl)
+binary_returned known line LogicalOr o a b h = (h, refl)
+binary_returned known line Equal (Some x) a b h = (h, refl)
+binary_returned known line Equal None a b h = (h, refl)
+binary_returned known line NotEqual (Some x) a b h = (h, refl)
+binary_returned known line NotEqual None a b h = (h, refl)
+binary_returned known line op o a b h = (h, refl)
+
+number_returned : (known : Known) (line : ℕ) (e : Expr) → sort_of (scope_of known) e ≡ Some Jint → ReturnFits known (term_of e) → length (return_code known line (term_of e)) ≡ expr_steps e + 1
+number_returned known line (tree.Number n unsigned) h fits = refl
+number_returned known line (tree.Named c) h fits = absurd (no_jint c h)
+number_returned known line (tree.Variable x) h fits = let at = slot_of_name x known Jint h in ap (λ o. length (of_slot returned_code o)) at.1
+number_returned known line (tree.Element x i) h fits = after_one (expr_code known line (tree.Element x i)) instr.ReturnJint (expr_steps (tree.Element x i)) (expr_length known line (tree.Element x i) Jint fits)
+number_returned known line (tree.Prefix op a) h fits = after_one (expr_code known line (tree.Prefix op a)) instr.ReturnJint (expr_steps (tree.Prefix op a)) (expr_length known line (tree.Prefix op a) Jint fits)
+number_returned known line (tree.Binary op a b) h fits =
+    let e = tree.Binary op a b in
+    let number = binary_returned known line op (null_tested e) (term_of a) (term_of b) fits in
+    ap (λ (c : List Instr). length c) number.1 ∙ after_one (expr_code known line e) instr.ReturnJint (expr_steps e) (expr_length known line e Jint number.0)
+number_returned known line (tree.Paren e) h fits = number_returned known line e h fits
+
+reference_returned : (known : Known) (line : ℕ) (e : Expr) → (is_null e || is_ref (name_sort (scope_of known) e)) ≡ true → length (return_code known line (term_of e)) ≡ 1
+reference_returned known line (tree.Named tree.Null) h = refl
+reference_returned known line (tree.Variable x) h =
+    let at = slot_of_name x known Ref (ref_is (sort_in (scope_of known) x) h) in
+    ap (λ o. length (of_slot returned_code o)) at.1
+reference_returned known line e h = absurd (cc)
+
+return_length : (known : Known) (line : ℕ) (returns : ResultType) (e : Expr) → return_fits (scope_of known) returns e ≡ true → ReturnFits known (term_of e) → length (return_code known line (term_of e)) ≡ return_steps returns e
+return_length known line Void e h fits = absurd (cc)
+return_length known line IntResult e h fits = number_returned known line e (jint_is (sort_of (scope_of known) e) h) fits
+return_length known line (ReferenceResult r) e h fits = reference_returned known line e h
+
+-- ---- statements
+
+test_length : (known : Known) (line : ℕ) (test : Test) → TestFits known test → length (test_code known line test) + 1 ≡ test_steps test
+test_length known line (TestExpr e) h = let inside = expr_length known line e sort.Truth h in omega arith
+test_length known line (TestCall c) h = absurd h
+
+if_length : (known : Known) (line : ℕ) (test : Test) (then' else' : List Instr) (m n : ℕ) → TestFits known test → length then' ≡ m → length else' ≡ n → length (if_code known line test then' else') ≡ test_steps test + (m + 1) + (n + 1)
+if_length known line test then' else' m n h first second =
+    let inside = test_length known line test h in
+    let last = after_one else' (instr.Jump 0) n second in
+    omega (arith, length-append (test_code known line test) (ways_code then' (else' ++ instr.Jump 0 ∷ [])), length-append then' (instr.Jump (length (else' ++ instr.Jump 0 ∷ [])) ∷ (else' ++ instr.Jump 0 ∷ [])))
+
+loop_length : (test body : List Instr) (m n : ℕ) → length test ≡ m → length body ≡ n → length (loop_code test body) ≡ m + 1 + (n + 1)
+loop_length test body m n first second =
+    let last = after_one body (instr.JumpBack (length test + 1 + length body)) n second in
+    omega (arith, length-append test (turn_code test body))
+
+write_length : (l : Layout) (line : ℕ) (x : Identifier) (i e : Expr) → StmtFits l (tree.AssignElement line x i e) → length (stmt_code l (tree.AssignElement line x i e)) ≡ expr_steps i + expr_steps e + 1
+write_length l line x i e h =
+    let index = expr_length l.known line i h.1.0 h.1.2 in
+    let value = expr_length l.known line e Jint h.2 in
+    let last : length (of_slot (write_code line) (lookup x l.known)) ≡ 1 = ap (λ o. length (of_slot (write_code line) o)) h.0.3 in
+    omega (arith, length-append (expr_code l.known line i) (expr_code l.known line e ++ of_slot (write_code line) (lookup x l.known)), length-append (expr_code l.known line e) (of_slot (write_code line) (lookup x l.known)))
+
+module _ (returns : ResultType) where
+  mutual
+    stmt_length : (s : Stmt) (l : Layout) (taken : List Identifier) → StmtFits l s → AreKept (places_within returns (scope_of l.known) taken s) → length (stmt_code l s) ≡ stmt_steps returns s
+    stmt_length (tree.Declare line t x r) l taken fits kept = right_length l.known line (new_slot (variable_sort t) l) r fits.1
+    stmt_length (tree.DeclareBuffer line t x r) l taken fits kept = right_length l.known line (new_slot (Buffer t true) l) r fits.1
+    stmt_length (tree.DeclareChars line x r) l taken fits kept = right_length l.known line (new_slot (Buffer JChar false) l) r fits.1
+    stmt_length (tree.DeclareArray line t x size) l taken fits kept = refl
+    stmt_length (tree.Assign line x r) l taken fits kept = ap (λ o. length (assign_code l.known line o r)) fits.1 ∙ right_length l.known line fits.0 r fits.2
+    stmt_length (tree.AssignElement line x i e) l taken fits kept = write_length l line x i e fits
+    stmt_length (tree.Perform line c) l taken fits kept = call_length l.known line l.slots.numbers c fits
+    stmt_length (tree.PutJint line e) l taken fits kept = after_one (expr_code l.known line e) instr.PutJint (expr_steps e) (expr_length l.known line e Jint fits)
+    stmt_length (tree.If line test then') l taken fits kept =
+        let inside = block_length then' l taken fits.1 (inside_kept returns (scope_of l.known) taken (tree.If line test then') kept) in
+        if_length l.known line test (block_code l then') [] (block_steps returns then') 0 fits.0 inside refl
+    stmt_length (tree.IfElse line test then' else') l taken fits kept =
+        let both = ways_kept returns (scope_of l.known) taken line test then' else' kept in
+        let first = block_length then' l taken fits.1 both.0 in
+        let second = block_length else' (closed l (block_layout l then')) (taken ++ names_declared (statements_of then')) fits.2 both.1 in
+        if_length l.known line test (block_code l then') (block_code (closed l (block_layout l then')) else') (block_steps returns then') (block_steps returns else') fits.0 first second
+    stmt_length (tree.While line test body) l taken fits kept =
+        let inside = block_length body l taken fits.1 (inside_kept returns (scope_of l.known) taken (tree.While line test body) kept) in
+        loop_length (expr_code l.known line test) (block_code l body) (expr_steps test) (block_steps returns body) (expr_length l.known line test sort.Truth fits.0) inside
+    stmt_length (tree.Return line) l taken fits kept = refl
+    stmt_length (tree.ReturnValue line e) l taken fits kept = return_length l.known line returns e (own_kept returns (scope_of l.known) taken (tree.ReturnValue line e) kept).fits fits
+
+    pub block_length : (b : Block) (l : Layout) (taken : List Identifier) → BlockFits l b → AreKept (places_of returns (scope_of l.known) taken b) → length (block_code l b) ≡ block_steps returns b
+    block_length (End line) l taken fits kept = refl
+    block_length (Next s rest) l taken fits kept =
+        let both = block_kept returns (scope_of l.known) taken s rest kept in
+        let more = taken ++ names_declared (statements_within s) in
+        let first = stmt_length s l taken fits.0 both.0 in
+        let second = block_length rest (layout_after l s) more fits.1 (subst (λ scope. AreKept (places_of returns scope more rest)) (scope_after s l) both.1) in
+        omega (arith, length-append (stmt_code l s) (block_code (layout_after l s) rest))
