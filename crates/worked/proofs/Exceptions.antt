@@ -9,7 +9,7 @@ use Rattle.world.specs.Object.{ObjectValue, Refers}
 use Rattle.world.specs.World.{World}
 use Rattle.world.specs.WorldLines.{ArrayLine, ClassLine, NamedObject, NumberValue, ThreadLine}
 use Rattle.world.specs.WorldMeaning.{world_of}
-use Rattle.rows.proofs.Computed.{unit_of, native, block, reference_parameter, static_reference, call, turns, run, opened}
+use Rattle.worked.proofs.Computed.{unit_of, native, block, reference_parameter, static_reference, call, turns, run, opened}
 
 -- JNIEXPORT void JNICALL Java_A_f(JNIEnv *env, jclass cls, jintArray a) {
 -- jobject x = (*env)->NewLocalRef(env, a);

@@ -7,17 +7,17 @@ use Rattle.classes.specs.Mangling.{unmangle}
 use Rattle.types.specs.Prototype.{function_named}
 use Rattle.types.specs.SortRules.{IsSorted}
 use Rattle.regions.specs.Regions.{HasRegions}
-use Rattle.rows.proofs.Computed.{unit_of, native, block, reference_parameter, int_parameter, static_reference, call}
+use Rattle.worked.proofs.Computed.{unit_of, native, block, reference_parameter, int_parameter, static_reference, call}
 use Rattle.std.proofs.Common.{inl, inr, arith}
-use Rattle.rows.proofs.CallArguments.{not_begun}
-use Rattle.rows.proofs.ShortCircuit.{right_side_left_alone}
-use Rattle.rows.proofs.Buffers.{copied_back, committed}
-use Rattle.rows.proofs.FramesAndReferences.{popped, deleted_global}
-use Rattle.rows.proofs.EnlargedFrame.{enlarged_frame}
-use Rattle.rows.proofs.CriticalBuffers.{own_array, written_by_another}
-use Rattle.rows.proofs.Exceptions.{thrown_with_message}
-use Rattle.rows.proofs.Fields.{set_and_allocated}
-use Rattle.rows.proofs.FirstFaults.{first_faults}
+use Rattle.worked.proofs.CallArguments.{not_begun}
+use Rattle.worked.proofs.ShortCircuit.{right_side_left_alone}
+use Rattle.worked.proofs.Buffers.{copied_back, committed}
+use Rattle.worked.proofs.FramesAndReferences.{popped, deleted_global}
+use Rattle.worked.proofs.EnlargedFrame.{enlarged_frame}
+use Rattle.worked.proofs.CriticalBuffers.{own_array, written_by_another}
+use Rattle.worked.proofs.Exceptions.{thrown_with_message}
+use Rattle.worked.proofs.Fields.{set_and_allocated}
+use Rattle.worked.proofs.FirstFaults.{first_faults}
 
 not_begun-tree : IsTree not_begun
 not_begun-tree = record { levelled_expressions = refl; numbers = refl; forms = refl; low = refl; few_functions = omega arith; few_statics = omega arith; few_names = refl }

@@ -9,7 +9,7 @@ use Rattle.world.specs.World.{World}
 use Rattle.world.specs.WorldLines.{ClassLine, NamedObject, ObjectLine, ThreadLine}
 use Rattle.world.specs.WorldMeaning.{world_of}
 use Rattle.world.specs.declared.schedule.ScheduleWord.TheVariants.{Collect}
-use Rattle.rows.proofs.Computed.{unit_of, native, reference_parameter, call, turns, run, opened}
+use Rattle.worked.proofs.Computed.{unit_of, native, reference_parameter, call, turns, run, opened}
 
 -- JNIEXPORT void JNICALL Java_A_f(JNIEnv *env, jclass cls, jobject o) {
 -- (*env)->MonitorEnter(env, o);

@@ -5,7 +5,7 @@ use Rattle.syntax.specs.Parts.{functions_of}
 use Rattle.syntax.specs.Tree.{Number, Paren, PutJint, Return, SourceUnit, Void}
 use Rattle.classes.specs.Mangling.{unmangle}
 use Rattle.types.specs.Prototype.{function_named}
-use Rattle.rows.proofs.Computed.{unit_of, native}
+use Rattle.worked.proofs.Computed.{unit_of, native}
 
 -- JNIEXPORT void JNICALL Java_A_f(JNIEnv *env, jclass cls) {
 --     put_jint((((((((((((((((((((((((((((((((1)))))))))))))))))))))))))))))))); return; }

@@ -5,7 +5,7 @@ use Rattle.syntax.specs.Tree.{Add, Assign, AssignElement, Binary, Declare, Decla
 use Rattle.classes.specs.Mangling.{unmangle}
 use Rattle.types.specs.Prototype.{function_named}
 use Rattle.types.specs.SortRules.{ArgumentCount, BadMode, DeclaredTwice, ReadOnlyWrite, ReferenceCopied, SortMisfit, UnknownFunction, UnknownName, broken}
-use Rattle.rows.proofs.Computed.{unit_of, native, block, reference_parameter, int_parameter, static_reference, call}
+use Rattle.worked.proofs.Computed.{unit_of, native, block, reference_parameter, int_parameter, static_reference, call}
 
 -- JNIEXPORT void JNICALL Java_A_f(JNIEnv *env, jclass cls) { put_jint(x); return; }
 abbrev pub unknown_name : SourceUnit

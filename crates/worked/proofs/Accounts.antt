@@ -13,8 +13,8 @@ use Rattle.regions.specs.Reachable.{live_size}
 use Rattle.regions.specs.Run.{Collects, JournalFollows, Over, Steps, Waits, account, replay, wanted}
 use Rattle.regions.specs.State.{State}
 use Rattle.regions.specs.Thread.{Ended, Unfinished}
-use Rattle.rows.proofs.Computed.{unit_of, native, reference_parameter, call, turns, entries, opened}
-use Rattle.rows.proofs.Arithmetic.{returns_zero}
+use Rattle.worked.proofs.Computed.{unit_of, native, reference_parameter, call, turns, entries, opened}
+use Rattle.worked.proofs.Arithmetic.{returns_zero}
 
 abbrev after : SourceUnit → World → (n : ℕ) → (State → ℕ) → ℕ
 after unit w n f = option_map_or f (replay unit w (entries 1 n)) 0

@@ -11,7 +11,7 @@ use Rattle.world.specs.World.{World}
 use Rattle.world.specs.declared.report.Printed.{Printed}
 use Rattle.regions.specs.Run.{replay}
 use Rattle.regions.specs.State.{State}
-use Rattle.rows.proofs.Computed.{unit_of, native, block, reference_parameter, call, entries, opened}
+use Rattle.worked.proofs.Computed.{unit_of, native, block, reference_parameter, call, entries, opened}
 
 -- the numbers that a run of one thread prints in this many steps
 abbrev prints : SourceUnit → World → ℕ → Option (List ℤ)

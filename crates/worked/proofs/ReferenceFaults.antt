@@ -6,8 +6,8 @@ use Rattle.classes.specs.Mangling.{unmangle}
 use Rattle.types.specs.Prototype.{function_named}
 use Rattle.types.specs.SortRules.{IsSorted}
 use Rattle.regions.specs.RegionRules.{DeadReference, HeldBuffer, NoReturn, PopLastFrame, ReturnInFrame, WaysDiffer, WrongLevel}
-use Rattle.rows.proofs.Computed.{unit_of, native, block, reference_parameter, call}
-use Rattle.rows.proofs.FirstFaults.{first_faults}
+use Rattle.worked.proofs.Computed.{unit_of, native, block, reference_parameter, call}
+use Rattle.worked.proofs.FirstFaults.{first_faults}
 
 -- JNIEXPORT void JNICALL Java_A_f(JNIEnv *env, jclass cls) {
 -- if ((*env)->PushLocalFrame(env, 2) == 0) {

@@ -8,9 +8,9 @@ use Rattle.types.specs.SortRules.{IsSorted}
 use Rattle.regions.specs.RegionRules.{CallWhileCritical, DeadReference, NoReturn, ReturnInFrame, ReturnWithBuffer, UntestedBuffer, WaysDiffer, is_dead}
 use Rattle.regions.specs.RegionStates.{state_of}
 use Rattle.regions.specs.Regions.{BreaksRegionRule}
-use Rattle.rows.proofs.Computed.{unit_of, native, block, reference_parameter, call}
+use Rattle.worked.proofs.Computed.{unit_of, native, block, reference_parameter, call}
 use Rattle.std.proofs.Common.{inl, inr, ap, true≢false, arith}
-use Rattle.rows.proofs.FirstFaults.{first_faults}
+use Rattle.worked.proofs.FirstFaults.{first_faults}
 
 -- JNIEXPORT void JNICALL Java_A_f(JNIEnv *env, jclass cls, jintArray a) {
 -- jint *q = (*env)->GetPrimitiveArrayCritical(env, a, NULL);

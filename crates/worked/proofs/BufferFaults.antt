@@ -6,8 +6,8 @@ use Rattle.classes.specs.Mangling.{unmangle}
 use Rattle.types.specs.Prototype.{function_named}
 use Rattle.types.specs.SortRules.{IsSorted}
 use Rattle.regions.specs.RegionRules.{ArrayInUse, CallWhileCritical, HeldBuffer, UntestedBuffer, WrongBuffer}
-use Rattle.rows.proofs.Computed.{unit_of, native, block, reference_parameter, static_reference, call}
-use Rattle.rows.proofs.FirstFaults.{first_faults}
+use Rattle.worked.proofs.Computed.{unit_of, native, block, reference_parameter, static_reference, call}
+use Rattle.worked.proofs.FirstFaults.{first_faults}
 
 -- JNIEXPORT void JNICALL Java_A_f(JNIEnv *env, jclass cls, jintArray a) {
 -- jint *p = (*env)->GetIntArrayElements(env, a, NULL);

@@ -7,7 +7,7 @@ use Rattle.classes.specs.Class.{Plain}
 use Rattle.world.specs.World.{World}
 use Rattle.world.specs.WorldLines.{ClassLine, ThreadLine}
 use Rattle.world.specs.WorldMeaning.{world_of}
-use Rattle.rows.proofs.Computed.{unit_of, native, block, turns, run, opened}
+use Rattle.worked.proofs.Computed.{unit_of, native, block, turns, run, opened}
 
 -- JNIEXPORT void JNICALL Java_A_f(JNIEnv *env, jclass cls) {
 -- if (1u == 2u && 1u / 0u == 0u) { put_jint(1); }

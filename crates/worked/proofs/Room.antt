@@ -7,7 +7,7 @@ use Rattle.classes.specs.Class.{Plain}
 use Rattle.world.specs.World.{World}
 use Rattle.world.specs.WorldLines.{ClassLine, ThreadLine}
 use Rattle.world.specs.WorldMeaning.{world_of}
-use Rattle.rows.proofs.Computed.{unit_of, native, call, turns, entries, entry, run, replayed, opened}
+use Rattle.worked.proofs.Computed.{unit_of, native, call, turns, entries, entry, run, replayed, opened}
 
 -- JNIEXPORT void JNICALL Java_A_f(JNIEnv *env, jclass cls) {
 -- jintArray d = (*env)->NewIntArray(env, 100);
