@@ -53,10 +53,10 @@ abbrev pub right_steps : RightSide → ℕ
 right_steps (FromExpr e) = value_steps e
 right_steps (FromCall c) = call_steps c
 
--- a test, and the choice of a way; a call that is tested chooses itself
+-- a test, and the choice of a way
 abbrev pub test_steps : Test → ℕ
 test_steps (TestExpr e) = expr_steps e + 1
-test_steps (TestCall c) = call_steps c
+test_steps (TestCall c) = call_steps c + 1
 
 -- a return of a value: a number is worked out first, and a reference isn't
 abbrev pub return_steps : ResultType → Expr → ℕ
