@@ -1,8 +1,10 @@
 -- Calls, right sides and tests: what is read is spelled so, and what is spelled so is read.
 use Rattle.std.proofs.Common.{◌≡◌, ℕ, zero, suc, ◌+◌, ◌<◌, ◌≤◌, true, false, List, [], ◌∷◌, ◌++◌, length, Option, Some, None, Result, Ok, refl, sym, ap, subst, ◌∙◌, arith, add-one, inl, inr}
-use Rattle.std.specs.Prelude.{flat_map}
+use Rattle.std.specs.Prelude.{◌==◌, ◌&&◌, flat_map}
+use Rattle.std.proofs.lemmas.Bool.{and_parts, eqb-true, false_from_ne_true}
 use Rattle.scan.specs.declared.token.Mark.TheVariants as marks
 use Rattle.syntax.specs.Tree.{LogicalNot, Complement, ToWord, ToInt, Expr, Number, Named, Variable, Element, Prefix, Binary, Paren, Argument, Value, Text, AddressOf, Call, RightSide, FromExpr, FromCall, Test, TestExpr, TestCall}
+use Rattle.syntax.specs.Limits.{height}
 use Rattle.parse.specs.declared.fault.ParseFault.{ParseFault}
 use Rattle.parse.specs.declared.words.Word.TheVariants as words
 use Rattle.parse.specs.declared.lexemes.Fixed.TheVariants as fixed
@@ -10,8 +12,8 @@ use Rattle.parse.specs.Results.{◌>>=◌}
 use Rattle.parse.specs.Meaning.{Meaning, Fixed', Name', Number', Text'}
 use Rattle.parse.specs.Lexemes.{Lexed, expect, name_at}
 use Rattle.parse.specs.Spelling.{Spelled, Anywhere, mark, word, constant_word, operator_mark, expression, argument, call, right, test_tokens}
-use Rattle.parse.specs.Reading.{starts_with, rest_of, expr_at, interface_at, text_of, text_at, value_at, argument_by, argument_at, arguments_at, call_at, starts_call, right_at, number_at, test_at}
-use Rattle.parse.proofs.Forms.{IsArgument, AreArguments, IsRight, IsTest}
+use Rattle.parse.specs.Reading.{starts_with, rest_of, ReadExpr, expr_at, interface_at, text_of, text_at, value_at, argument_by, argument_at, arguments_at, call_at, starts_call, right_expr_at, right_at, number_at, test_at}
+use Rattle.parse.proofs.Forms.{IsExpr, IsArgument, AreArguments, IsRight, IsTest}
 use Rattle.parse.proofs.Singles.{Begins, bind_ok, ok_is, chosen, begins_append, begins_split, begins_length, shortens, first_takes, first_rest, first_is, starts_takes, expect_takes, expect_again, then_takes, name_takes, name_again, zero_takes, number_again}
 use Rattle.parse.proofs.Table.{Closes, closes_mark}
 use Rattle.parse.proofs.Levels.{index_tokens, no_first, no_first_mark, no_call, expr_reads, expr_reads_again}
@@ -152,6 +154,15 @@ call_takes room ls x h =
 abbrev pub TakesRight : ℕ → List Lexed → RightSide × List Lexed → Type 0
 TakesRight room ls x = Begins (right x.0) ls x.1 × IsRight room x.0
 
+-- an expression of a right side is one that is read anywhere
+right_expr_takes : (room : ℕ) (ls : List Lexed) (x : ReadExpr) → right_expr_at room ls ≡ Ok x → expr_at room 0 ls ≡ Ok x
+unfolding right_expr_at
+right_expr_takes room ls x e =
+    elim (chosen (starts_with (fixed.Mark marks.OpenParen) ls && room == 0) _ _ (Ok x) e) [
+      | inl w ↦ absurd cc
+      | inr w ↦ w.1
+    ]
+
 pub right_takes : (room : ℕ) (ls : List Lexed) (x : RightSide × List Lexed) → right_at room ls ≡ Ok x → TakesRight room ls x
 unfolding right_at
 right_takes room ls x e =
@@ -161,9 +172,9 @@ right_takes room ls x e =
           let made : RightSide × List Lexed = (FromCall a.0.0, a.0.1) in
           subst (λ (y : RightSide × List Lexed). TakesRight room ls y) (ok_is made x a.2) (call_takes room ls a.0 a.1)
       | inr w ↦
-          let a = bind_ok (expr_at room 0 ls) (λ y. Ok (FromExpr y.0, y.2)) x w.1 in
+          let a = bind_ok (right_expr_at room ls) (λ y. Ok (FromExpr y.0, y.2)) x w.1 in
           let made : RightSide × List Lexed = (FromExpr a.0.0, a.0.2) in
-          subst (λ (y : RightSide × List Lexed). TakesRight room ls y) (ok_is made x a.2) (expr_reads room ls a.0 a.1)
+          subst (λ (y : RightSide × List Lexed). TakesRight room ls y) (ok_is made x a.2) (expr_reads room ls a.0 (right_expr_takes room ls a.0 a.1))
     ]
 
 abbrev TakesTest : ℕ → List Lexed → Test × List Lexed → Type 0
@@ -294,9 +305,30 @@ call_starts es ls rest h =
     let t = first_is (Fixed' (fixed.Mark marks.Star)) es (rest_of ls) rest (fixed.Mark marks.Star) (first_rest (mark marks.OpenParen) (mark marks.Star ∷ es) ls rest h) in
     rw (s, t) refl
 
+-- an expression that begins with a parenthesis is not of height 0
+low_first : (e : Expr) (ls rest : List Lexed) → Begins (expression e) ls rest → height e ≤ 0 → starts_with (fixed.Mark marks.OpenParen) ls ≡ false
+low_first (Number value unsigned) ls rest h low = first_is (Number' value unsigned) [] ls rest (fixed.Mark marks.OpenParen) h
+low_first (Named c) ls rest h low = first_is (Fixed' (fixed.Word (constant_word c))) [] ls rest (fixed.Mark marks.OpenParen) h
+low_first (Variable x) ls rest h low = first_is (Name' x) [] ls rest (fixed.Mark marks.OpenParen) h
+low_first (Element x i) ls rest h low = absurd (omega (arith, low))
+low_first (Prefix op a) ls rest h low = absurd (omega (arith, low))
+low_first (Binary op a b) ls rest h low = absurd (omega (arith, low))
+low_first (Paren a) ls rest h low = absurd (omega (arith, low))
+
+right_expr_again : (room : ℕ) (e : Expr) (ls rest : List Lexed) → Begins (expression e) ls rest → IsExpr room e → Closes rest → right_expr_at room ls ≡ Ok (e, height e, rest)
+unfolding right_expr_at
+right_expr_again room e ls rest h is closed =
+    let no_test : (starts_with (fixed.Mark marks.OpenParen) ls && room == 0) ≡ false = false_from_ne_true _ (λ t.
+    let p = and_parts (starts_with (fixed.Mark marks.OpenParen) ls) (room == 0) t in
+    let none : room ≡ 0 = eqb-true room 0 p.1 in
+    let low = is.low in
+    let f : true ≡ false = sym p.0 ∙ low_first e ls rest h (omega (arith, low, none)) in
+    absurd cc) in
+    rw no_test (expr_reads_again room ls rest e h is closed)
+
 pub right_again : (room : ℕ) (r : RightSide) (ls rest : List Lexed) → Begins (right r) ls rest → IsRight room r → Closes rest → right_at room ls ≡ Ok (r, rest)
 unfolding right_at
-right_again room (FromExpr e) ls rest h is closed = rw (no_call 0 e is.levelled ls rest h, expr_reads_again room ls rest e h is closed) refl
+right_again room (FromExpr e) ls rest h is closed = rw (no_call 0 e is.levelled ls rest h, right_expr_again room e ls rest h is closed) refl
 right_again room (FromCall c) ls rest h is closed = rw (call_starts (call_after c) ls rest h, call_again room c ls rest h is) refl
 
 abbrev test_read : Test → List Lexed → Result (Test × List Lexed) ParseFault

@@ -6,7 +6,7 @@ use Rattle.scan.specs.declared.token.Token.{Token}
 use Rattle.scan.specs.declared.token.Kind.{Kind}
 use Rattle.scan.specs.declared.token.Kind.TheVariants as kinds
 use Rattle.scan.specs.declared.token.Mark.TheVariants as marks
-use Rattle.scan.specs.Spelling.{SpellsFrom, ends, passes, takes, IsLexeme, limit}
+use Rattle.scan.specs.Spelling.{SpellsFrom, ends, passes, takes, IsLexeme}
 use Rattle.syntax.specs.Tree.{Expr, Number, Named, Variable, Element, Prefix, Binary, Paren}
 use Rattle.syntax.specs.Limits.{number_limit, numbers_in_range}
 use Rattle.parse.specs.declared.words.Word.{Word}
@@ -45,17 +45,13 @@ numbers_of (Paren e) h = numbers_of e (range_left (expression e) (mark marks.Clo
 
 -- ---- the tokens of a text
 
-limits_agree : (unsigned : Bool) (value : ℕ) → value < limit unsigned → value < number_limit unsigned
-limits_agree false value lt = lt
-limits_agree true value lt = lt
-
 word_in_range : (o : Option Word) (bytes : List ℕ) → IsInRange (name_or_word o bytes)
 word_in_range None bytes = tt
 word_in_range (Some w) bytes = tt
 
 lexeme_in_range : (kind : Kind) (word bytes : List ℕ) → IsLexeme kind word → IsInRange (meaning_of kind bytes)
 lexeme_in_range kinds.Name word bytes h = word_in_range (word_of bytes) bytes
-lexeme_in_range (kinds.Number value unsigned) word bytes h = limits_agree unsigned value h.small
+lexeme_in_range (kinds.Number value unsigned) word bytes h = h.small
 lexeme_in_range kinds.Text word bytes h = tt
 lexeme_in_range (kinds.Symbol m) word bytes h = tt
 

@@ -1,5 +1,5 @@
 -- Reading lexemes from left to right, with the first fault that is met.
-use Rattle.std.specs.Prelude.{ℕ, zero, suc, ◌+◌, ◌-◌, max, Bool, true, false, ◌||◌, nat_lt, ◌==◌, List, [], ◌∷◌, length, Option, Some, None, is_some, Result, Ok, Err, if◌then◌else◌}
+use Rattle.std.specs.Prelude.{ℕ, zero, suc, ◌+◌, ◌-◌, max, Bool, true, false, ◌&&◌, ◌||◌, nat_lt, ◌==◌, List, [], ◌∷◌, length, Option, Some, None, is_some, Result, Ok, Err, is_ok, if◌then◌else◌}
 use Rattle.std.specs.Option.{option_map, option_flatten}
 use Rattle.scan.specs.declared.token.Mark.{Mark}
 use Rattle.scan.specs.declared.token.Mark.TheVariants as marks
@@ -313,10 +313,22 @@ call_at room ls = do
 abbrev pub starts_call : List Lexed → Bool
 starts_call ls = if starts_with (fixed.Mark marks.OpenParen) ls then starts_with (fixed.Mark marks.Star) (rest_of ls) else false
 
+-- whether what comes next may follow the opening parenthesis of an operand: of a cast, or of an expression in parentheses
+unfoldable pub starts_inside : List Lexed → Bool
+starts_inside ls =
+    is_ok (primary_at ls) || starts_with (fixed.Mark marks.OpenParen) ls || starts_with (fixed.Mark marks.Tilde) ls || starts_with (fixed.Mark marks.Exclamation) ls
+    || starts_with (fixed.Word words.Uint32) ls || starts_with (fixed.Word words.Jint) ls
+
+-- The expression of a right side. Where no height is left, its parenthesis may still be that of a call: the token after it is the first that can't be there.
+unfoldable pub right_expr_at : ℕ → List Lexed → Result ReadExpr ParseFault
+right_expr_at room ls =
+    if starts_with (fixed.Mark marks.OpenParen) ls && room == 0 then Err (fault_at (if starts_inside (rest_of ls) then TooHigh else NoForm) (rest_of ls))
+    else expr_at room 0 ls
+
 unfoldable pub right_at : ℕ → List Lexed → Result (RightSide × List Lexed) ParseFault
 right_at room ls =
     if starts_call ls then (call_at room ls >>= λ c. Ok (FromCall c.0, c.1))
-    else (expr_at room 0 ls >>= λ e. Ok (FromExpr e.0, e.2))
+    else (right_expr_at room ls >>= λ e. Ok (FromExpr e.0, e.2))
 
 -- ---- single numbers
 

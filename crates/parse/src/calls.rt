@@ -6,7 +6,7 @@ ghost use Rattle.parse.specs.Results.{Gives};
 ghost use Rattle.parse.specs.Lexemes.{views};
 ghost use Rattle.parse.specs.Reading.{interface_at, value_at, argument_at, arguments_at, call_at, starts_call, right_at, setting_at, test_at};
 
-use crate::expressions::expression;
+use crate::expressions::{expression, right_expression};
 use crate::fault::ParseFault;
 use crate::lexemes::{Fixed, Lexeme, expect, name_at, number_at, rest_of, starts_with, text_at};
 use crate::words::Word;
@@ -126,7 +126,7 @@ pub(crate) fn right_side(
         let (call, rest) = call(alloc, room, lexemes)?;
         return Ok((RightSide::Call(call), rest));
     }
-    let (value, _, rest) = expression(alloc, room, 0, lexemes)?;
+    let (value, _, rest) = right_expression(alloc, room, lexemes)?;
     Ok((RightSide::Expr(value), rest))
 }
 

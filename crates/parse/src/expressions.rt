@@ -1,12 +1,12 @@
 //! Expressions, by the levels of their operators (ISO/IEC 9899:1999, 6.5).
 
-ghost use Rattle.std.specs.Prelude.{◌≡◌, ◌≤◌, ◌<◌, IfOk};
+ghost use Rattle.std.specs.Prelude.{◌≡◌, ◌≤◌, ◌<◌, IfOk, is_ok};
 ghost use Rattle.std.specs.Option.{option_map};
 ghost use Rattle.syntax.specs.Limits.{operator_level};
 ghost use Rattle.syntax.specs.Views.{constant_tree, prefix_tree, binary_tree, expr_tree};
 ghost use Rattle.parse.specs.Results.{Gives};
 ghost use Rattle.parse.specs.Lexemes.{views};
-ghost use Rattle.parse.specs.Reading.{operator_at, binary_of_mark, constant_of_word, primary_at, starts_element, index_at, operand_at, expr_at, under_prefix, deeper};
+ghost use Rattle.parse.specs.Reading.{operator_at, binary_of_mark, constant_of_word, primary_at, starts_element, starts_inside, index_at, operand_at, expr_at, right_expr_at, under_prefix, deeper};
 
 use crate::fault::{Fault, ParseFault};
 use crate::lexemes::{
@@ -248,4 +248,53 @@ fn prefixed(
         1 + height,
         rest,
     ))
+}
+
+/// Whether a number, a named constant or a name comes next.
+#[tactic(auto, unfolding(crate::specs::Reading::primary_at))]
+fn starts_primary(lexemes: &[Lexeme]) -> bool
+    ensures { result ≡ is_ok (primary_at (views lexemes.now)) }
+{
+    let Some((first, _)) = lexemes.split_first() else {
+        return false;
+    };
+    match &first.shape {
+        Shape::Number { .. } | Shape::Name(_) => true,
+        Shape::Fixed(Fixed::Word(word)) => constant_of(*word).is_some(),
+        _ => false,
+    }
+}
+
+/// Whether what comes next may follow the opening parenthesis of an operand.
+#[tactic(auto, unfolding(crate::specs::Reading::starts_inside))]
+fn starts_inside(lexemes: &[Lexeme]) -> bool
+    ensures { result ≡ starts_inside (views lexemes.now) }
+{
+    starts_primary(lexemes)
+        || starts_with(Fixed::Mark(Mark::OpenParen), lexemes)
+        || starts_with(Fixed::Mark(Mark::Tilde), lexemes)
+        || starts_with(Fixed::Mark(Mark::Exclamation), lexemes)
+        || starts_with(Fixed::Word(Word::Uint32), lexemes)
+        || starts_with(Fixed::Word(Word::Jint), lexemes)
+}
+
+/// The expression of a right side. Where no height is left, its parenthesis may still be that of a
+/// call: the token after it is the first that can't be there.
+#[tactic(auto, unfolding(crate::specs::Reading::right_expr_at))]
+pub(crate) fn right_expression(
+    alloc: Global,
+    room: u32,
+    lexemes: &[Lexeme],
+) -> Result<ReadExpr<'_>, ParseFault>
+    requires { room ≤ 32 }
+    ensures { Gives (λ x. (expr_tree x.0, x.1, views x.2.now)) result (right_expr_at room (views lexemes.now)) }
+{
+    if starts_with(Fixed::Mark(Mark::OpenParen), lexemes) && room == 0 {
+        let rest = rest_of(lexemes);
+        if starts_inside(rest) {
+            return Err(fault_at(Fault::TooHigh, rest));
+        }
+        return Err(unexpected(rest));
+    }
+    expression(alloc, room, 0, lexemes)
 }

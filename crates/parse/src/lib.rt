@@ -15,6 +15,3 @@ mod words;
 
 pub use fault::{Fault, ParseFault};
 pub use functions::{one_unit, parse};
-
-#[cfg(test)]
-mod tests;

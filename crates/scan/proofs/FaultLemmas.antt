@@ -10,7 +10,7 @@ use Rattle.scan.specs.declared.token.Mark.{Mark}
 use Rattle.scan.specs.declared.token.Mark.TheVariants.{OpenParen, CloseParen, OpenBrace, CloseBrace, OpenBracket, CloseBracket, Semicolon, Comma, Assign, Star, Arrow, Ampersand, Bar, Caret, Tilde, Exclamation, Plus, Minus, Slash, Percent, Less, Greater, LessEqual, GreaterEqual, Equal, NotEqual, LogicalAnd, LogicalOr, ShiftLeft, ShiftRight}
 use Rattle.scan.specs.declared.fault.Fault.{Fault}
 use Rattle.scan.specs.declared.fault.Fault.TheVariants.{BadByte, OpenComment, BadNumber, BadText}
-use Rattle.scan.specs.Bytes.{is_blank, is_letter, is_word, is_text, is_in_line, is_within}
+use Rattle.scan.specs.Bytes.{is_blank, is_name_start, is_word, is_text, is_in_line, is_within}
 use Rattle.scan.specs.Spelling.{IsLexeme, IsToken, mark_bytes}
 use Rattle.scan.specs.Faults.{BeginsNothing, HasFault}
 use Rattle.scan.specs.Reading.{Piece, piece_at, number_at, number_of, number_piece, text_at, comment_or_mark, mark_piece, mark_of, pair_of, block_piece, close_len}
@@ -66,7 +66,7 @@ first_of LogicalOr = (124, 124 ∷ [], Bar, refl, refl)
 first_of ShiftLeft = (60, 60 ∷ [], Less, refl, refl)
 first_of ShiftRight = (62, 62 ∷ [], Greater, refl, refl)
 
-nothing : (a : ℕ) → is_blank a ≡ false → is_word a ≡ false → is_letter a ≡ false → (a == 34) ≡ false → mark_of a ≡ None → BeginsNothing a
+nothing : (a : ℕ) → is_blank a ≡ false → is_word a ≡ false → is_name_start a ≡ false → (a == 34) ≡ false → mark_of a ≡ None → BeginsNothing a
 nothing a blank word letter quote unmarked = record { no_blank = blank; no_lexeme = none }
   where
     none : (kind : Kind) (rest : List ℕ) → IsLexeme kind (a ∷ rest) → ⊥
@@ -140,8 +140,8 @@ comment_refused a (b ∷ inside) fault bare e =
     block first second None is e = subst (HasFault (a ∷ b ∷ inside)) (same_fault OpenComment fault e) (inside, rw (first, second) refl, unclosed inside is)
 
 -- a word that begins with no letter begins with a digit
-digit_first : (a : ℕ) → is_letter a ≡ false → is_word a ≡ true → is_within 48 57 a ≡ true
-digit_first a letter word = elim (or_cases (is_letter a) (is_within 48 57 a) word) [ inl w ↦ let f : true ≡ false = sym w ∙ letter in absurd cc | inr w ↦ w ]
+digit_first : (a : ℕ) → is_name_start a ≡ false → is_word a ≡ true → is_within 48 57 a ≡ true
+digit_first a letter word = elim (or_cases (is_name_start a) (is_within 48 57 a) word) [ inl w ↦ let f : true ≡ false = sym w ∙ letter in absurd cc | inr w ↦ w ]
 
 pub fault_here : (s : List ℕ) (fault : Fault) → 0 < length s → piece_at s ≡ Err fault → HasFault s fault
 unfolding piece_at number_at text_at
@@ -149,7 +149,7 @@ fault_here [] fault lt e = absurd (omega (arith, lt))
 fault_here (a ∷ rest) fault lt e =
     elim (chosen (is_blank a) _ _ (refused fault) e) [
       | inl w ↦ absurd (no_refusal (None, 1) fault w.1)
-      | inr blank ↦ elim (chosen (is_letter a) _ _ (refused fault) blank.1) [
+      | inr blank ↦ elim (chosen (is_name_start a) _ _ (refused fault) blank.1) [
         | inl w ↦ absurd (no_refusal (Some Name, prefix_len is_word (a ∷ rest)) fault w.1)
         | inr letter ↦ elim (chosen (is_word a) _ _ (refused fault) letter.1) [
           | inl w ↦ number letter.0 w.0 (number_refused (number_of (take (prefix_len is_word (a ∷ rest)) (a ∷ rest))) _ (prefix_len is_word (a ∷ rest)) fault w.1)
@@ -161,7 +161,7 @@ fault_here (a ∷ rest) fault lt e =
       ]
     ]
   where
-    number : is_letter a ≡ false → is_word a ≡ true → BadNumber ≡ fault → HasFault (a ∷ rest) fault
+    number : is_name_start a ≡ false → is_word a ≡ true → BadNumber ≡ fault → HasFault (a ∷ rest) fault
     number letter word is = subst (HasFault (a ∷ rest)) is (a, rest, refl, digit_first a letter word, λ value unsigned n token. no_token (a ∷ rest) fault e (Number value unsigned) n token)
 
     text : a ≡ 34 → text_at rest ≡ refused fault → HasFault (a ∷ rest) fault

@@ -4,7 +4,7 @@ use Rattle.std.specs.Prelude.{◌⊎◌, ◌==◌, ◌&&◌}
 use Rattle.std.proofs.lemmas.Bool.{cases_Bool, and_parts, eqb-true, cond-true, cond-false}
 use Rattle.scan.specs.declared.token.Mark.{Mark}
 use Rattle.scan.specs.declared.token.Mark.TheVariants.{OpenParen, CloseParen, OpenBrace, CloseBrace, OpenBracket, CloseBracket, Semicolon, Comma, Assign, Star, Arrow, Ampersand, Bar, Caret, Tilde, Exclamation, Plus, Minus, Slash, Percent, Less, Greater, LessEqual, GreaterEqual, Equal, NotEqual, LogicalAnd, LogicalOr, ShiftLeft, ShiftRight}
-use Rattle.scan.specs.Bytes.{is_blank, is_letter, is_word}
+use Rattle.scan.specs.Bytes.{is_blank, is_name_start, is_word}
 use Rattle.scan.specs.Spelling.{mark_bytes}
 use Rattle.scan.specs.Reading.{lookup, lookup_pair, marks, pairs, mark_of, pair_of}
 
@@ -59,7 +59,7 @@ mark_bytes_two first second mark e = found_right_pair pairs right first second m
 
 -- a mark's first byte is neither blank, nor of a word, nor a quote
 abbrev pub IsMarkByte : ℕ → Type 0
-IsMarkByte byte = (is_blank byte ≡ false) × (is_letter byte ≡ false) × (is_word byte ≡ false) × ((byte == 34) ≡ false)
+IsMarkByte byte = (is_blank byte ≡ false) × (is_name_start byte ≡ false) × (is_word byte ≡ false) × ((byte == 34) ≡ false)
 
 abbrev pub IsOne : Mark → Type 0
 IsOne mark = (byte : ℕ) × (mark_bytes mark ≡ byte ∷ []) × (mark_of byte ≡ Some mark) × IsMarkByte byte

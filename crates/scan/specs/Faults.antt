@@ -2,12 +2,13 @@
 use Rattle.std.specs.Prelude.{◌≡◌, ◌≢◌, ℕ, ◌+◌, false, IsTrue, List, ◌∷◌, ◌++◌, drop, Bool}
 use Rattle.scan.specs.declared.token.Kind.{Kind}
 use Rattle.scan.specs.declared.token.Kind.TheVariants.{Number, Text}
+use Rattle.scan.specs.declared.token.Token.{Token}
 use Rattle.scan.specs.declared.fault.Fault.{Fault}
 use Rattle.scan.specs.declared.fault.Fault.TheVariants.{BadByte, OpenComment, BadNumber, BadText}
 use Rattle.scan.specs.declared.fault.ScanFault.{ScanFault}
 use Rattle.scan.specs.declared.fault.ScanFault.TheVariants.{Memory, Found}
 use Rattle.scan.specs.Bytes.{is_within, is_blank}
-use Rattle.scan.specs.Spelling.{IsLexeme, IsGap, IsToken, line_of}
+use Rattle.scan.specs.Spelling.{IsLexeme, IsGap, IsToken, Spells, line_of}
 
 -- blanks, comments and tokens fill the text up to a place
 pub data IsFilledTo (text : List ℕ) : ℕ → Type 0 where
@@ -31,6 +32,14 @@ HasFault text BadText = (rest : List ℕ) × (text ≡ 34 ∷ rest) × ((n : ℕ
 abbrev pub IsFirstFault : List ℕ → ScanFault → Type 0
 IsFirstFault text Memory = Unit {0}
 IsFirstFault text (Found fault line) = (at : ℕ) × IsFilledTo text at × HasFault (drop at text) fault × (line ≡ line_of text at)
+
+-- No text has two first faults.
+abbrev pub OneFirstFault : Type 0
+OneFirstFault = (text : List ℕ) (a b : Fault) (line other : ℕ) → IsFirstFault text (Found a line) → IsFirstFault text (Found b other) → (a ≡ b) × (line ≡ other)
+
+-- No text that spells tokens has a fault.
+abbrev pub NoFaultWhereSpelled : Type 0
+NoFaultWhereSpelled = (text : List ℕ) (tokens : List Token) (fault : Fault) (line : ℕ) → Spells text tokens → IsFirstFault text (Found fault line) → ⊥
 
 -- what is wrong with a text: 1 to 4
 abbrev pub number_of_kind : Fault → ℕ

@@ -2,14 +2,14 @@
 use Rattle.std.specs.Prelude.{ℕ, ◌+◌, ◌-◌, Bool, true, false, not, ◌&&◌, ◌||◌, ◌==◌, nat_lt, List, [], ◌∷◌, length, take, drop, slice_index, Option, Some, None, Result, Ok, Err, if◌then◌else◌}
 use Rattle.std.specs.List.{prefix_len}
 use Rattle.std.specs.Option.{option_map}
+use Rattle.base.specs.Numbers.{number_limit}
 use Rattle.scan.specs.declared.token.Mark.{Mark}
 use Rattle.scan.specs.declared.token.Mark.TheVariants.{OpenParen, CloseParen, OpenBrace, CloseBrace, OpenBracket, CloseBracket, Semicolon, Comma, Assign, Star, Arrow, Ampersand, Bar, Caret, Tilde, Exclamation, Plus, Minus, Slash, Percent, Less, Greater, LessEqual, GreaterEqual, Equal, NotEqual, LogicalAnd, LogicalOr, ShiftLeft, ShiftRight}
 use Rattle.scan.specs.declared.token.Kind.{Kind}
 use Rattle.scan.specs.declared.token.Kind.TheVariants.{Name, Number, Text, Symbol}
 use Rattle.scan.specs.declared.fault.Fault.{Fault}
 use Rattle.scan.specs.declared.fault.Fault.TheVariants.{BadByte, OpenComment, BadNumber, BadText}
-use Rattle.scan.specs.Bytes.{is_blank, is_letter, is_word, is_text, is_in_line, is_digit, base_value}
-use Rattle.scan.specs.Spelling.{limit}
+use Rattle.scan.specs.Bytes.{is_blank, is_name_start, is_word, is_text, is_in_line, is_digit, base_value}
 
 -- ---- marks
 
@@ -43,8 +43,8 @@ abbrev pub with_suffix : ℕ → List ℕ → List ℕ → Option (ℕ × Bool)
 with_suffix base digits [] = within base digits false
   where
     within : ℕ → List ℕ → Bool → Option (ℕ × Bool)
-    within base digits unsigned = if are_formed base digits && nat_lt (base_value base 0 digits) (limit unsigned) then Some (base_value base 0 digits, unsigned) else None
-with_suffix base digits (b ∷ []) = if b == 117 && are_formed base digits && nat_lt (base_value base 0 digits) (limit true) then Some (base_value base 0 digits, true) else None
+    within base digits unsigned = if are_formed base digits && nat_lt (base_value base 0 digits) (number_limit unsigned) then Some (base_value base 0 digits, unsigned) else None
+with_suffix base digits (b ∷ []) = if b == 117 && are_formed base digits && nat_lt (base_value base 0 digits) (number_limit true) then Some (base_value base 0 digits, true) else None
 with_suffix base digits (b ∷ c ∷ more) = None
 
 unfoldable pub number_in : ℕ → List ℕ → Option (ℕ × Bool)
@@ -108,7 +108,7 @@ unfoldable pub piece_at : List ℕ → Result Piece Fault
 piece_at [] = Err BadByte
 piece_at (first ∷ rest) =
     if is_blank first then Ok (None, 1)
-    else if is_letter first then Ok (Some Name, prefix_len is_word (first ∷ rest))
+    else if is_name_start first then Ok (Some Name, prefix_len is_word (first ∷ rest))
     else if is_word first then number_at (first ∷ rest)
     else if first == 34 then text_at rest
     else comment_or_mark first rest

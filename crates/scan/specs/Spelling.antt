@@ -1,12 +1,13 @@
 -- Which tokens a text spells (ISO/IEC 9899:1999, 6.4).
-use Rattle.std.specs.Prelude.{◌≡◌, ◌≢◌, ℕ, ◌+◌, ◌-◌, ◌^◌, ◌<◌, ◌≤◌, Bool, true, false, IsTrue, List, [], ◌∷◌, ◌++◌, length, take, drop, slice_index, ◌⊎◌, count_by, ◌==◌}
+use Rattle.std.specs.Prelude.{◌≡◌, ◌≢◌, ℕ, ◌+◌, ◌-◌, ◌<◌, ◌≤◌, Bool, true, false, IsTrue, List, [], ◌∷◌, ◌++◌, length, take, drop, slice_index, ◌⊎◌, count_by, ◌==◌}
 use Rattle.std.specs.List.{prefix_len}
+use Rattle.base.specs.Numbers.{number_limit}
 use Rattle.scan.specs.declared.token.Mark.{Mark}
 use Rattle.scan.specs.declared.token.Mark.TheVariants.{OpenParen, CloseParen, OpenBrace, CloseBrace, OpenBracket, CloseBracket, Semicolon, Comma, Assign, Star, Arrow, Ampersand, Bar, Caret, Tilde, Exclamation, Plus, Minus, Slash, Percent, Less, Greater, LessEqual, GreaterEqual, Equal, NotEqual, LogicalAnd, LogicalOr, ShiftLeft, ShiftRight}
 use Rattle.scan.specs.declared.token.Kind.{Kind}
 use Rattle.scan.specs.declared.token.Kind.TheVariants.{Name, Number, Text, Symbol}
 use Rattle.scan.specs.declared.token.Token.{Token}
-use Rattle.scan.specs.Bytes.{is_blank, is_letter, is_word, is_text, is_in_line, is_digit, base_value}
+use Rattle.scan.specs.Bytes.{is_blank, is_name_start, is_word, is_text, is_in_line, is_digit, base_value}
 
 -- every byte is of this class
 abbrev pub Every : (ℕ → Bool) → List ℕ → Type 0
@@ -50,7 +51,7 @@ mark_bytes ShiftRight = 62 ∷ 62 ∷ []
 -- a letter or underscore, and then letters, underscores and digits
 abbrev pub IsName : List ℕ → Type 0
 IsName [] = ⊥
-IsName (byte ∷ bytes) = IsTrue (is_letter byte) × Every is_word bytes
+IsName (byte ∷ bytes) = IsTrue (is_name_start byte) × Every is_word bytes
 
 -- 0x stands before the digits of base 16, and nothing before those of base 10
 abbrev pub IsBaseSign : ℕ → List ℕ → Type 0
@@ -65,11 +66,6 @@ abbrev pub suffix : Bool → List ℕ
 suffix false = []
 suffix true = 117 ∷ []
 
--- what the values are below, without u and with it
-abbrev pub limit : Bool → ℕ
-limit false = 2 ^ 31
-limit true = 2 ^ 32
-
 -- digits of one of the two bases, then perhaps u
 pub record IsNumber (word : List ℕ) (value : ℕ) (unsigned : Bool) : Type 0 where
   pub base : ℕ
@@ -79,7 +75,7 @@ pub record IsNumber (word : List ℕ) (value : ℕ) (unsigned : Bool) : Type 0 w
   pub formed : IsDigits base digits
   pub parts : word ≡ sign ++ (digits ++ suffix unsigned)
   pub value_is : value ≡ base_value base 0 digits
-  pub small : value < limit unsigned
+  pub small : value < number_limit unsigned
 
 -- a string: two quotes, and what stands between them
 abbrev pub IsQuoted : List ℕ → Type 0

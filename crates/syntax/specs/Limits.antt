@@ -1,6 +1,7 @@
 -- Which trees a text may spell: they follow the operators' precedence and keep the limits.
-use Rattle.std.specs.Prelude.{ℕ, ◌+◌, ◌^◌, ◌≤◌, Bool, true, false, ◌&&◌, List, [], ◌∷◌, ◌++◌, length, map, nat_lt, nat_le, max, IsTrue}
+use Rattle.std.specs.Prelude.{ℕ, ◌+◌, ◌≤◌, Bool, true, false, ◌&&◌, List, [], ◌∷◌, ◌++◌, length, map, nat_lt, nat_le, max, IsTrue}
 use Rattle.std.specs.List.{list_all}
+pub use Rattle.base.specs.Numbers.{number_limit}
 use Rattle.syntax.specs.Parts.{functions_of, statics_of, statements_of, own_expressions, names_declared, parameter_names}
 use Rattle.syntax.specs.Tree.{BinaryOp, LogicalOr, LogicalAnd, BitOr, BitXor, BitAnd, Equal, NotEqual, Less, LessEqual, Greater, GreaterEqual, ShiftLeft, ShiftRight, Add, Subtract, Multiply, Divide, Remainder, Expr, Number, Named, Variable, Element, Prefix, Binary, Paren, Stmt, DeclareArray, AssignElement, If, IfElse, While, Return, ReturnValue, Block, End, Next, SourceUnit}
 
@@ -48,11 +49,6 @@ levelled (Element x i) = levelled i
 levelled (Prefix op a) = nat_le prefix_level (level a) && levelled a
 levelled (Binary op a b) = nat_le (operator_level op) (level a) && nat_lt (operator_level op) (level b) && levelled a && levelled b
 levelled (Paren a) = levelled a
-
--- one more than the greatest number, without u and with it (a number has type jint or uint32_t)
-abbrev pub number_limit : Bool → ℕ
-number_limit false = 2 ^ 31
-number_limit true = 2 ^ 32
 
 -- each number is in the range of its type
 abbrev pub numbers_in_range : Expr → Bool
