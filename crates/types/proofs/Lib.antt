@@ -1,7 +1,7 @@
 pub mod FindsLemmas
 pub mod RuleLemmas
 pub mod SortLemmas
-pub mod UnknownLemmas
+pub mod UseLemmas
 pub mod StatementLemmas
 pub mod ArgumentLemmas
 pub mod PlaceLemmas

@@ -1,6 +1,6 @@
 -- A unit of which nothing is refused is sorted, and calls what is built; and the other way round.
-use Rattle.std.proofs.Common.{◌≡◌, ℕ, Bool, true, false, not, ◌&&◌, ◌||◌, List, [], ◌∷◌, ◌++◌, Option, Some, None, refl, sym, ap, ap₂, subst, ◌∙◌, map, filter, flat_map, slice_get, if◌then◌else◌}
-use Rattle.std.specs.Prelude.{IsTrue, filter_map}
+use Rattle.std.proofs.Common.{◌≡◌, ◌⊎◌, inl, inr, ℕ, suc, Bool, true, false, not, ◌&&◌, ◌||◌, List, [], ◌∷◌, ◌++◌, Option, Some, None, refl, sym, ap, ap₂, subst, ◌∙◌, map, filter, flat_map, slice_get, if◌then◌else◌, arith}
+use Rattle.std.specs.Prelude.{Contains, IsTrue, filter_map}
 use Rattle.std.specs.List.{list_all, list_any}
 use Rattle.std.proofs.lemmas.List.Folds.{list_all-append}
 use Rattle.base.specs.Bytes.{Identifier}
@@ -10,8 +10,8 @@ use Rattle.types.specs.declared.fault.TypeFault.{TypeFault}
 use Rattle.types.specs.declared.fault.TypeFault.TheVariants.{Memory, Broken}
 use Rattle.types.specs.Sorts.{Sort, Ref, Global, Scope}
 use Rattle.types.specs.SortRules.{SortRule, UnknownName, DeclaredTwice, SortMisfit, UnknownFunction, ArgumentCount, ReferenceCopied, BadMode, ReadOnlyWrite, sort_rules, Place, IsSorted, breaks, broken_at, broken, places, places_within, places_of, function_places, item_places, with_declared, parameter_sort}
-use Rattle.types.specs.BuiltCalls.{has_unbuilt_call, calls_unbuilt, calls_are_built, refuses, refused_at, refused, first_refused}
-use Rattle.types.specs.Faults.{Faults, Refuses, IfBroken, first, fault_of}
+use Rattle.types.specs.BuiltCalls.{has_unbuilt_call, calls_unbuilt, calls_are_built, refuses, refused_at, refused, first_refused, EarnsSortFault}
+use Rattle.types.specs.Faults.{Faults, Refuses, IfBroken, first, fault_of, rule_of}
 use Rattle.types.proofs.RuleLemmas.{same_refused}
 
 -- ---- one place
@@ -151,5 +151,53 @@ refused-first unit (Broken f) h = at_start (refused unit) h
     at_start : (xs : Faults) → first xs ≡ Some (fault_of f) → slice_get xs 0 ≡ Some (fault_of f)
     at_start [] k = absurd cc
     at_start (g ∷ xs) k = k
+
+-- ---- what a fault says
+
+some_is : (f g : ℕ × SortRule) → ◌≡◌ {A = Option (ℕ × SortRule)} (Some f) (Some g) → g ≡ f
+some_is f g e = cc
+
+-- the first of all is refused here, or after it
+here_or_later : (p : SortRule → Bool) (line : ℕ) (rules : List SortRule) (f : ℕ × SortRule) (xs : Faults) → first (map {B = ℕ × SortRule} (λ r. (line, r)) (filter p rules) ++ xs) ≡ Some f
+    → ((f.0 ≡ line) × (p f.1 ≡ true)) ⊎ (first xs ≡ Some f)
+here_or_later p line [] f xs h = inr h
+here_or_later p line (rule ∷ rules) f xs h = by (p rule) refl (λ k. here_or_later p line rules f xs k) h
+  where
+    by : (b : Bool) → p rule ≡ b → (first (map {B = ℕ × SortRule} (λ r. (line, r)) (filter p rules) ++ xs) ≡ Some f → ((f.0 ≡ line) × (p f.1 ≡ true)) ⊎ (first xs ≡ Some f))
+        → first (map {B = ℕ × SortRule} (λ r. (line, r)) (if b then rule ∷ filter p rules else filter p rules) ++ xs) ≡ Some f → ((f.0 ≡ line) × (p f.1 ≡ true)) ⊎ (first xs ≡ Some f)
+    by true e later k = let g = some_is (line, rule) f k in inl (ap (λ (x : ℕ × SortRule). x.0) g, ap (λ (x : ℕ × SortRule). p x.1) g ∙ e)
+    by false e later k = later k
+
+at_place : (all : List Place) (f : ℕ × SortRule) → first (flat_map refused_at all) ≡ Some f → (place : Place) × Contains all place × (f.0 ≡ place.line) × (refuses f.1 place ≡ true)
+at_place [] f h = absurd cc
+at_place (p ∷ all) f h =
+    elim (here_or_later (λ rule. refuses rule p) p.line sort_rules f (flat_map refused_at all) h) [
+      | inl here ↦ (p, (0, omega arith, refl), here.0, here.1)
+      | inr later ↦ let further = at_place all f later in (further.0, (suc (further.1).0, omega (arith, (further.1).1), (further.1).2), further.2, further.3)
+    ]
+
+-- what is refused at a place is broken there, or a call of what is not built
+broken_or_unbuilt : (rule : SortRule) (place : Place) → refuses rule place ≡ true → (breaks rule place place.form ≡ true) ⊎ ((rule ≡ UnknownFunction) × (has_unbuilt_call place.form ≡ true))
+broken_or_unbuilt UnknownFunction place h = by (breaks UnknownFunction place place.form) (has_unbuilt_call place.form) h
+  where
+    by : (a b : Bool) → (a || b) ≡ true → (a ≡ true) ⊎ ((UnknownFunction ≡ UnknownFunction) × (b ≡ true))
+    by true b k = inl refl
+    by false b k = inr (refl, k)
+broken_or_unbuilt UnknownName place h = inl h
+broken_or_unbuilt DeclaredTwice place h = inl h
+broken_or_unbuilt SortMisfit place h = inl h
+broken_or_unbuilt ArgumentCount place h = inl h
+broken_or_unbuilt ReferenceCopied place h = inl h
+broken_or_unbuilt BadMode place h = inl h
+broken_or_unbuilt ReadOnlyWrite place h = inl h
+
+pub earned-unit : (unit : SourceUnit) (e : TypeFault) → Refuses e (refused unit) → IfBroken e (λ f. EarnsSortFault (rule_of f.rule) f.line unit)
+earned-unit unit Memory h = tt
+earned-unit unit (Broken f) h =
+    let at = at_place (places unit) (fault_of f) h in
+    elim (broken_or_unbuilt (rule_of f.rule) at.0 at.3) [
+      | inl broken' ↦ inl (at.0, at.1, at.2, broken')
+      | inr unbuilt ↦ inr (unbuilt.0, (at.0, at.1, at.2, unbuilt.1))
+    ]
 
 pub ruleset unit_rules = (built-unit, sorted-unit, sorted-memory, refused-first)

@@ -1,12 +1,12 @@
 -- Which functions of the JNI can be called today, and what is refused for it.
-use Rattle.std.specs.Prelude.{ℕ, Bool, true, false, not, ◌||◌, List, Option, map, filter, flat_map, slice_get}
+use Rattle.std.specs.Prelude.{◌≡◌, ◌⊎◌, ℕ, Bool, true, false, not, ◌||◌, List, Option, map, filter, flat_map, slice_get, Contains, IsTrue}
 use Rattle.std.specs.List.{list_all}
 use Rattle.base.specs.Options.{some_passes}
 use Rattle.syntax.specs.Tree.{Call, Stmt, SourceUnit}
 use Rattle.syntax.specs.Parts.{functions_of, statements_of, own_call}
 use Rattle.types.specs.JniFunction.{JniFunction, GetArrayLength}
 use Rattle.types.specs.Prototype.{function_named}
-use Rattle.types.specs.SortRules.{Place, Form, StatementForm, SortRule, UnknownFunction, sort_rules, breaks, places}
+use Rattle.types.specs.SortRules.{Place, Form, StatementForm, SortRule, UnknownFunction, sort_rules, breaks, places, BreaksSortRule}
 
 -- the functions that can be called
 abbrev pub is_built_function : JniFunction → Bool
@@ -48,3 +48,11 @@ refused unit = flat_map refused_at (places unit)
 -- the fault that is answered: of the first place, and there of the least number
 abbrev pub first_refused : SourceUnit → Option (ℕ × SortRule)
 first_refused unit = slice_get (refused unit) 0
+
+-- a function that is not built is called at a place of the unit that is on this line
+abbrev pub CallsUnbuilt : ℕ → SourceUnit → Type 0
+CallsUnbuilt line unit = (place : Place) × Contains (places unit) place × (line ≡ place.line) × IsTrue (has_unbuilt_call place.form)
+
+-- what a fault says of a unit: its rule is broken on its line, or a function that is not built is called there
+abbrev pub EarnsSortFault : SortRule → ℕ → SourceUnit → Type 0
+EarnsSortFault rule line unit = BreaksSortRule rule line unit ⊎ (rule ≡ UnknownFunction) × CallsUnbuilt line unit

@@ -17,7 +17,7 @@ use Rattle.types.specs.declared.sort.Sort.{Sort as SortInMemory}
 use Rattle.types.specs.declared.sort.Sort.TheVariants as sorts
 use Rattle.types.specs.Sorts.{Sort, Word, Jint, Flag, Truth, Ref, Global, FieldId, Buffer, Array, Scope}
 use Rattle.types.specs.SortRules.{SortRule, UnknownName, DeclaredTwice, SortMisfit, UnknownFunction, ArgumentCount, ReferenceCopied, BadMode, ReadOnlyWrite, Place, StaticForm, StatementForm, places_of, function_places, has_name, has_repeated, parameter_sort}
-use Rattle.types.specs.BuiltCalls.{refused_at}
+use Rattle.types.specs.BuiltCalls.{refuses, refused_at}
 
 -- the rule of the definitions
 abbrev pub rule_of : RuleInMemory → SortRule
@@ -90,6 +90,10 @@ found places = flat_map refused_at places
 -- the place of a statement of a function with this result, where these names are known and these are taken
 abbrev pub statement_place : ResultType → Scope → List Identifier → Stmt → Place
 statement_place returns known taken s = record { line = line_of s; known = known; taken = taken; returns = returns; form = StatementForm s }
+
+-- what is refused at a statement on this line of these rules, one after the other
+abbrev pub refused_of : ResultType → Scope → List Identifier → Stmt → ℕ → List SortRule → Faults
+refused_of returns known taken s line rules = flat_map (λ rule. broken_if (refuses rule (statement_place returns known taken s)) rule line) rules
 
 -- the places inside a statement
 abbrev pub places_inside : ResultType → Scope → List Identifier → Stmt → List Place

@@ -1,17 +1,17 @@
 -- Which units are sorted: no rule is broken at any of their places.
-use Rattle.std.specs.Prelude.{◌≡◌, ℕ, Bool, true, false, not, ◌&&◌, ◌||◌, List, [], ◌∷◌, ◌++◌, length, map, Option, Some, None, bytes_eq, ◌==◌, filter, flat_map, Contains, slice_get}
+use Rattle.std.specs.Prelude.{◌≡◌, ℕ, Bool, true, false, not, ◌&&◌, ◌||◌, List, [], ◌∷◌, ◌++◌, length, map, Option, Some, None, bytes_eq, ◌==◌, filter, flat_map, Contains, IsTrue}
 use Rattle.std.specs.List.{list_any, list_all}
 use Rattle.std.specs.Option.{is_some, is_none, option_to_list}
 use Rattle.base.specs.Bytes.{Identifier}
 use Rattle.base.specs.Element.{JChar}
 use Rattle.base.specs.Options.{some_passes}
 use Rattle.syntax.specs.Tree.{Commit, Abort}
-use Rattle.syntax.specs.Parts.{statements_of, statements_within, line_of, declared_name, right_side, own_call, own_expressions, used_names, assigned_name, names_declared, parameter_names}
+use Rattle.syntax.specs.Parts.{statements_of, statements_within, line_of, declared_name, right_side, own_call, own_expressions, used_names, assigned_name, written_name, names_declared, parameter_names}
 use Rattle.syntax.specs.Tree.{ResultType, Void, IntResult, ReferenceResult, ParameterType, IntParameter, ReferenceParameter, VariableType, UInt32, JIntVariable, JSize, JBoolean, JFieldId, ReferenceVariable, Expr, Number, Named, Variable, Argument, Value, Call, RightSide, FromExpr, FromCall, Test, TestExpr, TestCall, Stmt, Declare, DeclareBuffer, DeclareChars, DeclareArray, Assign, AssignElement, Perform, PutJint, If, IfElse, While, Return, ReturnValue, Block, End, Next, Function, Static, Item, StaticItem, FunctionItem, SourceUnit}
 use Rattle.classes.specs.Mangling.{unmangle}
 use Rattle.types.specs.JniFunction.{JniFunction, PushLocalFrame}
 use Rattle.types.specs.Prototype.{ParameterKind, Mode, ResultKind, GivesNothing, GivesInt, GivesFlag, NewLocal, NewGlobal, GivesField, GivesBuffer, function_named, prototype}
-use Rattle.types.specs.Sorts.{Sort, Word, Jint, Flag, Ref, Global, FieldId, Buffer, Array, Scope, sort_in, sort_of, is_word, is_jint, is_flag, is_truth, is_ref, is_field, is_index, has_elements, is_buffer_for, is_read_only, is_null, name_sort, call_arguments_fit}
+use Rattle.types.specs.Sorts.{Sort, Word, Jint, Flag, Ref, Global, FieldId, Buffer, Array, Scope, sort_in, is_unknown, sort_of, is_word, is_jint, is_flag, is_truth, is_ref, is_field, is_index, has_elements, is_buffer_for, is_read_only, is_null, name_sort, call_arguments_fit}
 
 -- ---- places: the forms of a unit that a rule can be broken at
 
@@ -256,7 +256,7 @@ has_wrong_mode c (Some f) = not (modes_fit (prototype f).parameters c.arguments)
 
 -- whether a statement breaks a rule
 abbrev pub breaks_sort_rule : SortRule → Scope → List Identifier → ResultType → Stmt → Bool
-breaks_sort_rule UnknownName known taken returns s = list_any (λ x. is_none (sort_in known x)) (used_names s ++ option_to_list (assigned_name s))
+breaks_sort_rule UnknownName known taken returns s = list_any (is_unknown known) (used_names s ++ option_to_list (assigned_name s))
 breaks_sort_rule DeclaredTwice known taken returns s = some_passes (has_name taken) (declared_name s)
 breaks_sort_rule SortMisfit known taken returns s =
     not (list_all (is_formed known) (own_expressions s)) || not (statement_fits known returns s) || some_passes (λ c. not (call_arguments_fit known c (function_named c.function))) (own_call s)
@@ -264,8 +264,7 @@ breaks_sort_rule UnknownFunction known taken returns s = some_passes (λ c. is_n
 breaks_sort_rule ArgumentCount known taken returns s = some_passes (λ c. has_wrong_count c (function_named c.function)) (own_call s)
 breaks_sort_rule ReferenceCopied known taken returns s = copies_reference known (set_sort known s) (right_side s)
 breaks_sort_rule BadMode known taken returns s = some_passes (λ c. has_wrong_mode c (function_named c.function)) (own_call s)
-breaks_sort_rule ReadOnlyWrite known taken returns (AssignElement line x i e) = is_read_only (sort_in known x)
-breaks_sort_rule ReadOnlyWrite known taken returns s = false
+breaks_sort_rule ReadOnlyWrite known taken returns s = some_passes (λ x. is_read_only (sort_in known x)) (written_name s)
 
 -- whether a form breaks a rule
 abbrev pub breaks : SortRule → Place → Form → Bool
@@ -287,10 +286,6 @@ broken unit = flat_map broken_at (places unit)
 abbrev pub IsSorted : SourceUnit → Type 0
 IsSorted unit = broken unit ≡ []
 
--- the rule is broken at this line
+-- the rule is broken at a place of the unit that is on this line
 abbrev pub BreaksSortRule : SortRule → ℕ → SourceUnit → Type 0
-BreaksSortRule rule line unit = Contains (broken unit) (line, rule)
-
--- the fault of the first place, and there of the least number
-abbrev pub first_fault : SourceUnit → Option (ℕ × SortRule)
-first_fault unit = slice_get (broken unit) 0
+BreaksSortRule rule line unit = (place : Place) × Contains (places unit) place × (line ≡ place.line) × IsTrue (breaks rule place place.form)

@@ -1,6 +1,6 @@
 -- The sorts of expressions, and the rules that a unit breaks where its sorts do not fit.
 use Rattle.std.specs.Prelude.{ℕ, Bool, true, false, ◌&&◌, ◌||◌, List, ◌∷◌, Option, Some, None, if◌then◌else◌}
-use Rattle.std.specs.Option.{option_or}
+use Rattle.std.specs.Option.{option_or, is_none}
 use Rattle.base.specs.Bytes.{Identifier, ByName, lookup}
 use Rattle.base.specs.Element.{ElementType, JChar, same_element}
 use Rattle.syntax.specs.Tree.{Constant, True, False, Null}
@@ -22,6 +22,10 @@ Scope = ByName Sort
 -- the sort of a known name
 abbrev pub sort_in : Scope → Identifier → Option Sort
 sort_in scope x = lookup x scope
+
+-- a name that is not known
+abbrev pub is_unknown : Scope → Identifier → Bool
+is_unknown scope x = is_none (sort_in scope x)
 
 -- ---- expressions
 

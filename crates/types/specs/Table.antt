@@ -7,14 +7,15 @@ use Rattle.types.specs.JniFunction.{Access, ElementsCopy, ArrayView, CharsCopy, 
 use Rattle.types.specs.Prototype.{ParameterKind, Nullable, NonNull, ClassObject, ObjectArray, StringObject, NumberArray, LocalVariable, StaticVariable, FieldID, IntNumber, TextBytes, ArrayVariable, BufferVariable, Mode, IsCopy, ResultKind, NewLocal, NewGlobal, GivesFlag, GivesInt, GivesField, GivesNothing, GivesBuffer, prototype}
 use Rattle.types.specs.SortRules.{is_push}
 use Rattle.types.specs.BuiltCalls.{is_built_function}
-use Rattle.types.specs.declared.prototype.Access.{Access as AccessInMemory}
-use Rattle.types.specs.declared.prototype.Access.TheVariants as access
+use Rattle.types.specs.declared.access.Access.{Access as AccessInMemory}
+use Rattle.types.specs.declared.access.Access.TheVariants as access
 use Rattle.types.specs.declared.prototype.ParameterKind.{ParameterKind as ParameterInMemory}
 use Rattle.types.specs.declared.prototype.ParameterKind.TheVariants as parameter
 use Rattle.types.specs.declared.prototype.ResultKind.{ResultKind as ResultInMemory}
 use Rattle.types.specs.declared.prototype.ResultKind.TheVariants as results
 use Rattle.types.specs.declared.prototype.Prototype.{Prototype as PrototypeInMemory}
 
+-- the access of the definitions
 abbrev pub access_value : AccessInMemory → Access
 access_value (access.ElementsCopy t) = ElementsCopy (element_tree t)
 access_value access.ArrayView = ArrayView

@@ -6,12 +6,12 @@ ghost use Rattle.std.specs.Option.{option_map, is_none};
 ghost use Rattle.syntax.specs.Parts.{call_expressions};
 ghost use Rattle.syntax.specs.Views.{expr_tree, argument_tree, call_tree};
 ghost use Rattle.types.specs.Prototype.{function_named};
-ghost use Rattle.types.specs.Sorts.{is_null, is_reference, name_sort, value_fits, address_fits, text_fits, argument_fits, arguments_fit, call_arguments_fit};
+ghost use Rattle.types.specs.Sorts.{is_unknown, is_null, is_reference, name_sort, value_fits, address_fits, text_fits, argument_fits, arguments_fit, call_arguments_fit};
 ghost use Rattle.types.specs.SortRules.{is_formed, is_mode, modes_fit, has_wrong_count, has_wrong_mode, result_fits, is_droppable, call_fits, may_be_dropped, may_be_tested};
 ghost use Rattle.types.specs.BuiltCalls.{is_built_call};
 ghost use Rattle.types.specs.Table.{parameter_value, result_value};
 ghost use Rattle.types.specs.Faults.{scope_of, sort_value};
-ghost use Rattle.types.specs.Unknown.{argument_unknown, call_unknown};
+ghost use Rattle.types.specs.Uses.{argument_uses, call_uses};
 
 use crate::expressions::{has_unknown, is_formed, is_null, name_sort, sort_of};
 use crate::prototype::{ParameterKind, ResultKind, prototype_named};
@@ -217,7 +217,7 @@ pub(crate) fn may_be_tested(call: &Call) -> bool
 
 /// Whether some name of an argument is not known.
 fn argument_unknown(known: &[Known], argument: &Argument) -> bool
-    ensures { result ≡ argument_unknown (scope_of known.now) (argument_tree argument.now) }
+    ensures { result ≡ argument_uses (is_unknown (scope_of known.now)) (argument_tree argument.now) }
 {
     match argument {
         Argument::Value(e) => has_unknown(known, e),
@@ -228,7 +228,7 @@ fn argument_unknown(known: &[Known], argument: &Argument) -> bool
 
 /// Whether some name in a call is not known.
 pub(crate) fn call_unknown(known: &[Known], call: &Call) -> bool
-    ensures { result ≡ call_unknown (scope_of known.now) (call_tree call.now) }
+    ensures { result ≡ call_uses (is_unknown (scope_of known.now)) (call_tree call.now) }
 {
     for argument in &call.arguments {
         if argument_unknown(known, argument) {

@@ -5,10 +5,10 @@ ghost use Rattle.std.specs.Option.{option_map, is_some};
 ghost use Rattle.syntax.specs.Parts.{null_tested};
 ghost use Rattle.syntax.specs.Tree.{Binary};
 ghost use Rattle.syntax.specs.Views.{expr_tree, constant_tree, prefix_tree, binary_tree};
-ghost use Rattle.types.specs.Sorts.{is_word, is_jint, sort_of, constant_sort, prefix_sort, binary_sort, group, null_test_sort, is_null, name_sort};
+ghost use Rattle.types.specs.Sorts.{is_word, is_jint, sort_of, constant_sort, prefix_sort, binary_sort, group, null_test_sort, is_null, name_sort, is_unknown};
 ghost use Rattle.types.specs.SortRules.{is_formed};
 ghost use Rattle.types.specs.Faults.{sort_value, scope_of};
-ghost use Rattle.types.specs.Unknown.{has_unknown};
+ghost use Rattle.types.specs.Uses.{expr_uses};
 
 use crate::scope::{Known, is_unknown, sort_in};
 use crate::sort::{
@@ -131,7 +131,7 @@ pub(crate) fn is_formed(known: &[Known], e: &Expr) -> bool
 
 /// Whether some name of an expression is not known.
 pub(crate) fn has_unknown(known: &[Known], e: &Expr) -> bool
-    ensures { result ≡ has_unknown (scope_of known.now) (expr_tree e.now) }
+    ensures { result ≡ expr_uses (is_unknown (scope_of known.now)) (expr_tree e.now) }
 {
     match e {
         Expr::Number { .. } | Expr::Named(_) => false,

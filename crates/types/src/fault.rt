@@ -9,7 +9,7 @@ use std::alloc::{AllocError, AllocFailed};
 use thiserror::Error;
 
 /// A rule on names and sorts.
-#[derive(Clone, Copy, Debug, PartialEq, Eq)]
+#[derive(Clone, Copy, Debug)]
 pub enum SortRule {
     /// A function's name is that of no native method (JNI Specification, chapter 2, "Resolving Native Method Names"), or
     /// a name in an expression is not known.
@@ -49,7 +49,7 @@ impl SortRule {
 }
 
 /// A rule that is broken, and the line of the first token of the statement or the function, counted from 1.
-#[derive(Clone, Copy, Debug, PartialEq, Eq)]
+#[derive(Clone, Copy, Debug)]
 pub struct Fault {
     pub rule: SortRule,
     pub line: usize,

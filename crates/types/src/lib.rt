@@ -1,6 +1,7 @@
 //! The sorts of a program's expressions, and the functions of the JNI.
 #![tactic(auto)]
 
+mod access;
 mod blocks;
 mod calls;
 mod expressions;
@@ -10,9 +11,9 @@ mod prototype;
 mod scope;
 mod sort;
 mod statements;
-#[cfg(test)]
-mod tests;
 mod typed;
 
+pub use access::Access;
 pub use fault::{Fault, SortRule, TypeFault};
+pub use statements::own_call;
 pub use typed::{Typed, type_unit};

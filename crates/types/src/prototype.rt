@@ -5,7 +5,8 @@ ghost use Rattle.std.specs.Option.{option_map};
 ghost use Rattle.types.specs.Prototype.{function_named};
 ghost use Rattle.types.specs.Table.{facts, facts_of, row_value, row_named};
 
-use Access::{ArrayView, CharsCopy, CharsView, ElementsCopy};
+use crate::access::Access;
+use crate::access::Access::{ArrayView, CharsCopy, CharsView, ElementsCopy};
 use ParameterKind::{
     ArrayVariable, BufferVariable, ClassObject, FieldID, IntNumber, IsCopy, LocalVariable, Mode,
     NonNull, Nullable, NumberArray, ObjectArray, StaticVariable, StringObject, TextBytes,
@@ -17,17 +18,8 @@ use ResultKind::{
 use syntax::ElementType;
 use syntax::ElementType::{Jbyte, Jchar, Jint, Jshort};
 
-/// How a buffer comes to an array's elements or a string's units.
-#[derive(Clone, Copy, Debug, PartialEq, Eq)]
-pub(crate) enum Access {
-    ElementsCopy(ElementType),
-    ArrayView,
-    CharsCopy,
-    CharsView,
-}
-
 /// What an argument after `env` is.
-#[derive(Clone, Copy, Debug, PartialEq, Eq)]
+#[derive(Clone, Copy)]
 pub(crate) enum ParameterKind {
     Nullable,
     NonNull,
@@ -47,7 +39,7 @@ pub(crate) enum ParameterKind {
 }
 
 /// What a call gives.
-#[derive(Clone, Copy, Debug, PartialEq, Eq)]
+#[derive(Clone, Copy)]
 pub(crate) enum ResultKind {
     NewLocal,
     NewGlobal,
@@ -61,7 +53,7 @@ pub(crate) enum ResultKind {
 }
 
 /// What the rules ask of a function.
-#[derive(Clone, Copy, Debug)]
+#[derive(Clone, Copy)]
 pub(crate) struct Prototype {
     pub parameters: &'static [ParameterKind],
     pub result: ResultKind,

@@ -1,8 +1,8 @@
 //! The names that are known at a place of a function, and those that are taken.
 
 ghost use Rattle.std.specs.Prelude.{◌≡◌, ◌-◌, [], ◌∷◌, ◌++◌, IfOk, OnOk, map, drop, length, bytes_eq};
-ghost use Rattle.std.specs.Option.{option_map, is_none};
-ghost use Rattle.types.specs.Sorts.{sort_in};
+ghost use Rattle.std.specs.Option.{option_map};
+ghost use Rattle.types.specs.Sorts.{sort_in, is_unknown};
 ghost use Rattle.types.specs.SortRules.{has_name, has_repeated};
 ghost use Rattle.types.specs.Faults.{IsAbove, scope_of, sort_value, entry_scope};
 
@@ -11,7 +11,7 @@ use std::alloc::{AllocError, Global};
 use syntax::{Function, Name};
 
 /// A name that is known, and its sort.
-#[derive(Debug, Drop)]
+#[derive(Drop)]
 pub(crate) struct Known {
     pub name: Name,
     pub sort: Sort,
@@ -38,7 +38,7 @@ pub(crate) fn sort_in(known: &[Known], name: &Name) -> Option<Sort>
 
 /// Whether a name is not known.
 pub(crate) fn is_unknown(known: &[Known], name: &Name) -> bool
-    ensures { result ≡ is_none (sort_in (scope_of known.now) name.now) }
+    ensures { result ≡ is_unknown (scope_of known.now) name.now }
 {
     sort_in(known, name).is_none()
 }

@@ -2,18 +2,17 @@
 
 ghost use Rattle.std.specs.Prelude.{◌≡◌};
 ghost use Rattle.std.specs.Option.{option_map};
-ghost use Rattle.base.specs.Element.{same_element};
 ghost use Rattle.syntax.specs.Views.{element_tree, variable_type_tree, parameter_type_tree};
 ghost use Rattle.types.specs.Sorts.{is_word, is_jint, is_flag, is_truth, is_ref, is_global, is_field, is_index, is_castable, has_elements, is_nullable, is_array_of, is_buffer_for, is_read_only};
 ghost use Rattle.types.specs.SortRules.{variable_sort, parameter_sort};
 ghost use Rattle.types.specs.Table.{access_value};
 ghost use Rattle.types.specs.Faults.{sort_value};
 
-use crate::prototype::Access;
+use crate::access::{Access, is_same_element};
 use syntax::{ElementType, ParameterType, VariableType};
 
 /// What a name or an expression is.
-#[derive(Clone, Copy, Debug, PartialEq, Eq)]
+#[derive(Clone, Copy)]
 pub(crate) enum Sort {
     /// A number from 0 to 4294967295.
     Word,
@@ -112,13 +111,6 @@ pub(crate) fn is_read_only(sort: Option<Sort>) -> bool
     ensures { result ≡ is_read_only (option_map sort_value sort) }
 {
     matches!(sort, Some(Sort::Buffer(_, false)))
-}
-
-/// Whether two element types are the same.
-fn is_same_element(a: ElementType, b: ElementType) -> bool
-    ensures { result ≡ same_element (element_tree a) (element_tree b) }
-{
-    a == b
 }
 
 /// A local array of this type.

@@ -1,18 +1,18 @@
 //! The rules at a statement.
 
-ghost use Rattle.std.specs.Prelude.{◌≡◌, ℕ, [], ◌&&◌, Some};
+ghost use Rattle.std.specs.Prelude.{◌≡◌, ℕ, [], ◌∷◌, not, ◌&&◌, ◌||◌, Some};
 ghost use Rattle.std.specs.List.{list_all};
 ghost use Rattle.std.specs.Option.{option_map};
 ghost use Rattle.base.specs.Options.{some_passes};
-ghost use Rattle.syntax.specs.Parts.{own_expressions, own_call, declared_name, right_side_expressions, test_expressions, right_side};
+ghost use Rattle.syntax.specs.Parts.{own_expressions, own_call, assigned_name, right_side_expressions, test_expressions};
 ghost use Rattle.syntax.specs.Tree.{Void};
 ghost use Rattle.syntax.specs.Views.{expr_tree, right_side_tree, test_tree, call_tree, form_tree, stmt_tree, result_tree};
-ghost use Rattle.types.specs.Sorts.{sort_in, sort_of, has_elements, is_index, is_jint};
-ghost use Rattle.types.specs.SortRules.{has_name, is_formed, value_sets, right_side_sets, buffer_begins, test_fits, return_fits, statement_fits, copies_reference, set_sort, SortMisfit, ReadOnlyWrite, breaks_sort_rule};
-ghost use Rattle.types.specs.BuiltCalls.{refused_at};
-ghost use Rattle.types.specs.Faults.{scope_of, sort_value, Finds, statement_place};
-ghost use Rattle.types.specs.Unknown.{right_unknown, test_unknown, uses_unknown};
-ghost use Rattle.types.specs.StatementFaults.{sort_faults, call_faults, use_faults, statement_faults, call_misfits, calls_unknown, call_miscounts, call_has_bad_mode};
+ghost use Rattle.types.specs.Prototype.{function_named};
+ghost use Rattle.types.specs.Sorts.{sort_in, is_unknown, sort_of, has_elements, is_index, is_jint, call_arguments_fit};
+ghost use Rattle.types.specs.SortRules.{is_formed, value_sets, right_side_sets, buffer_begins, test_fits, return_fits, statement_fits, copies_reference, sort_rules, UnknownName, DeclaredTwice, SortMisfit, UnknownFunction, ArgumentCount, ReferenceCopied, BadMode, ReadOnlyWrite, breaks_sort_rule};
+ghost use Rattle.types.specs.BuiltCalls.{calls_unbuilt, refused_at};
+ghost use Rattle.types.specs.Faults.{scope_of, sort_value, Finds, statement_place, refused_of};
+ghost use Rattle.types.specs.Uses.{right_uses, test_uses, uses};
 
 use crate::calls::{
     call_arguments_fit, call_fits, call_formed, call_unknown, has_wrong_count, has_wrong_mode,
@@ -28,7 +28,7 @@ use crate::sort::{
 use syntax::{Call, ElementType, Expr, Form, Name, ResultType, RightSide, Stmt, Test};
 
 /// The call that a statement makes.
-fn own_call(form: &Form) -> Option<&Call>
+pub fn own_call(form: &Form) -> Option<&Call>
     ensures { (line : ℕ) → option_map (λ c. call_tree c.now) result ≡ own_call (form_tree line form.now) }
 {
     match form {
@@ -45,7 +45,7 @@ fn own_call(form: &Form) -> Option<&Call>
 
 /// Whether some name of a right side is not known.
 fn right_unknown(known: &[Known], right: &RightSide) -> bool
-    ensures { result ≡ right_unknown (scope_of known.now) (right_side_tree right.now) }
+    ensures { result ≡ right_uses (is_unknown (scope_of known.now)) (right_side_tree right.now) }
 {
     match right {
         RightSide::Expr(e) => has_unknown(known, e),
@@ -55,7 +55,7 @@ fn right_unknown(known: &[Known], right: &RightSide) -> bool
 
 /// Whether some name of a test is not known.
 fn test_unknown(known: &[Known], test: &Test) -> bool
-    ensures { result ≡ test_unknown (scope_of known.now) (test_tree test.now) }
+    ensures { result ≡ test_uses (is_unknown (scope_of known.now)) (test_tree test.now) }
 {
     match test {
         Test::Expr(e) => has_unknown(known, e),
@@ -63,16 +63,16 @@ fn test_unknown(known: &[Known], test: &Test) -> bool
     }
 }
 
-/// Whether some name that a statement uses or sets is not known.
+/// Whether some name that a statement uses is not known.
 fn uses_unknown(known: &[Known], form: &Form) -> bool
-    ensures { (line : ℕ) → result ≡ uses_unknown (scope_of known.now) (form_tree line form.now) }
+    ensures { (line : ℕ) → result ≡ uses (is_unknown (scope_of known.now)) (form_tree line form.now) }
 {
     match form {
         Form::Declare(_, _, r) => right_unknown(known, r),
         Form::DeclareBuffer(_, _, r) => right_unknown(known, r),
         Form::DeclareChars(_, r) => right_unknown(known, r),
         Form::DeclareArray(..) => false,
-        Form::Assign(x, r) => is_unknown(known, x) || right_unknown(known, r),
+        Form::Assign(_, r) => right_unknown(known, r),
         Form::AssignElement(x, i, e) => {
             is_unknown(known, x) || has_unknown(known, i) || has_unknown(known, e)
         }
@@ -86,9 +86,38 @@ fn uses_unknown(known: &[Known], form: &Form) -> bool
     }
 }
 
+/// Whether a statement sets a name that is not known.
+fn assigns_unknown(known: &[Known], form: &Form) -> bool
+    ensures { (line : ℕ) → result ≡ some_passes (is_unknown (scope_of known.now)) (assigned_name (form_tree line form.now)) }
+{
+    match form {
+        Form::Assign(x, _) => is_unknown(known, x),
+        Form::Declare(..) => false,
+        Form::DeclareBuffer(..) => false,
+        Form::DeclareChars(..) => false,
+        Form::DeclareArray(..) => false,
+        Form::AssignElement(..) => false,
+        Form::Perform(_) => false,
+        Form::PutJint(_) => false,
+        Form::If(..) => false,
+        Form::IfElse(..) => false,
+        Form::While(..) => false,
+        Form::Return(None) => false,
+        Form::Return(Some(_)) => false,
+    }
+}
+
+/// Whether some name that a statement uses or sets is not known.
+#[tactic(auto, using(crate::proofs::StatementLemmas::unknown_names))]
+fn names_unknown(known: &[Known], form: &Form) -> bool
+    ensures { (line : ℕ) → result ≡ breaks_sort_rule UnknownName (scope_of known.now) [] Void (form_tree line form.now) }
+{
+    uses_unknown(known, form) || assigns_unknown(known, form)
+}
+
 /// Whether a statement declares a name that is taken.
 fn declares_taken(taken: &[Name], form: &Form) -> bool
-    ensures { (line : ℕ) → result ≡ some_passes (has_name taken.now) (declared_name (form_tree line form.now)) }
+    ensures { (line : ℕ) → result ≡ breaks_sort_rule DeclaredTwice [] taken.now Void (form_tree line form.now) }
 {
     match form {
         Form::Declare(_, x, _) => has_name(taken, x),
@@ -241,7 +270,7 @@ fn statement_fits(known: &[Known], returns: ResultType, form: &Form) -> bool
 
 /// Whether the arguments of a statement's call do not fit.
 fn call_misfits(known: &[Known], form: &Form) -> bool
-    ensures { (line : ℕ) → result ≡ call_misfits (scope_of known.now) (own_call (form_tree line form.now)) }
+    ensures { (line : ℕ) → result ≡ some_passes (λ c. not (call_arguments_fit (scope_of known.now) c (function_named c.function))) (own_call (form_tree line form.now)) }
 {
     match own_call(form) {
         Some(call) => !call_arguments_fit(known, call),
@@ -257,8 +286,9 @@ fn misfits(known: &[Known], returns: ResultType, form: &Form) -> bool
 }
 
 /// Whether a statement calls a function that is not known, or can't be called today.
+#[tactic(auto, using(crate::proofs::StatementLemmas::unknown_calls))]
 fn calls_unknown(form: &Form) -> bool
-    ensures { (line : ℕ) → result ≡ calls_unknown (own_call (form_tree line form.now)) }
+    ensures { (line : ℕ) → result ≡ (breaks_sort_rule UnknownFunction [] [] Void (form_tree line form.now) || calls_unbuilt (form_tree line form.now)) }
 {
     match own_call(form) {
         Some(call) => !is_built(call),
@@ -268,7 +298,7 @@ fn calls_unknown(form: &Form) -> bool
 
 /// Whether a statement's call has a wrong number of arguments.
 fn miscounts(form: &Form) -> bool
-    ensures { (line : ℕ) → result ≡ call_miscounts (own_call (form_tree line form.now)) }
+    ensures { (line : ℕ) → result ≡ breaks_sort_rule ArgumentCount [] [] Void (form_tree line form.now) }
 {
     match own_call(form) {
         Some(call) => has_wrong_count(call),
@@ -278,7 +308,7 @@ fn miscounts(form: &Form) -> bool
 
 /// Whether a statement's call has a mode that is none.
 fn has_bad_mode(form: &Form) -> bool
-    ensures { (line : ℕ) → result ≡ call_has_bad_mode (own_call (form_tree line form.now)) }
+    ensures { (line : ℕ) → result ≡ breaks_sort_rule BadMode [] [] Void (form_tree line form.now) }
 {
     match own_call(form) {
         Some(call) => has_wrong_mode(call),
@@ -298,7 +328,7 @@ fn copies(known: &[Known], sort: Option<Sort>, right: &RightSide) -> bool
 
 /// Whether a statement copies a known name into a local reference.
 fn copies_reference(known: &[Known], form: &Form) -> bool
-    ensures { (line : ℕ) → result ≡ copies_reference (scope_of known.now) (set_sort (scope_of known.now) (form_tree line form.now)) (right_side (form_tree line form.now)) }
+    ensures { (line : ℕ) → result ≡ breaks_sort_rule ReferenceCopied (scope_of known.now) [] Void (form_tree line form.now) }
 {
     match form {
         Form::Declare(t, _, r) => copies(known, Some(variable_sort(*t)), r),
@@ -327,35 +357,16 @@ fn writes_read_only(known: &[Known], form: &Form) -> bool
     }
 }
 
-/// The names and sorts of a statement.
+/// What a statement may not do although its sorts fit.
 #[tactic(auto, using(crate::proofs::FindsLemmas::finds_rules))]
-fn check_sorts(
+fn check_uses(
     known: &[Known],
     taken: &[Name],
     returns: ResultType,
     form: &Form,
     line: usize,
 ) -> Result<(), TypeFault>
-    ensures { Finds result (sort_faults (scope_of known.now) taken.now (result_tree returns) (form_tree line form.now) line) }
-{
-    refuse_if(uses_unknown(known, form), SortRule::UnknownName, line)?;
-    refuse_if(declares_taken(taken, form), SortRule::DeclaredTwice, line)?;
-    refuse_if(misfits(known, returns, form), SortRule::SortMisfit, line)
-}
-
-/// The function that a statement calls, and the number of its arguments.
-#[tactic(auto, using(crate::proofs::FindsLemmas::finds_rules))]
-fn check_call(form: &Form, line: usize) -> Result<(), TypeFault>
-    ensures { Finds result (call_faults (form_tree line form.now) line) }
-{
-    refuse_if(calls_unknown(form), SortRule::UnknownFunction, line)?;
-    refuse_if(miscounts(form), SortRule::ArgumentCount, line)
-}
-
-/// What a statement may not do although its sorts fit.
-#[tactic(auto, using(crate::proofs::FindsLemmas::finds_rules))]
-fn check_uses(known: &[Known], form: &Form, line: usize) -> Result<(), TypeFault>
-    ensures { Finds result (use_faults (scope_of known.now) (form_tree line form.now) line) }
+    ensures { Finds result (refused_of (result_tree returns) (scope_of known.now) taken.now (form_tree line form.now) line (ReferenceCopied ∷ BadMode ∷ ReadOnlyWrite ∷ [])) }
 {
     refuse_if(
         copies_reference(known, form),
@@ -363,7 +374,24 @@ fn check_uses(known: &[Known], form: &Form, line: usize) -> Result<(), TypeFault
         line,
     )?;
     refuse_if(has_bad_mode(form), SortRule::BadMode, line)?;
-    refuse_if(writes_read_only(known, form), SortRule::ReadOnlyWrite, line)
+    refuse_if(writes_read_only(known, form), SortRule::ReadOnlyWrite, line)?;
+    Ok(())
+}
+
+/// The function that a statement calls, the number of its arguments, and the rules after these.
+#[tactic(auto, using(crate::proofs::FindsLemmas::finds_rules))]
+fn check_call(
+    known: &[Known],
+    taken: &[Name],
+    returns: ResultType,
+    form: &Form,
+    line: usize,
+) -> Result<(), TypeFault>
+    ensures { Finds result (refused_of (result_tree returns) (scope_of known.now) taken.now (form_tree line form.now) line (UnknownFunction ∷ ArgumentCount ∷ ReferenceCopied ∷ BadMode ∷ ReadOnlyWrite ∷ [])) }
+{
+    refuse_if(calls_unknown(form), SortRule::UnknownFunction, line)?;
+    refuse_if(miscounts(form), SortRule::ArgumentCount, line)?;
+    check_uses(known, taken, returns, form, line)
 }
 
 /// A statement on this line, without the blocks inside it. All rules are judged, in the order of their numbers.
@@ -375,11 +403,12 @@ fn check_form(
     form: &Form,
     line: usize,
 ) -> Result<(), TypeFault>
-    ensures { Finds result (statement_faults (scope_of known.now) taken.now (result_tree returns) (form_tree line form.now) line) }
+    ensures { Finds result (refused_of (result_tree returns) (scope_of known.now) taken.now (form_tree line form.now) line sort_rules) }
 {
-    check_sorts(known, taken, returns, form, line)?;
-    check_call(form, line)?;
-    check_uses(known, form, line)
+    refuse_if(names_unknown(known, form), SortRule::UnknownName, line)?;
+    refuse_if(declares_taken(taken, form), SortRule::DeclaredTwice, line)?;
+    refuse_if(misfits(known, returns, form), SortRule::SortMisfit, line)?;
+    check_call(known, taken, returns, form, line)
 }
 
 /// A statement of a function with this result, where these names are known and these are taken.

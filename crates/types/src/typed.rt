@@ -4,8 +4,8 @@ ghost use Rattle.std.specs.Prelude.{◌≡◌, IfOk, IfErr, IsOkUnless, IsTrue, 
 ghost use Rattle.syntax.specs.Limits.{IsTree};
 ghost use Rattle.syntax.specs.Views.{unit_tree};
 ghost use Rattle.types.specs.SortRules.{IsSorted};
-ghost use Rattle.types.specs.BuiltCalls.{calls_are_built, refused, first_refused};
-ghost use Rattle.types.specs.Faults.{Finds, IfBroken, fault_of};
+ghost use Rattle.types.specs.BuiltCalls.{calls_are_built, refused, first_refused, EarnsSortFault};
+ghost use Rattle.types.specs.Faults.{Finds, IfBroken, fault_of, rule_of};
 
 use crate::fault::TypeFault;
 use crate::items::check_items;
@@ -79,6 +79,8 @@ pub fn type_unit(alloc: Global, unit: Unit) -> Result<Typed, TypeFault>
     // The fault is the first in text order, and at one statement the one of the least number: a broken rule, or 24 for a
     // call of a function that is not built.
     ensures first { IfErr result (λ e. IfBroken e (λ f. first_refused (unit_tree unit) ≡ Some (fault_of f))) }
+    // Its rule is broken on its line, or a function that is not built is called there.
+    ensures earned { IfErr result (λ e. IfBroken e (λ f. EarnsSortFault (rule_of f.rule) f.line (unit_tree unit))) }
 {
     check_unit(alloc, &unit)?;
     Ok(Typed::of(unit))

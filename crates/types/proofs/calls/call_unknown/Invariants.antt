@@ -2,10 +2,11 @@ use Rattle.std.proofs.Common.{◌≡◌, drop, map}
 use Rattle.std.specs.List.{list_any}
 use Rattle.syntax.specs.Views.{argument_tree}
 use Rattle.types.specs.Faults.{scope_of}
-use Rattle.types.specs.Unknown.{argument_unknown}
+use Rattle.types.specs.Sorts.{is_unknown}
+use Rattle.types.specs.Uses.{argument_uses}
 use Rattle.types.proofs.calls.call_unknown.Given as goal
 
 abbrev pub invariant-loop-argument : goal.invariant-loop-argument
 invariant-loop-argument l =
-    list_any (argument_unknown (scope_of l.known)) (map argument_tree (drop l.argument-index l.call.arguments.items))
-    ≡ list_any (argument_unknown (scope_of l.known)) (map argument_tree l.call.arguments.items)
+    list_any (argument_uses (is_unknown (scope_of l.known))) (map argument_tree (drop l.argument-index l.call.arguments.items))
+    ≡ list_any (argument_uses (is_unknown (scope_of l.known))) (map argument_tree l.call.arguments.items)
