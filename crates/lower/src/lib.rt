@@ -8,8 +8,6 @@ mod names;
 mod program;
 mod statements;
 mod terms;
-#[cfg(test)]
-mod tests;
 
 pub use fault::LowerFault;
 pub use lowering::lower;

@@ -16,7 +16,7 @@ use code::instr;
 use code::instr::{Callee, Instr, LocalArray, ReferenceOperand, Target};
 use std::alloc::{AllocError, Global};
 use syntax::{
-    Argument, Block, Constant, ElementType, Expr, Form, Name, RightSide, Test, VariableType,
+    Argument, Block, Call, Constant, ElementType, Expr, Form, Name, RightSide, Test, VariableType,
 };
 
 /// A statement on this line, with the names that are known after it.
@@ -47,18 +47,10 @@ pub(crate) fn emit_form<'a>(
         }
         Form::Assign(name, right) => emit_assignment(code, names, line, name, right),
         Form::AssignElement(name, index, value) => {
-            emit_expr(code, names, line, index)?;
-            emit_expr(code, names, line, value)?;
-            emit_write(code, names, line, name)
+            emit_element_set(code, names, line, name, index, value)
         }
-        Form::Perform(call) => {
-            let slot = names.slots().numbers;
-            emit_call(code, names, line, slot, &call.arguments)
-        }
-        Form::PutJint(number) => {
-            emit_expr(code, names, line, number)?;
-            emit(code, Instr::PutJint)
-        }
+        Form::Perform(call) => emit_dropped(code, names, line, call),
+        Form::PutJint(number) => emit_print(code, names, line, number),
         Form::If(test, first) => {
             let end = emit_first(alloc, code, names, line, test, first)?;
             emit_end(code, end)
@@ -249,6 +241,48 @@ fn emit_right(
         }
         RightSide::Call(call) => emit_call(code, names, line, slot.index, &call.arguments),
     }
+}
+
+/// An index, a value, and the element of a named array that is set to it.
+fn emit_element_set(
+    code: &mut Vec<Instr>,
+    names: &Names<'_>,
+    line: usize,
+    name: &Name,
+    index: &Expr,
+    value: &Expr,
+) -> Result<(), AllocError>
+    ensures { OnOk result (code.new.items ≡ code.old.items ++ (expr_code names.now.known line (expr_tree index.now) ++ (expr_code names.now.known line (expr_tree value.now) ++ of_slot (write_code line) (lookup name.now names.now.known)))) }
+{
+    emit_expr(code, names, line, index)?;
+    emit_expr(code, names, line, value)?;
+    emit_write(code, names, line, name)
+}
+
+/// A call whose result is dropped: it goes into a slot that no name has.
+fn emit_dropped(
+    code: &mut Vec<Instr>,
+    names: &Names<'_>,
+    line: usize,
+    call: &Call,
+) -> Result<(), AllocError>
+    ensures { OnOk result (code.new.items ≡ code.old.items ++ call_code names.now.known line names.now.slots.numbers (map argument_tree call.now.arguments.items)) }
+{
+    let slot = names.slots().numbers;
+    emit_call(code, names, line, slot, &call.arguments)
+}
+
+/// A number that is printed.
+fn emit_print(
+    code: &mut Vec<Instr>,
+    names: &Names<'_>,
+    line: usize,
+    number: &Expr,
+) -> Result<(), AllocError>
+    ensures { OnOk result (code.new.items ≡ code.old.items ++ (expr_code names.now.known line (expr_tree number.now) ++ Instr.PutJint ∷ [])) }
+{
+    emit_expr(code, names, line, number)?;
+    emit(code, Instr::PutJint)
 }
 
 /// An element of a named array, after its index and its value.
