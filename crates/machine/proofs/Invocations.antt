@@ -191,14 +191,14 @@ module _ (p : Lowered) (classes : Classes) (space : Space) (lent : BuffersInUse)
       ending = refl;
     }
 
-    -- a length went into its slot
-    went : (line : ℕ) (target : Target) (x : Identifier) (n a m j : ℕ) (after : Activation) (e : Event) (variables : Variables) (names : Known) → s.pending ≡ None → call.stack ≡ [] → IsObject space shared.heap a n → HasArrayClass classes space a
+    -- a length is stored in its slot
+    stores_length : (line : ℕ) (target : Target) (x : Identifier) (n a m j : ℕ) (after : Activation) (e : Event) (variables : Variables) (names : Known) → s.pending ≡ None → call.stack ≡ [] → IsObject space shared.heap a n → HasArrayClass classes space a
         → m ≡ length (values_at space a) → HasWord call j m after → e ≡ event.Quiet
         → put target (length_result shared.heap n) shared (record s { tasks = Some (tasks_after line target (is_zero (length_result shared.heap n)) ++ rest) }) ≡ source.Advances shared (record s { tasks = Some rest; variables = variables }) source.Quiet
         → StandsFor code names (call.place + 1) [] rest
         → Shows code names (visible_to shared (record s { tasks = Some rest; variables = variables })) (record { numbers = slice_set call.numbers.items j (length (values_of shared.heap n)); references = r.references })
         → GoesOn p classes space lent k shared s rest after (Calls line target GetArrayLength (ReferenceActual x (as_static (Some n)) ∷ [])) e
-    went line target x n a m j after e variables names none empty object array long word quiet goes stands shows =
+    stores_length line target x n a m j after e variables names none empty object array long word quiet goes stands shows =
         let size : m ≡ length (values_of shared.heap n) = long ∙ object.count in
         let class : array.0 ≡ class_of shared.heap n = let same : Some array.0 ≡ Some (class_of shared.heap n) = sym array.1 ∙ object.class in cc in
         let kind : is_plain (class_kind classes (class_of shared.heap n)) ≡ false = ap (λ (c : ℕ). is_plain (class_kind classes c)) (sym class) ∙ array.2 in
@@ -229,16 +229,16 @@ module _ (p : Lowered) (classes : Classes) (space : Space) (lent : BuffersInUse)
     length_goes line (Declared ScalarKind y) x n a m after e (destination.Number j) none empty goes object array long small word quiet =
         let v : Value = Int (pos (length (values_of shared.heap n))) in
         let next : source.Thread = record s { tasks = Some rest; variables = assign y (Scalar v) s.variables } in
-        went line (Declared ScalarKind y) x n a m j after e (assign y (Scalar v) s.variables) goes.names none empty object array long word quiet refl goes.stands
+        stores_length line (Declared ScalarKind y) x n a m j after e (assign y (Scalar v) s.variables) goes.names none empty object array long word quiet refl goes.stands
         (goes.shows (pos (length (values_of shared.heap n))) (visible_to shared next) (length_fits n a m object long small) (is_set shared s next y v refl))
     length_goes line (Assigned y) x n a m after e (destination.Number j) none empty (goes, (old, number)) object array long small word quiet =
         let v : Value = Int (pos (length (values_of shared.heap n))) in
         let next : source.Thread = record s { tasks = Some rest; variables = assign y (Scalar v) s.variables } in
-        went line (Assigned y) x n a m j after e (assign y (Scalar v) s.variables) goes.names none empty object array long word quiet
+        stores_length line (Assigned y) x n a m j after e (assign y (Scalar v) s.variables) goes.names none empty object array long word quiet
         (ap (put_assigned y (length_result shared.heap n) shared (record s { tasks = Some rest })) (scalar_of (lookup y s.variables) old number)) goes.stands
         (goes.shows (pos (length (values_of shared.heap n))) (visible_to shared next) (length_fits n a m object long small) (is_set shared s next y v refl))
     length_goes line Dropped x n a m after e (destination.Number j) none empty goes object array long small word quiet =
-        went line Dropped x n a m j after e s.variables r.known none empty object array long word quiet refl goes.stands (goes.shows (length (values_of shared.heap n)))
+        stores_length line Dropped x n a m j after e s.variables r.known none empty object array long word quiet refl goes.stands (goes.shows (length (values_of shared.heap n)))
     length_goes line (Declared ReferenceKind y) x n a m after e (destination.Number j) none empty goes object array long small word quiet = absurd goes
     length_goes line (Declared FieldKind y) x n a m after e (destination.Number j) none empty goes object array long small word quiet = absurd goes
     length_goes line (Declared (BufferKind T) y) x n a m after e (destination.Number j) none empty goes object array long small word quiet = absurd goes

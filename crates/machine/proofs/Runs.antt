@@ -25,7 +25,7 @@ use Rattle.regions.specs.Step.{can_step, is_live, is_waiting, world_step}
 use Rattle.regions.proofs.RunLaws.{replay_from-append, follows-replay, follows-append}
 use Rattle.machine.specs.declared.turn.Turn.{Turn as Answer}
 use Rattle.machine.specs.declared.turn.Turn.TheVariants as turn
-use Rattle.machine.specs.Run.{Run, replay_of, can_turn, HasEnded, TurnHolds, GivesNoStep, entry_of, stepped, RunsAlong, RunsInto}
+use Rattle.machine.specs.Run.{Run, replay_of, can_turn, HasEnded, TurnHolds, GivesNoStep, GivesStep, entry_of, stepped, RunsAlong, RunsInto}
 
 -- the walk from a state of a run along these words
 abbrev pub Walk : Run → State → List Entry → Schedule → State → Type 0
@@ -76,25 +76,27 @@ along_both a b c words more p q =
 pub along_into : (a b c : Run) (words more : Schedule) → RunsAlong a b words → RunsInto b c more → RunsInto a c (words ++ more)
 along_into a b c words more p q = record {
   taken = words ++ q.taken;
+  next = q.next;
   left = q.left;
-  some_left = q.some_left;
-  is = ap (λ (w : Schedule). words ++ w) q.is ∙ sym (append_assoc words q.taken q.left);
+  is = ap (λ (w : Schedule). words ++ w) q.is ∙ sym (append_assoc words q.taken (q.next ∷ q.left));
   along = along_both a b c words q.taken p q.along;
+  gives = q.gives;
 }
 
 -- a beginning of a schedule's beginning
 pub into_more : (a b : Run) (words more : Schedule) → RunsInto a b words → RunsInto a b (words ++ more)
 into_more a b words more p = record {
   taken = p.taken;
+  next = p.next;
   left = p.left ++ more;
-  some_left = omega (arith, length-append p.left more, p.some_left);
-  is = ap (λ (w : Schedule). w ++ more) p.is ∙ append_assoc p.taken p.left more;
+  is = ap (λ (w : Schedule). w ++ more) p.is ∙ append_assoc p.taken (p.next ∷ p.left) more;
   along = p.along;
+  gives = p.gives;
 }
 
--- a walk is a beginning where more is to come
-pub begun : (a b : Run) (words more : Schedule) → RunsAlong a b words → 0 < length more → RunsInto a b (words ++ more)
-begun a b words more p h = record { taken = words; left = more; some_left = h; is = refl; along = p }
+-- a walk is a beginning where the next word would have given a step
+pub begun : (a b : Run) (words : Schedule) (next : ScheduleWord) (left : Schedule) → RunsAlong a b words → GivesStep b next → RunsInto a b (words ++ next ∷ left)
+begun a b words next left p h = record { taken = words; next = next; left = left; is = refl; along = p; gives = h }
 
 -- nothing was done yet
 pub none_yet : (r : Run) → IsSome (replay_of r) → RunsAlong r r []
@@ -158,10 +160,7 @@ turned r new k turn.Stopped h defined full =
 turned r new k turn.Ended h defined full =
     subst (λ x. RunsAlong r x (Turn k ∷ [])) (sym h.0) (no_step r (Turn k) (h.1.0, h.1.1, ended_waits (world_of_scene r.world).classes h.1.0 k h.1.2))
 turned r new k turn.Full h defined full = absurd (full refl)
-turned r new k turn.Stepped h defined full = stepped_once r new k h.2.0 h.0 h.2.1 h.2.2 defined
-
-pub full_same : (old new : Run) (k : ℕ) (t : Answer) → t ≡ turn.Full → TurnHolds old k new t → (new ≡ old) × (1000000 ≤ length new.journal)
-full_same old new k t e h = let g : TurnHolds old k new turn.Full = subst (TurnHolds old k new) e h in (g.0, subst (λ (r : Run). 1000000 ≤ length r.journal) (sym g.0) g.1)
+turned r new k turn.Stepped h defined full = let could = h.1.1 in stepped_once r new k could.0 h.0 could.1 could.2 defined
 
 -- ---- threads that are not there
 
@@ -179,8 +178,8 @@ missing_waits classes s k h =
 pub replicate_more : (word : ScheduleWord) (i : ℕ) → replicate (i + 1) word ≡ replicate i word ++ word ∷ []
 replicate_more word i = sym (replicate-append-replicate i 1 word)
 
-pub replicate_rest : (word : ScheduleWord) (i times : ℕ) → i ≤ times → replicate times word ≡ replicate i word ++ replicate (times - i) word
-replicate_rest word i times h = let e : i + (times - i) ≡ times = omega (arith, h) in sym (replicate-append-replicate i (times - i) word ∙ ap (λ n. replicate n word) e)
+pub replicate_rest : (word : ScheduleWord) (i times : ℕ) → i < times → replicate times word ≡ replicate i word ++ word ∷ replicate (times - i - 1) word
+replicate_rest word i times h = let e : i + suc (times - i - 1) ≡ times = omega (arith, h) in sym (replicate-append-replicate i (suc (times - i - 1)) word ∙ ap (λ n. replicate n word) e)
 
 -- the words of the repetitions up to a place
 abbrev pub words_to : List Repetition → ℕ → Schedule

@@ -99,12 +99,16 @@ entry_of k = record { thread = k; refused = false }
 abbrev pub stepped : Run → ℕ → Run
 stepped r k = record r { journal = r.journal ++ entry_of k ∷ [] }
 
+-- thread k can step, and the journal has room for the step
+abbrev pub CouldStep : Run → ℕ → Type 0
+CouldStep r k = (length r.journal < 1000000) × InState r (λ s. can_turn r s k ≡ true)
+
 -- what a turn of thread k was
 abbrev pub TurnHolds : Run → ℕ → Run → Answer → Type 0
 TurnHolds old k new turn.Stopped = (new ≡ old) × InState old (λ s. IsSome s.stop)
 TurnHolds old k new turn.Ended = (new ≡ old) × InState old (λ s. HasEnded s k)
 TurnHolds old k new turn.Full = (new ≡ old) × (1000000 ≤ length old.journal) × InState old (λ s. can_turn old s k ≡ true)
-TurnHolds old k new turn.Stepped = (new ≡ stepped old k) × (length old.journal < 1000000) × InState old (λ s. can_turn old s k ≡ true)
+TurnHolds old k new turn.Stepped = (new ≡ stepped old k) × CouldStep old k
 
 -- the numbers printed so far
 abbrev pub PrintedBy : Run → List Printed → Type 0
@@ -117,6 +121,11 @@ abbrev pub GivesNoStep : Run → ScheduleWord → Type 0
 GivesNoStep r Collect = InState r (λ s. Unit {0})
 GivesNoStep r (Turn k) = InState r (λ s. can_turn r s k ≡ false)
 
+-- a word of a schedule that is the turn of a thread that can step
+abbrev pub GivesStep : Run → ScheduleWord → Type 0
+GivesStep r Collect = ⊥
+GivesStep r (Turn k) = InState r (λ s. can_turn r s k ≡ true)
+
 -- The steps taken follow the schedule.
 pub record RunsAlong (old new : Run) (schedule : Schedule) : Type 0 where
   pub same_unit : new.unit ≡ old.unit
@@ -128,13 +137,14 @@ pub record RunsAlong (old new : Run) (schedule : Schedule) : Type 0 where
   pub after : State
   pub follows : Follows (unit_tree old.unit) (world_of_scene old.world) before steps schedule after
 
--- the steps of a beginning of the schedule were taken, which is not the whole
+-- the steps of a beginning of the schedule were taken, and the next word would have given a step
 pub record RunsInto (old new : Run) (schedule : Schedule) : Type 0 where
   pub taken : Schedule
+  pub next : ScheduleWord
   pub left : Schedule
-  pub some_left : 0 < length left
-  pub is : schedule ≡ taken ++ left
+  pub is : schedule ≡ taken ++ next ∷ left
   pub along : RunsAlong old new taken
+  pub gives : GivesStep new next
 
 -- ---- the end
 

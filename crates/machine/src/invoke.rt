@@ -45,6 +45,7 @@ fn array_length(world: &World, heap: &Heap, array: Option<Addr>) -> Result<u32, 
     requires { (a : ℕ) → array ≡ Some a → IsAddress heap.now a }
     ensures { LengthIs (world_of_scene world.now).classes heap.now array result }
 {
+    // The proof reads off these calls that no array has more elements than there are cells.
     let _ = heap.count();
     let _ = heap.cells();
     let Some(addr) = array else {

@@ -17,6 +17,3 @@ pub use fault::{LoadFault, RunFault};
 pub use machine::{MOST_ENTRIES, Machine};
 pub use stop::{Stop, Trap};
 pub use turn::Turn;
-
-#[cfg(test)]
-mod tests;

@@ -7,7 +7,7 @@ ghost use Rattle.world.specs.SceneWorld.{world_of_scene};
 ghost use Rattle.world.specs.Sink.{CanFail};
 ghost use Rattle.regions.specs.Load.{first_load_fault};
 ghost use Rattle.machine.specs.Loading.{IsLoadFault};
-ghost use Rattle.machine.specs.Run.{replay_of, IsUnstarted, TurnHolds, RunsAlong, RunsInto, PrintedBy, IsFinished, has_ended, WritesRun, GivesNoStep, printed_after};
+ghost use Rattle.machine.specs.Run.{replay_of, IsUnstarted, CouldStep, TurnHolds, RunsAlong, RunsInto, PrintedBy, IsFinished, has_ended, WritesRun, GivesNoStep, GivesStep, printed_after};
 ghost use Rattle.machine.specs.Stops.{stop_after, standing_of, standing_by_ending};
 
 use crate::fault::{LoadFault, RunFault};
@@ -67,6 +67,7 @@ impl<'a> Machine<'a> {
         ensures fits { OnOk result (first_load_fault (unit_tree program.entry.unit) (world_of_scene world) ≡ None) }
         ensures fault { IfErr result (IsLoadFault (unit_tree program.entry.unit) (world_of_scene world)) }
     {
+        // The proof reads off these calls what is known of a program and of a world.
         let _ = program.items();
         let _ = world.threads();
         let (heap, loaded) = load_heap(alloc, &world)?;
@@ -90,6 +91,7 @@ impl<'a> Machine<'a> {
         ensures entries { result.now ≡ self.now.journal }
         ensures runs { IsSome (replay_of self.now) }
     {
+        // Here the proof takes up the machine's invariant.
         let _ = &self.world;
         &self.journal
     }
@@ -101,12 +103,15 @@ impl<'a> Machine<'a> {
         &self.printed
     }
 
-    /// Lets thread `k`, counted from 1, take one step. After an `Err` the same turn can be asked again.
+    /// Lets thread `k`, counted from 1, take one step.
+    ///
+    /// An `Err` says that the thread could step and the journal has room, but host memory was refused. Nothing has
+    /// changed then, and the same turn can be asked again.
     pub fn step(&mut self, k: u8) -> Result<Turn, AllocError>
         requires counted { 0 < k }
         requires is_thread { k ≤ length self.old.world.threads }
         ensures turn { IfOk result (TurnHolds self.old k self.new) }
-        ensures err { OnErr result (self.new ≡ self.old) }
+        ensures err { OnErr result ((self.new ≡ self.old) × CouldStep self.old k) }
         ensures runs { IsSome (replay_of self.new) }
     {
         if self.stop.is_some() {
@@ -143,6 +148,7 @@ impl<'a> Machine<'a> {
         ensures turn { IfSome result (λ k. (word ≡ ScheduleWord.Turn k) × (0 < k) × (k ≤ length self.now.world.threads)) }
         ensures none { IfNone result (GivesNoStep self.now word) }
     {
+        // Here the proof takes up the machine's invariant.
         let _ = &self.world;
         match word {
             ScheduleWord::Turn(k) if k > 0 && usize::from(k) <= self.threads.len() => Some(k),
@@ -153,10 +159,12 @@ impl<'a> Machine<'a> {
     /// Takes one word of a schedule.
     fn take_word(&mut self, word: ScheduleWord) -> Result<(), RunFault>
         ensures ok { OnOk result (RunsAlong self.old self.new (word ∷ [])) }
-        ensures err { OnErr result (self.new ≡ self.old) }
+        ensures err { OnErr result ((self.new ≡ self.old) × GivesStep self.old word) }
         ensures full { result ≡ Err RunFault.Full → 1000000 ≤ length self.new.journal }
+        ensures memory { result ≡ Err RunFault.Memory → length self.new.journal < 1000000 }
         ensures runs { IsSome (replay_of self.new) }
     {
+        // Here the proof takes up the machine's invariant.
         let _ = &self.world;
         let Some(k) = self.turn_of(word) else {
             return Ok(());
@@ -175,8 +183,10 @@ impl<'a> Machine<'a> {
         ensures ok { OnOk result (RunsAlong self.old self.new (replicate times word)) }
         ensures err { OnErr result (RunsInto self.old self.new (replicate times word)) }
         ensures full { result ≡ Err RunFault.Full → 1000000 ≤ length self.new.journal }
+        ensures memory { result ≡ Err RunFault.Memory → length self.new.journal < 1000000 }
         ensures runs { IsSome (replay_of self.new) }
     {
+        // Here the proof takes up the machine's invariant.
         let _ = &self.world;
         for _taken in 0..times {
             match self.take_word(word) {
@@ -188,13 +198,18 @@ impl<'a> Machine<'a> {
     }
 
     /// Lets the threads take steps in the order of the schedule. A collection and a turn of a thread that the world
-    /// lacks give none. After an `Err` the steps of a beginning of the schedule stay.
+    /// lacks give none.
+    ///
+    /// After an `Err` the steps of a beginning of the schedule stay, and the next word is the turn of a thread that
+    /// could step: the journal was full, or it had room and host memory was refused.
     pub fn run(&mut self, schedule: &Schedule) -> Result<(), RunFault>
         ensures ok { OnOk result (RunsAlong self.old self.new schedule.now) }
         ensures err { OnErr result (RunsInto self.old self.new schedule.now) }
         ensures full { result ≡ Err RunFault.Full → 1000000 ≤ length self.new.journal }
+        ensures memory { result ≡ Err RunFault.Memory → length self.new.journal < 1000000 }
         ensures runs { IsSome (replay_of self.new) }
     {
+        // Here the proof takes up the machine's invariant.
         let _ = &self.world;
         for repetition in schedule.repetitions() {
             match self.repeat(repetition.word, repetition.times) {

@@ -28,6 +28,7 @@ const OUT_OF_MEMORY_ERROR: u32 = 11;
 pub fn load_heap(alloc: Global, world: &World) -> Result<(Heap, Vec<Addr>), AllocError>
     ensures made { IfOk result (λ made. AreMade made.0 made.1.items (loaded_objects (world_of_scene world.now))) }
 {
+    // The proof reads off this call that the world's objects fit into its heap.
     let _ = world.objects();
     let mut heap = Heap::new(alloc, world.heap())?;
     let mut loaded = Vec::new(alloc);
@@ -46,6 +47,7 @@ fn make_arrays(heap: &mut Heap, loaded: &mut Vec<Addr>, world: &World) -> Result
     requires cells { heap.old.cells ≡ world.now.heap }
     ensures { OnOk result (AreMade heap.new loaded.new.items (loaded_objects (world_of_scene world.now))) }
 {
+    // The proof reads off this call how many cells the heap has.
     let _ = world.heap();
     for array in world.objects() {
         make_array(heap, loaded, array_class(array.element()), array.values())?;

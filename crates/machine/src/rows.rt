@@ -41,6 +41,7 @@ impl<'a> Rows for LoadedRows<'a> {
     ghost rows = { λ r. loaded_rows (world_of_scene r) };
 
     fn put<S: Sink>(&self, sink: &mut S) -> Result<(), SinkFailed> {
+        // The proof reads off this call that names are below 2 to the 32.
         let _ = self.world.heap();
         let before = self.loaded.len() - self.world.objects().len();
         for place in before..self.loaded.len() {

@@ -122,7 +122,7 @@ module _ (unit : SourceUnit) (w : World) (old begun : Activation) (begun_task af
       by_outcome (outcome.SetsElement x i z) none k s t sees = none s (with_tasks t rest) (holds s t rest sees)
       by_outcome (outcome.Makes T x n) none k s t sees = none s (with_tasks t rest) (holds s t rest sees)
       by_outcome (outcome.Enters statements e) none k s t sees = absurd (let bad = none s (with_tasks t rest) (holds s t rest sees) in cc)
-      by_outcome outcome.Over none k s t sees = absurd (let bad = none s (with_tasks t rest) (holds s t rest sees) in cc)
+      by_outcome outcome.Ends none k s t sees = absurd (let bad = none s (with_tasks t rest) (holds s t rest sees) in cc)
       by_outcome outcome.Returned none k s t sees = absurd (let bad = none s (with_tasks t rest) (holds s t rest sees) in cc)
       by_outcome (outcome.Trapped trap line) none k s t sees = absurd (let bad = none s (with_tasks t rest) (holds s t rest sees) in cc)
       by_outcome outcome.Impossible none k s t sees = refl
@@ -161,7 +161,7 @@ module _ (unit : SourceUnit) (w : World) (old begun : Activation) (begun_task af
     left_in (outcome.SetsElement x i z) leaves a = set (outcome.SetsElement x i z) leaves (left_with None a.task a.rest a.outer) a.variables
     left_in (outcome.Makes T x n) leaves a = set (outcome.Makes T x n) leaves (left_with None a.task a.rest a.outer) a.variables
     left_in (outcome.Enters statements e) leaves a = kept Quiet ((tasks_of_statements statements.now ++ end_view e ∷ []) ++ rest) leaves (entered statements e a.task a.rest a.outer) a.variables
-    left_in outcome.Over leaves a = kept Quiet rest leaves (left_with None a.task a.rest a.outer) a.variables
+    left_in outcome.Ends leaves a = kept Quiet rest leaves (left_with None a.task a.rest a.outer) a.variables
     left_in outcome.Returned leaves a = refl
     left_in (outcome.Trapped trap line) leaves a = kept (Trapped (trap_view trap) line) (task_view after ∷ rest) leaves (left_with (Some after) a.task a.rest a.outer) a.variables
     left_in outcome.Impossible leaves a = refl
@@ -196,7 +196,7 @@ module _ (begun new : Activation) (after : TaskInMemory) (variables : Vec Variab
   range_after (outcome.Enters statements e) h a =
       let o : Outer = record { end = e; rest = begun.rest } in
       built None statements (begun.outer.items ++ o ∷ []) a.task a.rest a.outer tt h.0 (outer_joined begun.outer.items o known.outer h.1 known.rest)
-  range_after outcome.Over h a = built None begun.rest begun.outer.items a.task a.rest a.outer tt known.rest known.outer
+  range_after outcome.Ends h a = built None begun.rest begun.outer.items a.task a.rest a.outer tt known.rest known.outer
   range_after outcome.Returned h a = built (Some after) begun.rest begun.outer.items a.task a.rest a.outer known_after known.rest known.outer
   range_after (outcome.Trapped trap line) h a = built (Some after) begun.rest begun.outer.items a.task a.rest a.outer known_after known.rest known.outer
   range_after outcome.Impossible h a = built (Some after) begun.rest begun.outer.items a.task a.rest a.outer known_after known.rest known.outer
@@ -224,7 +224,7 @@ module _ (unit : SourceUnit) (w : World) (old new : Activation) (idle : old.task
     left p begun = left_is new p o.rest.now os begun (ap (λ (b : Bor (List Stmt)). b.now) rest) rest_of
 
     -- after an `if`
-    pub if_over : o.end ≡ end.If → new.task ≡ None → Advances unit w old outcome.Over new
+    pub if_over : o.end ≡ end.If → new.task ≡ None → Advances unit w old outcome.Ends new
     if_over is none = λ lent k s t sees has.
         ap (λ (ts : List Task). step_within unit w.classes lent k s t false (Some ts)) (at_end ∙ ap (λ (e : End). end_view e ∷ after) is)
         ∙ goes after s t sees.variables (left None none)

@@ -31,7 +31,7 @@ use Rattle.replay.specs.declared.sight.Indexed.{Indexed}
 use Rattle.replay.specs.declared.value.Value.{Value as ValueInMemory}
 use Rattle.replay.specs.declared.value.Value.TheVariants as value
 use Rattle.replay.specs.declared.task.Task.{Task as TaskInMemory}
-use Rattle.replay.specs.Steps.{effect_by, HasEffect, Sees, left_by, Does, worked}
+use Rattle.replay.specs.Steps.{effect_by, HasEffect, Sees, left_by, Does, reduced}
 use Rattle.replay.specs.declared.task.Task.TheVariants as task
 use Rattle.replay.specs.Tasks.{task_view, branch_task, else_tree, tasks_of_statements}
 use Rattle.replay.specs.Views.{value_view, indexed_view, term_view, trap_view, place_in, Reduces}
@@ -63,7 +63,7 @@ module _ (w : World) (vs : Variables) (ss : Statics) (old new : TaskInMemory) wh
   does (outcome.SetsElement x i z) h = by_effect (outcome.SetsElement x i z) h (λ lent k s t rest has. refl)
   does (outcome.Makes T x n) h = by_effect (outcome.Makes T x n) h (λ lent k s t rest has. refl)
   does (outcome.Enters statements e) h = by_effect (outcome.Enters statements e) h (λ lent k s t rest has. refl)
-  does outcome.Over h = by_effect outcome.Over h (λ lent k s t rest has. refl)
+  does outcome.Ends h = by_effect outcome.Ends h (λ lent k s t rest has. refl)
   does outcome.Returned h = by_effect outcome.Returned h (λ lent k s t rest has. refl)
   does (outcome.Trapped trap line) h = by_effect (outcome.Trapped trap line) h.0 (λ lent k s t rest has.
       ap (λ (u : Thread). Advances s u (Trapped (trap_view trap) line)) (same_thread t (task_view old ∷ rest) has)
@@ -90,13 +90,13 @@ no_value (term.And' p s q t) none sight line use_value whole = refl
 no_value (term.Or' p s q t) none sight line use_value whole = refl
 no_value (term.Binary' op p s q t) none sight line use_value whole = refl
 
--- the task at a term works as the term does
-pub works : (vs : Variables) (ss : Statics) (line : ℕ) (at : Term → TaskInMemory) (whole : tree.Term → Task) → ((t : Term) → task_view (at t) ≡ whole (term_view t))
+-- the task at a term is reduced as the term is
+pub reduces : (vs : Variables) (ss : Statics) (line : ℕ) (at : Term → TaskInMemory) (whole : tree.Term → Task) → ((t : Term) → task_view (at t) ≡ whole (term_view t))
     → (old new : Term) (took : Reduction) → ((heap : Heap) → effect_of (seen vs ss heap) (task_view (at old)) ≡ goes_on line whole (reduce (seen vs ss heap) (term_view old)))
-    → Reduces vs ss old took new → HasEffect vs ss (at old) (worked line took) (at new)
-works vs ss line at whole is old new reduction.Reduced goes step = λ heap. goes heap ∙ ap (goes_on line whole) (step heap) ∙ ap (λ (u : Task). Becomes (u ∷ [])) (sym (is new))
-works vs ss line at whole is old new (reduction.Trapped trap) goes step = (λ heap. goes heap ∙ ap (goes_on line whole) (step.0 heap), ap at step.1)
-works vs ss line at whole is old new reduction.Stuck goes step = λ heap. goes heap ∙ ap (goes_on line whole) (step heap)
+    → Reduces vs ss old took new → HasEffect vs ss (at old) (reduced line took) (at new)
+reduces vs ss line at whole is old new reduction.Reduced goes step = λ heap. goes heap ∙ ap (goes_on line whole) (step heap) ∙ ap (λ (u : Task). Becomes (u ∷ [])) (sym (is new))
+reduces vs ss line at whole is old new (reduction.Trapped trap) goes step = (λ heap. goes heap ∙ ap (goes_on line whole) (step.0 heap), ap at step.1)
+reduces vs ss line at whole is old new reduction.Stuck goes step = λ heap. goes heap ∙ ap (goes_on line whole) (step heap)
 
 -- ---- elements
 
@@ -130,7 +130,7 @@ block_tasks b = tasks_of-statements (out-Block b).statements.items (out-Block b)
 pub way_entered : (statements : List StmtInMemory) (b : Block) (end' : Task) → tasks_of_statements statements ≡ tasks_of b → Becomes (tasks_of b ++ end' ∷ []) ≡ Becomes (tasks_of_statements statements ++ end' ∷ [])
 way_entered statements b end' same = ap (λ (ts : List Task). Becomes (ts ++ end' ∷ [])) (sym same)
 
--- a constant is worked out, or it is NULL
+-- a constant is evaluated, or it is NULL
 pub constant_returned : (sight : Sight) (line : ℕ) (c : Constant) → return_effect sight line (tree.Named (constant_tree c)) ≡ returned_name line (tree.constant (constant_tree c))
 constant_returned sight line constant.True = refl
 constant_returned sight line constant.False = refl
@@ -140,50 +140,50 @@ constant_returned sight line constant.Null = refl
 
 pub ruleset return_rules = (constant_returned)
 
--- all else but a name is worked out
-worked_out : (sight : Sight) (line : ℕ) (t : Term) → ((v : ValueInMemory) → t ≡ term.Done v → ⊥) → ((c : Constant) → t ≡ term.Named c → ⊥) → ((x : List ℕ) → t ≡ term.Read x → ⊥)
+-- all else but a name is evaluated
+no_name_returned : (sight : Sight) (line : ℕ) (t : Term) → ((v : ValueInMemory) → t ≡ term.Done v → ⊥) → ((c : Constant) → t ≡ term.Named c → ⊥) → ((x : List ℕ) → t ≡ term.Read x → ⊥)
     → return_effect sight line (term_view t) ≡ goes_on line (ReturnValue line) (reduce sight (term_view t))
-worked_out sight line (term.Done v) none no_constant no_name = absurd (none v refl)
-worked_out sight line (term.Number n unsigned) none no_constant no_name = refl
-worked_out sight line (term.Named c) none no_constant no_name = absurd (no_constant c refl)
-worked_out sight line (term.Read x) none no_constant no_name = absurd (no_name x refl)
-worked_out sight line (term.Element' x p i) none no_constant no_name = refl
-worked_out sight line (term.IsNull wanted x) none no_constant no_name = refl
-worked_out sight line (term.Prefix' op p t) none no_constant no_name = refl
-worked_out sight line (term.And' p s q t) none no_constant no_name = refl
-worked_out sight line (term.Or' p s q t) none no_constant no_name = refl
-worked_out sight line (term.Binary' op p s q t) none no_constant no_name = refl
+no_name_returned sight line (term.Done v) none no_constant no_name = absurd (none v refl)
+no_name_returned sight line (term.Number n unsigned) none no_constant no_name = refl
+no_name_returned sight line (term.Named c) none no_constant no_name = absurd (no_constant c refl)
+no_name_returned sight line (term.Read x) none no_constant no_name = absurd (no_name x refl)
+no_name_returned sight line (term.Element' x p i) none no_constant no_name = refl
+no_name_returned sight line (term.IsNull wanted x) none no_constant no_name = refl
+no_name_returned sight line (term.Prefix' op p t) none no_constant no_name = refl
+no_name_returned sight line (term.And' p s q t) none no_constant no_name = refl
+no_name_returned sight line (term.Or' p s q t) none no_constant no_name = refl
+no_name_returned sight line (term.Binary' op p s q t) none no_constant no_name = refl
 
 -- ---- tasks at terms
 
 module _ (vs : Variables) (ss : Statics) (line : ℕ) (old new : Term) (took : Reduction) (none : (v : ValueInMemory) → old ≡ term.Done v → ⊥) (step : Reduces vs ss old took new) where
-  pub print_works : HasEffect vs ss (task.Print line old) (worked line took) (task.Print line new)
-  print_works = works vs ss line (task.Print line) (Print line) (λ t. refl) old new took (λ heap. no_value old none (seen vs ss heap) line print_effect (Print line)) step
+  pub print_reduces : HasEffect vs ss (task.Print line old) (reduced line took) (task.Print line new)
+  print_reduces = reduces vs ss line (task.Print line) (Print line) (λ t. refl) old new took (λ heap. no_value old none (seen vs ss heap) line print_effect (Print line)) step
 
-  pub set_works : (x : Bor Identifier) → HasEffect vs ss (task.Set line x old) (worked line took) (task.Set line x new)
-  set_works x = works vs ss line (task.Set line x) (SetScalar line x.now) (λ t. refl) old new took (λ heap. no_value old none (seen vs ss heap) line (Sets x.now) (SetScalar line x.now)) step
+  pub set_reduces : (x : Bor Identifier) → HasEffect vs ss (task.Set line x old) (reduced line took) (task.Set line x new)
+  set_reduces x = reduces vs ss line (task.Set line x) (SetScalar line x.now) (λ t. refl) old new took (λ heap. no_value old none (seen vs ss heap) line (Sets x.now) (SetScalar line x.now)) step
 
-  pub index_works : (x : Bor Identifier) (t : Term) → HasEffect vs ss (task.SetElement line x old t) (worked line took) (task.SetElement line x new t)
-  index_works x t =
-      works vs ss line (λ u. task.SetElement line x u t) (λ u. SetElement line x.now u (term_view t)) (λ u. refl) old new took
+  pub index_reduces : (x : Bor Identifier) (t : Term) → HasEffect vs ss (task.SetElement line x old t) (reduced line took) (task.SetElement line x new t)
+  index_reduces x t =
+      reduces vs ss line (λ u. task.SetElement line x u t) (λ u. SetElement line x.now u (term_view t)) (λ u. refl) old new took
       (λ heap. no_value old none (seen vs ss heap) line
       (λ v. with_value (seen vs ss heap) line (element_effect (seen vs ss heap) line x.now v) (SetElement line x.now (tree.Done v)) (term_view t)) (λ u. SetElement line x.now u (term_view t))) step
 
-  pub element_works : (x : Bor Identifier) (i : ValueInMemory) → HasEffect vs ss (task.SetElement line x (term.Done i) old) (worked line took) (task.SetElement line x (term.Done i) new)
-  element_works x i =
-      works vs ss line (task.SetElement line x (term.Done i)) (SetElement line x.now (tree.Done (value_view i))) (λ u. refl) old new took
+  pub element_reduces : (x : Bor Identifier) (i : ValueInMemory) → HasEffect vs ss (task.SetElement line x (term.Done i) old) (reduced line took) (task.SetElement line x (term.Done i) new)
+  element_reduces x i =
+      reduces vs ss line (task.SetElement line x (term.Done i)) (SetElement line x.now (tree.Done (value_view i))) (λ u. refl) old new took
       (λ heap. no_value old none (seen vs ss heap) line (element_effect (seen vs ss heap) line x.now (value_view i)) (SetElement line x.now (tree.Done (value_view i)))) step
 
-  pub branch_works : (b : Bor BlockInMemory) (other : Option (Bor BlockInMemory)) → HasEffect vs ss (branch_task line old b other) (worked line took) (branch_task line new b other)
-  branch_works b other =
-      works vs ss line (λ u. branch_task line u b other) (λ u. Branch line u (block_tree b.now) (else_tree line other)) (λ u. refl) old new took
+  pub branch_reduces : (b : Bor BlockInMemory) (other : Option (Bor BlockInMemory)) → HasEffect vs ss (branch_task line old b other) (reduced line took) (branch_task line new b other)
+  branch_reduces b other =
+      reduces vs ss line (λ u. branch_task line u b other) (λ u. Branch line u (block_tree b.now) (else_tree line other)) (λ u. refl) old new took
       (λ heap. no_value old none (seen vs ss heap) line (branch_effect (block_tree b.now) (else_tree line other)) (λ u. Branch line u (block_tree b.now) (else_tree line other))) step
 
-  pub loop_works : (test : Bor ExprInMemory) (body : Bor BlockInMemory) → HasEffect vs ss (task.Loop line test old body) (worked line took) (task.Loop line test new body)
-  loop_works test body =
-      works vs ss line (λ u. task.Loop line test u body) (λ u. Loop line (expr_tree test.now) u (block_tree body.now)) (λ u. refl) old new took
+  pub loop_reduces : (test : Bor ExprInMemory) (body : Bor BlockInMemory) → HasEffect vs ss (task.Loop line test old body) (reduced line took) (task.Loop line test new body)
+  loop_reduces test body =
+      reduces vs ss line (λ u. task.Loop line test u body) (λ u. Loop line (expr_tree test.now) u (block_tree body.now)) (λ u. refl) old new took
       (λ heap. no_value old none (seen vs ss heap) line (loop_effect line (expr_tree test.now) (block_tree body.now)) (λ u. Loop line (expr_tree test.now) u (block_tree body.now))) step
 
-  pub return_works : ((c : Constant) → old ≡ term.Named c → ⊥) → ((x : List ℕ) → old ≡ term.Read x → ⊥) → HasEffect vs ss (task.ReturnValue line old) (worked line took) (task.ReturnValue line new)
-  return_works no_constant no_name =
-      works vs ss line (task.ReturnValue line) (ReturnValue line) (λ t. refl) old new took (λ heap. worked_out (seen vs ss heap) line old none no_constant no_name) step
+  pub return_reduces : ((c : Constant) → old ≡ term.Named c → ⊥) → ((x : List ℕ) → old ≡ term.Read x → ⊥) → HasEffect vs ss (task.ReturnValue line old) (reduced line took) (task.ReturnValue line new)
+  return_reduces no_constant no_name =
+      reduces vs ss line (task.ReturnValue line) (ReturnValue line) (λ t. refl) old new took (λ heap. no_name_returned (seen vs ss heap) line old none no_constant no_name) step

@@ -142,7 +142,7 @@ inside (term.Or' p s q t) no_value use_value whole step = refl
 inside (term.Binary' op p s q t) no_value use_value whole step = refl
 
 module _ (vs : Variables) (ss : Statics) where
-  -- what was worked out stands in its place
+  -- the value takes its place
   pub replaced : (old new : Term) (value : Evaluated) (took : ReductionInMemory) → IsReplaced old value took new
       → ((heap : Heap) → reduce (seen vs ss heap) (term_view old) ≡ done (evaluated_view value)) → Reduces vs ss old took new
   replaced old new (evaluated.Gives v) took is value = rw (is.0, is.1) value

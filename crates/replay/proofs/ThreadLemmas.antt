@@ -87,7 +87,7 @@ module _ (unit : SourceUnit) (w : World) (shared : Shared) (lent : BuffersInUse)
     goes (outcome.SetsElement x i z) other does = on Quiet (advances_so (outcome.SetsElement x i z) does)
     goes (outcome.Makes T x n) other does = on Quiet (advances_so (outcome.Makes T x n) does)
     goes (outcome.Enters statements e) other does = on Quiet (advances_so (outcome.Enters statements e) does)
-    goes outcome.Over other does = on Quiet (advances_so outcome.Over does)
+    goes outcome.Ends other does = on Quiet (advances_so outcome.Ends does)
     goes outcome.Returned other does = absurd (other refl)
     goes (outcome.Trapped trap line) other does = on (Trapped (trap_view trap) line) (advances_so (outcome.Trapped trap line) does)
     goes outcome.Impossible other does = advances_so outcome.Impossible does

@@ -35,11 +35,11 @@ abbrev pub length_outcome : ℕ → TargetInMemory → Option ℕ → Outcome
 length_outcome line to None = outcome.Trapped trap.WrongObject line
 length_outcome line to (Some n) = outcome.Puts to (pos n)
 
--- what was done of a term that has no value yet
-abbrev pub worked : ℕ → ReductionInMemory → Outcome
-worked line reduction.Reduced = outcome.Stays
-worked line (reduction.Trapped trap) = outcome.Trapped trap line
-worked line reduction.Stuck = outcome.Impossible
+-- what a step does that reduces a term, which has no value yet
+abbrev pub reduced : ℕ → ReductionInMemory → Outcome
+reduced line reduction.Reduced = outcome.Stays
+reduced line (reduction.Trapped trap) = outcome.Trapped trap line
+reduced line reduction.Stuck = outcome.Impossible
 
 -- the effect of a step that left this task
 abbrev pub effect_by : Outcome → TaskInMemory → Effect
@@ -51,7 +51,7 @@ effect_by (outcome.Puts to z) new = NoEffect
 effect_by (outcome.SetsElement x i z) new = SetsElement x.now i z
 effect_by (outcome.Makes T x n) new = MakesArray (element_tree T) x.now n
 effect_by (outcome.Enters statements e) new = Becomes (tasks_of_statements statements.now ++ end_view e ∷ [])
-effect_by outcome.Over new = Becomes []
+effect_by outcome.Ends new = Becomes []
 effect_by outcome.Returned new = Returns
 effect_by (outcome.Trapped trap line) new = TrapsAt (trap_view trap) line
 effect_by outcome.Impossible new = NoEffect
@@ -75,7 +75,7 @@ abbrev pub left_by : (k : ℕ) → Shared → Thread → List Task → Outcome �
 left_by k s t rest outcome.Stays new = Advances s (with_tasks t (task_view new ∷ rest)) Quiet
 left_by k s t rest (outcome.Printed z) new = Advances s (with_tasks t rest) (PrintedNumber z)
 left_by k s t rest (outcome.Enters statements e) new = Advances s (with_tasks t ((tasks_of_statements statements.now ++ end_view e ∷ []) ++ rest)) Quiet
-left_by k s t rest outcome.Over new = Advances s (with_tasks t rest) Quiet
+left_by k s t rest outcome.Ends new = Advances s (with_tasks t rest) Quiet
 left_by k s t rest outcome.Returned new = return_step k s t
 left_by k s t rest (outcome.Trapped trap line) new = Advances s (with_tasks t (task_view new ∷ rest)) (Trapped (trap_view trap) line)
 left_by k s t rest outcome.Impossible new = NoAdvance

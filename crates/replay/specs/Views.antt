@@ -131,7 +131,7 @@ IsLeaf (term.IsNull wanted x) = Unit {0}
 IsLeaf (term.Done v) = Unit {0}
 IsLeaf t = ⊥
 
--- what was worked out stands in the place of a term, if there is a value
+-- the value takes the place of a term, if there is one
 abbrev pub IsReplaced : TermInMemory → Evaluated → ReductionInMemory → TermInMemory → Type 0
 IsReplaced old (evaluated.Gives v) took new = (took ≡ reduction.Reduced) × (new ≡ term.Done v)
 IsReplaced old (evaluated.Traps trap) took new = (took ≡ reduction.Trapped trap) × (new ≡ old)

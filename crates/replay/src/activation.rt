@@ -77,7 +77,7 @@ fn leave_block<'a>(
     };
     activation.rest = outer.rest;
     match outer.end {
-        End::If => Ok(Outcome::Over),
+        End::If => Ok(Outcome::Ends),
         End::Turn(line, test, body) => {
             let term = term_of(alloc, test)?;
             put_task(
@@ -107,7 +107,7 @@ fn set_tasks<'a>(activation: &mut Activation<'a>, outcome: Outcome<'a>) -> Resul
         Outcome::Puts(_, _) | Outcome::SetsElement(_, _, _) => {
             put_task(&mut activation.task, None);
         }
-        Outcome::Makes(_, _, _) | Outcome::Over => put_task(&mut activation.task, None),
+        Outcome::Makes(_, _, _) | Outcome::Ends => put_task(&mut activation.task, None),
     }
     Ok(())
 }

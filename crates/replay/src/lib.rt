@@ -23,6 +23,3 @@ mod variable;
 
 pub use fault::ReplayFault;
 pub use journal::replay;
-
-#[cfg(test)]
-mod tests;

@@ -40,7 +40,7 @@ pub(crate) enum End<'a> {
 /// What a step of a task did.
 #[derive(Clone, Copy, Debug)]
 pub(crate) enum Outcome<'a> {
-    /// A part of it was worked out.
+    /// A part of it was reduced.
     Stays,
     /// It is over, and this number was printed.
     Printed(i32),
@@ -56,8 +56,8 @@ pub(crate) enum Outcome<'a> {
     Makes(ElementType, &'a Name, u32),
     /// It is over, and these statements are to do, up to this end.
     Enters(&'a [Stmt], End<'a>),
-    /// It is over.
-    Over,
+    /// It is over: a way of an `if` has ended, or a loop.
+    Ends,
     /// The call is over.
     Returned,
     /// The machine stops, by a statement of this line.

@@ -135,7 +135,7 @@ pub(crate) fn set_variables<'a>(
         Outcome::SetsElement(name, index, number) => {
             return Ok(set_element(variables, name, index, number));
         }
-        Outcome::Stays | Outcome::Printed(_) | Outcome::Enters(_, _) | Outcome::Over => {}
+        Outcome::Stays | Outcome::Printed(_) | Outcome::Enters(_, _) | Outcome::Ends => {}
         Outcome::Returned | Outcome::Trapped(_, _) | Outcome::Impossible => {}
     }
     Ok(true)

@@ -9,7 +9,7 @@ ghost use Rattle.regions.specs.Term.{Term as TermOfTree, and_then, or_else, done
 ghost use Rattle.replay.specs.Views.{value_view, evaluated_view, term_view, variables_view, NumbersInRange, decided, IsLeaf, IsReplaced, Reduces};
 
 use crate::sight::{element_in, null_value, number_in};
-use crate::term::Term;
+use crate::term::{Term, put_term};
 use crate::trap::Trap;
 use crate::value::{Evaluated, Value, binary_value, constant, literal, prefix_value};
 use crate::variable::Variable;
@@ -106,7 +106,8 @@ pub(crate) fn reduce(items: &[Item], variables: &[Variable<'_>], term: &mut Term
             Term::Done(v) => match and_then(*v) {
                 Some(value) => value,
                 None => {
-                    *term = take(b);
+                    let right = take(b);
+                    put_term(term, right);
                     return Reduction::Reduced;
                 }
             },
@@ -116,7 +117,8 @@ pub(crate) fn reduce(items: &[Item], variables: &[Variable<'_>], term: &mut Term
             Term::Done(v) => match or_else(*v) {
                 Some(value) => value,
                 None => {
-                    *term = take(b);
+                    let right = take(b);
+                    put_term(term, right);
                     return Reduction::Reduced;
                 }
             },

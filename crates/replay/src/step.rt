@@ -8,7 +8,7 @@ ghost use Rattle.regions.specs.Task.{tasks_of};
 ghost use Rattle.regions.specs.Variable.{Statics};
 ghost use Rattle.replay.specs.declared.task.Task.TheVariants as task;
 ghost use Rattle.replay.specs.declared.term.Term.TheVariants as term;
-ghost use Rattle.replay.specs.Steps.{HasEffect, Does, worked};
+ghost use Rattle.replay.specs.Steps.{HasEffect, Does, reduced};
 ghost use Rattle.replay.specs.Tasks.{branch_task, else_tree, tasks_of_statements, ExprInRange, BlockInRange, ElseInRange, StatementsInRange, TaskInRange, OutcomeInRange};
 ghost use Rattle.replay.specs.Views.{NumbersInRange, variables_view};
 
@@ -17,16 +17,16 @@ use crate::outcome::{End, Outcome};
 use crate::reduce::{Reduction, reduce};
 use crate::sight::{Indexed, number_in, place_in};
 use crate::task::Task;
-use crate::term::Term;
+use crate::term::{Term, put_term};
 use crate::value::{Evaluated, Value, constant};
 use crate::variable::Variable;
 use std::alloc::AllocError;
 use syntax::{Block, Expr, Item, Name, Stmt};
 use world::World;
 
-/// What was done of a term that has no value yet.
-fn worked<'a>(line: usize, reduction: Reduction) -> Outcome<'a>
-    ensures view { result ≡ worked line reduction }
+/// What a step does that reduces a term, which has no value yet.
+fn reduced<'a>(line: usize, reduction: Reduction) -> Outcome<'a>
+    ensures view { result ≡ reduced line reduction }
     ensures range { OutcomeInRange result }
 {
     match reduction {
@@ -36,7 +36,7 @@ fn worked<'a>(line: usize, reduction: Reduction) -> Outcome<'a>
     }
 }
 
-/// Works a number out, or prints it.
+/// Evaluates a number by one step, or prints it.
 fn print<'a>(items: &[Item], variables: &[Variable<'_>], line: usize, t: &mut Term) -> Outcome<'a>
     requires { NumbersInRange t.old }
     ensures step { HasEffect (variables_view variables.now) (null_statics (unit_tree items.now)) (task.Print line t.old) result (task.Print line t.new) }
@@ -48,11 +48,11 @@ fn print<'a>(items: &[Item], variables: &[Variable<'_>], line: usize, t: &mut Te
             Value::Int(z) => Outcome::Printed(*z),
             Value::Word(_) | Value::Flag(_) | Value::Truth(_) => Outcome::Impossible,
         },
-        t => worked(line, reduce(items, variables, t)),
+        t => reduced(line, reduce(items, variables, t)),
     }
 }
 
-/// Works a value out, or sets a variable to it.
+/// Evaluates an expression by one step, or sets a variable to its value.
 fn set<'a>(
     items: &[Item],
     variables: &[Variable<'_>],
@@ -67,11 +67,11 @@ fn set<'a>(
 {
     match t {
         Term::Done(v) => Outcome::Sets(name, *v),
-        t => worked(line, reduce(items, variables, t)),
+        t => reduced(line, reduce(items, variables, t)),
     }
 }
 
-/// Sets an element whose index and number are worked out.
+/// Sets an element whose index and number have their values.
 fn write<'a>(
     variables: &[Variable<'_>],
     line: usize,
@@ -92,7 +92,27 @@ fn write<'a>(
     }
 }
 
-/// Works the index or the number of an element out, or sets it.
+/// Evaluates the number of an element by one step, or sets the element at this index.
+fn set_at<'a>(
+    items: &[Item],
+    variables: &[Variable<'_>],
+    line: usize,
+    name: &'a Name,
+    index: Value,
+    t: &mut Term,
+) -> Outcome<'a>
+    requires { NumbersInRange t.old }
+    ensures step { HasEffect (variables_view variables.now) (null_statics (unit_tree items.now)) (task.SetElement line name.entry (term.Done index) t.old) result (task.SetElement line name.entry (term.Done index) t.new) }
+    ensures number { NumbersInRange t.new }
+    ensures range { OutcomeInRange result }
+{
+    match t {
+        Term::Done(number) => write(variables, line, name, index, *number),
+        t => reduced(line, reduce(items, variables, t)),
+    }
+}
+
+/// Evaluates the index or the number of an element by one step, or sets it.
 fn set_element<'a>(
     items: &[Item],
     variables: &[Variable<'_>],
@@ -109,11 +129,8 @@ fn set_element<'a>(
     ensures range { OutcomeInRange result }
 {
     match i {
-        Term::Done(index) => match t {
-            Term::Done(number) => write(variables, line, name, *index, *number),
-            t => worked(line, reduce(items, variables, t)),
-        },
-        i => worked(line, reduce(items, variables, i)),
+        Term::Done(index) => set_at(items, variables, line, name, *index, t),
+        i => reduced(line, reduce(items, variables, i)),
     }
 }
 
@@ -129,7 +146,7 @@ fn statements_of<'a>(block: Option<&'a Block>) -> &'a [Stmt]
     }
 }
 
-/// Works the test of an `if` out, or takes a way.
+/// Evaluates the test of an `if` by one step, or takes a way.
 fn branch<'a>(
     items: &[Item],
     variables: &[Variable<'_>],
@@ -151,11 +168,11 @@ fn branch<'a>(
             Value::Truth(false) => Outcome::Enters(statements_of(otherwise), End::If),
             Value::Word(_) | Value::Int(_) | Value::Flag(_) => Outcome::Impossible,
         },
-        t => worked(line, reduce(items, variables, t)),
+        t => reduced(line, reduce(items, variables, t)),
     }
 }
 
-/// Works the test of a loop out, or takes a turn, or goes on after it.
+/// Evaluates the test of a loop by one step, or takes a turn, or goes on after it.
 fn turn<'a>(
     items: &[Item],
     variables: &[Variable<'_>],
@@ -176,14 +193,14 @@ fn turn<'a>(
             Value::Truth(true) => {
                 Outcome::Enters(statements_of(Some(body)), End::Turn(line, test, body))
             }
-            Value::Truth(false) => Outcome::Over,
+            Value::Truth(false) => Outcome::Ends,
             Value::Word(_) | Value::Int(_) | Value::Flag(_) => Outcome::Impossible,
         },
-        t => worked(line, reduce(items, variables, t)),
+        t => reduced(line, reduce(items, variables, t)),
     }
 }
 
-/// Works a value out, or returns it. A name of a number is worked out, and NULL or a reference is returned as it is.
+/// Evaluates a result by one step, or returns it. A name of a number is evaluated; NULL or a reference is returned as it is.
 #[tactic(auto, using(crate::proofs::TaskLemmas::return_rules))]
 fn return_value<'a>(
     items: &[Item],
@@ -200,19 +217,19 @@ fn return_value<'a>(
         Term::Done(_) => Outcome::Returned,
         Term::Named(c) => match constant(*c) {
             Evaluated::Gives(value) => {
-                *t = Term::Done(value);
+                put_term(t, Term::Done(value));
                 Outcome::Stays
             }
             Evaluated::Traps(_) | Evaluated::Stuck => Outcome::Returned,
         },
         Term::Read(name) => match number_in(variables, name) {
             Evaluated::Gives(value) => {
-                *t = Term::Done(value);
+                put_term(t, Term::Done(value));
                 Outcome::Stays
             }
             Evaluated::Traps(_) | Evaluated::Stuck => Outcome::Returned,
         },
-        t => worked(line, reduce(items, variables, t)),
+        t => reduced(line, reduce(items, variables, t)),
     }
 }
 

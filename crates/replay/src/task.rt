@@ -2,7 +2,8 @@
 
 ghost use Rattle.std.specs.Prelude.{◌≡◌, IfOk};
 ghost use Rattle.syntax.specs.Views.{stmt_tree, expr_tree, right_side_tree, test_tree, block_tree};
-ghost use Rattle.regions.specs.Task.{Declared, set_task, right_side_task, if_task, task_of};
+ghost use Rattle.regions.specs.Task.{Declared, SetElement, set_task, right_side_task, if_task, task_of};
+ghost use Rattle.regions.specs.Term.{term_of};
 ghost use Rattle.replay.specs.Outcomes.{kind_view, target_view};
 ghost use Rattle.replay.specs.Tasks.{task_view, else_tree, ExprInRange, RightSideInRange, TestInRange, BlockInRange, ElseInRange, StatementInRange, TaskInRange};
 
@@ -122,6 +123,24 @@ fn declaration<'a>(
     set_task(alloc, line, Target::Declared(kind, name), name, right)
 }
 
+/// The task that sets an element.
+fn element_task<'a>(
+    alloc: Global,
+    line: usize,
+    name: &'a Name,
+    index: &Expr,
+    e: &Expr,
+) -> Result<Task<'a>, AllocError>
+    requires index { ExprInRange (expr_tree index.now) }
+    requires number { ExprInRange (expr_tree e.now) }
+    ensures view { IfOk result (λ t. task_view t ≡ SetElement line name.entry.now (term_of (expr_tree index.now)) (term_of (expr_tree e.now))) }
+    ensures range { IfOk result TaskInRange }
+{
+    let index = term_of(alloc, index)?;
+    let number = term_of(alloc, e)?;
+    Ok(Task::SetElement(line, name, index, number))
+}
+
 /// The task that a statement begins as.
 pub(crate) fn task_of(alloc: Global, s: &Stmt) -> Result<Task<'_>, AllocError>
     requires { StatementInRange s.now }
@@ -129,10 +148,10 @@ pub(crate) fn task_of(alloc: Global, s: &Stmt) -> Result<Task<'_>, AllocError>
     ensures range { IfOk result TaskInRange }
 {
     let line = s.line;
-    let task = match &s.form {
-        Form::Declare(t, x, right) => declaration(alloc, line, kind_of(*t), x, right)?,
+    match &s.form {
+        Form::Declare(t, x, right) => declaration(alloc, line, kind_of(*t), x, right),
         Form::DeclareBuffer(t, x, right) => {
-            declaration(alloc, line, VariableKind::Buffer(*t), x, right)?
+            declaration(alloc, line, VariableKind::Buffer(*t), x, right)
         }
         Form::DeclareChars(x, right) => {
             declaration(
@@ -141,24 +160,20 @@ pub(crate) fn task_of(alloc: Global, s: &Stmt) -> Result<Task<'_>, AllocError>
                 VariableKind::Buffer(ElementType::Jchar),
                 x,
                 right,
-            )?
+            )
         }
-        Form::DeclareArray(t, x, size) => Task::MakeArray(*t, x, *size),
-        Form::Assign(x, right) => set_task(alloc, line, Target::Assigned(x), x, right)?,
-        Form::AssignElement(x, i, e) => {
-            Task::SetElement(line, x, term_of(alloc, i)?, term_of(alloc, e)?)
+        Form::DeclareArray(t, x, size) => Ok(Task::MakeArray(*t, x, *size)),
+        Form::Assign(x, right) => set_task(alloc, line, Target::Assigned(x), x, right),
+        Form::AssignElement(x, i, e) => element_task(alloc, line, x, i, e),
+        Form::Perform(call) => {
+            let target = Target::Dropped;
+            Ok(Task::Invoke(Invocation { line, target, call }))
         }
-        Form::Perform(call) => Task::Invoke(Invocation {
-            line,
-            target: Target::Dropped,
-            call,
-        }),
-        Form::PutJint(e) => Task::Print(line, term_of(alloc, e)?),
-        Form::If(test, block) => if_task(alloc, line, test, block, None)?,
-        Form::IfElse(test, block, other) => if_task(alloc, line, test, block, Some(other))?,
-        Form::While(test, body) => Task::Loop(line, test, term_of(alloc, test)?, body),
-        Form::Return(None) => Task::Return,
-        Form::Return(Some(e)) => Task::ReturnValue(line, term_of(alloc, e)?),
-    };
-    Ok(task)
+        Form::PutJint(e) => Ok(Task::Print(line, term_of(alloc, e)?)),
+        Form::If(test, block) => if_task(alloc, line, test, block, None),
+        Form::IfElse(test, block, other) => if_task(alloc, line, test, block, Some(other)),
+        Form::While(test, body) => Ok(Task::Loop(line, test, term_of(alloc, test)?, body)),
+        Form::Return(None) => Ok(Task::Return),
+        Form::Return(Some(e)) => Ok(Task::ReturnValue(line, term_of(alloc, e)?)),
+    }
 }

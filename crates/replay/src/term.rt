@@ -30,6 +30,13 @@ pub(crate) enum Term {
     Binary(BinaryOp, Box<Term>, Box<Term>),
 }
 
+/// Puts a term in the place of another.
+pub(crate) fn put_term(place: &mut Term, term: Term)
+    ensures { place.new ≡ term }
+{
+    *place = term;
+}
+
 /// The name that a comparison with NULL tests, and whether for NULL.
 #[tactic(auto, using(crate::proofs::TermLemmas::comparison_rules))]
 fn null_test<'a>(op: BinaryOp, a: &'a Expr, b: &Expr) -> Option<(bool, &'a Name)>

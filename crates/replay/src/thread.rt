@@ -127,6 +127,13 @@ fn entry_variables<'a>(
     Ok(variables)
 }
 
+/// Puts a call, or none, in the place of the one in progress.
+fn put_activation<'a>(place: &mut Option<Activation<'a>>, activation: Option<Activation<'a>>)
+    ensures { place.new ≡ activation.entry }
+{
+    *place = activation;
+}
+
 /// Enters the next call.
 fn enter<'a>(
     alloc: Global,
@@ -151,12 +158,13 @@ fn enter<'a>(
     };
     let variables = entry_variables(alloc, function, class, call.arguments())?;
     thread.calls = rest;
-    thread.activation = Some(Activation {
+    let activation = Activation {
         task: None,
         rest: &function.body.statements,
         outer: Vec::new(alloc),
         variables,
-    });
+    };
+    put_activation(&mut thread.activation, Some(activation));
     Ok(Step::Quiet)
 }
 
@@ -168,7 +176,7 @@ fn step_of(outcome: Outcome<'_>) -> Step
         Outcome::Stays | Outcome::Sets(_, _) | Outcome::SetsNull(_) => Step::Quiet,
         Outcome::Puts(_, _) | Outcome::SetsElement(_, _, _) => Step::Quiet,
         Outcome::Makes(_, _, _) | Outcome::Enters(_, _) => Step::Quiet,
-        Outcome::Over | Outcome::Returned => Step::Quiet,
+        Outcome::Ends | Outcome::Returned => Step::Quiet,
         Outcome::Printed(z) => Step::Printed(z),
         Outcome::Trapped(trap, line) => Step::Trapped(trap, line),
         Outcome::Impossible => Step::Impossible,
@@ -179,7 +187,7 @@ fn step_of(outcome: Outcome<'_>) -> Step
 fn leave(thread: &mut Thread<'_>)
     ensures { thread.new ≡ record thread.old { activation = None; ended = length thread.old.calls.now == 0 } }
 {
-    thread.activation = None;
+    put_activation(&mut thread.activation, None);
     thread.ended = thread.calls.is_empty();
 }
 

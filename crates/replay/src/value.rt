@@ -23,7 +23,7 @@ pub(crate) enum Value {
     Truth(bool),
 }
 
-/// What working out an expression gives.
+/// What evaluating an expression gives.
 #[derive(Clone, Copy, Debug, PartialEq, Eq)]
 pub(crate) enum Evaluated {
     Gives(Value),

@@ -30,6 +30,7 @@ use Rattle.machine.proofs.Calls.{Ready, ready, here, room, is_there, positive}
 use Rattle.machine.proofs.Effects.{Answer, few_words, slot_there as variable_there, plain_executes, test_executes, store_executes, put_executes, return_executes}
 use Rattle.machine.proofs.Invocations.{object_there, call_executes}
 use Rattle.machine.proofs.thread.execute.Goals as goal
+use Rattle.machine.proofs.thread.execute.Goals.{After-unwrap-instr}
 
 -- what was fetched at the place of a call
 record Fetched (p : Lowered) (call : Activation) (i : Instr) : Type 0 where
@@ -38,8 +39,13 @@ record Fetched (p : Lowered) (call : Activation) (i : Instr) : Type 0 where
   of_function : slice_get p.codes call.function ≡ Some code
   at : slice_get code.instrs call.place ≡ Some i
 
-fetched : (p : Lowered) (call : Activation) (o : Option (Bor Listing)) (code : Bor Listing) (q : Option (Bor Instr)) (i : Bor Instr) → IsLowered p → option_copied o ≡ slice_get p.codes call.function → o ≡ Some code → option_copied q ≡ slice_get code.now.instrs call.place → q ≡ Some i → Fetched p call i.now
-fetched p call o code q i lowered known is fetch here = record { code = code.now; lowered = lowered; of_function = sym known ∙ ap option_copied is; at = sym fetch ∙ ap option_copied here }
+fetched : (c : After-unwrap-instr) → Fetched c.args.program.now c.args.call.now c.unwrap-instr.result.now
+fetched c = record {
+  code = c.unwrap-code.result.now;
+  lowered = c.requires.lowered;
+  of_function = sym c.code.ensures.code ∙ ap option_copied c.unwrap-code.ensures;
+  at = sym c.get.ensures.instr ∙ ap option_copied c.unwrap-instr.ensures;
+}
 
 ready_for : (p : Lowered) (space : Space) (call : Activation) (i : Instr) (f : Fetched p call i) (visible : Visible) (task : Task) (rest : List Task) → CallStands p space call visible (task ∷ rest) → Ready p space call f.code visible task rest
 ready_for p space call i f visible task rest h = ready p space call f.code visible task rest f.lowered f.of_function h
@@ -57,32 +63,32 @@ unwrap-instr-requires c =
 pub push-requires : goal.push-requires
 push-requires c =
     let s = c.requires.stands in
-    let f = fetched c.args.program.now c.args.call.now c.code.result c.unwrap-code.result c.get.result c.unwrap-instr.result c.requires.lowered c.code.ensures.code c.unwrap-code.ensures c.get.ensures.instr c.unwrap-instr.ensures in
+    let f = fetched (goal.at.push-requires c).After-unwrap-instr in
     few_words c.in-TestNull.variable c.in-TestNull.equal (length c.args.call.now.stack)
     (room _ _ _ f.code s.0 s.1 s.2 (ready_for _ c.args.heap.now _ _ f s.0 s.1 s.2 s.3) (instr.TestNull c.in-TestNull.variable c.in-TestNull.equal) (f.at ∙ ap (λ i. Some i) c.in-TestNull.is))
 
 pub set_null-requires : goal.set_null-requires
 set_null-requires c =
     let s = c.requires.stands in
-    let f = fetched c.args.program.now c.args.call.now c.code.result c.unwrap-code.result c.get.result c.unwrap-instr.result c.requires.lowered c.code.ensures.code c.unwrap-code.ensures c.get.ensures.instr c.unwrap-instr.ensures in
+    let f = fetched (goal.at.set_null-requires c).After-unwrap-instr in
     subst (λ (l : List (Option ℕ)). HasSlot l c.in-StoreNull.variable) (sym c.deref_mut.ensures.value)
     (variable_there _ c.args.heap.now _ f.code s.0 s.1 s.2 (ready_for _ c.args.heap.now _ _ f s.0 s.1 s.2 s.3) c.unwrap-instr.result.now f.at c.in-StoreNull.variable c.in-StoreNull.is)
 
 pub pop-word-requires : goal.pop-word-requires
 pop-word-requires c =
     let s = c.requires.stands in
-    let f = fetched c.args.program.now c.args.call.now c.code.result c.unwrap-code.result c.get.result c.unwrap-instr.result c.requires.lowered c.code.ensures.code c.unwrap-code.ensures c.get.ensures.instr c.unwrap-instr.ensures in
+    let f = fetched (goal.at.pop-word-requires c).After-unwrap-instr in
     positive (length c.args.call.now.stack) (room _ _ _ f.code s.0 s.1 s.2 (ready_for _ c.args.heap.now _ _ f s.0 s.1 s.2 s.3) instr.PutJint (f.at ∙ ap (λ i. Some i) c.in-PutJint.is))
 
 pub invoke-requires-clause-object : goal.invoke-requires-clause-object
 invoke-requires-clause-object c =
     let s = c.requires.stands in
-    let f = fetched c.args.program.now c.args.call.now c.code.result c.unwrap-code.result c.get.result c.unwrap-instr.result c.requires.lowered c.code.ensures.code c.unwrap-code.ensures c.get.ensures.instr c.unwrap-instr.ensures in
+    let f = fetched (goal.at.invoke-requires-clause-object c).After-unwrap-instr in
     object_there c.args.program.now c.args.heap.now c.args.call.now f.code s.0 s.1 s.2 (ready_for _ c.args.heap.now _ _ f s.0 s.1 s.2 s.3) c.unwrap-instr.result.now f.at c.in-Call.function c.in-Call.is
 
 pub returns-in-TestNull : goal.returns-in-TestNull
 returns-in-TestNull c lent k shared s task rest tasks none statics blocks h =
-    let f = fetched c.args.program.now c.args.call.now c.code.result c.unwrap-code.result c.get.result c.unwrap-instr.result c.requires.lowered c.code.ensures.code c.unwrap-code.ensures c.get.ensures.instr c.unwrap-instr.ensures in
+    let f = fetched (goal.at.returns-in-TestNull c).After-unwrap-instr in
     let classes = (world_of_scene c.args.world.now).classes in
     let after : Activation = record c.args.call.now { place = c.args.call.now.place + 1; stack = c.push.new.self } in
     let null : c.is_null-null.result ≡ is_null c.args.call.now.references.items c.in-TestNull.variable = c.is_null-null.ensures ∙ ap (λ (l : List (Option ℕ)). is_null l c.in-TestNull.variable) c.deref.ensures.value in
@@ -99,7 +105,7 @@ returns-in-TestNull c lent k shared s task rest tasks none statics blocks h =
 
 pub returns-in-StoreNull : goal.returns-in-StoreNull
 returns-in-StoreNull c lent k shared s task rest tasks none statics blocks h =
-    let f = fetched c.args.program.now c.args.call.now c.code.result c.unwrap-code.result c.get.result c.unwrap-instr.result c.requires.lowered c.code.ensures.code c.unwrap-code.ensures c.get.ensures.instr c.unwrap-instr.ensures in
+    let f = fetched (goal.at.returns-in-StoreNull c).After-unwrap-instr in
     let classes = (world_of_scene c.args.world.now).classes in
     let after : Activation = record c.args.call.now { place = c.args.call.now.place + 1; references = with_items c.args.call.now.references c.set_null.new.references } in
     store_executes c.args.program.now classes c.args.heap.now lent k shared statics s c.args.call.now f.code task rest (ready_for _ c.args.heap.now _ _ f (visible_to shared s) task rest h) c.unwrap-instr.result.now f.at
@@ -114,7 +120,7 @@ returns-in-StoreNull c lent k shared s task rest tasks none statics blocks h =
 
 pub returns-in-PutJint : goal.returns-in-PutJint
 returns-in-PutJint c lent k shared s task rest tasks none statics blocks h =
-    let f = fetched c.args.program.now c.args.call.now c.code.result c.unwrap-code.result c.get.result c.unwrap-instr.result c.requires.lowered c.code.ensures.code c.unwrap-code.ensures c.get.ensures.instr c.unwrap-instr.ensures in
+    let f = fetched (goal.at.returns-in-PutJint c).After-unwrap-instr in
     let number : cast_signed w32 (cast_unsigned w32 c.cast_signed.result) ≡ cast_signed w32 c.pop-word.result = to_z-of_z {w = w32} (record { sfits = c.cast_signed.type_inv }) ∙ c.cast_signed.ensures in
     let classes = (world_of_scene c.args.world.now).classes in
     let after : Activation = record c.args.call.now { place = c.args.call.now.place + 1; stack = c.pop-word.new.self } in
@@ -125,29 +131,29 @@ returns-in-PutJint c lent k shared s task rest tasks none statics blocks h =
 
 pub returns-in-Call : goal.returns-in-Call
 returns-in-Call c lent k shared s task rest tasks none statics blocks h =
-    let f = fetched c.args.program.now c.args.call.now c.code.result c.unwrap-code.result c.get.result c.unwrap-instr.result c.requires.lowered c.code.ensures.code c.unwrap-code.ensures c.get.ensures.instr c.unwrap-instr.ensures in
+    let f = fetched (goal.at.returns-in-Call c).After-unwrap-instr in
     let classes = (world_of_scene c.args.world.now).classes in
     call_executes c.args.program.now classes c.args.heap.now lent k shared s c.args.call.now f.code task rest (ready_for _ c.args.heap.now _ _ f (visible_to shared s) task rest h) c.unwrap-instr.result.now f.at c.in-Call.function c.in-Call.is
     c.invoke.new.call c.invoke.result tasks none h blocks c.invoke.ensures
 
 pub returns-in-Return : goal.returns-in-Return
 returns-in-Return c lent k shared s task rest tasks none statics blocks h =
-    let f = fetched c.args.program.now c.args.call.now c.code.result c.unwrap-code.result c.get.result c.unwrap-instr.result c.requires.lowered c.code.ensures.code c.unwrap-code.ensures c.get.ensures.instr c.unwrap-instr.ensures in
+    let f = fetched (goal.at.returns-in-Return c).After-unwrap-instr in
     return_executes _ (world_of_scene c.args.world.now).classes c.args.heap.now lent k shared statics s _ f.code task rest (ready_for _ c.args.heap.now _ _ f (visible_to shared s) task rest h) c.unwrap-instr.result.now f.at (returns_is _ c.in-Return.is) c.args.call.now
 
 pub returns-in-Return-2 : goal.returns-in-Return-2
 returns-in-Return-2 c lent k shared s task rest tasks none statics blocks h =
-    let f = fetched c.args.program.now c.args.call.now c.code.result c.unwrap-code.result c.get.result c.unwrap-instr.result c.requires.lowered c.code.ensures.code c.unwrap-code.ensures c.get.ensures.instr c.unwrap-instr.ensures in
+    let f = fetched (goal.at.returns-in-Return-2 c).After-unwrap-instr in
     return_executes _ (world_of_scene c.args.world.now).classes c.args.heap.now lent k shared statics s _ f.code task rest (ready_for _ c.args.heap.now _ _ f (visible_to shared s) task rest h) c.unwrap-instr.result.now f.at (returns_is _ c.in-Return.is) c.args.call.now
 
 pub returns-in-Return-3 : goal.returns-in-Return-3
 returns-in-Return-3 c lent k shared s task rest tasks none statics blocks h =
-    let f = fetched c.args.program.now c.args.call.now c.code.result c.unwrap-code.result c.get.result c.unwrap-instr.result c.requires.lowered c.code.ensures.code c.unwrap-code.ensures c.get.ensures.instr c.unwrap-instr.ensures in
+    let f = fetched (goal.at.returns-in-Return-3 c).After-unwrap-instr in
     return_executes _ (world_of_scene c.args.world.now).classes c.args.heap.now lent k shared statics s _ f.code task rest (ready_for _ c.args.heap.now _ _ f (visible_to shared s) task rest h) c.unwrap-instr.result.now f.at (returns_is _ c.in-Return.is) c.args.call.now
 
 pub returns-in-Next : goal.returns-in-Next
 returns-in-Next c lent k shared s task rest tasks none statics blocks h =
-    let f = fetched c.args.program.now c.args.call.now c.code.result c.unwrap-code.result c.get.result c.unwrap-instr.result c.requires.lowered c.code.ensures.code c.unwrap-code.ensures c.get.ensures.instr c.unwrap-instr.ensures in
+    let f = fetched (goal.at.returns-in-Next c).After-unwrap-instr in
     let classes = (world_of_scene c.args.world.now).classes in
     let i = c.unwrap-instr.result.now in
     let stack = c.args.call.now.stack in
@@ -160,7 +166,7 @@ returns-in-Next c lent k shared s task rest tasks none statics blocks h =
 
 pub returns-in-Skip : goal.returns-in-Skip
 returns-in-Skip c lent k shared s task rest tasks none statics blocks h =
-    let f = fetched c.args.program.now c.args.call.now c.code.result c.unwrap-code.result c.get.result c.unwrap-instr.result c.requires.lowered c.code.ensures.code c.unwrap-code.ensures c.get.ensures.instr c.unwrap-instr.ensures in
+    let f = fetched (goal.at.returns-in-Skip c).After-unwrap-instr in
     let classes = (world_of_scene c.args.world.now).classes in
     let i = c.unwrap-instr.result.now in
     let stack = c.args.call.now.stack in
@@ -173,7 +179,7 @@ returns-in-Skip c lent k shared s task rest tasks none statics blocks h =
 
 pub returns-in-Back : goal.returns-in-Back
 returns-in-Back c lent k shared s task rest tasks none statics blocks h =
-    let f = fetched c.args.program.now c.args.call.now c.code.result c.unwrap-code.result c.get.result c.unwrap-instr.result c.requires.lowered c.code.ensures.code c.unwrap-code.ensures c.get.ensures.instr c.unwrap-instr.ensures in
+    let f = fetched (goal.at.returns-in-Back c).After-unwrap-instr in
     let classes = (world_of_scene c.args.world.now).classes in
     let i = c.unwrap-instr.result.now in
     let stack = c.args.call.now.stack in
@@ -186,7 +192,7 @@ returns-in-Back c lent k shared s task rest tasks none statics blocks h =
 
 pub returns-in-Trap : goal.returns-in-Trap
 returns-in-Trap c lent k shared s task rest tasks none statics blocks h =
-    let f = fetched c.args.program.now c.args.call.now c.code.result c.unwrap-code.result c.get.result c.unwrap-instr.result c.requires.lowered c.code.ensures.code c.unwrap-code.ensures c.get.ensures.instr c.unwrap-instr.ensures in
+    let f = fetched (goal.at.returns-in-Trap c).After-unwrap-instr in
     let classes = (world_of_scene c.args.world.now).classes in
     let i = c.unwrap-instr.result.now in
     let stack = c.args.call.now.stack in

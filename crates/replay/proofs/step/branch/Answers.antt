@@ -5,12 +5,12 @@ use Rattle.regions.specs.Task.{EndIf}
 use Rattle.replay.specs.declared.term.Term.TheVariants as term
 use Rattle.replay.specs.declared.value.Value.TheVariants as value
 use Rattle.replay.specs.Views.{variables_view}
-use Rattle.replay.proofs.TaskLemmas.{way_entered, branch_works}
+use Rattle.replay.proofs.TaskLemmas.{way_entered, branch_reduces}
 use Rattle.replay.proofs.step.branch.Goals as goal
 
 pub returns-in_default-clause-step : goal.returns-in_default-clause-step
 returns-in_default-clause-step c =
-    rw c.worked.ensures.view (branch_works (variables_view c.args.variables.now) (null_statics (unit_tree c.args.items.now)) c.args.line _ _ _ c.in_default.not-Done c.reduce.ensures.step c.args.block c.args.otherwise)
+    rw c.reduced.ensures.view (branch_reduces (variables_view c.args.variables.now) (null_statics (unit_tree c.args.items.now)) c.args.line _ _ _ c.in_default.not-Done c.reduce.ensures.step c.args.block c.args.otherwise)
 
 pub returns-in-Truth-true-clause-step : goal.returns-in-Truth-true-clause-step
 returns-in-Truth-true-clause-step c =

@@ -5,12 +5,12 @@ use Rattle.regions.specs.Task.{EndTurn}
 use Rattle.replay.specs.declared.term.Term.TheVariants as term
 use Rattle.replay.specs.declared.value.Value.TheVariants as value
 use Rattle.replay.specs.Views.{variables_view}
-use Rattle.replay.proofs.TaskLemmas.{way_entered, loop_works}
+use Rattle.replay.proofs.TaskLemmas.{way_entered, loop_reduces}
 use Rattle.replay.proofs.step.turn.Goals as goal
 
 pub returns-in_default-clause-step : goal.returns-in_default-clause-step
 returns-in_default-clause-step c =
-    rw c.worked.ensures.view (loop_works (variables_view c.args.variables.now) (null_statics (unit_tree c.args.items.now)) c.args.line _ _ _ c.in_default.not-Done c.reduce.ensures.step c.args.test c.args.body)
+    rw c.reduced.ensures.view (loop_reduces (variables_view c.args.variables.now) (null_statics (unit_tree c.args.items.now)) c.args.line _ _ _ c.in_default.not-Done c.reduce.ensures.step c.args.test c.args.body)
 
 pub returns-in-Truth-true-clause-step : goal.returns-in-Truth-true-clause-step
 returns-in-Truth-true-clause-step c =

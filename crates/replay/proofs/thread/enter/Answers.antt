@@ -14,7 +14,7 @@ use Rattle.replay.proofs.RangeLemmas.{body_in_range}
 use Rattle.replay.proofs.thread.enter.Goals as goal
 
 pub returns-clause-step : goal.returns-clause-step
-returns-clause-step c = λ s shared lent k h live loaded.
+returns-clause-step c = rw c.put_activation.ensures (λ s shared lent k h live loaded.
     let f = c.in-Some-function_at.function.now in
     let a : Activation = record { task = None; rest = c.deref.result; outer = c.new.result; variables = c.in_ok-variables.variables } in
     enters (unit_tree c.args.items.now) (world_of_scene c.args.world.now) shared lent k c.args.thread.now c.in-Some.call.now c.in-Some.rest.now (function_tree f) c.in-Some-2.class
@@ -22,11 +22,11 @@ returns-clause-step c = λ s shared lent k h live loaded.
     (sym c.in_ok-class.ensures ∙ c.in-Some-2.is)
     (ap (λ (os : List Outer). tasks_of_statements c.deref.result.now ++ tasks_around [] os) c.new.ensures.items ∙ append-nil (tasks_of_statements c.deref.result.now) ∙ ap tasks_of_statements c.deref.ensures.value ∙ block_tasks f.body)
     (c.in_ok-variables.ensures ∙ ap (λ (vs : List ObjectValue). (f.class_name, LocalRef 1 (Some c.in-Some-2.class)) ∷ parameter_variables (zip (function_tree f).parameters vs)) c.arguments.ensures)
-    h c.in-Some.rest (search rules)
+    h c.in-Some.rest (search rules))
 
 pub returns-clause-range : goal.returns-clause-range
-returns-clause-range c = record {
+returns-clause-range c = rw c.put_activation.ensures (record {
   begun = tt;
   outer = rw c.new.ensures.items tt;
   rest = rw c.deref.ensures.value (body_in_range c.args.items.now c.in-Some.call.now.function c.in-Some-function_at.function.now c.requires.tree c.requires.calls (search rules));
-}
+})

@@ -1,7 +1,6 @@
 use Rattle.std.proofs.Common.{◌-◌, ◌∷◌, [], sym, subst, replicate, arith, IsSome, refl}
-use Rattle.std.proofs.lemmas.List.{length-replicate}
 use Rattle.world.specs.Schedule.{Schedule}
-use Rattle.machine.specs.Run.{Run, RunsAlong, RunsInto, replay_of}
+use Rattle.machine.specs.Run.{Run, RunsAlong, RunsInto, GivesStep, replay_of}
 use Rattle.machine.proofs.Runs.{none_yet, along_both, begun, replicate_more, replicate_rest}
 use Rattle.machine.proofs.machine.Machine.repeat.Goals as goal
 
@@ -13,9 +12,11 @@ loop-taken-init c =
 pub returns-in-Err-clause-err : goal.returns-in-Err-clause-err
 returns-in-Err-clause-err c =
     let i = c.loop-taken._taken in
-    let here = subst (λ (r : Run). RunsAlong c.args.self.now r (replicate i c.args.word)) (sym c.in-Err.ensures.err) c.loop-taken.invariant.along in
+    let same = sym c.in-Err.ensures.err.0 in
+    let here = subst (λ (r : Run). RunsAlong c.args.self.now r (replicate i c.args.word)) same c.loop-taken.invariant.along in
+    let gives = subst (λ (r : Run). GivesStep r c.args.word) same c.in-Err.ensures.err.1 in
     subst (λ (w : Schedule). RunsInto c.args.self.now c.take_word.new.self w) (sym (replicate_rest c.args.word i c.args.times (omega arith)))
-    (begun c.args.self.now c.take_word.new.self (replicate i c.args.word) (replicate (c.args.times - i) c.args.word) here (omega (arith, length-replicate (c.args.times - i) c.args.word)))
+    (begun c.args.self.now c.take_word.new.self (replicate i c.args.word) c.args.word (replicate (c.args.times - i - 1) c.args.word) here gives)
 
 pub loop-taken-preserved : goal.loop-taken-preserved
 loop-taken-preserved c = record {

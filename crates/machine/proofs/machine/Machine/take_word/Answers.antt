@@ -13,5 +13,6 @@ returns-in_default-turn c = record {
       (turned c.args.self.now c.step.new.self c.in-Some.k c.in-Ok.turn c.in-Ok.ensures.turn c.in-Ok.ensures.runs c.in_default-turn.not-Full);
   err = tt;
   full = λ e. absurd (cc);
+  memory = λ e. absurd (cc);
   runs = c.in-Ok.ensures.runs;
 }
