@@ -85,21 +85,21 @@ pub(crate) fn lexemes(
     requires { AreInOrder text.now 0 tokens.now }
     ensures { IfOk result (λ v. views v.items ≡ lexemes text.now 0 1 tokens.now) }
 {
-    let mut lexemes = Vec::new(alloc);
+    let mut lexemes = Vec::with_capacity(alloc, tokens.len() + 1)?;
     let mut place = 0;
     let mut line = 1;
     for token in tokens {
         line += line_ends(&text[place..token.start]);
         place = token.start;
-        lexemes.push(Lexeme {
+        lexemes.push_reserved(Lexeme {
             shape: shape_of(alloc, text, token)?,
             line,
-        })?;
+        });
     }
-    lexemes.push(Lexeme {
+    lexemes.push_reserved(Lexeme {
         shape: Shape::Fixed(Fixed::End),
         line,
-    })?;
+    });
     Ok(lexemes)
 }
 
