@@ -5,11 +5,11 @@ use Rattle.std.proofs.Math.ListN.{set}
 use Rattle.std.proofs.lemmas.List.{map-set, length-map, get_or-map}
 use Rattle.std.proofs.lemmas.List.Edits.{map_over_more}
 use Rattle.regions.specs.declared.changes.Change.{Change}
-use Rattle.regions.specs.declared.standing.Variable.{Variable as VariableInMemory}
+use Rattle.regions.specs.declared.states.Variable.{Variable as VariableInMemory}
 use Rattle.syntax.specs.Tree.{Null, BinaryOp, Equal, NotEqual, Named, Variable, Binary, Expr, TestExpr}
 use Rattle.regions.specs.Changes.{changed_named, tested_by, null_test_of, taught_true, taught_false}
 use Rattle.regions.specs.SameStates.{NamedState}
-use Rattle.regions.specs.Standings.{named_value, variables_value}
+use Rattle.regions.specs.StatesInMemory.{named_value, variables_value}
 use Rattle.regions.specs.RegionStates.{RegionState}
 use Rattle.regions.specs.Regions.{where_true, where_false}
 

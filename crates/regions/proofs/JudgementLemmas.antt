@@ -6,22 +6,23 @@ use Rattle.types.specs.JniFunction.{is_critical}
 use Rattle.base.specs.Options.{some_passes}
 use Rattle.syntax.specs.Parts.{assigned_name, call_of_right_side}
 use Rattle.syntax.specs.Tree.{ReferenceVariable, RightSide, Declare, DeclareBuffer, DeclareChars, Assign, Stmt}
-use Rattle.regions.specs.declared.standing.Condition.TheVariants as condition
-use Rattle.regions.specs.Effects.{call_effect, got, released, popped}
+use Rattle.regions.specs.declared.states.Condition.TheVariants as condition
+use Rattle.regions.specs.StateEffects.{call_state_effect, got, released, popped}
 use Rattle.regions.specs.FirstFaults.{first_broken}
 use Rattle.regions.specs.Judgements.{judged, first_judged, is_wrong_release, effected, set_from, settled, after_judged}
 use Rattle.regions.specs.RegionRules.{RegionRule, CallWhileCritical, ReturnWithBuffer, HeldBuffer, UntestedBuffer, WrongBuffer, ReturnInFrame, PopLastFrame, DeadReference, ArrayInUse, WaysDiffer, WrongLevel, NoReturn, breaks_region_rule, own_rules, is_put_jint, is_array_in_use, is_level, is_reference_now}
 use Rattle.regions.specs.RegionStates.{RegionState, VariableState, ReferenceAt, BufferIn, FunctionCall, state_of, function_called, call_of, deleted_name, with_new, with_changed, with_some_changed, after_pop, after_release, after_call, killed, buffer_from, set_to, with_set, state_after}
-use Rattle.regions.specs.Standings.{asks, holds_of}
+use Rattle.regions.specs.StatesInMemory.{asks, holds_of}
 use Rattle.regions.proofs.EffectLemmas.{get_is, release_is, deleted_is, pops_is, forbidden_is}
 use Rattle.regions.proofs.StateLemmas.{holder_is}
-use Rattle.regions.proofs.UseLemmas.{uses_is, reads_is}
+use Rattle.types.proofs.UseLemmas.{uses_is}
+use Rattle.regions.proofs.ReadLemmas.{reads_is}
 
 in_use : (state : RegionState) (o : Option Identifier) → some_passes (is_array_in_use state) o ≡ some_passes (λ x. holds_of x state) o
 in_use state None = refl
 in_use state (Some x) = holder_is (λ held. bytes_eq held.1 x) state
 
-judged_is : (rule : RegionRule) (state : RegionState) (s : Stmt) → breaks_region_rule rule state s ≡ judged rule state s (option_map call_effect (function_called s))
+judged_is : (rule : RegionRule) (state : RegionState) (s : Stmt) → breaks_region_rule rule state s ≡ judged rule state s (option_map call_state_effect (function_called s))
 judged_is CallWhileCritical state s = ap₂ (λ a b. a && (is_put_jint s || b)) (holder_is (λ held. is_critical held.0) state) (forbidden_is (function_called s))
 judged_is ReturnWithBuffer state s = refl
 judged_is HeldBuffer state s = ap (λ g. is_some g && some_passes (asks condition.Held state) (assigned_name s)) (get_is (function_called s))
@@ -47,29 +48,29 @@ find_same : (p q : RegionRule → Bool) → ((rule : RegionRule) → p rule ≡ 
 find_same p q h [] = refl
 find_same p q h (rule ∷ rules) = ap₂ (λ b o. if b then Some rule else o) (h rule) (find_same p q h rules)
 
-pub first_is : (state : RegionState) (s : Stmt) → first_broken state s ≡ first_judged state s (option_map call_effect (function_called s))
-first_is state s = find_same (λ rule. breaks_region_rule rule state s) (λ rule. judged rule state s (option_map call_effect (function_called s))) (λ rule. judged_is rule state s) own_rules
+pub first_is : (state : RegionState) (s : Stmt) → first_broken state s ≡ first_judged state s (option_map call_state_effect (function_called s))
+first_is state s = find_same (λ rule. breaks_region_rule rule state s) (λ rule. judged rule state s (option_map call_state_effect (function_called s))) (λ rule. judged_is rule state s) own_rules
 
 -- ---- the state
 
-effected_is : (state : RegionState) (call : Option FunctionCall) → after_call state call ≡ effected state (option_map call_effect call)
+effected_is : (state : RegionState) (call : Option FunctionCall) → after_call state call ≡ effected state (option_map call_state_effect call)
 effected_is state call =
     ap₂ (λ b r. if b then after_pop state else with_some_changed (after_release state r) (deleted_name call) killed) (pops_is call) (release_is call)
-    ∙ ap (λ d. if popped (option_map call_effect call) then after_pop state else with_some_changed (after_release state (released (option_map call_effect call))) d killed) (deleted_is call)
+    ∙ ap (λ d. if popped (option_map call_state_effect call) then after_pop state else with_some_changed (after_release state (released (option_map call_state_effect call))) d killed) (deleted_is call)
 
-set_is : (r : RightSide) (v : VariableState) → set_to r v ≡ set_from (got (option_map call_effect (call_of (call_of_right_side (Some r))))) v
+set_is : (r : RightSide) (v : VariableState) → set_to r v ≡ set_from (got (option_map call_state_effect (call_of (call_of_right_side (Some r))))) v
 set_is r (ReferenceAt level live) = refl
 set_is r (BufferIn b) = ap (λ g. BufferIn (buffer_from g)) (get_is (call_of (call_of_right_side (Some r))))
 
-settled_is : (state : RegionState) (s : Stmt) → with_set state s ≡ settled state s (option_map call_effect (function_called s))
+settled_is : (state : RegionState) (s : Stmt) → with_set state s ≡ settled state s (option_map call_state_effect (function_called s))
 settled_is state (Declare line (ReferenceVariable t) x r) = refl
 settled_is state (DeclareBuffer line t x r) = ap (λ g. with_new state x (BufferIn (buffer_from g))) (get_is (call_of (call_of_right_side (Some r))))
 settled_is state (DeclareChars line x r) = ap (λ g. with_new state x (BufferIn (buffer_from g))) (get_is (call_of (call_of_right_side (Some r))))
 settled_is state (Assign line x r) = λ i. with_changed state x (λ v. set_is r v i)
 settled_is state s = refl
 
-pub behind_is : (state : RegionState) (s : Stmt) → state_after state s ≡ after_judged state s (option_map call_effect (function_called s))
-behind_is state s = ap (λ after. with_set after s) (effected_is state (function_called s)) ∙ settled_is (effected state (option_map call_effect (function_called s))) s
+pub behind_is : (state : RegionState) (s : Stmt) → state_after state s ≡ after_judged state s (option_map call_state_effect (function_called s))
+behind_is state s = ap (λ after. with_set after s) (effected_is state (function_called s)) ∙ settled_is (effected state (option_map call_state_effect (function_called s))) s
 
 -- ---- the rules one after the other
 

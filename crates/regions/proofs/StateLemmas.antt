@@ -6,12 +6,12 @@ use Rattle.std.specs.Option.{option_and_then}
 use Rattle.base.specs.Bytes.{Identifier}
 use Rattle.base.specs.Options.{some_passes}
 use Rattle.types.specs.JniFunction.{Access}
-use Rattle.regions.specs.declared.standing.Variable.{Variable}
+use Rattle.regions.specs.declared.states.Variable.{Variable}
 use Rattle.regions.specs.RegionStates.{RegionState, buffer_of, held_by, held_buffers}
 use Rattle.regions.specs.RegionRules.{is_held}
 use Rattle.regions.specs.Regions.{has_variable, holds_own}
 use Rattle.regions.specs.SameStates.{NamedState}
-use Rattle.regions.specs.Standings.{named_value, variables_value, held_in, any_holder}
+use Rattle.regions.specs.StatesInMemory.{named_value, variables_value, held_in, any_holder}
 use Rattle.regions.specs.Walks.{holds_other}
 
 one_held : (q : Access × Identifier → Bool) (o : Option (Access × Identifier)) (rest : List (Access × Identifier)) → list_any q (cons_option o rest) ≡ (some_passes q o || list_any q rest)

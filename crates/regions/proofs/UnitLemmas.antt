@@ -1,6 +1,6 @@
 -- A unit without fault is accepted, and the fault found is its first.
-use Rattle.std.proofs.Common.{◌≡◌, Bool, true, false, not, ◌&&◌, inl, inr, List, [], ◌∷◌, Option, Some, None, Result, Ok, Err, refl, sym, ap, ◌∙◌, subst, is_some}
-use Rattle.std.specs.Prelude.{IsTrue}
+use Rattle.std.proofs.Common.{◌≡◌, ℕ, suc, Bool, true, false, not, ◌&&◌, inl, inr, List, [], ◌∷◌, Option, Some, None, Result, Ok, Err, refl, sym, ap, ap₂, ◌∙◌, subst, is_some, arith}
+use Rattle.std.specs.Prelude.{Contains, IsTrue}
 use Rattle.std.specs.List.{list_all, AllByRecursion}
 use Rattle.std.specs.Option.{option_or}
 use Rattle.base.specs.Options.{some_passes}
@@ -11,15 +11,16 @@ use Rattle.types.specs.Prototype.{function_named}
 use Rattle.types.specs.BuiltCalls.{is_built_function, is_built_call, calls_unbuilt}
 use Rattle.regions.specs.declared.fault.CheckFault.{CheckFault}
 use Rattle.regions.specs.declared.fault.CheckFault.TheVariants.{Memory, Broken}
-use Rattle.regions.specs.Effects.{calls_known, items_known}
+use Rattle.regions.specs.StateEffects.{calls_known, items_known}
 use Rattle.regions.specs.Findings.{Finds, Refuses, IfBroken, rule_of, fault_of, end_line_of, fault_at_end, function_fault, items_fault, first_fault}
 use Rattle.regions.specs.FirstFaults.{FirstInFunction, FirstInFunctions}
-use Rattle.regions.specs.RegionRules.{NoReturn}
+use Rattle.regions.specs.RegionRules.{RegionRule, NoReturn}
 use Rattle.regions.specs.RegionStates.{state_at_entry}
-use Rattle.regions.specs.Regions.{Way, On, Returned, AcceptedFunction, EndLine}
+use Rattle.regions.specs.Regions.{Way, On, Returned, AcceptedFunction, EndLine, BreaksFunction, BreaksRegionRule}
 use Rattle.regions.specs.Ways.{Fault, way_of_block}
-use Rattle.regions.proofs.Ways.{keeps_block}
-use Rattle.regions.proofs.FirstWays.{firsts_block, no_first_in}
+use Rattle.regions.proofs.Ways.{keeps_block, answers_block}
+use Rattle.regions.proofs.BrokenWays.{faults_block, end_is}
+use Rattle.regions.proofs.FirstWays.{firsts_block, first_block_is, no_first_in}
 
 -- ---- faults one after another
 
@@ -88,6 +89,49 @@ faulty-all (f ∷ functions) e h = faulty-next f functions e (function_fault f) 
 pub accepted-none : (functions : List Function) (e : Fault) → first_fault functions ≡ Some e → AllByRecursion AcceptedFunction functions → ⊥
 accepted-none functions e h accepted = no_first_in functions e.1 e.0 (faulty-all functions e h) accepted
 
+-- ---- a unit has one first fault at most
+
+accepted_is : (f : Function) → AcceptedFunction f → function_fault f ≡ None
+accepted_is f a = ap (λ (r : Result Way Fault). fault_at_end r (end_line_of f.body)) (answers_block (state_at_entry f) (state_at_entry f) f.body Returned a)
+
+function_fault_is : (f : Function) (rule : RegionRule) (l : ℕ) → FirstInFunction rule l f → function_fault f ≡ Some (l, rule)
+function_fault_is f rule l b =
+    elim b [
+      | inl inner ↦ ap (λ (r : Result Way Fault). fault_at_end r (end_line_of f.body)) (first_block_is (state_at_entry f) (state_at_entry f) f.body rule l inner)
+      | inr open' ↦ ap (λ (r : Result Way Fault). fault_at_end r (end_line_of f.body)) (answers_block (state_at_entry f) (state_at_entry f) f.body (On (open'.2).0) (open'.2).1)
+          ∙ ap₂ (λ (n : ℕ) (r : RegionRule). Some (n, r)) (end_is f.body (end_line_of f.body) l (end-line f.body) open'.1) (sym open'.0)
+    ]
+
+fault_is : (functions : List Function) (rule : RegionRule) (l : ℕ) → FirstInFunctions rule l functions → first_fault functions ≡ Some (l, rule)
+fault_is [] rule l b = absurd b
+fault_is (f ∷ functions) rule l b =
+    elim b [
+      | inl own ↦ ap (λ o. option_or o (first_fault functions)) (function_fault_is f rule l own)
+      | inr later ↦ ap₂ (λ o further. option_or o further) (accepted_is f later.0) (fault_is functions rule l later.1)
+    ]
+
+pub one_first_of : (functions : List Function) (rule rule' : RegionRule) (l l' : ℕ) → FirstInFunctions rule l functions → FirstInFunctions rule' l' functions → (l ≡ l') × (rule ≡ rule')
+one_first_of functions rule rule' l l' h k =
+    let e = some_is (l, rule) (l', rule') (sym (fault_is functions rule l h) ∙ fault_is functions rule' l' k) in
+    (ap (λ (f : Fault). f.0) e, ap (λ (f : Fault). f.1) e)
+
+-- ---- a first fault is of a rule that is broken
+
+function_broken : (f : Function) (rule : RegionRule) (l : ℕ) → FirstInFunction rule l f → BreaksFunction rule l f
+function_broken f rule l b =
+    elim b [
+      | inl inner ↦ inl (faults_block (state_at_entry f) (state_at_entry f) f.body (l, rule) (first_block_is (state_at_entry f) (state_at_entry f) f.body rule l inner))
+      | inr open' ↦ inr open'
+    ]
+
+pub first_broken_in : (functions : List Function) (rule : RegionRule) (l : ℕ) → FirstInFunctions rule l functions → (f : Function) × Contains functions f × BreaksFunction rule l f
+first_broken_in [] rule l b = absurd b
+first_broken_in (f ∷ functions) rule l b =
+    elim b [
+      | inl own ↦ (f, (0, omega arith, refl), function_broken f rule l own)
+      | inr later ↦ let further = first_broken_in functions rule l later.1 in (further.0, (suc (further.1).0, omega (arith, (further.1).1), (further.1).2), further.2)
+    ]
+
 -- ---- calls
 
 all_more : {A : Type 0} (p q : A → Bool) → ((x : A) → p x ≡ true → q x ≡ true) → (xs : List A) → list_all p xs ≡ true → list_all q xs ≡ true
@@ -127,3 +171,7 @@ accepted-memory items (Broken f) h accepted = absurd (accepted-none (functions_o
 pub fault-first : (items : List Item) (e : CheckFault) → Refuses e (items_fault items) → IfBroken e (λ f. FirstInFunctions (rule_of f.rule) f.line (functions_of (record { items = items })))
 fault-first items Memory h = tt
 fault-first items (Broken f) h = faulty-all (functions_of (record { items = items })) (fault_of f) (sym (items-fault items) ∙ h)
+
+pub fault-broken : (items : List Item) (e : CheckFault) → Refuses e (items_fault items) → IfBroken e (λ f. BreaksRegionRule (rule_of f.rule) f.line (record { items = items }))
+fault-broken items Memory h = tt
+fault-broken items (Broken f) h = first_broken_in (functions_of (record { items = items })) (rule_of f.rule) f.line (fault-first items (Broken f) h)

@@ -14,7 +14,7 @@ use Rattle.syntax.proofs.Blocks.{block_is}
 use Rattle.regions.specs.declared.fault.CheckFault.{CheckFault}
 use Rattle.regions.specs.declared.fault.CheckFault.TheVariants.{Memory, Broken}
 use Rattle.regions.specs.declared.walk.Way.{Way as WayInMemory}
-use Rattle.regions.specs.Effects.{calls_known}
+use Rattle.regions.specs.StateEffects.{calls_known}
 use Rattle.regions.specs.Findings.{fault_of, end_line_of}
 use Rattle.regions.specs.FirstFaults.{first_broken}
 use Rattle.regions.specs.RegionRules.{RegionRule, HeldBuffer, NoReturn}

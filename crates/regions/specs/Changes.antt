@@ -6,7 +6,7 @@ use Rattle.base.specs.Bytes.{Identifier}
 use Rattle.syntax.specs.Tree.{BinaryOp, Equal, NotEqual, Variable, Binary, Expr}
 use Rattle.types.specs.JniFunction.{Access}
 use Rattle.types.specs.Sorts.{is_null}
-use Rattle.regions.specs.declared.standing.Access.{Access as AccessInMemory}
+use Rattle.types.specs.declared.access.Access.{Access as AccessInMemory}
 use Rattle.regions.specs.declared.changes.Change.{Change}
 use Rattle.regions.specs.declared.changes.Change.TheVariants as change
 use Rattle.regions.specs.declared.changes.NullTest.{NullTest}
@@ -14,7 +14,7 @@ use Rattle.regions.specs.declared.changes.NullTest.TheVariants as tested
 use Rattle.regions.specs.RegionStates.{VariableState, RegionState, with_changed, made_free, killed, killed_from}
 use Rattle.regions.specs.Regions.{made_usable}
 use Rattle.regions.specs.Judgements.{set_from}
-use Rattle.regions.specs.Standings.{access_value}
+use Rattle.types.specs.Table.{access_value}
 
 -- a Get in memory
 abbrev pub get_value : AccessInMemory × Option (Bor (List ℕ)) → Access × Option Identifier

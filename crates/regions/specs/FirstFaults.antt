@@ -4,7 +4,7 @@ use Rattle.syntax.specs.Parts.{line_of, functions_of}
 use Rattle.syntax.specs.Tree.{Stmt, If, IfElse, While, Block, End, Next, Function, SourceUnit}
 use Rattle.regions.specs.RegionRules.{RegionRule, HeldBuffer, WaysDiffer, NoReturn, breaks_region_rule, own_rules, Obeys}
 use Rattle.regions.specs.RegionStates.{RegionState, state_at_entry}
-use Rattle.regions.specs.Regions.{Way, On, Returned, Keeps, KeepsBlock, AcceptedFunction, where_true, where_false, holds_own, Differ, EndLine, BreaksAfter, BreaksFunction, HasRegions}
+use Rattle.regions.specs.Regions.{Way, On, Returned, Keeps, KeepsBlock, AcceptedFunction, where_true, where_false, holds_own, Differ, EndLine, BreaksAfter, BreaksFunction, BreaksRegionRule, HasRegions}
 
 -- the rule of least number that a statement breaks by itself
 abbrev pub first_broken : RegionState → Stmt → Option RegionRule
@@ -77,3 +77,11 @@ NotBoth = (unit : SourceUnit) (rule : RegionRule) (l : ℕ) → IsFirstRegionFau
 -- a statement has one first fault at most
 abbrev pub OneFirst : Type 0
 OneFirst = (before : RegionState) (s : Stmt) (rule rule' : RegionRule) (l l' : ℕ) → FirstIn rule l before s → FirstIn rule' l' before s → (l ≡ l') × (rule ≡ rule')
+
+-- and so has a unit
+abbrev pub OneFirstOfUnit : Type 0
+OneFirstOfUnit = (unit : SourceUnit) (rule rule' : RegionRule) (l l' : ℕ) → IsFirstRegionFault rule l unit → IsFirstRegionFault rule' l' unit → (l ≡ l') × (rule ≡ rule')
+
+-- the first fault of a unit is of a rule that is broken at its line
+abbrev pub FirstIsBroken : Type 0
+FirstIsBroken = (unit : SourceUnit) (rule : RegionRule) (l : ℕ) → IsFirstRegionFault rule l unit → BreaksRegionRule rule l unit

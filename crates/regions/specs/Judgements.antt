@@ -6,12 +6,13 @@ use Rattle.base.specs.Options.{some_passes}
 use Rattle.syntax.specs.Parts.{assigned_name}
 use Rattle.syntax.specs.Tree.{ReferenceVariable, Declare, DeclareBuffer, DeclareChars, Assign, Stmt}
 use Rattle.types.specs.JniFunction.{Access, is_critical}
-use Rattle.regions.specs.declared.standing.Condition.TheVariants as condition
-use Rattle.regions.specs.Effects.{EffectCall, got, released, deleted, popped, is_forbidden}
+use Rattle.regions.specs.declared.states.Condition.TheVariants as condition
+use Rattle.regions.specs.StateEffects.{EffectCall, got, released, deleted, popped, is_forbidden}
 use Rattle.regions.specs.RegionRules.{RegionRule, CallWhileCritical, ReturnWithBuffer, HeldBuffer, UntestedBuffer, WrongBuffer, ReturnInFrame, PopLastFrame, DeadReference, ArrayInUse, WrongLevel, own_rules, is_return, is_put_jint, is_reference_now, is_mismatched, is_level, holds_buffer}
 use Rattle.regions.specs.RegionStates.{RegionState, VariableState, ReferenceAt, BufferIn, Release, state_of, with_new, with_changed, with_some_changed, after_pop, after_release, killed, buffer_from}
-use Rattle.regions.specs.Standings.{asks, any_holder, holds_critical, holds_of}
-use Rattle.regions.specs.Uses.{uses, reads}
+use Rattle.regions.specs.StatesInMemory.{asks, any_holder, holds_critical, holds_of}
+use Rattle.types.specs.Uses.{uses}
+use Rattle.regions.specs.Reads.{reads}
 
 -- a release of a held buffer that is not the one it wants, or that commits a view
 abbrev pub is_wrong_release : RegionState → Release → Bool

@@ -4,43 +4,34 @@ use Rattle.std.specs.Option.{option_and_then}
 use Rattle.std.specs.List.{list_any}
 use Rattle.base.specs.Bytes.{Identifier, ByName}
 use Rattle.base.specs.Options.{some_passes}
-use Rattle.syntax.specs.Views.{element_tree}
-use Rattle.types.specs.JniFunction.{Access, ElementsCopy, ArrayView, CharsCopy, CharsView, is_critical}
-use Rattle.regions.specs.declared.standing.Access.{Access as AccessInMemory}
-use Rattle.regions.specs.declared.standing.Access.TheVariants as access
-use Rattle.regions.specs.declared.standing.Standing.{Standing}
-use Rattle.regions.specs.declared.standing.Standing.TheVariants as standing
-use Rattle.regions.specs.declared.standing.Variable.{Variable}
-use Rattle.regions.specs.declared.standing.State.{State}
-use Rattle.regions.specs.declared.standing.Condition.{Condition}
-use Rattle.regions.specs.declared.standing.Condition.TheVariants as condition
+use Rattle.types.specs.JniFunction.{Access, is_critical}
+use Rattle.types.specs.Table.{access_value}
+use Rattle.regions.specs.declared.states.VariableState.{VariableState as VariableStateInMemory}
+use Rattle.regions.specs.declared.states.VariableState.TheVariants as known
+use Rattle.regions.specs.declared.states.Variable.{Variable}
+use Rattle.regions.specs.declared.states.StaticState.{StaticState}
+use Rattle.regions.specs.declared.states.Condition.{Condition}
+use Rattle.regions.specs.declared.states.Condition.TheVariants as condition
 use Rattle.regions.specs.RegionStates.{VariableState, ReferenceAt, BufferIn, Free, Untested, Usable, RegionState, state_of, buffer_of, held_by}
 use Rattle.regions.specs.RegionRules.{is_dead, is_reference_now, is_untested, is_free, is_held}
 
--- the access of the definitions
-abbrev pub access_value : AccessInMemory → Access
-access_value (access.ElementsCopy t) = ElementsCopy (element_tree t)
-access_value access.ArrayView = ArrayView
-access_value access.CharsCopy = CharsCopy
-access_value access.CharsView = CharsView
-
 -- what is known of a variable
-abbrev pub standing_value : Standing → VariableState
-standing_value (standing.Reference level live) = ReferenceAt level live
-standing_value standing.Free = BufferIn Free
-standing_value (standing.Untested a x) = BufferIn (Untested (access_value a) x.now)
-standing_value (standing.Usable a x) = BufferIn (Usable (access_value a) x.now)
+abbrev pub variable_state : VariableStateInMemory → VariableState
+variable_state (known.Reference level live) = ReferenceAt level live
+variable_state known.Free = BufferIn Free
+variable_state (known.Untested a x) = BufferIn (Untested (access_value a) x.now)
+variable_state (known.Usable a x) = BufferIn (Usable (access_value a) x.now)
 
 -- a variable with what is known of it
 abbrev pub named_value : Variable → Identifier × VariableState
-named_value v = (v.name.now, standing_value v.standing)
+named_value v = (v.name.now, variable_state v.known)
 
 -- the variables with what is known of each
 abbrev pub variables_value : List Variable → ByName VariableState
 variables_value variables = map named_value variables
 
 -- the state
-abbrev pub state_value : State → RegionState
+abbrev pub state_value : StaticState → RegionState
 state_value s = record { variables = variables_value s.variables.items; frames = s.frames }
 
 -- what a question asks

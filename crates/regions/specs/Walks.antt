@@ -10,7 +10,7 @@ use Rattle.regions.specs.Findings.{fault_of}
 use Rattle.regions.specs.RegionRules.{is_held}
 use Rattle.regions.specs.RegionStates.{RegionState, state_after}
 use Rattle.regions.specs.Regions.{Way, On, Returned, has_variable, where_true, where_false}
-use Rattle.regions.specs.Standings.{state_value}
+use Rattle.regions.specs.StatesInMemory.{state_value}
 use Rattle.regions.specs.Ways.{Fault, way_after, returned_before, join_ways, turn_way, way_of_block}
 
 -- a buffer that is not of the outer state is held

@@ -6,15 +6,15 @@ ghost use Rattle.syntax.specs.Parts.{own_call};
 ghost use Rattle.syntax.specs.Views.{argument_tree, call_tree, form_tree};
 ghost use Rattle.types.specs.Prototype.{function_named};
 ghost use Rattle.regions.specs.RegionStates.{argument_name, first_name, has_commit, function_called};
-ghost use Rattle.regions.specs.Standings.{access_value};
-ghost use Rattle.regions.specs.Effects.{Releases, effect_of, effect_value, call_effect, made_value, release_value, calls_known, got, released, deleted, popped, is_forbidden, named_effect, row_value};
+ghost use Rattle.types.specs.Table.{access_value};
+ghost use Rattle.regions.specs.StateEffects.{Releases, state_effect, effect_value, call_state_effect, made_value, release_value, calls_known, got, released, deleted, popped, is_forbidden, named_effect, row_value};
 
-use crate::standing::{Access, is_critical};
-use syntax::{Argument, Call, Constant, ElementType, Expr, Form, RightSide, Test};
+use syntax::{Argument, Constant, ElementType, Expr, Form};
+use types::{Access, own_call};
 
 /// The calls that the rules know apart.
 #[derive(Clone, Copy)]
-pub(crate) enum Effect {
+pub(crate) enum StateEffect {
     Gets(Access),
     Releases(Access),
     Deletes,
@@ -25,7 +25,7 @@ pub(crate) enum Effect {
 /// A call: what it does, and its arguments.
 #[derive(Clone, Copy)]
 pub(crate) struct MadeCall<'a> {
-    pub effect: Effect,
+    pub effect: StateEffect,
     pub arguments: &'a [Argument],
 }
 
@@ -39,62 +39,65 @@ pub(crate) struct Release<'a> {
 }
 
 /// A function's name, and what the function does.
-type Row = (&'static [u8], Effect);
+type Row = (&'static [u8], StateEffect);
 
 const EFFECTS: [Row; 16] = [
-    (b"DeleteLocalRef", Effect::Deletes),
-    (b"PopLocalFrame", Effect::Pops),
+    (b"DeleteLocalRef", StateEffect::Deletes),
+    (b"PopLocalFrame", StateEffect::Pops),
     (
         b"GetIntArrayElements",
-        Effect::Gets(Access::ElementsCopy(ElementType::Jint)),
+        StateEffect::Gets(Access::ElementsCopy(ElementType::Jint)),
     ),
     (
         b"GetShortArrayElements",
-        Effect::Gets(Access::ElementsCopy(ElementType::Jshort)),
+        StateEffect::Gets(Access::ElementsCopy(ElementType::Jshort)),
     ),
     (
         b"GetByteArrayElements",
-        Effect::Gets(Access::ElementsCopy(ElementType::Jbyte)),
+        StateEffect::Gets(Access::ElementsCopy(ElementType::Jbyte)),
     ),
     (
         b"GetCharArrayElements",
-        Effect::Gets(Access::ElementsCopy(ElementType::Jchar)),
+        StateEffect::Gets(Access::ElementsCopy(ElementType::Jchar)),
     ),
     (
         b"GetPrimitiveArrayCritical",
-        Effect::Gets(Access::ArrayView),
+        StateEffect::Gets(Access::ArrayView),
     ),
-    (b"GetStringChars", Effect::Gets(Access::CharsCopy)),
-    (b"GetStringCritical", Effect::Gets(Access::CharsView)),
+    (b"GetStringChars", StateEffect::Gets(Access::CharsCopy)),
+    (b"GetStringCritical", StateEffect::Gets(Access::CharsView)),
     (
         b"ReleaseIntArrayElements",
-        Effect::Releases(Access::ElementsCopy(ElementType::Jint)),
+        StateEffect::Releases(Access::ElementsCopy(ElementType::Jint)),
     ),
     (
         b"ReleaseShortArrayElements",
-        Effect::Releases(Access::ElementsCopy(ElementType::Jshort)),
+        StateEffect::Releases(Access::ElementsCopy(ElementType::Jshort)),
     ),
     (
         b"ReleaseByteArrayElements",
-        Effect::Releases(Access::ElementsCopy(ElementType::Jbyte)),
+        StateEffect::Releases(Access::ElementsCopy(ElementType::Jbyte)),
     ),
     (
         b"ReleaseCharArrayElements",
-        Effect::Releases(Access::ElementsCopy(ElementType::Jchar)),
+        StateEffect::Releases(Access::ElementsCopy(ElementType::Jchar)),
     ),
     (
         b"ReleasePrimitiveArrayCritical",
-        Effect::Releases(Access::ArrayView),
+        StateEffect::Releases(Access::ArrayView),
     ),
-    (b"ReleaseStringChars", Effect::Releases(Access::CharsCopy)),
+    (
+        b"ReleaseStringChars",
+        StateEffect::Releases(Access::CharsCopy),
+    ),
     (
         b"ReleaseStringCritical",
-        Effect::Releases(Access::CharsView),
+        StateEffect::Releases(Access::CharsView),
     ),
 ];
 
 /// The effect of the first line for a name.
-fn named_in(mut rows: &[Row], name: &[u8]) -> Effect
+fn named_in(mut rows: &[Row], name: &[u8]) -> StateEffect
     ensures { effect_value result ≡ named_effect (map row_value rows.entry.now) name.now }
 {
     while let [row, rest @ ..] = rows {
@@ -103,37 +106,21 @@ fn named_in(mut rows: &[Row], name: &[u8]) -> Effect
         }
         rows = rest;
     }
-    Effect::Other
+    StateEffect::Other
 }
 
 /// The effect of a function that there is.
-fn effect_named(name: &[u8]) -> Effect
+fn effect_named(name: &[u8]) -> StateEffect
     requires { IsTrue (is_some (function_named name.now)) }
-    ensures { option_map effect_of (function_named name.now) ≡ Some (effect_value result) }
+    ensures { option_map state_effect (function_named name.now) ≡ Some (effect_value result) }
 {
     named_in(&EFFECTS, name)
-}
-
-/// The call that a statement makes.
-fn own_call(form: &Form) -> Option<&Call>
-    ensures { (line : ℕ) → option_map (λ c. call_tree c.now) result ≡ own_call (form_tree line form.now) }
-{
-    match form {
-        Form::Declare(_, _, RightSide::Call(c)) => Some(c),
-        Form::DeclareBuffer(_, _, RightSide::Call(c)) => Some(c),
-        Form::DeclareChars(_, RightSide::Call(c)) => Some(c),
-        Form::Assign(_, RightSide::Call(c)) => Some(c),
-        Form::Perform(c) => Some(c),
-        Form::If(Test::Call(c), _) => Some(c),
-        Form::IfElse(Test::Call(c), _, _) => Some(c),
-        _ => None,
-    }
 }
 
 /// What a statement calls.
 pub(crate) fn called(form: &Form) -> Option<MadeCall<'_>>
     requires { (line : ℕ) → IsTrue (calls_known (form_tree line form.now)) }
-    ensures { (line : ℕ) → option_map made_value result ≡ option_map call_effect (function_called (form_tree line form.now)) }
+    ensures { (line : ℕ) → option_map made_value result ≡ option_map call_state_effect (function_called (form_tree line form.now)) }
 {
     match own_call(form) {
         Some(call) => Some(MadeCall {
@@ -190,11 +177,11 @@ pub(crate) fn got<'a>(call: Option<MadeCall<'a>>) -> Option<(Access, Option<&'a 
 {
     match call {
         Some(c) => match c.effect {
-            Effect::Gets(access) => Some((access, first_name(c.arguments))),
-            Effect::Releases(_) => None,
-            Effect::Deletes => None,
-            Effect::Pops => None,
-            Effect::Other => None,
+            StateEffect::Gets(access) => Some((access, first_name(c.arguments))),
+            StateEffect::Releases(_) => None,
+            StateEffect::Deletes => None,
+            StateEffect::Pops => None,
+            StateEffect::Other => None,
         },
         None => None,
     }
@@ -222,11 +209,11 @@ pub(crate) fn released<'a>(call: Option<MadeCall<'a>>) -> Option<Release<'a>>
 {
     match call {
         Some(c) => match c.effect {
-            Effect::Releases(access) => release_with(access, c.arguments),
-            Effect::Gets(_) => None,
-            Effect::Deletes => None,
-            Effect::Pops => None,
-            Effect::Other => None,
+            StateEffect::Releases(access) => release_with(access, c.arguments),
+            StateEffect::Gets(_) => None,
+            StateEffect::Deletes => None,
+            StateEffect::Pops => None,
+            StateEffect::Other => None,
         },
         None => None,
     }
@@ -238,11 +225,11 @@ pub(crate) fn deleted<'a>(call: Option<MadeCall<'a>>) -> Option<&'a [u8]>
 {
     match call {
         Some(c) => match c.effect {
-            Effect::Deletes => first_name(c.arguments),
-            Effect::Gets(_) => None,
-            Effect::Releases(_) => None,
-            Effect::Pops => None,
-            Effect::Other => None,
+            StateEffect::Deletes => first_name(c.arguments),
+            StateEffect::Gets(_) => None,
+            StateEffect::Releases(_) => None,
+            StateEffect::Pops => None,
+            StateEffect::Other => None,
         },
         None => None,
     }
@@ -254,11 +241,11 @@ pub(crate) fn popped(call: Option<MadeCall>) -> bool
 {
     match call {
         Some(c) => match c.effect {
-            Effect::Pops => true,
-            Effect::Gets(_) => false,
-            Effect::Releases(_) => false,
-            Effect::Deletes => false,
-            Effect::Other => false,
+            StateEffect::Pops => true,
+            StateEffect::Gets(_) => false,
+            StateEffect::Releases(_) => false,
+            StateEffect::Deletes => false,
+            StateEffect::Other => false,
         },
         None => false,
     }
@@ -270,11 +257,11 @@ pub(crate) fn is_forbidden(call: Option<MadeCall>) -> bool
 {
     match call {
         Some(c) => match c.effect {
-            Effect::Gets(access) => !is_critical(access),
-            Effect::Releases(access) => !is_critical(access),
-            Effect::Deletes => true,
-            Effect::Pops => true,
-            Effect::Other => true,
+            StateEffect::Gets(access) => !access.is_critical(),
+            StateEffect::Releases(access) => !access.is_critical(),
+            StateEffect::Deletes => true,
+            StateEffect::Pops => true,
+            StateEffect::Other => true,
         },
         None => false,
     }

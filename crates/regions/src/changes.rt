@@ -6,15 +6,16 @@ ghost use Rattle.syntax.specs.Views.{expr_tree, binary_tree, test_tree, form_tre
 ghost use Rattle.types.specs.Sorts.{is_null};
 ghost use Rattle.regions.specs.Regions.{made_usable, where_true, where_false};
 ghost use Rattle.regions.specs.RegionStates.{BufferIn, with_each, with_new, with_some_changed, after_pop, after_release, made_free, killed, killed_from, buffer_from, state_after};
-ghost use Rattle.regions.specs.Standings.{standing_value, named_value, state_value};
-ghost use Rattle.regions.specs.Effects.{made_value, release_value, calls_known};
+ghost use Rattle.regions.specs.StatesInMemory.{variable_state, named_value, state_value};
+ghost use Rattle.regions.specs.StateEffects.{made_value, release_value, calls_known};
 ghost use Rattle.regions.specs.Judgements.{set_from, effected, settled};
 ghost use Rattle.regions.specs.Changes.{get_value, change_value, changed_named, variable_of, tested_by, null_test_of, test_value, taught_true, taught_false};
 
 use crate::calls::{MadeCall, Release, called, deleted, got, popped, released};
-use crate::standing::{Access, Standing, State, Variable, is_same};
+use crate::states::{StaticState, Variable, VariableState, is_same};
 use std::alloc::AllocError;
 use syntax::{BinaryOp, Constant, Expr, Form, Test, VariableType};
+use types::Access;
 
 /// A change of what is known.
 #[derive(Clone, Copy)]
@@ -41,74 +42,77 @@ pub(crate) enum NullTest<'a> {
 }
 
 /// A buffer after a Get, or after NULL.
-fn buffer_standing<'a>(get: Option<(Access, Option<&'a [u8]>)>) -> Standing<'a>
-    ensures { standing_value result ≡ BufferIn (buffer_from (option_map get_value get.entry)) }
+fn buffer_after<'a>(get: Option<(Access, Option<&'a [u8]>)>) -> VariableState<'a>
+    ensures { variable_state result ≡ BufferIn (buffer_from (option_map get_value get.entry)) }
 {
     match get {
-        Some((access, Some(array))) => Standing::Untested(access, array),
-        Some((access, None)) => Standing::Untested(access, &[]),
-        None => Standing::Free,
+        Some((access, Some(array))) => VariableState::Untested(access, array),
+        Some((access, None)) => VariableState::Untested(access, &[]),
+        None => VariableState::Free,
     }
 }
 
-fn freed(standing: Standing) -> Standing
-    ensures { standing_value result ≡ made_free (standing_value standing.entry) }
+fn freed(known: VariableState) -> VariableState
+    ensures { variable_state result ≡ made_free (variable_state known.entry) }
 {
-    match standing {
-        Standing::Reference(level, live) => Standing::Reference(level, live),
-        Standing::Free => Standing::Free,
-        Standing::Untested(..) => Standing::Free,
-        Standing::Usable(..) => Standing::Free,
+    match known {
+        VariableState::Reference(level, live) => VariableState::Reference(level, live),
+        VariableState::Free => VariableState::Free,
+        VariableState::Untested(..) => VariableState::Free,
+        VariableState::Usable(..) => VariableState::Free,
     }
 }
 
-fn made_usable(standing: Standing) -> Standing
-    ensures { standing_value result ≡ made_usable (standing_value standing.entry) }
+fn made_usable(known: VariableState) -> VariableState
+    ensures { variable_state result ≡ made_usable (variable_state known.entry) }
 {
-    match standing {
-        Standing::Reference(level, live) => Standing::Reference(level, live),
-        Standing::Free => Standing::Free,
-        Standing::Untested(access, array) => Standing::Usable(access, array),
-        Standing::Usable(access, array) => Standing::Usable(access, array),
+    match known {
+        VariableState::Reference(level, live) => VariableState::Reference(level, live),
+        VariableState::Free => VariableState::Free,
+        VariableState::Untested(access, array) => VariableState::Usable(access, array),
+        VariableState::Usable(access, array) => VariableState::Usable(access, array),
     }
 }
 
-fn killed(standing: Standing) -> Standing
-    ensures { standing_value result ≡ killed (standing_value standing.entry) }
+fn killed(known: VariableState) -> VariableState
+    ensures { variable_state result ≡ killed (variable_state known.entry) }
 {
-    match standing {
-        Standing::Reference(level, _) => Standing::Reference(level, false),
-        Standing::Free => Standing::Free,
-        Standing::Untested(access, array) => Standing::Untested(access, array),
-        Standing::Usable(access, array) => Standing::Usable(access, array),
+    match known {
+        VariableState::Reference(level, _) => VariableState::Reference(level, false),
+        VariableState::Free => VariableState::Free,
+        VariableState::Untested(access, array) => VariableState::Untested(access, array),
+        VariableState::Usable(access, array) => VariableState::Usable(access, array),
     }
 }
 
-fn killed_from(level: usize, standing: Standing) -> Standing
-    ensures { standing_value result ≡ killed_from level (standing_value standing.entry) }
+fn killed_from(level: usize, known: VariableState) -> VariableState
+    ensures { variable_state result ≡ killed_from level (variable_state known.entry) }
 {
-    match standing {
-        Standing::Reference(own, live) => Standing::Reference(own, live && own < level),
-        Standing::Free => Standing::Free,
-        Standing::Untested(access, array) => Standing::Untested(access, array),
-        Standing::Usable(access, array) => Standing::Usable(access, array),
+    match known {
+        VariableState::Reference(own, live) => VariableState::Reference(own, live && own < level),
+        VariableState::Free => VariableState::Free,
+        VariableState::Untested(access, array) => VariableState::Untested(access, array),
+        VariableState::Usable(access, array) => VariableState::Usable(access, array),
     }
 }
 
-fn set_to<'a>(standing: Standing<'a>, get: Option<(Access, Option<&'a [u8]>)>) -> Standing<'a>
-    ensures { standing_value result ≡ set_from (option_map get_value get.entry) (standing_value standing.entry) }
+fn set_to<'a>(
+    known: VariableState<'a>,
+    get: Option<(Access, Option<&'a [u8]>)>,
+) -> VariableState<'a>
+    ensures { variable_state result ≡ set_from (option_map get_value get.entry) (variable_state known.entry) }
 {
-    match standing {
-        Standing::Reference(level, _) => Standing::Reference(level, true),
-        Standing::Free => buffer_standing(get),
-        Standing::Untested(..) => buffer_standing(get),
-        Standing::Usable(..) => buffer_standing(get),
+    match known {
+        VariableState::Reference(level, _) => VariableState::Reference(level, true),
+        VariableState::Free => buffer_after(get),
+        VariableState::Untested(..) => buffer_after(get),
+        VariableState::Usable(..) => buffer_after(get),
     }
 }
 
 /// What is known of a variable after a change.
-fn standing_after<'a>(name: &[u8], old: Standing<'a>, change: Change<'a>) -> Standing<'a>
-    ensures { standing_value result ≡ change_value change.entry name.now (standing_value old.entry) }
+fn known_after<'a>(name: &[u8], old: VariableState<'a>, change: Change<'a>) -> VariableState<'a>
+    ensures { variable_state result ≡ change_value change.entry name.now (variable_state old.entry) }
 {
     match change {
         Change::Free(x) => {
@@ -145,12 +149,12 @@ fn changed<'a>(v: Variable<'a>, change: Change<'a>) -> Variable<'a>
 {
     Variable {
         name: v.name,
-        standing: standing_after(v.name, v.standing, change),
+        known: known_after(v.name, v.known, change),
     }
 }
 
 /// What is known of all variables after a change.
-fn change_each<'a>(state: &mut State<'a>, change: Change<'a>)
+fn change_each<'a>(state: &mut StaticState<'a>, change: Change<'a>)
     ensures { state_value state.new ≡ with_each (state_value state.old) (change_value change.entry) }
 {
     for i in 0..state.variables.len() {
@@ -159,15 +163,19 @@ fn change_each<'a>(state: &mut State<'a>, change: Change<'a>)
 }
 
 /// One variable more.
-fn add<'a>(state: &mut State<'a>, name: &'a [u8], standing: Standing<'a>) -> Result<(), AllocError>
-    ensures { OnOk result (state_value state.new ≡ with_new (state_value state.old) name.now (standing_value standing.entry)) }
+fn add<'a>(
+    state: &mut StaticState<'a>,
+    name: &'a [u8],
+    known: VariableState<'a>,
+) -> Result<(), AllocError>
+    ensures { OnOk result (state_value state.new ≡ with_new (state_value state.old) name.now (variable_state known.entry)) }
 {
-    state.variables.insert(0, Variable { name, standing })?;
+    state.variables.insert(0, Variable { name, known })?;
     Ok(())
 }
 
 /// A frame ends, with its references.
-fn pop(state: &mut State)
+fn pop(state: &mut StaticState)
     ensures { state_value state.new ≡ after_pop (state_value state.old) }
 {
     change_each(state, Change::KillFrom(state.frames));
@@ -175,7 +183,7 @@ fn pop(state: &mut State)
 }
 
 /// A release frees its buffer, but not a copy that is committed.
-fn release<'a>(state: &mut State<'a>, release: Option<Release<'a>>)
+fn release<'a>(state: &mut StaticState<'a>, release: Option<Release<'a>>)
     ensures { state_value state.new ≡ after_release (state_value state.old) (option_map release_value release.entry) }
 {
     match release {
@@ -192,7 +200,7 @@ fn release<'a>(state: &mut State<'a>, release: Option<Release<'a>>)
     }
 }
 
-fn kill<'a>(state: &mut State<'a>, name: Option<&'a [u8]>)
+fn kill<'a>(state: &mut StaticState<'a>, name: Option<&'a [u8]>)
     ensures { state_value state.new ≡ with_some_changed (state_value state.old) (option_map (λ x. x.now) name.entry) killed }
 {
     match name {
@@ -202,7 +210,7 @@ fn kill<'a>(state: &mut State<'a>, name: Option<&'a [u8]>)
 }
 
 /// What a call leaves.
-fn take_effect<'a>(state: &mut State<'a>, call: Option<MadeCall<'a>>)
+fn take_effect<'a>(state: &mut StaticState<'a>, call: Option<MadeCall<'a>>)
     ensures { state_value state.new ≡ effected (state_value state.old) (option_map made_value call.entry) }
 {
     if popped(call) {
@@ -215,7 +223,7 @@ fn take_effect<'a>(state: &mut State<'a>, call: Option<MadeCall<'a>>)
 
 /// What is left when a variable is set or declared by a statement with this call.
 fn settle<'a>(
-    state: &mut State<'a>,
+    state: &mut StaticState<'a>,
     form: &'a Form,
     call: Option<MadeCall<'a>>,
 ) -> Result<(), AllocError>
@@ -224,7 +232,11 @@ fn settle<'a>(
     match form {
         Form::Declare(t, x, _) => match t {
             VariableType::Reference(_) => {
-                add(state, x.as_bytes(), Standing::Reference(state.frames, true))
+                add(
+                    state,
+                    x.as_bytes(),
+                    VariableState::Reference(state.frames, true),
+                )
             }
             VariableType::Uint32 => Ok(()),
             VariableType::Jint => Ok(()),
@@ -232,8 +244,8 @@ fn settle<'a>(
             VariableType::Jboolean => Ok(()),
             VariableType::JfieldId => Ok(()),
         },
-        Form::DeclareBuffer(_, x, _) => add(state, x.as_bytes(), buffer_standing(got(call))),
-        Form::DeclareChars(x, _) => add(state, x.as_bytes(), buffer_standing(got(call))),
+        Form::DeclareBuffer(_, x, _) => add(state, x.as_bytes(), buffer_after(got(call))),
+        Form::DeclareChars(x, _) => add(state, x.as_bytes(), buffer_after(got(call))),
         Form::Assign(x, _) => {
             change_each(state, Change::Set(x.as_bytes(), got(call)));
             Ok(())
@@ -251,7 +263,7 @@ fn settle<'a>(
 }
 
 /// The state after a statement without blocks.
-pub(crate) fn pass<'a>(state: &mut State<'a>, form: &'a Form) -> Result<(), AllocError>
+pub(crate) fn pass<'a>(state: &mut StaticState<'a>, form: &'a Form) -> Result<(), AllocError>
     requires { (line : ℕ) → IsTrue (calls_known (form_tree line form.now)) }
     ensures { OnOk result ((line : ℕ) → state_value state.new ≡ state_after (state_value state.old) (form_tree line form.now)) }
 {
@@ -324,7 +336,7 @@ fn null_test(e: &Expr) -> Option<NullTest<'_>>
 }
 
 /// What is known where the test holds.
-fn learn_true<'a>(state: &mut State<'a>, tested: Option<NullTest<'a>>)
+fn learn_true<'a>(state: &mut StaticState<'a>, tested: Option<NullTest<'a>>)
     ensures { state_value state.new ≡ taught_true (state_value state.old) (option_map test_value tested.entry) }
 {
     match tested {
@@ -335,7 +347,7 @@ fn learn_true<'a>(state: &mut State<'a>, tested: Option<NullTest<'a>>)
 }
 
 /// What is known where it does not.
-fn learn_false<'a>(state: &mut State<'a>, tested: Option<NullTest<'a>>)
+fn learn_false<'a>(state: &mut StaticState<'a>, tested: Option<NullTest<'a>>)
     ensures { state_value state.new ≡ taught_false (state_value state.old) (option_map test_value tested.entry) }
 {
     match tested {
@@ -346,7 +358,7 @@ fn learn_false<'a>(state: &mut State<'a>, tested: Option<NullTest<'a>>)
 }
 
 /// The state on the way where the test holds. So many frames that they can't be counted are a want of memory.
-pub(crate) fn take_true<'a>(state: &mut State<'a>, test: &'a Test) -> Result<(), AllocError>
+pub(crate) fn take_true<'a>(state: &mut StaticState<'a>, test: &'a Test) -> Result<(), AllocError>
     ensures { OnOk result (state_value state.new ≡ where_true (state_value state.old) (test_tree test.now)) }
 {
     match test {
@@ -365,7 +377,7 @@ pub(crate) fn take_true<'a>(state: &mut State<'a>, test: &'a Test) -> Result<(),
 }
 
 /// The state on the way where it does not.
-pub(crate) fn take_false<'a>(state: &mut State<'a>, test: &'a Test)
+pub(crate) fn take_false<'a>(state: &mut StaticState<'a>, test: &'a Test)
     ensures { state_value state.new ≡ where_false (state_value state.old) (test_tree test.now) }
 {
     match test {

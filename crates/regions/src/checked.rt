@@ -5,7 +5,7 @@ ghost use Rattle.syntax.specs.Limits.{IsTree};
 ghost use Rattle.syntax.specs.Views.{unit_tree};
 ghost use Rattle.types.specs.SortRules.{IsSorted};
 ghost use Rattle.types.specs.BuiltCalls.{calls_are_built};
-ghost use Rattle.regions.specs.Regions.{HasRegions};
+ghost use Rattle.regions.specs.Regions.{HasRegions, BreaksRegionRule};
 ghost use Rattle.regions.specs.Endings.{AreEnded};
 ghost use Rattle.regions.specs.FirstFaults.{IsFirstRegionFault};
 ghost use Rattle.regions.specs.Findings.{rule_of, IfBroken};
@@ -72,6 +72,8 @@ pub fn check(alloc: Global, typed: Typed) -> Result<Checked, CheckFault>
     ensures only { HasRegions (unit_tree typed) → IsOkUnless result CheckFault.Memory }
     // The fault is the first in text order, and at one place the one of the least number.
     ensures first { IfErr result (λ e. IfBroken e (λ f. IsFirstRegionFault (rule_of f.rule) f.line (unit_tree typed))) }
+    // Its rule is broken at its line.
+    ensures broken { IfErr result (λ e. IfBroken e (λ f. BreaksRegionRule (rule_of f.rule) f.line (unit_tree typed))) }
 {
     check_items(alloc, typed.items())?;
     Ok(Checked::of(typed))

@@ -10,7 +10,7 @@ use thiserror::Error;
 
 /// A rule on the buffers, references, frames and ways of a function (JNI Specification, chapter 4, and ISO/IEC 9899:1999,
 /// 6.9.1).
-#[derive(Clone, Copy, Debug, PartialEq, Eq)]
+#[derive(Clone, Copy, Debug)]
 pub enum RegionRule {
     /// While a buffer is critical, only critical calls may be made, and nothing is printed.
     CallWhileCritical,
@@ -62,7 +62,7 @@ impl RegionRule {
 
 /// A rule that is broken, and its line, counted from 1: that of the first token of the statement, or of the closing brace
 /// where a block's or the function's end is reached.
-#[derive(Clone, Copy, Debug, PartialEq, Eq)]
+#[derive(Clone, Copy, Debug)]
 pub struct RegionFault {
     pub rule: RegionRule,
     pub line: usize,

@@ -7,12 +7,10 @@ mod checked;
 mod fault;
 mod names;
 mod rules;
-mod standing;
-#[cfg(test)]
-mod tests;
+mod states;
 mod walk;
 
-ghost use Rattle.regions.specs.FirstFaults.{AcceptedBreaksNothing, AcceptedOrBroken, AcceptedOrFirst, NotBoth, OneFirst};
+ghost use Rattle.regions.specs.FirstFaults.{AcceptedBreaksNothing, AcceptedOrBroken, AcceptedOrFirst, FirstIsBroken, NotBoth, OneFirst, OneFirstOfUnit};
 ghost use Rattle.regions.specs.Reachable.{ReachableIsComputed};
 
 pub use checked::{Checked, check};
@@ -41,6 +39,16 @@ pub fn not_both()
 /// A statement has one first fault at most.
 pub fn one_first()
     ensures { OneFirst }
+{}
+
+/// A unit has one first fault at most.
+pub fn one_first_of_unit()
+    ensures { OneFirstOfUnit }
+{}
+
+/// A unit's first fault is of a rule that is broken at its line.
+pub fn first_is_broken()
+    ensures { FirstIsBroken }
 {}
 
 /// The computed list is the set of the reachable objects.

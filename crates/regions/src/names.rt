@@ -2,21 +2,22 @@
 
 ghost use Rattle.std.specs.Prelude.{◌≡◌, ℕ};
 ghost use Rattle.syntax.specs.Views.{expr_tree, argument_tree, call_tree, right_side_tree, test_tree, form_tree};
-ghost use Rattle.regions.specs.Standings.{state_value, asks};
-ghost use Rattle.regions.specs.Uses.{expr_uses, argument_uses, call_uses, right_uses, test_uses, uses, expr_reads, argument_reads, call_reads, right_reads, test_reads, reads};
+ghost use Rattle.regions.specs.StatesInMemory.{state_value, asks};
+ghost use Rattle.types.specs.Uses.{expr_uses, argument_uses, call_uses, right_uses, test_uses, uses};
+ghost use Rattle.regions.specs.Reads.{expr_reads, argument_reads, call_reads, right_reads, test_reads, reads};
 
-use crate::standing::{Condition, State, is};
+use crate::states::{Condition, StaticState, meets};
 use syntax::{Argument, Call, Expr, Form, RightSide, Test};
 
 /// Whether some name of an expression is so.
-fn expr_uses(state: &State, condition: Condition, e: &Expr) -> bool
+fn expr_uses(state: &StaticState, condition: Condition, e: &Expr) -> bool
     ensures { result ≡ expr_uses (asks condition (state_value state.now)) (expr_tree e.now) }
 {
     match e {
         Expr::Number { .. } | Expr::Named(_) => false,
-        Expr::Variable(x) => is(state, condition, x.as_bytes()),
+        Expr::Variable(x) => meets(state, condition, x.as_bytes()),
         Expr::Element(x, i) => {
-            is(state, condition, x.as_bytes()) || expr_uses(state, condition, i)
+            meets(state, condition, x.as_bytes()) || expr_uses(state, condition, i)
         }
         Expr::Prefix(_, a) | Expr::Paren(a) => expr_uses(state, condition, a),
         Expr::Binary(_, a, b) => {
@@ -26,18 +27,18 @@ fn expr_uses(state: &State, condition: Condition, e: &Expr) -> bool
 }
 
 /// Whether an argument uses a name that is so.
-fn argument_uses(state: &State, condition: Condition, argument: &Argument) -> bool
+fn argument_uses(state: &StaticState, condition: Condition, argument: &Argument) -> bool
     ensures { result ≡ argument_uses (asks condition (state_value state.now)) (argument_tree argument.now) }
 {
     match argument {
         Argument::Value(e) => expr_uses(state, condition, e),
         Argument::Text(_) => false,
-        Argument::AddressOf(x) => is(state, condition, x.as_bytes()),
+        Argument::AddressOf(x) => meets(state, condition, x.as_bytes()),
     }
 }
 
 /// Whether an argument of a call does.
-fn call_uses(state: &State, condition: Condition, call: &Call) -> bool
+fn call_uses(state: &StaticState, condition: Condition, call: &Call) -> bool
     ensures { result ≡ call_uses (asks condition (state_value state.now)) (call_tree call.now) }
 {
     for argument in &call.arguments {
@@ -48,7 +49,7 @@ fn call_uses(state: &State, condition: Condition, call: &Call) -> bool
     false
 }
 
-fn right_uses(state: &State, condition: Condition, right: &RightSide) -> bool
+fn right_uses(state: &StaticState, condition: Condition, right: &RightSide) -> bool
     ensures { result ≡ right_uses (asks condition (state_value state.now)) (right_side_tree right.now) }
 {
     match right {
@@ -57,7 +58,7 @@ fn right_uses(state: &State, condition: Condition, right: &RightSide) -> bool
     }
 }
 
-fn test_uses(state: &State, condition: Condition, test: &Test) -> bool
+fn test_uses(state: &StaticState, condition: Condition, test: &Test) -> bool
     ensures { result ≡ test_uses (asks condition (state_value state.now)) (test_tree test.now) }
 {
     match test {
@@ -67,7 +68,7 @@ fn test_uses(state: &State, condition: Condition, test: &Test) -> bool
 }
 
 /// Whether a statement uses a name that is so. A name that it declares or sets is not used.
-pub(crate) fn uses(state: &State, condition: Condition, form: &Form) -> bool
+pub(crate) fn uses(state: &StaticState, condition: Condition, form: &Form) -> bool
     ensures { (line : ℕ) → result ≡ uses (asks condition (state_value state.now)) (form_tree line form.now) }
 {
     match form {
@@ -77,7 +78,7 @@ pub(crate) fn uses(state: &State, condition: Condition, form: &Form) -> bool
         Form::DeclareArray(..) => false,
         Form::Assign(_, r) => right_uses(state, condition, r),
         Form::AssignElement(x, i, e) => {
-            is(state, condition, x.as_bytes())
+            meets(state, condition, x.as_bytes())
                 || expr_uses(state, condition, i)
                 || expr_uses(state, condition, e)
         }
@@ -92,13 +93,13 @@ pub(crate) fn uses(state: &State, condition: Condition, form: &Form) -> bool
 }
 
 /// Whether an expression reads an element of a name that is so.
-fn expr_reads(state: &State, condition: Condition, e: &Expr) -> bool
+fn expr_reads(state: &StaticState, condition: Condition, e: &Expr) -> bool
     ensures { result ≡ expr_reads (asks condition (state_value state.now)) (expr_tree e.now) }
 {
     match e {
         Expr::Number { .. } | Expr::Named(_) | Expr::Variable(_) => false,
         Expr::Element(x, i) => {
-            is(state, condition, x.as_bytes()) || expr_reads(state, condition, i)
+            meets(state, condition, x.as_bytes()) || expr_reads(state, condition, i)
         }
         Expr::Prefix(_, a) | Expr::Paren(a) => expr_reads(state, condition, a),
         Expr::Binary(_, a, b) => {
@@ -107,7 +108,7 @@ fn expr_reads(state: &State, condition: Condition, e: &Expr) -> bool
     }
 }
 
-fn argument_reads(state: &State, condition: Condition, argument: &Argument) -> bool
+fn argument_reads(state: &StaticState, condition: Condition, argument: &Argument) -> bool
     ensures { result ≡ argument_reads (asks condition (state_value state.now)) (argument_tree argument.now) }
 {
     match argument {
@@ -117,7 +118,7 @@ fn argument_reads(state: &State, condition: Condition, argument: &Argument) -> b
     }
 }
 
-fn call_reads(state: &State, condition: Condition, call: &Call) -> bool
+fn call_reads(state: &StaticState, condition: Condition, call: &Call) -> bool
     ensures { result ≡ call_reads (asks condition (state_value state.now)) (call_tree call.now) }
 {
     for argument in &call.arguments {
@@ -128,7 +129,7 @@ fn call_reads(state: &State, condition: Condition, call: &Call) -> bool
     false
 }
 
-fn right_reads(state: &State, condition: Condition, right: &RightSide) -> bool
+fn right_reads(state: &StaticState, condition: Condition, right: &RightSide) -> bool
     ensures { result ≡ right_reads (asks condition (state_value state.now)) (right_side_tree right.now) }
 {
     match right {
@@ -137,7 +138,7 @@ fn right_reads(state: &State, condition: Condition, right: &RightSide) -> bool
     }
 }
 
-fn test_reads(state: &State, condition: Condition, test: &Test) -> bool
+fn test_reads(state: &StaticState, condition: Condition, test: &Test) -> bool
     ensures { result ≡ test_reads (asks condition (state_value state.now)) (test_tree test.now) }
 {
     match test {
@@ -147,7 +148,7 @@ fn test_reads(state: &State, condition: Condition, test: &Test) -> bool
 }
 
 /// Whether a statement reads or writes an element of a name that is so.
-pub(crate) fn reads(state: &State, condition: Condition, form: &Form) -> bool
+pub(crate) fn reads(state: &StaticState, condition: Condition, form: &Form) -> bool
     ensures { (line : ℕ) → result ≡ reads (asks condition (state_value state.now)) (form_tree line form.now) }
 {
     match form {
@@ -159,7 +160,7 @@ pub(crate) fn reads(state: &State, condition: Condition, form: &Form) -> bool
         Form::AssignElement(x, i, e) => {
             expr_reads(state, condition, i)
                 || expr_reads(state, condition, e)
-                || is(state, condition, x.as_bytes())
+                || meets(state, condition, x.as_bytes())
         }
         Form::Perform(c) => call_reads(state, condition, c),
         Form::PutJint(e) => expr_reads(state, condition, e),

@@ -8,17 +8,17 @@ ghost use Rattle.syntax.specs.Views.{form_tree};
 ghost use Rattle.regions.specs.FirstFaults.{first_broken};
 ghost use Rattle.regions.specs.RegionRules.{CallWhileCritical, ReturnWithBuffer, HeldBuffer, UntestedBuffer, WrongBuffer, ReturnInFrame, PopLastFrame, DeadReference, ArrayInUse, WrongLevel, is_return, is_put_jint, is_level, is_mismatched};
 ghost use Rattle.regions.specs.RegionStates.{state_of};
-ghost use Rattle.regions.specs.Standings.{standing_value, state_value, asks, held_in};
-ghost use Rattle.regions.specs.Effects.{made_value, release_value, calls_known, got};
+ghost use Rattle.regions.specs.StatesInMemory.{variable_state, state_value, asks, held_in};
+ghost use Rattle.regions.specs.StateEffects.{made_value, release_value, calls_known, got};
 ghost use Rattle.regions.specs.Findings.{rule_of};
 ghost use Rattle.regions.specs.Judgements.{judged, first_judged, is_wrong_release, is_other_level, frames_after, has_young_array, pops_array, gets_elsewhere};
 
 use crate::calls::{MadeCall, Release, called, deleted, got, is_forbidden, popped, released};
 use crate::fault::RegionRule;
 use crate::names::{reads, uses};
-use crate::standing::{
-    Condition, Standing, State, Variable, held_of, holds_buffer, holds_critical, is, is_critical,
-    is_level, is_same, is_some_in_use, same_access, some_is, standing_of,
+use crate::states::{
+    Condition, StaticState, Variable, VariableState, held_of, holds_buffer, holds_critical,
+    is_level, is_same, is_some_in_use, known_of, meets, some_meets,
 };
 use syntax::Form;
 
@@ -85,13 +85,13 @@ pub(crate) fn assigned_name(form: &Form) -> Option<&[u8]>
     }
 }
 
-fn breaks_critical(state: &State, form: &Form, call: Option<MadeCall>) -> bool
+fn breaks_critical(state: &StaticState, form: &Form, call: Option<MadeCall>) -> bool
     ensures { (line : ℕ) → result ≡ judged CallWhileCritical (state_value state.now) (form_tree line form.now) (option_map made_value call.entry) }
 {
     holds_critical(state) && (is_put_jint(form) || is_forbidden(call))
 }
 
-fn breaks_return(state: &State, form: &Form, call: Option<MadeCall>) -> bool
+fn breaks_return(state: &StaticState, form: &Form, call: Option<MadeCall>) -> bool
     ensures { (line : ℕ) → result ≡ judged ReturnWithBuffer (state_value state.now) (form_tree line form.now) (option_map made_value call.entry) }
 {
     is_return(form) && holds_buffer(state)
@@ -107,23 +107,23 @@ fn gets(call: Option<MadeCall>) -> bool
     }
 }
 
-fn breaks_held(state: &State, form: &Form, call: Option<MadeCall>) -> bool
+fn breaks_held(state: &StaticState, form: &Form, call: Option<MadeCall>) -> bool
     ensures { (line : ℕ) → result ≡ judged HeldBuffer (state_value state.now) (form_tree line form.now) (option_map made_value call.entry) }
 {
-    gets(call) && some_is(state, Condition::Held, assigned_name(form))
+    gets(call) && some_meets(state, Condition::Held, assigned_name(form))
 }
 
 /// Whether an untested buffer is released.
-fn releases_untested(state: &State, release: Option<Release>) -> bool
+fn releases_untested(state: &StaticState, release: Option<Release>) -> bool
     ensures { result ≡ some_passes (λ release. some_passes (asks Condition.Untested (state_value state.now)) release.buffer) (option_map release_value release.entry) }
 {
     match release {
-        Some(r) => some_is(state, Condition::Untested, r.buffer),
+        Some(r) => some_meets(state, Condition::Untested, r.buffer),
         None => false,
     }
 }
 
-fn breaks_untested(state: &State, form: &Form, call: Option<MadeCall>) -> bool
+fn breaks_untested(state: &StaticState, form: &Form, call: Option<MadeCall>) -> bool
     ensures { (line : ℕ) → result ≡ judged UntestedBuffer (state_value state.now) (form_tree line form.now) (option_map made_value call.entry) }
 {
     reads(state, Condition::Untested, form) || releases_untested(state, released(call))
@@ -140,39 +140,39 @@ fn is_name(name: &[u8], other: Option<&[u8]>) -> bool
 }
 
 /// Whether a release is not the one that a held buffer wants.
-fn is_mismatched(release: Release, standing: Option<Standing>) -> bool
-    ensures { result ≡ is_mismatched (release_value release.entry) (option_map standing_value standing.entry) }
+fn is_mismatched(release: Release, known: Option<VariableState>) -> bool
+    ensures { result ≡ is_mismatched (release_value release.entry) (option_map variable_state known.entry) }
 {
-    match standing {
-        Some(Standing::Untested(access, array)) => {
-            !(same_access(release.access, access) && is_name(array, release.object))
+    match known {
+        Some(VariableState::Untested(access, array)) => {
+            !(release.access.is_same(access) && is_name(array, release.object))
         }
-        Some(Standing::Usable(access, array)) => {
-            !(same_access(release.access, access) && is_name(array, release.object))
+        Some(VariableState::Usable(access, array)) => {
+            !(release.access.is_same(access) && is_name(array, release.object))
         }
-        Some(Standing::Reference(..)) => false,
-        Some(Standing::Free) => false,
+        Some(VariableState::Reference(..)) => false,
+        Some(VariableState::Free) => false,
         None => false,
     }
 }
 
 /// Whether the variable that is released wants another release.
-fn mismatches(state: &State, release: Release) -> bool
+fn mismatches(state: &StaticState, release: Release) -> bool
     ensures { result ≡ some_passes (λ x. is_mismatched (release_value release.entry) (state_of (state_value state.now) x)) (option_map (λ x. x.now) release.entry.buffer) }
 {
     match release.buffer {
-        Some(x) => is_mismatched(release, standing_of(state, x)),
+        Some(x) => is_mismatched(release, known_of(state, x)),
         None => false,
     }
 }
 
-fn is_wrong_release(state: &State, release: Release) -> bool
+fn is_wrong_release(state: &StaticState, release: Release) -> bool
     ensures { result ≡ is_wrong_release (state_value state.now) (release_value release.entry) }
 {
-    (release.commits && is_critical(release.access)) || mismatches(state, release)
+    (release.commits && release.access.is_critical()) || mismatches(state, release)
 }
 
-fn releases_wrongly(state: &State, release: Option<Release>) -> bool
+fn releases_wrongly(state: &StaticState, release: Option<Release>) -> bool
     ensures { result ≡ some_passes (is_wrong_release (state_value state.now)) (option_map release_value release.entry) }
 {
     match release {
@@ -181,42 +181,42 @@ fn releases_wrongly(state: &State, release: Option<Release>) -> bool
     }
 }
 
-fn breaks_wrong(state: &State, form: &Form, call: Option<MadeCall>) -> bool
+fn breaks_wrong(state: &StaticState, form: &Form, call: Option<MadeCall>) -> bool
     ensures { (line : ℕ) → result ≡ judged WrongBuffer (state_value state.now) (form_tree line form.now) (option_map made_value call.entry) }
 {
     uses(state, Condition::Free, form) || releases_wrongly(state, released(call))
 }
 
-fn breaks_frame(state: &State, form: &Form, call: Option<MadeCall>) -> bool
+fn breaks_frame(state: &StaticState, form: &Form, call: Option<MadeCall>) -> bool
     ensures { (line : ℕ) → result ≡ judged ReturnInFrame (state_value state.now) (form_tree line form.now) (option_map made_value call.entry) }
 {
     is_return(form) && state.frames > 1
 }
 
-fn breaks_pop(state: &State, form: &Form, call: Option<MadeCall>) -> bool
+fn breaks_pop(state: &StaticState, form: &Form, call: Option<MadeCall>) -> bool
     ensures { (line : ℕ) → result ≡ judged PopLastFrame (state_value state.now) (form_tree line form.now) (option_map made_value call.entry) }
 {
     popped(call) && state.frames <= 1
 }
 
-fn breaks_dead(state: &State, form: &Form, call: Option<MadeCall>) -> bool
+fn breaks_dead(state: &StaticState, form: &Form, call: Option<MadeCall>) -> bool
     ensures { (line : ℕ) → result ≡ judged DeadReference (state_value state.now) (form_tree line form.now) (option_map made_value call.entry) }
 {
     uses(state, Condition::Dead, form)
 }
 
 /// Whether the array variable of a held buffer is of the level of the youngest frame.
-fn is_array_young(state: &State, v: &Variable) -> bool
-    ensures { result ≡ some_passes (λ held. is_level state.now.frames (state_of (state_value state.now) held.1)) (held_in (standing_value v.now.standing)) }
+fn is_array_young(state: &StaticState, v: &Variable) -> bool
+    ensures { result ≡ some_passes (λ held. is_level state.now.frames (state_of (state_value state.now) held.1)) (held_in (variable_state v.now.known)) }
 {
-    match held_of(v.standing) {
-        Some((_, array)) => is_level(state.frames, standing_of(state, array)),
+    match held_of(v.known) {
+        Some((_, array)) => is_level(state.frames, known_of(state, array)),
         None => false,
     }
 }
 
 /// Whether the array variable of some held buffer is.
-fn has_young_array(state: &State) -> bool
+fn has_young_array(state: &StaticState) -> bool
     ensures { result ≡ has_young_array (state_value state.now) }
 {
     for v in &state.variables {
@@ -227,23 +227,23 @@ fn has_young_array(state: &State) -> bool
     false
 }
 
-fn pops_array(state: &State, call: Option<MadeCall>) -> bool
+fn pops_array(state: &StaticState, call: Option<MadeCall>) -> bool
     ensures { result ≡ pops_array (state_value state.now) (option_map made_value call.entry) }
 {
     popped(call) && has_young_array(state)
 }
 
 /// Whether a Get is of something else than a local variable.
-fn gets_elsewhere(state: &State, call: Option<MadeCall>) -> bool
+fn gets_elsewhere(state: &StaticState, call: Option<MadeCall>) -> bool
     ensures { result ≡ gets_elsewhere (state_value state.now) (option_map made_value call.entry) }
 {
     match got(call) {
-        Some((_, array)) => !some_is(state, Condition::Reference, array),
+        Some((_, array)) => !some_meets(state, Condition::Reference, array),
         None => false,
     }
 }
 
-fn breaks_array(state: &State, form: &Form, call: Option<MadeCall>) -> bool
+fn breaks_array(state: &StaticState, form: &Form, call: Option<MadeCall>) -> bool
     ensures { (line : ℕ) → result ≡ judged ArrayInUse (state_value state.now) (form_tree line form.now) (option_map made_value call.entry) }
 {
     is_some_in_use(state, assigned_name(form))
@@ -253,7 +253,7 @@ fn breaks_array(state: &State, form: &Form, call: Option<MadeCall>) -> bool
 }
 
 /// The number of frames after a call.
-fn frames_after(state: &State, call: Option<MadeCall>) -> usize
+fn frames_after(state: &StaticState, call: Option<MadeCall>) -> usize
     ensures { result ≡ frames_after (state_value state.now) (option_map made_value call.entry) }
 {
     if popped(call) {
@@ -264,13 +264,13 @@ fn frames_after(state: &State, call: Option<MadeCall>) -> usize
 }
 
 /// Whether a variable is a reference of another level.
-fn is_other_level(state: &State, frames: usize, name: &[u8]) -> bool
+fn is_other_level(state: &StaticState, frames: usize, name: &[u8]) -> bool
     ensures { result ≡ is_other_level frames (state_of (state_value state.now) name.now) }
 {
-    is(state, Condition::Reference, name) && !is_level(frames, standing_of(state, name))
+    meets(state, Condition::Reference, name) && !is_level(frames, known_of(state, name))
 }
 
-fn breaks_level(state: &State, form: &Form, call: Option<MadeCall>) -> bool
+fn breaks_level(state: &StaticState, form: &Form, call: Option<MadeCall>) -> bool
     ensures { (line : ℕ) → result ≡ judged WrongLevel (state_value state.now) (form_tree line form.now) (option_map made_value call.entry) }
 {
     match assigned_name(form) {
@@ -280,7 +280,11 @@ fn breaks_level(state: &State, form: &Form, call: Option<MadeCall>) -> bool
 }
 
 /// The rule of least number that a statement with this call breaks by itself.
-pub(crate) fn first_judged(state: &State, form: &Form, call: Option<MadeCall>) -> Option<RegionRule>
+pub(crate) fn first_judged(
+    state: &StaticState,
+    form: &Form,
+    call: Option<MadeCall>,
+) -> Option<RegionRule>
     ensures { (line : ℕ) → option_map rule_of result ≡ first_judged (state_value state.now) (form_tree line form.now) (option_map made_value call.entry) }
 {
     if breaks_critical(state, form, call) {
@@ -317,7 +321,7 @@ pub(crate) fn first_judged(state: &State, form: &Form, call: Option<MadeCall>) -
 }
 
 /// The rule of least number that a statement breaks by itself.
-pub(crate) fn first_broken(state: &State, form: &Form) -> Option<RegionRule>
+pub(crate) fn first_broken(state: &StaticState, form: &Form) -> Option<RegionRule>
     requires { (line : ℕ) → IsTrue (calls_known (form_tree line form.now)) }
     ensures { (line : ℕ) → option_map rule_of result ≡ first_broken (state_value state.now) (form_tree line form.now) }
 {

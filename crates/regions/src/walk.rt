@@ -11,57 +11,57 @@ ghost use Rattle.regions.specs.RegionRules.{is_held};
 ghost use Rattle.regions.specs.Regions.{On, left, has_variable, where_true, where_false};
 ghost use Rattle.regions.specs.SameStates.{same_variable, same_named, same_state};
 ghost use Rattle.regions.specs.Ways.{join_ways, turn_way, way_of, way_of_block};
-ghost use Rattle.regions.specs.Standings.{standing_value, variables_value, state_value};
-ghost use Rattle.regions.specs.Effects.{calls_known, item_known, items_known};
+ghost use Rattle.regions.specs.StatesInMemory.{variable_state, variables_value, state_value};
+ghost use Rattle.regions.specs.StateEffects.{calls_known, item_known, items_known};
 ghost use Rattle.regions.specs.Findings.{rule_of, Finds, function_fault, item_fault, items_fault};
 ghost use Rattle.regions.specs.Walks.{holds_other, way_value, Goes, inner_way};
 
 use crate::changes::{pass, take_false, take_true};
 use crate::fault::{CheckFault, RegionFault, RegionRule};
 use crate::rules::first_broken;
-use crate::standing::{Standing, State, Variable, copy, is_held, is_same, same_access};
+use crate::states::{StaticState, Variable, VariableState, copy, is_held, is_same};
 use std::alloc::{AllocError, Global};
 use syntax::{Block, Form, Function, Item, ParameterType, Stmt, Test};
 
 /// How a way goes on after a statement: with a state, or not at all.
 #[derive(Drop)]
 pub(crate) enum Way<'a> {
-    On(State<'a>),
+    On(StaticState<'a>),
     Returned,
 }
 
 /// Whether the same is known of two variables.
-fn same_standing(a: Standing, b: Standing) -> bool
-    ensures { result ≡ same_variable (standing_value a.entry) (standing_value b.entry) }
+fn same_known(a: VariableState, b: VariableState) -> bool
+    ensures { result ≡ same_variable (variable_state a.entry) (variable_state b.entry) }
 {
     match a {
-        Standing::Reference(level, live) => match b {
-            Standing::Reference(other, is_live) => level == other && live == is_live,
-            Standing::Free => false,
-            Standing::Untested(..) => false,
-            Standing::Usable(..) => false,
+        VariableState::Reference(level, live) => match b {
+            VariableState::Reference(other, is_live) => level == other && live == is_live,
+            VariableState::Free => false,
+            VariableState::Untested(..) => false,
+            VariableState::Usable(..) => false,
         },
-        Standing::Free => matches!(b, Standing::Free),
-        Standing::Untested(access, array) => match b {
-            Standing::Untested(other, name) => same_access(access, other) && is_same(array, name),
-            Standing::Reference(..) => false,
-            Standing::Free => false,
-            Standing::Usable(..) => false,
+        VariableState::Free => matches!(b, VariableState::Free),
+        VariableState::Untested(access, array) => match b {
+            VariableState::Untested(other, name) => access.is_same(other) && is_same(array, name),
+            VariableState::Reference(..) => false,
+            VariableState::Free => false,
+            VariableState::Usable(..) => false,
         },
-        Standing::Usable(access, array) => match b {
-            Standing::Usable(other, name) => same_access(access, other) && is_same(array, name),
-            Standing::Reference(..) => false,
-            Standing::Free => false,
-            Standing::Untested(..) => false,
+        VariableState::Usable(access, array) => match b {
+            VariableState::Usable(other, name) => access.is_same(other) && is_same(array, name),
+            VariableState::Reference(..) => false,
+            VariableState::Free => false,
+            VariableState::Untested(..) => false,
         },
     }
 }
 
 /// Whether two variables have one name, and the same is known of them.
 fn same_named(a: &Variable, b: &Variable) -> bool
-    ensures { result ≡ (bytes_eq a.now.name.now b.now.name.now && same_variable (standing_value a.now.standing) (standing_value b.now.standing)) }
+    ensures { result ≡ (bytes_eq a.now.name.now b.now.name.now && same_variable (variable_state a.now.known) (variable_state b.now.known)) }
 {
-    is_same(a.name, b.name) && same_standing(a.standing, b.standing)
+    is_same(a.name, b.name) && same_known(a.known, b.known)
 }
 
 /// Whether these are the same variables in the same order.
@@ -78,14 +78,14 @@ fn same_variables(a: &[Variable], b: &[Variable]) -> bool
 }
 
 /// Whether two states are the same.
-fn same_state(a: &State, b: &State) -> bool
+fn same_state(a: &StaticState, b: &StaticState) -> bool
     ensures { result ≡ same_state (state_value a.now) (state_value b.now) }
 {
     same_variables(&a.variables, &b.variables) && a.frames == b.frames
 }
 
 /// Whether a variable is one of a state.
-fn has_variable(state: &State, name: &[u8]) -> bool
+fn has_variable(state: &StaticState, name: &[u8]) -> bool
     ensures { result ≡ has_variable (state_value state.now) name.now }
 {
     for v in &state.variables {
@@ -97,14 +97,14 @@ fn has_variable(state: &State, name: &[u8]) -> bool
 }
 
 /// Whether a variable is a held buffer that is not of the outer state.
-fn is_own_held(outer: &State, v: &Variable) -> bool
-    ensures { result ≡ (not (has_variable (state_value outer.now) v.now.name.now) && is_held (Some (standing_value v.now.standing))) }
+fn is_own_held(outer: &StaticState, v: &Variable) -> bool
+    ensures { result ≡ (not (has_variable (state_value outer.now) v.now.name.now) && is_held (Some (variable_state v.now.known))) }
 {
     !has_variable(outer, v.name) && is_held(v)
 }
 
 /// Whether a buffer of the block itself is held.
-fn holds_own(outer: &State, state: &State) -> bool
+fn holds_own(outer: &StaticState, state: &StaticState) -> bool
     ensures { result ≡ holds_other (state_value outer.now) (state_value state.now) }
 {
     for v in &state.variables {
@@ -116,14 +116,14 @@ fn holds_own(outer: &State, state: &State) -> bool
 }
 
 /// The variables of the outer state alone.
-fn retain_outer(outer: &State, variables: &mut Vec<Variable>)
+fn retain_outer(outer: &StaticState, variables: &mut Vec<Variable>)
     ensures { variables.new.items ≡ filter (λ v. has_variable (state_value outer.now) v.name.now) variables.old.items }
 {
     variables.retain(|v| has_variable(outer, v.name));
 }
 
 /// The variables of the outer state alone are left.
-fn leave(outer: &State, state: &mut State)
+fn leave(outer: &StaticState, state: &mut StaticState)
     ensures { state_value state.new ≡ left (state_value outer.now) (state_value state.old) }
 {
     retain_outer(outer, &mut state.variables);
@@ -137,7 +137,11 @@ fn refuse<'a>(rule: RegionRule, line: usize) -> Result<Way<'a>, CheckFault>
 }
 
 /// A block's end on this line.
-fn end<'a>(outer: &State<'a>, mut state: State<'a>, line: usize) -> Result<Way<'a>, CheckFault>
+fn end<'a>(
+    outer: &StaticState<'a>,
+    mut state: StaticState<'a>,
+    line: usize,
+) -> Result<Way<'a>, CheckFault>
     ensures { Goes result (way_of_block (state_value outer.now) (state_value state.entry) (End line)) }
 {
     if holds_own(outer, &state) {
@@ -170,7 +174,7 @@ pub(crate) fn join_ways<'a>(
 }
 
 /// The way after a loop, whose body comes back to the state in which it began.
-fn turn_way<'a>(line: usize, before: State<'a>, turn: Way<'a>) -> Result<Way<'a>, CheckFault>
+fn turn_way<'a>(line: usize, before: StaticState<'a>, turn: Way<'a>) -> Result<Way<'a>, CheckFault>
     ensures { Goes result (turn_way line (state_value before.entry) (Ok (way_value turn.entry))) }
 {
     match turn {
@@ -185,7 +189,11 @@ fn turn_way<'a>(line: usize, before: State<'a>, turn: Way<'a>) -> Result<Way<'a>
 }
 
 /// The state where a test holds.
-fn state_true<'a>(alloc: Global, state: &State<'a>, test: &'a Test) -> Result<State<'a>, AllocError>
+fn state_true<'a>(
+    alloc: Global,
+    state: &StaticState<'a>,
+    test: &'a Test,
+) -> Result<StaticState<'a>, AllocError>
     ensures { IfOk result (λ s. state_value s ≡ where_true (state_value state.now) (test_tree test.now)) }
 {
     let mut inside = copy(alloc, state)?;
@@ -196,9 +204,9 @@ fn state_true<'a>(alloc: Global, state: &State<'a>, test: &'a Test) -> Result<St
 /// The state where it does not.
 fn state_false<'a>(
     alloc: Global,
-    state: &State<'a>,
+    state: &StaticState<'a>,
     test: &'a Test,
-) -> Result<State<'a>, AllocError>
+) -> Result<StaticState<'a>, AllocError>
     ensures { IfOk result (λ s. state_value s ≡ where_false (state_value state.now) (test_tree test.now)) }
 {
     let mut inside = copy(alloc, state)?;
@@ -207,7 +215,7 @@ fn state_false<'a>(
 }
 
 /// The way after a statement without blocks.
-fn pass_way<'a>(mut before: State<'a>, form: &'a Form) -> Result<Way<'a>, CheckFault>
+fn pass_way<'a>(mut before: StaticState<'a>, form: &'a Form) -> Result<Way<'a>, CheckFault>
     requires { (line : ℕ) → IsTrue (calls_known (form_tree line form.now)) }
     ensures { (line : ℕ) → Goes result (Ok (On (state_after (state_value before.entry) (form_tree line form.now)))) }
 {
@@ -219,7 +227,7 @@ fn pass_way<'a>(mut before: State<'a>, form: &'a Form) -> Result<Way<'a>, CheckF
 #[cycle(walk)]
 fn then_way<'a>(
     alloc: Global,
-    before: &State<'a>,
+    before: &StaticState<'a>,
     test: &'a Test,
     then: &'a Block,
 ) -> Result<Way<'a>, CheckFault>
@@ -234,7 +242,7 @@ fn then_way<'a>(
 #[cycle(walk)]
 fn else_way<'a>(
     alloc: Global,
-    before: &State<'a>,
+    before: &StaticState<'a>,
     test: &'a Test,
     otherwise: &'a Block,
 ) -> Result<Way<'a>, CheckFault>
@@ -249,7 +257,7 @@ fn else_way<'a>(
 #[cycle(walk)]
 fn if_way<'a>(
     alloc: Global,
-    before: State<'a>,
+    before: StaticState<'a>,
     line: usize,
     test: &'a Test,
     then: &'a Block,
@@ -267,7 +275,7 @@ fn if_way<'a>(
 #[cycle(walk)]
 fn while_way<'a>(
     alloc: Global,
-    before: State<'a>,
+    before: StaticState<'a>,
     line: usize,
     body: &'a Block,
 ) -> Result<Way<'a>, CheckFault>
@@ -283,7 +291,7 @@ fn while_way<'a>(
 #[cycle(walk)]
 fn inner_way<'a>(
     alloc: Global,
-    before: State<'a>,
+    before: StaticState<'a>,
     line: usize,
     form: &'a Form,
 ) -> Result<Way<'a>, CheckFault>
@@ -313,7 +321,11 @@ fn inner_way<'a>(
 
 /// The way after a statement.
 #[cycle(walk)]
-fn stmt_way<'a>(alloc: Global, before: State<'a>, stmt: &'a Stmt) -> Result<Way<'a>, CheckFault>
+fn stmt_way<'a>(
+    alloc: Global,
+    before: StaticState<'a>,
+    stmt: &'a Stmt,
+) -> Result<Way<'a>, CheckFault>
     requires { IsTrue (list_all calls_known (statements_within (stmt_tree stmt.now))) }
     ensures { Goes result (way_of (state_value before.entry) (stmt_tree stmt.now)) }
 {
@@ -327,8 +339,8 @@ fn stmt_way<'a>(alloc: Global, before: State<'a>, stmt: &'a Stmt) -> Result<Way<
 #[cycle(walk)]
 fn block_way<'a>(
     alloc: Global,
-    outer: &State<'a>,
-    before: State<'a>,
+    outer: &StaticState<'a>,
+    before: StaticState<'a>,
     block: &'a Block,
 ) -> Result<Way<'a>, CheckFault>
     requires { IsTrue (list_all calls_known (statements_of (block_tree block.now))) }
@@ -348,24 +360,24 @@ fn block_way<'a>(
 }
 
 /// What is known at a function's beginning: the class and its references are live, in one frame.
-fn entry_state<'a>(alloc: Global, f: &'a Function) -> Result<State<'a>, AllocError>
+fn entry_state<'a>(alloc: Global, f: &'a Function) -> Result<StaticState<'a>, AllocError>
     ensures { IfOk result (λ s. state_value s ≡ state_at_entry (function_tree f.now)) }
 {
     let mut variables = Vec::new(alloc);
-    let standing = Standing::Reference(1, true);
+    let known = VariableState::Reference(1, true);
     variables.push(Variable {
         name: f.class_name.as_bytes(),
-        standing,
+        known,
     })?;
     for p in &f.parameters {
         if let ParameterType::Reference(_) = p.kind {
             variables.push(Variable {
                 name: p.name.as_bytes(),
-                standing,
+                known,
             })?;
         }
     }
-    Ok(State {
+    Ok(StaticState {
         variables,
         frames: 1,
     })

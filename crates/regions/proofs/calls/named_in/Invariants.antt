@@ -1,5 +1,5 @@
 use Rattle.std.proofs.Common.{◌≡◌, length, map}
-use Rattle.regions.specs.Effects.{named_effect, row_value}
+use Rattle.regions.specs.StateEffects.{named_effect, row_value}
 use Rattle.regions.proofs.calls.named_in.Given as goal
 
 abbrev pub invariant-loop-rows : goal.invariant-loop-rows

@@ -1,6 +1,6 @@
 use Rattle.std.proofs.Common.{◌≡◌, ◌++◌, drop, take, map, length}
 use Rattle.regions.specs.Changes.{changed_named}
-use Rattle.regions.specs.Standings.{variables_value}
+use Rattle.regions.specs.StatesInMemory.{variables_value}
 use Rattle.regions.proofs.changes.change_each.Given as goal
 
 abbrev pub invariant-loop-i : goal.invariant-loop-i

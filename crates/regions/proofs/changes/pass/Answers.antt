@@ -2,10 +2,10 @@ use Rattle.std.proofs.Common.{Option, sym, ap, ◌∙◌}
 use Rattle.std.proofs.lemmas.Result.{on_ok_weaker}
 use Rattle.std.specs.Option.{option_map}
 use Rattle.syntax.specs.Views.{form_tree}
-use Rattle.regions.specs.Effects.{EffectCall, made_value}
+use Rattle.regions.specs.StateEffects.{EffectCall, made_value}
 use Rattle.regions.specs.Judgements.{settled, after_judged}
 use Rattle.regions.specs.RegionStates.{RegionState}
-use Rattle.regions.specs.Standings.{state_value}
+use Rattle.regions.specs.StatesInMemory.{state_value}
 use Rattle.regions.proofs.JudgementLemmas.{behind_is}
 use Rattle.regions.proofs.changes.pass.Goals as goal
 

@@ -2,7 +2,7 @@ use Rattle.std.proofs.Common.{sym, ap, ◌∙◌}
 use Rattle.syntax.specs.Views.{expr_tree, test_tree}
 use Rattle.regions.specs.Changes.{taught_false}
 use Rattle.regions.specs.Regions.{where_false}
-use Rattle.regions.specs.Standings.{state_value}
+use Rattle.regions.specs.StatesInMemory.{state_value}
 use Rattle.regions.proofs.ChangeLemmas.{false_is}
 use Rattle.regions.proofs.changes.take_false.Goals as goal
 

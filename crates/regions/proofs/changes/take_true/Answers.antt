@@ -2,7 +2,7 @@ use Rattle.std.proofs.Common.{sym, ap, ◌∙◌}
 use Rattle.syntax.specs.Views.{expr_tree, test_tree}
 use Rattle.regions.specs.Changes.{taught_true}
 use Rattle.regions.specs.Regions.{where_true}
-use Rattle.regions.specs.Standings.{state_value}
+use Rattle.regions.specs.StatesInMemory.{state_value}
 use Rattle.regions.proofs.ChangeLemmas.{true_is}
 use Rattle.regions.proofs.changes.take_true.Goals as goal
 

@@ -4,7 +4,7 @@ use Rattle.syntax.specs.declared.unit.Item.{Item as ItemInMemory}
 use Rattle.syntax.specs.Parts.{functions_of}
 use Rattle.syntax.specs.Views.{item_tree, unit_tree}
 use Rattle.regions.specs.Findings.{Refuses, items_fault, first_fault}
-use Rattle.regions.proofs.UnitLemmas.{accepted-all, accepted-memory, fault-first, built-known, items-fault}
+use Rattle.regions.proofs.UnitLemmas.{accepted-all, accepted-memory, fault-first, fault-broken, built-known, items-fault}
 use Rattle.regions.proofs.checked.check.Goals as goal
 
 pub check_items-requires : goal.check_items-requires
@@ -30,3 +30,10 @@ returns-in_err-check_items-clause-first c =
     let refuses = subst (λ (items : List ItemInMemory). Refuses e (items_fault (map item_tree items))) c.items.ensures.same c.in_err-check_items.ensures in
     let p = err_from_is_err_and c.from_residual.result c.from_residual.ensures.1 in
     rw (p.1, p.2) (fault-first (map item_tree c.args.typed) e refuses)
+
+pub returns-in_err-check_items-clause-broken : goal.returns-in_err-check_items-clause-broken
+returns-in_err-check_items-clause-broken c =
+    let e = c.in_err-check_items.field-0.0 in
+    let refuses = subst (λ (items : List ItemInMemory). Refuses e (items_fault (map item_tree items))) c.items.ensures.same c.in_err-check_items.ensures in
+    let p = err_from_is_err_and c.from_residual.result c.from_residual.ensures.1 in
+    rw (p.1, p.2) (fault-broken (map item_tree c.args.typed) e refuses)

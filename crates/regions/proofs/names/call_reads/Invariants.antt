@@ -1,8 +1,8 @@
 use Rattle.std.proofs.Common.{◌≡◌, drop, map}
 use Rattle.std.specs.List.{list_any}
 use Rattle.syntax.specs.Views.{argument_tree}
-use Rattle.regions.specs.Standings.{state_value, asks}
-use Rattle.regions.specs.Uses.{argument_reads}
+use Rattle.regions.specs.StatesInMemory.{state_value, asks}
+use Rattle.regions.specs.Reads.{argument_reads}
 use Rattle.regions.proofs.names.call_reads.Given as goal
 
 abbrev pub invariant-loop-argument : goal.invariant-loop-argument

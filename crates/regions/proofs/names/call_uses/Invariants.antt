@@ -1,8 +1,8 @@
 use Rattle.std.proofs.Common.{◌≡◌, drop, map}
 use Rattle.std.specs.List.{list_any}
 use Rattle.syntax.specs.Views.{argument_tree}
-use Rattle.regions.specs.Standings.{state_value, asks}
-use Rattle.regions.specs.Uses.{argument_uses}
+use Rattle.regions.specs.StatesInMemory.{state_value, asks}
+use Rattle.types.specs.Uses.{argument_uses}
 use Rattle.regions.proofs.names.call_uses.Given as goal
 
 abbrev pub invariant-loop-argument : goal.invariant-loop-argument

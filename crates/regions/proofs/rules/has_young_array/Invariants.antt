@@ -3,7 +3,7 @@ use Rattle.std.specs.List.{list_any}
 use Rattle.base.specs.Options.{some_passes}
 use Rattle.regions.specs.RegionRules.{is_level}
 use Rattle.regions.specs.RegionStates.{state_of}
-use Rattle.regions.specs.Standings.{variables_value, state_value, held_in}
+use Rattle.regions.specs.StatesInMemory.{variables_value, state_value, held_in}
 use Rattle.regions.specs.Judgements.{has_young_array}
 use Rattle.regions.proofs.rules.has_young_array.Given as goal
 

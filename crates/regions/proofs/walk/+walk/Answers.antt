@@ -10,9 +10,9 @@ use Rattle.syntax.specs.Tree.{Block, Next}
 use Rattle.syntax.specs.Views.{form_tree, stmt_tree, block_tree, statements_tree}
 use Rattle.syntax.proofs.Blocks.{block_is}
 use Rattle.regions.specs.declared.walk.Way.{Way as WayInMemory}
-use Rattle.regions.specs.Effects.{calls_known}
+use Rattle.regions.specs.StateEffects.{calls_known}
 use Rattle.regions.specs.Findings.{rule_of}
-use Rattle.regions.specs.Standings.{state_value}
+use Rattle.regions.specs.StatesInMemory.{state_value}
 use Rattle.regions.specs.Walks.{way_value, go_on}
 use Rattle.regions.specs.Ways.{way_of_block}
 use Rattle.regions.proofs.UnitLemmas.{both_hold}

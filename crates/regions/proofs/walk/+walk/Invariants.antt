@@ -4,8 +4,8 @@ use Rattle.std.specs.List.{list_all}
 use Rattle.syntax.specs.declared.stmt.Block.{out-Block}
 use Rattle.syntax.specs.Parts.{statements_of}
 use Rattle.syntax.specs.Views.{block_tree, statements_tree}
-use Rattle.regions.specs.Effects.{calls_known}
-use Rattle.regions.specs.Standings.{state_value}
+use Rattle.regions.specs.StateEffects.{calls_known}
+use Rattle.regions.specs.StatesInMemory.{state_value}
 use Rattle.regions.specs.Walks.{way_value, go_on}
 use Rattle.regions.specs.Ways.{way_of_block}
 use Rattle.regions.proofs.walk.+walk.Given as goal

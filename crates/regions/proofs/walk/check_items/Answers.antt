@@ -3,7 +3,7 @@ use Rattle.std.specs.Option.{option_or}
 use Rattle.std.specs.Prelude.{IsTrue}
 use Rattle.syntax.specs.declared.unit.Item.{Item as ItemInMemory}
 use Rattle.syntax.specs.Views.{item_tree}
-use Rattle.regions.specs.Effects.{item_known, items_known}
+use Rattle.regions.specs.StateEffects.{item_known, items_known}
 use Rattle.regions.specs.Findings.{items_fault}
 use Rattle.regions.specs.Ways.{Fault}
 use Rattle.regions.proofs.UnitLemmas.{both_hold}

@@ -1,7 +1,7 @@
 use Rattle.std.proofs.Common.{◌≡◌, drop, map}
 use Rattle.std.specs.Prelude.{IsTrue}
 use Rattle.syntax.specs.Views.{item_tree}
-use Rattle.regions.specs.Effects.{items_known}
+use Rattle.regions.specs.StateEffects.{items_known}
 use Rattle.regions.specs.Findings.{items_fault}
 use Rattle.regions.proofs.walk.check_items.Given as goal
 

@@ -1,7 +1,7 @@
 use Rattle.std.proofs.Common.{ap, sym, Ok, ◌∙◌}
 use Rattle.regions.specs.RegionStates.{RegionState}
 use Rattle.regions.specs.Regions.{On}
-use Rattle.regions.specs.Standings.{state_value}
+use Rattle.regions.specs.StatesInMemory.{state_value}
 use Rattle.regions.proofs.WayLemmas.{Goes-along, end_held, end_left}
 use Rattle.regions.proofs.walk.end.Goals as goal
 

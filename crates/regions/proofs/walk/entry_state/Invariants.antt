@@ -2,7 +2,7 @@ use Rattle.std.proofs.Common.{◌≡◌, ◌++◌, drop, map}
 use Rattle.std.specs.Prelude.{filter_map}
 use Rattle.syntax.specs.Views.{parameter_tree}
 use Rattle.regions.specs.RegionStates.{parameter_state}
-use Rattle.regions.specs.Standings.{variables_value}
+use Rattle.regions.specs.StatesInMemory.{variables_value}
 use Rattle.regions.specs.RegionStates.{state_at_entry}
 use Rattle.syntax.specs.Views.{function_tree}
 use Rattle.regions.proofs.walk.entry_state.Given as goal

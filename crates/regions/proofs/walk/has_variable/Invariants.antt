@@ -1,6 +1,6 @@
 use Rattle.std.proofs.Common.{◌≡◌, drop}
 use Rattle.regions.specs.Regions.{has_variable}
-use Rattle.regions.specs.Standings.{variables_value, state_value}
+use Rattle.regions.specs.StatesInMemory.{variables_value, state_value}
 use Rattle.regions.proofs.walk.has_variable.Given as goal
 
 abbrev pub invariant-loop-v : goal.invariant-loop-v

@@ -1,6 +1,6 @@
 use Rattle.std.proofs.Common.{◌≡◌, drop}
 use Rattle.regions.specs.Walks.{holds_other}
-use Rattle.regions.specs.Standings.{variables_value, state_value}
+use Rattle.regions.specs.StatesInMemory.{variables_value, state_value}
 use Rattle.regions.proofs.walk.holds_own.Given as goal
 
 abbrev pub invariant-loop-v : goal.invariant-loop-v

@@ -2,7 +2,7 @@ use Rattle.std.proofs.Common.{ap, ◌∙◌}
 use Rattle.regions.specs.Regions.{has_variable}
 use Rattle.regions.specs.RegionStates.{RegionState}
 use Rattle.regions.specs.SameStates.{NamedState}
-use Rattle.regions.specs.Standings.{variables_value, state_value}
+use Rattle.regions.specs.StatesInMemory.{variables_value, state_value}
 use Rattle.std.specs.Prelude.{List}
 use Rattle.regions.proofs.StateLemmas.{filtered}
 use Rattle.regions.proofs.walk.leave.Goals as goal

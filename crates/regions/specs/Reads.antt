@@ -1,0 +1,46 @@
+-- What is asked of the names whose elements a statement reads or writes, part by part.
+use Rattle.std.specs.Prelude.{Bool, false, ◌||◌}
+use Rattle.std.specs.List.{list_any}
+use Rattle.base.specs.Bytes.{Identifier}
+use Rattle.syntax.specs.Parts.{elements_in}
+use Rattle.syntax.specs.Tree.{Expr, Argument, Value, Text, AddressOf, Call, RightSide, FromExpr, FromCall, Test, TestExpr, TestCall, Stmt, Declare, DeclareBuffer, DeclareChars, DeclareArray, Assign, AssignElement, Perform, PutJint, If, IfElse, While, Return, ReturnValue}
+
+-- of the names whose elements an expression reads
+abbrev pub expr_reads : (Identifier → Bool) → Expr → Bool
+expr_reads asked e = list_any asked (elements_in e)
+
+-- of an argument
+abbrev pub argument_reads : (Identifier → Bool) → Argument → Bool
+argument_reads asked (Value e) = expr_reads asked e
+argument_reads asked (Text t) = false
+argument_reads asked (AddressOf x) = false
+
+-- of a call
+abbrev pub call_reads : (Identifier → Bool) → Call → Bool
+call_reads asked c = list_any (argument_reads asked) c.arguments
+
+-- of a right side
+abbrev pub right_reads : (Identifier → Bool) → RightSide → Bool
+right_reads asked (FromExpr e) = expr_reads asked e
+right_reads asked (FromCall c) = call_reads asked c
+
+-- of a test
+abbrev pub test_reads : (Identifier → Bool) → Test → Bool
+test_reads asked (TestExpr e) = expr_reads asked e
+test_reads asked (TestCall c) = call_reads asked c
+
+-- of a statement, also of the name whose element it sets
+abbrev pub reads : (Identifier → Bool) → Stmt → Bool
+reads asked (Declare line t x r) = right_reads asked r
+reads asked (DeclareBuffer line t x r) = right_reads asked r
+reads asked (DeclareChars line x r) = right_reads asked r
+reads asked (DeclareArray line t x size) = false
+reads asked (Assign line x r) = right_reads asked r
+reads asked (AssignElement line x i e) = expr_reads asked i || expr_reads asked e || asked x
+reads asked (Perform line c) = call_reads asked c
+reads asked (PutJint line e) = expr_reads asked e
+reads asked (If line test then') = test_reads asked test
+reads asked (IfElse line test then' else') = test_reads asked test
+reads asked (While line test body) = expr_reads asked test
+reads asked (Return line) = false
+reads asked (ReturnValue line e) = expr_reads asked e
