@@ -13,7 +13,7 @@ use Rattle.std.proofs.lemmas.Str.Parse.{numerals_by_value, tells_all_ascii_digit
 use Rattle.base.specs.Bytes.{Identifier, is_name_part, first_passes, is_letter, with_first, split_at}
 use Rattle.classes.specs.Class.{Class, Classes, class_named, array_name}
 use Rattle.classes.specs.BuiltIns.{built_ins, object_array_class}
-use Rattle.classes.specs.Additions.{new_class}
+use Rattle.classes.specs.Additions.{new_class, with_class}
 use Rattle.classes.specs.Mangling.{is_simple_name, is_class_name}
 use Rattle.world.specs.SceneWorld.{with_named_class, classes_named}
 use Rattle.world.proofs.LineForms.{is_free}
@@ -81,26 +81,30 @@ simple_name_free x h = name_free x ((both_true (first_passes is_letter x) (list_
 -- ---- names of classes
 
 -- no space in the name of a class
-abbrev no_space : Class → Bool
+abbrev pub no_space : Class → Bool
 no_space c = is_free (λ b. b == 32) c.name
 
 array_name_free : (name : Identifier) → is_free (λ b. b == 32) name ≡ true → is_free (λ b. b == 32) (array_name name) ≡ true
 array_name_free name h = list_all-append (λ b. not (b == 32)) name (codes ";") ∙ and_from (is_free (λ b. b == 32) name) true h refl
 
-built_ins_free : list_all no_space built_ins ≡ true
+pub built_ins_free : list_all no_space built_ins ≡ true
 unfolding built_ins
 built_ins_free = refl
+
+-- a class and its array class are added
+pub added_free : (T : Classes) (name : Identifier) (s : Option ℕ) → list_all no_space T ≡ true → is_class_name name ≡ true → list_all no_space (with_class T (new_class name s)) ≡ true
+added_free T name s h k =
+    let free = class_name_free name k in
+    let X : Classes = new_class name s ∷ object_array_class (length T + 1, new_class name s) ∷ [] in
+    let two : list_all no_space X ≡ true =
+    and_from (is_free (λ b. b == 32) name) (is_free (λ b. b == 32) (array_name name) && true) free (and_from (is_free (λ b. b == 32) (array_name name)) true (array_name_free name free) refl) in
+    list_all-append no_space T X ∙ and_from (list_all no_space T) (list_all no_space X) h two
 
 table_free : (ns : List Identifier) (T : Classes) → list_all no_space T ≡ true → list_all is_class_name ns ≡ true → list_all no_space (fold with_named_class T ns) ≡ true
 table_free [] T h k = h
 table_free (n ∷ ns) T h k =
     let b = both_true (is_class_name n) (list_all is_class_name ns) k in
-    let free = class_name_free n b.0 in
-    let two : list_all no_space (new_class n (Some 1) ∷ object_array_class (length T + 1, new_class n (Some 1)) ∷ []) ≡ true =
-    and_from (is_free (λ b. b == 32) n) (is_free (λ b. b == 32) (array_name n) && true) free (and_from (is_free (λ b. b == 32) (array_name n)) true (array_name_free n free) refl) in
-    table_free ns (with_named_class T n)
-    (list_all-append no_space T (new_class n (Some 1) ∷ object_array_class (length T + 1, new_class n (Some 1)) ∷ [])
-    ∙ and_from (list_all no_space T) (list_all no_space (new_class n (Some 1) ∷ object_array_class (length T + 1, new_class n (Some 1)) ∷ [])) h two) b.1
+    table_free ns (with_named_class T n) (added_free T n (Some 1) h b.0) b.1
 
 some_suc : (o : Option ℕ) → is_some (option_map (λ (i : ℕ). i + 1) o) ≡ is_some o
 some_suc None = refl
@@ -118,9 +122,9 @@ found_free (c ∷ T) name h k =
     by_test false e None k further = absurd (cc)
     by_test false e (Some i) k further = further refl
 
--- the name of a class has none
+-- the name of a class of a table has none
+pub class_free : (T : Classes) (name : Identifier) → list_all no_space T ≡ true → is_some (class_named T name) ≡ true → is_free (λ b. b == 32) name ≡ true
+class_free T name h k = found_free T name h (ap is_some (sym (position-found (is_named name) T)) ∙ sym (some_suc (position (is_named name) T)) ∙ k)
+
 pub known_class_free : (ns : List Identifier) (name : Identifier) → list_all is_class_name ns ≡ true → is_some (class_named (classes_named ns) name) ≡ true → is_free (λ b. b == 32) name ≡ true
-known_class_free ns name h k =
-    let T = classes_named ns in
-    found_free T name (table_free ns built_ins built_ins_free h)
-    (ap is_some (sym (position-found (is_named name) T)) ∙ sym (some_suc (position (is_named name) T)) ∙ k)
+known_class_free ns name h k = class_free (classes_named ns) name (table_free ns built_ins built_ins_free h) k

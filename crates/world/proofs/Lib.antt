@@ -30,3 +30,4 @@ pub mod MeantWorlds
 pub mod PlainClasses
 pub mod GivenLemmas
 pub mod ObjectLemmas
+pub mod OneWorld

@@ -41,7 +41,7 @@ one_part p (c ∷ w) h =
     ap (λ t. cond t ([] ∷ slice_split p w) (onto_first c (slice_split p w))) (not_true (p c) b.0) ∙ ap (onto_first c) (one_part p w b.1)
 
 -- before a separator too
-first_part : (p : ℕ → Bool) (w : List ℕ) (s : ℕ) (rest : List ℕ) → p s ≡ true → is_free p w ≡ true → slice_split p (w ++ s ∷ rest) ≡ w ∷ slice_split p rest
+pub first_part : (p : ℕ → Bool) (w : List ℕ) (s : ℕ) (rest : List ℕ) → p s ≡ true → is_free p w ≡ true → slice_split p (w ++ s ∷ rest) ≡ w ∷ slice_split p rest
 first_part p [] s rest e h = ap (λ t. cond t ([] ∷ slice_split p rest) (onto_first s (slice_split p rest))) e
 first_part p (c ∷ w) s rest e h =
     let b = both_true (not (p c)) (is_free p w) h in
@@ -71,11 +71,11 @@ heap_of-decimal n low high = heap_is (decimal n) n (first_decimal n (omega (arit
 -- ---- one line
 
 -- a line of two words
-pair_are : (w a : List ℕ) → is_free (λ c. c == 32) w ≡ true → is_free (λ c. c == 32) a ≡ true → parts_of 32 (spaced (w ∷ a ∷ [])) ≡ w ∷ a ∷ []
+pub pair_are : (w a : List ℕ) → is_free (λ c. c == 32) w ≡ true → is_free (λ c. c == 32) a ≡ true → parts_of 32 (spaced (w ∷ a ∷ [])) ≡ w ∷ a ∷ []
 pair_are w a f g = spaced_parts w (a ∷ []) (and_from (is_free (λ c. c == 32) w) (is_free (λ c. c == 32) a && true) f (and_from (is_free (λ c. c == 32) a) true g refl))
 
 -- a line of more words
-more_are : (w a : List ℕ) (ws : List (List ℕ)) → is_free (λ c. c == 32) w ≡ true → is_free (λ c. c == 32) a ≡ true → list_all (is_free (λ c. c == 32)) ws ≡ true → parts_of 32 (spaced (w ∷ a ∷ ws)) ≡ w ∷ a ∷ ws
+pub more_are : (w a : List ℕ) (ws : List (List ℕ)) → is_free (λ c. c == 32) w ≡ true → is_free (λ c. c == 32) a ≡ true → list_all (is_free (λ c. c == 32)) ws ≡ true → parts_of 32 (spaced (w ∷ a ∷ ws)) ≡ w ∷ a ∷ ws
 more_are w a ws f g h =
     spaced_parts w (a ∷ ws)
     (and_from (is_free (λ c. c == 32) w) (is_free (λ c. c == 32) a && list_all (is_free (λ c. c == 32)) ws) f (and_from (is_free (λ c. c == 32) a) (list_all (is_free (λ c. c == 32)) ws) g h))

@@ -186,18 +186,32 @@ module _ (name : Identifier) (classes : List (Vec ℕ)) where
   world : position (λ (c : Vec ℕ). is_of name c.items) classes ≡ found (is_of name) own
   world = position-found (λ (c : Vec ℕ). is_of name c.items) classes ∙ sym (found-map (is_of name) (λ (c : Vec ℕ). c.items) classes)
 
-  -- a built-in class
-  pub in_built_ins : (i : ℕ) → Some i ≡ position (λ class. bytes_eq class.now name) BUILT_INS → class_named (classes_named own) name ≡ Some (i + 1)
-  in_built_ins i h = numbered name (classes_named own) ∙ ap (option_map (λ (i : ℕ). i + 1)) (kept_in_fold name own built_ins i (sym (h ∙ built)))
+  -- a built-in class goes by its place
+  pub built_in_number_is : option_map (λ (i : ℕ). i + 1) (position (λ class. bytes_eq class.now name) BUILT_INS) ≡ class_named built_ins name
+  built_in_number_is = ap (option_map (λ (i : ℕ). i + 1)) built ∙ sym (numbered name built_ins)
 
   pub built_in_below : (i : ℕ) → Some i ≡ position (λ class. bytes_eq class.now name) BUILT_INS → i < 42
   built_in_below i h = omega (arith, found_below (is_named name) built_ins i (sym (h ∙ built)), built_in_count)
 
-  after : None ≡ position (λ class. bytes_eq class.now name) BUILT_INS → class_named (classes_named own) name ≡ option_map (λ (i : ℕ). i + 1) (option_map (number_in name own (length built_ins)) (found (is_of name) own))
-  after h = numbered name (classes_named own) ∙ ap (option_map (λ (i : ℕ). i + 1)) (found_in_fold name own built_ins (sym (h ∙ built)))
+  -- and keeps its number
+  pub kept_number : (n : ℕ) → Some n ≡ class_named built_ins name → class_named (classes_named own) name ≡ Some n
+  kept_number n h = by_place (found (is_named name) built_ins) refl (h ∙ numbered name built_ins)
+    where
+      by_place : (o : Option ℕ) → found (is_named name) built_ins ≡ o → Some n ≡ option_map (λ (i : ℕ). i + 1) o → class_named (classes_named own) name ≡ Some n
+      by_place None e k = absurd (cc)
+      by_place (Some i) e k = numbered name (classes_named own) ∙ ap (option_map (λ (i : ℕ). i + 1)) (kept_in_fold name own built_ins i e) ∙ sym k
+
+  none_found : (o : Option ℕ) → option_map (λ (i : ℕ). i + 1) o ≡ None → o ≡ None
+  none_found None h = refl
+  none_found (Some i) h = absurd (cc)
+
+  after : class_named built_ins name ≡ None → class_named (classes_named own) name ≡ option_map (λ (i : ℕ). i + 1) (option_map (number_in name own (length built_ins)) (found (is_of name) own))
+  after h =
+      numbered name (classes_named own)
+      ∙ ap (option_map (λ (i : ℕ). i + 1)) (found_in_fold name own built_ins (none_found (found (is_named name) built_ins) (sym (numbered name built_ins) ∙ h)))
 
   -- one of the world's, or the class of its arrays
-  pub in_world : (i : ℕ) → None ≡ position (λ class. bytes_eq class.now name) BUILT_INS → Some i ≡ position (λ (c : Vec ℕ). is_of name c.items) classes
+  pub in_world : (i : ℕ) → class_named built_ins name ≡ None → Some i ≡ position (λ (c : Vec ℕ). is_of name c.items) classes
       → class_named (classes_named own) name ≡ Some (43 + 2 * i + or_array name own i)
   in_world i h k = after h ∙ ap (λ o. option_map (λ (i : ℕ). i + 1) (option_map (number_in name own (length built_ins)) o)) (sym (k ∙ world)) ∙ ap Some (omega (arith, built_in_count))
 
@@ -205,7 +219,7 @@ module _ (name : Identifier) (classes : List (Vec ℕ)) where
   in_world_below i k = omega (arith, found_below (is_of name) own i (sym (k ∙ world)), length-map classes (λ (c : Vec ℕ). c.items))
 
   -- in neither
-  pub nowhere : None ≡ position (λ class. bytes_eq class.now name) BUILT_INS → None ≡ position (λ (c : Vec ℕ). is_of name c.items) classes → class_named (classes_named own) name ≡ None
+  pub nowhere : class_named built_ins name ≡ None → None ≡ position (λ (c : Vec ℕ). is_of name c.items) classes → class_named (classes_named own) name ≡ None
   nowhere h k = after h ∙ ap (λ o. option_map (λ (i : ℕ). i + 1) (option_map (number_in name own (length built_ins)) o)) (sym (k ∙ world))
 
   -- which of the two

@@ -81,7 +81,7 @@ number_read (negsuc m) range =
     let low : m < 2147483648 = grind (arith, nat_tests, range) in
     below_word (decimal (suc m)) m (omega (arith, low)) (natural_of-written (suc m) (omega (arith, low)))
 
-number_free : (z : ℤ) → is_in_range JInt z ≡ true → is_free (λ c. c == 32) (signed_decimal z) ≡ true
+pub number_free : (z : ℤ) → is_in_range JInt z ≡ true → is_free (λ c. c == 32) (signed_decimal z) ≡ true
 number_free (pos n) range =
     let low : n ≤ 2147483647 = grind (arith, nat_tests, range) in
     decimal_free n (omega (arith, low))

@@ -34,5 +34,5 @@ pub use sink::{Sink, SinkFailed, put_all, put_pieces};
 pub use std_sink::StdSink;
 pub use words::MOST_WORDS;
 pub use world::{Call, World};
-pub use world_text::{read_world, worlds_are_read};
+pub use world_text::{read_world, texts_mean_one_world, worlds_are_read};
 pub use writing::{write_journal, write_report, write_run};

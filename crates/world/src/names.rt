@@ -1,9 +1,10 @@
 //! Names of classes.
 
-ghost use Rattle.std.specs.Prelude.{◌≡◌, ◌+◌, ◌*◌, ◌<◌, ◌≤◌, slice_index_or, ◌++◌, ◌∷◌, [], length, position, map, not, is_some, IfSome};
+ghost use Rattle.std.specs.Prelude.{◌≡◌, ◌+◌, ◌*◌, ◌<◌, ◌≤◌, slice_index_or, ◌++◌, ◌∷◌, [], length, position, map, not, is_some, None, IfSome};
 ghost use Rattle.std.specs.List.{list_all};
 ghost use Rattle.std.specs.Str.{bytes_eq};
 ghost use Rattle.base.specs.Bytes.{is_letter, is_name_part};
+ghost use Rattle.classes.specs.BuiltIns.{built_ins};
 ghost use Rattle.classes.specs.Class.{class_named, class_name, class_kind, is_plain, array_name};
 ghost use Rattle.classes.specs.Mangling.{is_simple_name, is_class_name};
 ghost use Rattle.world.specs.SceneWorld.{is_of, classes_named};
@@ -148,16 +149,25 @@ fn place_of(classes: &[Vec<u8>], name: &[u8]) -> Option<usize>
     classes.iter().position(|class| class.as_slice() == name || is_array_name(class, name))
 }
 
-/// The number of the class of this name: a built-in one, one of these, or the class of their arrays.
-pub fn class_number(classes: &[Vec<u8>], name: &[u8]) -> Option<usize>
+/// The number of the built-in class of this name.
+fn built_in_number(name: &[u8]) -> Option<usize>
+    ensures number { result ≡ class_named built_ins name.now }
+    ensures within { IfSome result (λ n. n ≤ 42) }
+{
+    match built_in_place(name) {
+        Some(place) => Some(place + 1),
+        None => None,
+    }
+}
+
+/// The number of the class of this name among these and the classes of their arrays, where no built-in one has the name.
+fn own_number(classes: &[Vec<u8>], name: &[u8]) -> Option<usize>
     requires { length classes.now ≤ 107 }
-    ensures number { result ≡ class_named (classes_named (map (λ class. class.items) classes.now)) name.now }
+    ensures number { class_named built_ins name.now ≡ None → result ≡ class_named (classes_named (map (λ class. class.items) classes.now)) name.now }
     ensures within { IfSome result (λ n. n ≤ 42 + 2 * length classes.now) }
 {
-    if let Some(place) = built_in_place(name) {
-        return Some(place + 1);
-    }
     match place_of(classes, name) {
+        None => None,
         Some(place) => {
             if classes[place].as_slice() == name {
                 Some(43 + 2 * place)
@@ -165,7 +175,18 @@ pub fn class_number(classes: &[Vec<u8>], name: &[u8]) -> Option<usize>
                 Some(44 + 2 * place)
             }
         }
-        None => None,
+    }
+}
+
+/// The number of the class of this name: a built-in one, one of these, or the class of their arrays.
+pub fn class_number(classes: &[Vec<u8>], name: &[u8]) -> Option<usize>
+    requires { length classes.now ≤ 107 }
+    ensures number { result ≡ class_named (classes_named (map (λ class. class.items) classes.now)) name.now }
+    ensures within { IfSome result (λ n. n ≤ 42 + 2 * length classes.now) }
+{
+    match built_in_number(name) {
+        Some(number) => Some(number),
+        None => own_number(classes, name),
     }
 }
 

@@ -1,13 +1,13 @@
 //! Reading the text of a world.
 
-ghost use Rattle.std.specs.Prelude.{◌≡◌, ◌+◌, ◌==◌, ◌&&◌, not, [], length, map, nat_lt, nat_le, is_none, Some, None, IfOk, IsTrue};
+ghost use Rattle.std.specs.Prelude.{◌≡◌, ◌+◌, ◌==◌, ◌&&◌, ◌++◌, ◌∷◌, not, [], length, map, OnOk, nat_lt, nat_le, is_none, Some, None, IfOk, IsTrue};
 ghost use Rattle.std.specs.List.{list_all};
 ghost use Rattle.world.specs.TextLaws.{WorldsAreRead};
 ghost use Rattle.std.specs.Option.{option_map};
 ghost use Rattle.base.specs.Element.{JInt};
 ghost use Rattle.classes.specs.Class.{class_named};
 ghost use Rattle.world.specs.SceneWorld.{classes_named, world_of_scene};
-ghost use Rattle.world.specs.WorldRules.{is_in_range, value_in_range, IsWorldText};
+ghost use Rattle.world.specs.WorldRules.{is_in_range, value_in_range, IsWorldText, MeansOneWorld};
 ghost use Rattle.world.specs.Views.{element_view, value_view, argument_view};
 ghost use Rattle.world.specs.Reading.{Gives};
 ghost use Rattle.world.specs.Parts.{parts_left};
@@ -299,6 +299,27 @@ impl WorldBuilder {
         }
         None
     }
+
+    /// One more array of values, whose line breaks no rule.
+    fn push_array(
+        &mut self,
+        alloc: Global,
+        name: &[u8],
+        element: Element,
+        values: &[Value],
+    ) -> Result<(), AllocError>
+        requires { array_rule (scene_of self.old) name.now (element_view element) (map value_view values.now) ≡ None }
+        ensures { OnOk result (scene_of self.new ≡ record (scene_of self.old) {
+          objects = self.old.objects ++ record { name = name.now; element = element_view element; values = map number_of (map value_view values.now) } ∷ [];
+        }) }
+    {
+        let values = numbers(alloc, element, values)?;
+        let size = 3 + values.len();
+        let array = Array::new(Vec::from_slice(alloc, name)?, element, values);
+        self.objects.push(alloc, array)?;
+        self.used += size;
+        Ok(())
+    }
 }
 
 /// Takes a line `heap N`.
@@ -377,11 +398,7 @@ fn take_array(
     if let Some(rule) = builder.array_rule(name, element, &values) {
         return Err(ReadError::Fault(TextFault { rule, line: number }));
     }
-    let values = numbers(alloc, element, &values)?;
-    let size = 3 + values.len();
-    let array = Array::new(Vec::from_slice(alloc, name)?, element, values);
-    builder.objects.push(alloc, array)?;
-    builder.used += size;
+    builder.push_array(alloc, name, element, &values)?;
     Ok(())
 }
 
@@ -548,4 +565,9 @@ pub fn read_world(alloc: Global, text: &[u8]) -> Result<World, ReadError>
 /// A world is read of exactly the texts that mean it by lines that are read today: a law, which computes nothing.
 pub fn worlds_are_read()
     ensures { WorldsAreRead }
+{}
+
+/// A text means one world at most, whatever lines it has, also those that aren't read today: a law, which computes nothing.
+pub fn texts_mean_one_world()
+    ensures { MeansOneWorld }
 {}

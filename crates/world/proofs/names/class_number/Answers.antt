@@ -1,44 +1,15 @@
-use Rattle.std.proofs.Common.{◌≡◌, ap, arith, sym, ◌∙◌, Some, ℕ, true, false, get_or}
-use Rattle.std.specs.Global.{Vec}
-use Rattle.std.specs.Str.{bytes_eq}
-use Rattle.world.proofs.NameLemmas.{in_built_ins, built_in_below, in_world, in_world_below, nowhere, is_itself, is_array}
+use Rattle.std.proofs.Common.{◌∙◌, arith, sym}
+use Rattle.world.proofs.NameLemmas.{kept_number}
 use Rattle.world.proofs.names.class_number.Goals as goal
 
 pub returns-in-Some-clause-number : goal.returns-in-Some-clause-number
-returns-in-Some-clause-number c = sym (in_built_ins c.args.name.now c.args.classes.now c.in-Some.place c.in-Some.ensures)
+returns-in-Some-clause-number c = sym (kept_number c.args.name.now c.args.classes.now c.in-Some.number c.in-Some.ensures.number)
 
 pub returns-in-Some-clause-within : goal.returns-in-Some-clause-within
-returns-in-Some-clause-within c = omega (arith, built_in_below c.args.name.now c.args.classes.now c.in-Some.place c.in-Some.ensures)
-
-pub bounds-classes-place : goal.bounds-classes-place
-bounds-classes-place c = omega (arith, in_world_below c.args.name.now c.args.classes.now c.in-Some-place_of.place c.in-Some-place_of.ensures)
-
-pub returns-then-eq-clause-number : goal.returns-then-eq-clause-number
-returns-then-eq-clause-number c =
-    let name = c.args.name.now in
-    let classes = c.args.classes.now in
-    let place = c.in-Some-place_of.place in
-    let class = c.index-classes-place.result in
-    let none = sym c.in_default.is ∙ c.built_in_place.ensures in
-    let text : bytes_eq (get_or classes place class).items name ≡ true =
-    ap (λ (v : Vec ℕ). bytes_eq v.items name) (sym c.index-classes-place.is) ∙ ap (λ b. bytes_eq b name) (sym c.as_slice.ensures.value) ∙ sym c.eq.ensures ∙ c.if-eq.true in
-    let below = in_world_below name classes place c.in-Some-place_of.ensures in
-    sym (in_world name classes place none c.in-Some-place_of.ensures ∙ ap Some (omega (arith, is_itself name classes place class below text)))
-
-pub returns-else-eq-clause-number : goal.returns-else-eq-clause-number
-returns-else-eq-clause-number c =
-    let name = c.args.name.now in
-    let classes = c.args.classes.now in
-    let place = c.in-Some-place_of.place in
-    let class = c.index-classes-place.result in
-    let none = sym c.in_default.is ∙ c.built_in_place.ensures in
-    let text : bytes_eq (get_or classes place class).items name ≡ false =
-    ap (λ (v : Vec ℕ). bytes_eq v.items name) (sym c.index-classes-place.is) ∙ ap (λ b. bytes_eq b name) (sym c.as_slice.ensures.value) ∙ sym c.eq.ensures ∙ c.if-eq.false in
-    let below = in_world_below name classes place c.in-Some-place_of.ensures in
-    sym (in_world name classes place none c.in-Some-place_of.ensures ∙ ap Some (omega (arith, is_array name classes place class below text)))
+returns-in-Some-clause-within c = omega (arith, c.in-Some.ensures.within)
 
 pub returns-in-None-clause-number : goal.returns-in-None-clause-number
-returns-in-None-clause-number c = sym (nowhere c.args.name.now c.args.classes.now (sym c.in_default.is ∙ c.built_in_place.ensures) c.in-None.ensures)
+returns-in-None-clause-number c = c.own_number.ensures.number (sym c.in-None.ensures.number)
 
-pub overflow_mul-result : goal.overflow_mul-result
-overflow_mul-result c = omega (arith, in_world_below c.args.name.now c.args.classes.now c.in-Some-place_of.place c.in-Some-place_of.ensures)
+pub returns-in-None-clause-within : goal.returns-in-None-clause-within
+returns-in-None-clause-within c = c.own_number.ensures.within

@@ -43,10 +43,10 @@ loop-entry-preserved g c =
     let rest : List ℕ = spelled_entries (drop c.loop-entry.entry-index c.args.entries.now) in
     let so_far : PutSoFar (w c.args.sink.now) (w c.if-remaining_capacity-lt5.sink) (spelled_entries c.args.entries.now) (c.if-remaining_capacity-lt5.text.items ++ rest) =
     elim c.if-remaining_capacity-lt5.branch [
-      then-remaining_capacity-lt5+in_ok-put_all v ↦
-        rw (v.sink-is, v.text-is) (put_on (w c.args.sink.now) (w c.loop-entry.sink) (w v.put_all.new.sink) (spelled_entries c.args.entries.now) c.loop-entry.text.items rest v.clear.new.self.items
-        c.loop-entry.invariant (rw v.as_slice.ensures.value at v.in_ok-put_all.ensures) v.clear.ensures)
-    | else-remaining_capacity-lt5 v ↦ rw (v.sink-is, v.text-is) c.loop-entry.invariant
+      | then-remaining_capacity-lt5+in_ok-put_all v ↦
+          rw (v.sink-is, v.text-is) (put_on (w c.args.sink.now) (w c.loop-entry.sink) (w v.put_all.new.sink) (spelled_entries c.args.entries.now) c.loop-entry.text.items rest v.clear.new.self.items
+          c.loop-entry.invariant (rw v.as_slice.ensures.value at v.in_ok-put_all.ensures) v.clear.ensures)
+      | else-remaining_capacity-lt5 v ↦ rw (v.sink-is, v.text-is) c.loop-entry.invariant
     ] in
     gathers (w c.args.sink.now) (w c.if-remaining_capacity-lt5.sink) c.args.entries.now c.loop-entry.entry-index _ c.if-remaining_capacity-lt5.text.items c.push_entry.new.text.items c.loop-entry-test.true so_far c.push_entry.ensures
 
