@@ -51,7 +51,7 @@ word_in_range (Some w) bytes = tt
 
 lexeme_in_range : (kind : Kind) (word bytes : List ℕ) → IsLexeme kind word → IsInRange (meaning_of kind bytes)
 lexeme_in_range kinds.Name word bytes h = word_in_range (word_of bytes) bytes
-lexeme_in_range (kinds.Number value unsigned) word bytes h = h.small
+lexeme_in_range (kinds.Number unsigned value) word bytes h = h.small
 lexeme_in_range kinds.Text word bytes h = tt
 lexeme_in_range (kinds.Symbol m) word bytes h = tt
 

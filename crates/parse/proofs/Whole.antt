@@ -69,7 +69,7 @@ word_not_end (Some w) bytes = refl
 
 not_end : (kind : Kind) (bytes : List ℕ) → is_fixed_meaning (meaning_of kind bytes) fixed.End ≡ false
 not_end kinds.Name bytes = word_not_end (word_of bytes) bytes
-not_end (kinds.Number value unsigned) bytes = refl
+not_end (kinds.Number unsigned value) bytes = refl
 not_end kinds.Text bytes = refl
 not_end (kinds.Symbol m) bytes = refl
 

@@ -28,7 +28,7 @@ between_quotes (quote ∷ rest) = take (length rest - 1) rest
 -- what a token of this kind with these bytes stands for
 abbrev pub meaning_of : Kind → List ℕ → Meaning
 meaning_of kinds.Name bytes = name_or_word (word_of bytes) bytes
-meaning_of (kinds.Number value unsigned) bytes = Number' value unsigned
+meaning_of (kinds.Number unsigned value) bytes = Number' value unsigned
 meaning_of kinds.Text bytes = Text' (between_quotes bytes)
 meaning_of (kinds.Symbol mark) bytes = Fixed' (fixed.Mark mark)
 

@@ -71,7 +71,7 @@ nothing a blank word letter quote unmarked = record { no_blank = blank; no_lexem
   where
     none : (kind : Kind) (rest : List ℕ) → IsLexeme kind (a ∷ rest) → ⊥
     none Name rest h = let f : true ≡ false = sym h.0 ∙ letter in absurd cc
-    none (Number value unsigned) rest h = let f : true ≡ false = sym (figure_is_word a (number_first a rest value unsigned h)) ∙ word in absurd cc
+    none (Number unsigned value) rest h = let f : true ≡ false = sym (figure_is_word a (number_first a rest value unsigned h)) ∙ word in absurd cc
     none Text rest h = let e : a ≡ 34 = cc in let f : true ≡ false = sym (eq-eqb a 34 e) ∙ quote in absurd cc
     none (Symbol mark) rest h =
         let w = first_of mark in
@@ -117,7 +117,7 @@ mark_refused None None fault e = (refl, same_fault BadByte fault e)
 number_refused : (o : Option (ℕ × Bool)) (glued : Bool) (len : ℕ) (fault : Fault) → number_piece o glued len ≡ refused fault → BadNumber ≡ fault
 number_refused None glued len fault e = same_fault BadNumber fault e
 number_refused (Some v) true len fault e = same_fault BadNumber fault e
-number_refused (Some v) false len fault e = absurd (no_refusal (Some (Number v.0 v.1), len) fault e)
+number_refused (Some v) false len fault e = absurd (no_refusal (Some (Number v.1 v.0), len) fault e)
 
 -- where nothing is read, no token stands
 no_token : (s : List ℕ) (fault : Fault) → piece_at s ≡ refused fault → (kind : Kind) (n : ℕ) → IsToken kind s n → ⊥
@@ -162,7 +162,7 @@ fault_here (a ∷ rest) fault lt e =
     ]
   where
     number : is_name_start a ≡ false → is_word a ≡ true → BadNumber ≡ fault → HasFault (a ∷ rest) fault
-    number letter word is = subst (HasFault (a ∷ rest)) is (a, rest, refl, digit_first a letter word, λ value unsigned n token. no_token (a ∷ rest) fault e (Number value unsigned) n token)
+    number letter word is = subst (HasFault (a ∷ rest)) is (a, rest, refl, digit_first a letter word, λ value unsigned n token. no_token (a ∷ rest) fault e (Number unsigned value) n token)
 
     text : a ≡ 34 → text_at rest ≡ refused fault → HasFault (a ∷ rest) fault
     text first read =

@@ -69,7 +69,7 @@ is_sign byte = byte == 43 || byte == 45
 
 abbrev pub number_piece : Option (ℕ × Bool) → Bool → ℕ → Result Piece Fault
 number_piece None glued len = Err BadNumber
-number_piece (Some number) glued len = if glued then Err BadNumber else Ok (Some (Number number.0 number.1), len)
+number_piece (Some number) glued len = if glued then Err BadNumber else Ok (Some (Number number.1 number.0), len)
 
 unfoldable pub number_at : List ℕ → Result Piece Fault
 number_at text =

@@ -83,7 +83,7 @@ IsQuoted word = (inside : List ℕ) × Every is_text inside × (word ≡ 34 ∷ 
 
 abbrev pub IsLexeme : Kind → List ℕ → Type 0
 IsLexeme Name word = IsName word
-IsLexeme (Number value unsigned) word = IsNumber word value unsigned
+IsLexeme (Number unsigned value) word = IsNumber word value unsigned
 IsLexeme Text word = IsQuoted word
 IsLexeme (Symbol mark) word = word ≡ mark_bytes mark
 
@@ -92,7 +92,7 @@ IsLexeme (Symbol mark) word = word ≡ mark_bytes mark
 -- No letter, digit or underscore stands after a number, nor a sign after one that ends in e.
 abbrev pub IsApart : Kind → List ℕ → List ℕ → Type 0
 IsApart Name word rest = Unit {0}
-IsApart (Number value unsigned) word rest =
+IsApart (Number unsigned value) word rest =
     IsFreeOf rest × (EndsInE word → (slice_index rest 0 ≢ 43) × (slice_index rest 0 ≢ 45))
   where
     IsFreeOf : List ℕ → Type 0

@@ -6,6 +6,7 @@ ghost use Rattle.scan.specs.Reading.{mark_of, pair_of};
 use crate::token::Mark;
 
 /// The mark of one byte.
+#[inline(always)]
 pub(crate) fn mark_of(byte: u8) -> Option<Mark>
     ensures { result ≡ mark_of byte }
 {
@@ -37,6 +38,7 @@ pub(crate) fn mark_of(byte: u8) -> Option<Mark>
 }
 
 /// The mark of two bytes.
+#[inline(always)]
 pub(crate) fn pair_of(first: u8, second: u8) -> Option<Mark>
     ensures { result ≡ pair_of first second }
 {
