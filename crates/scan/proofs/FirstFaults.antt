@@ -64,11 +64,11 @@ no_token text BadByte h kind n token =
     no_lexeme_of h.0 h.1 kind n h.3 (piece_sized text (Some kind) n (token_again text kind n token)).0 (subst (λ (t : List ℕ). IsLexeme kind (take n t)) h.2 token.form)
 no_token text OpenComment h kind n token = token.no_comment (rw h.1 (refl, inl refl))
 no_token text BadNumber h Name n token = let f : true ≡ false = sym (front_name n h.0 h.1 (subst (λ (t : List ℕ). IsLexeme Name (take n t)) h.2 token.form)) ∙ figure_no_letter h.0 h.3 in absurd cc
-no_token text BadNumber h (Number value unsigned) n token = h.4 value unsigned n token
+no_token text BadNumber h (Number unsigned value) n token = h.4 value unsigned n token
 no_token text BadNumber h Text n token = word_no_quote h.0 (figure_is_word h.0 h.3) (front_text n h.0 h.1 (subst (λ (t : List ℕ). IsLexeme Text (take n t)) h.2 token.form))
 no_token text BadNumber h (Symbol mark) n token = word_no_mark n h.0 h.1 mark (figure_is_word h.0 h.3) (subst (λ (t : List ℕ). IsLexeme (Symbol mark) (take n t)) h.2 token.form)
 no_token text BadText h Name n token = let f : false ≡ true = front_name n 34 h.0 (subst (λ (t : List ℕ). IsLexeme Name (take n t)) h.1 token.form) in absurd cc
-no_token text BadText h (Number value unsigned) n token = let f : false ≡ true = front_number n 34 h.0 value unsigned (subst (λ (t : List ℕ). IsLexeme (Number value unsigned) (take n t)) h.1 token.form) in absurd cc
+no_token text BadText h (Number unsigned value) n token = let f : false ≡ true = front_number n 34 h.0 value unsigned (subst (λ (t : List ℕ). IsLexeme (Number unsigned value) (take n t)) h.1 token.form) in absurd cc
 no_token text BadText h Text n token = h.2 n token
 no_token text BadText h (Symbol mark) n token = let p = front_mark n 34 h.0 mark (subst (λ (t : List ℕ). IsLexeme (Symbol mark) (take n t)) h.1 token.form) in let f : true ≡ false = p.3 in absurd cc
 
