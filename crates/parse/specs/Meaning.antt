@@ -20,7 +20,7 @@ abbrev pub name_or_word : Option Word → List ℕ → Meaning
 name_or_word None bytes = Name' bytes
 name_or_word (Some word) bytes = Fixed' (fixed.Word word)
 
--- what stands between the quotes of a string
+-- what is between the quotes of a string
 abbrev pub between_quotes : List ℕ → List ℕ
 between_quotes [] = []
 between_quotes (quote ∷ rest) = take (length rest - 1) rest

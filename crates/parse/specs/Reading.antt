@@ -62,7 +62,7 @@ abbrev pub operator_at : List Lexed → Option BinaryOp
 operator_at [] = None
 operator_at (l ∷ ls) = binary_of l.meaning
 
--- an expression, its height, and what stands after it
+-- an expression, its height, and what comes after it
 abbrev pub ReadExpr : Type 0
 ReadExpr = Expr × ℕ × List Lexed
 
@@ -80,12 +80,12 @@ climb_step deep room least more left high ls (Some op) =
     else if nat_lt high room then (deep (operator_level op + 1) (rest_of ls) >>= λ r. more (Binary op left r.0) (1 + max high r.1) r.2)
     else Err (fault_at TooHigh ls)
 
--- operators of a level or tighter, after an expression; a step for each, and deep reads what stands after it
+-- operators of a level or tighter, after an expression; a step for each, and deep reads what comes after it
 unfoldable pub climb : Reader → ℕ → ℕ → ℕ → More
 climb deep room least zero left high ls = Err (fault_at TooHigh ls)
 climb deep room least (suc steps) left high ls = climb_step deep room least (climb deep room least steps) left high ls (operator_at ls)
 
--- what a prefix stands before
+-- a prefix's operand
 unfoldable pub under_prefix : Reader → PrefixOp → List Lexed → Result ReadExpr ParseFault
 under_prefix deep op ls = do
   e ← deep prefix_level ls
@@ -143,7 +143,7 @@ abbrev pub named_of : Option Constant → List Lexed → List Lexed → Result R
 named_of None ls after = Err (fault_at NoForm ls)
 named_of (Some c) ls after = Ok (Named c, 0, after)
 
--- a number, a named constant or a name; what stands first means this
+-- a number, a named constant or a name; the first lexeme means this
 abbrev pub primary_of : Meaning → List Lexed → List Lexed → Result ReadExpr ParseFault
 primary_of (Number' value unsigned) ls after = Ok (Number value unsigned, 0, after)
 primary_of (Name' bytes) ls after = Ok (Variable bytes, 0, after)
@@ -168,7 +168,7 @@ operand_by room deep ls =
 unfoldable pub expr_by : ℕ → Reader → ℕ → List Lexed → Result ReadExpr ParseFault
 expr_by room deep least ls = operand_by room deep ls >>= λ e. climb deep room least (room + 1) e.0 e.1 e.2
 
--- expressions that stand one step deeper than where there is this room
+-- expressions one step deeper than where there is this room
 unfoldable pub deeper : ℕ → Reader
 deeper zero = λ least ls. Err (fault_at TooHigh ls)
 deeper (suc room) = λ least ls. expr_by room (deeper room) least ls
@@ -180,7 +180,7 @@ operand_at room ls = operand_by room (deeper room) ls
 abbrev pub expr_at : ℕ → ℕ → List Lexed → Result ReadExpr ParseFault
 expr_at room least ls = expr_by room (deeper room) least ls
 
--- an index that stands where there is this room
+-- an index where there is this room
 abbrev pub index_at : ℕ → List Lexed → Result ReadExpr ParseFault
 index_at room ls = index_by room (deeper room) ls
 
@@ -251,7 +251,7 @@ element_type_at ls = option_flatten (option_map element_of_word (word_at ls))
 abbrev pub variable_type_at : List Lexed → Option VariableType
 variable_type_at ls = option_flatten (option_map variable_of_word (word_at ls))
 
--- what the first lexeme stands for, and what stands after it
+-- what the first lexeme stands for, and what comes after it
 abbrev pub found : {A : Type 0} → Option A → List Lexed → Result (A × List Lexed) ParseFault
 found None ls = Err (fault_at NoForm ls)
 found (Some x) ls = Ok (x, rest_of ls)
@@ -430,7 +430,7 @@ is_array JShort ls = true
 is_array JByte ls = true
 is_array JChar ls = true
 
--- what stands after an element's type
+-- what comes after an element's type
 unfoldable pub after_element : (room line : ℕ) → ElementType → List Lexed → Result ReadPlain ParseFault
 after_element room line t ls =
     if starts_with (fixed.Mark marks.Star) ls then (setting_at room (rest_of ls) >>= λ s. Ok (DeclareBuffer line t s.0 s.1, s.2))
@@ -463,11 +463,11 @@ declared_at room ls = declared_by room (element_type_at ls) (variable_type_at ls
 abbrev pub starts_declaration : List Lexed → Bool
 starts_declaration ls = is_some (element_type_at ls) || is_some (variable_type_at ls) || starts_with (fixed.Word words.Const) ls
 
--- a statement, how many more names may be declared after it, and what stands after it
+-- a statement, how many more names may be declared after it, and what comes after it
 abbrev pub ReadStmt : Type 0
 ReadStmt = Stmt × ℕ × List Lexed
 
--- a statement without a block, where so many more names may be declared
+-- a statement without a block, where `free` more names may be declared
 unfoldable pub simple_at : (room free : ℕ) → List Lexed → Result ReadStmt ParseFault
 simple_at room free ls =
     if starts_declaration ls then (if free == 0 then Err (fault_at TooMany ls) else (declared_at room ls >>= λ s. Ok (s.0, free - 1, s.1)))
@@ -475,11 +475,11 @@ simple_at room free ls =
 
 -- ---- blocks
 
--- a block, how many more names may be declared after it, and what stands after it
+-- a block, how many more names may be declared after it, and what comes after it
 abbrev pub ReadBlock : Type 0
 ReadBlock = Block × ℕ × List Lexed
 
--- reads what stands after an opening brace, where so many more names may be declared
+-- reads what comes after an opening brace, where this many more names may be declared
 abbrev pub BlockReader : Type 0
 BlockReader = ℕ → List Lexed → Result ReadBlock ParseFault
 
@@ -525,8 +525,8 @@ is_return (Return line) = true
 is_return (ReturnValue line e) = true
 is_return s = false
 
--- statements up to the closing brace, of which there are fewer than steps, where so many more names
--- may be declared; none stands after a return
+-- statements up to the closing brace, of which there are fewer than `steps`, where `free` more names
+-- may be declared; none comes after a return
 unfoldable pub block_by : BlockReader → (room free steps : ℕ) → Bool → List Lexed → Result ReadBlock ParseFault
 block_by deep room free zero returned ls = Err (fault_at NoForm ls)
 block_by deep room free (suc steps) returned ls =
@@ -534,7 +534,7 @@ block_by deep room free (suc steps) returned ls =
     else if returned then Err (fault_at NoForm ls)
     else (statement_by deep room free ls >>= λ s. block_by deep room s.1 steps (is_return s.0) s.2 >>= λ b. Ok (Next s.0 b.0, b.1, b.2))
 
--- blocks that stand one step deeper than where there is this room
+-- blocks one step deeper than where there is this room
 unfoldable pub inner : ℕ → BlockReader
 inner zero = λ free ls. Err (fault_at TooHigh ls)
 inner (suc room) = λ free ls. block_by (inner room) room free (length ls + 1) false ls
@@ -564,7 +564,7 @@ parameter_at ls = do
   name ← name_at t.1
   Ok (record { type = t.0; name = name.0 }, name.1)
 
--- parameters, each with the comma before it, where there may be so many
+-- parameters, each with the comma before it, where there may be this many
 unfoldable pub parameters_at : ℕ → List Lexed → Result (List Parameter × List Lexed) ParseFault
 parameters_at zero ls = if starts_with (fixed.Mark marks.Comma) ls then Err (fault_at TooMany ls) else Ok ([], ls)
 parameters_at (suc free) ls =
@@ -603,11 +603,11 @@ static_at ls = do
   rest ← expect (fixed.Mark marks.Semicolon) c
   Ok (record { line = line_at ls; type = t.0; name = name.0 }, rest)
 
--- an item, how many more functions and statics there may be after it, and what stands after it
+-- an item, how many more functions and statics there may be after it, and what comes after it
 abbrev pub ReadItem : Type 0
 ReadItem = Item × ℕ × ℕ × List Lexed
 
--- an item, where there may be so many more functions and statics
+-- an item, where there may be this many more functions and statics
 unfoldable pub item_at : (functions statics : ℕ) → List Lexed → Result ReadItem ParseFault
 item_at functions statics ls =
     if starts_with (fixed.Word words.JniExport) ls then (if functions == 0 then Err (fault_at TooMany ls) else (function_at ls >>= λ f. Ok (FunctionItem f.0, functions - 1, statics, f.1)))

@@ -14,7 +14,7 @@ use scan::Mark;
 use std::alloc::Global;
 use syntax::{Argument, Call, Name, RightSide, Test};
 
-/// What stands after `(*env)->`.
+/// What comes after `(*env)->`.
 #[tactic(auto, unfolding(crate::specs::Reading::interface_at))]
 fn interface(lexemes: &[Lexeme]) -> Result<&[Lexeme], ParseFault>
     ensures { Gives (λ x. views x.now) result (interface_at (views lexemes.now)) }
@@ -130,7 +130,7 @@ pub(crate) fn right_side(
     Ok((RightSide::Expr(value), rest))
 }
 
-/// A name, what it is set to, and what stands after the semicolon.
+/// A name, what it is set to, and what comes after the semicolon.
 #[tactic(auto, unfolding(crate::specs::Reading::setting_at))]
 pub(crate) fn setting(
     alloc: Global,

@@ -18,7 +18,7 @@ use syntax::{ElementType, Form, Name, Stmt, VariableType};
 /// How many elements a local array may have.
 const ELEMENTS: u32 = 1024;
 
-/// What stands after the zeros of a local array.
+/// What comes after the zeros of a local array.
 #[tactic(auto, unfolding(crate::specs::Reading::zeros_at))]
 fn zeros(lexemes: &[Lexeme]) -> Result<&[Lexeme], ParseFault>
     ensures { Gives (λ x. views x.now) result (zeros_at (views lexemes.now)) }
@@ -59,7 +59,7 @@ fn is_array(element: ElementType, lexemes: &[Lexeme]) -> bool
     }
 }
 
-/// What stands after an element's type.
+/// What comes after an element's type.
 #[tactic(auto, unfolding(crate::specs::Reading::after_element))]
 fn after_element(
     alloc: Global,
@@ -84,7 +84,7 @@ fn after_element(
     Ok((Stmt { line, form }, rest))
 }
 
-/// What stands after another variable's type.
+/// What comes after another variable's type.
 #[tactic(auto, unfolding(crate::specs::Reading::after_variable))]
 fn after_variable(
     alloc: Global,
@@ -101,7 +101,7 @@ fn after_variable(
     Ok((Stmt { line, form }, rest))
 }
 
-/// What stands after `const`.
+/// What comes after `const`.
 #[tactic(auto, unfolding(crate::specs::Reading::after_const))]
 fn after_const(
     alloc: Global,

@@ -6,7 +6,7 @@ ghost use Rattle.syntax.specs.Limits.{operator_level};
 ghost use Rattle.syntax.specs.Views.{constant_tree, prefix_tree, binary_tree, expr_tree};
 ghost use Rattle.parse.specs.Results.{Gives};
 ghost use Rattle.parse.specs.Lexemes.{views};
-ghost use Rattle.parse.specs.Reading.{operator_at, binary_of_mark, constant_of_word, primary_at, starts_element, starts_inside, index_at, operand_at, expr_at, right_expr_at, under_prefix, deeper};
+ghost use Rattle.parse.specs.Reading.{operator_at, binary_of_mark, constant_of_word, primary_at, starts_element, starts_inside, index_at, operand_at, expr_at, right_expr_at, under_prefix, after_paren, in_parens, element_by, deeper};
 
 use crate::fault::{Fault, ParseFault};
 use crate::lexemes::{
@@ -17,7 +17,7 @@ use scan::Mark;
 use std::alloc::Global;
 use syntax::{BinaryOp, Constant, Expr, Name, PrefixOp};
 
-/// An expression, its height, and what stands after it.
+/// An expression, its height, and what comes after it.
 type ReadExpr<'t> = (Expr, u32, &'t [Lexeme]);
 
 /// Prefixes bind tighter than all operators.
@@ -159,52 +159,83 @@ pub(crate) fn expression(
 
 /// A prefix with its operand, parentheses, an element, or what holds best.
 #[cycle(expressions)]
-#[tactic(auto, using(crate::proofs::Climbing::deeps), unfolding(crate::specs::Reading::operand_by, crate::specs::Reading::after_paren, crate::specs::Reading::in_parens, crate::specs::Reading::element_by))]
+#[tactic(auto, unfolding(crate::specs::Reading::operand_by))]
 fn operand(alloc: Global, room: u32, lexemes: &[Lexeme]) -> Result<ReadExpr<'_>, ParseFault>
     requires { room ≤ 32 }
     ensures low { IfOk result (λ x. x.1 ≤ room) }
     ensures gives { Gives (λ x. (expr_tree x.0, x.1, views x.2.now)) result (operand_at room (views lexemes.now)) }
 {
-    if starts_with(Fixed::Mark(Mark::Tilde), lexemes) {
-        if room == 0 {
-            return Err(fault_at(Fault::TooHigh, lexemes));
-        }
+    let is_complement = starts_with(Fixed::Mark(Mark::Tilde), lexemes);
+    let is_negation = starts_with(Fixed::Mark(Mark::Exclamation), lexemes);
+    let is_paren = starts_with(Fixed::Mark(Mark::OpenParen), lexemes);
+    if room == 0 && (is_complement || is_negation || is_paren) {
+        return Err(fault_at(Fault::TooHigh, lexemes));
+    }
+    if is_complement {
         return prefixed(alloc, room, PrefixOp::Complement, rest_of(lexemes));
     }
-    if starts_with(Fixed::Mark(Mark::Exclamation), lexemes) {
-        if room == 0 {
-            return Err(fault_at(Fault::TooHigh, lexemes));
-        }
+    if is_negation {
         return prefixed(alloc, room, PrefixOp::LogicalNot, rest_of(lexemes));
     }
-    if starts_with(Fixed::Mark(Mark::OpenParen), lexemes) {
-        if room == 0 {
-            return Err(fault_at(Fault::TooHigh, lexemes));
-        }
-        let rest = rest_of(lexemes);
-        if starts_with(Fixed::Word(Word::Uint32), rest) {
-            let rest = expect(Fixed::Mark(Mark::CloseParen), rest_of(rest))?;
-            return prefixed(alloc, room, PrefixOp::ToWord, rest);
-        }
-        if starts_with(Fixed::Word(Word::Jint), rest) {
-            let rest = expect(Fixed::Mark(Mark::CloseParen), rest_of(rest))?;
-            return prefixed(alloc, room, PrefixOp::ToInt, rest);
-        }
-        let (inside, height, rest) = expression(alloc, room - 1, 0, rest)?;
-        let rest = expect(Fixed::Mark(Mark::CloseParen), rest)?;
-        return Ok((Expr::Paren(Box::new(alloc, inside)?), 1 + height, rest));
+    if is_paren {
+        return after_paren(alloc, room, rest_of(lexemes));
     }
     if starts_element(lexemes) {
-        let (name, rest) = name_at(lexemes)?;
-        let (index, height, rest) = index(alloc, room, rest)?;
-        let name = Name::new(alloc, name)?;
-        return Ok((
-            Expr::Element(name, Box::new(alloc, index)?),
-            1 + height,
-            rest,
-        ));
+        return element(alloc, room, lexemes);
     }
     primary(alloc, lexemes)
+}
+
+/// What comes after an opening parenthesis: a type, or an expression.
+#[cycle(expressions)]
+#[tactic(auto, unfolding(crate::specs::Reading::after_paren))]
+fn after_paren(alloc: Global, room: u32, lexemes: &[Lexeme]) -> Result<ReadExpr<'_>, ParseFault>
+    requires some { 1 ≤ room }
+    requires bound { room ≤ 32 }
+    ensures low { IfOk result (λ x. x.1 ≤ room) }
+    ensures gives { Gives (λ x. (expr_tree x.0, x.1, views x.2.now)) result (after_paren (deeper room) (views lexemes.now)) }
+{
+    if starts_with(Fixed::Word(Word::Uint32), lexemes) {
+        let rest = expect(Fixed::Mark(Mark::CloseParen), rest_of(lexemes))?;
+        return prefixed(alloc, room, PrefixOp::ToWord, rest);
+    }
+    if starts_with(Fixed::Word(Word::Jint), lexemes) {
+        let rest = expect(Fixed::Mark(Mark::CloseParen), rest_of(lexemes))?;
+        return prefixed(alloc, room, PrefixOp::ToInt, rest);
+    }
+    in_parens(alloc, room, lexemes)
+}
+
+/// An expression after its opening parenthesis.
+#[cycle(expressions)]
+#[tactic(auto, using(crate::proofs::Climbing::deeps), unfolding(crate::specs::Reading::in_parens))]
+fn in_parens(alloc: Global, room: u32, lexemes: &[Lexeme]) -> Result<ReadExpr<'_>, ParseFault>
+    requires some { 1 ≤ room }
+    requires bound { room ≤ 32 }
+    ensures low { IfOk result (λ x. x.1 ≤ room) }
+    ensures gives { Gives (λ x. (expr_tree x.0, x.1, views x.2.now)) result (in_parens (deeper room) (views lexemes.now)) }
+{
+    let (inside, height, rest) = expression(alloc, room - 1, 0, lexemes)?;
+    let rest = expect(Fixed::Mark(Mark::CloseParen), rest)?;
+    Ok((Expr::Paren(Box::new(alloc, inside)?), 1 + height, rest))
+}
+
+/// A name with an index.
+#[cycle(expressions)]
+#[tactic(auto, unfolding(crate::specs::Reading::element_by))]
+fn element(alloc: Global, room: u32, lexemes: &[Lexeme]) -> Result<ReadExpr<'_>, ParseFault>
+    requires { room ≤ 32 }
+    ensures low { IfOk result (λ x. x.1 ≤ room) }
+    ensures gives { Gives (λ x. (expr_tree x.0, x.1, views x.2.now)) result (element_by room (deeper room) (views lexemes.now)) }
+{
+    let (name, rest) = name_at(lexemes)?;
+    let (index, height, rest) = index(alloc, room, rest)?;
+    let name = Name::new(alloc, name)?;
+    Ok((
+        Expr::Element(name, Box::new(alloc, index)?),
+        1 + height,
+        rest,
+    ))
 }
 
 /// An index in its brackets, which counts one.
@@ -228,7 +259,7 @@ pub(crate) fn index(
     Ok((index, height, rest))
 }
 
-/// What a prefix stands before.
+/// The operand of a prefix.
 #[cycle(expressions)]
 #[tactic(auto, using(crate::proofs::Climbing::deeps), unfolding(crate::specs::Reading::under_prefix))]
 fn prefixed(

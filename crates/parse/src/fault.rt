@@ -14,7 +14,7 @@ pub enum Fault {
     /// Fault 12: with this token the tree is higher than 32.
     TooHigh,
     /// Fault 13: this token begins the 257th function, the declaration of a function's 257th name
-    /// (its class and its other parameters count), or stands before a parameter too many.
+    /// (its class and its other parameters count), or comes before a parameter too many.
     TooMany,
 }
 

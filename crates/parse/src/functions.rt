@@ -30,7 +30,7 @@ const FUNCTIONS: usize = 256;
 /// How many statics there may be.
 const STATICS: usize = 256;
 
-/// What stands after the parameters that each function has.
+/// What comes after the parameters that each function has.
 #[tactic(auto, unfolding(crate::specs::Reading::head_at))]
 fn head(lexemes: &[Lexeme]) -> Result<&[Lexeme], ParseFault>
     ensures { Gives (λ x. views x.now) result (head_at (views lexemes.now)) }
@@ -43,7 +43,7 @@ fn head(lexemes: &[Lexeme]) -> Result<&[Lexeme], ParseFault>
     expect(Fixed::Word(Word::Jclass), rest)
 }
 
-/// A function's block, with what closes its parameters, where so many more names may be declared.
+/// A function's block, with what closes its parameters, where `free` more names may be declared.
 #[tactic(auto, unfolding(crate::specs::Reading::body_at))]
 fn body(alloc: Global, free: usize, lexemes: &[Lexeme]) -> Result<(Block, &[Lexeme]), ParseFault>
     ensures { Gives (λ x. (block_tree x.0, views x.1.now)) result (body_at free (views lexemes.now)) }
@@ -101,10 +101,10 @@ fn static_reference(alloc: Global, lexemes: &[Lexeme]) -> Result<(Static, &[Lexe
     Ok((Static { line, kind, name }, rest))
 }
 
-/// An item, how many more functions and statics there may be after it, and what stands after it.
+/// An item, how many more functions and statics there may be after it, and what comes after it.
 type ReadItem<'t> = (Item, usize, usize, &'t [Lexeme]);
 
-/// An item, where there may be so many more functions and statics.
+/// An item, where there may be this many more functions and statics.
 #[tactic(auto, unfolding(crate::specs::Reading::item_at))]
 fn item(
     alloc: Global,

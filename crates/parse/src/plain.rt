@@ -15,7 +15,7 @@ use scan::Mark;
 use std::alloc::Global;
 use syntax::{Form, Name, Stmt};
 
-/// What stands after the `put_jint` of this line.
+/// What comes after the `put_jint` of this line.
 #[tactic(auto, unfolding(crate::specs::Reading::put_at))]
 fn put(
     alloc: Global,
@@ -34,7 +34,7 @@ fn put(
     Ok((Stmt { line, form }, rest))
 }
 
-/// What stands after the `return` of this line.
+/// What comes after the `return` of this line.
 #[tactic(auto, unfolding(crate::specs::Reading::return_at))]
 fn returned(
     alloc: Global,

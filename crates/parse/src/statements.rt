@@ -1,10 +1,10 @@
 //! Statements and blocks (ISO/IEC 9899:1999, 6.8).
 
 ghost use Rattle.std.specs.Prelude.{◌≡◌, ◌≤◌};
-ghost use Rattle.syntax.specs.Views.{stmt_tree, block_tree};
+ghost use Rattle.syntax.specs.Views.{stmt_tree, test_tree, block_tree};
 ghost use Rattle.parse.specs.Results.{Gives};
 ghost use Rattle.parse.specs.Lexemes.{views};
-ghost use Rattle.parse.specs.Reading.{simple_at, inner, if_by, while_by, is_return, statement_at, block_at};
+ghost use Rattle.parse.specs.Reading.{simple_at, inner, if_by, else_by, while_by, is_return, statement_at, block_at};
 
 use crate::calls::test;
 use crate::declarations::{declared, starts_declaration};
@@ -15,15 +15,15 @@ use crate::plain::plain;
 use crate::words::Word;
 use scan::Mark;
 use std::alloc::Global;
-use syntax::{Block, Form, Stmt};
+use syntax::{Block, Form, Stmt, Test};
 
-/// A statement, how many more names may be declared after it, and what stands after it.
+/// A statement, how many more names may be declared after it, and what comes after it.
 type ReadStmt<'t> = (Stmt, usize, &'t [Lexeme]);
 
-/// A block, how many more names may be declared after it, and what stands after it.
+/// A block, how many more names may be declared after it, and what comes after it.
 type ReadBlock<'t> = (Block, usize, &'t [Lexeme]);
 
-/// A statement without a block, where so many more names may be declared.
+/// A statement without a block, where `free` more names may be declared.
 #[tactic(auto, unfolding(crate::specs::Reading::simple_at))]
 fn simple(
     alloc: Global,
@@ -52,9 +52,9 @@ fn is_return(stmt: &Stmt) -> bool
     matches!(stmt.form, Form::Return(_))
 }
 
-/// What stands after the `if` of this line.
+/// What comes after the `if` of this line.
 #[cycle(blocks)]
-#[tactic(auto, using(crate::proofs::Blocks::inners), unfolding(crate::specs::Reading::if_by, crate::specs::Reading::else_by))]
+#[tactic(auto, using(crate::proofs::Blocks::inners), unfolding(crate::specs::Reading::if_by))]
 fn if_statement(
     alloc: Global,
     room: u32,
@@ -71,17 +71,36 @@ fn if_statement(
     let rest = expect(Fixed::Mark(Mark::CloseParen), rest)?;
     let rest = expect(Fixed::Mark(Mark::OpenBrace), rest)?;
     let (body, left, rest) = block(alloc, room - 1, free, rest)?;
-    if !starts_with(Fixed::Word(Word::Else), rest) {
+    else_block(alloc, room, line, test, body, left, rest)
+}
+
+/// What comes after the first block of an `if`.
+#[cycle(blocks)]
+#[tactic(auto, using(crate::proofs::Blocks::inners), unfolding(crate::specs::Reading::else_by))]
+fn else_block(
+    alloc: Global,
+    room: u32,
+    line: usize,
+    test: Test,
+    body: Block,
+    free: usize,
+    lexemes: &[Lexeme],
+) -> Result<ReadStmt<'_>, ParseFault>
+    requires some { 1 ≤ room }
+    requires bound { room ≤ 32 }
+    ensures { Gives (λ x. (stmt_tree x.0, x.1, views x.2.now)) result (else_by (inner room) line (test_tree test) (block_tree body) free (views lexemes.now)) }
+{
+    if !starts_with(Fixed::Word(Word::Else), lexemes) {
         let form = Form::If(test, body);
-        return Ok((Stmt { line, form }, left, rest));
+        return Ok((Stmt { line, form }, free, lexemes));
     }
-    let rest = expect(Fixed::Mark(Mark::OpenBrace), rest_of(rest))?;
-    let (other, left, rest) = block(alloc, room - 1, left, rest)?;
+    let rest = expect(Fixed::Mark(Mark::OpenBrace), rest_of(lexemes))?;
+    let (other, left, rest) = block(alloc, room - 1, free, rest)?;
     let form = Form::IfElse(test, body, other);
     Ok((Stmt { line, form }, left, rest))
 }
 
-/// What stands after the `while` of this line.
+/// What comes after the `while` of this line.
 #[cycle(blocks)]
 #[tactic(auto, using(crate::proofs::Blocks::inners), unfolding(crate::specs::Reading::while_by))]
 fn while_statement(
@@ -104,7 +123,7 @@ fn while_statement(
     Ok((Stmt { line, form }, left, rest))
 }
 
-/// A statement, where so many more names may be declared.
+/// A statement, where `free` more names may be declared.
 #[cycle(blocks)]
 #[tactic(auto, unfolding(crate::specs::Reading::statement_by))]
 fn statement(
@@ -132,7 +151,7 @@ fn statement(
     simple(alloc, room, free, lexemes)
 }
 
-/// Statements up to the closing brace, where so many names may be declared.
+/// Statements up to the closing brace, where `names` more names may be declared.
 #[cycle(blocks)]
 pub(crate) fn block(
     alloc: Global,

@@ -107,7 +107,7 @@ unclosed (a ∷ b ∷ rest) e front back is =
         absurd cc
     later (x ∷ front) is fails none rec = let g : b ∷ rest ≡ front ++ 42 ∷ 47 ∷ back = cc in rec (none_mapped _ none) front g
 
--- ---- what stands where nothing is read
+-- ---- where nothing is read
 
 mark_refused : (pair one : Option Mark) (fault : Fault) → mark_piece pair one ≡ refused fault → (one ≡ None) × (BadByte ≡ fault)
 mark_refused (Some m) one fault e = absurd (no_refusal (Some (Symbol m), 2) fault e)
@@ -119,7 +119,7 @@ number_refused None glued len fault e = same_fault BadNumber fault e
 number_refused (Some v) true len fault e = same_fault BadNumber fault e
 number_refused (Some v) false len fault e = absurd (no_refusal (Some (Number v.1 v.0), len) fault e)
 
--- where nothing is read, no token stands
+-- where nothing is read, there is no token
 no_token : (s : List ℕ) (fault : Fault) → piece_at s ≡ refused fault → (kind : Kind) (n : ℕ) → IsToken kind s n → ⊥
 no_token s fault e kind n token = no_refusal (Some kind, n) fault (sym (token_again s kind n token) ∙ e)
 

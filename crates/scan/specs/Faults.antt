@@ -16,7 +16,7 @@ pub data IsFilledTo (text : List ℕ) : ℕ → Type 0 where
   with_gap : {at : ℕ} (n : ℕ) → IsFilledTo text at → IsGap (drop at text) n → IsFilledTo text (at + n)
   with_token : {at : ℕ} (kind : Kind) (n : ℕ) → IsFilledTo text at → IsToken kind (drop at text) n → IsFilledTo text (at + n)
 
--- a byte with which nothing begins, whatever stands after it; a comment begins as a mark does
+-- a byte with which nothing begins, whatever comes after it; a comment begins as a mark does
 pub record BeginsNothing (byte : ℕ) : Type 0 where
   pub no_blank : is_blank byte ≡ false
   pub no_lexeme : (kind : Kind) (rest : List ℕ) → IsLexeme kind (byte ∷ rest) → ⊥

@@ -53,7 +53,7 @@ abbrev pub IsName : List ℕ → Type 0
 IsName [] = ⊥
 IsName (byte ∷ bytes) = IsTrue (is_name_start byte) × Every is_word bytes
 
--- 0x stands before the digits of base 16, and nothing before those of base 10
+-- 0x comes before the digits of base 16, and nothing before those of base 10
 abbrev pub IsBaseSign : ℕ → List ℕ → Type 0
 IsBaseSign base sign = ((base ≡ 10) × (sign ≡ [])) ⊎ ((base ≡ 16) × (sign ≡ 48 ∷ 120 ∷ []))
 
@@ -77,7 +77,7 @@ pub record IsNumber (word : List ℕ) (value : ℕ) (unsigned : Bool) : Type 0 w
   pub value_is : value ≡ base_value base 0 digits
   pub small : value < number_limit unsigned
 
--- a string: two quotes, and what stands between them
+-- a string: two quotes, and what is between them
 abbrev pub IsQuoted : List ℕ → Type 0
 IsQuoted word = (inside : List ℕ) × Every is_text inside × (word ≡ 34 ∷ (inside ++ 34 ∷ []))
 
@@ -87,9 +87,9 @@ IsLexeme (Number unsigned value) word = IsNumber word value unsigned
 IsLexeme Text word = IsQuoted word
 IsLexeme (Symbol mark) word = word ≡ mark_bytes mark
 
--- ---- what may stand after a token
+-- ---- what may come after a token
 
--- No letter, digit or underscore stands after a number, nor a sign after one that ends in e.
+-- No letter, digit or underscore comes right after a number, nor a sign after one that ends in e.
 abbrev pub IsApart : Kind → List ℕ → List ℕ → Type 0
 IsApart Name word rest = Unit {0}
 IsApart (Number unsigned value) word rest =

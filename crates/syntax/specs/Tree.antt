@@ -109,7 +109,7 @@ pub record Static : Type 0 where
   pub type : ReferenceType
   pub name : Identifier
 
--- what stands in a text, outside of functions
+-- an item of a text
 pub data Item : Type 0 where
   StaticItem : Static → Item
   FunctionItem : Function → Item

@@ -9,7 +9,7 @@ use crate::name::Name;
 use crate::stmt::Block;
 use std::marker::Model;
 
-/// What stands in a program text outside of functions.
+/// An item of a program's text.
 #[derive(Debug, Drop)]
 pub enum Item {
     Static(Static),

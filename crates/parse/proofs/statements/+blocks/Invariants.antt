@@ -13,6 +13,9 @@ decreases-statement l = 4 * l.room + 2
 abbrev pub decreases-if_statement : goal.decreases-if_statement
 decreases-if_statement l = 4 * l.room + 1
 
+abbrev pub decreases-else_block : goal.decreases-else_block
+decreases-else_block l = 4 * l.room
+
 abbrev pub decreases-while_statement : goal.decreases-while_statement
 decreases-while_statement l = 4 * l.room + 1
 
