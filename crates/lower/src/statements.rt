@@ -188,7 +188,7 @@ fn emit_declaration<'a>(
     names.declare(name, sort)
 }
 
-/// A new array of so many zeros.
+/// A new array of `len` zeros.
 fn emit_array<'a>(
     code: &mut Vec<Instr>,
     names: &mut Names<'a>,
