@@ -31,9 +31,10 @@ impl Model for Code {
 }
 
 impl Code {
-    /// The code of these instructions, with so many slots. None exactly where one of them finds too few words, no room or no
+    /// The code of these instructions, with these slots. None exactly where one of them finds too few words, no room or no
     /// slot, where a jump doesn't lead inside to as many words as it leaves, or where the last is followed by nothing and
-    /// doesn't leave. It takes time and host memory linear in their number.
+    /// doesn't leave. An instruction that no path reaches is judged like the others. It takes time and host memory linear in
+    /// their number.
     pub fn of(instrs: Vec<Instr>, slots: SlotCounts) -> Result<Option<Code>, AllocError>
         ensures instrs { IfOk result (λ found. IfSome found (λ c. c.instrs ≡ instrs.items)) }
         ensures slots { IfOk result (λ found. IfSome found (λ c. c.slots ≡ slots)) }

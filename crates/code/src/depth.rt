@@ -97,7 +97,7 @@ fn lands(instr: &Instr, place: usize, table: &[usize]) -> bool
     }
 }
 
-/// Whether the place after the next `skipped` instructions is inside, with so many words.
+/// Whether the place after the next `skipped` instructions is inside, with `depth` words.
 fn has_depth(table: &[usize], place: usize, skipped: usize, depth: usize) -> bool
     requires { place < length table.now }
     ensures { IsTrue result ↔ ((place + 1 + skipped < length table.now) × (slice_index table.now (place + 1 + skipped) ≡ depth)) }

@@ -119,8 +119,8 @@ pub struct Call {
 }
 
 /// One instruction, which is one step of the source. Slots of numbers are counted from 0. The line of an instruction that
-/// can trap is its statement's, counted from 1; the trap is reported there. A jump skips so many instructions after its
-/// own, or goes so many places back.
+/// can trap is its statement's, counted from 1; the trap is reported there. The number of a jump is how many
+/// instructions after it are skipped, or how many places it leads back.
 #[derive(Clone, Copy, Debug, PartialEq, Eq)]
 pub enum Instr {
     /// Puts a constant onto the stack (6.4.4.1).
@@ -145,9 +145,9 @@ pub enum Instr {
     JumpIfTrueOrPop(usize),
     /// Takes a truth and jumps where it is 0 (6.8.4.1 and 6.8.5.1).
     JumpIfFalse(usize),
-    /// Jumps over so many instructions (the end of an `if`'s way, 6.8.4.1).
+    /// Jumps over instructions (the end of an `if`'s way, 6.8.4.1).
     Jump(usize),
-    /// Jumps so many places back (the end of a loop's turn, 6.8.5.1).
+    /// Jumps back (the end of a loop's turn, 6.8.5.1).
     JumpBack(usize),
     /// Takes an index and puts the element there, or traps on this line where there is none (6.5.2.1).
     LoadElement(LocalArray, usize),
@@ -186,7 +186,7 @@ pub enum PlainTrap {
     OutOfRange,
 }
 
-/// Where an instruction leads: to the next, over so many after it, so many places back, or to a trap on a line.
+/// Where an instruction leads: to the next, over a number of instructions after it, a number of places back, or to a trap on a line.
 #[derive(Clone, Copy, Debug, PartialEq, Eq)]
 pub enum Plain {
     Next,

@@ -51,7 +51,7 @@ impl Model for Heap {
 }
 
 impl Heap {
-    /// A heap of so many cells, with no block. Fails where the host has too little memory.
+    /// A heap of `cells` cells, with no block. Fails where the host has too little memory.
     pub fn new(alloc: Global, cells: u32) -> Result<Heap, AllocError>
         requires { cells ≤ MOST_CELLS }
         ensures { IfOk result (λ h. h ≡ record { cells = cells; blocks = [] }) }

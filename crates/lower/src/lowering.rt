@@ -26,7 +26,7 @@ const MOST_STEPS: usize = 65_535;
 
 /// The program's code, of which each instruction is one step of the source.
 ///
-/// `TooLong` exactly where a function has more than 65,535 steps; it is refused by its tree alone.
+/// `TooLong` exactly where a function has more than 65,535 steps, counted on its tree.
 pub fn lower<'a>(alloc: Global, checked: &'a Checked) -> Result<Program<'a>, LowerFault>
     ensures ok { IfOk result (λ p. p.unit ≡ checked.now) }
     ensures short { IfOk result (λ _. IsTooLong (unit_tree checked.now) → ⊥) }

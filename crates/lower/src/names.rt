@@ -13,7 +13,7 @@ use std::marker::Model;
 use syntax::{ElementType, Function, Name, ParameterType};
 
 /// What a name is.
-#[derive(Clone, Copy, Debug, PartialEq, Eq)]
+#[derive(Clone, Copy)]
 pub(crate) enum Sort {
     Word,
     Jint,
@@ -28,21 +28,21 @@ pub(crate) enum Sort {
 }
 
 /// A name's sort and where its value is, counted among the slots of its kind; the elements of an array begin there.
-#[derive(Clone, Copy, Debug, PartialEq, Eq)]
+#[derive(Clone, Copy)]
 pub(crate) struct Slot {
     pub(crate) sort: Sort,
     pub(crate) index: usize,
 }
 
 /// A name and its slot.
-#[derive(Clone, Copy, Debug)]
+#[derive(Clone, Copy)]
 pub(crate) struct Known<'a> {
     pub(crate) name: &'a Name,
     pub(crate) slot: Slot,
 }
 
 /// The names that are known at a place of a function, and how many slots are taken so far.
-#[derive(Debug, Drop)]
+#[derive(Drop)]
 pub(crate) struct Names<'a> {
     /// The statics before the function, the latest last.
     statics: &'a [Known<'a>],

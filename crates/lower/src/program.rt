@@ -6,7 +6,7 @@ use std::marker::Model;
 use syntax::Item;
 
 /// A checked program, and the code of its functions in their order.
-#[derive(Drop, Debug)]
+#[derive(Drop)]
 pub struct Program<'a> {
     checked: &'a Checked,
     codes: Vec<Code>,

@@ -2,7 +2,7 @@
 
 ghost use Rattle.std.specs.Prelude.{◌≡◌, ◌+◌, ◌-◌, ◌<◌, [], ◌∷◌, ◌++◌, slice_set, vec_len, map, IfOk, OnOk};
 ghost use Rattle.base.specs.Bytes.{lookup};
-ghost use Rattle.syntax.specs.Views.{element_tree, expr_tree, argument_tree, right_side_tree, test_tree, variable_type_tree, form_tree, block_tree};
+ghost use Rattle.syntax.specs.Views.{element_tree, expr_tree, argument_tree, call_tree, right_side_tree, test_tree, variable_type_tree, form_tree, block_tree};
 ghost use Rattle.types.specs.SortRules.{variable_sort};
 ghost use Rattle.regions.specs.Term.{term_of};
 ghost use Rattle.lower.specs.Layout.{closed, layout_after, block_layout, with_name, new_slot};
@@ -188,7 +188,7 @@ fn emit_declaration<'a>(
     names.declare(name, sort)
 }
 
-/// A new array of so many zeros.
+/// A new array of `len` zeros.
 fn emit_array<'a>(
     code: &mut Vec<Instr>,
     names: &mut Names<'a>,
@@ -266,7 +266,7 @@ fn emit_dropped(
     line: usize,
     call: &Call,
 ) -> Result<(), AllocError>
-    ensures { OnOk result (code.new.items ≡ code.old.items ++ call_code names.now.known line names.now.slots.numbers (map argument_tree call.now.arguments.items)) }
+    ensures { OnOk result (code.new.items ≡ code.old.items ++ call_code names.now.known line names.now.slots.numbers (call_tree call.now).arguments) }
 {
     let slot = names.slots().numbers;
     emit_call(code, names, line, slot, &call.arguments)
