@@ -25,7 +25,7 @@ use Rattle.replay.specs.declared.task.Task.{Task as TaskInMemory}
 use Rattle.replay.specs.declared.task.Task.TheVariants as task
 use Rattle.replay.specs.declared.term.Term.{Term}
 use Rattle.replay.specs.declared.variable.Variable.{Variable as VariableInMemory}
-use Rattle.replay.specs.Activations.{tasks_from, tasks_around, tasks_behind, tasks_left, thread_in, advance_by, Advances, AreSet, BegunInRange, OuterInRange, IsInRange}
+use Rattle.replay.specs.Activations.{tasks_from, tasks_around, tasks_after, tasks_left, thread_in, advance_by, Advances, AreSet, BegunInRange, OuterInRange, IsInRange}
 use Rattle.replay.specs.Outcomes.{variable_step, Holds, LeavesVariables, LeavesIf}
 use Rattle.replay.specs.Steps.{Sees, Does, left_by}
 use Rattle.replay.specs.Tasks.{task_view, end_view, tasks_of_statements, EndInRange, StatementsInRange, TaskInRange, OutcomeInRange}
@@ -46,11 +46,11 @@ pub outer_joined : (os : List Outer) (o : Outer) → OuterInRange os → EndInRa
 outer_joined [] o h e r = (e, r, tt)
 outer_joined (p ∷ os) o h e r = (h.0, h.1, outer_joined os o h.2 e r)
 
-left_is : (a : Activation) (o : Option TaskInMemory) (rest : List Stmt) (os : List Outer) → a.task ≡ o → a.rest.now ≡ rest → a.outer.items ≡ os → tasks_left a ≡ tasks_from o (tasks_behind rest os)
+left_is : (a : Activation) (o : Option TaskInMemory) (rest : List Stmt) (os : List Outer) → a.task ≡ o → a.rest.now ≡ rest → a.outer.items ≡ os → tasks_left a ≡ tasks_from o (tasks_after rest os)
 left_is a o rest os begun rest_of outer =
-    ap (λ (p : Option TaskInMemory). tasks_from p (tasks_behind a.rest.now a.outer.items)) begun
-    ∙ ap (λ (b : List Stmt). tasks_from o (tasks_behind b a.outer.items)) rest_of
-    ∙ ap (λ (ps : List Outer). tasks_from o (tasks_behind rest ps)) outer
+    ap (λ (p : Option TaskInMemory). tasks_from p (tasks_after a.rest.now a.outer.items)) begun
+    ∙ ap (λ (b : List Stmt). tasks_from o (tasks_after b a.outer.items)) rest_of
+    ∙ ap (λ (ps : List Outer). tasks_from o (tasks_after rest ps)) outer
 
 -- a thread with other tasks, and the variables that it has
 thread_is : (s : Shared) (t : Thread) (a : Activation) (event : Event) (tasks : List Task) (vs : List VariableInMemory) → tasks_left a ≡ tasks → a.variables.items ≡ vs
@@ -89,7 +89,7 @@ begun_before unit w old begun took new tasks same does = λ lent k s t sees has.
 module _ (unit : SourceUnit) (w : World) (old begun : Activation) (begun_task after : TaskInMemory) (variables : Vec VariableInMemory) (new : Activation)
     (tasks : tasks_left begun ≡ tasks_left old) (same : begun.variables ≡ old.variables) (is : begun.task ≡ Some begun_task) where
   abbrev rest : List Task
-  rest = tasks_behind begun.rest.now begun.outer.items
+  rest = tasks_after begun.rest.now begun.outer.items
 
   first : tasks_left old ≡ task_view begun_task ∷ rest
   first = sym tasks ∙ ap (λ (o : Option TaskInMemory). tasks_from o rest) is
@@ -210,7 +210,7 @@ module _ (unit : SourceUnit) (w : World) (old new : Activation) (idle : old.task
 
   module _ (os : List Outer) (o : Outer) (outer : old.outer.items ≡ os ++ o ∷ []) (rest : new.rest ≡ o.rest) (rest_of : new.outer.items ≡ os) (same : new.variables ≡ old.variables) where
     abbrev after : List Task
-    after = tasks_behind o.rest.now os
+    after = tasks_after o.rest.now os
 
     at_end : tasks_left old ≡ end_view o.end ∷ after
     at_end = left_is old None [] (os ++ o ∷ []) idle done outer ∙ around_more [] os o

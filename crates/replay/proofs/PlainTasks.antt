@@ -22,7 +22,7 @@ use Rattle.regions.specs.Term.{Term, Done, Number, Named, Read, Element, IsNull,
 use Rattle.regions.specs.Thread.{Thread, Shared, BuffersInUse, NoAdvance, sight_of}
 use Rattle.regions.specs.ThreadStep.{thread_step, step_within, after_refused_effect, next_effect, waits}
 use Rattle.regions.specs.Value.{Value, Word, Int, Flag, Truth, Trap, Outcome, Gives, Traps, Stuck}
-use Rattle.replay.specs.Activations.{tasks_from, tasks_around, tasks_behind, tasks_left, BegunInRange}
+use Rattle.replay.specs.Activations.{tasks_from, tasks_around, tasks_after, tasks_left, BegunInRange}
 use Rattle.replay.specs.Outcomes.{target_view}
 use Rattle.replay.specs.Tasks.{task_view, end_view, tasks_of_statements, calls_built, StatementsInRange, TaskInRange}
 use Rattle.replay.specs.Threads.{ThreadStands, tasks_in, WorkInRange}
@@ -209,7 +209,7 @@ around-plain : (after : List Task) (os : List Outer) → BeginsPlain after → B
 around-plain after [] h = h
 around-plain after (o ∷ os) h = around-plain (end_view o.end ∷ tasks_of_statements o.rest.now ++ after) os (end-plain o.end)
 
-begins-plain : (o : Option TaskInMemory) (rest : List StmtInMemory) (os : List Outer) → BegunInRange o → StatementsInRange rest → BeginsPlain (tasks_from o (tasks_behind rest os))
+begins-plain : (o : Option TaskInMemory) (rest : List StmtInMemory) (os : List Outer) → BegunInRange o → StatementsInRange rest → BeginsPlain (tasks_from o (tasks_after rest os))
 begins-plain None [] os h r = around-plain [] os tt
 begins-plain None (s ∷ rest) os h r = statement-plain (stmt_tree s) r.0.built
 begins-plain (Some t) rest os h r = task-plain t h

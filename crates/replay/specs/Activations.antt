@@ -30,11 +30,11 @@ tasks_around after [] = after
 tasks_around after (o ∷ inner) = tasks_around (end_view o.end ∷ tasks_of_statements o.rest.now ++ after) inner
 
 -- the tasks after the one that is begun
-abbrev pub tasks_behind : List StmtInMemory → List Outer → List Task
-tasks_behind rest outer = tasks_of_statements rest ++ tasks_around [] outer
+abbrev pub tasks_after : List StmtInMemory → List Outer → List Task
+tasks_after rest outer = tasks_of_statements rest ++ tasks_around [] outer
 
 abbrev pub tasks_left : Activation → List Task
-tasks_left a = tasks_from a.task (tasks_behind a.rest.now a.outer.items)
+tasks_left a = tasks_from a.task (tasks_after a.rest.now a.outer.items)
 
 -- ---- what is known of accepted programs
 

@@ -81,16 +81,16 @@ TakesEntry unit old e possible new = (w : World) (s : State) → Stands unit w o
 
 -- ---- the report
 
--- how a thread that didn't trap stands
+-- the status of a thread that didn't trap
 abbrev pub standing_by : (ended : Bool) → ThreadStatus
 standing_by true = standing.Ended
 standing_by false = standing.Running
 
--- how thread k stands
+-- the status of thread k
 abbrev pub standing_of : Option StopInMemory → ℕ × ThreadInMemory → ThreadStatus
 standing_of None (k, t) = standing_by t.ended
 standing_of (Some stop) (k, t) = if stop.thread == k then standing.Trapped (trap_number (trap_view stop.trap)) stop.line else standing_by t.ended
 
--- how all threads stand
+-- the statuses of all threads
 abbrev pub standings_of : StateInMemory → List ThreadStatus
 standings_of m = map (standing_of m.stop) (enumerate_from 1 m.threads.items)

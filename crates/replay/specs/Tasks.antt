@@ -105,7 +105,7 @@ abbrev pub ElseInRange : Option (Bor BlockInMemory) → Type 0
 ElseInRange None = Unit {0}
 ElseInRange (Some b) = BlockInRange (block_tree b.now)
 
--- the same of tasks, of what stands at the end of a block, and of what a step leads into
+-- the same of tasks, of what comes at the end of a block, and of what a step leads into
 abbrev pub TaskInRange : TaskInMemory → Type 0
 TaskInRange (task.Print line t) = NumbersInRange t
 TaskInRange (task.Set line x t) = NumbersInRange t

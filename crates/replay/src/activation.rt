@@ -17,8 +17,8 @@ use std::alloc::{AllocError, Global};
 use syntax::{Item, Stmt};
 use world::World;
 
-/// What is still to do around a block: what stands at the block's end, and the statements after it.
-#[derive(Clone, Copy, Debug)]
+/// What is still to do around a block: what comes at the block's end, and the statements after it.
+#[derive(Clone, Copy)]
 pub(crate) struct Outer<'a> {
     pub end: End<'a>,
     pub rest: &'a [Stmt],
@@ -26,7 +26,7 @@ pub(crate) struct Outer<'a> {
 
 /// A call in progress: the task that is begun, the statements after it in its block, what is to do around the block,
 /// the outermost first, and the variables, in the order in which they came to be.
-#[derive(Debug, Drop)]
+#[derive(Drop)]
 pub(crate) struct Activation<'a> {
     pub task: Option<Task<'a>>,
     pub rest: &'a [Stmt],

@@ -10,7 +10,7 @@ use crate::value::Value;
 use syntax::{Block, ElementType, Expr, Name, Stmt, VariableType};
 
 /// What a declaration makes.
-#[derive(Clone, Copy, Debug, PartialEq, Eq)]
+#[derive(Clone, Copy)]
 pub(crate) enum VariableKind {
     Number,
     Reference,
@@ -19,7 +19,7 @@ pub(crate) enum VariableKind {
 }
 
 /// Where the result of a call or NULL goes.
-#[derive(Clone, Copy, Debug)]
+#[derive(Clone, Copy)]
 pub(crate) enum Target<'a> {
     /// A new variable.
     Declared(VariableKind, &'a Name),
@@ -28,8 +28,8 @@ pub(crate) enum Target<'a> {
     Dropped,
 }
 
-/// What stands at the end of a block, after its statements.
-#[derive(Clone, Copy, Debug)]
+/// What comes at the end of a block, after its statements.
+#[derive(Clone, Copy)]
 pub(crate) enum End<'a> {
     /// The end of an `if`.
     If,
@@ -38,7 +38,7 @@ pub(crate) enum End<'a> {
 }
 
 /// What a step of a task did.
-#[derive(Clone, Copy, Debug)]
+#[derive(Clone, Copy)]
 pub(crate) enum Outcome<'a> {
     /// A part of it was reduced.
     Stays,
@@ -52,7 +52,7 @@ pub(crate) enum Outcome<'a> {
     Puts(Target<'a>, i32),
     /// It is over, and the element has this number, converted to its type.
     SetsElement(&'a Name, usize, i32),
-    /// It is over, and there is an array of so many zeros.
+    /// It is over, and there is an array of this many zeros.
     Makes(ElementType, &'a Name, u32),
     /// It is over, and these statements are to do, up to this end.
     Enters(&'a [Stmt], End<'a>),

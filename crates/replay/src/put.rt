@@ -17,7 +17,7 @@ use std::alloc::{AllocError, Global};
 use syntax::{Item, Name};
 
 /// What goes into a variable.
-#[derive(Clone, Copy, Debug, PartialEq, Eq)]
+#[derive(Clone, Copy)]
 pub(crate) enum Given {
     Null,
     Number(i32),

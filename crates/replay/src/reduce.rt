@@ -17,7 +17,7 @@ use std::mem;
 use syntax::Item;
 
 /// What a step of a term did.
-#[derive(Clone, Copy, Debug, PartialEq, Eq)]
+#[derive(Clone, Copy)]
 pub(crate) enum Reduction {
     /// The leftmost part that can be reduced was replaced.
     Reduced,

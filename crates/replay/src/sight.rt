@@ -102,7 +102,7 @@ pub(crate) fn null_value(
 }
 
 /// The place of an element.
-#[derive(Clone, Copy, Debug, PartialEq, Eq)]
+#[derive(Clone, Copy)]
 pub(crate) enum Indexed {
     At(usize),
     Traps(Trap),

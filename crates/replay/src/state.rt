@@ -13,7 +13,7 @@ use syntax::Item;
 use world::{Entry, Printed, ThreadStatus, World};
 
 /// The trap that stopped the machine.
-#[derive(Clone, Copy, Debug, PartialEq, Eq)]
+#[derive(Clone, Copy)]
 pub(crate) struct Stop {
     /// The thread's number, from 1.
     pub thread: u8,
@@ -91,7 +91,7 @@ pub(crate) fn take_entry<'a>(
     Ok(possible)
 }
 
-/// How thread `k` stands.
+/// The status of thread `k`.
 fn standing_of(stop: Option<Stop>, k: usize, thread: &Thread<'_>) -> ThreadStatus
     ensures { result ≡ standing_of stop (k, thread.now) }
 {
@@ -107,7 +107,7 @@ fn standing_of(stop: Option<Stop>, k: usize, thread: &Thread<'_>) -> ThreadStatu
     }
 }
 
-/// How the threads stand.
+/// The statuses of the threads.
 pub(crate) fn standings_of(
     alloc: Global,
     state: &State<'_>,

@@ -13,7 +13,7 @@ use std::alloc::{AllocError, Global};
 use syntax::{Block, Call, Constant, ElementType, Expr, Form, Name, RightSide, Stmt, Test};
 
 /// A call that is to do; its arguments are looked up in its one step.
-#[derive(Debug, Drop)]
+#[derive(Drop)]
 pub(crate) struct Invocation<'a> {
     pub line: usize,
     pub target: Target<'a>,
@@ -21,7 +21,7 @@ pub(crate) struct Invocation<'a> {
 }
 
 /// An `if`, with its test's term and its two ways.
-#[derive(Debug, Drop)]
+#[derive(Drop)]
 pub(crate) struct Choice<'a> {
     pub line: usize,
     pub test: Term,
@@ -30,7 +30,7 @@ pub(crate) struct Choice<'a> {
 }
 
 /// A statement still to do, with its line.
-#[derive(Debug, Drop)]
+#[derive(Drop)]
 pub(crate) enum Task<'a> {
     Print(usize, Term),
     /// A value for a variable.
@@ -83,7 +83,7 @@ fn set_task<'a>(
     }
 }
 
-/// The task of an `if`. No function that can be called today stands in a test.
+/// The task of an `if`. No function that can be called today may be called in a test.
 fn if_task<'a>(
     alloc: Global,
     line: usize,

@@ -13,7 +13,7 @@ use std::alloc::{AllocError, Global};
 use syntax::{BinaryOp, Constant, Expr, Name, PrefixOp};
 
 /// An expression of which some parts have their values; parentheses are dropped.
-#[derive(Debug, Drop)]
+#[derive(Drop)]
 pub(crate) enum Term {
     Done(Value),
     Number { value: u32, unsigned: bool },

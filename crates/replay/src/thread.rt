@@ -31,7 +31,7 @@ pub(crate) struct Thread<'a> {
 }
 
 /// What a step of a thread did.
-#[derive(Clone, Copy, Debug, PartialEq, Eq)]
+#[derive(Clone, Copy)]
 pub(crate) enum Step {
     Quiet,
     Printed(i32),

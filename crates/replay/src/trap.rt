@@ -5,16 +5,16 @@ ghost use Rattle.regions.specs.Value.{trap_number};
 ghost use Rattle.replay.specs.Views.{trap_view};
 
 /// Why a run stops (JNI Specification, chapter 2, "Reporting Programming Errors"; ISO/IEC 9899:1999, 6.5.5 to 6.5.7).
-#[derive(Clone, Copy, Debug, PartialEq, Eq)]
+#[derive(Clone, Copy)]
 pub(crate) enum Trap {
     DivisionByZero,
     /// A shift by 32 or more.
     ShiftTooFar,
     /// No element of the array has the index.
     OutOfRange,
-    /// NULL stands where an object is asked for.
+    /// NULL where an object is asked for.
     NullReference,
-    /// An object of another kind stands there.
+    /// An object of another kind than is asked for.
     WrongObject,
 }
 

@@ -11,7 +11,7 @@ use crate::trap::Trap;
 use syntax::{BinaryOp, Constant, ElementType, PrefixOp};
 
 /// The value of an expression.
-#[derive(Clone, Copy, Debug, PartialEq, Eq)]
+#[derive(Clone, Copy)]
 pub(crate) enum Value {
     /// Of type `uint32_t`.
     Word(u32),
@@ -24,7 +24,7 @@ pub(crate) enum Value {
 }
 
 /// What evaluating an expression gives.
-#[derive(Clone, Copy, Debug, PartialEq, Eq)]
+#[derive(Clone, Copy)]
 pub(crate) enum Evaluated {
     Gives(Value),
     Traps(Trap),

@@ -14,7 +14,7 @@ use std::alloc::{AllocError, Global};
 use syntax::{ElementType, Name};
 
 /// What a variable holds.
-#[derive(Debug, Drop)]
+#[derive(Drop)]
 pub(crate) enum Content {
     Number(Value),
     /// NULL or an object, by its name.
@@ -28,7 +28,7 @@ pub(crate) enum Content {
 }
 
 /// A variable with its name.
-#[derive(Debug, Drop)]
+#[derive(Drop)]
 pub(crate) struct Variable<'a> {
     pub name: &'a Name,
     pub content: Content,
@@ -77,7 +77,7 @@ pub(crate) fn assign<'a>(
     }
 }
 
-/// So many zeros.
+/// `size` zeros.
 pub(crate) fn zeros(alloc: Global, size: u32) -> Result<Vec<i32>, AllocError>
     ensures { IfOk result (λ numbers. numbers.items ≡ replicate size (pos 0)) }
 {
