@@ -79,7 +79,7 @@ no_piece text fault h (Some kind) n e = no_token text fault h kind n (token_take
 -- ---- one fault at a place
 
 -- a digit is a number
-digit_lexeme : (digit : ℕ) → is_within 48 57 digit ≡ true → IsLexeme (Number (base_value 10 0 (digit ∷ [])) false) (digit ∷ [])
+digit_lexeme : (digit : ℕ) → is_within 48 57 digit ≡ true → IsLexeme (Number false (base_value 10 0 (digit ∷ []))) (digit ∷ [])
 digit_lexeme digit figure = record {
   base = 10;
   sign = [];
@@ -101,7 +101,7 @@ no_byte_and_number : (text : List ℕ) → HasFault text BadByte → HasFault te
 no_byte_and_number text h k =
     let g : h.0 ∷ h.1 ≡ k.0 ∷ k.1 = sym h.2 ∙ k.2 in
     let e : h.0 ≡ k.0 = cc in
-    h.3.no_lexeme (Number (base_value 10 0 (h.0 ∷ [])) false) [] (digit_lexeme h.0 (ap (is_within 48 57) e ∙ k.3))
+    h.3.no_lexeme (Number false (base_value 10 0 (h.0 ∷ []))) [] (digit_lexeme h.0 (ap (is_within 48 57) e ∙ k.3))
 
 no_byte_and_text : (text : List ℕ) → HasFault text BadByte → HasFault text BadText → ⊥
 no_byte_and_text text h k =
