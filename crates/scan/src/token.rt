@@ -73,7 +73,7 @@ pub enum Kind {
     Name,
     /// A decimal or hexadecimal number, and whether it ends in `u` (6.4.4.1). Its value is below
     /// 2^31, or with `u` below 2^32. Of C99's suffixes there is no other; octal numbers there are
-    /// none.
+    /// none. The flag comes first, so that a kind takes 8 bytes.
     Number { unsigned: bool, value: u32 },
     /// A string of printable ASCII between two quotes, with no backslash in it (6.4.5).
     Text,
