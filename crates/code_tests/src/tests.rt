@@ -48,11 +48,14 @@ fn code_keeps_its_instructions(rt: HostRuntime) -> Result<(), Fail> {
     Ok(())
 }
 
-// if (x == NULL || y == NULL) { x = NULL; } return x; with other lengths of the first jump.
+// if (x == NULL || x != NULL) { x = NULL; } return x; with other lengths of the first jump.
 #[test]
 fn jumps_land_at_equal_depths(rt: HostRuntime) -> Result<(), Fail> {
     let x = NullableVariable::Local(0);
-    let y = NullableVariable::Static(0);
+    let slots = SlotCounts {
+        references: 1,
+        ..NO_SLOTS
+    };
     for (skipped, want) in [(1, true), (2, false), (5, false)] {
         let instrs = vec![in rt.alloc();
             Instr::TestNull {
@@ -61,41 +64,30 @@ fn jumps_land_at_equal_depths(rt: HostRuntime) -> Result<(), Fail> {
             },
             Instr::JumpIfTrueOrPop(skipped),
             Instr::TestNull {
-                variable: y,
-                equal: true
+                variable: x,
+                equal: false
             },
             Instr::JumpIfFalse(2),
             Instr::StoreNull(x),
             Instr::Jump(0),
             Instr::ReturnReference(ReferenceOperand::Local(0)),
         ]?;
-        let slots = SlotCounts {
-            references: 1,
-            statics: 1,
-            ..NO_SLOTS
-        };
         assert!(rt; Code::of(instrs, slots)?.is_some() == want, "{skipped}");
     }
     Ok(())
 }
 
+// An array of 1,024 elements in 1,027 slots.
 #[test]
 fn arrays_lie_in_the_slots(rt: HostRuntime) -> Result<(), Fail> {
-    for (start, len, want) in [
-        (3, 1024, true),
-        (4, 1024, false),
-        (0, 1025, false),
-        (0, 0, false),
-    ] {
-        let instrs = vec![in rt.alloc();
-            Instr::ClearArray(LocalArray { start, len }),
-            Instr::Return,
-        ]?;
-        let slots = SlotCounts {
-            numbers: 1027,
-            ..NO_SLOTS
-        };
-        assert!(rt; Code::of(instrs, slots)?.is_some() == want, "{start} {len}");
+    let slots = SlotCounts {
+        numbers: 1027,
+        ..NO_SLOTS
+    };
+    for (start, want) in [(3, true), (4, false)] {
+        let array = Instr::ClearArray(LocalArray { start, len: 1024 });
+        let instrs = vec![in rt.alloc(); array, Instr::Return]?;
+        assert!(rt; Code::of(instrs, slots)?.is_some() == want, "{start}");
     }
     Ok(())
 }
@@ -140,7 +132,6 @@ fn divides_shifts_or_traps(rt: HostRuntime) {
         (TrappingOperator::ShiftLeft, 4, Plain::Next, 4_294_967_264),
         (TrappingOperator::ShiftRight, 31, Plain::Next, 1),
         (TrappingOperator::Divide, 0, by_zero, 0),
-        (TrappingOperator::Remainder, 0, by_zero, 0),
         (TrappingOperator::ShiftLeft, 32, too_far, 32),
         (
             TrappingOperator::ShiftRight,
@@ -168,9 +159,6 @@ fn truths_decide_jumps(rt: HostRuntime) {
         (Instr::JumpIfFalse(3), 0, Plain::Skip(3), 9),
         (Instr::JumpIfFalse(3), 1, Plain::Next, 9),
         (Instr::Not, 0, Plain::Next, 1),
-        (Instr::Not, 1, Plain::Next, 0),
-        (Instr::Jump(3), 1, Plain::Skip(3), 1),
-        (Instr::JumpBack(3), 1, Plain::Back(3), 1),
     ] {
         let mut stack = Stack::new();
         stack.push(9);
