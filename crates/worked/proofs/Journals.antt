@@ -1,39 +1,28 @@
--- Which journals can be replayed.
-use Rattle.std.specs.Prelude.{◌≡◌, ◌∷◌, ◌++◌, true, false, [], Some, None, codes, refl, fold}
+-- The cases of texts/journals.cases, as examples/worked_equations writes them.
+use Rattle.std.specs.Prelude.{◌∷◌, ◌++◌, true, false, [], None, codes, refl}
 use Rattle.syntax.specs.Tree.{IntResult, Number, ReturnValue, SourceUnit}
-use Rattle.classes.specs.Additions.{with_class}
-use Rattle.classes.specs.BuiltIns.{built_ins}
-use Rattle.classes.specs.Class.{Plain}
 use Rattle.world.specs.World.{World}
-use Rattle.world.specs.WorldLines.{ClassLine, ThreadLine}
+use Rattle.world.specs.WorldLines.{ClassLine, ThreadLine, Lines}
 use Rattle.world.specs.WorldMeaning.{world_of}
-use Rattle.worked.proofs.Computed.{unit_of, native, entries, entry, replayed, opened}
+use Rattle.world.specs.WorldRules.{IsWorldText}
+use Rattle.worked.specs.Claims.{IsAccepted, IsWorkedReplay, IsStoppedReplay}
+use Rattle.worked.proofs.Programs.{unit_of, native, entry, entries}
+use Rattle.worked.proofs.Computed.{opened, accepted, world-text, worked-replay, stopped-replay}
 
+-- eight threads
 -- JNIEXPORT jint JNICALL Java_A_f(JNIEnv *env, jclass cls) { return 0; }
 abbrev pub eight_threads : SourceUnit
-eight_threads = unit_of (native 1 IntResult (codes "Java_A_f") [] (ReturnValue 1 (Number 0 false) ∷ []) 1 ∷ [])
+eight_threads =
+    unit_of
+    (native 1 IntResult (codes "Java_A_f") []
+    (ReturnValue 1 (Number 0 false)
+    ∷ [])
+    1
+    ∷ [])
 
-abbrev eight_threads-world : World
-eight_threads-world =
-    record {
-      cells = 512;
-      classes = fold with_class built_ins
-          (record { name = codes "A"; superclass = Some 1; kind = Plain; fields = []; statics = [] } ∷ []);
-      objects = [];
-      threads = (record { line = 3; function = codes "Java_A_f"; arguments = [] } ∷ [])
-          ∷ (record { line = 4; function = codes "Java_A_f"; arguments = [] } ∷ [])
-          ∷ (record { line = 5; function = codes "Java_A_f"; arguments = [] } ∷ [])
-          ∷ (record { line = 6; function = codes "Java_A_f"; arguments = [] } ∷ [])
-          ∷ (record { line = 7; function = codes "Java_A_f"; arguments = [] } ∷ [])
-          ∷ (record { line = 8; function = codes "Java_A_f"; arguments = [] } ∷ [])
-          ∷ (record { line = 9; function = codes "Java_A_f"; arguments = [] } ∷ [])
-          ∷ (record { line = 10; function = codes "Java_A_f"; arguments = [] } ∷ [])
-          ∷ [];
-    }
-
-eight_threads-means :
-    world_of 512
-    ((2, ClassLine (codes "A") None)
+abbrev eight_threads-lines : Lines
+eight_threads-lines =
+    (2, ClassLine (codes "A") None)
     ∷ (3, ThreadLine (codes "Java_A_f") [])
     ∷ (4, ThreadLine (codes "Java_A_f") [])
     ∷ (5, ThreadLine (codes "Java_A_f") [])
@@ -42,58 +31,42 @@ eight_threads-means :
     ∷ (8, ThreadLine (codes "Java_A_f") [])
     ∷ (9, ThreadLine (codes "Java_A_f") [])
     ∷ (10, ThreadLine (codes "Java_A_f") [])
-    ∷ [])
-    ≡ eight_threads-world
+    ∷ []
+
+abbrev eight_threads-world : World
+eight_threads-world = world_of 512 eight_threads-lines
+
+eight_threads-means : IsWorldText (codes "heap 512\nclass A\nthread Java_A_f\nthread Java_A_f\nthread Java_A_f\nthread Java_A_f\nthread Java_A_f\nthread Java_A_f\nthread Java_A_f\nthread Java_A_f\n") eight_threads-world
 unfolding opened
-eight_threads-means = refl
+eight_threads-means = world-text (codes "heap 512\nclass A\nthread Java_A_f\nthread Java_A_f\nthread Java_A_f\nthread Java_A_f\nthread Java_A_f\nthread Java_A_f\nthread Java_A_f\nthread Java_A_f\n") 512 eight_threads-lines 1 refl refl refl refl
 
-eight_threads-replay : replayed eight_threads eight_threads-world (entries 1 1 ++ entries 2 1 ++ entries 3 1 ++ entries 4 1 ++ entries 5 1 ++ entries 6 1 ++ entries 7 1 ++ entries 8 3)
-    ≡ codes "T1 running\nT2 running\nT3 running\nT4 running\nT5 running\nT6 running\nT7 running\nT8 ended\njournal 1 2 3 4 5 6 7 8 8 8\n"
+eight_threads-accepted : IsAccepted eight_threads
 unfolding opened
-eight_threads-replay = refl
+eight_threads-accepted = accepted eight_threads refl refl refl
 
--- JNIEXPORT jint JNICALL Java_A_f(JNIEnv *env, jclass cls) { return 0; }
-abbrev pub past_the_end : SourceUnit
-past_the_end = unit_of (native 1 IntResult (codes "Java_A_f") [] (ReturnValue 1 (Number 0 false) ∷ []) 1 ∷ [])
-
-abbrev past_the_end-world : World
-past_the_end-world =
-    record {
-      cells = 512;
-      classes = fold with_class built_ins
-          (record { name = codes "A"; superclass = Some 1; kind = Plain; fields = []; statics = [] } ∷ []);
-      objects = [];
-      threads = (record { line = 3; function = codes "Java_A_f"; arguments = [] } ∷ []) ∷ [];
-    }
-
-past_the_end-means : world_of 512 ((2, ClassLine (codes "A") None) ∷ (3, ThreadLine (codes "Java_A_f") []) ∷ []) ≡ past_the_end-world
+eight_threads-replay : IsWorkedReplay eight_threads (codes "heap 512\nclass A\nthread Java_A_f\nthread Java_A_f\nthread Java_A_f\nthread Java_A_f\nthread Java_A_f\nthread Java_A_f\nthread Java_A_f\nthread Java_A_f\n") (codes "1 2 3 4 5 6 7 8 8 8\n") (codes "T1 running\nT2 running\nT3 running\nT4 running\nT5 running\nT6 running\nT7 running\nT8 ended\njournal 1 2 3 4 5 6 7 8 8 8\n")
 unfolding opened
-past_the_end-means = refl
+eight_threads-replay = worked-replay eight_threads eight_threads-world (entries 1 1 ++ entries 2 1 ++ entries 3 1 ++ entries 4 1 ++ entries 5 1 ++ entries 6 1 ++ entries 7 1 ++ entries 8 3) eight_threads-accepted eight_threads-means refl refl refl refl
 
-past_the_end-replay : replayed past_the_end past_the_end-world (entries 1 4)
-    ≡ []
+-- an entry that refuses nothing
+abbrev an_entry_that_refuses_nothing-lines : Lines
+an_entry_that_refuses_nothing-lines =
+    (2, ClassLine (codes "A") None)
+    ∷ (3, ThreadLine (codes "Java_A_f") [])
+    ∷ []
+
+abbrev an_entry_that_refuses_nothing-world : World
+an_entry_that_refuses_nothing-world = world_of 512 an_entry_that_refuses_nothing-lines
+
+an_entry_that_refuses_nothing-means : IsWorldText (codes "heap 512\nclass A\nthread Java_A_f\n") an_entry_that_refuses_nothing-world
 unfolding opened
-past_the_end-replay = refl
+an_entry_that_refuses_nothing-means = world-text (codes "heap 512\nclass A\nthread Java_A_f\n") 512 an_entry_that_refuses_nothing-lines 1 refl refl refl refl
 
--- JNIEXPORT jint JNICALL Java_A_f(JNIEnv *env, jclass cls) { return 0; }
-abbrev pub nothing_to_refuse : SourceUnit
-nothing_to_refuse = unit_of (native 1 IntResult (codes "Java_A_f") [] (ReturnValue 1 (Number 0 false) ∷ []) 1 ∷ [])
-
-abbrev nothing_to_refuse-world : World
-nothing_to_refuse-world =
-    record {
-      cells = 512;
-      classes = fold with_class built_ins
-          (record { name = codes "A"; superclass = Some 1; kind = Plain; fields = []; statics = [] } ∷ []);
-      objects = [];
-      threads = (record { line = 3; function = codes "Java_A_f"; arguments = [] } ∷ []) ∷ [];
-    }
-
-nothing_to_refuse-means : world_of 512 ((2, ClassLine (codes "A") None) ∷ (3, ThreadLine (codes "Java_A_f") []) ∷ []) ≡ nothing_to_refuse-world
+an_entry_that_refuses_nothing-stopped : IsStoppedReplay eight_threads (codes "heap 512\nclass A\nthread Java_A_f\n") (codes "1!\n") 1
 unfolding opened
-nothing_to_refuse-means = refl
+an_entry_that_refuses_nothing-stopped = stopped-replay eight_threads an_entry_that_refuses_nothing-world [] (entry 1 true) [] eight_threads-accepted an_entry_that_refuses_nothing-means refl refl refl refl
 
-nothing_to_refuse-replay : replayed nothing_to_refuse nothing_to_refuse-world (entry 1 true ∷ [])
-    ≡ []
+-- an entry after the end
+an_entry_after_the_end-stopped : IsStoppedReplay eight_threads (codes "heap 512\nclass A\nthread Java_A_f\n") (codes "1 1 1 1\n") 4
 unfolding opened
-nothing_to_refuse-replay = refl
+an_entry_after_the_end-stopped = stopped-replay eight_threads an_entry_that_refuses_nothing-world (entries 1 3) (entry 1 false) [] eight_threads-accepted an_entry_that_refuses_nothing-means refl refl refl refl

@@ -1,31 +1,45 @@
 -- helpers
-mod Computed
-mod FirstFaults
--- what all rules accept, and what they refuse
-mod Accepted
-mod SortFaults
-mod BufferFaults
-mod ReferenceFaults
-mod BrokenRules
-mod Heights
+pub mod Programs
+pub mod Computed
+-- a law of all runs
+mod Collections
 -- texts
 mod NativeNames
 mod WorldTexts
 mod SchedulesAndJournals
--- runs
-mod Arithmetic
-mod ShortCircuit
-mod CallArguments
-mod Loops
-mod Fields
-mod FramesAndReferences
-mod FullFrame
-mod EnlargedFrame
-mod Buffers
-mod CriticalBuffers
-mod Exceptions
-mod Monitors
-mod Room
-mod Journals
+-- runs by what they leave
+mod Heights
 mod Limits
 mod Accounts
+-- written from texts/
+mod Accepted
+mod Arguments
+mod Arithmetic
+mod ArrayFaults
+mod BrokenRules
+mod BufferFaults
+mod BuffersCopied
+mod BuffersPinned
+mod Classes
+mod Control
+mod Exceptions
+mod ExceptionsPending
+mod Fields
+mod FieldsFound
+mod Frames
+mod Globals
+mod Journals
+mod Memory
+mod Monitors
+mod MonitorsShared
+mod NumberArrays
+mod ObjectArrays
+mod OrderOfChecks
+mod ReferenceFaults
+mod References
+mod RefusedTexts
+mod Room
+mod SortFaults
+mod Strings
+mod Traps
+mod Trees

@@ -1,14 +1,13 @@
--- First faults of programs with references, frames and ways.
-use Rattle.std.specs.Prelude.{◌≡◌, ◌∷◌, true, false, [], codes, refl}
+-- The cases of texts/reference_faults.cases, as examples/worked_equations writes them.
+use Rattle.std.specs.Prelude.{◌∷◌, true, false, [], codes, refl}
 use Rattle.base.specs.Element.{JInt}
-use Rattle.syntax.specs.Tree.{Assign, Binary, Declare, DeclareBuffer, Equal, FromCall, FromExpr, If, IfElse, JIntArray, JIntVariable, JObject, Named, Null, Number, Perform, PutJint, ReferenceVariable, Return, SourceUnit, TestCall, TestExpr, Value, Variable, Void, While}
-use Rattle.classes.specs.Mangling.{unmangle}
-use Rattle.types.specs.Prototype.{function_named}
-use Rattle.types.specs.SortRules.{IsSorted}
-use Rattle.regions.specs.RegionRules.{DeadReference, HeldBuffer, NoReturn, PopLastFrame, ReturnInFrame, WaysDiffer, WrongLevel}
-use Rattle.worked.proofs.Computed.{unit_of, native, block, reference_parameter, call}
-use Rattle.worked.proofs.FirstFaults.{first_faults}
+use Rattle.syntax.specs.Tree.{Assign, Binary, Declare, DeclareBuffer, Equal, FromCall, FromExpr, If, IfElse, JIntArray, JIntVariable, JObject, Named, Null, Number, Perform, PutJint, ReferenceVariable, Return, SourceUnit, TestCall, TestExpr, Value, Void, While}
+use Rattle.regions.specs.RegionRules.{HeldBuffer, ReturnInFrame, PopLastFrame, DeadReference, WaysDiffer, WrongLevel, NoReturn}
+use Rattle.worked.specs.Claims.{IsRefused}
+use Rattle.worked.proofs.Programs.{unit_of, native, block, reference_parameter, call, given}
+use Rattle.worked.proofs.Computed.{opened, bad_way}
 
+-- returned in frame
 -- JNIEXPORT void JNICALL Java_A_f(JNIEnv *env, jclass cls) {
 -- if ((*env)->PushLocalFrame(env, 2) == 0) {
 -- return; }
@@ -17,19 +16,21 @@ abbrev pub returned_in_frame : SourceUnit
 returned_in_frame =
     unit_of
     (native 1 Void (codes "Java_A_f") []
-    (If 2 (TestCall (call (codes "PushLocalFrame") (Value (Number 2 false) ∷ []))) (block (Return 3 ∷ []) 3)
+    (If 2 (TestCall (call (codes "PushLocalFrame") (Value (Number 2 false) ∷ [])))
+    (block
+    (Return 3
+    ∷ [])
+    3)
     ∷ Return 4
-    ∷ []) 4
+    ∷ [])
+    4
     ∷ [])
 
-returned_in_frame-sorted : IsSorted returned_in_frame
-unfolding function_named unmangle
-returned_in_frame-sorted = refl
+returned_in_frame-refused : IsRefused returned_in_frame 36 3
+unfolding opened
+returned_in_frame-refused = bad_way returned_in_frame ReturnInFrame 3 refl refl refl
 
-returned_in_frame-first : first_faults returned_in_frame ≡ (3, ReturnInFrame) ∷ []
-unfolding function_named unmangle
-returned_in_frame-first = refl
-
+-- popped last frame
 -- JNIEXPORT void JNICALL Java_A_f(JNIEnv *env, jclass cls) {
 -- (*env)->PopLocalFrame(env, NULL);
 -- return; }
@@ -37,17 +38,17 @@ abbrev pub popped_last_frame : SourceUnit
 popped_last_frame =
     unit_of
     (native 1 Void (codes "Java_A_f") []
-    (Perform 2 (call (codes "PopLocalFrame") (Value (Named Null) ∷ [])) ∷ Return 3 ∷ []) 3
+    (Perform 2 (call (codes "PopLocalFrame") (Value (Named Null) ∷ []))
+    ∷ Return 3
+    ∷ [])
+    3
     ∷ [])
 
-popped_last_frame-sorted : IsSorted popped_last_frame
-unfolding function_named unmangle
-popped_last_frame-sorted = refl
+popped_last_frame-refused : IsRefused popped_last_frame 37 2
+unfolding opened
+popped_last_frame-refused = bad_way popped_last_frame PopLastFrame 2 refl refl refl
 
-popped_last_frame-first : first_faults popped_last_frame ≡ (2, PopLastFrame) ∷ []
-unfolding function_named unmangle
-popped_last_frame-first = refl
-
+-- deleted twice
 -- JNIEXPORT void JNICALL Java_A_f(JNIEnv *env, jclass cls) {
 -- jobject x = (*env)->NewLocalRef(env, cls);
 -- (*env)->DeleteLocalRef(env, x);
@@ -57,22 +58,19 @@ abbrev pub deleted_twice : SourceUnit
 deleted_twice =
     unit_of
     (native 1 Void (codes "Java_A_f") []
-    (Declare 2 (ReferenceVariable JObject) (codes "x")
-    (FromCall (call (codes "NewLocalRef") (Value (Variable (codes "cls")) ∷ [])))
-    ∷ Perform 3 (call (codes "DeleteLocalRef") (Value (Variable (codes "x")) ∷ []))
-    ∷ Perform 4 (call (codes "DeleteLocalRef") (Value (Variable (codes "x")) ∷ []))
+    (Declare 2 (ReferenceVariable JObject) (codes "x") (FromCall (call (codes "NewLocalRef") (given (codes "cls") ∷ [])))
+    ∷ Perform 3 (call (codes "DeleteLocalRef") (given (codes "x") ∷ []))
+    ∷ Perform 4 (call (codes "DeleteLocalRef") (given (codes "x") ∷ []))
     ∷ Return 5
-    ∷ []) 5
+    ∷ [])
+    5
     ∷ [])
 
-deleted_twice-sorted : IsSorted deleted_twice
-unfolding function_named unmangle
-deleted_twice-sorted = refl
+deleted_twice-refused : IsRefused deleted_twice 38 4
+unfolding opened
+deleted_twice-refused = bad_way deleted_twice DeadReference 4 refl refl refl
 
-deleted_twice-first : first_faults deleted_twice ≡ (4, DeadReference) ∷ []
-unfolding function_named unmangle
-deleted_twice-first = refl
-
+-- used after its frame
 -- JNIEXPORT void JNICALL Java_A_f(JNIEnv *env, jclass cls) {
 -- if ((*env)->PushLocalFrame(env, 4) == 0) {
 -- jintArray y = (*env)->NewIntArray(env, 1);
@@ -86,25 +84,21 @@ used_after_its_frame =
     (native 1 Void (codes "Java_A_f") []
     (If 2 (TestCall (call (codes "PushLocalFrame") (Value (Number 4 false) ∷ [])))
     (block
-    (Declare 3 (ReferenceVariable JIntArray) (codes "y")
-    (FromCall (call (codes "NewIntArray") (Value (Number 1 false) ∷ [])))
-    ∷ Declare 4 (ReferenceVariable JObject) (codes "z")
-    (FromCall (call (codes "PopLocalFrame") (Value (Variable (codes "y")) ∷ [])))
-    ∷ Declare 5 JIntVariable (codes "n")
-    (FromCall (call (codes "GetArrayLength") (Value (Variable (codes "y")) ∷ [])))
-    ∷ []) 6)
+    (Declare 3 (ReferenceVariable JIntArray) (codes "y") (FromCall (call (codes "NewIntArray") (Value (Number 1 false) ∷ [])))
+    ∷ Declare 4 (ReferenceVariable JObject) (codes "z") (FromCall (call (codes "PopLocalFrame") (given (codes "y") ∷ [])))
+    ∷ Declare 5 JIntVariable (codes "n") (FromCall (call (codes "GetArrayLength") (given (codes "y") ∷ [])))
+    ∷ [])
+    6)
     ∷ Return 7
-    ∷ []) 7
+    ∷ [])
+    7
     ∷ [])
 
-used_after_its_frame-sorted : IsSorted used_after_its_frame
-unfolding function_named unmangle
-used_after_its_frame-sorted = refl
+used_after_its_frame-refused : IsRefused used_after_its_frame 38 5
+unfolding opened
+used_after_its_frame-refused = bad_way used_after_its_frame DeadReference 5 refl refl refl
 
-used_after_its_frame-first : first_faults used_after_its_frame ≡ (5, DeadReference) ∷ []
-unfolding function_named unmangle
-used_after_its_frame-first = refl
-
+-- deleted in a loop
 -- JNIEXPORT void JNICALL Java_A_f(JNIEnv *env, jclass cls) {
 -- jobject x = (*env)->NewLocalRef(env, cls);
 -- while (1u == 2u) { (*env)->DeleteLocalRef(env, x); }
@@ -113,22 +107,22 @@ abbrev pub deleted_in_a_loop : SourceUnit
 deleted_in_a_loop =
     unit_of
     (native 1 Void (codes "Java_A_f") []
-    (Declare 2 (ReferenceVariable JObject) (codes "x")
-    (FromCall (call (codes "NewLocalRef") (Value (Variable (codes "cls")) ∷ [])))
+    (Declare 2 (ReferenceVariable JObject) (codes "x") (FromCall (call (codes "NewLocalRef") (given (codes "cls") ∷ [])))
     ∷ While 3 (Binary Equal (Number 1 true) (Number 2 true))
-    (block (Perform 3 (call (codes "DeleteLocalRef") (Value (Variable (codes "x")) ∷ [])) ∷ []) 3)
+    (block
+    (Perform 3 (call (codes "DeleteLocalRef") (given (codes "x") ∷ []))
+    ∷ [])
+    3)
     ∷ Return 4
-    ∷ []) 4
+    ∷ [])
+    4
     ∷ [])
 
-deleted_in_a_loop-sorted : IsSorted deleted_in_a_loop
-unfolding function_named unmangle
-deleted_in_a_loop-sorted = refl
+deleted_in_a_loop-refused : IsRefused deleted_in_a_loop 40 3
+unfolding opened
+deleted_in_a_loop-refused = bad_way deleted_in_a_loop WaysDiffer 3 refl refl refl
 
-deleted_in_a_loop-first : first_faults deleted_in_a_loop ≡ (3, WaysDiffer) ∷ []
-unfolding function_named unmangle
-deleted_in_a_loop-first = refl
-
+-- pushed on one way
 -- JNIEXPORT void JNICALL Java_A_f(JNIEnv *env, jclass cls) {
 -- if ((*env)->PushLocalFrame(env, 4) == 0) { put_jint(1); }
 -- return; }
@@ -137,19 +131,20 @@ pushed_on_one_way =
     unit_of
     (native 1 Void (codes "Java_A_f") []
     (If 2 (TestCall (call (codes "PushLocalFrame") (Value (Number 4 false) ∷ [])))
-    (block (PutJint 2 (Number 1 false) ∷ []) 2)
+    (block
+    (PutJint 2 (Number 1 false)
+    ∷ [])
+    2)
     ∷ Return 3
-    ∷ []) 3
+    ∷ [])
+    3
     ∷ [])
 
-pushed_on_one_way-sorted : IsSorted pushed_on_one_way
-unfolding function_named unmangle
-pushed_on_one_way-sorted = refl
+pushed_on_one_way-refused : IsRefused pushed_on_one_way 40 2
+unfolding opened
+pushed_on_one_way-refused = bad_way pushed_on_one_way WaysDiffer 2 refl refl refl
 
-pushed_on_one_way-first : first_faults pushed_on_one_way ≡ (2, WaysDiffer) ∷ []
-unfolding function_named unmangle
-pushed_on_one_way-first = refl
-
+-- deleted twice on one way
 -- JNIEXPORT void JNICALL Java_A_f(JNIEnv *env, jclass cls) {
 -- jobject x = (*env)->NewLocalRef(env, cls);
 -- if (1u == 2u) { (*env)->DeleteLocalRef(env, x);
@@ -159,25 +154,23 @@ abbrev pub deleted_twice_on_one_way : SourceUnit
 deleted_twice_on_one_way =
     unit_of
     (native 1 Void (codes "Java_A_f") []
-    (Declare 2 (ReferenceVariable JObject) (codes "x")
-    (FromCall (call (codes "NewLocalRef") (Value (Variable (codes "cls")) ∷ [])))
+    (Declare 2 (ReferenceVariable JObject) (codes "x") (FromCall (call (codes "NewLocalRef") (given (codes "cls") ∷ [])))
     ∷ If 3 (TestExpr (Binary Equal (Number 1 true) (Number 2 true)))
     (block
-    (Perform 3 (call (codes "DeleteLocalRef") (Value (Variable (codes "x")) ∷ []))
-    ∷ Perform 4 (call (codes "DeleteLocalRef") (Value (Variable (codes "x")) ∷ []))
-    ∷ []) 4)
+    (Perform 3 (call (codes "DeleteLocalRef") (given (codes "x") ∷ []))
+    ∷ Perform 4 (call (codes "DeleteLocalRef") (given (codes "x") ∷ []))
+    ∷ [])
+    4)
     ∷ Return 5
-    ∷ []) 5
+    ∷ [])
+    5
     ∷ [])
 
-deleted_twice_on_one_way-sorted : IsSorted deleted_twice_on_one_way
-unfolding function_named unmangle
-deleted_twice_on_one_way-sorted = refl
+deleted_twice_on_one_way-refused : IsRefused deleted_twice_on_one_way 38 4
+unfolding opened
+deleted_twice_on_one_way-refused = bad_way deleted_twice_on_one_way DeadReference 4 refl refl refl
 
-deleted_twice_on_one_way-first : first_faults deleted_twice_on_one_way ≡ (4, DeadReference) ∷ []
-unfolding function_named unmangle
-deleted_twice_on_one_way-first = refl
-
+-- outer set in frame
 -- JNIEXPORT void JNICALL Java_A_f(JNIEnv *env, jclass cls) {
 -- jobject x = NULL;
 -- if ((*env)->PushLocalFrame(env, 4) == 0) {
@@ -191,23 +184,20 @@ outer_set_in_frame =
     (Declare 2 (ReferenceVariable JObject) (codes "x") (FromExpr (Named Null))
     ∷ If 3 (TestCall (call (codes "PushLocalFrame") (Value (Number 4 false) ∷ [])))
     (block
-    (Assign 4 (codes "x")
-    (FromCall (call (codes "NewLocalRef") (Value (Variable (codes "cls")) ∷ [])))
-    ∷ Assign 5 (codes "x")
-    (FromCall (call (codes "PopLocalFrame") (Value (Variable (codes "x")) ∷ [])))
-    ∷ []) 5)
+    (Assign 4 (codes "x") (FromCall (call (codes "NewLocalRef") (given (codes "cls") ∷ [])))
+    ∷ Assign 5 (codes "x") (FromCall (call (codes "PopLocalFrame") (given (codes "x") ∷ [])))
+    ∷ [])
+    5)
     ∷ Return 6
-    ∷ []) 6
+    ∷ [])
+    6
     ∷ [])
 
-outer_set_in_frame-sorted : IsSorted outer_set_in_frame
-unfolding function_named unmangle
-outer_set_in_frame-sorted = refl
+outer_set_in_frame-refused : IsRefused outer_set_in_frame 41 4
+unfolding opened
+outer_set_in_frame-refused = bad_way outer_set_in_frame WrongLevel 4 refl refl refl
 
-outer_set_in_frame-first : first_faults outer_set_in_frame ≡ (4, WrongLevel) ∷ []
-unfolding function_named unmangle
-outer_set_in_frame-first = refl
-
+-- after two returns
 -- JNIEXPORT void JNICALL Java_A_f(JNIEnv *env, jclass cls) {
 -- if (1u == 1u) { return; } else { return; }
 -- put_jint(1); }
@@ -215,20 +205,25 @@ abbrev pub after_two_returns : SourceUnit
 after_two_returns =
     unit_of
     (native 1 Void (codes "Java_A_f") []
-    (IfElse 2 (TestExpr (Binary Equal (Number 1 true) (Number 1 true))) (block (Return 2 ∷ []) 2)
-    (block (Return 2 ∷ []) 2)
+    (IfElse 2 (TestExpr (Binary Equal (Number 1 true) (Number 1 true)))
+    (block
+    (Return 2
+    ∷ [])
+    2)
+    (block
+    (Return 2
+    ∷ [])
+    2)
     ∷ PutJint 3 (Number 1 false)
-    ∷ []) 3
+    ∷ [])
+    3
     ∷ [])
 
-after_two_returns-sorted : IsSorted after_two_returns
-unfolding function_named unmangle
-after_two_returns-sorted = refl
+after_two_returns-refused : IsRefused after_two_returns 42 3
+unfolding opened
+after_two_returns-refused = bad_way after_two_returns NoReturn 3 refl refl refl
 
-after_two_returns-first : first_faults after_two_returns ≡ (3, NoReturn) ∷ []
-unfolding function_named unmangle
-after_two_returns-first = refl
-
+-- returned in a loop
 -- JNIEXPORT void JNICALL Java_A_f(JNIEnv *env, jclass cls) {
 -- while (1u == 1u) { return; }
 -- }
@@ -236,17 +231,20 @@ abbrev pub returned_in_a_loop : SourceUnit
 returned_in_a_loop =
     unit_of
     (native 1 Void (codes "Java_A_f") []
-    (While 2 (Binary Equal (Number 1 true) (Number 1 true)) (block (Return 2 ∷ []) 2) ∷ []) 3
+    (While 2 (Binary Equal (Number 1 true) (Number 1 true))
+    (block
+    (Return 2
+    ∷ [])
+    2)
+    ∷ [])
+    3
     ∷ [])
 
-returned_in_a_loop-sorted : IsSorted returned_in_a_loop
-unfolding function_named unmangle
-returned_in_a_loop-sorted = refl
+returned_in_a_loop-refused : IsRefused returned_in_a_loop 42 3
+unfolding opened
+returned_in_a_loop-refused = bad_way returned_in_a_loop NoReturn 3 refl refl refl
 
-returned_in_a_loop-first : first_faults returned_in_a_loop ≡ (3, NoReturn) ∷ []
-unfolding function_named unmangle
-returned_in_a_loop-first = refl
-
+-- held at the last brace
 -- JNIEXPORT void JNICALL Java_A_f(JNIEnv *env, jclass cls, jintArray a) {
 -- jint *p = (*env)->GetIntArrayElements(env, a, NULL);
 -- }
@@ -254,16 +252,11 @@ abbrev pub held_at_the_last_brace : SourceUnit
 held_at_the_last_brace =
     unit_of
     (native 1 Void (codes "Java_A_f") (reference_parameter JIntArray (codes "a") ∷ [])
-    (DeclareBuffer 2 JInt (codes "p")
-    (FromCall
-    (call (codes "GetIntArrayElements") (Value (Variable (codes "a")) ∷ Value (Named Null) ∷ [])))
-    ∷ []) 3
+    (DeclareBuffer 2 JInt (codes "p") (FromCall (call (codes "GetIntArrayElements") (given (codes "a") ∷ Value (Named Null) ∷ [])))
+    ∷ [])
+    3
     ∷ [])
 
-held_at_the_last_brace-sorted : IsSorted held_at_the_last_brace
-unfolding function_named unmangle
-held_at_the_last_brace-sorted = refl
-
-held_at_the_last_brace-first : first_faults held_at_the_last_brace ≡ (3, HeldBuffer) ∷ []
-unfolding function_named unmangle
-held_at_the_last_brace-first = refl
+held_at_the_last_brace-refused : IsRefused held_at_the_last_brace 33 3
+unfolding opened
+held_at_the_last_brace-refused = bad_way held_at_the_last_brace HeldBuffer 3 refl refl refl

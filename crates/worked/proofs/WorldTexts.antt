@@ -12,7 +12,7 @@ use Rattle.world.specs.WorldLines.{ClassLine, FieldLine, ObjectLine, ArrayLine, 
 use Rattle.world.specs.WorldMeaning.{world_of, cells_of}
 use Rattle.world.specs.WorldRules.{IsWorldText, broken_after, OfClass, LineForm, WrongName, OutOfLimit, HeapFull}
 use Rattle.regions.specs.Load.{Loads}
-use Rattle.worked.proofs.CallArguments.{not_begun}
+use Rattle.worked.proofs.Arguments.{a_thread_that_has_not_begun}
 
 abbrev small_lines : Lines
 small_lines = (2, ClassLine (codes "A") None) ∷ (4, ArrayLine (codes "a") JInt (NumberValue (pos 7) ∷ NumberValue (negsuc 7) ∷ [])) ∷ (5, StringLine (codes "s") []) ∷ (6, StringLine (codes "t") []) ∷ (7, ThreadLine (codes "Java_A_f") (NamedObject (codes "a") ∷ [])) ∷ []
@@ -32,7 +32,7 @@ small_world-text = record {
   meant = refl;
 }
 
-small_world-loads : Loads not_begun (world_of 512 small_lines)
+small_world-loads : Loads a_thread_that_has_not_begun (world_of 512 small_lines)
 unfolding unmangle built_ins
 small_world-loads = refl
 

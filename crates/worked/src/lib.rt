@@ -2,5 +2,9 @@
 //! breaks an example is refused.
 #![tactic(auto)]
 
-/// Nothing runs: the examples stand in proofs/.
-pub fn nothing() {}
+ghost use Rattle.worked.specs.Laws.{CollectionsChangeNothing};
+
+/// Nothing is run here: the examples are in proofs/. A law of all runs: collections in a schedule change none.
+pub fn collections_change_nothing()
+    ensures { CollectionsChangeNothing }
+{}

@@ -1,0 +1,4 @@
+-- helper
+mod Spelling
+-- written from texts/
+mod Spelled
