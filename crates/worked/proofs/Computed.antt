@@ -13,7 +13,6 @@ use Rattle.classes.specs.Class.{Classes}
 use Rattle.classes.specs.Mangling.{unmangle}
 use Rattle.types.specs.Prototype.{function_named}
 use Rattle.types.specs.SortRules.{SortRule, sort_rule_number, IsSorted}
-use Rattle.types.specs.SortRules as sorts
 use Rattle.world.specs.declared.journal.Entry.{Entry}
 use Rattle.world.specs.declared.schedule.ScheduleWord.{ScheduleWord}
 use Rattle.world.specs.declared.schedule.ScheduleWord.TheVariants.{Turn, Collect}
@@ -43,7 +42,7 @@ use Rattle.regions.specs.State.{State, thread_at, views}
 use Rattle.regions.specs.Step.{world_step, can_step, step_of}
 use Rattle.regions.proofs.RunLaws.{follows-replay}
 use Rattle.regions.proofs.UnitLemmas.{accepted-all, faulty-all}
-use Rattle.worked.specs.Claims.{IsAccepted, IsRefused, by_sorts, by_regions, Beginning, IsWorkedRun, IsWorkedReplay, IsStoppedReplay, IsUnloaded}
+use Rattle.worked.specs.Claims.{first_sort_fault, IsAccepted, IsRefused, by_sorts, by_regions, Beginning, IsWorkedRun, IsWorkedReplay, IsStoppedReplay, IsUnloaded}
 use Rattle.worked.proofs.Programs.{entry}
 
 -- what the computations unfold
@@ -106,7 +105,7 @@ a_tree unit h =
 pub accepted : (unit : SourceUnit) → IsTrue (is_tree unit) → IsSorted unit → first_fault (functions_of unit) ≡ None → IsAccepted unit
 accepted unit tree sorted none = record { tree = a_tree unit tree; sorted = sorted; regions = accepted-all (functions_of unit) none }
 
-pub badly_sorted : (unit : SourceUnit) (rule : SortRule) (line : ℕ) → IsTrue (is_tree unit) → sorts.first_fault unit ≡ Some (line, rule) → IsRefused unit (sort_rule_number rule) line
+pub badly_sorted : (unit : SourceUnit) (rule : SortRule) (line : ℕ) → IsTrue (is_tree unit) → first_sort_fault unit ≡ Some (line, rule) → IsRefused unit (sort_rule_number rule) line
 badly_sorted unit rule line tree first = by_sorts rule line (a_tree unit tree) first
 
 pub bad_way : (unit : SourceUnit) (rule : RegionRule) (line : ℕ) → IsTrue (is_tree unit) → IsSorted unit → first_fault (functions_of unit) ≡ Some (line, rule) → IsRefused unit (region_rule_number rule) line
