@@ -357,7 +357,7 @@ fn learn_false<'a>(state: &mut StaticState<'a>, tested: Option<NullTest<'a>>)
     }
 }
 
-/// The state on the way where the test holds. So many frames that they can't be counted are a want of memory.
+/// The state on the way where the test holds. More frames than can be counted are a want of memory.
 pub(crate) fn take_true<'a>(state: &mut StaticState<'a>, test: &'a Test) -> Result<(), AllocError>
     ensures { OnOk result (state_value state.new ≡ where_true (state_value state.old) (test_tree test.now)) }
 {

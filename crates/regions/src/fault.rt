@@ -34,7 +34,7 @@ pub enum RegionRule {
     WaysDiffer,
     /// A reference is set in another frame than that of its declaration.
     WrongLevel,
-    /// A function's end is reached without a return, or a statement stands after one.
+    /// A function's end is reached without a return, or there is a statement after one.
     NoReturn,
 }
 

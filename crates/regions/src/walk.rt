@@ -335,7 +335,7 @@ fn stmt_way<'a>(
     }
 }
 
-/// The way through a block, where the variables of the outer state are not its own. After a return stands nothing.
+/// The way through a block, where the variables of the outer state are not its own. After a return there is nothing.
 #[cycle(walk)]
 fn block_way<'a>(
     alloc: Global,

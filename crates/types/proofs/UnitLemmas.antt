@@ -165,15 +165,15 @@ here_or_later p line (rule ∷ rules) f xs h = by (p rule) refl (λ k. here_or_l
   where
     by : (b : Bool) → p rule ≡ b → (first (map {B = ℕ × SortRule} (λ r. (line, r)) (filter p rules) ++ xs) ≡ Some f → ((f.0 ≡ line) × (p f.1 ≡ true)) ⊎ (first xs ≡ Some f))
         → first (map {B = ℕ × SortRule} (λ r. (line, r)) (if b then rule ∷ filter p rules else filter p rules) ++ xs) ≡ Some f → ((f.0 ≡ line) × (p f.1 ≡ true)) ⊎ (first xs ≡ Some f)
-    by true e later k = let g = some_is (line, rule) f k in inl (ap (λ (x : ℕ × SortRule). x.0) g, ap (λ (x : ℕ × SortRule). p x.1) g ∙ e)
-    by false e later k = later k
+    by true e go k = let g = some_is (line, rule) f k in inl (ap (λ (x : ℕ × SortRule). x.0) g, ap (λ (x : ℕ × SortRule). p x.1) g ∙ e)
+    by false e go k = go k
 
 at_place : (all : List Place) (f : ℕ × SortRule) → first (flat_map refused_at all) ≡ Some f → (place : Place) × Contains all place × (f.0 ≡ place.line) × (refuses f.1 place ≡ true)
 at_place [] f h = absurd cc
 at_place (p ∷ all) f h =
     elim (here_or_later (λ rule. refuses rule p) p.line sort_rules f (flat_map refused_at all) h) [
       | inl here ↦ (p, (0, omega arith, refl), here.0, here.1)
-      | inr later ↦ let further = at_place all f later in (further.0, (suc (further.1).0, omega (arith, (further.1).1), (further.1).2), further.2, further.3)
+      | inr rest ↦ let further = at_place all f rest in (further.0, (suc (further.1).0, omega (arith, (further.1).1), (further.1).2), further.2, further.3)
     ]
 
 -- what is refused at a place is broken there, or a call of what is not built

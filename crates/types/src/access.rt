@@ -11,9 +11,13 @@ use syntax::ElementType;
 /// How a buffer comes to an array's elements or a string's units: as a copy or as a view of them.
 #[derive(Clone, Copy)]
 pub enum Access {
+    /// A copy of an array's elements, which are of this type.
     ElementsCopy(ElementType),
+    /// An array's elements themselves.
     ArrayView,
+    /// A copy of a string's units.
     CharsCopy,
+    /// A string's units themselves.
     CharsView,
 }
 

@@ -22,7 +22,7 @@ pub enum SortRule {
     UnknownFunction,
     /// A call has another number of arguments than its function has parameters.
     ArgumentCount,
-    /// A name stands where a local reference is set.
+    /// A local reference is set to a name.
     ReferenceCopied,
     /// A release mode is none.
     BadMode,
