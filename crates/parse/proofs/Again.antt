@@ -12,7 +12,7 @@ use Rattle.parse.specs.declared.lexemes.Fixed.TheVariants as fixed
 use Rattle.parse.specs.Meaning.{Meaning, Fixed', Name'}
 use Rattle.parse.specs.Lexemes.{Lexed, same_fixed, is_fixed_meaning, expect}
 use Rattle.parse.specs.Spelling.{Spelled, Anywhere, OnLine, mark, word, reference_word, element_word, variable_word, result_word, parameter_word, expression, setting, test_tokens, statement, inside, parameter, function, item}
-use Rattle.parse.specs.Reading.{starts_with, rest_of, ReadStmt, simple_at, ReadBlock, BlockReader, else_by, if_by, while_by, statement_by, is_return, block_by, inner, block_at, parameter_at, parameters_at, head_at, body_at, function_at, static_at, item_at, items_at}
+use Rattle.parse.specs.Reading.{starts_with, rest_of, ReadStmt, simple_at, ReadBlock, BlockReader, else_by, if_test_at, if_by, while_test_at, while_by, statement_by, is_return, block_by, inner, block_at, parameter_at, parameters_at, head_at, body_at, signature_at, function_at, static_at, item_at, items_at}
 use Rattle.parse.proofs.Forms.{names_of, names_in, IsTest, IsForm, MayFollow, IsBlock, IsFunction, AreItems, IsExpr}
 use Rattle.parse.proofs.Singles.{Begins, same_itself, begins_split, begins_length, shortens, first_rest, first_is, expect_again, name_again, on_is, on_line_is}
 use Rattle.parse.proofs.Table.{Closes, closes_mark}
@@ -180,7 +180,7 @@ block_read b left ls = Ok (b, left, ls)
 module _ (deep : BlockReader) (room : ℕ) (all : AllBlocksAgain deep room) where
   -- up to the end of the first block
   if_head : (free line : ℕ) (test : Test) (b : Block) (ls mid : List Lexed) → Begins (tested_tail (test_tokens test) ++ mark marks.OpenBrace ∷ inside b) ls mid → 1 ≤ room → IsTest room test → IsBlock (room - 1) b → names_in b ≤ free → if_by deep room free line ls ≡ else_by deep line test b (free - names_in b) mid
-  unfolding if_by
+  unfolding if_by if_test_at
   if_head free line test b ls mid h some is_test is_block few =
       let t = tested_again (test_tokens test) (mark marks.OpenBrace ∷ inside b) ls mid h in
       let d = expect_again (fixed.Mark marks.OpenBrace) (inside b) t.mid mid t.after_it in
@@ -198,7 +198,7 @@ module _ (deep : BlockReader) (room : ℕ) (all : AllBlocksAgain deep room) wher
       rw (s, o.1, all free d o.0 rest some o.2 is_block few) refl
 
   while_again : (free line : ℕ) (test : Expr) (b : Block) (ls rest : List Lexed) → Begins (tested_tail (expression test) ++ mark marks.OpenBrace ∷ inside b) ls rest → 1 ≤ room → IsExpr room test → IsBlock (room - 1) b → names_in b ≤ free → while_by deep room free line ls ≡ Ok (While line test b, free - names_in b, rest)
-  unfolding while_by
+  unfolding while_by while_test_at
   while_again free line test b ls rest h some is_test is_block few =
       let t = tested_again (expression test) (mark marks.OpenBrace ∷ inside b) ls rest h in
       let d = expect_again (fixed.Mark marks.OpenBrace) (inside b) t.mid rest t.after_it in
@@ -335,7 +335,7 @@ record FunctionAgain (f : Function) (ls rest : List Lexed) : Type 0 where
   shorter : length rest < length ls
 
 function_again : (f : Function) (ls rest : List Lexed) → Begins (function f) ls rest → IsFunction f → FunctionAgain f ls rest
-unfolding function_at
+unfolding function_at signature_at
 function_again f ls rest h is =
     let names = is.names in
     let es7 : List Spelled = mark marks.CloseParen ∷ mark marks.OpenBrace ∷ inside f.body in

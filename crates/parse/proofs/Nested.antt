@@ -1,5 +1,5 @@
 -- Statements and blocks: what is read is spelled so.
-use Rattle.std.proofs.Common.{◌≡◌, ℕ, zero, suc, ◌+◌, ◌-◌, ◌<◌, ◌≤◌, Bool, true, false, List, [], ◌∷◌, ◌++◌, length, Result, Ok, refl, sym, ap, subst, ◌∙◌, arith, inl, inr}
+use Rattle.std.proofs.Common.{◌≡◌, ℕ, zero, suc, ◌+◌, ◌-◌, ◌<◌, ◌≤◌, Bool, true, false, List, [], ◌∷◌, ◌++◌, length, Result, Ok, Err, refl, sym, ap, subst, ◌∙◌, arith, inl, inr}
 use Rattle.std.specs.Prelude.{◌==◌, ◌≢◌}
 use Rattle.std.proofs.lemmas.Bool.{eqb-false}
 use Rattle.std.proofs.lemmas.List.{length-append}
@@ -15,7 +15,7 @@ use Rattle.parse.specs.Results.{◌>>=◌}
 use Rattle.parse.specs.Meaning.{Fixed'}
 use Rattle.parse.specs.Lexemes.{Lexed, line_at, expect}
 use Rattle.parse.specs.Spelling.{Spelled, OnLine, mark, word, expression, test_tokens, statement, inside}
-use Rattle.parse.specs.Reading.{starts_with, rest_of, ReadExpr, expr_at, plain_at, declared_at, starts_declaration, ReadStmt, simple_at, ReadBlock, BlockReader, test_at, else_by, if_by, while_by, statement_by, is_return, block_by, inner, statement_at, block_at}
+use Rattle.parse.specs.Reading.{starts_with, rest_of, ReadExpr, expr_at, plain_at, declared_at, starts_declaration, ReadStmt, simple_at, ReadBlock, BlockReader, test_at, else_by, if_test_at, if_by, while_test_at, while_by, statement_by, is_return, block_by, inner, statement_at, block_at}
 use Rattle.parse.proofs.Forms.{IsForm, IsTest, IsBlock, MayFollow, names_of, names_in}
 use Rattle.parse.proofs.Singles.{Begins, bind_ok, ok_is, chosen, begins_append, first_takes, starts_takes, expect_takes, then_takes, shortens, on_takes}
 use Rattle.parse.proofs.Levels.{expr_reads}
@@ -88,6 +88,22 @@ if_step1 deep free line test = expect (fixed.Mark marks.CloseParen) test.1 >>= i
 abbrev if_step0 : BlockReader → (room free line : ℕ) → List Lexed → Result ReadStmt ParseFault
 if_step0 deep room free line a = test_at room a >>= if_step1 deep free line
 
+-- steps in a row, the first of them read as one
+pub in_a_row : {A B C : Type 0} (r : Result A ParseFault) (f : A → Result B ParseFault) (g : B → Result C ParseFault) (h : A → Result C ParseFault) → ((x : A) → (f x >>= g) ≡ h x) → ((r >>= f) >>= g) ≡ (r >>= h)
+in_a_row (Ok x) f g h same = same x
+in_a_row (Err e) f g h same = refl
+
+abbrev if_steps : BlockReader → (free line : ℕ) → Test × List Lexed → Result ReadStmt ParseFault
+if_steps deep free line test = if_step3 deep free line test.0 test.1
+
+if_is : (deep : BlockReader) (room free line : ℕ) (ls : List Lexed) → if_by deep room free line ls ≡ (expect (fixed.Mark marks.OpenParen) ls >>= if_step0 deep room free line)
+unfolding if_by if_test_at
+if_is deep room free line ls =
+    in_a_row (expect (fixed.Mark marks.OpenParen) ls) _ (if_steps deep free line) (if_step0 deep room free line) (λ a.
+    in_a_row (test_at room a) _ (if_steps deep free line) (if_step1 deep free line) (λ test.
+    in_a_row (expect (fixed.Mark marks.CloseParen) test.1) _ (if_steps deep free line) (if_step2 deep free line test.0) (λ b.
+    in_a_row (expect (fixed.Mark marks.OpenBrace) b) _ (if_steps deep free line) (if_step3 deep free line test.0) (λ within. refl))))
+
 abbrev while_step4 : ℕ → Expr → ReadBlock → Result ReadStmt ParseFault
 while_step4 line test b = Ok (While line test b.0, b.1, b.2)
 
@@ -102,6 +118,17 @@ while_step1 deep free line test = expect (fixed.Mark marks.CloseParen) test.2 >>
 
 abbrev while_step0 : BlockReader → (room free line : ℕ) → List Lexed → Result ReadStmt ParseFault
 while_step0 deep room free line a = expr_at room 0 a >>= while_step1 deep free line
+
+abbrev while_steps : BlockReader → (free line : ℕ) → Expr × List Lexed → Result ReadStmt ParseFault
+while_steps deep free line test = while_step3 deep free line test.0 test.1
+
+while_is : (deep : BlockReader) (room free line : ℕ) (ls : List Lexed) → while_by deep room free line ls ≡ (expect (fixed.Mark marks.OpenParen) ls >>= while_step0 deep room free line)
+unfolding while_by while_test_at
+while_is deep room free line ls =
+    in_a_row (expect (fixed.Mark marks.OpenParen) ls) _ (while_steps deep free line) (while_step0 deep room free line) (λ a.
+    in_a_row (expr_at room 0 a) _ (while_steps deep free line) (while_step1 deep free line) (λ test.
+    in_a_row (expect (fixed.Mark marks.CloseParen) test.2) _ (while_steps deep free line) (while_step2 deep free line test.0) (λ b.
+    in_a_row (expect (fixed.Mark marks.OpenBrace) b) _ (while_steps deep free line) (while_step3 deep free line test.0) (λ within. refl))))
 
 module _ (deep : BlockReader) (room : ℕ) (all : AllTakeBlocks deep room) where
   -- a block with its opening brace
@@ -144,10 +171,9 @@ module _ (deep : BlockReader) (room : ℕ) (all : AllTakeBlocks deep room) where
       ]
 
   if_takes : (free : ℕ) (ls : List Lexed) (x : ReadStmt) → starts_with (fixed.Word words.If) ls ≡ true → 1 ≤ room → if_by deep room free (line_at ls) (rest_of ls) ≡ Ok x → TakesStmt room free ls x
-  unfolding if_by
   if_takes free ls x s some e =
       let line = line_at ls in
-      let a = bind_ok (expect (fixed.Mark marks.OpenParen) (rest_of ls)) (if_step0 deep room free line) x e in
+      let a = bind_ok (expect (fixed.Mark marks.OpenParen) (rest_of ls)) (if_step0 deep room free line) x (sym (if_is deep room free line (rest_of ls)) ∙ e) in
       let b = bind_ok (test_at room a.0) (if_step1 deep free line) x a.2 in
       let c = bind_ok (expect (fixed.Mark marks.CloseParen) b.0.1) (if_step2 deep free line b.0.0) x b.2 in
       let d = bind_ok (expect (fixed.Mark marks.OpenBrace) c.0) (if_step3 deep free line b.0.0) x c.2 in
@@ -159,10 +185,9 @@ module _ (deep : BlockReader) (room : ℕ) (all : AllTakeBlocks deep room) where
       else_takes free line b.0.0 f.0.0 f.0.1 ls f.0.2 x some t.1 k.formed k.count parts f.2
 
   while_takes : (free : ℕ) (ls : List Lexed) (x : ReadStmt) → starts_with (fixed.Word words.While) ls ≡ true → 1 ≤ room → while_by deep room free (line_at ls) (rest_of ls) ≡ Ok x → TakesStmt room free ls x
-  unfolding while_by
   while_takes free ls x s some e =
       let line = line_at ls in
-      let a = bind_ok (expect (fixed.Mark marks.OpenParen) (rest_of ls)) (while_step0 deep room free line) x e in
+      let a = bind_ok (expect (fixed.Mark marks.OpenParen) (rest_of ls)) (while_step0 deep room free line) x (sym (while_is deep room free line (rest_of ls)) ∙ e) in
       let b = bind_ok (expr_at room 0 a.0) (while_step1 deep free line) x a.2 in
       let c = bind_ok (expect (fixed.Mark marks.CloseParen) b.0.2) (while_step2 deep free line b.0.0) x b.2 in
       let d = bind_ok (expect (fixed.Mark marks.OpenBrace) c.0) (while_step3 deep free line b.0.0) x c.2 in

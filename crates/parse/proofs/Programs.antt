@@ -1,5 +1,5 @@
 -- Functions and units: what is read is spelled so, and what is spelled so is read.
-use Rattle.std.proofs.Common.{◌≡◌, ℕ, zero, suc, ◌-◌, ◌<◌, ◌≤◌, true, List, [], ◌∷◌, ◌++◌, length, Option, Some, None, Result, Ok, refl, ap, subst, arith, inl, inr}
+use Rattle.std.proofs.Common.{◌≡◌, ℕ, zero, suc, ◌-◌, ◌<◌, ◌≤◌, true, List, [], ◌∷◌, ◌++◌, length, Option, Some, None, Result, Ok, refl, sym, ap, subst, ◌∙◌, arith, inl, inr}
 use Rattle.std.specs.Prelude.{◌==◌, ◌≢◌, flat_map}
 use Rattle.std.proofs.lemmas.Bool.{eqb-false}
 use Rattle.scan.specs.declared.token.Mark.TheVariants as marks
@@ -13,11 +13,11 @@ use Rattle.parse.specs.Results.{◌>>=◌}
 use Rattle.parse.specs.Meaning.{Fixed', Name'}
 use Rattle.parse.specs.Lexemes.{Lexed, line_at, expect, name_at}
 use Rattle.parse.specs.Spelling.{Spelled, Anywhere, OnLine, mark, word, reference_word, result_word, parameter_word, inside, parameter, function, item}
-use Rattle.parse.specs.Reading.{starts_with, rest_of, found, reference_type_at, result_type_at, parameter_type_at, parameter_at, parameters_at, head_at, body_at, block_at, function_at, static_at, ReadItem, item_at, items_at}
+use Rattle.parse.specs.Reading.{starts_with, rest_of, found, reference_type_at, result_type_at, parameter_type_at, parameter_at, parameters_at, head_at, body_at, block_at, signature_at, function_at, static_at, ReadItem, item_at, items_at}
 use Rattle.parse.proofs.Forms.{names_in, IsBlock, IsFunction, AreItems}
 use Rattle.parse.proofs.Singles.{Begins, bind_ok, ok_is, chosen, begins_append, first_takes, starts_takes, expect_takes, then_takes, name_takes, shortens}
 use Rattle.parse.proofs.TypeWords.{reference_type_takes, result_type_takes, parameter_type_takes}
-use Rattle.parse.proofs.Nested.{block_takes}
+use Rattle.parse.proofs.Nested.{in_a_row, block_takes}
 
 -- the parameters that each function has, up to the name of its class
 abbrev pub parameters_head : List Spelled
@@ -147,14 +147,27 @@ step1 line r = expect (fixed.Word words.JniCall) r.1 >>= step2 line r.0
 abbrev step0 : ℕ → List Lexed → Read
 step0 line ls = found (result_type_at ls) ls >>= step1 line
 
+abbrev after_signature : ℕ → ResultType × List ℕ × List ℕ × List Lexed → Read
+after_signature line s = parameters_at 255 s.3 >>= step6 line s.0 s.1 s.2
+
+function_is : (ls : List Lexed) → function_at ls ≡ (expect (fixed.Word words.JniExport) ls >>= step0 (line_at ls))
+unfolding function_at signature_at
+function_is ls =
+    let line = line_at ls in
+    in_a_row (expect (fixed.Word words.JniExport) ls) _ (after_signature line) (step0 line) (λ a.
+    in_a_row (found (result_type_at a) a) _ (after_signature line) (step1 line) (λ r.
+    in_a_row (expect (fixed.Word words.JniCall) r.1) _ (after_signature line) (step2 line r.0) (λ b.
+    in_a_row (name_at b) _ (after_signature line) (step3 line r.0) (λ n.
+    in_a_row (head_at n.1) _ (after_signature line) (step4 line r.0 n.0) (λ c.
+    in_a_row (name_at c) _ (after_signature line) (step5 line r.0 n.0) (λ k. refl))))))
+
 pub record TakesFunction (ls : List Lexed) (x : Function × List Lexed) : Type 0 where
   pub parts : Begins (function x.0) ls x.1
   pub formed : IsFunction x.0
   pub shorter : length x.1 < length ls
 
-pub function_takes : (ls : List Lexed) (x : Function × List Lexed) → function_at ls ≡ Ok x → TakesFunction ls x
-unfolding function_at
-function_takes ls x h =
+steps_take : (ls : List Lexed) (x : Function × List Lexed) → (expect (fixed.Word words.JniExport) ls >>= step0 (line_at ls)) ≡ Ok x → TakesFunction ls x
+steps_take ls x h =
     let line = line_at ls in
     let a = bind_ok (expect (fixed.Word words.JniExport) ls) (step0 line) x h in
     let b = bind_ok (found (result_type_at a.0) a.0) (step1 line) x a.2 in
@@ -186,6 +199,9 @@ function_takes ls x h =
       formed = record { body = body.formed; names = omega (arith, few, body.few) };
       shorter = shortens (OnLine line (Fixed' (fixed.Word words.JniExport))) es1 ls g.0.1 t0;
     })
+
+pub function_takes : (ls : List Lexed) (x : Function × List Lexed) → function_at ls ≡ Ok x → TakesFunction ls x
+function_takes ls x h = steps_take ls x (sym (function_is ls) ∙ h)
 
 -- ---- statics
 

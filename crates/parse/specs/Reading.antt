@@ -496,22 +496,34 @@ else_by deep line test then' free ls =
     then (expect (fixed.Mark marks.OpenBrace) (rest_of ls) >>= λ within. deep free within >>= λ b. Ok (IfElse line test then' b.0, b.1, b.2))
     else Ok (If line test then', free, ls)
 
-unfoldable pub if_by : BlockReader → (room free line : ℕ) → List Lexed → Result ReadStmt ParseFault
-if_by deep room free line ls = do
+-- what an `if` tests, in its parentheses, and the brace after them
+unfoldable pub if_test_at : ℕ → List Lexed → Result (Test × List Lexed) ParseFault
+if_test_at room ls = do
   a ← expect (fixed.Mark marks.OpenParen) ls
   test ← test_at room a
   b ← expect (fixed.Mark marks.CloseParen) test.1
   within ← expect (fixed.Mark marks.OpenBrace) b
-  then' ← deep free within
+  Ok (test.0, within)
+
+unfoldable pub if_by : BlockReader → (room free line : ℕ) → List Lexed → Result ReadStmt ParseFault
+if_by deep room free line ls = do
+  test ← if_test_at room ls
+  then' ← deep free test.1
   else_by deep line test.0 then'.0 then'.1 then'.2
 
-unfoldable pub while_by : BlockReader → (room free line : ℕ) → List Lexed → Result ReadStmt ParseFault
-while_by deep room free line ls = do
+-- what a `while` tests, in its parentheses, and the brace after them
+unfoldable pub while_test_at : ℕ → List Lexed → Result (Expr × List Lexed) ParseFault
+while_test_at room ls = do
   a ← expect (fixed.Mark marks.OpenParen) ls
   test ← expr_at room 0 a
   b ← expect (fixed.Mark marks.CloseParen) test.2
   within ← expect (fixed.Mark marks.OpenBrace) b
-  body ← deep free within
+  Ok (test.0, within)
+
+unfoldable pub while_by : BlockReader → (room free line : ℕ) → List Lexed → Result ReadStmt ParseFault
+while_by deep room free line ls = do
+  test ← while_test_at room ls
+  body ← deep free test.1
   Ok (While line test.0 body.0, body.1, body.2)
 
 unfoldable pub statement_by : BlockReader → (room free : ℕ) → List Lexed → Result ReadStmt ParseFault
@@ -580,18 +592,24 @@ body_at free ls = do
   body ← block_at 31 free b
   Ok (body.0, body.2)
 
--- a function; after the class it may have 255 more names
-unfoldable pub function_at : List Lexed → Result (Function × List Lexed) ParseFault
-function_at ls = do
+-- the result, the name and the class of a function
+unfoldable pub signature_at : List Lexed → Result (ResultType × Identifier × Identifier × List Lexed) ParseFault
+signature_at ls = do
   a ← expect (fixed.Word words.JniExport) ls
   result ← found (result_type_at a) a
   b ← expect (fixed.Word words.JniCall) result.1
   name ← name_at b
   c ← head_at name.1
   class_name ← name_at c
-  parameters ← parameters_at 255 class_name.1
+  Ok (result.0, name.0, class_name.0, class_name.1)
+
+-- a function; after the class it may have 255 more names
+unfoldable pub function_at : List Lexed → Result (Function × List Lexed) ParseFault
+function_at ls = do
+  signature ← signature_at ls
+  parameters ← parameters_at 255 signature.3
   body ← body_at (255 - length parameters.0) parameters.1
-  Ok (record { line = line_at ls; result = result.0; name = name.0; class_name = class_name.0; parameters = parameters.0; body = body.0 }, body.1)
+  Ok (record { line = line_at ls; result = signature.0; name = signature.1; class_name = signature.2; parameters = parameters.0; body = body.0 }, body.1)
 
 unfoldable pub static_at : List Lexed → Result (Static × List Lexed) ParseFault
 static_at ls = do

@@ -3,11 +3,11 @@
 ghost use Rattle.std.specs.Prelude.{◌≡◌, ℕ, ◌+◌, List, length, map, IfOk, Ok};
 ghost use Rattle.scan.specs.Spelling.{Spells};
 ghost use Rattle.syntax.specs.Tree.{SourceUnit};
-ghost use Rattle.syntax.specs.Views.{block_tree, function_tree, static_tree, item_tree, unit_tree};
+ghost use Rattle.syntax.specs.Views.{result_tree, block_tree, function_tree, static_tree, item_tree, unit_tree};
 ghost use Rattle.parse.specs.Results.{Gives};
 ghost use Rattle.parse.specs.Lexemes.{views, lexemes};
 ghost use Rattle.parse.specs.Spelling.{SpellsUnit};
-ghost use Rattle.parse.specs.Reading.{head_at, body_at, function_at, static_at, item_at, items_at, unit_at};
+ghost use Rattle.parse.specs.Reading.{head_at, body_at, signature_at, function_at, static_at, item_at, items_at, unit_at};
 
 use crate::fault::{Fault, ParseFault};
 use crate::lexemes::{
@@ -19,7 +19,7 @@ use crate::type_words::{reference_type, result_type};
 use crate::words::Word;
 use scan::{Mark, Token, one_spelling};
 use std::alloc::Global;
-use syntax::{Block, Function, Item, Name, Static, Unit};
+use syntax::{Block, Function, Item, Name, ResultType, Static, Unit};
 
 /// How high the trees in a function's block may be, which counts one itself.
 const ROOM: u32 = 31;
@@ -54,12 +54,11 @@ fn body(alloc: Global, free: usize, lexemes: &[Lexeme]) -> Result<(Block, &[Lexe
     Ok((body, rest))
 }
 
-/// A function (JNI Specification, chapter 2, "Native Method Arguments").
-#[tactic(auto, unfolding(crate::specs::Reading::function_at))]
-fn function(alloc: Global, lexemes: &[Lexeme]) -> Result<(Function, &[Lexeme]), ParseFault>
-    ensures { Gives (λ x. (function_tree x.0, views x.1.now)) result (function_at (views lexemes.now)) }
+/// The result, the name and the class of a function, and what comes after them.
+#[tactic(auto, unfolding(crate::specs::Reading::signature_at))]
+fn signature(lexemes: &[Lexeme]) -> Result<(ResultType, &[u8], &[u8], &[Lexeme]), ParseFault>
+    ensures { Gives (λ x. (result_tree x.0, x.1.now, x.2.now, views x.3.now)) result (signature_at (views lexemes.now)) }
 {
-    let line = line_at(lexemes);
     let rest = expect(Fixed::Word(Word::JniExport), lexemes)?;
     let Some(result) = result_type(rest) else {
         return Err(unexpected(rest));
@@ -68,6 +67,16 @@ fn function(alloc: Global, lexemes: &[Lexeme]) -> Result<(Function, &[Lexeme]), 
     let (name, rest) = name_at(rest)?;
     let rest = head(rest)?;
     let (class_name, rest) = name_at(rest)?;
+    Ok((result, name, class_name, rest))
+}
+
+/// A function (JNI Specification, chapter 2, "Native Method Arguments").
+#[tactic(auto, unfolding(crate::specs::Reading::function_at))]
+fn function(alloc: Global, lexemes: &[Lexeme]) -> Result<(Function, &[Lexeme]), ParseFault>
+    ensures { Gives (λ x. (function_tree x.0, views x.1.now)) result (function_at (views lexemes.now)) }
+{
+    let line = line_at(lexemes);
+    let (result, name, class_name, rest) = signature(lexemes)?;
     let (parameters, rest) = parameters(alloc, rest)?;
     let (body, rest) = body(alloc, NAMES - parameters.len(), rest)?;
     Ok((

@@ -1,10 +1,10 @@
 //! Statements and blocks (ISO/IEC 9899:1999, 6.8).
 
 ghost use Rattle.std.specs.Prelude.{◌≡◌, ◌≤◌};
-ghost use Rattle.syntax.specs.Views.{stmt_tree, test_tree, block_tree};
+ghost use Rattle.syntax.specs.Views.{expr_tree, test_tree, stmt_tree, block_tree};
 ghost use Rattle.parse.specs.Results.{Gives};
 ghost use Rattle.parse.specs.Lexemes.{views};
-ghost use Rattle.parse.specs.Reading.{simple_at, inner, if_by, else_by, while_by, is_return, statement_at, block_at};
+ghost use Rattle.parse.specs.Reading.{simple_at, inner, if_test_at, if_by, else_by, while_test_at, while_by, is_return, statement_at, block_at};
 
 use crate::calls::test;
 use crate::declarations::{declared, starts_declaration};
@@ -15,7 +15,7 @@ use crate::plain::plain;
 use crate::words::Word;
 use scan::Mark;
 use std::alloc::Global;
-use syntax::{Block, Form, Stmt, Test};
+use syntax::{Block, Expr, Form, Stmt, Test};
 
 /// A statement, how many more names may be declared after it, and what comes after it.
 type ReadStmt<'t> = (Stmt, usize, &'t [Lexeme]);
@@ -52,6 +52,32 @@ fn is_return(stmt: &Stmt) -> bool
     matches!(stmt.form, Form::Return(_))
 }
 
+/// What an `if` tests, in its parentheses, and what comes after the brace of its block.
+#[tactic(auto, unfolding(crate::specs::Reading::if_test_at))]
+fn if_test(alloc: Global, room: u32, lexemes: &[Lexeme]) -> Result<(Test, &[Lexeme]), ParseFault>
+    requires { room ≤ 32 }
+    ensures { Gives (λ x. (test_tree x.0, views x.1.now)) result (if_test_at room (views lexemes.now)) }
+{
+    let rest = expect(Fixed::Mark(Mark::OpenParen), lexemes)?;
+    let (test, rest) = test(alloc, room, rest)?;
+    let rest = expect(Fixed::Mark(Mark::CloseParen), rest)?;
+    let rest = expect(Fixed::Mark(Mark::OpenBrace), rest)?;
+    Ok((test, rest))
+}
+
+/// What a `while` tests, in its parentheses, and what comes after the brace of its block.
+#[tactic(auto, unfolding(crate::specs::Reading::while_test_at))]
+fn while_test(alloc: Global, room: u32, lexemes: &[Lexeme]) -> Result<(Expr, &[Lexeme]), ParseFault>
+    requires { room ≤ 32 }
+    ensures { Gives (λ x. (expr_tree x.0, views x.1.now)) result (while_test_at room (views lexemes.now)) }
+{
+    let rest = expect(Fixed::Mark(Mark::OpenParen), lexemes)?;
+    let (test, _, rest) = expression(alloc, room, 0, rest)?;
+    let rest = expect(Fixed::Mark(Mark::CloseParen), rest)?;
+    let rest = expect(Fixed::Mark(Mark::OpenBrace), rest)?;
+    Ok((test, rest))
+}
+
 /// What comes after the `if` of this line.
 #[cycle(blocks)]
 #[tactic(auto, using(crate::proofs::Blocks::inners), unfolding(crate::specs::Reading::if_by))]
@@ -66,10 +92,7 @@ fn if_statement(
     requires bound { room ≤ 32 }
     ensures { Gives (λ x. (stmt_tree x.0, x.1, views x.2.now)) result (if_by (inner room) room free line (views lexemes.now)) }
 {
-    let rest = expect(Fixed::Mark(Mark::OpenParen), lexemes)?;
-    let (test, rest) = test(alloc, room, rest)?;
-    let rest = expect(Fixed::Mark(Mark::CloseParen), rest)?;
-    let rest = expect(Fixed::Mark(Mark::OpenBrace), rest)?;
+    let (test, rest) = if_test(alloc, room, lexemes)?;
     let (body, left, rest) = block(alloc, room - 1, free, rest)?;
     else_block(alloc, room, line, test, body, left, rest)
 }
@@ -114,10 +137,7 @@ fn while_statement(
     requires bound { room ≤ 32 }
     ensures { Gives (λ x. (stmt_tree x.0, x.1, views x.2.now)) result (while_by (inner room) room free line (views lexemes.now)) }
 {
-    let rest = expect(Fixed::Mark(Mark::OpenParen), lexemes)?;
-    let (test, _, rest) = expression(alloc, room, 0, rest)?;
-    let rest = expect(Fixed::Mark(Mark::CloseParen), rest)?;
-    let rest = expect(Fixed::Mark(Mark::OpenBrace), rest)?;
+    let (test, rest) = while_test(alloc, room, lexemes)?;
     let (body, left, rest) = block(alloc, room - 1, free, rest)?;
     let form = Form::While(test, body);
     Ok((Stmt { line, form }, left, rest))
