@@ -9,7 +9,7 @@ use Rattle.std.proofs.lemmas.Fmt.{decimal_digit}
 use Rattle.base.specs.Bytes.{is_some_byte}
 use Rattle.world.specs.declared.journal.Entry.{Entry}
 use Rattle.world.specs.Journal.{Journal, entry_text, IsJournalText}
-use Rattle.world.specs.Parts.{parts_of}
+use Rattle.world.specs.Split.{parts_of}
 use Rattle.world.specs.ReadingJournals.{entry_named, entry_of, journal_of}
 use Rattle.world.specs.Reading.{Gives}
 use Rattle.world.specs.ReadingWords.{formed_words}

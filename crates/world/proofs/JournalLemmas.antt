@@ -6,7 +6,7 @@ use Rattle.std.proofs.lemmas.List.Concat.{flat_map-cons}
 use Rattle.std.proofs.lemmas.Bool.Decides.{nat_tests}
 use Rattle.std.proofs.lemmas.Fmt.{decimal_digit}
 use Rattle.world.specs.declared.journal.Entry.{Entry}
-use Rattle.world.specs.Parts.{parts_of}
+use Rattle.world.specs.Split.{parts_of}
 use Rattle.world.specs.Reading.{◌>>=◌}
 use Rattle.world.specs.ReadingWords.{formed_words, with_word, line_words, lines_words}
 use Rattle.world.specs.Journal.{entry_text}

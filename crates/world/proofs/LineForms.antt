@@ -13,7 +13,7 @@ use Rattle.classes.specs.Mangling.{is_simple_name}
 use Rattle.world.specs.declared.fault.Rule.{Rule}
 use Rattle.world.specs.declared.fault.Rule.TheVariants.{Form}
 use Rattle.world.specs.Natural.{natural_of}
-use Rattle.world.specs.Parts.{parts_of}
+use Rattle.world.specs.Split.{parts_of}
 use Rattle.world.specs.Reading.{refused}
 use Rattle.world.specs.ReadingValues.{object_named, values_named, element_named}
 use Rattle.world.specs.ReadingWorlds.{below_zero, heap_of, heap_rule, class_rule, place_of, is_number, array_rule, is_there, thread_rule, ruled, with_cells, number_of, argument_of, heap_scene, class_scene, array_scene, thread_scene, array_words_scene, pair_scene, words_scene, line_scene}

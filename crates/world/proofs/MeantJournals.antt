@@ -5,7 +5,7 @@ use Rattle.std.specs.List.{list_all}
 use Rattle.std.proofs.lemmas.Bool.Decides.{nat_tests}
 use Rattle.world.specs.declared.journal.Entry.{Entry}
 use Rattle.world.specs.Journal.{Journal, IsJournalText}
-use Rattle.world.specs.Parts.{parts_of}
+use Rattle.world.specs.Split.{parts_of}
 use Rattle.world.specs.ReadingJournals.{entry_of, journal_of, AreEntries}
 use Rattle.world.specs.ReadingWords.{formed_words}
 use Rattle.world.specs.Words.{is_thread}

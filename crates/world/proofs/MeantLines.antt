@@ -11,7 +11,7 @@ use Rattle.base.specs.Element.{ElementType, JInt}
 use Rattle.classes.specs.Class.{class_named}
 use Rattle.classes.specs.Mangling.{is_simple_name, is_class_name}
 use Rattle.world.specs.Natural.{natural_of}
-use Rattle.world.specs.Parts.{parts_of}
+use Rattle.world.specs.Split.{parts_of}
 use Rattle.world.specs.ReadingValues.{values_named, element_named}
 use Rattle.world.specs.ReadingWorlds.{below_zero, heap_of, heap_rule, class_rule, array_rule, is_there, thread_rule, ruled, with_cells, number_of, argument_of, heap_scene, class_scene, array_scene, thread_scene, words_scene, line_scene}
 use Rattle.world.specs.Scene.{ArrayScene, Scene}

@@ -16,7 +16,7 @@ use Rattle.world.specs.declared.schedule.ScheduleWord.{ScheduleWord}
 use Rattle.world.specs.declared.schedule.ScheduleWord.TheVariants.{Turn, Collect}
 use Rattle.world.specs.declared.schedule.Repetition.{Repetition}
 use Rattle.world.specs.Natural.{digits_number, natural_of}
-use Rattle.world.specs.Parts.{parts_of}
+use Rattle.world.specs.Split.{parts_of}
 use Rattle.world.specs.Reading.{◌>>=◌}
 use Rattle.world.specs.ReadingSchedules.{named_turn, repetition, repetition_of, is_known_turn, repeated_words, schedule_of}
 use Rattle.world.specs.ReadingWords.{with_word, formed_words}

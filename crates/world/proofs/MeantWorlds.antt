@@ -11,7 +11,7 @@ use Rattle.base.specs.Element.{ElementType}
 use Rattle.classes.specs.Mangling.{is_class_name}
 use Rattle.world.specs.declared.fault.Rule.TheVariants.{Form}
 use Rattle.world.specs.BuiltLines.{is_built_line}
-use Rattle.world.specs.Parts.{parts_of}
+use Rattle.world.specs.Split.{parts_of}
 use Rattle.world.specs.Reading.{◌>>=◌, refused}
 use Rattle.world.specs.ReadingWorlds.{number_of, line_scene, finished_scene, lines_scene}
 use Rattle.world.specs.Scene.{ArrayScene, Scene}

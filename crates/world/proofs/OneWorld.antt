@@ -13,7 +13,7 @@ use Rattle.classes.specs.Class.{FieldType, NumberField, ReferenceField, Class, C
 use Rattle.classes.specs.BuiltIns.{built_ins}
 use Rattle.classes.specs.Mangling.{is_simple_name, is_class_name}
 use Rattle.world.specs.Natural.{natural_of}
-use Rattle.world.specs.Parts.{parts_of}
+use Rattle.world.specs.Split.{parts_of}
 use Rattle.world.specs.ReadingValues.{values_named, element_named}
 use Rattle.world.specs.World.{World}
 use Rattle.world.specs.WorldLines.{WorldValue, NumberValue, NullValue, NamedObject, NamedClass, WorldLine, ClassLine, FieldLine, StaticLine, ObjectLine, ObjectsLine, ArrayLine, StringLine, ThreadLine, CallLine, Lines, spaced, at_name, value_text, element_letter, IsLineText, text_lines}

@@ -18,7 +18,7 @@ use Rattle.world.specs.declared.schedule.ScheduleWord.{ScheduleWord}
 use Rattle.world.specs.declared.schedule.ScheduleWord.TheVariants.{Turn}
 use Rattle.world.specs.declared.schedule.Repetition.{Repetition}
 use Rattle.world.specs.Natural.{digits_number, natural_of}
-use Rattle.world.specs.Parts.{parts_of}
+use Rattle.world.specs.Split.{parts_of}
 use Rattle.world.specs.ReadingSchedules.{named_turn, repetition, repetition_of, is_known_turn, repeated_words, schedule_of}
 use Rattle.world.specs.ReadingWords.{with_word, formed_words, text_words}
 use Rattle.world.specs.Schedule.{turn_text, schedule_word, words_meant, is_turn, is_count, IsScheduleText}

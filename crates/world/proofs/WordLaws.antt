@@ -10,7 +10,7 @@ use Rattle.std.proofs.lemmas.List.Sums.{sum_by-append}
 use Rattle.base.specs.Bytes.{is_some_byte, with_first, split_at}
 use Rattle.world.specs.declared.fault.TextFault.{TextFault}
 use Rattle.world.specs.declared.fault.Rule.TheVariants.{Name, Limit}
-use Rattle.world.specs.Parts.{parts_of}
+use Rattle.world.specs.Split.{parts_of}
 use Rattle.world.specs.Reading.{◌>>=◌, refused}
 use Rattle.world.specs.ReadingWords.{with_word, formed_words, allowed_words, line_words, lines_words}
 use Rattle.world.specs.Words.{words_of}

@@ -15,7 +15,7 @@ use Rattle.world.specs.declared.fault.Rule.TheVariants.{Form, Limit}
 use Rattle.world.specs.declared.fault.ReadError.{ReadError}
 use Rattle.world.specs.BuiltLines.{is_built_line, are_built}
 use Rattle.world.specs.Object.{ObjectValue, Object}
-use Rattle.world.specs.Parts.{parts_of}
+use Rattle.world.specs.Split.{parts_of}
 use Rattle.world.specs.Reading.{refused, Gives}
 use Rattle.world.specs.ReadingWorlds.{class_rule, place_of, is_number, array_rule, is_there, thread_rule, argument_of, line_scene, finished_scene, lines_scene, scene_of_text}
 use Rattle.world.specs.Scene.{ArrayScene, Scene, array_size, cells_used}

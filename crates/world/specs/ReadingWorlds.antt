@@ -16,7 +16,7 @@ use Rattle.world.specs.Scene.{ArrayScene, Scene, cells_used}
 use Rattle.world.specs.SceneWorld.{classes_named}
 use Rattle.world.specs.Natural.{natural_of}
 use Rattle.world.specs.Object.{ObjectValue, Number, Refers}
-use Rattle.world.specs.Parts.{parts_of}
+use Rattle.world.specs.Split.{parts_of}
 use Rattle.world.specs.Reading.{◌>>=◌, refused, Fails}
 use Rattle.world.specs.ReadingValues.{object_named, values_named, element_named}
 use Rattle.world.specs.WorldLines.{WorldValue, NumberValue, NullValue, NamedObject, NamedClass}

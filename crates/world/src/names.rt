@@ -10,7 +10,7 @@ ghost use Rattle.classes.specs.Mangling.{is_simple_name, is_class_name};
 ghost use Rattle.world.specs.SceneWorld.{is_of, classes_named};
 ghost use Rattle.world.specs.Shown.{name_view};
 
-use crate::parts::Parts;
+use crate::split::Split;
 
 /// The names of the built-in classes, in the order of their numbers.
 const BUILT_INS: [&[u8]; 42] = [
@@ -100,7 +100,7 @@ pub fn is_simple_name(bytes: &[u8]) -> bool
 pub fn is_class_name(bytes: &[u8]) -> bool
     ensures { result ≡ is_class_name bytes.now }
 {
-    for part in Parts::new(bytes, b'/') {
+    for part in Split::new(bytes, b'/') {
         if !is_simple_name(part) {
             return false;
         }

@@ -2,14 +2,14 @@
 
 ghost use Rattle.std.specs.Prelude.{◌≡◌, IfOk, map};
 ghost use Rattle.std.specs.Option.{option_map};
-ghost use Rattle.world.specs.Parts.{parts_left};
+ghost use Rattle.world.specs.Split.{parts_left};
 ghost use Rattle.world.specs.ReadingValues.{object_named, plain_value, value_named, values_named, element_named};
 ghost use Rattle.world.specs.Views.{element_view, value_view};
 
 use crate::array::Element;
 use crate::names::is_simple_name;
 use crate::natural::integer;
-use crate::parts::Parts;
+use crate::split::Split;
 use std::alloc::{AllocError, Global};
 
 /// A value.
@@ -68,7 +68,7 @@ fn read_value(word: &[u8]) -> Option<Value<'_>>
 /// The values that the words are, or `None` where one of them is none.
 pub fn read_values<'a>(
     alloc: Global,
-    words: Parts<'a>,
+    words: Split<'a>,
 ) -> Result<Option<Vec<Value<'a>>>, AllocError>
     ensures { IfOk result (λ values. option_map (λ v. map value_view v.items) values ≡ values_named (parts_left words.entry)) }
 {

@@ -5,10 +5,10 @@ ghost use Rattle.std.specs.Option.{option_map};
 ghost use Rattle.std.specs.List.{list_all};
 ghost use Rattle.world.specs.Reading.{Gives};
 ghost use Rattle.world.specs.ReadingWords.{formed_words, line_words, text_words};
-ghost use Rattle.world.specs.Parts.{parts_of};
+ghost use Rattle.world.specs.Split.{parts_of};
 
 use crate::fault::{ReadError, Rule, TextFault};
-use crate::parts::Parts;
+use crate::split::Split;
 use std::alloc::{AllocError, Global};
 
 /// The most words of a text, each as often as it is repeated.
@@ -38,7 +38,7 @@ fn formed<W: Word>(alloc: Global, line: &[u8]) -> Result<Option<Vec<W>>, AllocEr
     ensures { IfOk result (λ words. option_map (λ v. v.items) words ≡ formed_words W.spelled (parts_of 32 line.now)) }
 {
     let mut words = Vec::new(alloc);
-    for part in Parts::new(line, b' ') {
+    for part in Split::new(line, b' ') {
         if !part.is_empty() {
             match W::read(part) {
                 Some(word) => words.push(word)?,
@@ -101,7 +101,7 @@ pub fn read_words<W: Word>(alloc: Global, text: &[u8], threads: u8) -> Result<Ve
     let mut words = Vec::new(alloc);
     let mut count = 0;
     let mut number = 0;
-    for line in Parts::new(text, b'\n') {
+    for line in Split::new(text, b'\n') {
         number += 1;
         let mut more = read_line::<W>(alloc, line, number, threads, count)?;
         count += total(&more);

@@ -10,7 +10,7 @@ ghost use Rattle.world.specs.SceneWorld.{classes_named, world_of_scene};
 ghost use Rattle.world.specs.WorldRules.{is_in_range, value_in_range, IsWorldText, MeansOneWorld};
 ghost use Rattle.world.specs.Views.{element_view, value_view, argument_view};
 ghost use Rattle.world.specs.Reading.{Gives};
-ghost use Rattle.world.specs.Parts.{parts_left};
+ghost use Rattle.world.specs.Split.{parts_left};
 ghost use Rattle.world.specs.ReadingWorlds.{OnScene, heap_of, scene_of, heap_rule, least_class_rule, class_rule, least_rule, place_of, is_number, array_rule, is_there, thread_rule, number_of, object_at, argument_of, heap_scene, class_scene, array_scene, thread_scene, array_words_scene, pair_scene, line_scene, finished_scene, scene_of_text};
 
 use crate::argument::Argument;
@@ -20,7 +20,7 @@ use crate::fault::{ReadError, Rule, TextFault};
 use crate::names::{class_number, is_class_name, is_taken};
 use crate::natural::natural;
 use crate::objects::Objects;
-use crate::parts::Parts;
+use crate::split::Split;
 use crate::value::{Value, object_name, read_element, read_values};
 use crate::world::{Call, World};
 use std::alloc::{AllocError, Global};
@@ -408,7 +408,7 @@ fn take_array_words(
     builder: &mut WorldBuilder,
     number: usize,
     name: &[u8],
-    words: Parts,
+    words: Split,
 ) -> Result<(), ReadError>
     ensures { OnScene result (scene_of builder.new) (array_words_scene (scene_of builder.old) number name.now (parts_left words.entry)) }
 {
@@ -465,7 +465,7 @@ fn take_pair(
     number: usize,
     word: &[u8],
     name: &[u8],
-    words: Parts,
+    words: Split,
 ) -> Result<(), ReadError>
     ensures { OnScene result (scene_of builder.new) (pair_scene (scene_of builder.old) number word.now name.now (parts_left words.entry)) }
 {
@@ -494,7 +494,7 @@ fn take_line(
     ensures { OnScene result (scene_of builder.new) (line_scene (scene_of builder.old) number line.now) }
 {
     let rule = Rule::Form;
-    let mut words = Parts::new(line, b' ');
+    let mut words = Split::new(line, b' ');
     let Some(word) = words.next() else {
         return Err(ReadError::Fault(TextFault { rule, line: number }));
     };
@@ -552,7 +552,7 @@ pub fn read_world(alloc: Global, text: &[u8]) -> Result<World, ReadError>
     };
     let mut number = 0;
     let mut last = 1;
-    for line in Parts::new(text, b'\n') {
+    for line in Split::new(text, b'\n') {
         number += 1;
         if !line.is_empty() {
             last = number;

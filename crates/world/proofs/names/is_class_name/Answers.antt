@@ -2,7 +2,7 @@ use Rattle.std.proofs.Common.{◌∙◌, ap}
 use Rattle.std.specs.Prelude.{◌==◌}
 use Rattle.std.specs.List.{list_all}
 use Rattle.classes.specs.Mangling.{is_simple_name}
-use Rattle.world.specs.Parts.{parts_left}
+use Rattle.world.specs.Split.{parts_left}
 use Rattle.world.proofs.PartLemmas.{slice_split-split_at}
 use Rattle.world.proofs.names.is_class_name.Goals as goal
 

@@ -1,6 +1,6 @@
 use Rattle.std.proofs.Common.{map, ap, ◌∙◌}
 use Rattle.std.proofs.lemmas.List.{map-append}
-use Rattle.world.specs.Parts.{parts_left}
+use Rattle.world.specs.Split.{parts_left}
 use Rattle.world.specs.ReadingValues.{values_named}
 use Rattle.world.specs.Views.{value_view}
 use Rattle.world.proofs.ValueLemmas.{takes, fails, ends}

@@ -1,5 +1,5 @@
 use Rattle.std.proofs.Common.{◌≡◌, map}
-use Rattle.world.specs.Parts.{parts_left}
+use Rattle.world.specs.Split.{parts_left}
 use Rattle.world.specs.ReadingValues.{values_named}
 use Rattle.world.specs.Views.{value_view}
 use Rattle.world.proofs.WordLemmas.{after}

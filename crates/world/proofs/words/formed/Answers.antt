@@ -1,5 +1,5 @@
 use Rattle.std.proofs.Common.{length}
-use Rattle.world.specs.Parts.{parts_left, parts_of}
+use Rattle.world.specs.Split.{parts_left, parts_of}
 use Rattle.world.specs.ReadingWords.{formed_words}
 use Rattle.world.proofs.WordLemmas.{skips, takes, no_form, ends, nonempty, empty}
 use Rattle.world.proofs.words.formed.Goals as goal

@@ -1,5 +1,5 @@
 use Rattle.std.proofs.Common.{◌≡◌}
-use Rattle.world.specs.Parts.{parts_of, parts_left}
+use Rattle.world.specs.Split.{parts_of, parts_left}
 use Rattle.world.specs.ReadingWords.{formed_words}
 use Rattle.world.proofs.WordLemmas.{after}
 use Rattle.world.proofs.words.formed.Given as goal

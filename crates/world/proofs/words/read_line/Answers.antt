@@ -1,6 +1,6 @@
 use Rattle.std.proofs.Common.{◌≡◌, ◌∙◌, true, false, [], sum_by, sym, ap}
 use Rattle.std.specs.List.{list_all}
-use Rattle.world.specs.Parts.{parts_of}
+use Rattle.world.specs.Split.{parts_of}
 use Rattle.world.specs.ReadingWords.{formed_words}
 use Rattle.world.proofs.WordLemmas.{refused_form, refused_name, refused_limit, are_allowed, stays_within}
 use Rattle.world.proofs.words.read_line.Goals as goal

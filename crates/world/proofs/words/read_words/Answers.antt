@@ -1,6 +1,6 @@
 use Rattle.std.proofs.Common.{◌≡◌, ◌+◌, sum_by, length, arith, ap}
 use Rattle.std.proofs.lemmas.Result.{err_from_is_err_and}
-use Rattle.world.specs.Parts.{parts_left}
+use Rattle.world.specs.Split.{parts_left}
 use Rattle.world.specs.ReadingWords.{text_words}
 use Rattle.world.proofs.LineLemmas.{goes_on, stops, is_all}
 use Rattle.world.proofs.words.read_words.Goals as goal

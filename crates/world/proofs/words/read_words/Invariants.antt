@@ -1,5 +1,5 @@
 use Rattle.std.proofs.Common.{◌≡◌, ◌+◌, ◌≤◌, length}
-use Rattle.world.specs.Parts.{parts_of, parts_left}
+use Rattle.world.specs.Split.{parts_of, parts_left}
 use Rattle.world.specs.ReadingWords.{lines_words, text_words}
 use Rattle.world.proofs.LineLemmas.{after_lines}
 use Rattle.world.proofs.words.read_words.Given as goal

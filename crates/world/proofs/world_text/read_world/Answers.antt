@@ -1,6 +1,6 @@
 use Rattle.std.proofs.Common.{◌+◌, length, arith, ap, subst}
 use Rattle.std.proofs.lemmas.Result.{err_from_is_err_and}
-use Rattle.world.specs.Parts.{parts_left}
+use Rattle.world.specs.Split.{parts_left}
 use Rattle.world.specs.Reading.{Gives}
 use Rattle.world.specs.ReadingWorlds.{scene_of, scene_of_text}
 use Rattle.world.proofs.WordLemmas.{nonempty, empty}
