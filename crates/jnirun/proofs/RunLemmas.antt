@@ -1,5 +1,5 @@
 -- What the layers answer, as what a run does to the sink.
-use Rattle.std.proofs.Common.{◌≡◌, ℕ, List, ◌++◌, Some, None, Result, Ok, Err, length, refl, sym, ap, ◌∙◌, subst, ◌+◌, ◌≤◌, arith, length-append}
+use Rattle.std.proofs.Common.{◌≡◌, ℕ, List, ◌++◌, ◌∷◌, suc, Some, None, Result, Ok, Err, length, refl, sym, ap, ◌∙◌, subst, ◌+◌, ◌≤◌, arith, length-append}
 use Rattle.syntax.specs.declared.unit.Item.{Item}
 use Rattle.syntax.specs.Tree.{SourceUnit}
 use Rattle.syntax.specs.Views.{unit_tree}
@@ -49,8 +49,8 @@ pub never_full : (items : List Item) (scene : Scene) (begun ended : Run) (words 
 never_full items scene begun ended words un into few full =
     let steps : ended.journal ≡ into.along.steps = into.along.journal ∙ ap (λ (j : List Entry). j ++ into.along.steps) un.unstarted in
     let short : length into.along.steps ≤ length into.taken = follows_short into.along.follows in
-    let parts : length words ≡ length into.taken + length into.left = ap length into.is ∙ length-append into.taken into.left in
-    absurd (omega (arith, ap length steps, short, parts, into.some_left))
+    let parts : length words ≡ length into.taken + suc (length into.left) = ap length into.is ∙ length-append into.taken (into.next ∷ into.left) in
+    absurd (omega (arith, ap length steps, short, parts))
 
 -- what a report answered is what the run answers
 abbrev pub as_run : {T E : Type 0} → Result T E → Result (Unit {0}) RunError

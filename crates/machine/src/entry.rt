@@ -37,7 +37,7 @@ pub fn begin(
     })
 }
 
-/// So many number slots, of which the first hold the numbers that the call is given.
+/// `count` number slots, of which the first hold the numbers that the call is given.
 fn number_slots(alloc: Global, arguments: &[Argument], count: usize) -> Result<Vec<u32>, AllocError>
     requires given { (made : ℕ) × IsTrue (list_all (is_argument made) (map argument_view arguments.now)) }
     requires room { length (filter_map argument_word (map argument_view arguments.now)) ≤ count }
@@ -54,7 +54,7 @@ fn number_slots(alloc: Global, arguments: &[Argument], count: usize) -> Result<V
     Ok(slots)
 }
 
-/// So many slots of references, of which the first hold the class and the references that the call is given.
+/// `count` slots of references, of which the first hold the class and the references that the call is given.
 fn reference_slots(
     alloc: Global,
     loaded: &[Addr],

@@ -178,7 +178,7 @@ impl<'a> Machine<'a> {
         }
     }
 
-    /// Takes a word so many times.
+    /// Takes a word this many times.
     fn repeat(&mut self, word: ScheduleWord, times: u32) -> Result<(), RunFault>
         ensures ok { OnOk result (RunsAlong self.old self.new (replicate times word)) }
         ensures err { OnErr result (RunsInto self.old self.new (replicate times word)) }
@@ -283,7 +283,7 @@ fn has_ended(thread: &Thread) -> bool
     }
 }
 
-/// How each thread stands.
+/// The status of each thread.
 fn standings_of(threads: &[Thread], stop: Option<Stop>) -> ArrayVec<ThreadStatus, 8>
     requires { length threads.now ≤ 8 }
     ensures { result.items ≡ map (λ thread. standing_of stop thread.0 thread.1.ending) (enumerate_from 1 threads.now) }
@@ -297,7 +297,7 @@ fn standings_of(threads: &[Thread], stop: Option<Stop>) -> ArrayVec<ThreadStatus
     standings
 }
 
-/// How thread `k` stands.
+/// The status of thread `k`.
 fn standing_of(stop: Option<Stop>, k: u8, ending: Ending) -> ThreadStatus
     ensures { result ≡ standing_of stop k ending }
 {
@@ -307,7 +307,7 @@ fn standing_of(stop: Option<Stop>, k: u8, ending: Ending) -> ThreadStatus
     }
 }
 
-/// How a thread stands that didn't trap.
+/// The status of a thread that didn't trap.
 fn standing_by_ending(ending: Ending) -> ThreadStatus
     ensures { result ≡ standing_by_ending ending }
 {

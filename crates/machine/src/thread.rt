@@ -26,14 +26,14 @@ use std::collections::VecDeque;
 use world::{Argument, World};
 
 /// Whether a thread has ended.
-#[derive(Clone, Copy, Debug, PartialEq, Eq)]
+#[derive(Clone, Copy, PartialEq, Eq)]
 pub enum Ending {
     Unfinished,
     Ended,
 }
 
 /// What is seen of a thread's step by others.
-#[derive(Clone, Copy, Debug, PartialEq, Eq)]
+#[derive(Clone, Copy)]
 pub enum Event {
     Quiet,
     /// The thread printed a number.
@@ -43,7 +43,7 @@ pub enum Event {
 }
 
 /// A thread: the calls that it has still to make, and the call in progress.
-#[derive(Drop, Debug)]
+#[derive(Drop)]
 pub struct Thread {
     pub calls: VecDeque<PendingCall>,
     pub call: Option<Activation>,
@@ -52,16 +52,16 @@ pub struct Thread {
 
 /// A call that a thread has still to make: its function and the function's class by their numbers, and what the function
 /// is given.
-#[derive(Drop, Debug)]
+#[derive(Drop)]
 pub struct PendingCall {
     pub function: usize,
     pub class: usize,
     pub arguments: Vec<Argument>,
 }
 
-/// A call in progress: where it stands in its function's code, with its operands and the slots of its variables. A
+/// A call in progress: its place in its function's code, its operands, and the slots of its variables. A
 /// reference is NULL or the address of an object.
-#[derive(Drop, Debug)]
+#[derive(Drop)]
 pub struct Activation {
     pub function: usize,
     pub place: usize,
@@ -71,13 +71,13 @@ pub struct Activation {
 }
 
 /// What an instruction did.
-#[derive(Clone, Copy, Debug, PartialEq, Eq)]
+#[derive(Clone, Copy)]
 pub enum Executed {
     Did(Event),
     Returned,
 }
 
-/// Takes one step of a thread that has not ended. After `heap` stand the addresses of the objects made at load, by their
+/// Takes one step of a thread that has not ended. `loaded` has the addresses of the objects made at load, by their
 /// names, counted from 1. Only the entry into a call takes host memory.
 pub fn advance(
     program: &Program<'_>,

@@ -22,6 +22,7 @@ fn checked(alloc: Global, text: &[u8]) -> Result<Checked, Fail> {
 }
 
 /// A machine with one thread before its first step.
+#[tactic(auto, using(crate::proofs::Turns::threads_loaded))]
 fn loaded(alloc: Global, checked: &Checked) -> Result<Machine<'_>, Fail>
     ensures { IfOk result (λ machine. length machine.world.threads ≡ 1) }
 {
@@ -34,6 +35,7 @@ fn loaded(alloc: Global, checked: &Checked) -> Result<Machine<'_>, Fail>
 }
 
 /// Whether the thread's next turns have these answers.
+#[tactic(auto, using(crate::proofs::Turns::threads_kept))]
 fn are_answers(machine: &mut Machine<'_>, answers: &[Turn]) -> Result<bool, AllocError>
     requires { length machine.old.world.threads ≡ 1 }
     ensures { length machine.new.world.threads ≡ 1 }
@@ -49,7 +51,8 @@ fn are_answers(machine: &mut Machine<'_>, answers: &[Turn]) -> Result<bool, Allo
 #[test]
 fn turns_of_a_thread_that_ends(rt: HostRuntime) -> Result<(), Fail> {
     let alloc = rt.alloc();
-    let text = b"JNIEXPORT void JNICALL Java_A_f(JNIEnv *env, jclass cls) { put_jint(5); return; }\n";
+    let text =
+        b"JNIEXPORT void JNICALL Java_A_f(JNIEnv *env, jclass cls) { put_jint(5); return; }\n";
     let checked = checked(alloc, text)?;
     let mut machine = loaded(alloc, &checked)?;
     // The entry, the number, its print, the return.
@@ -57,7 +60,14 @@ fn turns_of_a_thread_that_ends(rt: HostRuntime) -> Result<(), Fail> {
     assert!(rt; !machine.finished());
     assert!(rt; are_answers(&mut machine, &[Turn::Stepped, Turn::Ended, Turn::Ended])?);
     assert!(rt; machine.finished());
-    assert!(rt; machine.lines() == [Printed { thread: 1, number: 5 }].as_slice());
+    assert!(rt;
+        machine.lines()
+            == [Printed {
+                thread: 1,
+                number: 5
+            }]
+            .as_slice()
+    );
     assert!(rt; machine.journal().len() == 4);
     Ok(())
 }
