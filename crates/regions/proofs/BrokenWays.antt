@@ -8,7 +8,7 @@ use Rattle.regions.specs.RegionRules.{RegionRule, CallWhileCritical, ReturnWithB
 use Rattle.regions.specs.RegionStates.{RegionState, state_at_entry}
 use Rattle.regions.specs.Regions.{Way, On, Returned, Join, ComesBack, IsEnd, Keeps, KeepsBlock, holds_own, left, where_true, where_false, Differ, EndLine, BreaksAfter, BreaksHere, BreaksIn, BreaksBlock, BreaksFunction, AcceptedFunction}
 use Rattle.regions.specs.SameStates.{same_state}
-use Rattle.regions.specs.Ways.{Fault, own_way, rest_of, way_if, returned_before, join_ways, turn_way, way_of, way_of_block}
+use Rattle.regions.specs.Ways.{Fault, own_way, way_after, way_if, returned_before, join_ways, turn_way, way_of, way_of_block}
 use Rattle.regions.proofs.Same.{state_decides}
 use Rattle.regions.proofs.Ways.{find_some, ok_is, obeys, keeps, keeps_block, answers, answers_block}
 
@@ -45,7 +45,7 @@ turn_err line before (Ok (On after)) f h =
     let both = if_err (same_state after before) (On before) (line, WaysDiffer) f h in
     inr (On after, refl, (λ e. true≢false (sym ((state_decides after before).1 e) ∙ both.0)), both.1)
 
-pub after_err : (r : Result Way Fault) (go : RegionState → Result Way Fault) (stop : Result Way Fault) (f : Fault) → rest_of r go stop ≡ Err f
+pub after_err : (r : Result Way Fault) (go : RegionState → Result Way Fault) (stop : Result Way Fault) (f : Fault) → way_after r go stop ≡ Err f
     → (r ≡ Err f) ⊎ (((middle : RegionState) × (r ≡ Ok (On middle)) × (go middle ≡ Err f)) ⊎ ((r ≡ Ok Returned) × (stop ≡ Err f)))
 after_err (Err e) go stop f h = inl h
 after_err (Ok (On middle)) go stop f h = inr (inl (middle, refl, h))

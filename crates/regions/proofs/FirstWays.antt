@@ -8,7 +8,7 @@ use Rattle.regions.specs.RegionRules.{RegionRule, HeldBuffer, WaysDiffer, NoRetu
 use Rattle.regions.specs.RegionStates.{RegionState, state_at_entry}
 use Rattle.regions.specs.Regions.{Way, On, Returned, holds_own, left, where_true, where_false, Differ, BreaksAfter, AcceptedFunction}
 use Rattle.regions.specs.SameStates.{same_state}
-use Rattle.regions.specs.Ways.{Fault, own_way, rest_of, way_if, returned_before, join_ways, turn_way, way_of, way_of_block}
+use Rattle.regions.specs.Ways.{Fault, own_way, way_after, way_if, returned_before, join_ways, turn_way, way_of, way_of_block}
 use Rattle.regions.proofs.Same.{state_decides}
 use Rattle.regions.proofs.Ways.{ok_is, obeys, unbroken, keeps, keeps_block, answers, answers_block}
 use Rattle.regions.proofs.BrokenWays.{ok_err', err_is, if_err, own_err, join_err, turn_err, after_err, returned_err, not_false, one_end, on_returned, end_line_of}
@@ -105,9 +105,9 @@ mutual
       ∙ ap (λ r. Err (line, r)) (sym b.0) ∙ ap (λ n. Err (n, rule)) (sym b.1)
   first_block_is outer before (Next s rest) rule l b =
       elim b [
-        | inl one ↦ ap (λ r. rest_of r (λ middle. way_of_block outer middle rest) (returned_before rest)) (first_is before s rule l one)
-        | inr (inl on) ↦ ap (λ r. rest_of r (λ middle. way_of_block outer middle rest) (returned_before rest)) (answers before s (On on.0) on.1) ∙ first_block_is outer on.0 rest rule l on.2
-        | inr (inr stopped) ↦ ap (λ r. rest_of r (λ middle. way_of_block outer middle rest) (returned_before rest)) (answers before s Returned stopped.0) ∙ after_of rest rule l stopped.1
+        | inl one ↦ ap (λ r. way_after r (λ middle. way_of_block outer middle rest) (returned_before rest)) (first_is before s rule l one)
+        | inr (inl on) ↦ ap (λ r. way_after r (λ middle. way_of_block outer middle rest) (returned_before rest)) (answers before s (On on.0) on.1) ∙ first_block_is outer on.0 rest rule l on.2
+        | inr (inr stopped) ↦ ap (λ r. way_after r (λ middle. way_of_block outer middle rest) (returned_before rest)) (answers before s Returned stopped.0) ∙ after_of rest rule l stopped.1
       ]
 
 -- the fault of a join is the first way's, or the first way is kept

@@ -21,7 +21,7 @@ use Rattle.regions.specs.RegionRules.{RegionRule, HeldBuffer, NoReturn}
 use Rattle.regions.specs.RegionStates.{RegionState}
 use Rattle.regions.specs.Regions.{Way, On, Returned, left}
 use Rattle.regions.specs.Walks.{holds_other, Stops, Goes, go_on, inner_way}
-use Rattle.regions.specs.Ways.{Fault, way_if, own_way, after, returned_before, join_ways, turn_way, way_of, way_of_block}
+use Rattle.regions.specs.Ways.{Fault, way_if, own_way, way_after, returned_before, join_ways, turn_way, way_of, way_of_block}
 use Rattle.syntax.specs.declared.unit.Item.{Item as ItemInMemory}
 use Rattle.regions.proofs.StateLemmas.{own_is}
 use Rattle.regions.proofs.UnitLemmas.{both_hold}
@@ -94,11 +94,11 @@ known_next items i s end_line h e k = subst (λ rest. IsTrue (list_all calls_kno
 
 -- one statement more
 pub go_step : (outer before : RegionState) (w : Way) (s : Stmt) (rest : Block) → way_of before s ≡ Ok w → go_on outer (On before) (Next s rest) ≡ go_on outer w rest
-go_step outer before w s rest h = ap (λ r. after r (λ m. way_of_block outer m rest) (returned_before rest)) h
+go_step outer before w s rest h = ap (λ r. way_after r (λ m. way_of_block outer m rest) (returned_before rest)) h
 
 pub go_fault : (outer before : RegionState) (s : Stmt) (rest : Block) (e : CheckFault) → Stops e (way_of before s) → Stops e (go_on outer (On before) (Next s rest))
 go_fault outer before s rest Memory h = tt
-go_fault outer before s rest (Broken f) h = ap (λ r. after r (λ m. way_of_block outer m rest) (returned_before rest)) h
+go_fault outer before s rest (Broken f) h = ap (λ r. way_after r (λ m. way_of_block outer m rest) (returned_before rest)) h
 
 -- a statement after a return
 pub go_after : (r : Result WayInMemory CheckFault) (outer : RegionState) (s : StmtInMemory) (rest : Block) → Goes r (Err (s.line, NoReturn)) → Goes r (go_on outer Returned (Next (stmt_tree s) rest))

@@ -7,7 +7,7 @@ use Rattle.regions.specs.RegionRules.{RegionRule, HeldBuffer, WaysDiffer, breaks
 use Rattle.regions.specs.RegionStates.{RegionState}
 use Rattle.regions.specs.Regions.{Way, On, Returned, Join, ComesBack, IsEnd, Keeps, KeepsBlock, holds_own, left, where_true, where_false}
 use Rattle.regions.specs.SameStates.{same_state}
-use Rattle.regions.specs.Ways.{Fault, own_way, rest_of, way_if, returned_before, join_ways, turn_way, way_of, way_of_block}
+use Rattle.regions.specs.Ways.{Fault, own_way, way_after, way_if, returned_before, join_ways, turn_way, way_of, way_of_block}
 use Rattle.regions.proofs.Same.{state_decides}
 
 -- ---- the first rule of a list that is broken
@@ -88,7 +88,7 @@ pub unbroken : (before : RegionState) (s : Stmt) → Obeys before s → first_br
 unbroken before s h = all_none (λ rule. breaks_region_rule rule before s) own_rules h
 
 -- of what is after a statement: its way goes on or has returned
-pub after_ok : (r : Result Way Fault) (go : RegionState → Result Way Fault) (stop : Result Way Fault) (w : Way) → rest_of r go stop ≡ Ok w
+pub after_ok : (r : Result Way Fault) (go : RegionState → Result Way Fault) (stop : Result Way Fault) (w : Way) → way_after r go stop ≡ Ok w
     → ((middle : RegionState) × (r ≡ Ok (On middle)) × (go middle ≡ Ok w)) ⊎ ((r ≡ Ok Returned) × (stop ≡ Ok w))
 after_ok (Err e) go stop w h = cc
 after_ok (Ok (On middle)) go stop w h = inl (middle, refl, h)
@@ -176,6 +176,6 @@ mutual
   answers_block outer before (End line) w h = if_true (not (holds_own outer before)) (On (left outer before)) (line, HeldBuffer) h.0 ∙ ap Ok (sym h.1)
   answers_block outer before (Next s rest) w h =
       elim h [
-        | inl on ↦ ap (λ r. rest_of r (λ middle. way_of_block outer middle rest) (returned_before rest)) (answers before s (On on.0) on.1) ∙ answers_block outer on.0 rest w on.2
-        | inr stopped ↦ ap (λ r. rest_of r (λ middle. way_of_block outer middle rest) (returned_before rest)) (answers before s Returned stopped.0) ∙ returned_is rest stopped.1 ∙ ap Ok (sym stopped.2)
+        | inl on ↦ ap (λ r. way_after r (λ middle. way_of_block outer middle rest) (returned_before rest)) (answers before s (On on.0) on.1) ∙ answers_block outer on.0 rest w on.2
+        | inr stopped ↦ ap (λ r. way_after r (λ middle. way_of_block outer middle rest) (returned_before rest)) (answers before s Returned stopped.0) ∙ returned_is rest stopped.1 ∙ ap Ok (sym stopped.2)
       ]

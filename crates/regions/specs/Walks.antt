@@ -11,7 +11,7 @@ use Rattle.regions.specs.RegionRules.{is_held}
 use Rattle.regions.specs.RegionStates.{RegionState, state_after}
 use Rattle.regions.specs.Regions.{Way, On, Returned, has_variable, where_true, where_false}
 use Rattle.regions.specs.Standings.{state_value}
-use Rattle.regions.specs.Ways.{Fault, after, returned_before, join_ways, turn_way, way_of_block}
+use Rattle.regions.specs.Ways.{Fault, way_after, returned_before, join_ways, turn_way, way_of_block}
 
 -- a buffer that is not of the outer state is held
 abbrev pub holds_other : RegionState → RegionState → Bool
@@ -34,7 +34,7 @@ Goes (Err e) expected = Stops e expected
 
 -- the way through the rest of a block, after this way so far
 abbrev pub go_on : RegionState → Way → Block → Result Way Fault
-go_on outer way rest = after (Ok way) (λ middle. way_of_block outer middle rest) (returned_before rest)
+go_on outer way rest = way_after (Ok way) (λ middle. way_of_block outer middle rest) (returned_before rest)
 
 -- the way after a statement that keeps the rules itself
 abbrev pub inner_way : RegionState → Stmt → Result Way Fault

@@ -18,10 +18,10 @@ own_way None line go = go
 own_way (Some rule) line go = Err (line, rule)
 
 -- how a way goes on after a statement
-abbrev pub rest_of : Result Way Fault → (RegionState → Result Way Fault) → Result Way Fault → Result Way Fault
-rest_of (Err e) go stop = Err e
-rest_of (Ok (On middle)) go stop = go middle
-rest_of (Ok Returned) go stop = stop
+abbrev pub way_after : Result Way Fault → (RegionState → Result Way Fault) → Result Way Fault → Result Way Fault
+way_after (Err e) go stop = Err e
+way_after (Ok (On middle)) go stop = go middle
+way_after (Ok Returned) go stop = stop
 
 -- the way where the test holds, and else the fault
 abbrev pub way_if : Bool → Way → Fault → Result Way Fault
@@ -60,4 +60,4 @@ abbrev mutual
   -- the same of the rest of a block
   pub way_of_block : RegionState → RegionState → Block → Result Way Fault
   way_of_block outer before (End line) = way_if (not (holds_own outer before)) (On (left outer before)) (line, HeldBuffer)
-  way_of_block outer before (Next s rest) = rest_of (way_of before s) (λ middle. way_of_block outer middle rest) (returned_before rest)
+  way_of_block outer before (Next s rest) = way_after (way_of before s) (λ middle. way_of_block outer middle rest) (returned_before rest)
