@@ -5,6 +5,7 @@ use Rattle.lower.specs.declared.fault.LowerFault.{LowerFault}
 use Rattle.lower.specs.declared.fault.LowerFault.TheVariants as lowering
 use Rattle.lower.specs.Length.{IsTooLong}
 use Rattle.jnirun.specs.declared.fault.Place.TheVariants as place
+use Rattle.jnirun.specs.declared.fault.Text.TheVariants as which
 use Rattle.jnirun.specs.declared.fault.RunError.{RunError}
 use Rattle.jnirun.specs.declared.fault.RunError.TheVariants.{Memory, File, Fault, Writer}
 use Rattle.jnirun.specs.Errors.{of_lower}
@@ -14,7 +15,10 @@ use Rattle.jnirun.specs.Checks.{by_pass, by_length, PassesCheck, ChecksText, IsC
 
 pub refused_pass : (text : List ℕ) (e : RunError) → IsRefusal text e → ChecksText text (Err e)
 refused_pass text Memory h = tt
-refused_pass text (Fault number (place.Line line)) h = by_pass number line h
+refused_pass text (Fault number (place.Line which.Program line)) h = by_pass number line h
+refused_pass text (Fault number (place.Line which.World line)) h = absurd h
+refused_pass text (Fault number (place.Line which.Schedule line)) h = absurd h
+refused_pass text (Fault number (place.Line which.Journal line)) h = absurd h
 refused_pass text (Fault number (place.Entry entry)) h = absurd h
 refused_pass text File h = absurd h
 refused_pass text Writer h = absurd h

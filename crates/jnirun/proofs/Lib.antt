@@ -1,8 +1,9 @@
+mod Puts
 mod Refusals
 mod Acceptances
 mod CheckLemmas
-mod SayLemmas
-mod FileLemmas
 mod RunLemmas
 mod ReplayLemmas
 mod ReplayLaws
+mod TellingLemmas
+mod ServeLemmas

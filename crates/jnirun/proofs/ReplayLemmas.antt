@@ -17,6 +17,7 @@ use Rattle.replay.specs.declared.fault.ReplayFault.{ReplayFault}
 use Rattle.replay.specs.declared.fault.ReplayFault.TheVariants as replaying
 use Rattle.replay.specs.Replays.{WritesRun, IsStoppedBy, IsReplayable, IsFromOutside}
 use Rattle.jnirun.specs.declared.fault.Place.TheVariants as place
+use Rattle.jnirun.specs.declared.fault.Text.TheVariants as which
 use Rattle.jnirun.specs.declared.fault.RunError.{RunError}
 use Rattle.jnirun.specs.declared.fault.RunError.TheVariants.{Memory, File, Fault, Writer}
 use Rattle.jnirun.specs.Errors.{of_reading, of_replay}
@@ -32,16 +33,19 @@ module _ (program world journal : List ℕ) (old : Written) where
 
   pub refused_program : (e : RunError) → IsRefusal program e → Refuses e
   refused_program Memory h = refl
-  refused_program (Fault number (place.Line line)) h = (refl, by_program number line h)
+  refused_program (Fault number (place.Line which.Program line)) h = (refl, by_program number line h)
+  refused_program (Fault number (place.Line which.World line)) h = absurd h
+  refused_program (Fault number (place.Line which.Schedule line)) h = absurd h
+  refused_program (Fault number (place.Line which.Journal line)) h = absurd h
   refused_program (Fault number (place.Entry entry)) h = absurd h
   refused_program File h = absurd h
   refused_program Writer h = absurd h
 
-  pub refused_world : (unit : SourceUnit) (e : ReadError) → IsProgram program unit → Fails e (scene_of_text world) → Refuses (of_reading e)
+  pub refused_world : (unit : SourceUnit) (e : ReadError) → IsProgram program unit → Fails e (scene_of_text world) → Refuses (of_reading which.World e)
   refused_world unit reading.Memory is h = refl
   refused_world unit (reading.Fault fault) is h = (refl, by_world unit fault is h)
 
-  pub refused_journal : (unit : SourceUnit) (scene : Scene) (e : ReadError) → IsProgram program unit → scene_of_text world ≡ Ok scene → Fails e (journal_of journal (length scene.threads)) → Refuses (of_reading e)
+  pub refused_journal : (unit : SourceUnit) (scene : Scene) (e : ReadError) → IsProgram program unit → scene_of_text world ≡ Ok scene → Fails e (journal_of journal (length scene.threads)) → Refuses (of_reading which.Journal e)
   refused_journal unit scene reading.Memory is w h = refl
   refused_journal unit scene (reading.Fault fault) is w h = (refl, by_journal unit scene fault is w h)
 
@@ -55,9 +59,9 @@ module _ (program world journal : List ℕ) (old : Written) where
     abbrev pub is_replay : IsWorldText world (world_of_scene scene) → IsJournalText (length scene.threads) journal entries → first_load_fault unit (world_of_scene scene) ≡ None → (text : List ℕ) → Writes unit (world_of_scene scene) entries text → IsReplay program world journal text
     is_replay of_world of_journal l text writes = record { meaning = meaning_of l; of_world = of_world; of_journal = of_journal; writes = writes }
 
-    pub replayed : (new : Written) (x : Unit {0}) → IsWorldText world (world_of_scene scene) → IsJournalText (length scene.threads) journal entries → WritesRun unit (world_of_scene scene) entries old new
+    pub replayed : (new : Written) (x : Unit {0}) → new.waiting ≡ 0 → IsWorldText world (world_of_scene scene) → IsJournalText (length scene.threads) journal entries → WritesRun unit (world_of_scene scene) entries old new
         → RunsTexts old new (Ok x) (IsReplay program world journal) (AreRefusedReplays program world journal)
-    replayed new x of_world of_journal h = record { text = h.text; runs = is_replay of_world of_journal h.fits h.text h.is; appended = h.written }
+    replayed new x none of_world of_journal h = record { text = h.text; runs = is_replay of_world of_journal h.fits h.text h.is; appended = h.written; none_waits = none }
 
     pub stopped : (new : Written) (f : ReplayFault) → IsWorldText world (world_of_scene scene) → IsJournalText (length scene.threads) journal entries → IsStoppedBy unit (world_of_scene scene) entries old new f
         → RunsTexts old new (Err (of_replay f)) (IsReplay program world journal) (AreRefusedReplays program world journal)

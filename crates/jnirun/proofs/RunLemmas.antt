@@ -1,5 +1,6 @@
 -- What the layers answer, as what a run does to the sink.
 use Rattle.std.proofs.Common.{◌≡◌, ℕ, List, ◌++◌, ◌∷◌, suc, Some, None, Result, Ok, Err, length, refl, sym, ap, ◌∙◌, subst, ◌+◌, ◌≤◌, arith, length-append}
+use Rattle.std.specs.Prelude.{OnOk}
 use Rattle.syntax.specs.declared.unit.Item.{Item}
 use Rattle.syntax.specs.Tree.{SourceUnit}
 use Rattle.syntax.specs.Views.{unit_tree}
@@ -27,12 +28,13 @@ use Rattle.machine.specs.declared.fault.LoadFault.{LoadFault}
 use Rattle.machine.specs.declared.fault.LoadFault.TheVariants as loading
 use Rattle.machine.specs.Loading.{IsLoadFault}
 use Rattle.machine.specs.Run.{Run, IsUnstarted, RunsAlong, RunsInto, WritesRun, replay_of}
+use Rattle.jnirun.specs.declared.fault.Text.TheVariants as which
 use Rattle.jnirun.specs.declared.fault.RunError.{RunError}
 use Rattle.jnirun.specs.declared.fault.RunError.TheVariants.{Memory, File, Fault, Writer}
 use Rattle.jnirun.specs.Errors.{of_lower, of_reading, of_load}
 use Rattle.jnirun.specs.Passes.{IsRefusal}
 use Rattle.jnirun.specs.Programs.{IsProgram}
-use Rattle.jnirun.specs.Checks.{ChecksText}
+use Rattle.jnirun.specs.Checks.{PassesCheck, ChecksText}
 use Rattle.jnirun.specs.Texts.{Meaning, AreRefused, by_check, by_world, by_schedule, by_load}
 use Rattle.jnirun.specs.Runs.{RunsTexts, IsRun, IsRunOrFails}
 use Rattle.jnirun.proofs.CheckLemmas as checks
@@ -75,17 +77,21 @@ module _ (program world schedule : List ℕ) (old : Written) where
   pub refused_length : (unit : SourceUnit) (f : LowerFault) → IsProgram program unit → (f ≡ lowering.TooLong → IsTooLong unit) → Refuses (of_lower f)
   refused_length unit f is h = refused_check (of_lower f) (checks.refused_length program unit f is h)
 
-  pub refused_world : (unit : SourceUnit) (e : ReadError) → IsProgram program unit → Fails e (scene_of_text world) → Refuses (of_reading e)
-  refused_world unit reading.Memory is h = refl
-  refused_world unit (reading.Fault fault) is h = (refl, by_world unit fault is h)
+  -- a program that passes a check
+  abbrev pub passing : (unit : SourceUnit) → IsProgram program unit → (IsTooLong unit → ⊥) → PassesCheck program
+  passing unit is short = record { unit = unit; of_program = is; short = short }
 
-  pub refused_schedule : (unit : SourceUnit) (scene : Scene) (e : ReadError) → IsProgram program unit → scene_of_text world ≡ Ok scene → Fails e (schedule_of schedule (length scene.threads)) → Refuses (of_reading e)
-  refused_schedule unit scene reading.Memory is w h = refl
-  refused_schedule unit scene (reading.Fault fault) is w h = (refl, by_schedule unit scene fault is w h)
+  pub refused_world : (e : ReadError) → PassesCheck program → Fails e (scene_of_text world) → Refuses (of_reading which.World e)
+  refused_world reading.Memory p h = refl
+  refused_world (reading.Fault fault) p h = (refl, by_world fault p h)
 
-  pub refused_load : (unit : SourceUnit) (scene : Scene) (words : Schedule) (f : LoadFault) → IsProgram program unit → scene_of_text world ≡ Ok scene → schedule_of schedule (length scene.threads) ≡ Ok words → IsLoadFault unit (world_of_scene scene) f → Refuses (of_load f)
-  refused_load unit scene words loading.Memory is w s h = refl
-  refused_load unit scene words (loading.DoesNotFit line) is w s h = (refl, by_load unit scene words line is w s h)
+  pub refused_schedule : (scene : Scene) (e : ReadError) → PassesCheck program → scene_of_text world ≡ Ok scene → Fails e (schedule_of schedule (length scene.threads)) → Refuses (of_reading which.Schedule e)
+  refused_schedule scene reading.Memory p w h = refl
+  refused_schedule scene (reading.Fault fault) p w h = (refl, by_schedule scene fault p w h)
+
+  pub refused_load : (scene : Scene) (words : Schedule) (f : LoadFault) (p : PassesCheck program) → scene_of_text world ≡ Ok scene → schedule_of schedule (length scene.threads) ≡ Ok words → IsLoadFault p.unit (world_of_scene scene) f → Refuses (of_load f)
+  refused_load scene words loading.Memory p w s h = refl
+  refused_load scene words (loading.DoesNotFit line) p w s h = (refl, by_load scene words line p w s h)
 
   -- a schedule's run from the start is one of the journal
   follows_all : (items : List Item) (scene : Scene) (begun ended : Run) (words : Schedule) → IsUnstarted items scene begun → RunsAlong begun ended words → JournalFollows (unit_tree items) (world_of_scene scene) ended.journal words
@@ -127,12 +133,12 @@ module _ (program world schedule : List ℕ) (old : Written) where
     has_room = subst (λ (r : Run). JournalHasRoom (unit_tree r.unit) (world_of_scene r.world) ended.journal) (same_parts items scene begun ended words un along) room;
   }
 
-  pub ran : (items : List Item) (scene : Scene) (words : Schedule) (begun ended : Run) (new : Written) {T E : Type 0} (result : Result T E)
+  pub ran : (items : List Item) (scene : Scene) (words : Schedule) (begun ended : Run) (new : Written) {T E : Type 0} (result : Result T E) → OnOk result (new.waiting ≡ 0)
       → IsProgram program (unit_tree items) → scene_of_text world ≡ Ok scene → schedule_of schedule (length scene.threads) ≡ Ok words → first_load_fault (unit_tree items) (world_of_scene scene) ≡ None
       → IsWorldText world (world_of_scene scene) → IsScheduleText (length scene.threads) schedule words
       → IsUnstarted items scene begun → RunsAlong begun ended words → WritesRun ended old new result → RunsTexts old new (as_run result) (IsRun program world schedule) (AreRefused program world schedule)
-  ran items scene words begun ended new (Ok x) is w s l of_world of_schedule un along h = record { text = h.text; runs = is_run items scene words begun ended h.text is w s l of_world of_schedule un along h.is h.has_room; appended = h.written }
-  ran items scene words begun ended new (Err x) is w s l of_world of_schedule un along h = record { text = h.text; runs = is_run items scene words begun ended h.text is w s l of_world of_schedule un along h.is h.has_room; stopped = h.written }
+  ran items scene words begun ended new (Ok x) none is w s l of_world of_schedule un along h = record { text = h.text; runs = is_run items scene words begun ended h.text is w s l of_world of_schedule un along h.is h.has_room; appended = h.written; none_waits = none }
+  ran items scene words begun ended new (Err x) none is w s l of_world of_schedule un along h = record { text = h.text; runs = is_run items scene words begun ended h.text is w s l of_world of_schedule un along h.is h.has_room; stopped = h.written }
 
   -- texts that mean a run load
   pub loads_or_fails : (items : List Item) (scene : Scene) (f : LoadFault) (m : Meaning program world schedule) → unit_tree items ≡ m.unit → scene_of_text world ≡ Ok scene → IsLoadFault (unit_tree items) (world_of_scene scene) f → IsRunOrFails (Err (of_load f))

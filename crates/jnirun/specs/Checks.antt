@@ -6,6 +6,7 @@ use Rattle.jnirun.specs.declared.fault.Place.{Place}
 use Rattle.jnirun.specs.declared.fault.Place.TheVariants.{Line}
 use Rattle.jnirun.specs.declared.fault.RunError.{RunError}
 use Rattle.jnirun.specs.declared.fault.RunError.TheVariants.{Memory, File, Fault, Writer}
+use Rattle.jnirun.specs.declared.fault.Text.TheVariants as which
 use Rattle.jnirun.specs.Programs.{IsProgram, IsRefusedProgram}
 
 -- the text is that of an accepted program
@@ -21,8 +22,8 @@ pub record PassesCheck (text : List ℕ) : Type 0 where
 
 -- The text is refused, by the first pass that finds a fault, or since the code of a function would be too long.
 pub data FailsCheck (text : List ℕ) : (number : ℕ) → Place → Type 0 where
-  by_pass : (number line : ℕ) → IsRefusedProgram text number line → FailsCheck text number (Line line)
-  by_length : (unit : SourceUnit) → IsProgram text unit → IsTooLong unit → FailsCheck text 51 (Line 0)
+  by_pass : (number line : ℕ) → IsRefusedProgram text number line → FailsCheck text number (Line which.Program line)
+  by_length : (unit : SourceUnit) → IsProgram text unit → IsTooLong unit → FailsCheck text 51 (Line which.Program 0)
 
 -- what a check answers
 abbrev pub ChecksText : List ℕ → Result Unit RunError → Type 0
@@ -36,6 +37,6 @@ ChecksText text (Err Writer) = ⊥
 abbrev pub IsCheckedOrFails : Result Unit RunError → Type 0
 IsCheckedOrFails (Ok _) = Unit {0}
 IsCheckedOrFails (Err Memory) = Unit {0}
-IsCheckedOrFails (Err (Fault number place)) = (number ≡ 51) × (place ≡ Line 0)
+IsCheckedOrFails (Err (Fault number place)) = (number ≡ 51) × (place ≡ Line which.Program 0)
 IsCheckedOrFails (Err File) = ⊥
 IsCheckedOrFails (Err Writer) = ⊥

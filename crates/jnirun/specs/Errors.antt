@@ -25,40 +25,43 @@ use Rattle.replay.specs.declared.fault.ReplayFault.TheVariants as replaying
 use Rattle.jnirun.specs.declared.fault.Place.TheVariants.{Line, Entry}
 use Rattle.jnirun.specs.declared.fault.RunError.{RunError}
 use Rattle.jnirun.specs.declared.fault.RunError.TheVariants.{Memory, File, Fault, Writer}
+use Rattle.jnirun.specs.declared.fault.Text.{Text}
+use Rattle.jnirun.specs.declared.fault.Text.TheVariants as which
 use Rattle.jnirun.specs.declared.files.FileFault.{FileFault}
 use Rattle.jnirun.specs.declared.files.FileFault.TheVariants as files
 
 abbrev pub of_scan : ScanFault → RunError
 of_scan scanning.Memory = Memory
-of_scan (scanning.Found fault line) = Fault (scan_faults.number_of_kind fault) (Line line)
+of_scan (scanning.Found fault line) = Fault (scan_faults.number_of_kind fault) (Line which.Program line)
 
 abbrev pub of_parse : ParseFault → RunError
 of_parse parsing.Memory = Memory
-of_parse (parsing.Found fault line) = Fault (parse_faults.number_of_kind fault) (Line line)
+of_parse (parsing.Found fault line) = Fault (parse_faults.number_of_kind fault) (Line which.Program line)
 
 abbrev pub of_types : TypeFault → RunError
 of_types sorting.Memory = Memory
-of_types (sorting.Broken fault) = Fault (sort_rule_number (type_faults.rule_of fault.rule)) (Line fault.line)
+of_types (sorting.Broken fault) = Fault (sort_rule_number (type_faults.rule_of fault.rule)) (Line which.Program fault.line)
 
 abbrev pub of_regions : CheckFault → RunError
 of_regions region_checking.Memory = Memory
-of_regions (region_checking.Broken fault) = Fault (region_rule_number (region_faults.rule_of fault.rule)) (Line fault.line)
+of_regions (region_checking.Broken fault) = Fault (region_rule_number (region_faults.rule_of fault.rule)) (Line which.Program fault.line)
 
 abbrev pub of_lower : LowerFault → RunError
 of_lower lowering.Memory = Memory
-of_lower lowering.TooLong = Fault 51 (Line 0)
+of_lower lowering.TooLong = Fault 51 (Line which.Program 0)
 
-abbrev pub of_reading : ReadError → RunError
-of_reading reading.Memory = Memory
-of_reading (reading.Fault fault) = Fault (rule_number fault.rule) (Line fault.line)
+-- the same of the text that was read
+abbrev pub of_reading : Text → ReadError → RunError
+of_reading text reading.Memory = Memory
+of_reading text (reading.Fault fault) = Fault (rule_number fault.rule) (Line text fault.line)
 
 abbrev pub of_load : LoadFault → RunError
 of_load loading.Memory = Memory
-of_load (loading.DoesNotFit line) = Fault 82 (Line line)
+of_load (loading.DoesNotFit line) = Fault 82 (Line which.World line)
 
 abbrev pub of_replay : ReplayFault → RunError
 of_replay replaying.Memory = Memory
-of_replay (replaying.DoesNotFit line) = Fault 82 (Line line)
+of_replay (replaying.DoesNotFit line) = Fault 82 (Line which.World line)
 of_replay (replaying.Impossible entry) = Fault 91 (Entry entry)
 of_replay replaying.Writer = Writer
 

@@ -6,5 +6,7 @@ pub mod Texts
 pub mod Runs
 pub mod Replays
 pub mod ReplayLaws
+pub mod Commands
 pub mod Files
+pub mod Telling
 pub mod Serve

@@ -6,12 +6,14 @@ use Rattle.syntax.specs.Views.{unit_tree}
 use Rattle.jnirun.specs.declared.fault.Place.TheVariants.{Line, Entry}
 use Rattle.jnirun.specs.declared.fault.RunError.{RunError}
 use Rattle.jnirun.specs.declared.fault.RunError.TheVariants.{Memory, File, Fault, Writer}
+use Rattle.jnirun.specs.declared.fault.Text.TheVariants as which
 use Rattle.jnirun.specs.Programs.{IsRefusedProgram}
 
 -- the passes refuse the text so
 abbrev pub IsRefusal : List ℕ → RunError → Type 0
 IsRefusal text Memory = Unit {0}
-IsRefusal text (Fault number (Line line)) = IsRefusedProgram text number line
+IsRefusal text (Fault number (Line which.Program line)) = IsRefusedProgram text number line
+IsRefusal text (Fault number (Line other line)) = ⊥
 IsRefusal text (Fault number (Entry entry)) = ⊥
 IsRefusal text File = ⊥
 IsRefusal text Writer = ⊥

@@ -15,6 +15,7 @@ use Rattle.replay.specs.Replays.{IsFirstImpossible}
 use Rattle.jnirun.specs.Programs.{IsProgram, IsRefusedProgram}
 use Rattle.jnirun.specs.declared.fault.Place.{Place}
 use Rattle.jnirun.specs.declared.fault.Place.TheVariants.{Line, Entry}
+use Rattle.jnirun.specs.declared.fault.Text.TheVariants as which
 use Rattle.jnirun.specs.declared.fault.RunError.{RunError}
 use Rattle.jnirun.specs.declared.fault.RunError.TheVariants.{Memory, File, Fault, Writer}
 
@@ -39,10 +40,10 @@ pub record IsReplay (program world journal text : List ℕ) : Type 0 where
 -- The texts are read in their order and loaded, and then each entry is taken. This number and place are those of the first
 -- that is refused.
 pub data AreRefusedReplays (program world journal : List ℕ) : (number : ℕ) → Place → Type 0 where
-  by_program : (number line : ℕ) → IsRefusedProgram program number line → AreRefusedReplays program world journal number (Line line)
-  by_world : (unit : SourceUnit) (fault : TextFault) → IsProgram program unit → scene_of_text world ≡ Err fault → AreRefusedReplays program world journal (rule_number fault.rule) (Line fault.line)
-  by_journal : (unit : SourceUnit) (scene : Scene) (fault : TextFault) → IsProgram program unit → scene_of_text world ≡ Ok scene → journal_of journal (length scene.threads) ≡ Err fault → AreRefusedReplays program world journal (rule_number fault.rule) (Line fault.line)
-  by_load : (unit : SourceUnit) (scene : Scene) (entries : Journal) (line : ℕ) → IsProgram program unit → scene_of_text world ≡ Ok scene → journal_of journal (length scene.threads) ≡ Ok entries → first_load_fault unit (world_of_scene scene) ≡ Some line → AreRefusedReplays program world journal 82 (Line line)
+  by_program : (number line : ℕ) → IsRefusedProgram program number line → AreRefusedReplays program world journal number (Line which.Program line)
+  by_world : (unit : SourceUnit) (fault : TextFault) → IsProgram program unit → scene_of_text world ≡ Err fault → AreRefusedReplays program world journal (rule_number fault.rule) (Line which.World fault.line)
+  by_journal : (unit : SourceUnit) (scene : Scene) (fault : TextFault) → IsProgram program unit → scene_of_text world ≡ Ok scene → journal_of journal (length scene.threads) ≡ Err fault → AreRefusedReplays program world journal (rule_number fault.rule) (Line which.Journal fault.line)
+  by_load : (unit : SourceUnit) (scene : Scene) (entries : Journal) (line : ℕ) → IsProgram program unit → scene_of_text world ≡ Ok scene → journal_of journal (length scene.threads) ≡ Ok entries → first_load_fault unit (world_of_scene scene) ≡ Some line → AreRefusedReplays program world journal 82 (Line which.World line)
   -- an entry isn't possible where the entries before it have led
   by_entry : (meaning : ReplayMeaning program world journal) (entry : ℕ) → IsFirstImpossible meaning.unit (world_of_scene meaning.scene) meaning.entries entry → AreRefusedReplays program world journal 91 (Entry entry)
 

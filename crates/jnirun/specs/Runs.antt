@@ -9,6 +9,7 @@ use Rattle.regions.specs.Run.{Writes, JournalFollows, JournalHasRoom}
 use Rattle.jnirun.specs.Texts.{Meaning}
 use Rattle.jnirun.specs.declared.fault.Place.{Place}
 use Rattle.jnirun.specs.declared.fault.Place.TheVariants.{Line}
+use Rattle.jnirun.specs.declared.fault.Text.TheVariants as which
 use Rattle.jnirun.specs.declared.fault.RunError.{RunError}
 use Rattle.jnirun.specs.declared.fault.RunError.TheVariants.{Memory, File, Fault, Writer}
 
@@ -24,11 +25,12 @@ pub record IsRun (program world schedule text : List ℕ) : Type 0 where
   pub follows : JournalFollows meaning.unit (world_of_scene meaning.scene) journal meaning.words
   pub has_room : JournalHasRoom meaning.unit (world_of_scene meaning.scene) journal
 
--- some text that a command writes was appended
+-- some text that a command writes was appended, and nothing waits in the sink
 pub record AppendsRun (old new : Written) (Writes : List ℕ → Type 0) : Type 0 where
   pub text : List ℕ
   pub runs : Writes text
   pub appended : AppendsText old new text
+  pub none_waits : new.waiting ≡ 0
 
 -- a write failed within some text that a command writes
 pub record StopsRun (old new : Written) (Writes : List ℕ → Type 0) : Type 0 where
@@ -36,19 +38,19 @@ pub record StopsRun (old new : Written) (Writes : List ℕ → Type 0) : Type 0 
   pub runs : Writes text
   pub stopped : StopsWithin old new text
 
--- What a command did to the sink, by its answer: nothing is written for any fault but the writer's, and
--- the number and the place of a fault are those that the texts earn.
+-- What was done to the sink, by the answer: nothing is written for any fault but the writer's, the number and the
+-- place of a fault are those that the texts earn, and no file is read.
 abbrev pub RunsTexts : Written → Written → Result Unit RunError → (Writes : List ℕ → Type 0) → (Refused : ℕ → Place → Type 0) → Type 0
 RunsTexts old new (Ok _) Writes Refused = AppendsRun old new Writes
 RunsTexts old new (Err Memory) Writes Refused = new ≡ old
 RunsTexts old new (Err (Fault number place)) Writes Refused = (new ≡ old) × Refused number place
-RunsTexts old new (Err File) Writes Refused = new ≡ old
+RunsTexts old new (Err File) Writes Refused = ⊥
 RunsTexts old new (Err Writer) Writes Refused = StopsRun old new Writes
 
 -- Texts that mean a run are refused for want of memory alone, or where a function is too long, or by the writer.
 abbrev pub IsRunOrFails : Result Unit RunError → Type 0
 IsRunOrFails (Ok _) = Unit {0}
 IsRunOrFails (Err Memory) = Unit {0}
-IsRunOrFails (Err (Fault number place)) = (number ≡ 51) × (place ≡ Line 0)
+IsRunOrFails (Err (Fault number place)) = (number ≡ 51) × (place ≡ Line which.Program 0)
 IsRunOrFails (Err File) = ⊥
 IsRunOrFails (Err Writer) = Unit {0}

@@ -1,80 +1,76 @@
--- What the program does with files and words.
-use Rattle.std.specs.Prelude.{◌≡◌, ◌⊎◌, ℕ, Bool, ◌||◌, List, ◌++◌, codes, decimal, bytes_eq}
-use Rattle.std.specs.List.{list_any}
+-- What the commands do with files, standard output and standard error.
+use Rattle.std.specs.Prelude.{◌≡◌, ◌⊎◌, ℕ, List, ◌++◌, codes, decimal}
 use Rattle.world.specs.Sink.{Written, AppendsText, StopsWithin}
 use Rattle.jnirun.specs.declared.command.Command.{Command}
 use Rattle.jnirun.specs.declared.command.Command.TheVariants.{Check, Run, Replay}
 use Rattle.jnirun.specs.declared.fault.Place.{Place}
 use Rattle.jnirun.specs.declared.fault.Place.TheVariants.{Line, Entry}
 use Rattle.jnirun.specs.Checks.{PassesCheck, FailsCheck}
-use Rattle.jnirun.specs.Files.{OfFile, OfFiles}
-use Rattle.jnirun.specs.Texts.{AreRefused}
-use Rattle.jnirun.specs.Runs.{IsRun}
+use Rattle.jnirun.specs.Commands.{name_of, text_of, text_at}
+use Rattle.jnirun.specs.Files.{OfFiles}
 use Rattle.jnirun.specs.Replays.{IsReplay, AreRefusedReplays}
+use Rattle.jnirun.specs.Runs.{IsRun, AppendsRun, StopsRun}
+use Rattle.jnirun.specs.Telling.{told}
+use Rattle.jnirun.specs.Texts.{AreRefused}
 
--- `fault 81 line 1`, or `fault 91 entry 4`
-abbrev pub fault_line : ℕ → Place → List ℕ
-fault_line number (Line line) = codes "fault " ++ decimal number ++ codes " line " ++ decimal line ++ codes "\n"
-fault_line number (Entry entry) = codes "fault " ++ decimal number ++ codes " entry " ++ decimal entry ++ codes "\n"
-
--- ---- files
+-- ---- standard output
 
 -- what a check of a program writes
 abbrev pub passed : List ℕ
 passed = codes "ok\n"
 
--- what the command writes of its files: `ok` for a program that passes a check, or the report and the journal of a run or of a replay
-abbrev pub CommandWrites : (gives : List ℕ → List ℕ → Type 0) → Command → (text : List ℕ) → Type 0
-CommandWrites gives (Check program) text = OfFile gives program.now PassesCheck × (text ≡ passed)
-CommandWrites gives (Run program world schedule) text = OfFiles gives program.now world.now schedule.now (λ p w s. IsRun p w s text)
-CommandWrites gives (Replay program world journal) text = OfFiles gives program.now world.now journal.now (λ p w j. IsReplay p w j text)
+-- what the command writes of these texts: `ok` for a program that passes a check, or the report and the journal of a run or of a replay
+abbrev pub TextsWrite : Command → (program world order text : List ℕ) → Type 0
+TextsWrite (Check p) program world order text = PassesCheck program × (text ≡ passed)
+TextsWrite (Run p w s) program world order text = IsRun program world order text
+TextsWrite (Replay p w j) program world order text = IsReplay program world order text
 
--- its files earn the number and the place of a fault
-abbrev pub CommandEarns : (gives : List ℕ → List ℕ → Type 0) → Command → (number : ℕ) → Place → Type 0
-CommandEarns gives (Check program) number place = OfFile gives program.now (λ p. FailsCheck p number place)
-CommandEarns gives (Run program world schedule) number place = OfFiles gives program.now world.now schedule.now (λ p w s. AreRefused p w s number place)
-CommandEarns gives (Replay program world journal) number place = OfFiles gives program.now world.now journal.now (λ p w j. AreRefusedReplays p w j number place)
+-- the texts earn the number and the place of a fault
+abbrev pub TextsEarn : Command → (program world order : List ℕ) → (number : ℕ) → Place → Type 0
+TextsEarn (Check p) program world order number place = FailsCheck program number place
+TextsEarn (Run p w s) program world order number place = AreRefused program world order number place
+TextsEarn (Replay p w j) program world order number place = AreRefusedReplays program world order number place
 
--- what some command writes
-pub record SomeCommandWrites (gives : List ℕ → List ℕ → Type 0) (text : List ℕ) : Type 0 where
-  pub command : Command
-  pub writes : CommandWrites gives command text
+-- `fault 81 line 1`, or `fault 91 entry 4`
+abbrev pub fault_line : ℕ → Place → List ℕ
+fault_line number (Line text line) = codes "fault " ++ decimal number ++ codes " line " ++ decimal line ++ codes "\n"
+fault_line number (Entry entry) = codes "fault " ++ decimal number ++ codes " entry " ++ decimal entry ++ codes "\n"
 
--- the files of some command earn the number and the place
-pub record SomeCommandEarns (gives : List ℕ → List ℕ → Type 0) (number : ℕ) (place : Place) : Type 0 where
-  pub command : Command
-  pub earns : CommandEarns gives command number place
+-- ---- standard error
 
--- the line of a fault that was earned was appended
-pub record SaysFault (old new : Written) (Refused : ℕ → Place → Type 0) : Type 0 where
-  pub number : ℕ
-  pub place : Place
-  pub earned : Refused number place
-  pub appended : AppendsText old new (fault_line number place)
+-- the text was appended, or the sink failed within it
+abbrev pub Tells : Written → Written → List ℕ → Type 0
+Tells old new text = AppendsText old new text ⊎ StopsWithin old new text
 
--- ---- failures
+-- where and why a text of the command is refused, in some words
+abbrev pub error_text : Command → (program world order : List ℕ) → (number : ℕ) → Place → (words : List ℕ) → List ℕ
+error_text command program world order number place words =
+    told (codes "error") (name_of command (text_at place)) (text_of program world order (text_at place)) number place words
 
--- a word and a line feed were appended, or the sink failed within them
-abbrev pub Says : Written → Written → List ℕ → Type 0
-Says old new word = AppendsText old new (word ++ codes "\n") ⊎ StopsWithin old new (word ++ codes "\n")
+-- ---- how a command goes
 
--- what failed, in one word
-abbrev pub IsFailure : List ℕ → Type 0
-IsFailure word = (word ≡ codes "memory") ⊎ ((word ≡ codes "file") ⊎ (word ≡ codes "writer"))
+-- What is done by a command with its texts, on standard output and standard error, and the status.
+pub data ServesTexts (command : Command) (program world order : List ℕ) (out out_after err err_after : Written) : (status : ℕ) → Type 0 where
+  -- what it writes is written, and nothing else
+  is_done : AppendsRun out out_after (TextsWrite command program world order) → err_after ≡ err → ServesTexts command program world order out out_after err err_after 0
+  -- a fault that the texts earn is written, none of its line waits, and it is told
+  is_refused : (number : ℕ) (place : Place) (words : List ℕ) → TextsEarn command program world order number place
+      → AppendsText out out_after (fault_line number place) → out_after.waiting ≡ 0
+      → Tells err err_after (error_text command program world order number place words)
+      → ServesTexts command program world order out out_after err err_after 1
+  -- memory was refused, and nothing is written
+  lacks_memory : out_after ≡ out → Tells err err_after (codes "memory\n") → ServesTexts command program world order out out_after err err_after 3
+  -- standard output failed within what the command writes, or within the line of a fault that the texts earn
+  loses_text : StopsRun out out_after (TextsWrite command program world order) → Tells err err_after (codes "writer\n")
+      → ServesTexts command program world order out out_after err err_after 3
+  loses_fault : (number : ℕ) (place : Place) → TextsEarn command program world order number place
+      → StopsWithin out out_after (fault_line number place) → Tells err err_after (codes "writer\n")
+      → ServesTexts command program world order out out_after err err_after 3
 
--- one word says what failed
-pub record SaysFailure (old new : Written) : Type 0 where
-  pub word : List ℕ
-  pub is_failure : IsFailure word
-  pub says : Says old new word
-
--- ---- words that ask for help
-
--- a word that asks for the usage or the version
-abbrev pub is_help_word : List ℕ → Bool
-is_help_word word =
-    bytes_eq word (codes "--help") || bytes_eq word (codes "-h") || bytes_eq word (codes "help") || bytes_eq word (codes "--version") || bytes_eq word (codes "-V")
-
--- one of the words does
-abbrev pub asks_for_help : {S : Type 0} → (S → List ℕ) → List S → Bool
-asks_for_help text words = list_any (λ word. is_help_word (text word)) words
+-- What is done by a command.
+pub data Serves (gives : List ℕ → List ℕ → Type 0) (command : Command) (out out_after err err_after : Written) : (status : ℕ) → Type 0 where
+  -- its files were read
+  on_texts : (status : ℕ) → OfFiles gives command (λ p w o. ServesTexts command p w o out out_after err err_after status) → Serves gives command out out_after err err_after status
+  -- memory was refused, or a file can't be read, and nothing is written
+  cannot_read : out_after ≡ out → Tells err err_after (codes "memory\n") → Serves gives command out out_after err err_after 3
+  has_no_file : out_after ≡ out → Tells err err_after (codes "file\n") → Serves gives command out out_after err err_after 3

@@ -11,8 +11,9 @@ use Rattle.world.specs.Schedule.{Schedule}
 use Rattle.regions.specs.Load.{first_load_fault}
 use Rattle.jnirun.specs.declared.fault.Place.{Place}
 use Rattle.jnirun.specs.declared.fault.Place.TheVariants.{Line}
+use Rattle.jnirun.specs.declared.fault.Text.TheVariants as which
 use Rattle.jnirun.specs.Programs.{IsProgram}
-use Rattle.jnirun.specs.Checks.{FailsCheck}
+use Rattle.jnirun.specs.Checks.{PassesCheck, FailsCheck}
 
 -- the unit, the world and the schedule of three texts, which go with each other
 pub record Meaning (program world schedule : List ℕ) : Type 0 where
@@ -28,6 +29,6 @@ pub record Meaning (program world schedule : List ℕ) : Type 0 where
 -- first that is refused.
 pub data AreRefused (program world schedule : List ℕ) : (number : ℕ) → Place → Type 0 where
   by_check : (number : ℕ) (place : Place) → FailsCheck program number place → AreRefused program world schedule number place
-  by_world : (unit : SourceUnit) (fault : TextFault) → IsProgram program unit → scene_of_text world ≡ Err fault → AreRefused program world schedule (rule_number fault.rule) (Line fault.line)
-  by_schedule : (unit : SourceUnit) (scene : Scene) (fault : TextFault) → IsProgram program unit → scene_of_text world ≡ Ok scene → schedule_of schedule (length scene.threads) ≡ Err fault → AreRefused program world schedule (rule_number fault.rule) (Line fault.line)
-  by_load : (unit : SourceUnit) (scene : Scene) (words : Schedule) (line : ℕ) → IsProgram program unit → scene_of_text world ≡ Ok scene → schedule_of schedule (length scene.threads) ≡ Ok words → first_load_fault unit (world_of_scene scene) ≡ Some line → AreRefused program world schedule 82 (Line line)
+  by_world : (fault : TextFault) → PassesCheck program → scene_of_text world ≡ Err fault → AreRefused program world schedule (rule_number fault.rule) (Line which.World fault.line)
+  by_schedule : (scene : Scene) (fault : TextFault) → PassesCheck program → scene_of_text world ≡ Ok scene → schedule_of schedule (length scene.threads) ≡ Err fault → AreRefused program world schedule (rule_number fault.rule) (Line which.Schedule fault.line)
+  by_load : (scene : Scene) (words : Schedule) (line : ℕ) (passes : PassesCheck program) → scene_of_text world ≡ Ok scene → schedule_of schedule (length scene.threads) ≡ Ok words → first_load_fault passes.unit (world_of_scene scene) ≡ Some line → AreRefused program world schedule 82 (Line which.World line)

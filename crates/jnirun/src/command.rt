@@ -1,10 +1,8 @@
-//! The words of the command line.
+//! What can be done with files.
 
-use clap::{Arg, ArgAction, ArgMatches, Error};
-use std::alloc::Global;
-use std::convert::AsStr;
+use crate::fault::Text;
 
-/// What the words ask for, with the names of the files.
+/// A command, with the names of its files.
 #[derive(Clone, Copy, Debug)]
 pub enum Command<'a> {
     /// A program is checked.
@@ -25,99 +23,22 @@ pub enum Command<'a> {
     },
 }
 
-/// A word that must be there.
-fn word<'a>(alloc: Global, name: &'a str, help: &'a str) -> Arg<'a> {
-    Arg::new(alloc, name)
-        .required(true)
-        .action(ArgAction::Set)
-        .help(help)
-}
+impl<'a> Command<'a> {
+    ghost use Rattle.std.specs.Prelude.{◌≡◌};
+    ghost use Rattle.jnirun.specs.Commands.{name_of};
 
-/// `check PROG`.
-fn check_command<'a>(alloc: Global) -> Result<clap::Command<'a>, Error> {
-    let command = clap::Command::new(alloc, "check")
-        .about("Checks a program, and prints ok or its first fault")
-        .arg(word(alloc, "PROG", "The text of the native methods"))?;
-    Ok(command)
-}
-
-/// `run PROG WORLD --schedule FILE`.
-fn run_command<'a>(alloc: Global) -> Result<clap::Command<'a>, Error> {
-    let schedule = Arg::new(alloc, "FILE")
-        .long("schedule")
-        .action(ArgAction::Set)
-        .help("The order in which the threads step");
-    let command = clap::Command::new(alloc, "run")
-        .about("Runs a program in a world, and prints its report and its journal")
-        .arg(word(alloc, "PROG", "The text of the native methods"))?
-        .arg(word(
-            alloc,
-            "WORLD",
-            "The heap, the classes, the objects and the threads",
-        ))?
-        .arg(schedule)?;
-    Ok(command)
-}
-
-/// `replay PROG WORLD JOURNAL`.
-fn replay_command<'a>(alloc: Global) -> Result<clap::Command<'a>, Error> {
-    let command = clap::Command::new(alloc, "replay")
-        .about("Takes the steps of a journal again, and prints the report and the journal")
-        .arg(word(alloc, "PROG", "The text of the native methods"))?
-        .arg(word(
-            alloc,
-            "WORLD",
-            "The heap, the classes, the objects and the threads",
-        ))?
-        .arg(word(
-            alloc,
-            "JOURNAL",
-            "The steps that were taken, in their order",
-        ))?;
-    Ok(command)
-}
-
-/// The file of a check.
-fn check_of<'a>(given: &ArgMatches<'a>) -> Option<Command<'a>> {
-    Some(Command::Check {
-        program: given.get_str("PROG")?,
-    })
-}
-
-/// The files of a run, where the words say how to schedule.
-fn run_of<'a>(given: &ArgMatches<'a>) -> Option<Command<'a>> {
-    Some(Command::Run {
-        program: given.get_str("PROG")?,
-        world: given.get_str("WORLD")?,
-        schedule: given.get_str("FILE")?,
-    })
-}
-
-/// The files of a replay.
-fn replay_of<'a>(given: &ArgMatches<'a>) -> Option<Command<'a>> {
-    Some(Command::Replay {
-        program: given.get_str("PROG")?,
-        world: given.get_str("WORLD")?,
-        journal: given.get_str("JOURNAL")?,
-    })
-}
-
-/// What the words ask for, or `None` where they don't say how to schedule. Which word is the program, the world, the
-/// schedule and the journal is `clap`'s doing; no clause tells it, and tests show it.
-pub fn parse<'a, S: AsStr>(alloc: Global, words: &'a [S]) -> Result<Option<Command<'a>>, Error> {
-    let command = clap::Command::new(alloc, "jnirun")
-        .version("0.1.0")
-        .about("Runs Java native methods on a heap whose objects move")
-        .subcommand_required(true)
-        .subcommand(check_command(alloc)?)?
-        .subcommand(run_command(alloc)?)?
-        .subcommand(replay_command(alloc)?)?;
-    let matches = command.try_get_matches_from(words)?;
-    let command = match matches.subcommand() {
-        Some(("check", given)) => check_of(given),
-        Some(("run", given)) => run_of(given),
-        Some(("replay", given)) => replay_of(given),
-        _ => None,
-    };
-    Ok(command)
+    /// The name of the file of a text. A check has no file but its program.
+    pub fn name_of(self, text: Text) -> &'a str
+        ensures { result.now ≡ name_of self.entry text }
+    {
+        match (self, text) {
+            (Command::Check { program }, _) => program,
+            (Command::Run { program, .. }, Text::Program) => program,
+            (Command::Run { world, .. }, Text::World) => world,
+            (Command::Run { schedule, .. }, _) => schedule,
+            (Command::Replay { program, .. }, Text::Program) => program,
+            (Command::Replay { world, .. }, Text::World) => world,
+            (Command::Replay { journal, .. }, _) => journal,
+        }
+    }
 }

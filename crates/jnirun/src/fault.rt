@@ -8,19 +8,42 @@ use std::fmt;
 use thiserror::Error;
 use world::SinkFailed;
 
-/// What a fault is found at. Both are counted from 1.
+/// A text that is read.
+#[derive(Clone, Copy, Debug, PartialEq, Eq)]
+pub enum Text {
+    Program,
+    World,
+    Schedule,
+    Journal,
+}
+
+/// What a fault is found at. Lines and entries are counted from 1.
 #[derive(Clone, Copy, Debug, PartialEq, Eq)]
 pub enum Place {
-    /// The line of a text, or 0 where the fault has no line.
-    Line(usize),
-    /// The entry of a journal.
+    /// The line of this text, or 0 where the fault has no line.
+    Line(Text, usize),
+    /// The entry of the journal.
     Entry(usize),
+}
+
+impl Place {
+    ghost use Rattle.jnirun.specs.Commands.{text_at};
+
+    /// The text that the place is in.
+    pub fn text(self) -> Text
+        ensures { result ≡ text_at self }
+    {
+        match self {
+            Place::Line(text, _line) => text,
+            Place::Entry(_entry) => Text::Journal,
+        }
+    }
 }
 
 impl fmt::Display for Place {
     fn fmt<W: fmt::Write>(&self, f: &mut fmt::Formatter<W>) -> fmt::Result {
         match self {
-            Place::Line(line) => write!(f, "line {line}"),
+            Place::Line(_text, line) => write!(f, "line {line}"),
             Place::Entry(entry) => write!(f, "entry {entry}"),
         }
     }
@@ -32,7 +55,7 @@ pub enum RunError {
     /// Host memory was refused.
     #[error("out of memory")]
     Memory,
-    /// A text is refused: the number of the fault and its place.
+    /// A text is refused: the number of the fault, and its place, which tells the text.
     #[error("fault {0} {1}")]
     Fault(u32, Place),
     /// A file can't be read, or is too large.

@@ -7,7 +7,7 @@ ghost use Rattle.jnirun.specs.Errors.{of_scan, of_parse, of_types, of_regions};
 ghost use Rattle.jnirun.specs.Programs.{IsProgram};
 ghost use Rattle.jnirun.specs.Passes.{IsRefusal, IsUnitOr};
 
-use crate::fault::{Place, RunError};
+use crate::fault::{Place, RunError, Text};
 use parse::{ParseFault, parse};
 use regions::{CheckFault, Checked, check};
 use scan::{ScanFault, scan};
@@ -21,7 +21,7 @@ fn of_scan(fault: ScanFault) -> RunError
         ScanFault::Memory => RunError::Memory,
         ScanFault::Found { fault, line } => RunError::Fault(
             u32::from(fault.number()),
-            Place::Line(line),
+            Place::Line(Text::Program, line),
         ),
     }
 }
@@ -33,7 +33,7 @@ fn of_parse(fault: ParseFault) -> RunError
         ParseFault::Memory => RunError::Memory,
         ParseFault::Found { fault, line } => RunError::Fault(
             u32::from(fault.number()),
-            Place::Line(line),
+            Place::Line(Text::Program, line),
         ),
     }
 }
@@ -43,7 +43,10 @@ fn of_types(fault: TypeFault) -> RunError
 {
     match fault {
         TypeFault::Memory => RunError::Memory,
-        TypeFault::Broken(fault) => RunError::Fault(fault.rule.number(), Place::Line(fault.line)),
+        TypeFault::Broken(fault) => RunError::Fault(
+            fault.rule.number(),
+            Place::Line(Text::Program, fault.line),
+        ),
     }
 }
 
@@ -52,7 +55,10 @@ fn of_regions(fault: CheckFault) -> RunError
 {
     match fault {
         CheckFault::Memory => RunError::Memory,
-        CheckFault::Broken(fault) => RunError::Fault(fault.rule.number(), Place::Line(fault.line)),
+        CheckFault::Broken(fault) => RunError::Fault(
+            fault.rule.number(),
+            Place::Line(Text::Program, fault.line),
+        ),
     }
 }
 

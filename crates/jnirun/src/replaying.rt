@@ -7,7 +7,7 @@ ghost use Rattle.jnirun.specs.Runs.{RunsTexts};
 ghost use Rattle.jnirun.specs.ReplayLaws.{RunsAreReplayed};
 ghost use Rattle.jnirun.specs.Replays.{IsReplay, AreRefusedReplays, IsPossible, IsReplayOrFails};
 
-use crate::fault::{Place, RunError};
+use crate::fault::{Place, RunError, Text};
 use crate::program::program;
 use crate::run::of_reading;
 use parse::one_unit;
@@ -19,7 +19,7 @@ fn of_replay(fault: ReplayFault) -> RunError
     ensures { result ≡ of_replay fault }
 {
     match fault {
-        ReplayFault::DoesNotFit(line) => RunError::Fault(82, Place::Line(line)),
+        ReplayFault::DoesNotFit(line) => RunError::Fault(82, Place::Line(Text::World, line)),
         ReplayFault::Impossible(entry) => RunError::Fault(91, Place::Entry(entry)),
         ReplayFault::Memory => RunError::Memory,
         ReplayFault::Writer => RunError::Writer,
@@ -28,7 +28,7 @@ fn of_replay(fault: ReplayFault) -> RunError
 
 /// Replays the journal of the program in the world, and writes the report of its run and the journal.
 ///
-/// On `Ok` what was written is what a run with this journal writes. A fault is one that the texts earn, and nothing is
+/// On `Ok` what was written is what a run with this journal writes, and none of it waits in the sink. A fault is one that the texts earn, and nothing is
 /// written then: 91 has the number of the first entry that isn't possible, counted from 1. The texts are read in their
 /// order: the program is scanned, parsed, and checked for sorts and regions, then the world and the journal are read, then
 /// they are loaded and the entries taken. No code is made, so no function is too long.
@@ -51,12 +51,12 @@ pub fn replay_text<W: Sink>(
     };
     let world = match read_world(alloc, world_text) {
         Ok(world) => world,
-        Err(error) => return Err(of_reading(error)),
+        Err(error) => return Err(of_reading(Text::World, error)),
     };
     let threads = world.threads().len() as u8;
     let journal = match read_journal(alloc, journal_text, threads) {
         Ok(journal) => journal,
-        Err(error) => return Err(of_reading(error)),
+        Err(error) => return Err(of_reading(Text::Journal, error)),
     };
     match replay(alloc, &checked, &world, &journal, out) {
         Ok(()) => Ok(()),

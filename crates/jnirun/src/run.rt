@@ -6,7 +6,7 @@ ghost use Rattle.jnirun.specs.Errors.{of_lower, of_reading, of_load};
 ghost use Rattle.jnirun.specs.Texts.{Meaning, AreRefused};
 ghost use Rattle.jnirun.specs.Runs.{RunsTexts, IsRun, IsRunOrFails};
 
-use crate::fault::{Place, RunError};
+use crate::fault::{Place, RunError, Text};
 use crate::program::program;
 use lower::{LowerFault, lower};
 use machine::{LoadFault, Machine, RunFault};
@@ -18,19 +18,19 @@ pub(crate) fn of_lower(fault: LowerFault) -> RunError
 {
     match fault {
         LowerFault::Memory => RunError::Memory,
-        LowerFault::TooLong => RunError::Fault(51, Place::Line(0)),
+        LowerFault::TooLong => RunError::Fault(51, Place::Line(Text::Program, 0)),
     }
 }
 
 /// The fault of a world, a schedule or a journal.
-pub(crate) fn of_reading(error: ReadError) -> RunError
-    ensures { result ≡ of_reading error }
+pub(crate) fn of_reading(text: Text, error: ReadError) -> RunError
+    ensures { result ≡ of_reading text error }
 {
     match error {
         ReadError::Memory => RunError::Memory,
         ReadError::Fault(fault) => RunError::Fault(
             u32::from(fault.rule.number()),
-            Place::Line(fault.line),
+            Place::Line(text, fault.line),
         ),
     }
 }
@@ -40,14 +40,14 @@ fn of_load(fault: LoadFault) -> RunError
 {
     match fault {
         LoadFault::Memory => RunError::Memory,
-        LoadFault::DoesNotFit(line) => RunError::Fault(82, Place::Line(line)),
+        LoadFault::DoesNotFit(line) => RunError::Fault(82, Place::Line(Text::World, line)),
     }
 }
 
 /// Runs the program in the world by the schedule, and writes the report of the run and its journal.
 ///
 /// On `Ok` what was written is the report of the source run that the journal names, and that journal, which follows the
-/// schedule. A fault is one that the texts earn, and nothing is written then. The texts are read in their order: the program is
+/// schedule; none of it waits in the sink. A fault is one that the texts earn, and nothing is written then. The texts are read in their order: the program is
 /// scanned, parsed, checked for sorts and regions and lowered, then the world and the schedule are read, then they are
 /// loaded.
 pub fn run_text<W: Sink>(
@@ -73,12 +73,12 @@ pub fn run_text<W: Sink>(
     };
     let world = match read_world(alloc, world_text) {
         Ok(world) => world,
-        Err(error) => return Err(of_reading(error)),
+        Err(error) => return Err(of_reading(Text::World, error)),
     };
     let threads = world.threads().len() as u8;
     let schedule = match read_schedule(alloc, schedule_text, threads) {
         Ok(schedule) => schedule,
-        Err(error) => return Err(of_reading(error)),
+        Err(error) => return Err(of_reading(Text::Schedule, error)),
     };
     let mut machine = match Machine::load(alloc, lowered, world) {
         Ok(machine) => machine,

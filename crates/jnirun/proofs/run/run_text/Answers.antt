@@ -1,7 +1,7 @@
 use Rattle.std.proofs.Common.{◌≡◌, length, ap, Ok, Err}
 use Rattle.std.proofs.lemmas.List.{length-map}
 use Rattle.syntax.specs.Views.{unit_tree}
-use Rattle.jnirun.proofs.RunLemmas.{refused_program, refused_length, refused_world, refused_schedule, refused_load, ran, loads_or_fails, never_full}
+use Rattle.jnirun.proofs.RunLemmas.{refused_program, refused_length, refused_world, refused_schedule, refused_load, passing, ran, loads_or_fails, never_full}
 use Rattle.jnirun.proofs.run.run_text.Goals as goal
 
 pub returns-in-Err-clause-run : goal.returns-in-Err-clause-run
@@ -14,19 +14,20 @@ returns-in-Err-lower-clause-run g c =
 
 pub returns-in-Err-read_world-clause-run : goal.returns-in-Err-read_world-clause-run
 returns-in-Err-read_world-clause-run g c =
-    rw c.of_reading.ensures (refused_world c.args.program_text.now c.args.world_text.now c.args.schedule_text.now (g.W.Sink.written c.args.out.now) (unit_tree c.in-Ok.checked) c.in-Err-read_world.error c.in-Ok.ensures.program c.in-Err-read_world.ensures.read)
+    rw c.of_reading.ensures (refused_world c.args.program_text.now c.args.world_text.now c.args.schedule_text.now (g.W.Sink.written c.args.out.now) c.in-Err-read_world.error
+    (passing c.args.program_text.now c.args.world_text.now c.args.schedule_text.now (g.W.Sink.written c.args.out.now) (unit_tree c.in-Ok.checked) c.in-Ok.ensures.program c.in-Ok-lower.ensures.short) c.in-Err-read_world.ensures.read)
 
 pub returns-in-Err-read_schedule-clause-run : goal.returns-in-Err-read_schedule-clause-run
 returns-in-Err-read_schedule-clause-run g c =
     let count : length c.threads.result.now ≡ length c.in-Ok-read_world.world.threads = simp length-map at (ap length c.threads.ensures.calls) in
-    rw c.of_reading-in-Err-read_schedule.ensures (refused_schedule c.args.program_text.now c.args.world_text.now c.args.schedule_text.now (g.W.Sink.written c.args.out.now) (unit_tree c.in-Ok.checked) c.in-Ok-read_world.world c.in-Err-read_schedule.error
-    c.in-Ok.ensures.program c.in-Ok-read_world.ensures.read (rw count at c.in-Err-read_schedule.ensures.read))
+    rw c.of_reading-in-Err-read_schedule.ensures (refused_schedule c.args.program_text.now c.args.world_text.now c.args.schedule_text.now (g.W.Sink.written c.args.out.now) c.in-Ok-read_world.world c.in-Err-read_schedule.error
+    (passing c.args.program_text.now c.args.world_text.now c.args.schedule_text.now (g.W.Sink.written c.args.out.now) (unit_tree c.in-Ok.checked) c.in-Ok.ensures.program c.in-Ok-lower.ensures.short) c.in-Ok-read_world.ensures.read (rw count at c.in-Err-read_schedule.ensures.read))
 
 pub returns-in-Err-load-clause-run : goal.returns-in-Err-load-clause-run
 returns-in-Err-load-clause-run g c =
     let count : length c.threads.result.now ≡ length c.in-Ok-read_world.world.threads = simp length-map at (ap length c.threads.ensures.calls) in
-    rw c.of_load.ensures (refused_load c.args.program_text.now c.args.world_text.now c.args.schedule_text.now (g.W.Sink.written c.args.out.now) (unit_tree c.in-Ok.checked) c.in-Ok-read_world.world c.in-Ok-read_schedule.schedule c.in-Err-load.fault
-    c.in-Ok.ensures.program c.in-Ok-read_world.ensures.read (rw count at c.in-Ok-read_schedule.ensures.read) (rw c.in-Ok-lower.ensures.ok at c.in-Err-load.ensures.fault))
+    rw c.of_load.ensures (refused_load c.args.program_text.now c.args.world_text.now c.args.schedule_text.now (g.W.Sink.written c.args.out.now) c.in-Ok-read_world.world c.in-Ok-read_schedule.schedule c.in-Err-load.fault
+    (passing c.args.program_text.now c.args.world_text.now c.args.schedule_text.now (g.W.Sink.written c.args.out.now) (unit_tree c.in-Ok.checked) c.in-Ok.ensures.program c.in-Ok-lower.ensures.short) c.in-Ok-read_world.ensures.read (rw count at c.in-Ok-read_schedule.ensures.read) (rw c.in-Ok-lower.ensures.ok at c.in-Err-load.ensures.fault))
 
 pub returns-in-Err-load-clause-accepted : goal.returns-in-Err-load-clause-accepted
 returns-in-Err-load-clause-accepted g c = λ m.
@@ -40,7 +41,7 @@ unreachable-requires g c =
 pub returns-in-Ok-report-clause-run : goal.returns-in-Ok-report-clause-run
 returns-in-Ok-report-clause-run g c =
     let count : length c.threads.result.now ≡ length c.in-Ok-read_world.world.threads = simp length-map at (ap length c.threads.ensures.calls) in
-    ran c.args.program_text.now c.args.world_text.now c.args.schedule_text.now (g.W.Sink.written c.args.out.now) c.in-Ok.checked c.in-Ok-read_world.world c.in-Ok-read_schedule.schedule c.in-Ok-load.machine c.run.new.self (g.W.Sink.written c.report.new.sink) (Ok c.in-Ok-report.field-0)
+    ran c.args.program_text.now c.args.world_text.now c.args.schedule_text.now (g.W.Sink.written c.args.out.now) c.in-Ok.checked c.in-Ok-read_world.world c.in-Ok-read_schedule.schedule c.in-Ok-load.machine c.run.new.self (g.W.Sink.written c.report.new.sink) (Ok c.in-Ok-report.field-0) c.in-Ok-report.ensures.none_waits
     c.in-Ok.ensures.program c.in-Ok-read_world.ensures.read (rw count at c.in-Ok-read_schedule.ensures.read) (rw c.in-Ok-lower.ensures.ok at c.in-Ok-load.ensures.fits)
     c.in-Ok-read_world.ensures.means (rw count at c.in-Ok-read_schedule.ensures.means)
     (rw c.in-Ok-lower.ensures.ok at c.in-Ok-load.ensures.ok) c.in-Ok-run.ensures.ok c.in-Ok-report.ensures.run
@@ -48,7 +49,7 @@ returns-in-Ok-report-clause-run g c =
 pub returns-clause-run : goal.returns-clause-run
 returns-clause-run g c =
     let count : length c.threads.result.now ≡ length c.in-Ok-read_world.world.threads = simp length-map at (ap length c.threads.ensures.calls) in
-    ran c.args.program_text.now c.args.world_text.now c.args.schedule_text.now (g.W.Sink.written c.args.out.now) c.in-Ok.checked c.in-Ok-read_world.world c.in-Ok-read_schedule.schedule c.in-Ok-load.machine c.run.new.self (g.W.Sink.written c.report.new.sink) (Err c.in-Err-report.field-0)
+    ran c.args.program_text.now c.args.world_text.now c.args.schedule_text.now (g.W.Sink.written c.args.out.now) c.in-Ok.checked c.in-Ok-read_world.world c.in-Ok-read_schedule.schedule c.in-Ok-load.machine c.run.new.self (g.W.Sink.written c.report.new.sink) (Err c.in-Err-report.field-0) c.in-Err-report.ensures.none_waits
     c.in-Ok.ensures.program c.in-Ok-read_world.ensures.read (rw count at c.in-Ok-read_schedule.ensures.read) (rw c.in-Ok-lower.ensures.ok at c.in-Ok-load.ensures.fits)
     c.in-Ok-read_world.ensures.means (rw count at c.in-Ok-read_schedule.ensures.means)
     (rw c.in-Ok-lower.ensures.ok at c.in-Ok-load.ensures.ok) c.in-Ok-run.ensures.ok c.in-Err-report.ensures.run

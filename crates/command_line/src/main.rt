@@ -1,0 +1,34 @@
+//! Checks native methods, `jnirun check PROG`, runs them over a heap, `jnirun run PROG WORLD --schedule FILE`, replays their
+//! journals, `jnirun replay PROG WORLD JOURNAL`, and explains faults and traps, `jnirun explain N` and `jnirun explain trap N`.
+#![tactic(auto)]
+
+mod answering;
+mod words;
+
+use crate::answering::answer;
+use crate::words::parse;
+use jnirun::{COMMAND_LINE, FileSystem, fail};
+use std::process::ExitCode;
+use world::StdSink;
+
+fn main(rt: HostRuntime) -> ExitCode {
+    let mut out = StdSink::new(rt.stdout());
+    let mut err = StdSink::new(rt.stderr());
+    let mut files = FileSystem::new(&rt);
+    let Ok(args) = std::env::args(&rt) else {
+        return ExitCode::from(COMMAND_LINE);
+    };
+    let Ok(words) = args.collect::<Vec<String>>(rt.alloc()) else {
+        return ExitCode::from(fail(&mut err, b"memory\n"));
+    };
+    let asked = parse(rt.alloc(), words.as_slice());
+    let status = answer(
+        rt.alloc(),
+        words.as_slice(),
+        &asked,
+        &mut files,
+        &mut out,
+        &mut err,
+    );
+    ExitCode::from(status)
+}

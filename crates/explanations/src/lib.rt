@@ -1,0 +1,39 @@
+//! What each fault and trap means, in plain words, with the smallest text that earns it and its cure.
+#![tactic(auto)]
+
+ghost use Rattle.std.specs.Prelude.{◌≡◌, IfSome};
+
+mod table;
+
+use crate::table::{FAULTS, TRAPS};
+
+/// What is said of a fault or a trap.
+#[derive(Clone, Copy, Debug)]
+pub struct Explanation {
+    pub number: u32,
+    /// In a few words.
+    pub title: &'static str,
+    /// All of it: some lines, each with its line feed.
+    pub text: &'static str,
+}
+
+/// What is said of the number.
+fn find(explanations: &[Explanation], number: u32) -> Option<Explanation>
+    ensures { IfSome result (λ e. e.number ≡ number) }
+{
+    explanations.iter().copied().find(|e| e.number == number)
+}
+
+/// What is said of a fault.
+pub fn fault(number: u32) -> Option<Explanation>
+    ensures { IfSome result (λ e. e.number ≡ number) }
+{
+    find(FAULTS.as_slice(), number)
+}
+
+/// What is said of a trap.
+pub fn trap(number: u32) -> Option<Explanation>
+    ensures { IfSome result (λ e. e.number ≡ number) }
+{
+    find(TRAPS.as_slice(), number)
+}

@@ -1,0 +1,241 @@
+//! What docs/FAULTS.md says of each fault and trap; `examples/explanations write` makes this file of it.
+
+use crate::Explanation;
+
+/// The faults, by rising numbers.
+pub static FAULTS: [Explanation; 37] = [
+    Explanation {
+        number: 1,
+        title: "a byte begins no token",
+        text: "fault 1: a byte begins no token\n\nOutside of comments and strings a text has the bytes of the language's tokens and blanks (C99 6.4): no @, #, $, ', ., ?, :, \\, and nothing beyond ASCII. Take it out.\n\n    JNIEXPORT void JNICALL Java_A_f(JNIEnv *env, jclass cls)\n    {\n        put_jint(1 ? 2 : 3);\n        return;\n    }\n\nfault 1 line 3\n",
+    },
+    Explanation {
+        number: 2,
+        title: "a comment has no end",
+        text: "fault 2: a comment has no end\n\n/* goes on to the next */ (C99 6.4.9). The line is that of the /*. Close it.\n\n    JNIEXPORT void JNICALL Java_A_f(JNIEnv *env, jclass cls)\n    {\n        return; /* done\n    }\n\nfault 2 line 3\n",
+    },
+    Explanation {
+        number: 3,
+        title: "a bad number",
+        text: "fault 3: a bad number\n\nNumbers are 0, decimal without leading zeros, or 0x with digits, each with an optional u, and in the range of their type (C99 6.4.4.1). 012 would be octal, 1U and\n1L aren't in the language. Write the number out.\n\n    JNIEXPORT void JNICALL Java_A_f(JNIEnv *env, jclass cls)\n    {\n        put_jint(2147483648);\n        return;\n    }\n\nfault 3 line 3\n",
+    },
+    Explanation {
+        number: 4,
+        title: "a bad string",
+        text: "fault 4: a bad string\n\nA string ends on its line and has the bytes 32 to 126 without \" and \\ (C99 6.4.5; there are no escapes). Close it, or leave the byte out.\n\n    JNIEXPORT void JNICALL Java_A_f(JNIEnv *env, jclass cls)\n    {\n        jclass c = (*env)->FindClass(env, \"java/lang/String);\n        return;\n    }\n\nfault 4 line 3\n",
+    },
+    Explanation {
+        number: 11,
+        title: "a token that no accepted text can have here",
+        text: "fault 11: a token that no accepted text can have here\n\nThe text isn't of the grammar (docs/LANGUAGE.md). The line is that of the first token from which it can't go on, so a ; that is missing is told at the token behind.\n\n    JNIEXPORT void JNICALL Java_A_f(JNIEnv *env, jclass cls)\n    {\n        put_jint(1)\n        return;\n    }\n\nfault 11 line 4\n",
+    },
+    Explanation {
+        number: 12,
+        title: "a tree is too high",
+        text: "fault 12: a tree is too high\n\nBlocks, operators, casts, parentheses and indexes count one each, up to 32. Name a part of the expression by a variable of its own.\n\n    JNIEXPORT void JNICALL Java_A_f(JNIEnv *env, jclass cls)\n    {\n        put_jint((jint)\n            ~~~~~~~~~~~~~~~~~~~~~~~~~~~~~~~~1u);\n        return;\n    }\n\nfault 12 line 4\n",
+    },
+    Explanation {
+        number: 13,
+        title: "too many",
+        text: "fault 13: too many\n\nAt most 256 functions, 256 statics, and 256 names that a function declares, its parameters from the class on among them. The line is that of the first that is too\nmany. Split the text or the function.\n\n    static jobject s1 = NULL;\n\nLine 1 for each number from 1 to 257: fault 13 line 257\n",
+    },
+    Explanation {
+        number: 21,
+        title: "a name isn't known",
+        text: "fault 21: a name isn't known\n\nA variable is known behind its declaration, to the end of its block (C99 6.2.1). A function's name is that of a native method (JNI Specification, chapter 2, \"Resolving\nNative Method Names\"). Declare the variable first, or mend the name.\n\n    JNIEXPORT void JNICALL Java_A_f(JNIEnv *env, jclass cls)\n    {\n        put_jint(n);\n        return;\n    }\n\nfault 21 line 3\n",
+    },
+    Explanation {
+        number: 22,
+        title: "a name is declared twice",
+        text: "fault 22: a name is declared twice\n\nA name stands for one thing in a function, also in blocks that lie side by side; so do the functions and statics of a text. Choose another.\n\n    JNIEXPORT void JNICALL Java_A_f(JNIEnv *env, jclass cls, jint n)\n    {\n        jint n = 1;\n        put_jint(n);\n        return;\n    }\n\nfault 22 line 3\n",
+    },
+    Explanation {
+        number: 23,
+        title: "the sorts don't fit",
+        text: "fault 23: the sorts don't fit\n\nAn operator's operands, a variable and its value, an argument and its parameter, a return and its function fit each other as docs/LANGUAGE.md says; nothing is converted by\nitself. Put a cast, or take a variable of the right type.\n\n    JNIEXPORT void JNICALL Java_A_f(JNIEnv *env, jclass cls, jint n)\n    {\n        put_jint(n + 1);\n        return;\n    }\n\nfault 23 line 3\n",
+    },
+    Explanation {
+        number: 24,
+        title: "a function of the JNI isn't known, or can't be called today",
+        text: "fault 24: a function of the JNI isn't known, or can't be called today\n\nREADME has the list of those that can (JNI Specification, chapter 4).\n\n    JNIEXPORT void JNICALL Java_A_f(JNIEnv *env, jclass cls)\n    {\n        jint version = (*env)->GetVersion(env);\n        return;\n    }\n\nfault 24 line 3\n",
+    },
+    Explanation {
+        number: 25,
+        title: "a wrong number of arguments",
+        text: "fault 25: a wrong number of arguments\n\nGive as many as the function has parameters behind env (JNI Specification, chapter 4).\n\n    JNIEXPORT void JNICALL Java_A_f(JNIEnv *env, jclass cls)\n    {\n        jint length = (*env)->GetArrayLength(env);\n        return;\n    }\n\nfault 25 line 3\n",
+    },
+    Explanation {
+        number: 26,
+        title: "a reference would be copied",
+        text: "fault 26: a reference would be copied\n\nEach variable has a local reference of its own, so that deleting one leaves the other (JNI Specification, chapter 2, \"Global and Local References\"). Call NewLocalRef.\n\n    JNIEXPORT void JNICALL Java_A_f(JNIEnv *env, jclass cls, jobject object)\n    {\n        jobject other = object;\n        return;\n    }\n\nfault 26 line 3\n",
+    },
+    Explanation {
+        number: 27,
+        title: "a bad mode",
+        text: "fault 27: a bad mode\n\nThe mode of a release is 0, JNI_COMMIT or JNI_ABORT (JNI Specification, chapter 4, \"Array Operations\"). Write one of these.\n\n    JNIEXPORT void JNICALL Java_A_f(JNIEnv *env, jclass cls, jintArray array)\n    {\n        jint *numbers = NULL;\n        (*env)->ReleaseIntArrayElements(env, array, numbers, 3);\n        return;\n    }\n\nfault 27 line 4 (today 24, since its functions can't be called yet)\n",
+    },
+    Explanation {
+        number: 28,
+        title: "a string's characters are written to",
+        text: "fault 28: a string's characters are written to\n\nWhat GetStringChars gives isn't to be changed (JNI Specification, chapter 4, \"String Operations\"). Copy them to an array.\n\n    JNIEXPORT void JNICALL Java_A_f(JNIEnv *env, jclass cls)\n    {\n        const jchar *chars = NULL;\n        chars[0] = 65;\n        return;\n    }\n\nfault 28 line 4\n",
+    },
+    Explanation {
+        number: 31,
+        title: "a call or a print while a buffer is critical",
+        text: "fault 31: a call or a print while a buffer is critical\n\nFrom a critical Get to its release only critical Gets and releases are called, and nothing is printed, since a virtual machine may keep its collector waiting all the while\n(JNI Specification, chapter 4, \"GetPrimitiveArrayCritical\"). Keep what the buffer has in a variable, and call or print behind the release.\n\n    JNIEXPORT void JNICALL Java_A_f(JNIEnv *env, jclass cls, jintArray array)\n    {\n        jint *numbers = (*env)->GetPrimitiveArrayCritical(env, array, NULL);\n        if (numbers == NULL) {\n            return;\n        }\n        put_jint(numbers[0]);\n        (*env)->ReleasePrimitiveArrayCritical(env, array, numbers, JNI_ABORT);\n        return;\n    }\n\nfault 31 line 7 (today 24, since its functions can't be called yet)\n",
+    },
+    Explanation {
+        number: 32,
+        title: "a return while a buffer is held",
+        text: "fault 32: a return while a buffer is held\n\nWhat a Get gave is released on each way (JNI Specification, chapter 4, \"Array Operations\" and \"String Operations\"). Release it before the return.\n\n    JNIEXPORT void JNICALL Java_A_f(JNIEnv *env, jclass cls, jintArray array)\n    {\n        jint *numbers = (*env)->GetIntArrayElements(env, array, NULL);\n        if (numbers == NULL) {\n            return;\n        }\n        numbers[0] = 1;\n        return;\n    }\n\nfault 32 line 8 (today 24, since its functions can't be called yet)\n",
+    },
+    Explanation {
+        number: 33,
+        title: "a buffer is lost",
+        text: "fault 33: a buffer is lost\n\nA Get is into a variable that holds no buffer, and a block ends with the buffers that it declares released (JNI Specification, chapter 4, \"Array Operations\"). Release it\nfirst.\n\n    JNIEXPORT void JNICALL Java_A_f(JNIEnv *env, jclass cls, jintArray array)\n    {\n        jint *numbers = (*env)->GetIntArrayElements(env, array, NULL);\n        numbers = (*env)->GetIntArrayElements(env, array, NULL);\n        if (numbers == NULL) {\n            return;\n        }\n        (*env)->ReleaseIntArrayElements(env, array, numbers, JNI_ABORT);\n        return;\n    }\n\nfault 33 line 4 (today 24, since its functions can't be called yet)\n",
+    },
+    Explanation {
+        number: 34,
+        title: "a buffer isn't tested",
+        text: "fault 34: a buffer isn't tested\n\nA Get answers NULL where it has no memory, so its buffer is compared with NULL before it is read, written or released (JNI Specification, chapter 4,\nGet<PrimitiveType>ArrayElements). Put the comparison behind the Get.\n\n    JNIEXPORT void JNICALL Java_A_f(JNIEnv *env, jclass cls, jintArray array)\n    {\n        jint *numbers = (*env)->GetIntArrayElements(env, array, NULL);\n        (*env)->ReleaseIntArrayElements(env, array, numbers, JNI_ABORT);\n        return;\n    }\n\nfault 34 line 4 (today 24, since its functions can't be called yet)\n",
+    },
+    Explanation {
+        number: 35,
+        title: "a buffer that holds nothing is used",
+        text: "fault 35: a buffer that holds nothing is used\n\nA buffer is tested, read, written and released between its Get and its release (JNI Specification, chapter 4, \"Array Operations\").\n\n    JNIEXPORT void JNICALL Java_A_f(JNIEnv *env, jclass cls)\n    {\n        jint *numbers = NULL;\n        put_jint(numbers[0]);\n        return;\n    }\n\nfault 35 line 4\n",
+    },
+    Explanation {
+        number: 36,
+        title: "a return inside a frame",
+        text: "fault 36: a return inside a frame\n\nA function returns in the frame that it was called in (JNI Specification, chapter 4, \"PushLocalFrame\"). Call PopLocalFrame first.\n\n    JNIEXPORT void JNICALL Java_A_f(JNIEnv *env, jclass cls)\n    {\n        if ((*env)->PushLocalFrame(env, 1) == 0) {\n            return;\n        }\n        return;\n    }\n\nfault 36 line 4 (today 24, since its functions can't be called yet)\n",
+    },
+    Explanation {
+        number: 37,
+        title: "the first frame is popped",
+        text: "fault 37: the first frame is popped\n\nPopLocalFrame ends a frame that the function itself has begun (JNI Specification, chapter 4, \"PopLocalFrame\"). Take it out.\n\n    JNIEXPORT void JNICALL Java_A_f(JNIEnv *env, jclass cls)\n    {\n        (*env)->PopLocalFrame(env, NULL);\n        return;\n    }\n\nfault 37 line 3 (today 24, since its functions can't be called yet)\n",
+    },
+    Explanation {
+        number: 38,
+        title: "a dead reference is used",
+        text: "fault 38: a dead reference is used\n\nA deleted reference, and one of a frame that was popped, refers to nothing (JNI Specification, chapter 4, \"DeleteLocalRef\" and \"PopLocalFrame\"). Delete it behind its last use.\n\n    JNIEXPORT void JNICALL Java_A_f(JNIEnv *env, jclass cls, jobject object)\n    {\n        (*env)->DeleteLocalRef(env, object);\n        jclass found = (*env)->GetObjectClass(env, object);\n        return;\n    }\n\nfault 38 line 4 (today 24, since its functions can't be called yet)\n",
+    },
+    Explanation {
+        number: 39,
+        title: "the array of a held buffer is lost",
+        text: "fault 39: the array of a held buffer is lost\n\nThe release wants the array, so its variable is a local one and isn't set, deleted or popped before (JNI Specification, chapter 4, Release<PrimitiveType>ArrayElements).\nRelease the buffer first.\n\n    JNIEXPORT void JNICALL Java_A_f(JNIEnv *env, jclass cls, jintArray array)\n    {\n        jint *numbers = (*env)->GetIntArrayElements(env, array, NULL);\n        if (numbers == NULL) {\n            return;\n        }\n        array = NULL;\n        (*env)->ReleaseIntArrayElements(env, array, numbers, 0);\n        return;\n    }\n\nfault 39 line 7 (today 24, since its functions can't be called yet)\n",
+    },
+    Explanation {
+        number: 40,
+        title: "ways that meet don't agree",
+        text: "fault 40: ways that meet don't agree\n\nWhere the ways of an if join, and at the end of a while's body, each variable is in the state that it has on the other way, and as many frames are pushed: what may be done behind it\ncan't hang on the way taken. The line is that of the if or while. Do the same on the other way.\n\n    JNIEXPORT void JNICALL Java_A_f(JNIEnv *env, jclass cls, jobject object, jint n)\n    {\n        if (n != 0) {\n            (*env)->DeleteLocalRef(env, object);\n        }\n        return;\n    }\n\nfault 40 line 3 (today 24, since its functions can't be called yet)\n",
+    },
+    Explanation {
+        number: 41,
+        title: "a reference is set in another frame",
+        text: "fault 41: a reference is set in another frame\n\nA reference that a call gives belongs to the frame that is pushed then, and its variable to that of its declaration (JNI Specification, chapter 4, \"PushLocalFrame\"). Declare a variable in the\nframe, or give the reference to PopLocalFrame.\n\n    JNIEXPORT void JNICALL Java_A_f(JNIEnv *env, jclass cls)\n    {\n        jobject object = NULL;\n        if ((*env)->PushLocalFrame(env, 1) == 0) {\n            object = (*env)->NewLocalRef(env, cls);\n            (*env)->PopLocalFrame(env, NULL);\n        }\n        return;\n    }\n\nfault 41 line 5 (today 24, since its functions can't be called yet)\n",
+    },
+    Explanation {
+        number: 42,
+        title: "a way doesn't end with return, or a statement is reached by none",
+        text: "fault 42: a way doesn't end with `return`, or a statement is reached by none\n\nC99 (6.9.1) lets a caller use the result of a function that ended without one, and leaves it undefined. Put a return at the end; take out what stands behind an if of which both\nways return.\n\n    JNIEXPORT jint JNICALL Java_A_f(JNIEnv *env, jclass cls, jint n)\n    {\n        if (n > 0) {\n            return n;\n        }\n    }\n\nfault 42 line 6\n",
+    },
+    Explanation {
+        number: 51,
+        title: "a function is too long",
+        text: "fault 51: a function is too long\n\nIts code has more than 65,535 instructions, which are its steps, each counted once. It has line 0. Split the function.\n\n    JNIEXPORT void JNICALL Java_A_f(JNIEnv *env, jclass cls)\n    {\n        put_jint(1);\n        return;\n    }\n\nLine 3 for each number from 1 to 32768: fault 51 line 0\n",
+    },
+    Explanation {
+        number: 61,
+        title: "a class has the name of another",
+        text: "fault 61: a class has the name of another\n\nThe classes of a world and the built-in ones have a name each (JNI Specification, chapter 4, \"FindClass\"). Choose another.\n\n    JNIEXPORT jint JNICALL Java_A_f(JNIEnv *env, jclass cls)\n    {\n        return 0;\n    }\n\n    heap 512\n    class A\n    class A\n    thread Java_A_f\n\nfault 61 line 3\n",
+    },
+    Explanation {
+        number: 62,
+        title: "a superclass isn't there",
+        text: "fault 62: a superclass isn't there\n\nThe superclass of a class is defined on a line before it, or built in, and classes may extend it. Define it first, or mend its name. No world earns this fault today:\nextends can't be written yet (81).\n",
+    },
+    Explanation {
+        number: 63,
+        title: "a field isn't one that its class can have",
+        text: "fault 63: a field isn't one that its class can have\n\nA field or static has a signature that the JNI knows (JNI Specification, chapter 3, \"Type Signatures\"), in the part that docs/LANGUAGE.md allows, and no other of its class has its\nname and signature. Mend the signature, or choose another name. No world earns this fault today: field and static lines can't be written yet (81).\n",
+    },
+    Explanation {
+        number: 64,
+        title: "too many classes",
+        text: "fault 64: too many classes\n\nThere are at most 256 classes, the built-in ones and the array class of each among them. The line is that of the first that is too many. Leave some out.\n\n    JNIEXPORT jint JNICALL Java_A_f(JNIEnv *env, jclass cls)\n    {\n        return 0;\n    }\n\n    heap 4096\n    class A\n    class C1\n    thread Java_A_f\n\nLine 3 for each number from 1 to 107: fault 64 line 109\n",
+    },
+    Explanation {
+        number: 81,
+        title: "a line or a word has no form",
+        text: "fault 81: a line or a word has no form\n\nREADME has the forms of lines and words and their order.\n\n    JNIEXPORT jint JNICALL Java_A_f(JNIEnv *env, jclass cls)\n    {\n        return 0;\n    }\n\n    heap 512\n    class A\n    threads Java_A_f\n\nfault 81 line 3\n",
+    },
+    Explanation {
+        number: 82,
+        title: "a name or a thread isn't there, or a call doesn't fit",
+        text: "fault 82: a name or a thread isn't there, or a call doesn't fit\n\nA call names a function of the program, whose class the world has, and gives what its parameters take; an array's name is its own; a schedule's or journal's word names a thread. Mend the\nname, the call or the word.\n\n    JNIEXPORT jint JNICALL Java_A_f(JNIEnv *env, jclass cls)\n    {\n        return 0;\n    }\n\n    heap 512\n    class A\n    thread Java_A_g\n\nfault 82 line 3\n\n    heap 512\n    class A\n    thread Java_A_f\n\n    1 2\n\nfault 82 line 1\n",
+    },
+    Explanation {
+        number: 83,
+        title: "a number is out of its limit",
+        text: "fault 83: a number is out of its limit\n\nA heap has 512 to 1,048,576 cells, a jint or an element the range of its type, a text of words at most 1,000,000 of them. Take a smaller or a larger one.\n\n    JNIEXPORT jint JNICALL Java_A_f(JNIEnv *env, jclass cls)\n    {\n        return 0;\n    }\n\n    heap 511\n    class A\n    thread Java_A_f\n\nfault 83 line 1\n",
+    },
+    Explanation {
+        number: 84,
+        title: "the heap is too small",
+        text: "fault 84: the heap is too small\n\nThe line is that of the first class or array that has no room: three cells an object and one for each value; a class takes two objects. Raise the heap line's number.\n\n    JNIEXPORT jint JNICALL Java_A_f(JNIEnv *env, jclass cls)\n    {\n        return 0;\n    }\n\n    heap 512\n    class A\n    array @a I 0 0 0 0 0 0 0 0 0 0 0 0 0 0 0 0 0 0 0 0 0 0 0 0 0 0 0 0 0 0 0 0 0 0 0 0 0 0 0 0 0 0 0 0 0 0 0 0 0 0 0 0 0 0 0 0 0 0 0 0 0 0 0 0 0 0 0 0 0 0 0 0 0 0 0 0 0 0 0 0 0 0 0 0 0 0 0 0 0 0 0 0 0 0 0 0 0 0 0 0 0 0 0 0 0 0 0 0 0 0 0 0 0 0 0 0 0 0 0 0 0 0 0 0 0 0 0 0 0 0 0 0 0 0 0 0 0 0 0 0 0 0 0 0 0 0 0 0 0 0 0 0 0 0 0 0 0 0 0 0 0 0 0 0 0 0 0 0 0 0 0 0 0 0 0 0 0 0 0 0 0 0 0 0 0 0 0 0 0 0 0 0 0 0 0 0 0 0 0 0 0 0 0 0 0 0 0 0 0 0 0 0 0 0 0 0 0 0 0 0 0 0 0 0 0 0 0 0 0 0 0 0 0 0 0 0 0 0 0 0 0 0 0 0 0 0 0 0 0 0 0 0 0 0 0 0 0 0 0 0 0 0 0 0 0 0 0 0 0 0 0 0 0 0 0 0 0 0 0 0 0 0 0 0 0 0 0 0 0 0 0 0 0 0 0 0 0 0 0 0 0 0 0 0 0 0 0 0 0 0 0 0 0 0 0 0 0 0 0 0 0 0 0 0 0 0 0 0 0 0 0 0 0 0 0 0 0 0 0 0 0 0 0 0 0 0 0 0 0 0 0 0 0 0 0 0 0 0 0 0 0 0 0 0 0 0 0 0 0 0 0 0 0 0\n    thread Java_A_f\n\nfault 84 line 3\n",
+    },
+    Explanation {
+        number: 91,
+        title: "an entry of a journal isn't possible",
+        text: "fault 91: an entry of a journal isn't possible\n\nThe entry, counted from 1, is the first that no step goes with: the thread has ended, or allocates nothing that could be refused. Replay a journal with the program and the world that it\ncame from. Here the thread ends with its third step.\n\n    JNIEXPORT jint JNICALL Java_A_f(JNIEnv *env, jclass cls)\n    {\n        return 0;\n    }\n\n    heap 512\n    class A\n    thread Java_A_f\n\n    1 1 1 1\n\nfault 91 entry 4\n",
+    },
+];
+
+/// The traps, by rising numbers.
+pub static TRAPS: [Explanation; 9] = [
+    Explanation {
+        number: 1,
+        title: "a division or a remainder by zero",
+        text: "trap 1: a division or a remainder by zero\n\nC99 (6.5.5) leaves it undefined. Test the divisor first.\n\n    JNIEXPORT void JNICALL Java_A_f(JNIEnv *env, jclass cls, jint n)\n    {\n        put_jint((jint)(1u / (uint32_t)n));\n        return;\n    }\n\n    heap 512\n    class A\n    thread Java_A_f 0\n\nT1 trap 1 line 3\n",
+    },
+    Explanation {
+        number: 2,
+        title: "a shift by 32 or more",
+        text: "trap 2: a shift by 32 or more\n\nC99 (6.5.7) leaves it undefined. Test the right operand first, or take it & 31u.\n\n    JNIEXPORT void JNICALL Java_A_f(JNIEnv *env, jclass cls, jint n)\n    {\n        put_jint((jint)(1u << (uint32_t)n));\n        return;\n    }\n\n    heap 512\n    class A\n    thread Java_A_f 32\n\nT1 trap 2 line 3\n",
+    },
+    Explanation {
+        number: 3,
+        title: "an element past the end",
+        text: "trap 3: an element past the end\n\nC99 (6.5.6) leaves it undefined. A jint below zero is past the end too. Test the index first.\n\n    JNIEXPORT void JNICALL Java_A_f(JNIEnv *env, jclass cls, jint n)\n    {\n        jint numbers[2] = {0};\n        numbers[n] = 1;\n        return;\n    }\n\n    heap 512\n    class A\n    thread Java_A_f 2\n\nT1 trap 3 line 4\n",
+    },
+    Explanation {
+        number: 4,
+        title: "NULL where an object is wanted",
+        text: "trap 4: NULL where an object is wanted\n\nThe JNI doesn't check its arguments (JNI Specification, chapter 2, \"Reporting Programming Errors\"). Test the reference first.\n\n    JNIEXPORT void JNICALL Java_A_f(JNIEnv *env, jclass cls, jintArray array)\n    {\n        jint length = (*env)->GetArrayLength(env, array);\n        return;\n    }\n\n    heap 512\n    class A\n    thread Java_A_f null\n\nT1 trap 4 line 3\n",
+    },
+    Explanation {
+        number: 5,
+        title: "a call while an exception is pending",
+        text: "trap 5: a call while an exception is pending\n\nOnly the functions that ask for an exception, clear it or release what is held may be called then (JNI Specification, chapter 2, \"Exceptions\"). Test for the exception after the call that may throw\nit, and return or clear it. No run earns this trap today: none of the functions that leave an exception pending can be called yet.\n",
+    },
+    Explanation {
+        number: 6,
+        title: "an object isn't of the kind that is wanted",
+        text: "trap 6: an object isn't of the kind that is wanted\n\nWhat is wanted stands with each function (JNI Specification, chapter 4): an array, for GetArrayLength. Give an object of that kind.\n\n    JNIEXPORT void JNICALL Java_A_f(JNIEnv *env, jclass cls, jobject object)\n    {\n        jint length = (*env)->GetArrayLength(env, object);\n        return;\n    }\n\n    heap 512\n    class A\n    thread Java_A_f class:A\n\nT1 trap 6 line 3\n",
+    },
+    Explanation {
+        number: 7,
+        title: "a deleted global reference",
+        text: "trap 7: a deleted global reference\n\nWhat DeleteGlobalRef was given refers to nothing (JNI Specification, chapter 4, \"DeleteGlobalRef\"). Delete it after its last use, and set the static to NULL. No run earns this trap today:\nNewGlobalRef and DeleteGlobalRef can't be called yet.\n",
+    },
+    Explanation {
+        number: 8,
+        title: "no room for a local reference",
+        text: "trap 8: no room for a local reference\n\nA frame holds 16 local references or as many as it was made or grown for (JNI Specification, chapter 4, \"EnsureLocalCapacity\" and \"PushLocalFrame\"). Delete references that aren't used any more, or ask for\nthe room first. No run earns this trap today: no function that gives a reference can be called yet.\n",
+    },
+    Explanation {
+        number: 9,
+        title: "FatalError",
+        text: "trap 9: FatalError\n\nThe program has called FatalError, which doesn't return (JNI Specification, chapter 4, \"FatalError\"). No run earns this trap today: FatalError can't be called yet.\n",
+    },
+];

@@ -1,0 +1,24 @@
+-- What is said on standard error, as how a command goes.
+use Rattle.std.proofs.Common.{◌≡◌, ℕ, List, ◌++◌, Result, Ok, Err, inl, inr, refl, subst}
+use Rattle.std.specs.Prelude.{codes}
+use Rattle.world.specs.Sink.{Written, AppendsText, Writes}
+use Rattle.jnirun.specs.declared.command.Command.{Command}
+use Rattle.jnirun.specs.declared.fault.Place.{Place}
+use Rattle.jnirun.specs.declared.fault.Text.{Text}
+use Rattle.jnirun.specs.Commands.{name_of, text_of, text_at}
+use Rattle.jnirun.specs.Serve.{Tells, TextsEarn, fault_line, error_text, ServesTexts, is_refused}
+use Rattle.jnirun.specs.Telling.{told}
+
+-- a text that is written is told, or the sink failed within it
+pub tells : {T E : Type 0} (old new : Written) (r : Result T E) (text : List ℕ) → Writes old new r text → Tells old new text
+tells old new (Ok v) text h = inl h
+tells old new (Err e) text h = inr h
+
+-- a fault that is written and told is a refusal
+pub refused : (command : Command) (program world order : List ℕ) (number : ℕ) (place : Place) (words name text : List ℕ) (which : Text) (out out_after err err_after : Written) {T E : Type 0} (r : Result T E)
+    → which ≡ text_at place → name ≡ name_of command which → text ≡ text_of program world order which
+    → TextsEarn command program world order number place → AppendsText out out_after (fault_line number place) → out_after.waiting ≡ 0
+    → Writes err err_after r (told (codes "error") name text number place words) → ServesTexts command program world order out out_after err err_after 1
+refused command program world order number place words name text which out out_after err err_after r at named is earned appended none h =
+    let same : told (codes "error") name text number place words ≡ error_text command program world order number place words = rw (named, is, at) refl in
+    is_refused number place words earned appended none (tells err err_after r (error_text command program world order number place words) (subst (λ (t : List ℕ). Writes err err_after r t) same h))

@@ -1,0 +1,151 @@
+//! The commands over any files and sinks.
+
+ghost use Rattle.std.specs.Prelude.{◌≡◌};
+ghost use Rattle.world.specs.Sink.{CanFail};
+ghost use Rattle.jnirun.specs.Checks.{PassesCheck, FailsCheck};
+ghost use Rattle.jnirun.specs.Runs.{RunsTexts};
+ghost use Rattle.jnirun.specs.Serve.{TextsWrite, TextsEarn, passed, ServesTexts, Serves};
+
+use crate::checking::check_text;
+use crate::command::Command;
+use crate::fault::{Place, RunError};
+use crate::files::{FileFault, Files, Texts, read_texts};
+use crate::replaying::replay_text;
+use crate::run::run_text;
+use crate::saying::{fail, say, say_fault};
+use crate::telling::tell;
+use std::alloc::Global;
+use world::Sink;
+
+/// The command is done.
+pub const DONE: u8 = 0;
+/// A text is refused.
+pub const REFUSED: u8 = 1;
+/// The words ask for nothing that there is.
+pub const COMMAND_LINE: u8 = 2;
+/// Memory, a file or a writer failed.
+pub const FAILED: u8 = 3;
+
+/// Checks a program, and says `ok` where it passes.
+fn check_and_say<W: Sink>(alloc: Global, program: &[u8], out: &mut W) -> Result<(), RunError>
+    requires { CanFail (W.written out.old) }
+    ensures { RunsTexts (W.written out.old) (W.written out.new) result (λ text. PassesCheck program.now × (text ≡ passed)) (FailsCheck program.now) }
+{
+    match check_text(alloc, program) {
+        Ok(()) => {}
+        Err(error) => return Err(error),
+    }
+    match say(out, b"ok\n") {
+        Ok(()) => Ok(()),
+        Err(_) => Err(RunError::Writer),
+    }
+}
+
+/// Checks, runs or replays.
+fn run_texts<W: Sink>(
+    alloc: Global,
+    command: Command<'_>,
+    texts: &Texts,
+    out: &mut W,
+) -> Result<(), RunError>
+    requires { CanFail (W.written out.old) }
+    ensures { RunsTexts (W.written out.old) (W.written out.new) result
+        (TextsWrite command.entry texts.now.program.items texts.now.world.items texts.now.order.items)
+        (TextsEarn command.entry texts.now.program.items texts.now.world.items texts.now.order.items) }
+{
+    match command {
+        Command::Check { .. } => check_and_say(alloc, &texts.program, out),
+        Command::Run { .. } => run_text(alloc, &texts.program, &texts.world, &texts.order, out),
+        Command::Replay { .. } => {
+            replay_text(alloc, &texts.program, &texts.world, &texts.order, out)
+        }
+    }
+}
+
+/// What a fault is, in a few words.
+fn words_of(number: u32) -> &'static str {
+    match explanations::fault(number) {
+        Some(explanation) => explanation.title,
+        None => "the text is refused",
+    }
+}
+
+/// Writes the line of a fault, and tells where and why a text is refused.
+fn refuse<O: Sink, E: Sink>(
+    command: Command<'_>,
+    texts: &Texts,
+    number: u32,
+    place: Place,
+    out: &mut O,
+    err: &mut E,
+) -> u8
+    requires out { CanFail (O.written out.old) }
+    requires err { CanFail (E.written err.old) }
+    requires earned { TextsEarn command texts.now.program.items texts.now.world.items texts.now.order.items number place }
+    ensures { ServesTexts command.entry texts.now.program.items texts.now.world.items texts.now.order.items
+        (O.written out.old) (O.written out.new) (E.written err.old) (E.written err.new) result }
+{
+    match say_fault(out, number, place) {
+        Ok(()) => {
+            let text = place.text();
+            let name = command.name_of(text).as_bytes();
+            let _ = tell(
+                err,
+                b"error",
+                name,
+                texts.of(text),
+                number,
+                place,
+                words_of(number).as_bytes(),
+            );
+            REFUSED
+        }
+        Err(_) => fail(err, b"writer\n"),
+    }
+}
+
+/// Checks, runs or replays, and says how it went.
+fn serve_texts<O: Sink, E: Sink>(
+    alloc: Global,
+    command: Command<'_>,
+    texts: &Texts,
+    out: &mut O,
+    err: &mut E,
+) -> u8
+    requires out { CanFail (O.written out.old) }
+    requires err { CanFail (E.written err.old) }
+    ensures { ServesTexts command.entry texts.now.program.items texts.now.world.items texts.now.order.items
+        (O.written out.old) (O.written out.new) (E.written err.old) (E.written err.new) result }
+{
+    match run_texts(alloc, command, texts, out) {
+        Ok(()) => DONE,
+        Err(RunError::Fault(number, place)) => refuse(command, texts, number, place, out, err),
+        Err(RunError::Memory) => fail(err, b"memory\n"),
+        Err(RunError::Writer) => fail(err, b"writer\n"),
+        // No file is read there.
+        Err(RunError::File) => unreachable!(),
+    }
+}
+
+/// Does what a command asks for, and answers the program's status: 0 done, 1 a text is refused, 3 memory, a file or a
+/// writer failed.
+///
+/// Standard output gets what the command writes, or the line of a fault; standard error gets where and why a text is refused,
+/// with the line of that text, or one word for what failed. That standard error fails changes no status.
+pub fn serve<F: Files, O: Sink, E: Sink>(
+    alloc: Global,
+    command: Command<'_>,
+    files: &mut F,
+    out: &mut O,
+    err: &mut E,
+) -> u8
+    requires out { CanFail (O.written out.old) }
+    requires err { CanFail (E.written err.old) }
+    ensures { Serves (F.gives files.old) command.entry (O.written out.old) (O.written out.new) (E.written err.old) (E.written err.new) result }
+{
+    match read_texts(alloc, files, command) {
+        Ok(texts) => serve_texts(alloc, command, &texts, out, err),
+        Err(FileFault::Memory) => fail(err, b"memory\n"),
+        Err(FileFault::File) => fail(err, b"file\n"),
+    }
+}
