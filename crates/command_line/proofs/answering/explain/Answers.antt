@@ -6,5 +6,5 @@ use Rattle.command_line.proofs.answering.explain.Goals as goal
 pub returns-in-Some : goal.returns-in-Some
 returns-in-Some g c = rw c.in-Some.is c.show.ensures
 
-pub returns : goal.returns
-returns g c = rw c.in-None.is (is_none _ (λ t h. h) refl (tells (g.E.Sink.written c.args.err.now) (g.E.Sink.written c.say.new.sink) c.say.result _ c.say.ensures.text))
+pub returns-in-None : goal.returns-in-None
+returns-in-None g c = rw c.in-None.is (is_none _ (λ t h. h) refl (tells (g.E.Sink.written c.args.err.now) (g.E.Sink.written c.say.new.sink) c.say.result _ c.say.ensures.text))
