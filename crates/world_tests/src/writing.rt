@@ -4,8 +4,8 @@ use std::io;
 use std::io::{ErrorKind, Write};
 use std::test::Fail;
 use world::{
-    ClassName, Entry, NoRows, Printed, Shown, Sink, SinkFailed, StdSink, ThreadStatus, put_all,
-    put_pieces, put_row_end, put_row_head, put_value, write_journal, write_report, write_run,
+    Entry, NoRows, Printed, Sink, SinkFailed, StdSink, ThreadStatus, write_journal, write_report,
+    write_run,
 };
 
 /// A sink that takes one byte a call, and fails after `room` bytes.
@@ -167,57 +167,5 @@ fn a_failing_writer_has_a_beginning(rt: HostRuntime) -> Result<(), Fail> {
         assert!(rt; failed && sink.failures() == 1);
         assert!(rt; sink.into_inner().taken.as_slice() == &TEXT[..room]);
     }
-    Ok(())
-}
-
-/// Entries of the threads 1 to 8 in turn, each third refused, and their line.
-#[test]
-fn a_long_journal(rt: HostRuntime) -> Result<(), Fail> {
-    let mut entries = Vec::new(rt.alloc());
-    let mut line = Vec::from_slice(rt.alloc(), b"journal")?;
-    for index in 0..5000 {
-        let thread = 1 + (index % 8) as u8;
-        let refused = index % 3 == 0;
-        entries.push(Entry { thread, refused })?;
-        line.extend_from_slice(&[b' ', b'0' + thread])?;
-        if refused {
-            line.push(b'!')?;
-        }
-    }
-    line.push(b'\n')?;
-    let mut sink = Slow {
-        taken: Vec::new(rt.alloc()),
-        room: 100_000,
-        failures: 0,
-    };
-    write_journal(&mut sink, &entries)?;
-    assert!(rt; sink.taken.as_slice() == line.as_slice());
-    Ok(())
-}
-
-#[test]
-fn a_row(rt: HostRuntime) -> Result<(), Fail> {
-    let mut sink = Slow {
-        taken: Vec::new(rt.alloc()),
-        room: 1000,
-        failures: 0,
-    };
-    put_row_head(&mut sink, 46, ClassName::Array(b"A"))?;
-    for value in [
-        Shown::Number(-8),
-        Shown::Null,
-        Shown::Class(ClassName::Plain(b"A")),
-        Shown::Class(ClassName::Array(b"A")),
-        Shown::Object(47),
-    ] {
-        put_value(&mut sink, value)?;
-    }
-    put_row_end(&mut sink)?;
-    put_row_head(&mut sink, 47, ClassName::Plain(b"A"))?;
-    put_all(&mut sink, b" ")?;
-    put_pieces(&mut sink, &[b"x", b"", b"yz"])?;
-    assert!(rt;
-        sink.taken.as_slice() == b"#46 [LA; -8 null class:A class:[LA; #47\n#47 A xyz".as_slice()
-    );
     Ok(())
 }
