@@ -27,7 +27,7 @@ pub static FAULTS: [Explanation; 37] = [
     Explanation {
         number: 11,
         title: "a token that no accepted text can have here",
-        text: "fault 11: a token that no accepted text can have here\n\nThe text isn't of the grammar (docs/LANGUAGE.md). The line is that of the first token from which it can't go on, so a ; that is missing is told at the token behind.\n\n    JNIEXPORT void JNICALL Java_A_f(JNIEnv *env, jclass cls)\n    {\n        put_jint(1)\n        return;\n    }\n\nfault 11 line 4\n",
+        text: "fault 11: a token that no accepted text can have here\n\nThe text isn't of the grammar (docs/LANGUAGE.md). The line is that of the first token from which it can't go on, so a ; that is missing is told at the token after it.\n\n    JNIEXPORT void JNICALL Java_A_f(JNIEnv *env, jclass cls)\n    {\n        put_jint(1)\n        return;\n    }\n\nfault 11 line 4\n",
     },
     Explanation {
         number: 12,
@@ -42,7 +42,7 @@ pub static FAULTS: [Explanation; 37] = [
     Explanation {
         number: 21,
         title: "a name isn't known",
-        text: "fault 21: a name isn't known\n\nA variable is known behind its declaration, to the end of its block (C99 6.2.1). A function's name is that of a native method (JNI Specification, chapter 2, \"Resolving\nNative Method Names\"). Declare the variable first, or mend the name.\n\n    JNIEXPORT void JNICALL Java_A_f(JNIEnv *env, jclass cls)\n    {\n        put_jint(n);\n        return;\n    }\n\nfault 21 line 3\n",
+        text: "fault 21: a name isn't known\n\nA variable is known after its declaration, to the end of its block (C99 6.2.1). A function's name is that of a native method (JNI Specification, chapter 2, \"Resolving\nNative Method Names\"). Declare the variable first, or mend the name.\n\n    JNIEXPORT void JNICALL Java_A_f(JNIEnv *env, jclass cls)\n    {\n        put_jint(n);\n        return;\n    }\n\nfault 21 line 3\n",
     },
     Explanation {
         number: 22,
@@ -62,7 +62,7 @@ pub static FAULTS: [Explanation; 37] = [
     Explanation {
         number: 25,
         title: "a wrong number of arguments",
-        text: "fault 25: a wrong number of arguments\n\nGive as many as the function has parameters behind env (JNI Specification, chapter 4).\n\n    JNIEXPORT void JNICALL Java_A_f(JNIEnv *env, jclass cls)\n    {\n        jint length = (*env)->GetArrayLength(env);\n        return;\n    }\n\nfault 25 line 3\n",
+        text: "fault 25: a wrong number of arguments\n\nGive as many as the function has parameters after env (JNI Specification, chapter 4).\n\n    JNIEXPORT void JNICALL Java_A_f(JNIEnv *env, jclass cls)\n    {\n        jint length = (*env)->GetArrayLength(env);\n        return;\n    }\n\nfault 25 line 3\n",
     },
     Explanation {
         number: 26,
@@ -82,7 +82,7 @@ pub static FAULTS: [Explanation; 37] = [
     Explanation {
         number: 31,
         title: "a call or a print while a buffer is critical",
-        text: "fault 31: a call or a print while a buffer is critical\n\nFrom a critical Get to its release only critical Gets and releases are called, and nothing is printed, since a virtual machine may keep its collector waiting all the while\n(JNI Specification, chapter 4, \"GetPrimitiveArrayCritical\"). Keep what the buffer has in a variable, and call or print behind the release.\n\n    JNIEXPORT void JNICALL Java_A_f(JNIEnv *env, jclass cls, jintArray array)\n    {\n        jint *numbers = (*env)->GetPrimitiveArrayCritical(env, array, NULL);\n        if (numbers == NULL) {\n            return;\n        }\n        put_jint(numbers[0]);\n        (*env)->ReleasePrimitiveArrayCritical(env, array, numbers, JNI_ABORT);\n        return;\n    }\n\nfault 31 line 7 (today 24, since its functions can't be called yet)\n",
+        text: "fault 31: a call or a print while a buffer is critical\n\nFrom a critical Get to its release only critical Gets and releases are called, and nothing is printed, since a virtual machine may keep its collector waiting all the while\n(JNI Specification, chapter 4, \"GetPrimitiveArrayCritical\"). Keep what the buffer has in a variable, and call or print after the release.\n\n    JNIEXPORT void JNICALL Java_A_f(JNIEnv *env, jclass cls, jintArray array)\n    {\n        jint *numbers = (*env)->GetPrimitiveArrayCritical(env, array, NULL);\n        if (numbers == NULL) {\n            return;\n        }\n        put_jint(numbers[0]);\n        (*env)->ReleasePrimitiveArrayCritical(env, array, numbers, JNI_ABORT);\n        return;\n    }\n\nfault 31 line 7 (today 24, since its functions can't be called yet)\n",
     },
     Explanation {
         number: 32,
@@ -97,7 +97,7 @@ pub static FAULTS: [Explanation; 37] = [
     Explanation {
         number: 34,
         title: "a buffer isn't tested",
-        text: "fault 34: a buffer isn't tested\n\nA Get answers NULL where it has no memory, so its buffer is compared with NULL before it is read, written or released (JNI Specification, chapter 4,\nGet<PrimitiveType>ArrayElements). Put the comparison behind the Get.\n\n    JNIEXPORT void JNICALL Java_A_f(JNIEnv *env, jclass cls, jintArray array)\n    {\n        jint *numbers = (*env)->GetIntArrayElements(env, array, NULL);\n        (*env)->ReleaseIntArrayElements(env, array, numbers, JNI_ABORT);\n        return;\n    }\n\nfault 34 line 4 (today 24, since its functions can't be called yet)\n",
+        text: "fault 34: a buffer isn't tested\n\nA Get answers NULL where it has no memory, so its buffer is compared with NULL before it is read, written or released (JNI Specification, chapter 4,\nGet<PrimitiveType>ArrayElements). Put the comparison after the Get.\n\n    JNIEXPORT void JNICALL Java_A_f(JNIEnv *env, jclass cls, jintArray array)\n    {\n        jint *numbers = (*env)->GetIntArrayElements(env, array, NULL);\n        (*env)->ReleaseIntArrayElements(env, array, numbers, JNI_ABORT);\n        return;\n    }\n\nfault 34 line 4 (today 24, since its functions can't be called yet)\n",
     },
     Explanation {
         number: 35,
@@ -117,7 +117,7 @@ pub static FAULTS: [Explanation; 37] = [
     Explanation {
         number: 38,
         title: "a dead reference is used",
-        text: "fault 38: a dead reference is used\n\nA deleted reference, and one of a frame that was popped, refers to nothing (JNI Specification, chapter 4, \"DeleteLocalRef\" and \"PopLocalFrame\"). Delete it behind its last use.\n\n    JNIEXPORT void JNICALL Java_A_f(JNIEnv *env, jclass cls, jobject object)\n    {\n        (*env)->DeleteLocalRef(env, object);\n        jclass found = (*env)->GetObjectClass(env, object);\n        return;\n    }\n\nfault 38 line 4 (today 24, since its functions can't be called yet)\n",
+        text: "fault 38: a dead reference is used\n\nA deleted reference, and one of a frame that was popped, refers to nothing (JNI Specification, chapter 4, \"DeleteLocalRef\" and \"PopLocalFrame\"). Delete it after its last use.\n\n    JNIEXPORT void JNICALL Java_A_f(JNIEnv *env, jclass cls, jobject object)\n    {\n        (*env)->DeleteLocalRef(env, object);\n        jclass found = (*env)->GetObjectClass(env, object);\n        return;\n    }\n\nfault 38 line 4 (today 24, since its functions can't be called yet)\n",
     },
     Explanation {
         number: 39,
@@ -127,7 +127,7 @@ pub static FAULTS: [Explanation; 37] = [
     Explanation {
         number: 40,
         title: "ways that meet don't agree",
-        text: "fault 40: ways that meet don't agree\n\nWhere the ways of an if join, and at the end of a while's body, each variable is in the state that it has on the other way, and as many frames are pushed: what may be done behind it\ncan't hang on the way taken. The line is that of the if or while. Do the same on the other way.\n\n    JNIEXPORT void JNICALL Java_A_f(JNIEnv *env, jclass cls, jobject object, jint n)\n    {\n        if (n != 0) {\n            (*env)->DeleteLocalRef(env, object);\n        }\n        return;\n    }\n\nfault 40 line 3 (today 24, since its functions can't be called yet)\n",
+        text: "fault 40: ways that meet don't agree\n\nWhere the ways of an if join, and at the end of a while's body, each variable is in the state that it has on the other way, and as many frames are pushed: what may be done after it\ncan't hang on the way taken. The line is that of the if or while. Do the same on the other way.\n\n    JNIEXPORT void JNICALL Java_A_f(JNIEnv *env, jclass cls, jobject object, jint n)\n    {\n        if (n != 0) {\n            (*env)->DeleteLocalRef(env, object);\n        }\n        return;\n    }\n\nfault 40 line 3 (today 24, since its functions can't be called yet)\n",
     },
     Explanation {
         number: 41,
@@ -137,7 +137,7 @@ pub static FAULTS: [Explanation; 37] = [
     Explanation {
         number: 42,
         title: "a way doesn't end with return, or a statement is reached by none",
-        text: "fault 42: a way doesn't end with `return`, or a statement is reached by none\n\nC99 (6.9.1) lets a caller use the result of a function that ended without one, and leaves it undefined. Put a return at the end; take out what stands behind an if of which both\nways return.\n\n    JNIEXPORT jint JNICALL Java_A_f(JNIEnv *env, jclass cls, jint n)\n    {\n        if (n > 0) {\n            return n;\n        }\n    }\n\nfault 42 line 6\n",
+        text: "fault 42: a way doesn't end with `return`, or a statement is reached by none\n\nC99 (6.9.1) lets a caller use the result of a function that ended without one, and leaves it undefined. Put a return at the end; take out what comes after an if of which both\nways return.\n\n    JNIEXPORT jint JNICALL Java_A_f(JNIEnv *env, jclass cls, jint n)\n    {\n        if (n > 0) {\n            return n;\n        }\n    }\n\nfault 42 line 6\n",
     },
     Explanation {
         number: 51,
