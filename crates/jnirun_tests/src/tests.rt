@@ -1,0 +1,179 @@
+//! Texts, files and writers.
+
+use jnirun::{
+    Command, DONE, FAILED, FileFault, Files, REFUSED, check_text, replay_text, run_text, serve,
+};
+use std::alloc::Global;
+use std::io;
+use std::io::{ErrorKind, Write};
+use world::StdSink;
+
+const PROGRAM: &[u8] = b"JNIEXPORT jint JNICALL Java_A_f(JNIEnv *env, jclass cls) { return 0; }";
+
+const OPEN: &[u8] =
+    b"JNIEXPORT void JNICALL Java_A_f(JNIEnv *env, jclass cls)\n{\n\tput_jint(1); }";
+
+const WORLD: &[u8] = b"heap 512\nclass A\nthread Java_A_f\n";
+
+const REPORT: &[u8] = b"T1 ended\njournal 1 1 1\n";
+
+const CHECK: Command = Command::Check { program: "p" };
+
+const RUN: Command = Command::Run {
+    program: "p",
+    world: "w",
+    schedule: "s",
+};
+
+const REPLAY: Command = Command::Replay {
+    program: "p",
+    world: "w",
+    journal: "j",
+};
+
+/// The files `p`, a program, `w`, a world, `s`, a schedule, and `j`, a journal; every other name fails.
+#[derive(Drop)]
+struct Folder {
+    program: &'static [u8],
+}
+
+impl Files for Folder {
+    ghost gives = { λ _ _ _. Unit {0} };
+
+    fn read(&mut self, alloc: Global, name: &str) -> Result<Vec<u8>, FileFault> {
+        let bytes = match name {
+            "p" => self.program,
+            "w" => WORLD,
+            "s" => b"1*9".as_slice(),
+            "j" => b"1 1 1".as_slice(),
+            _ => return Err(FileFault::File),
+        };
+        if bytes.len() > jnirun::MOST_BYTES {
+            return Err(FileFault::File);
+        }
+        Vec::from_slice(alloc, bytes).map_err(|_| FileFault::Memory)
+    }
+}
+
+/// A writer that takes at most `most` bytes a call, and fails after `room` bytes.
+#[derive(Drop)]
+struct Narrow {
+    taken: Vec<u8>,
+    most: usize,
+    room: usize,
+}
+
+impl Write for Narrow {
+    fn write(&mut self, bytes: &[u8]) -> io::Result<usize> {
+        if self.taken.len() >= self.room {
+            return Err(io::Error::from(ErrorKind::StorageFull));
+        }
+        let most = bytes.len().min(self.most).min(self.room - self.taken.len());
+        self.taken.extend_from_slice(&bytes[..most])?;
+        Ok(most)
+    }
+
+    fn flush(&mut self) -> io::Result<()> {
+        Ok(())
+    }
+}
+
+/// A writer of this width and room.
+fn writer_of(rt: &impl AllocGlobal, most: usize, room: usize) -> Narrow {
+    Narrow {
+        taken: Vec::new(rt.alloc()),
+        most,
+        room,
+    }
+}
+
+/// The status of a command, its output where that has this room, and what is said on standard error where that has this room.
+fn served(
+    rt: &impl AllocGlobal,
+    command: Command<'_>,
+    program: &'static [u8],
+    room: usize,
+    err_room: usize,
+) -> (u8, Vec<u8>, Vec<u8>) {
+    let mut files = Folder { program };
+    let mut out = StdSink::new(writer_of(rt, 1, room));
+    let mut err = StdSink::new(writer_of(rt, 1, err_room));
+    let status = serve(rt.alloc(), command, &mut files, &mut out, &mut err);
+    (status, out.into_inner().taken, err.into_inner().taken)
+}
+
+#[test]
+fn texts(rt: HostRuntime) {
+    let mut ran = StdSink::new(writer_of(&rt, 4096, 4096));
+    let mut replayed = StdSink::new(writer_of(&rt, 4096, 4096));
+    assert!(rt; check_text(rt.alloc(), PROGRAM) == Ok(()));
+    assert!(rt; run_text(rt.alloc(), PROGRAM, WORLD, b"1*9", &mut ran) == Ok(()));
+    assert!(rt; replay_text(rt.alloc(), PROGRAM, WORLD, b"1 1 1", &mut replayed) == Ok(()));
+    assert!(rt; ran.into_inner().taken.as_slice() == REPORT);
+    assert!(rt; replayed.into_inner().taken.as_slice() == REPORT);
+}
+
+// Each output is one that takes a byte a call.
+#[test]
+fn commands(rt: HostRuntime) {
+    for (command, written) in [(CHECK, b"ok\n".as_slice()), (RUN, REPORT), (REPLAY, REPORT)] {
+        let (status, out, err) = served(&rt, command, PROGRAM, 4096, 4096);
+        assert!(rt; status == DONE && out.as_slice() == written && err.is_empty());
+    }
+}
+
+// The function ends without a `return`. The tab of the line is shown as a space.
+#[test]
+fn refusals(rt: HostRuntime) {
+    let told =
+        b"p:3: error 42: a way doesn't end with return, or a statement is reached by none\n     put_jint(1); }\n".as_slice();
+    for command in [CHECK, RUN, REPLAY] {
+        for (room, said) in [(4096, told), (10, &told[..10])] {
+            let (status, out, err) = served(&rt, command, OPEN, 4096, room);
+            assert!(rt;
+                status == REFUSED
+                    && out.as_slice() == b"fault 42 line 3\n".as_slice()
+                    && err.as_slice() == said
+            );
+        }
+    }
+}
+
+#[test]
+fn failing_writers(rt: HostRuntime) {
+    let cases = [
+        (CHECK, PROGRAM, 2, b"ok".as_slice()),
+        (RUN, PROGRAM, 12, b"T1 ended\njou".as_slice()),
+        (REPLAY, PROGRAM, 12, b"T1 ended\njou".as_slice()),
+        (RUN, OPEN, 8, b"fault 42".as_slice()),
+    ];
+    for (command, program, room, written) in cases {
+        let (status, out, err) = served(&rt, command, program, room, 4096);
+        assert!(rt;
+            status == FAILED
+                && out.as_slice() == written
+                && err.as_slice() == b"writer\n".as_slice()
+        );
+    }
+}
+
+#[test]
+fn missing_files(rt: HostRuntime) {
+    let commands = [
+        Command::Check { program: "x" },
+        Command::Run {
+            program: "p",
+            world: "x",
+            schedule: "s",
+        },
+        Command::Replay {
+            program: "p",
+            world: "w",
+            journal: "x",
+        },
+    ];
+    for command in commands {
+        let (status, out, err) = served(&rt, command, PROGRAM, 4096, 4096);
+        assert!(rt; status == FAILED && out.is_empty() && err.as_slice() == b"file\n".as_slice());
+    }
+}
