@@ -10,7 +10,7 @@ int main(int argc, char **argv)
 {
     FILE *file = argc == 2 ? fopen(argv[1], "rb") : NULL;
     uint8_t *text = malloc(MOST_BYTES);
-    struct jnirun_fault fault;
+    struct jnirun_fault fault = {0, 0};
     int32_t answer;
 
     if (file == NULL || text == NULL) {
