@@ -1,5 +1,6 @@
 -- What the layers answer, as what a replay does to the sink.
-use Rattle.std.proofs.Common.{◌≡◌, ℕ, List, None, Ok, Err, length, refl, sym, subst}
+use Rattle.std.proofs.Common.{◌≡◌, ℕ, List, Option, None, Result, Ok, Err, length, refl, sym, ap, ◌∙◌, subst}
+use Rattle.std.specs.Option.{option_map}
 use Rattle.syntax.specs.Tree.{SourceUnit}
 use Rattle.world.specs.declared.fault.ReadError.{ReadError}
 use Rattle.world.specs.declared.fault.ReadError.TheVariants as reading
@@ -13,9 +14,12 @@ use Rattle.world.specs.Sink.{Written}
 use Rattle.world.specs.WorldRules.{IsWorldText}
 use Rattle.regions.specs.Load.{first_load_fault}
 use Rattle.regions.specs.Run.{Writes}
+use Rattle.regions.specs.State.{State}
 use Rattle.replay.specs.declared.fault.ReplayFault.{ReplayFault}
 use Rattle.replay.specs.declared.fault.ReplayFault.TheVariants as replaying
-use Rattle.replay.specs.Replays.{WritesRun, IsStoppedBy, IsReplayable, IsFromOutside}
+use Rattle.replay.specs.Replays.{WritesRun, IsStoppedBy, IsReplayable, IsFromOutside, EndsBy}
+use Rattle.replay.specs.declared.state.TrapAt.{TrapAt}
+use Rattle.replay.specs.States.{trap_at}
 use Rattle.jnirun.specs.declared.fault.Place.TheVariants as place
 use Rattle.jnirun.specs.declared.fault.Text.TheVariants as which
 use Rattle.jnirun.specs.declared.fault.RunError.{RunError}
@@ -24,12 +28,12 @@ use Rattle.jnirun.specs.Errors.{of_reading, of_replay}
 use Rattle.jnirun.specs.Passes.{IsRefusal}
 use Rattle.jnirun.specs.Programs.{IsProgram}
 use Rattle.jnirun.specs.Runs.{RunsTexts}
-use Rattle.jnirun.specs.Replays.{ReplayMeaning, IsReplay, AreRefusedReplays, by_program, by_world, by_journal, by_load, by_entry, IsPossible, IsReplayOrFails}
+use Rattle.jnirun.specs.Replays.{ReplayMeaning, IsReplay, EndsReplay, AreRefusedReplays, by_program, by_world, by_journal, by_load, by_entry, IsPossible, IsReplayOrFails}
 
 -- the three texts, and what the sink had
 module _ (program world journal : List ℕ) (old : Written) where
   abbrev pub Refuses : RunError → Type 0
-  Refuses e = RunsTexts old old (Err e) (IsReplay program world journal) (AreRefusedReplays program world journal)
+  Refuses e = RunsTexts old old (Err e) (EndsReplay program world journal) (AreRefusedReplays program world journal)
 
   pub refused_program : (e : RunError) → IsRefusal program e → Refuses e
   refused_program Memory h = refl
@@ -59,16 +63,23 @@ module _ (program world journal : List ℕ) (old : Written) where
     abbrev pub is_replay : IsWorldText world (world_of_scene scene) → IsJournalText (length scene.threads) journal entries → first_load_fault unit (world_of_scene scene) ≡ None → (text : List ℕ) → Writes unit (world_of_scene scene) entries text → IsReplay program world journal text
     is_replay of_world of_journal l text writes = record { meaning = meaning_of l; of_world = of_world; of_journal = of_journal; writes = writes }
 
-    pub replayed : (new : Written) (x : Unit {0}) → new.waiting ≡ 0 → IsWorldText world (world_of_scene scene) → IsJournalText (length scene.threads) journal entries → WritesRun unit (world_of_scene scene) entries old new
-        → RunsTexts old new (Ok x) (IsReplay program world journal) (AreRefusedReplays program world journal)
-    replayed new x none of_world of_journal h = record { text = h.text; runs = is_replay of_world of_journal h.fits h.text h.is; appended = h.written; none_waits = none }
+    pub replayed : (new : Written) (trap : Option TrapAt) → EndsBy unit (world_of_scene scene) entries trap → new.waiting ≡ 0 → IsWorldText world (world_of_scene scene) → IsJournalText (length scene.threads) journal entries → WritesRun unit (world_of_scene scene) entries old new
+        → RunsTexts old new (Ok trap) (EndsReplay program world journal) (AreRefusedReplays program world journal)
+    replayed new trap ends none of_world of_journal h =
+        let same : h.is.end ≡ ends.end = cc (h.is.replays, ends.replays) in
+        record {
+          text = h.text;
+          runs = record { replay = is_replay of_world of_journal h.fits h.text h.is; stopped = ap (λ (end : State). option_map trap_at end.stop) same ∙ ends.stopped };
+          appended = h.written;
+          none_waits = none;
+        }
 
     pub stopped : (new : Written) (f : ReplayFault) → IsWorldText world (world_of_scene scene) → IsJournalText (length scene.threads) journal entries → IsStoppedBy unit (world_of_scene scene) entries old new f
-        → RunsTexts old new (Err (of_replay f)) (IsReplay program world journal) (AreRefusedReplays program world journal)
+        → RunsTexts old new (Err (of_replay f)) (EndsReplay program world journal) (AreRefusedReplays program world journal)
     stopped new replaying.Memory of_world of_journal h = h
     stopped new (replaying.DoesNotFit line) of_world of_journal h = (h.1, by_load unit scene entries line is w j h.0)
     stopped new (replaying.Impossible entry) of_world of_journal h = (h.2, by_entry (meaning_of h.0) entry h.1)
-    stopped new replaying.Writer of_world of_journal h = record { text = h.text; runs = is_replay of_world of_journal h.fits h.text h.is; stopped = h.stopped }
+    stopped new replaying.Writer of_world of_journal h = record { text = h.text; runs = (option_map trap_at h.is.end.stop, record { replay = is_replay of_world of_journal h.fits h.text h.is; stopped = refl }); stopped = h.stopped }
 
   -- memory or the writer refused
   pub from_outside : (f : ReplayFault) → IsFromOutside f → IsReplayOrFails (Err (of_replay f))

@@ -1,6 +1,7 @@
 -- What the layers answer, as what a run does to the sink.
-use Rattle.std.proofs.Common.{◌≡◌, ℕ, List, ◌++◌, ◌∷◌, suc, Some, None, Result, Ok, Err, length, refl, sym, ap, ◌∙◌, subst, ◌+◌, ◌≤◌, arith, length-append}
+use Rattle.std.proofs.Common.{◌≡◌, ℕ, List, ◌++◌, ◌∷◌, suc, Option, Some, None, Result, Ok, Err, length, refl, sym, ap, ◌∙◌, subst, ◌+◌, ◌≤◌, arith, length-append}
 use Rattle.std.specs.Prelude.{OnOk}
+use Rattle.std.specs.Option.{option_map}
 use Rattle.syntax.specs.declared.unit.Item.{Item}
 use Rattle.syntax.specs.Tree.{SourceUnit}
 use Rattle.syntax.specs.Views.{unit_tree}
@@ -27,7 +28,9 @@ use Rattle.lower.specs.Length.{IsTooLong}
 use Rattle.machine.specs.declared.fault.LoadFault.{LoadFault}
 use Rattle.machine.specs.declared.fault.LoadFault.TheVariants as loading
 use Rattle.machine.specs.Loading.{IsLoadFault}
-use Rattle.machine.specs.Run.{Run, IsUnstarted, RunsAlong, RunsInto, WritesRun, replay_of}
+use Rattle.machine.specs.Run.{Run, IsUnstarted, RunsAlong, RunsInto, WritesRun, StoppedBy, replay_of}
+use Rattle.machine.specs.declared.stop.Stop.{Stop}
+use Rattle.machine.specs.Stops.{stop_view}
 use Rattle.jnirun.specs.declared.fault.Text.TheVariants as which
 use Rattle.jnirun.specs.declared.fault.RunError.{RunError}
 use Rattle.jnirun.specs.declared.fault.RunError.TheVariants.{Memory, File, Fault, Writer}
@@ -36,7 +39,9 @@ use Rattle.jnirun.specs.Passes.{IsRefusal}
 use Rattle.jnirun.specs.Programs.{IsProgram}
 use Rattle.jnirun.specs.Checks.{PassesCheck, ChecksText}
 use Rattle.jnirun.specs.Texts.{Meaning, AreRefused, by_check, by_world, by_schedule, by_load}
-use Rattle.jnirun.specs.Runs.{RunsTexts, IsRun, IsRunOrFails}
+use Rattle.replay.specs.declared.state.TrapAt.{TrapAt}
+use Rattle.replay.specs.States.{trap_at}
+use Rattle.jnirun.specs.Runs.{RunsTexts, IsRun, EndsRun, IsRunOrFails}
 use Rattle.jnirun.proofs.CheckLemmas as checks
 
 -- a journal has no more entries than the words that it follows
@@ -55,14 +60,19 @@ never_full items scene begun ended words un into few full =
     absurd (omega (arith, ap length steps, short, parts))
 
 -- what a report answered is what the run answers
-abbrev pub as_run : {T E : Type 0} → Result T E → Result (Unit {0}) RunError
-as_run (Ok x) = Ok tt
-as_run (Err e) = Err Writer
+abbrev pub as_run : {T E : Type 0} → Option TrapAt → Result T E → Result (Option TrapAt) RunError
+as_run trap (Ok x) = Ok trap
+as_run trap (Err e) = Err Writer
+
+-- a trap that is held in memory, as it is told
+told : (stop : Option Stop) → option_map trap_at (option_map stop_view stop) ≡ option_map (λ s. trap_at (stop_view s)) stop
+told None = refl
+told (Some stop) = refl
 
 -- the three texts, and what the sink had
 module _ (program world schedule : List ℕ) (old : Written) where
   abbrev pub Refuses : RunError → Type 0
-  Refuses e = RunsTexts old old (Err e) (IsRun program world schedule) (AreRefused program world schedule)
+  Refuses e = RunsTexts old old (Err e) (EndsRun program world schedule) (AreRefused program world schedule)
 
   -- what a check refuses is refused
   refused_check : (e : RunError) → ChecksText program (Err e) → Refuses e
@@ -120,7 +130,7 @@ module _ (program world schedule : List ℕ) (old : Written) where
   meaning_of items scene words is w s l = record { unit = unit_tree items; of_program = is; scene = scene; of_world = w; words = words; of_schedule = s; loads = l }
 
   -- the run that a machine wrote
-  is_run : (items : List Item) (scene : Scene) (words : Schedule) (begun ended : Run) (text : List ℕ) (is : IsProgram program (unit_tree items)) (w : scene_of_text world ≡ Ok scene) (s : schedule_of schedule (length scene.threads) ≡ Ok words) (l : first_load_fault (unit_tree items) (world_of_scene scene) ≡ None)
+  abbrev is_run : (items : List Item) (scene : Scene) (words : Schedule) (begun ended : Run) (text : List ℕ) (is : IsProgram program (unit_tree items)) (w : scene_of_text world ≡ Ok scene) (s : schedule_of schedule (length scene.threads) ≡ Ok words) (l : first_load_fault (unit_tree items) (world_of_scene scene) ≡ None)
       → IsWorldText world (world_of_scene scene) → IsScheduleText (length scene.threads) schedule words
       → IsUnstarted items scene begun → RunsAlong begun ended words → Writes (unit_tree ended.unit) (world_of_scene ended.world) ended.journal text → JournalHasRoom (unit_tree ended.unit) (world_of_scene ended.world) ended.journal → IsRun program world schedule text
   is_run items scene words begun ended text is w s l of_world of_schedule un along writes room = record {
@@ -133,12 +143,24 @@ module _ (program world schedule : List ℕ) (old : Written) where
     has_room = subst (λ (r : Run). JournalHasRoom (unit_tree r.unit) (world_of_scene r.world) ended.journal) (same_parts items scene begun ended words un along) room;
   }
 
-  pub ran : (items : List Item) (scene : Scene) (words : Schedule) (begun ended : Run) (new : Written) {T E : Type 0} (result : Result T E) → OnOk result (new.waiting ≡ 0)
+  pub ran : (items : List Item) (scene : Scene) (words : Schedule) (begun ended : Run) (stop : Option Stop) (new : Written) {T E : Type 0} (result : Result T E) → StoppedBy ended stop → OnOk result (new.waiting ≡ 0)
       → IsProgram program (unit_tree items) → scene_of_text world ≡ Ok scene → schedule_of schedule (length scene.threads) ≡ Ok words → first_load_fault (unit_tree items) (world_of_scene scene) ≡ None
       → IsWorldText world (world_of_scene scene) → IsScheduleText (length scene.threads) schedule words
-      → IsUnstarted items scene begun → RunsAlong begun ended words → WritesRun ended old new result → RunsTexts old new (as_run result) (IsRun program world schedule) (AreRefused program world schedule)
-  ran items scene words begun ended new (Ok x) none is w s l of_world of_schedule un along h = record { text = h.text; runs = is_run items scene words begun ended h.text is w s l of_world of_schedule un along h.is h.has_room; appended = h.written; none_waits = none }
-  ran items scene words begun ended new (Err x) none is w s l of_world of_schedule un along h = record { text = h.text; runs = is_run items scene words begun ended h.text is w s l of_world of_schedule un along h.is h.has_room; stopped = h.written }
+      → IsUnstarted items scene begun → RunsAlong begun ended words → WritesRun ended old new result
+      → RunsTexts old new (as_run (option_map (λ s. trap_at (stop_view s)) stop) result) (EndsRun program world schedule) (AreRefused program world schedule)
+  ran items scene words begun ended stop new (Ok x) halts none is w s l of_world of_schedule un along h =
+      let run : IsRun program world schedule h.text = is_run items scene words begun ended h.text is w s l of_world of_schedule un along h.is h.has_room in
+      let there : replay_of ended ≡ Some run.writes.end = ap replay_of (same_parts items scene begun ended words un along) ∙ run.writes.replays in
+      let same : run.writes.end ≡ halts.0 = cc (there, halts.1) in
+      record {
+        text = h.text;
+        runs = record { run = run; stopped = ap (λ (end : State). option_map trap_at end.stop) same ∙ ap (option_map trap_at) halts.2 ∙ told stop };
+        appended = h.written;
+        none_waits = none;
+      }
+  ran items scene words begun ended stop new (Err x) halts none is w s l of_world of_schedule un along h =
+      let run : IsRun program world schedule h.text = is_run items scene words begun ended h.text is w s l of_world of_schedule un along h.is h.has_room in
+      record { text = h.text; runs = (option_map trap_at run.writes.end.stop, record { run = run; stopped = refl }); stopped = h.written }
 
   -- texts that mean a run load
   pub loads_or_fails : (items : List Item) (scene : Scene) (f : LoadFault) (m : Meaning program world schedule) → unit_tree items ≡ m.unit → scene_of_text world ≡ Ok scene → IsLoadFault (unit_tree items) (world_of_scene scene) f → IsRunOrFails (Err (of_load f))

@@ -1,18 +1,28 @@
 -- What is said on standard error, as how a command goes.
-use Rattle.std.proofs.Common.{◌≡◌, ℕ, List, ◌++◌, Result, Ok, Err, inl, inr, refl, subst}
+use Rattle.std.proofs.Common.{◌≡◌, ℕ, List, ◌++◌, Some, Result, Ok, Err, inl, inr, refl, subst}
 use Rattle.std.specs.Prelude.{codes}
 use Rattle.world.specs.Sink.{Written, AppendsText, Writes}
 use Rattle.jnirun.specs.declared.command.Command.{Command}
 use Rattle.jnirun.specs.declared.fault.Place.{Place}
+use Rattle.jnirun.specs.declared.fault.Place.TheVariants.{Line}
 use Rattle.jnirun.specs.declared.fault.Text.{Text}
+use Rattle.jnirun.specs.declared.fault.Text.TheVariants as which
+use Rattle.replay.specs.declared.state.TrapAt.{TrapAt}
 use Rattle.jnirun.specs.Commands.{name_of, text_of, text_at}
-use Rattle.jnirun.specs.Serve.{Tells, TextsEarn, fault_line, error_text, ServesTexts, is_refused}
+use Rattle.jnirun.specs.Serve.{Tells, TextsEarn, fault_line, error_text, trap_text, TellsTrap, ServesTexts, is_refused}
 use Rattle.jnirun.specs.Telling.{told}
 
 -- a text that is written is told, or the sink failed within it
 pub tells : {T E : Type 0} (old new : Written) (r : Result T E) (text : List ℕ) → Writes old new r text → Tells old new text
 tells old new (Ok v) text h = inl h
 tells old new (Err e) text h = inr h
+
+-- a trap is told
+pub trap_told : (command : Command) (program : List ℕ) (err err_after : Written) (trap : TrapAt) (words name : List ℕ) {T E : Type 0} (r : Result T E) → name ≡ name_of command which.Program
+    → Writes err err_after r (told (codes "trap") name program trap.number (Line which.Program trap.line) words) → TellsTrap command program err err_after (Some trap)
+trap_told command program err err_after trap words name r named h =
+    let same : told (codes "trap") name program trap.number (Line which.Program trap.line) words ≡ trap_text command program trap words = rw named refl in
+    (words, tells err err_after r (trap_text command program trap words) (subst (λ (t : List ℕ). Writes err err_after r t) same h))
 
 -- a fault that is written and told is a refusal
 pub refused : (command : Command) (program world order : List ℕ) (number : ℕ) (place : Place) (words name text : List ℕ) (which : Text) (out out_after err err_after : Written) {T E : Type 0} (r : Result T E)

@@ -1,5 +1,6 @@
 -- What a program, a world and a journal mean together, which fault others earn, and what a replay of them writes.
-use Rattle.std.specs.Prelude.{◌≡◌, ℕ, List, length, Some, None, IsSome, Result, Ok, Err}
+use Rattle.std.specs.Prelude.{◌≡◌, ℕ, List, length, Option, Some, None, IsSome, Result, Ok, Err}
+use Rattle.std.specs.Option.{option_map}
 use Rattle.syntax.specs.Tree.{SourceUnit}
 use Rattle.world.specs.declared.fault.TextFault.{TextFault}
 use Rattle.world.specs.Journal.{Journal, IsJournalText}
@@ -11,7 +12,9 @@ use Rattle.world.specs.SceneWorld.{world_of_scene}
 use Rattle.world.specs.WorldRules.{IsWorldText}
 use Rattle.regions.specs.Load.{first_load_fault}
 use Rattle.regions.specs.Run.{Writes, replay}
+use Rattle.replay.specs.declared.state.TrapAt.{TrapAt}
 use Rattle.replay.specs.Replays.{IsFirstImpossible}
+use Rattle.replay.specs.States.{trap_at}
 use Rattle.jnirun.specs.Programs.{IsProgram, IsRefusedProgram}
 use Rattle.jnirun.specs.declared.fault.Place.{Place}
 use Rattle.jnirun.specs.declared.fault.Place.TheVariants.{Line, Entry}
@@ -37,6 +40,11 @@ pub record IsReplay (program world journal text : List ℕ) : Type 0 where
   pub of_journal : IsJournalText (length meaning.scene.threads) journal meaning.entries
   pub writes : Writes meaning.unit (world_of_scene meaning.scene) meaning.entries text
 
+-- the same, and the trap that stopped the run, if one did
+pub record EndsReplay (program world journal : List ℕ) (trap : Option TrapAt) (text : List ℕ) : Type 0 where
+  pub replay : IsReplay program world journal text
+  pub stopped : option_map trap_at replay.writes.end.stop ≡ trap
+
 -- The texts are read in their order and loaded, and then each entry is taken. This number and place are those of the first
 -- that is refused.
 pub data AreRefusedReplays (program world journal : List ℕ) : (number : ℕ) → Place → Type 0 where
@@ -53,7 +61,7 @@ pub record IsPossible (program world journal : List ℕ) : Type 0 where
   pub replays : IsSome (replay meaning.unit (world_of_scene meaning.scene) meaning.entries)
 
 -- Texts whose journal is possible are refused for want of memory alone, or by the writer.
-abbrev pub IsReplayOrFails : Result Unit RunError → Type 0
+abbrev pub IsReplayOrFails : Result (Option TrapAt) RunError → Type 0
 IsReplayOrFails (Ok _) = Unit {0}
 IsReplayOrFails (Err Memory) = Unit {0}
 IsReplayOrFails (Err (Fault number place)) = ⊥

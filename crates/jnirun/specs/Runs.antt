@@ -1,11 +1,14 @@
 -- What a run of three texts writes.
-use Rattle.std.specs.Prelude.{◌≡◌, ℕ, List, length, Result, Ok, Err}
+use Rattle.std.specs.Prelude.{◌≡◌, ℕ, List, length, Option, Result, Ok, Err}
+use Rattle.std.specs.Option.{option_map}
 use Rattle.world.specs.Journal.{Journal}
 use Rattle.world.specs.Schedule.{IsScheduleText}
 use Rattle.world.specs.Sink.{Written, AppendsText, StopsWithin}
 use Rattle.world.specs.SceneWorld.{world_of_scene}
 use Rattle.world.specs.WorldRules.{IsWorldText}
 use Rattle.regions.specs.Run.{Writes, JournalFollows, JournalHasRoom}
+use Rattle.replay.specs.declared.state.TrapAt.{TrapAt}
+use Rattle.replay.specs.States.{trap_at}
 use Rattle.jnirun.specs.Texts.{Meaning}
 use Rattle.jnirun.specs.declared.fault.Place.{Place}
 use Rattle.jnirun.specs.declared.fault.Place.TheVariants.{Line}
@@ -25,6 +28,11 @@ pub record IsRun (program world schedule text : List ℕ) : Type 0 where
   pub follows : JournalFollows meaning.unit (world_of_scene meaning.scene) journal meaning.words
   pub has_room : JournalHasRoom meaning.unit (world_of_scene meaning.scene) journal
 
+-- the same, and the trap that stopped the run, if one did
+pub record EndsRun (program world schedule : List ℕ) (trap : Option TrapAt) (text : List ℕ) : Type 0 where
+  pub run : IsRun program world schedule text
+  pub stopped : option_map trap_at run.writes.end.stop ≡ trap
+
 -- some text that a command writes was appended, and nothing waits in the sink
 pub record AppendsRun (old new : Written) (Writes : List ℕ → Type 0) : Type 0 where
   pub text : List ℕ
@@ -38,17 +46,17 @@ pub record StopsRun (old new : Written) (Writes : List ℕ → Type 0) : Type 0 
   pub runs : Writes text
   pub stopped : StopsWithin old new text
 
--- What was done to the sink, by the answer: nothing is written for any fault but the writer's, the number and the
+-- What was done to the sink, by the answer, of which the text may tell: nothing is written for any fault but the writer's, the number and the
 -- place of a fault are those that the texts earn, and no file is read.
-abbrev pub RunsTexts : Written → Written → Result Unit RunError → (Writes : List ℕ → Type 0) → (Refused : ℕ → Place → Type 0) → Type 0
-RunsTexts old new (Ok _) Writes Refused = AppendsRun old new Writes
+abbrev pub RunsTexts : {T : Type 0} → Written → Written → Result T RunError → (Writes : T → List ℕ → Type 0) → (Refused : ℕ → Place → Type 0) → Type 0
+RunsTexts old new (Ok answer) Writes Refused = AppendsRun old new (Writes answer)
 RunsTexts old new (Err Memory) Writes Refused = new ≡ old
 RunsTexts old new (Err (Fault number place)) Writes Refused = (new ≡ old) × Refused number place
 RunsTexts old new (Err File) Writes Refused = ⊥
-RunsTexts old new (Err Writer) Writes Refused = StopsRun old new Writes
+RunsTexts {T} old new (Err Writer) Writes Refused = StopsRun old new (λ text. (answer : T) × Writes answer text)
 
 -- Texts that mean a run are refused for want of memory alone, or where a function is too long, or by the writer.
-abbrev pub IsRunOrFails : Result Unit RunError → Type 0
+abbrev pub IsRunOrFails : Result (Option TrapAt) RunError → Type 0
 IsRunOrFails (Ok _) = Unit {0}
 IsRunOrFails (Err Memory) = Unit {0}
 IsRunOrFails (Err (Fault number place)) = (number ≡ 51) × (place ≡ Line which.Program 0)

@@ -1,5 +1,5 @@
 -- What the commands do with files, standard output and standard error.
-use Rattle.std.specs.Prelude.{◌≡◌, ◌⊎◌, ℕ, List, ◌++◌, codes, decimal}
+use Rattle.std.specs.Prelude.{◌≡◌, ◌⊎◌, ℕ, List, ◌++◌, Option, Some, None, codes, decimal}
 use Rattle.world.specs.Sink.{Written, AppendsText, StopsWithin}
 use Rattle.jnirun.specs.declared.command.Command.{Command}
 use Rattle.jnirun.specs.declared.command.Command.TheVariants.{Check, Run, Replay}
@@ -8,8 +8,10 @@ use Rattle.jnirun.specs.declared.fault.Place.TheVariants.{Line, Entry}
 use Rattle.jnirun.specs.Checks.{PassesCheck, FailsCheck}
 use Rattle.jnirun.specs.Commands.{name_of, text_of, text_at}
 use Rattle.jnirun.specs.Files.{OfFiles}
-use Rattle.jnirun.specs.Replays.{IsReplay, AreRefusedReplays}
-use Rattle.jnirun.specs.Runs.{IsRun, AppendsRun, StopsRun}
+use Rattle.replay.specs.declared.state.TrapAt.{TrapAt}
+use Rattle.jnirun.specs.declared.fault.Text.TheVariants as which
+use Rattle.jnirun.specs.Replays.{EndsReplay, AreRefusedReplays}
+use Rattle.jnirun.specs.Runs.{EndsRun, AppendsRun, StopsRun}
 use Rattle.jnirun.specs.Telling.{told}
 use Rattle.jnirun.specs.Texts.{AreRefused}
 
@@ -19,11 +21,12 @@ use Rattle.jnirun.specs.Texts.{AreRefused}
 abbrev pub passed : List ℕ
 passed = codes "ok\n"
 
--- what the command writes of these texts: `ok` for a program that passes a check, or the report and the journal of a run or of a replay
-abbrev pub TextsWrite : Command → (program world order text : List ℕ) → Type 0
-TextsWrite (Check p) program world order text = PassesCheck program × (text ≡ passed)
-TextsWrite (Run p w s) program world order text = IsRun program world order text
-TextsWrite (Replay p w j) program world order text = IsReplay program world order text
+-- What the command writes of these texts: `ok` for a program that passes a check, or the report and the journal of a run or of a
+-- replay; and the trap that stopped the run, if one did.
+abbrev pub TextsWrite : Command → (program world order : List ℕ) → Option TrapAt → (text : List ℕ) → Type 0
+TextsWrite (Check p) program world order trap text = PassesCheck program × (trap ≡ None) × (text ≡ passed)
+TextsWrite (Run p w s) program world order trap text = EndsRun program world order trap text
+TextsWrite (Replay p w j) program world order trap text = EndsReplay program world order trap text
 
 -- the texts earn the number and the place of a fault
 abbrev pub TextsEarn : Command → (program world order : List ℕ) → (number : ℕ) → Place → Type 0
@@ -47,12 +50,22 @@ abbrev pub error_text : Command → (program world order : List ℕ) → (number
 error_text command program world order number place words =
     told (codes "error") (name_of command (text_at place)) (text_of program world order (text_at place)) number place words
 
+-- where and why a trap stopped the run, in some words
+abbrev pub trap_text : Command → (program : List ℕ) → TrapAt → (words : List ℕ) → List ℕ
+trap_text command program trap words = told (codes "trap") (name_of command which.Program) program trap.number (Line which.Program trap.line) words
+
+-- the trap that stopped the run is told, and without one nothing is
+abbrev pub TellsTrap : Command → (program : List ℕ) → (err err_after : Written) → Option TrapAt → Type 0
+TellsTrap command program err err_after None = err_after ≡ err
+TellsTrap command program err err_after (Some trap) = (words : List ℕ) × Tells err err_after (trap_text command program trap words)
+
 -- ---- how a command goes
 
 -- What is done by a command with its texts, on standard output and standard error, and the status.
 pub data ServesTexts (command : Command) (program world order : List ℕ) (out out_after err err_after : Written) : (status : ℕ) → Type 0 where
-  -- what it writes is written, and nothing else
-  is_done : AppendsRun out out_after (TextsWrite command program world order) → err_after ≡ err → ServesTexts command program world order out out_after err err_after 0
+  -- what it writes is written, and a trap that stopped the run is told
+  is_done : (trap : Option TrapAt) → AppendsRun out out_after (TextsWrite command program world order trap) → TellsTrap command program err err_after trap
+      → ServesTexts command program world order out out_after err err_after 0
   -- a fault that the texts earn is written, none of its line waits, and it is told
   is_refused : (number : ℕ) (place : Place) (words : List ℕ) → TextsEarn command program world order number place
       → AppendsText out out_after (fault_line number place) → out_after.waiting ≡ 0
@@ -61,7 +74,7 @@ pub data ServesTexts (command : Command) (program world order : List ℕ) (out o
   -- memory was refused, and nothing is written
   lacks_memory : out_after ≡ out → Tells err err_after (codes "memory\n") → ServesTexts command program world order out out_after err err_after 3
   -- standard output failed within what the command writes, or within the line of a fault that the texts earn
-  loses_text : StopsRun out out_after (TextsWrite command program world order) → Tells err err_after (codes "writer\n")
+  loses_text : StopsRun out out_after (λ text. (trap : Option TrapAt) × TextsWrite command program world order trap text) → Tells err err_after (codes "writer\n")
       → ServesTexts command program world order out out_after err err_after 3
   loses_fault : (number : ℕ) (place : Place) → TextsEarn command program world order number place
       → StopsWithin out out_after (fault_line number place) → Tells err err_after (codes "writer\n")

@@ -17,6 +17,7 @@ pub use checking::check_text;
 pub use command::Command;
 pub use fault::{Place, RunError, Text};
 pub use files::{FileFault, FileSystem, Files, MOST_BYTES};
+pub use replay::TrapAt;
 pub use replaying::{replay_text, runs_are_replayed};
 pub use run::run_text;
 pub use saying::{fail, say};

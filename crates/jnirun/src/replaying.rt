@@ -5,13 +5,13 @@ ghost use Rattle.world.specs.Sink.{CanFail};
 ghost use Rattle.jnirun.specs.Errors.{of_replay};
 ghost use Rattle.jnirun.specs.Runs.{RunsTexts};
 ghost use Rattle.jnirun.specs.ReplayLaws.{RunsAreReplayed};
-ghost use Rattle.jnirun.specs.Replays.{IsReplay, AreRefusedReplays, IsPossible, IsReplayOrFails};
+ghost use Rattle.jnirun.specs.Replays.{EndsReplay, AreRefusedReplays, IsPossible, IsReplayOrFails};
 
 use crate::fault::{Place, RunError, Text};
 use crate::program::program;
 use crate::run::of_reading;
 use parse::one_unit;
-use replay::{ReplayFault, replay};
+use replay::{ReplayFault, TrapAt, replay};
 use std::alloc::Global;
 use world::{Sink, read_journal, read_world};
 
@@ -26,7 +26,8 @@ fn of_replay(fault: ReplayFault) -> RunError
     }
 }
 
-/// Replays the journal of the program in the world, and writes the report of its run and the journal.
+/// Replays the journal of the program in the world, and writes the report of its run and the journal. Answers the trap that stopped
+/// the run, if one did.
 ///
 /// On `Ok` what was written is what a run with this journal writes, and none of it waits in the sink. A fault is one that the texts earn, and nothing is
 /// written then: 91 has the number of the first entry that isn't possible, counted from 1. The texts are read in their
@@ -38,10 +39,10 @@ pub fn replay_text<W: Sink>(
     world_text: &[u8],
     journal_text: &[u8],
     out: &mut W,
-) -> Result<(), RunError>
+) -> Result<Option<TrapAt>, RunError>
     requires { CanFail (W.written out.old) }
     ensures replay { RunsTexts (W.written out.old) (W.written out.new) result
-        (IsReplay program_text.now world_text.now journal_text.now) (AreRefusedReplays program_text.now world_text.now journal_text.now) }
+        (EndsReplay program_text.now world_text.now journal_text.now) (AreRefusedReplays program_text.now world_text.now journal_text.now) }
     // Texts whose journal is possible are refused for memory or by the writer alone.
     ensures accepted { IsPossible program_text.now world_text.now journal_text.now → IsReplayOrFails result }
 {
@@ -59,7 +60,7 @@ pub fn replay_text<W: Sink>(
         Err(error) => return Err(of_reading(Text::Journal, error)),
     };
     match replay(alloc, &checked, &world, &journal, out) {
-        Ok(()) => Ok(()),
+        Ok(trap) => Ok(trap),
         Err(fault) => Err(of_replay(fault)),
     }
 }

@@ -4,12 +4,16 @@ ghost use Rattle.std.specs.Prelude.{◌≡◌, ℕ, List};
 ghost use Rattle.world.specs.Sink.{CanFail};
 ghost use Rattle.jnirun.specs.Errors.{of_lower, of_reading, of_load};
 ghost use Rattle.jnirun.specs.Texts.{Meaning, AreRefused};
-ghost use Rattle.jnirun.specs.Runs.{RunsTexts, IsRun, IsRunOrFails};
+ghost use Rattle.jnirun.specs.Runs.{RunsTexts, EndsRun, IsRunOrFails};
+ghost use Rattle.std.specs.Option.{option_map};
+ghost use Rattle.machine.specs.Stops.{stop_view};
+ghost use Rattle.replay.specs.States.{trap_at};
 
 use crate::fault::{Place, RunError, Text};
 use crate::program::program;
 use lower::{LowerFault, lower};
-use machine::{LoadFault, Machine, RunFault};
+use machine::{LoadFault, Machine, RunFault, Stop};
+use replay::TrapAt;
 use std::alloc::Global;
 use world::{ReadError, Sink, read_schedule, read_world};
 
@@ -44,7 +48,19 @@ fn of_load(fault: LoadFault) -> RunError
     }
 }
 
-/// Runs the program in the world by the schedule, and writes the report of the run and its journal.
+/// Where a trap stopped the machine.
+fn trap_at(stop: Option<Stop>) -> Option<TrapAt>
+    ensures { result ≡ option_map (λ s. trap_at (stop_view s)) stop }
+{
+    let stop = stop?;
+    Some(TrapAt {
+        number: stop.trap.number(),
+        line: stop.line,
+    })
+}
+
+/// Runs the program in the world by the schedule, and writes the report of the run and its journal. Answers the trap that
+/// stopped the run, if one did.
 ///
 /// On `Ok` what was written is the report of the source run that the journal names, and that journal, which follows the
 /// schedule; none of it waits in the sink. A fault is one that the texts earn, and nothing is written then. The texts are read in their order: the program is
@@ -56,10 +72,10 @@ pub fn run_text<W: Sink>(
     world_text: &[u8],
     schedule_text: &[u8],
     out: &mut W,
-) -> Result<(), RunError>
+) -> Result<Option<TrapAt>, RunError>
     requires { CanFail (W.written out.old) }
     ensures run { RunsTexts (W.written out.old) (W.written out.new) result
-        (IsRun program_text.now world_text.now schedule_text.now) (AreRefused program_text.now world_text.now schedule_text.now) }
+        (EndsRun program_text.now world_text.now schedule_text.now) (AreRefused program_text.now world_text.now schedule_text.now) }
     // Texts that mean a run are refused for memory, for length or by the writer alone.
     ensures accepted { Meaning program_text.now world_text.now schedule_text.now → IsRunOrFails result }
 {
@@ -90,8 +106,9 @@ pub fn run_text<W: Sink>(
         // A schedule has no more words than a journal may have entries.
         Err(RunFault::Full) => unreachable!(),
     }
+    let trap = trap_at(machine.stop());
     match machine.report(out) {
-        Ok(()) => Ok(()),
+        Ok(()) => Ok(trap),
         Err(_) => Err(RunError::Writer),
     }
 }

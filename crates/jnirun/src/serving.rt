@@ -1,19 +1,20 @@
 //! The commands over any files and sinks.
 
-ghost use Rattle.std.specs.Prelude.{◌≡◌};
+ghost use Rattle.std.specs.Prelude.{◌≡◌, None};
 ghost use Rattle.world.specs.Sink.{CanFail};
 ghost use Rattle.jnirun.specs.Checks.{PassesCheck, FailsCheck};
 ghost use Rattle.jnirun.specs.Runs.{RunsTexts};
-ghost use Rattle.jnirun.specs.Serve.{TextsWrite, TextsEarn, passed, ServesTexts, Serves};
+ghost use Rattle.jnirun.specs.Serve.{TextsWrite, TextsEarn, passed, TellsTrap, ServesTexts, Serves};
 
 use crate::checking::check_text;
 use crate::command::Command;
-use crate::fault::{Place, RunError};
+use crate::fault::{Place, RunError, Text};
 use crate::files::{FileFault, Files, Texts, read_texts};
 use crate::replaying::replay_text;
 use crate::run::run_text;
 use crate::saying::{fail, say, say_fault};
 use crate::telling::tell;
+use replay::TrapAt;
 use std::alloc::Global;
 use world::Sink;
 
@@ -27,27 +28,31 @@ pub const COMMAND_LINE: u8 = 2;
 pub const FAILED: u8 = 3;
 
 /// Checks a program, and says `ok` where it passes.
-fn check_and_say<W: Sink>(alloc: Global, program: &[u8], out: &mut W) -> Result<(), RunError>
+fn check_and_say<W: Sink>(
+    alloc: Global,
+    program: &[u8],
+    out: &mut W,
+) -> Result<Option<TrapAt>, RunError>
     requires { CanFail (W.written out.old) }
-    ensures { RunsTexts (W.written out.old) (W.written out.new) result (λ text. PassesCheck program.now × (text ≡ passed)) (FailsCheck program.now) }
+    ensures { RunsTexts (W.written out.old) (W.written out.new) result (λ trap text. PassesCheck program.now × (trap ≡ None) × (text ≡ passed)) (FailsCheck program.now) }
 {
     match check_text(alloc, program) {
         Ok(()) => {}
         Err(error) => return Err(error),
     }
     match say(out, b"ok\n") {
-        Ok(()) => Ok(()),
+        Ok(()) => Ok(None),
         Err(_) => Err(RunError::Writer),
     }
 }
 
-/// Checks, runs or replays.
+/// Checks, runs or replays. Answers the trap that stopped the run, if one did.
 fn run_texts<W: Sink>(
     alloc: Global,
     command: Command<'_>,
     texts: &Texts,
     out: &mut W,
-) -> Result<(), RunError>
+) -> Result<Option<TrapAt>, RunError>
     requires { CanFail (W.written out.old) }
     ensures { RunsTexts (W.written out.old) (W.written out.new) result
         (TextsWrite command.entry texts.now.program.items texts.now.world.items texts.now.order.items)
@@ -60,6 +65,33 @@ fn run_texts<W: Sink>(
             replay_text(alloc, &texts.program, &texts.world, &texts.order, out)
         }
     }
+}
+
+/// What a trap is, in a few words.
+fn words_of_trap(number: u8) -> &'static str {
+    match explanations::trap(u32::from(number)) {
+        Some(explanation) => explanation.title,
+        None => "the program stops",
+    }
+}
+
+/// Tells where and why a trap stopped the run, and nothing where none did.
+fn tell_trap<E: Sink>(command: Command<'_>, program: &[u8], trap: Option<TrapAt>, err: &mut E)
+    requires { CanFail (E.written err.old) }
+    ensures { TellsTrap command.entry program.now (E.written err.old) (E.written err.new) trap }
+{
+    let Some(trap) = trap else {
+        return;
+    };
+    let _ = tell(
+        err,
+        b"trap",
+        command.name_of(Text::Program).as_bytes(),
+        program,
+        u32::from(trap.number),
+        Place::Line(Text::Program, trap.line),
+        words_of_trap(trap.number).as_bytes(),
+    );
 }
 
 /// What a fault is, in a few words.
@@ -118,7 +150,10 @@ fn serve_texts<O: Sink, E: Sink>(
         (O.written out.old) (O.written out.new) (E.written err.old) (E.written err.new) result }
 {
     match run_texts(alloc, command, texts, out) {
-        Ok(()) => DONE,
+        Ok(trap) => {
+            tell_trap(command, &texts.program, trap, err);
+            DONE
+        }
         Err(RunError::Fault(number, place)) => refuse(command, texts, number, place, out, err),
         Err(RunError::Memory) => fail(err, b"memory\n"),
         Err(RunError::Writer) => fail(err, b"writer\n"),
@@ -131,7 +166,7 @@ fn serve_texts<O: Sink, E: Sink>(
 /// writer failed.
 ///
 /// Standard output gets what the command writes, or the line of a fault; standard error gets where and why a text is refused,
-/// with the line of that text, or one word for what failed. That standard error fails changes no status.
+/// with the line of that text, where a trap stopped the run, in the same way, or one word for what failed. That standard error fails changes no status.
 pub fn serve<F: Files, O: Sink, E: Sink>(
     alloc: Global,
     command: Command<'_>,

@@ -1,7 +1,7 @@
 //! Texts, files and writers.
 
 use jnirun::{
-    Command, DONE, FAILED, FileFault, Files, REFUSED, check_text, replay_text, run_text, serve,
+    Command, DONE, FAILED, FileFault, Files, REFUSED, TrapAt, check_text, replay_text, run_text, serve,
 };
 use std::alloc::Global;
 use std::io;
@@ -12,6 +12,9 @@ const PROGRAM: &[u8] = b"JNIEXPORT jint JNICALL Java_A_f(JNIEnv *env, jclass cls
 
 const OPEN: &[u8] =
     b"JNIEXPORT void JNICALL Java_A_f(JNIEnv *env, jclass cls)\n{\n\tput_jint(1); }";
+
+const TRAPPING: &[u8] =
+    b"JNIEXPORT void JNICALL Java_A_f(JNIEnv *env, jclass cls)\n{\n\tput_jint((jint)(1u / 0u)); return; }";
 
 const WORLD: &[u8] = b"heap 512\nclass A\nthread Java_A_f\n";
 
@@ -107,10 +110,32 @@ fn texts(rt: HostRuntime) {
     let mut ran = StdSink::new(writer_of(&rt, 4096, 4096));
     let mut replayed = StdSink::new(writer_of(&rt, 4096, 4096));
     assert!(rt; check_text(rt.alloc(), PROGRAM) == Ok(()));
-    assert!(rt; run_text(rt.alloc(), PROGRAM, WORLD, b"1*9", &mut ran) == Ok(()));
-    assert!(rt; replay_text(rt.alloc(), PROGRAM, WORLD, b"1 1 1", &mut replayed) == Ok(()));
+    assert!(rt; run_text(rt.alloc(), PROGRAM, WORLD, b"1*9", &mut ran) == Ok(None));
+    assert!(rt; replay_text(rt.alloc(), PROGRAM, WORLD, b"1 1 1", &mut replayed) == Ok(None));
     assert!(rt; ran.into_inner().taken.as_slice() == REPORT);
     assert!(rt; replayed.into_inner().taken.as_slice() == REPORT);
+}
+
+// A trap is the answer, and is told; where standard error fails, a beginning of it.
+#[test]
+fn traps(rt: HostRuntime) {
+    let mut ran = StdSink::new(writer_of(&rt, 4096, 4096));
+    let mut replayed = StdSink::new(writer_of(&rt, 4096, 4096));
+    let trap = Ok(Some(TrapAt { number: 1, line: 3 }));
+    assert!(rt; run_text(rt.alloc(), TRAPPING, WORLD, b"1*9", &mut ran) == trap);
+    assert!(rt; replay_text(rt.alloc(), TRAPPING, WORLD, b"1 1 1", &mut replayed) == trap);
+    let told =
+        b"p:3: trap 1: a division or a remainder by zero\n     put_jint((jint)(1u / 0u)); return; }\n".as_slice();
+    for command in [RUN, REPLAY] {
+        for (room, said) in [(4096, told), (10, &told[..10])] {
+            let (status, out, err) = served(&rt, command, TRAPPING, 4096, room);
+            assert!(rt;
+                status == DONE
+                    && out.as_slice() == b"T1 trap 1 line 3\njournal 1 1 1\n".as_slice()
+                    && err.as_slice() == said
+            );
+        }
+    }
 }
 
 // Each output is one that takes a byte a call.

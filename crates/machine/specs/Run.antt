@@ -158,6 +158,10 @@ abbrev pub is_finished : Classes → State → Bool
 is_finished classes s =
     is_some s.stop || list_all (λ (t : ℕ × SourceThread). not (is_unfinished t.1.ending) || is_blocked classes s t.0) (enumerate_from 1 s.threads)
 
+-- the trap that stopped the run, as it is held in memory
+abbrev pub StoppedBy : Run → Option Stop → Type 0
+StoppedBy r stop = InState r (λ s. s.stop ≡ option_map stop_view stop)
+
 -- whether no thread can take a step any more
 abbrev pub IsFinished : Run → Bool → Type 0
 IsFinished r answer = InState r (λ s. answer ≡ is_finished (world_of_scene r.world).classes s)

@@ -7,7 +7,7 @@ ghost use Rattle.world.specs.SceneWorld.{world_of_scene};
 ghost use Rattle.world.specs.Sink.{CanFail};
 ghost use Rattle.regions.specs.Load.{first_load_fault};
 ghost use Rattle.machine.specs.Loading.{IsLoadFault};
-ghost use Rattle.machine.specs.Run.{replay_of, IsUnstarted, CouldStep, TurnHolds, RunsAlong, RunsInto, PrintedBy, IsFinished, has_ended, WritesRun, GivesNoStep, GivesStep, printed_after};
+ghost use Rattle.machine.specs.Run.{replay_of, IsUnstarted, CouldStep, TurnHolds, RunsAlong, RunsInto, PrintedBy, IsFinished, has_ended, WritesRun, GivesNoStep, GivesStep, StoppedBy, printed_after};
 ghost use Rattle.machine.specs.Stops.{stop_after, standing_of, standing_by_ending};
 
 use crate::fault::{LoadFault, RunFault};
@@ -218,6 +218,15 @@ impl<'a> Machine<'a> {
             }
         }
         Ok(())
+    }
+
+    /// The trap that stopped the machine, if one did.
+    pub fn stop(&self) -> Option<Stop>
+        ensures { StoppedBy self.now result }
+    {
+        // Here the proof takes up the machine's invariant.
+        let _ = &self.world;
+        self.stop
     }
 
     /// Whether no thread can take a step any more. It takes no host memory.

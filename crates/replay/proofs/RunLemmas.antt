@@ -1,7 +1,7 @@
 -- A journal's replay goes on by an entry, or stops before it.
 use Rattle.std.proofs.Common.{◌≡◌, ℕ, ◌+◌, ◌<◌, ◌≤◌, true, false, ◌∷◌, ◌++◌, length, drop, take, Option, Some, None, refl, sym, ap, ◌∙◌, subst, arith}
 use Rattle.std.specs.Prelude.{slice_get, is_some}
-use Rattle.std.specs.Option.{option_and_then}
+use Rattle.std.specs.Option.{option_and_then, option_map}
 use Rattle.std.proofs.lemmas.List.{take-append-drop, length-take-le, take_all}
 use Rattle.syntax.specs.Tree.{SourceUnit}
 use Rattle.world.specs.declared.journal.Entry.{Entry}
@@ -18,9 +18,10 @@ use Rattle.regions.proofs.RunLaws.{replay_from-append, replay_more}
 use Rattle.replay.specs.declared.fault.ReplayFault.{ReplayFault}
 use Rattle.replay.specs.declared.fault.ReplayFault.TheVariants.{DoesNotFit, Impossible, Memory, Writer}
 use Rattle.replay.specs.declared.state.State.{State as StateInMemory}
-use Rattle.replay.specs.States.{TakesEntry, AreInRange, standings_of}
+use Rattle.replay.specs.States.{TakesEntry, AreInRange, standings_of, stop_view, trap_at, shown_stop}
+use Rattle.replay.specs.declared.state.Stop.{Stop as StopInMemory}
 use Rattle.replay.specs.Rows.{rows_of}
-use Rattle.replay.specs.Replays.{IsFirstImpossible, Replayed, IsRefused, IsLoadFault, IsStoppedBy, IsReplayable, IsFromOutside}
+use Rattle.replay.specs.Replays.{IsFirstImpossible, Replayed, IsRefused, IsLoadFault, IsStoppedBy, IsReplayable, IsFromOutside, EndsBy}
 use Rattle.replay.proofs.LoadLemmas.{drop_more, take_more}
 use Rattle.replay.proofs.StateLemmas.{report_same}
 
@@ -87,6 +88,20 @@ from_outside unit w journal (Impossible i) h r =
     let bad : false ≡ true = subst (λ (o : Option State). is_some o ≡ true) (no_replay unit w journal i h.1) r.defined in absurd (cc)
 from_outside unit w journal Memory h r = tt
 from_outside unit w journal Writer h r = absurd h
+
+-- ---- the end
+
+-- the trap in memory is the one that stops the run
+pub ends : (unit : SourceUnit) (w : World) (journal : Journal) (m : StateInMemory) → Replayed unit w journal m → EndsBy unit w journal (shown_stop m.stop)
+ends unit w journal m h = record {
+  end = h.end;
+  replays = h.replays;
+  stopped = ap (option_map trap_at) h.stands.stop ∙ shown m.stop;
+}
+  where
+    shown : (stop : Option StopInMemory) → option_map trap_at (option_map stop_view stop) ≡ shown_stop stop
+    shown None = refl
+    shown (Some stop) = refl
 
 -- ---- the text
 

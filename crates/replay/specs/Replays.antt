@@ -1,5 +1,6 @@
 -- What replaying a journal answers.
-use Rattle.std.specs.Prelude.{◌≡◌, ℕ, ◌+◌, List, ◌∷◌, ◌++◌, length, Some, None, IsSome}
+use Rattle.std.specs.Prelude.{◌≡◌, ℕ, ◌+◌, List, ◌∷◌, ◌++◌, length, Option, Some, None, IsSome}
+use Rattle.std.specs.Option.{option_map}
 use Rattle.syntax.specs.Tree.{SourceUnit}
 use Rattle.world.specs.declared.journal.Entry.{Entry}
 use Rattle.world.specs.Journal.{Journal}
@@ -12,7 +13,8 @@ use Rattle.regions.specs.Step.{world_step}
 use Rattle.replay.specs.declared.fault.ReplayFault.{ReplayFault}
 use Rattle.replay.specs.declared.fault.ReplayFault.TheVariants.{DoesNotFit, Impossible, Memory, Writer}
 use Rattle.replay.specs.declared.state.State.{State as StateInMemory}
-use Rattle.replay.specs.States.{Stands, AreInRange}
+use Rattle.replay.specs.declared.state.TrapAt.{TrapAt}
+use Rattle.replay.specs.States.{Stands, AreInRange, trap_at}
 
 -- entry i, counted from 1, is the first that isn't possible
 pub record IsFirstImpossible (unit : SourceUnit) (w : World) (journal : Journal) (i : ℕ) : Type 0 where
@@ -38,6 +40,12 @@ pub record StopsInRun (unit : SourceUnit) (w : World) (journal : Journal) (old n
   pub text : List ℕ
   pub is : Writes unit w journal text
   pub stopped : StopsWithin old new text
+
+-- the trap that stops the journal's run, if one does
+pub record EndsBy (unit : SourceUnit) (w : World) (journal : Journal) (trap : Option TrapAt) : Type 0 where
+  pub end : State
+  pub replays : replay unit w journal ≡ Some end
+  pub stopped : option_map trap_at end.stop ≡ trap
 
 -- why a replay wasn't written, and what was done to the sink
 abbrev pub IsStoppedBy : SourceUnit → World → Journal → Written → Written → ReplayFault → Type 0

@@ -6,12 +6,12 @@ ghost use Rattle.syntax.specs.Views.{unit_tree};
 ghost use Rattle.types.specs.BuiltCalls.{calls_are_built};
 ghost use Rattle.world.specs.SceneWorld.{world_of_scene};
 ghost use Rattle.world.specs.Sink.{CanFail};
-ghost use Rattle.replay.specs.Replays.{Replayed, IsRefused, WritesRun, IsStoppedBy, IsReplayable, IsFromOutside};
+ghost use Rattle.replay.specs.Replays.{Replayed, IsRefused, WritesRun, IsStoppedBy, IsReplayable, IsFromOutside, EndsBy};
 
 use crate::fault::ReplayFault;
 use crate::load::start;
 use crate::rows::Objects;
-use crate::state::{State, standings_of, take_entry};
+use crate::state::{State, TrapAt, shown_stop, standings_of, take_entry};
 use regions::Checked;
 use std::alloc::Global;
 use syntax::Item;
@@ -41,7 +41,8 @@ fn run<'a>(
     Ok(state)
 }
 
-/// Writes the report of a run that took these steps, and their journal, without code, addresses or a collector.
+/// Writes the report of a run that took these steps, and their journal, without code, addresses or a collector. Answers the
+/// trap that stopped the run, if one did.
 ///
 /// Its time is proportional to the journal's length, for programs and worlds of one size. What was written reaches
 /// the sink's writer before it answers `Ok`. Where an entry isn't possible or a call doesn't fit, and where memory is
@@ -52,9 +53,10 @@ pub fn replay<W: Sink>(
     world: &World,
     journal: &[Entry],
     out: &mut W,
-) -> Result<(), ReplayFault>
+) -> Result<Option<TrapAt>, ReplayFault>
     requires { CanFail (W.written out.old) }
     ensures ok { OnOk result (WritesRun (unit_tree checked.now) (world_of_scene world.now) journal.now (W.written out.old) (W.written out.new)) }
+    ensures trap { IfOk result (EndsBy (unit_tree checked.now) (world_of_scene world.now) journal.now) }
     ensures none_waits { OnOk result ((W.written out.new).waiting ≡ 0) }
     ensures err { IfErr result (IsStoppedBy (unit_tree checked.now) (world_of_scene world.now) journal.now (W.written out.old) (W.written out.new)) }
     // Faults 82 and 91 are answered only where they must be.
@@ -68,7 +70,7 @@ pub fn replay<W: Sink>(
     let standings = standings_of(alloc, &state)?;
     let objects = Objects { world: state.world };
     match write_run(out, &state.printed, &standings, &objects, journal) {
-        Ok(()) => Ok(()),
+        Ok(()) => Ok(shown_stop(state.stop)),
         Err(_) => Err(ReplayFault::Writer),
     }
 }

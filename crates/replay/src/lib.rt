@@ -23,3 +23,4 @@ mod variable;
 
 pub use fault::ReplayFault;
 pub use journal::replay;
+pub use state::TrapAt;

@@ -4,7 +4,7 @@ ghost use Rattle.std.specs.Prelude.{◌≡◌, IfOk, IsTrue};
 ghost use Rattle.syntax.specs.Limits.{IsTree};
 ghost use Rattle.syntax.specs.Views.{unit_tree};
 ghost use Rattle.types.specs.BuiltCalls.{calls_are_built};
-ghost use Rattle.replay.specs.States.{AreInRange, TakesEntry, IsNoted, is_possible, standing_of, standings_of};
+ghost use Rattle.replay.specs.States.{AreInRange, TakesEntry, shown_stop, IsNoted, is_possible, standing_of, standings_of};
 
 use crate::thread::{Step, Thread, take_step};
 use crate::trap::{Trap, trap_number};
@@ -19,6 +19,15 @@ pub(crate) struct Stop {
     pub thread: u8,
     pub trap: Trap,
     /// The line of the statement.
+    pub line: usize,
+}
+
+/// Where a trap stopped a run.
+#[derive(Clone, Copy, Debug, PartialEq, Eq)]
+pub struct TrapAt {
+    /// The number under which the trap is reported.
+    pub number: u8,
+    /// The line of its statement, counted from 1.
     pub line: usize,
 }
 
@@ -89,6 +98,17 @@ pub(crate) fn take_entry<'a>(
     let step = take_step(alloc, items, state.world, thread)?;
     let possible = note(state, entry.thread, step)?;
     Ok(possible)
+}
+
+/// The trap's number and line.
+pub(crate) fn shown_stop(stop: Option<Stop>) -> Option<TrapAt>
+    ensures { result ≡ shown_stop stop }
+{
+    let stop = stop?;
+    Some(TrapAt {
+        number: trap_number(stop.trap),
+        line: stop.line,
+    })
 }
 
 /// The status of thread `k`.

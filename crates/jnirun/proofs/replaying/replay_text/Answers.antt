@@ -22,7 +22,7 @@ pub returns-in-Ok-replay-clause-replay : goal.returns-in-Ok-replay-clause-replay
 returns-in-Ok-replay-clause-replay g c =
     let count : length c.threads.result.now ≡ length c.in-Ok-read_world.world.threads = simp length-map at (ap length c.threads.ensures.calls) in
     replayed c.args.program_text.now c.args.world_text.now c.args.journal_text.now (g.W.Sink.written c.args.out.now) (unit_tree c.in-Ok.checked) c.in-Ok-read_world.world c.in-Ok-read_journal.journal.items
-    c.in-Ok.ensures.program c.in-Ok-read_world.ensures.read (rw count at c.in-Ok-read_journal.ensures.read) (g.W.Sink.written c.replay.new.out) c.in-Ok-replay.field-0 c.in-Ok-replay.ensures.none_waits
+    c.in-Ok.ensures.program c.in-Ok-read_world.ensures.read (rw count at c.in-Ok-read_journal.ensures.read) (g.W.Sink.written c.replay.new.out) c.in-Ok-replay.trap (rw c.deref.ensures.value at c.in-Ok-replay.ensures.trap) c.in-Ok-replay.ensures.none_waits
     c.in-Ok-read_world.ensures.means (rw count at c.in-Ok-read_journal.ensures.means) (rw c.deref.ensures.value at c.in-Ok-replay.ensures.ok)
 
 pub returns-clause-replay : goal.returns-clause-replay

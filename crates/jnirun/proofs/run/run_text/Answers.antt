@@ -41,15 +41,15 @@ unreachable-requires g c =
 pub returns-in-Ok-report-clause-run : goal.returns-in-Ok-report-clause-run
 returns-in-Ok-report-clause-run g c =
     let count : length c.threads.result.now ≡ length c.in-Ok-read_world.world.threads = simp length-map at (ap length c.threads.ensures.calls) in
-    ran c.args.program_text.now c.args.world_text.now c.args.schedule_text.now (g.W.Sink.written c.args.out.now) c.in-Ok.checked c.in-Ok-read_world.world c.in-Ok-read_schedule.schedule c.in-Ok-load.machine c.run.new.self (g.W.Sink.written c.report.new.sink) (Ok c.in-Ok-report.field-0) c.in-Ok-report.ensures.none_waits
+    rw c.trap_at-trap.ensures (ran c.args.program_text.now c.args.world_text.now c.args.schedule_text.now (g.W.Sink.written c.args.out.now) c.in-Ok.checked c.in-Ok-read_world.world c.in-Ok-read_schedule.schedule c.in-Ok-load.machine c.run.new.self c.stop.result (g.W.Sink.written c.report.new.sink) (Ok c.in-Ok-report.field-0) c.stop.ensures c.in-Ok-report.ensures.none_waits
     c.in-Ok.ensures.program c.in-Ok-read_world.ensures.read (rw count at c.in-Ok-read_schedule.ensures.read) (rw c.in-Ok-lower.ensures.ok at c.in-Ok-load.ensures.fits)
     c.in-Ok-read_world.ensures.means (rw count at c.in-Ok-read_schedule.ensures.means)
-    (rw c.in-Ok-lower.ensures.ok at c.in-Ok-load.ensures.ok) c.in-Ok-run.ensures.ok c.in-Ok-report.ensures.run
+    (rw c.in-Ok-lower.ensures.ok at c.in-Ok-load.ensures.ok) c.in-Ok-run.ensures.ok c.in-Ok-report.ensures.run)
 
 pub returns-clause-run : goal.returns-clause-run
 returns-clause-run g c =
     let count : length c.threads.result.now ≡ length c.in-Ok-read_world.world.threads = simp length-map at (ap length c.threads.ensures.calls) in
-    ran c.args.program_text.now c.args.world_text.now c.args.schedule_text.now (g.W.Sink.written c.args.out.now) c.in-Ok.checked c.in-Ok-read_world.world c.in-Ok-read_schedule.schedule c.in-Ok-load.machine c.run.new.self (g.W.Sink.written c.report.new.sink) (Err c.in-Err-report.field-0) c.in-Err-report.ensures.none_waits
+    ran c.args.program_text.now c.args.world_text.now c.args.schedule_text.now (g.W.Sink.written c.args.out.now) c.in-Ok.checked c.in-Ok-read_world.world c.in-Ok-read_schedule.schedule c.in-Ok-load.machine c.run.new.self c.stop.result (g.W.Sink.written c.report.new.sink) (Err c.in-Err-report.field-0) c.stop.ensures c.in-Err-report.ensures.none_waits
     c.in-Ok.ensures.program c.in-Ok-read_world.ensures.read (rw count at c.in-Ok-read_schedule.ensures.read) (rw c.in-Ok-lower.ensures.ok at c.in-Ok-load.ensures.fits)
     c.in-Ok-read_world.ensures.means (rw count at c.in-Ok-read_schedule.ensures.means)
     (rw c.in-Ok-lower.ensures.ok at c.in-Ok-load.ensures.ok) c.in-Ok-run.ensures.ok c.in-Err-report.ensures.run

@@ -3,7 +3,7 @@ use Rattle.jnirun.specs.Serve.{is_done, lacks_memory, loses_text}
 use Rattle.jnirun.proofs.serving.serve_texts.Goals as goal
 
 pub returns-in-Ok : goal.returns-in-Ok
-returns-in-Ok g c = is_done c.in-Ok.ensures refl
+returns-in-Ok g c = is_done c.in-Ok.trap c.in-Ok.ensures (rw c.deref.ensures.value at c.tell_trap.ensures)
 
 pub refuse-requires-clause-earned : goal.refuse-requires-clause-earned
 refuse-requires-clause-earned g c = let h = rw c.in-Err-Fault.field-0-is at c.in-Err-Fault.ensures in h.1
