@@ -18,8 +18,8 @@ use Rattle.regions.specs.State.{State}
 use Rattle.replay.specs.declared.fault.ReplayFault.{ReplayFault}
 use Rattle.replay.specs.declared.fault.ReplayFault.TheVariants as replaying
 use Rattle.replay.specs.Replays.{WritesRun, IsStoppedBy, IsReplayable, IsFromOutside, EndsBy}
-use Rattle.replay.specs.declared.state.TrapAt.{TrapAt}
-use Rattle.replay.specs.States.{trap_at}
+use Rattle.replay.specs.declared.trap_at.TrapAt.{TrapAt}
+use Rattle.replay.specs.TrapAt.{trap_at}
 use Rattle.jnirun.specs.declared.fault.Place.TheVariants as place
 use Rattle.jnirun.specs.declared.fault.Text.TheVariants as which
 use Rattle.jnirun.specs.declared.fault.RunError.{RunError}

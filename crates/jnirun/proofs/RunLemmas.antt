@@ -39,8 +39,8 @@ use Rattle.jnirun.specs.Passes.{IsRefusal}
 use Rattle.jnirun.specs.Programs.{IsProgram}
 use Rattle.jnirun.specs.Checks.{PassesCheck, ChecksText}
 use Rattle.jnirun.specs.Texts.{Meaning, AreRefused, by_check, by_world, by_schedule, by_load}
-use Rattle.replay.specs.declared.state.TrapAt.{TrapAt}
-use Rattle.replay.specs.States.{trap_at}
+use Rattle.replay.specs.declared.trap_at.TrapAt.{TrapAt}
+use Rattle.replay.specs.TrapAt.{trap_at}
 use Rattle.jnirun.specs.Runs.{RunsTexts, IsRun, EndsRun, IsRunOrFails}
 use Rattle.jnirun.proofs.CheckLemmas as checks
 

@@ -7,7 +7,7 @@ use Rattle.jnirun.specs.declared.fault.Place.{Place}
 use Rattle.jnirun.specs.declared.fault.Place.TheVariants.{Line}
 use Rattle.jnirun.specs.declared.fault.Text.{Text}
 use Rattle.jnirun.specs.declared.fault.Text.TheVariants as which
-use Rattle.replay.specs.declared.state.TrapAt.{TrapAt}
+use Rattle.replay.specs.declared.trap_at.TrapAt.{TrapAt}
 use Rattle.jnirun.specs.Commands.{name_of, text_of, text_at}
 use Rattle.jnirun.specs.Serve.{Tells, TextsEarn, fault_line, error_text, trap_text, TellsTrap, ServesTexts, is_refused}
 use Rattle.jnirun.specs.Telling.{told}

@@ -12,9 +12,9 @@ use Rattle.world.specs.SceneWorld.{world_of_scene}
 use Rattle.world.specs.WorldRules.{IsWorldText}
 use Rattle.regions.specs.Load.{first_load_fault}
 use Rattle.regions.specs.Run.{Writes, replay}
-use Rattle.replay.specs.declared.state.TrapAt.{TrapAt}
+use Rattle.replay.specs.declared.trap_at.TrapAt.{TrapAt}
 use Rattle.replay.specs.Replays.{IsFirstImpossible}
-use Rattle.replay.specs.States.{trap_at}
+use Rattle.replay.specs.TrapAt.{trap_at}
 use Rattle.jnirun.specs.Programs.{IsProgram, IsRefusedProgram}
 use Rattle.jnirun.specs.declared.fault.Place.{Place}
 use Rattle.jnirun.specs.declared.fault.Place.TheVariants.{Line, Entry}

@@ -7,8 +7,8 @@ use Rattle.world.specs.Sink.{Written, AppendsText, StopsWithin}
 use Rattle.world.specs.SceneWorld.{world_of_scene}
 use Rattle.world.specs.WorldRules.{IsWorldText}
 use Rattle.regions.specs.Run.{Writes, JournalFollows, JournalHasRoom}
-use Rattle.replay.specs.declared.state.TrapAt.{TrapAt}
-use Rattle.replay.specs.States.{trap_at}
+use Rattle.replay.specs.declared.trap_at.TrapAt.{TrapAt}
+use Rattle.replay.specs.TrapAt.{trap_at}
 use Rattle.jnirun.specs.Texts.{Meaning}
 use Rattle.jnirun.specs.declared.fault.Place.{Place}
 use Rattle.jnirun.specs.declared.fault.Place.TheVariants.{Line}

@@ -8,7 +8,7 @@ use Rattle.jnirun.specs.declared.fault.Place.TheVariants.{Line, Entry}
 use Rattle.jnirun.specs.Checks.{PassesCheck, FailsCheck}
 use Rattle.jnirun.specs.Commands.{name_of, text_of, text_at}
 use Rattle.jnirun.specs.Files.{OfFiles}
-use Rattle.replay.specs.declared.state.TrapAt.{TrapAt}
+use Rattle.replay.specs.declared.trap_at.TrapAt.{TrapAt}
 use Rattle.jnirun.specs.declared.fault.Text.TheVariants as which
 use Rattle.jnirun.specs.Replays.{EndsReplay, AreRefusedReplays}
 use Rattle.jnirun.specs.Runs.{EndsRun, AppendsRun, StopsRun}

@@ -7,7 +7,7 @@ ghost use Rattle.jnirun.specs.Texts.{Meaning, AreRefused};
 ghost use Rattle.jnirun.specs.Runs.{RunsTexts, EndsRun, IsRunOrFails};
 ghost use Rattle.std.specs.Option.{option_map};
 ghost use Rattle.machine.specs.Stops.{stop_view};
-ghost use Rattle.replay.specs.States.{trap_at};
+ghost use Rattle.replay.specs.TrapAt.{trap_at};
 
 use crate::fault::{Place, RunError, Text};
 use crate::program::program;

@@ -18,7 +18,8 @@ use Rattle.regions.proofs.RunLaws.{replay_from-append, replay_more}
 use Rattle.replay.specs.declared.fault.ReplayFault.{ReplayFault}
 use Rattle.replay.specs.declared.fault.ReplayFault.TheVariants.{DoesNotFit, Impossible, Memory, Writer}
 use Rattle.replay.specs.declared.state.State.{State as StateInMemory}
-use Rattle.replay.specs.States.{TakesEntry, AreInRange, standings_of, stop_view, trap_at, shown_stop}
+use Rattle.replay.specs.States.{TakesEntry, AreInRange, standings_of, stop_view, shown_stop}
+use Rattle.replay.specs.TrapAt.{trap_at}
 use Rattle.replay.specs.declared.state.Stop.{Stop as StopInMemory}
 use Rattle.replay.specs.Rows.{rows_of}
 use Rattle.replay.specs.Replays.{IsFirstImpossible, Replayed, IsRefused, IsLoadFault, IsStoppedBy, IsReplayable, IsFromOutside, EndsBy}

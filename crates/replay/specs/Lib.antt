@@ -6,6 +6,7 @@ pub mod Tasks
 pub mod Steps
 pub mod Activations
 pub mod Threads
+pub mod TrapAt
 pub mod States
 pub mod Loading
 pub mod Faults

@@ -13,8 +13,9 @@ use Rattle.regions.specs.Step.{world_step}
 use Rattle.replay.specs.declared.fault.ReplayFault.{ReplayFault}
 use Rattle.replay.specs.declared.fault.ReplayFault.TheVariants.{DoesNotFit, Impossible, Memory, Writer}
 use Rattle.replay.specs.declared.state.State.{State as StateInMemory}
-use Rattle.replay.specs.declared.state.TrapAt.{TrapAt}
-use Rattle.replay.specs.States.{Stands, AreInRange, trap_at}
+use Rattle.replay.specs.declared.trap_at.TrapAt.{TrapAt}
+use Rattle.replay.specs.TrapAt.{trap_at}
+use Rattle.replay.specs.States.{Stands, AreInRange}
 
 -- entry i, counted from 1, is the first that isn't possible
 pub record IsFirstImpossible (unit : SourceUnit) (w : World) (journal : Journal) (i : ℕ) : Type 0 where

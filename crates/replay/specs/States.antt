@@ -20,7 +20,8 @@ use Rattle.replay.specs.declared.thread.Step.{Step}
 use Rattle.replay.specs.declared.thread.Step.TheVariants as step
 use Rattle.replay.specs.declared.state.State.{State as StateInMemory}
 use Rattle.replay.specs.declared.state.Stop.{Stop as StopInMemory}
-use Rattle.replay.specs.declared.state.TrapAt.{TrapAt}
+use Rattle.replay.specs.declared.trap_at.TrapAt.{TrapAt}
+use Rattle.replay.specs.TrapAt.{trap_at}
 use Rattle.replay.specs.Views.{trap_view}
 use Rattle.replay.specs.Threads.{ThreadStands, WorkInRange}
 
@@ -38,11 +39,7 @@ AreInRange (t ∷ ts) = WorkInRange t.activation × AreInRange ts
 abbrev pub stop_view : StopInMemory → Stop
 stop_view stop = record { thread = stop.thread; trap = trap_view stop.trap; line = stop.line }
 
--- the number and the line of a trap, as they are told
-abbrev pub trap_at : Stop → TrapAt
-trap_at stop = record { number = trap_number stop.trap; line = stop.line }
-
--- the same of the trap in memory, where there is one
+-- the number and the line of the trap in memory, where there is one
 abbrev pub shown_stop : Option StopInMemory → Option TrapAt
 shown_stop stop = option_map (λ s. trap_at (stop_view s)) stop
 

@@ -11,7 +11,8 @@ ghost use Rattle.replay.specs.Replays.{Replayed, IsRefused, WritesRun, IsStopped
 use crate::fault::ReplayFault;
 use crate::load::start;
 use crate::rows::Objects;
-use crate::state::{State, TrapAt, shown_stop, standings_of, take_entry};
+use crate::state::{State, shown_stop, standings_of, take_entry};
+use crate::trap_at::TrapAt;
 use regions::Checked;
 use std::alloc::Global;
 use syntax::Item;

@@ -18,9 +18,10 @@ mod task;
 mod term;
 mod thread;
 mod trap;
+mod trap_at;
 mod value;
 mod variable;
 
 pub use fault::ReplayFault;
 pub use journal::replay;
-pub use state::TrapAt;
+pub use trap_at::TrapAt;

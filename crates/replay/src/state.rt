@@ -8,6 +8,7 @@ ghost use Rattle.replay.specs.States.{AreInRange, TakesEntry, shown_stop, IsNote
 
 use crate::thread::{Step, Thread, take_step};
 use crate::trap::{Trap, trap_number};
+use crate::trap_at::TrapAt;
 use std::alloc::{AllocError, Global};
 use syntax::Item;
 use world::{Entry, Printed, ThreadStatus, World};
@@ -19,15 +20,6 @@ pub(crate) struct Stop {
     pub thread: u8,
     pub trap: Trap,
     /// The line of the statement.
-    pub line: usize,
-}
-
-/// Where a trap stopped a run.
-#[derive(Clone, Copy, Debug, PartialEq, Eq)]
-pub struct TrapAt {
-    /// The number under which the trap is reported.
-    pub number: u8,
-    /// The line of its statement, counted from 1.
     pub line: usize,
 }
 
