@@ -1,15 +1,14 @@
 -- The number of words at each place of code.
-use Rattle.std.proofs.Common.{◌≡◌, ℕ, zero, suc, ◌+◌, ◌<◌, List, [], ◌∷◌, ◌++◌, length, take, get_or, Option, Some, None, refl, sym, ap, ◌∙◌, add-one, below_more, arith}
+use Rattle.std.proofs.Common.{◌≡◌, ℕ, zero, suc, ◌+◌, ◌<◌, ◌≤◌, List, [], ◌∷◌, ◌++◌, length, take, Option, Some, None, refl, sym, ap, subst, ◌∙◌, add-one, below_more, arith}
 use Rattle.std.specs.Prelude.{slice_get, slice_index, IsSome, IsTrue, ◌↔◌}
 use Rattle.std.specs.List.{list_all}
 use Rattle.std.specs.Option.{option_and_then}
 use Rattle.std.proofs.lemmas.List.{take_all}
 use Rattle.std.proofs.Math.ListN.{get_or-append}
 use Rattle.std.proofs.Math.Seq.{get_or-append_seam}
-use Rattle.std.proofs.lemmas.Option.{slice_get-get_or}
 use Rattle.code.specs.declared.instr.Instr.{Instr}
 use Rattle.code.specs.declared.slots.SlotCounts.{SlotCounts}
-use Rattle.code.specs.Depth.{depth_after, depths, depth_at, EndsByLeaving, JumpsLand, within_slots, IsValid}
+use Rattle.code.specs.Depth.{depth_after, depths, depth_at, IsDepthTable, EndsByLeaving, Lands, JumpsLand, within_slots, IsValid}
 
 only_next : (o : Option ℕ) → option_and_then (depths []) o ≡ o
 only_next None = refl
@@ -58,8 +57,8 @@ depth_at_end code = ap (λ (c : List Instr). depths c 0) (take_all (length code)
 -- ---- the table
 
 -- the words after the instruction at a place
-pub depth_step : (code : List Instr) (place : ℕ) (i : Instr) (d : ℕ) → place < length code → depth_at code place ≡ Some d → depth_at code (place + 1) ≡ depth_after (get_or code place i) d
-depth_step code place i d inside here = depth_at-next code place (get_or code place i) (slice_get-get_or code place i inside) ∙ ap (option_and_then (depth_after (get_or code place i))) here
+pub depth_step : (code : List Instr) (place : ℕ) (i : Instr) (d : ℕ) → slice_get code place ≡ Some i → depth_at code place ≡ Some d → depth_at code (place + 1) ≡ depth_after i d
+depth_step code place i d at here = depth_at-next code place i at ∙ ap (option_and_then (depth_after i)) here
 
 -- one place more
 pub words_more : (code : List Instr) (table : List ℕ) (place depth : ℕ) → length table ≡ place → depth_at code place ≡ Some depth → ((k : ℕ) → k < place → depth_at code k ≡ Some (slice_index table k))
@@ -80,3 +79,27 @@ known (Some d) h = (d, refl)
 -- what the checks of code come to
 pub valid_of : (instrs : List Instr) (slots : SlotCounts) → IsSome (depths instrs 0) → EndsByLeaving instrs → JumpsLand instrs → IsTrue (list_all (within_slots slots) instrs) → IsValid (record { instrs = instrs; slots = slots })
 valid_of instrs slots stays ends jumps within = let end = known (depths instrs 0) stays in record { moves = record { depth = end.0; stays = end.1; ends = ends }; jumps = jumps; slots = within }
+
+-- ---- jumps
+
+inside_of : {X : Type 0} (xs : List X) (k : ℕ) (x : X) → slice_get xs k ≡ Some x → k < length xs
+inside_of [] k x at = absurd (cc)
+inside_of (y ∷ xs) zero x at = omega arith
+inside_of (y ∷ xs) (suc k) x at = let within : k < length xs = inside_of xs k x at in omega arith
+
+-- the jump at one place more lands
+pub lands_more : (instrs : List Instr) (table : List ℕ) (place : ℕ) (here : Instr) → slice_get instrs place ≡ Some here → Lands instrs place (slice_index table place) here
+    → ((k : ℕ) (i : Instr) → k < place → slice_get instrs k ≡ Some i → Lands instrs k (slice_index table k) i)
+    → (k : ℕ) (i : Instr) → k < place + 1 → slice_get instrs k ≡ Some i → Lands instrs k (slice_index table k) i
+lands_more instrs table place here at lands before k i h =
+    below_more (λ m. (j : Instr) → slice_get instrs m ≡ Some j → Lands instrs m (slice_index table m) j) place (λ m less j. before m j less) (λ j there. let same : here ≡ j = cc in subst (λ (x : Instr). Lands instrs place (slice_index table place) x) same lands) k h i
+
+-- so do all jumps, where those before the end do
+pub all_land : (instrs : List Instr) (table : List ℕ) (end : ℕ) → IsDepthTable instrs table → length instrs ≤ end
+    → ((k : ℕ) (i : Instr) → k < end → slice_get instrs k ≡ Some i → Lands instrs k (slice_index table k) i) → JumpsLand instrs
+all_land instrs table end is past each place depth i at here =
+    let within : place < length instrs = inside_of instrs place i at in
+    let in_table : place < length table = omega (arith, is.places) in
+    let word = is.words place in_table in
+    let same : slice_index table place ≡ depth = cc in
+    subst (λ d. Lands instrs place d i) same (each place i (omega arith) at)

@@ -82,9 +82,9 @@ plain_keeps (instr.Jump n) stack numbers = refl
 plain_keeps (instr.JumpBack n) stack numbers = refl
 plain_keeps (instr.LoadElement array line) [] numbers = tt
 plain_keeps (instr.LoadElement array line) (index ∷ stack) numbers = one_keeps (nat_lt index array.len) _ _ numbers (loaded_keeps stack numbers (slice_get numbers (array.start + index))) refl
-plain_keeps (instr.StoreElement array type line) [] numbers = tt
-plain_keeps (instr.StoreElement array type line) (word ∷ []) numbers = tt
-plain_keeps (instr.StoreElement array type line) (word ∷ index ∷ stack) numbers = one_keeps (nat_lt index array.len) _ _ numbers (stored_keeps (array.start + index) (element_word type word) stack numbers) refl
+plain_keeps (instr.StoreElement type array line) [] numbers = tt
+plain_keeps (instr.StoreElement type array line) (word ∷ []) numbers = tt
+plain_keeps (instr.StoreElement type array line) (word ∷ index ∷ stack) numbers = one_keeps (nat_lt index array.len) _ _ numbers (stored_keeps (array.start + index) (element_word type word) stack numbers) refl
 plain_keeps (instr.ClearArray array) stack numbers = cleared_keeps array stack numbers (nat_le (array.start + array.len) (length numbers)) refl
 plain_keeps (instr.TestNull variable equal) stack numbers = tt
 plain_keeps (instr.StoreNull variable) stack numbers = tt
@@ -143,9 +143,9 @@ plain_there slots (instr.LoadElement array line) [] numbers after p w l h = absu
 plain_there slots (instr.LoadElement array line) (index ∷ stack) numbers after p w l h =
     let inside = array_inside slots.numbers array w in
     one_there index array.len _ _ (λ k. load_there (array.start + index) stack numbers (omega arith)) (nat_lt index array.len) refl
-plain_there slots (instr.StoreElement array type line) [] numbers after p w l h = absurd (cc)
-plain_there slots (instr.StoreElement array type line) (word ∷ []) numbers after p w l h = absurd (cc)
-plain_there slots (instr.StoreElement array type line) (word ∷ index ∷ stack) numbers after p w l h =
+plain_there slots (instr.StoreElement type array line) [] numbers after p w l h = absurd (cc)
+plain_there slots (instr.StoreElement type array line) (word ∷ []) numbers after p w l h = absurd (cc)
+plain_there slots (instr.StoreElement type array line) (word ∷ index ∷ stack) numbers after p w l h =
     let inside = array_inside slots.numbers array w in
     one_there index array.len _ _ (λ k. store_there (array.start + index) (element_word type word) stack numbers (omega arith)) (nat_lt index array.len) refl
 plain_there slots (instr.ClearArray array) stack numbers after p w l h =

@@ -85,9 +85,9 @@ module _ (code : List Instr) (place : ℕ) where
   led (instr.LoadElement array line) [] numbers after k next lands = tt
   led (instr.LoadElement array line) (index ∷ stack) numbers after k next lands =
       one_led (nat_lt index array.len) _ _ (loaded_led stack numbers (slice_get numbers (array.start + index)) (at_next after (suc (length stack)) (next (λ h. h)) (cc))) tt
-  led (instr.StoreElement array type line) [] numbers after k next lands = tt
-  led (instr.StoreElement array type line) (word ∷ []) numbers after k next lands = tt
-  led (instr.StoreElement array type line) (word ∷ index ∷ stack) numbers after k next lands =
+  led (instr.StoreElement type array line) [] numbers after k next lands = tt
+  led (instr.StoreElement type array line) (word ∷ []) numbers after k next lands = tt
+  led (instr.StoreElement type array line) (word ∷ index ∷ stack) numbers after k next lands =
       one_led (nat_lt index array.len) (number_stored (array.start + index) (element_word type word) stack numbers) _
       (one_led (nat_lt (array.start + index) (length numbers)) (Some (way.Next, stack, slice_set numbers (array.start + index) (element_word type word))) None (at_next after (length stack) (next (λ h. h)) (cc)) tt)
       tt

@@ -1,6 +1,6 @@
 //! Whether the operand stack stays in its range, and jumps lead inside.
 
-ghost use Rattle.std.specs.Prelude.{◌≡◌, ◌+◌, ◌<◌, ◌≤◌, ◌↔◌, List, IsTrue, IsSome, IfSome, IfOk, length, slice_index};
+ghost use Rattle.std.specs.Prelude.{◌≡◌, ◌+◌, ◌-◌, ◌<◌, ◌≤◌, ◌↔◌, List, IsTrue, IsSome, IfSome, IfOk, length, slice_index};
 ghost use Rattle.code.specs.declared.instr.Instr.{Instr};
 ghost use Rattle.code.specs.Depth.{depth_after, depths, IsDepthTable, Leaves, EndsByLeaving, Lands, JumpsLand};
 
@@ -89,10 +89,10 @@ fn lands(instr: &Instr, place: usize, table: &[usize]) -> bool
     let depth = table[place];
     match instr {
         Instr::JumpIfFalseOrPop(n) | Instr::JumpIfTrueOrPop(n) | Instr::Jump(n) => {
-            has_depth(table, place, *n, depth)
+            has_depth(table, place, *n as usize, depth)
         }
-        Instr::JumpIfFalse(n) => has_depth(table, place, *n, depth.saturating_sub(1)),
-        Instr::JumpBack(n) => *n <= place && table[place - *n] == depth,
+        Instr::JumpIfFalse(n) => has_depth(table, place, *n as usize, depth.saturating_sub(1)),
+        Instr::JumpBack(n) => has_depth_before(table, place, *n as usize, depth),
         _ => true,
     }
 }
@@ -103,4 +103,12 @@ fn has_depth(table: &[usize], place: usize, skipped: usize, depth: usize) -> boo
     ensures { IsTrue result ↔ ((place + 1 + skipped < length table.now) × (slice_index table.now (place + 1 + skipped) ≡ depth)) }
 {
     skipped < table.len() - place - 1 && table[place + 1 + skipped] == depth
+}
+
+/// Whether the place `back` places before is inside, with `depth` words.
+fn has_depth_before(table: &[usize], place: usize, back: usize, depth: usize) -> bool
+    requires { place < length table.now }
+    ensures { IsTrue result ↔ ((back ≤ place) × (slice_index table.now (place - back) ≡ depth)) }
+{
+    back <= place && table[place - back] == depth
 }

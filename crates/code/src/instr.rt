@@ -1,5 +1,10 @@
 //! The instructions. Sections in brackets are those of ISO/IEC 9899:1999.
 
+ghost use Rattle.std.specs.Prelude.{◌≡◌, IfOk};
+
+use std::alloc::{AllocError, Global};
+use std::marker::Model;
+
 /// An operator on two words that has a result for all of them, at `uint32_t`, or at `jint` where it says so. A comparison
 /// gives a truth, which is the word 1 or 0; the words of two `jint`s, or of two flags, are equal where these are.
 #[derive(Clone, Copy, Debug, PartialEq, Eq)]
@@ -68,9 +73,9 @@ pub enum ElementType {
 #[derive(Clone, Copy, Debug, PartialEq, Eq)]
 pub struct LocalArray {
     /// The slot of the first element.
-    pub start: usize,
+    pub start: u32,
     /// The number of elements, from 1 to 1,024.
-    pub len: usize,
+    pub len: u32,
 }
 
 /// Where an instruction finds a reference. Slots of references are counted from 0.
@@ -79,20 +84,20 @@ pub enum ReferenceOperand {
     /// `NULL`
     Null,
     /// The local reference in this slot.
-    Local(usize),
+    Local(u32),
 }
 
 /// A variable that can be NULL. Slots of each kind, and statics, are counted from 0.
 #[derive(Clone, Copy, Debug, PartialEq, Eq)]
 pub enum NullableVariable {
     /// The local reference in this slot.
-    Local(usize),
+    Local(u32),
     /// The global reference of this static.
-    Static(usize),
+    Static(u32),
     /// The field ID in this slot.
-    FieldId(usize),
+    FieldId(u32),
     /// The buffer in this slot.
-    Buffer(usize),
+    Buffer(u32),
 }
 
 /// A function of the JNI with its arguments (JNI Specification, chapter 4).
@@ -106,29 +111,61 @@ pub enum Callee {
 #[derive(Clone, Copy, Debug, PartialEq, Eq)]
 pub enum Target {
     /// Into this number slot.
-    Number(usize),
+    Number(u32),
 }
 
 /// A call of a function of the JNI, in a statement on this line.
 #[derive(Clone, Copy, Debug, PartialEq, Eq)]
 pub struct Call {
     /// Counted from 1; a trap of the call is reported there.
-    pub line: usize,
+    pub line: u32,
     pub target: Target,
     pub function: Callee,
 }
 
-/// One instruction, which is one step of the source. Slots of numbers are counted from 0. The line of an instruction that
-/// can trap is its statement's, counted from 1; the trap is reported there. The number of a jump is how many
+/// A call in host memory of its own, seen as the call, so that an instruction stays small however many arguments there are.
+#[derive(Drop, Debug)]
+pub struct BoxedCall {
+    call: Box<Call>,
+}
+
+impl Model for BoxedCall {
+    ghost use Rattle.code.specs.declared.instr.Call.{Call};
+
+    ghost Value = { Call };
+
+    ghost view = { λ b. b.call.value };
+}
+
+impl BoxedCall {
+    /// The same call.
+    pub fn of(alloc: Global, call: Call) -> Result<BoxedCall, AllocError>
+        ensures { IfOk result (λ boxed. boxed ≡ call) }
+    {
+        Ok(BoxedCall {
+            call: Box::new(alloc, call)?,
+        })
+    }
+
+    /// The call.
+    pub fn call(&self) -> &Call
+        ensures { result.now ≡ self.now }
+    {
+        &self.call
+    }
+}
+
+/// One instruction, which is one step of the source, in at most 16 bytes. Slots of numbers are counted from 0. The line of an
+/// instruction that can trap is its statement's, counted from 1; the trap is reported there. The number of a jump is how many
 /// instructions after it are skipped, or how many places it leads back.
-#[derive(Clone, Copy, Debug, PartialEq, Eq)]
+#[derive(Drop, Debug)]
 pub enum Instr {
     /// Puts a constant onto the stack (6.4.4.1).
     Push(u32),
     /// Puts the word of a number slot onto the stack (6.5.1).
-    Load(usize),
+    Load(u32),
     /// Takes a word into a number slot (6.5.16.1).
-    Store(usize),
+    Store(u32),
     /// The bitwise complement of the topmost word (6.5.3.3).
     Complement,
     /// The other truth than the topmost word (6.5.3.3).
@@ -138,22 +175,22 @@ pub enum Instr {
     /// Takes the right operand, then the left, and puts the result.
     Operate(Operator),
     /// Takes the right operand, then the left, and puts the result, or traps on this line.
-    OperateOrTrap(TrappingOperator, usize),
+    OperateOrTrap(TrappingOperator, u32),
     /// The truth 0 stays and the jump is made; the truth 1 is taken (`&&`, 6.5.13).
-    JumpIfFalseOrPop(usize),
+    JumpIfFalseOrPop(u32),
     /// The truth 1 stays and the jump is made; the truth 0 is taken (`||`, 6.5.14).
-    JumpIfTrueOrPop(usize),
+    JumpIfTrueOrPop(u32),
     /// Takes a truth and jumps where it is 0 (6.8.4.1 and 6.8.5.1).
-    JumpIfFalse(usize),
+    JumpIfFalse(u32),
     /// Jumps over instructions (the end of an `if`'s way, 6.8.4.1).
-    Jump(usize),
+    Jump(u32),
     /// Jumps back (the end of a loop's turn, 6.8.5.1).
-    JumpBack(usize),
+    JumpBack(u32),
     /// Takes an index and puts the element there, or traps on this line where there is none (6.5.2.1).
-    LoadElement(LocalArray, usize),
+    LoadElement(LocalArray, u32),
     /// Takes a `jint`, then an index, and writes the element there, converted to its type, or traps on this line where there
     /// is none (6.5.16.1 and 6.3.1.3, where the signed types wrap).
-    StoreElement(LocalArray, ElementType, usize),
+    StoreElement(ElementType, LocalArray, u32),
     /// Writes zeros into an array (6.7.8).
     ClearArray(LocalArray),
     /// Puts the truth whether a variable is NULL, or whether it isn't (6.5.9).
@@ -166,7 +203,7 @@ pub enum Instr {
     /// Takes a word and prints it as a `jint`.
     PutJint,
     /// Calls a function of the JNI.
-    Call(Call),
+    Call(BoxedCall),
     /// Leaves the function without a result (6.8.6.4).
     Return,
     /// Takes a word and leaves the function with it (6.8.6.4).
@@ -174,6 +211,9 @@ pub enum Instr {
     /// Leaves the function with a reference (6.8.6.4).
     ReturnReference(ReferenceOperand),
 }
+
+// Code is read an instruction a step, so that its size is part of how fast a step is.
+const _: () = prove!(size_of::<Instr>() <= 16);
 
 /// Why an instruction that works on the stack and the number slots alone has no result.
 #[derive(Clone, Copy, Debug, PartialEq, Eq)]
@@ -190,7 +230,7 @@ pub enum PlainTrap {
 #[derive(Clone, Copy, Debug, PartialEq, Eq)]
 pub enum Plain {
     Next,
-    Skip(usize),
-    Back(usize),
-    Trap(PlainTrap, usize),
+    Skip(u32),
+    Back(u32),
+    Trap(PlainTrap, u32),
 }

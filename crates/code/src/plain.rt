@@ -17,8 +17,8 @@ pub fn plain(instr: &Instr, stack: &mut Stack, numbers: &mut [u32]) -> Plain
 {
     match instr {
         Instr::Push(word) => stack.push(*word),
-        Instr::Load(slot) => stack.push(numbers[*slot]),
-        Instr::Store(slot) => numbers[*slot] = stack.pop(),
+        Instr::Load(slot) => stack.push(numbers[*slot as usize]),
+        Instr::Store(slot) => numbers[*slot as usize] = stack.pop(),
         Instr::Complement => complement(stack),
         Instr::Not => invert(stack),
         Instr::Convert => {}
@@ -30,10 +30,13 @@ pub fn plain(instr: &Instr, stack: &mut Stack, numbers: &mut [u32]) -> Plain
         Instr::Jump(n) => return Plain::Skip(*n),
         Instr::JumpBack(n) => return Plain::Back(*n),
         Instr::LoadElement(array, line) => return load_element(*array, *line, stack, numbers),
-        Instr::StoreElement(array, element, line) => {
-            return store_element(*array, *element, *line, stack, numbers);
+        Instr::StoreElement(element, array, line) => {
+            return store_element(*element, *array, *line, stack, numbers);
         }
-        Instr::ClearArray(array) => clear(&mut numbers[array.start..array.start + array.len]),
+        Instr::ClearArray(array) => {
+            let start = array.start as usize;
+            clear(&mut numbers[start..start + array.len as usize]);
+        }
         _ => unreachable!(),
     }
     Plain::Next
@@ -109,7 +112,7 @@ fn result_or_trap(operator: TrappingOperator, left: u32, right: u32) -> Result<u
 }
 
 /// A trap leaves the operands on the stack.
-fn operate_or_trap(operator: TrappingOperator, line: usize, stack: &mut Stack) -> Plain
+fn operate_or_trap(operator: TrappingOperator, line: u32, stack: &mut Stack) -> Plain
     requires { 1 < length stack.old }
     ensures { (numbers : List ℕ) → plain_of (OperateOrTrap operator line) stack.old numbers ≡ Some (result, stack.new, numbers) }
 {
@@ -128,7 +131,7 @@ fn operate_or_trap(operator: TrappingOperator, line: usize, stack: &mut Stack) -
     }
 }
 
-fn jump_if_false_or_pop(n: usize, stack: &mut Stack) -> Plain
+fn jump_if_false_or_pop(n: u32, stack: &mut Stack) -> Plain
     requires { 0 < length stack.old }
     ensures { (numbers : List ℕ) → plain_of (JumpIfFalseOrPop n) stack.old numbers ≡ Some (result, stack.new, numbers) }
 {
@@ -140,7 +143,7 @@ fn jump_if_false_or_pop(n: usize, stack: &mut Stack) -> Plain
     Plain::Next
 }
 
-fn jump_if_true_or_pop(n: usize, stack: &mut Stack) -> Plain
+fn jump_if_true_or_pop(n: u32, stack: &mut Stack) -> Plain
     requires { 0 < length stack.old }
     ensures { (numbers : List ℕ) → plain_of (JumpIfTrueOrPop n) stack.old numbers ≡ Some (result, stack.new, numbers) }
 {
@@ -152,7 +155,7 @@ fn jump_if_true_or_pop(n: usize, stack: &mut Stack) -> Plain
     Plain::Skip(n)
 }
 
-fn jump_if_false(n: usize, stack: &mut Stack) -> Plain
+fn jump_if_false(n: u32, stack: &mut Stack) -> Plain
     requires { 0 < length stack.old }
     ensures { (numbers : List ℕ) → plain_of (JumpIfFalse n) stack.old numbers ≡ Some (result, stack.new, numbers) }
 {
@@ -163,13 +166,13 @@ fn jump_if_false(n: usize, stack: &mut Stack) -> Plain
     }
 }
 
-fn load_element(array: LocalArray, line: usize, stack: &mut Stack, numbers: &[u32]) -> Plain
+fn load_element(array: LocalArray, line: u32, stack: &mut Stack, numbers: &[u32]) -> Plain
     requires { IsSome (plain_of (LoadElement array line) stack.old numbers.now) }
     ensures { plain_of (LoadElement array line) stack.old numbers.now ≡ Some (result, stack.new, numbers.now) }
 {
     let index = stack.pop();
-    if (index as usize) < array.len {
-        stack.push(numbers[array.start + index as usize]);
+    if index < array.len {
+        stack.push(numbers[array.start as usize + index as usize]);
         Plain::Next
     } else {
         stack.push(index);
@@ -178,19 +181,19 @@ fn load_element(array: LocalArray, line: usize, stack: &mut Stack, numbers: &[u3
 }
 
 fn store_element(
-    array: LocalArray,
     element: ElementType,
-    line: usize,
+    array: LocalArray,
+    line: u32,
     stack: &mut Stack,
     numbers: &mut [u32],
 ) -> Plain
-    requires { IsSome (plain_of (StoreElement array element line) stack.old numbers.old) }
-    ensures { plain_of (StoreElement array element line) stack.old numbers.old ≡ Some (result, stack.new, numbers.new) }
+    requires { IsSome (plain_of (StoreElement element array line) stack.old numbers.old) }
+    ensures { plain_of (StoreElement element array line) stack.old numbers.old ≡ Some (result, stack.new, numbers.new) }
 {
     let word = stack.pop();
     let index = stack.pop();
-    if (index as usize) < array.len {
-        numbers[array.start + index as usize] = element_word(element, word);
+    if index < array.len {
+        numbers[array.start as usize + index as usize] = element_word(element, word);
         Plain::Next
     } else {
         stack.push(index);

@@ -10,15 +10,15 @@ use crate::instr::{Callee, Instr, LocalArray, NullableVariable, ReferenceOperand
 #[derive(Clone, Copy, Debug, PartialEq, Eq)]
 pub struct SlotCounts {
     /// Slots of numbers, the elements of local arrays among them.
-    pub numbers: usize,
+    pub numbers: u32,
     /// Slots of local references.
-    pub references: usize,
+    pub references: u32,
     /// Statics, each with a global reference.
-    pub statics: usize,
+    pub statics: u32,
     /// Slots of field IDs.
-    pub field_ids: usize,
+    pub field_ids: u32,
     /// Slots of buffers.
-    pub buffers: usize,
+    pub buffers: u32,
 }
 
 /// Whether all instructions find their slots.
@@ -35,19 +35,22 @@ fn within_slots(instr: &Instr, slots: SlotCounts) -> bool
     match instr {
         Instr::Load(slot) | Instr::Store(slot) => *slot < slots.numbers,
         Instr::LoadElement(array, _)
-        | Instr::StoreElement(array, _, _)
+        | Instr::StoreElement(_, array, _)
         | Instr::ClearArray(array) => array_within(*array, slots.numbers),
         Instr::TestNull { variable, equal: _ } | Instr::StoreNull(variable) => {
             variable_within(*variable, slots)
         }
-        Instr::Call(call) => target_within(call.target, slots.numbers)
-            && callee_within(call.function, slots.references),
+        Instr::Call(boxed) => {
+            let call = boxed.call();
+            target_within(call.target, slots.numbers)
+                && callee_within(call.function, slots.references)
+        }
         Instr::ReturnReference(operand) => operand_within(*operand, slots.references),
         _ => true,
     }
 }
 
-fn array_within(array: LocalArray, numbers: usize) -> bool
+fn array_within(array: LocalArray, numbers: u32) -> bool
     ensures { result ≡ array_within numbers array }
 {
     0 < array.len && array.len <= 1024 && array.len <= numbers && array.start <= numbers - array.len
@@ -64,7 +67,7 @@ fn variable_within(variable: NullableVariable, slots: SlotCounts) -> bool
     }
 }
 
-fn target_within(target: Target, numbers: usize) -> bool
+fn target_within(target: Target, numbers: u32) -> bool
     ensures { result ≡ target_within numbers target }
 {
     match target {
@@ -72,7 +75,7 @@ fn target_within(target: Target, numbers: usize) -> bool
     }
 }
 
-fn callee_within(function: Callee, references: usize) -> bool
+fn callee_within(function: Callee, references: u32) -> bool
     ensures { result ≡ callee_within references function }
 {
     match function {
@@ -80,7 +83,7 @@ fn callee_within(function: Callee, references: usize) -> bool
     }
 }
 
-fn operand_within(operand: ReferenceOperand, references: usize) -> bool
+fn operand_within(operand: ReferenceOperand, references: u32) -> bool
     ensures { result ≡ operand_within references operand }
 {
     match operand {

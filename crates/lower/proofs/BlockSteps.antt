@@ -296,7 +296,7 @@ module _ (code : Listing) (known : Known) (place : ℕ) (stack : List ℕ) (slot
         d.type,
         shown.array_type,
         record {
-          here = instr.StoreElement (record { start = d.start; len = d.size }) (element_of d.type) line;
+          here = instr.StoreElement (element_of d.type) (record { start = d.start; len = d.size }) line;
           numbers = slice_set slots.numbers (d.start + k) (element_word (element_of d.type) (cast_unsigned w32 z));
           at = d.at.0;
           plain = rw (d.operands, word, below, lt-ltb (d.start + k) (length slots.numbers) inside) refl;
@@ -308,7 +308,7 @@ module _ (code : Listing) (known : Known) (place : ℕ) (stack : List ℕ) (slot
   element_written line x v z k rest d returns word index false below =
       let shown = shows.each x (record { sort = Array d.type d.size; index = d.start }) d.array in
       rw (index, shown.past k (ltb-false k d.size below)) (record {
-        here = instr.StoreElement (record { start = d.start; len = d.size }) (element_of d.type) line;
+        here = instr.StoreElement (element_of d.type) (record { start = d.start; len = d.size }) line;
         trap = trap.OutOfRange;
         is = refl;
         at = d.at.0;
@@ -322,7 +322,7 @@ module _ (code : Listing) (known : Known) (place : ℕ) (stack : List ℕ) (slot
   write_step line x (Int (negsuc n)) z rest d returns =
       let shown = shows.each x (record { sort = Array d.type d.size; index = d.start }) d.array in
       record {
-        here = instr.StoreElement (record { start = d.start; len = d.size }) (element_of d.type) line;
+        here = instr.StoreElement (element_of d.type) (record { start = d.start; len = d.size }) line;
         trap = trap.OutOfRange;
         is = refl;
         at = d.at.0;
@@ -338,7 +338,7 @@ module _ (code : Listing) (known : Known) (place : ℕ) (stack : List ℕ) (slot
   element_step line x (Done v) (Done (Truth b)) rest h = absurd (let c : Jint ≡ sort.Truth = h.stand.value in cc)
   element_step line x (Done v) e rest h =
       let d = h.stand in
-      step_inside code known place stack slots visible shows line e Jint (word_of v ∷ []) (instr.StoreElement (record { start = d.start; len = d.size }) (element_of d.type) line ∷ []) (SetElement line x (Done v)) rest tt d.value d.begun d.operands d.at (λ u. h.returns)
+      step_inside code known place stack slots visible shows line e Jint (word_of v ∷ []) (instr.StoreElement (element_of d.type) (record { start = d.start; len = d.size }) line ∷ []) (SetElement line x (Done v)) rest tt d.value d.begun d.operands d.at (λ u. h.returns)
       (λ p u sorted begun at size.
       let end : place + (0 + length (term_code known line e)) + 1 ≡ p + (0 + length (term_code known line u)) + 1 = omega (arith, size) in
       record {
@@ -357,7 +357,7 @@ module _ (code : Listing) (known : Known) (place : ℕ) (stack : List ℕ) (slot
   element_step line x i e rest h =
       let d = h.stand in
       let parts = left_first BitOr i e tt d.begun in
-      step_inside code known place stack slots visible shows line i d.index.0 [] (term_code known line e ++ instr.StoreElement (record { start = d.start; len = d.size }) (element_of d.type) line ∷ []) (λ u. SetElement line x u e) rest tt d.index.2 parts.0
+      step_inside code known place stack slots visible shows line i d.index.0 [] (term_code known line e ++ instr.StoreElement (element_of d.type) (record { start = d.start; len = d.size }) line ∷ []) (λ u. SetElement line x u e) rest tt d.index.2 parts.0
       (d.operands ∙ ap (λ q. q ++ held i) (untouched_held e parts.1) ∙ sym (append-nil (held i))) d.at (λ u. h.returns)
       (λ p u sorted begun at size.
       let end : place + (length (term_code known line i) + length (term_code known line e)) + 1 ≡ p + (length (term_code known line u) + length (term_code known line e)) + 1 = omega (arith, size) in

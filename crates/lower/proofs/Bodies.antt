@@ -249,7 +249,7 @@ element_set_stands code line x i e l place tail at fits laid room further =
     let type = fits.0.0 in
     let size = fits.0.1 in
     let start = fits.0.2 in
-    let store = instr.StoreElement (record { start = start; len = size }) (element_of type) line ∷ [] in
+    let store = instr.StoreElement (element_of type) (record { start = start; len = size }) line ∷ [] in
     let I = expr_code l.known line i in
     let E = expr_code l.known line e in
     let is : of_slot (write_code line) (lookup x l.known) ≡ store = ap (of_slot (write_code line)) fits.0.3 in

@@ -149,7 +149,7 @@ if_piece known line test then' else' fits h k =
 write_piece : (l : Layout) (line : ℕ) (x : Identifier) (i e : Expr) → StmtFits l (tree.AssignElement line x i e) → IsPiece (stmt_code l (tree.AssignElement line x i e)) 0 0
 write_piece l line x i e fits =
     let array = fits.0 in
-    let store = instr.StoreElement (record { start = array.2; len = array.1 }) (element_of array.0) line in
+    let store = instr.StoreElement (element_of array.0) (record { start = array.2; len = array.1 }) line in
     piece_append (expr_code l.known line i) (expr_code l.known line e ++ of_slot (write_code line) (lookup x l.known)) 0 1 0 (number_piece l.known line (term_of i) fits.1.0 0 fits.1.2 (omega arith))
     (piece_append (expr_code l.known line e) (of_slot (write_code line) (lookup x l.known)) 1 2 0 (number_piece l.known line (term_of e) Jint 1 fits.2 (omega arith))
     (subst (λ c. IsPiece c 2 0) (sym (ap (of_slot (write_code line)) array.3)) (piece_one store 2 0 refl tt)))

@@ -65,7 +65,7 @@ element_code line s i = []
 
 -- such an element is written
 abbrev pub write_code : (line : ℕ) → Sort → ℕ → List Instr
-write_code line (Array t size) i = StoreElement (record { start = i; len = size }) (element_of t) line ∷ []
+write_code line (Array t size) i = StoreElement (element_of t) (record { start = i; len = size }) line ∷ []
 write_code line s i = []
 
 -- a part that needs the slot of a name

@@ -104,7 +104,7 @@ pub record SetElementStands (code : Listing) (known : Known) (place : ℕ) (stac
   pub value : TermHasSort known e Jint
   pub begun : IsBegun (Binary BitOr i e)
   pub operands : stack ≡ held e ++ held i
-  pub at : HasAt code.instrs place (term_code known line i ++ (term_code known line e ++ instr.StoreElement (record { start = start; len = size }) (element_of type) line ∷ []))
+  pub at : HasAt code.instrs place (term_code known line i ++ (term_code known line e ++ instr.StoreElement (element_of type) (record { start = start; len = size }) line ∷ []))
   pub further : after (place + (length (term_code known line i) + length (term_code known line e)) + 1) known
 
 -- the variable that a NULL goes to

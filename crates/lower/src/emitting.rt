@@ -1,6 +1,6 @@
-//! One instruction after another.
+//! One instruction after another, and the numbers in them.
 
-ghost use Rattle.std.specs.Prelude.{◌≡◌, ◌<◌, [], ◌∷◌, ◌++◌, OnOk, vec_len, slice_set};
+ghost use Rattle.std.specs.Prelude.{◌≡◌, ◌<◌, [], ◌∷◌, ◌++◌, IfOk, OnOk, vec_len, slice_set};
 
 use code::instr::Instr;
 use std::alloc::AllocError;
@@ -19,4 +19,14 @@ pub(crate) fn replace(code: &mut Vec<Instr>, place: usize, instr: Instr)
     ensures { code.new.items ≡ slice_set code.old.items place instr }
 {
     code[place] = instr;
+}
+
+/// A number as instructions have it. Where it has more than 32 bits, so much can't be held.
+pub(crate) fn counted(number: usize) -> Result<u32, AllocError>
+    ensures { IfOk result (λ n. n ≡ number) }
+{
+    match u32::try_from(number) {
+        Ok(counted) => Ok(counted),
+        Err(_) => Err(AllocError),
+    }
 }

@@ -10,7 +10,7 @@ ghost use Rattle.lower.specs.Length.{function_steps, step_limit, IsTooLong};
 ghost use Rattle.lower.specs.Lowered.{IsCodeOf};
 ghost use Rattle.lower.specs.Names.{known_behind};
 
-use crate::emitting::emit;
+use crate::emitting::{counted, emit};
 use crate::fault::LowerFault;
 use crate::names::{Known, Names, Slot, Sort, with_spare};
 use crate::program::Program;
@@ -26,7 +26,9 @@ const MOST_STEPS: usize = 65_535;
 
 /// The program's code, of which each instruction is one step of the source.
 ///
-/// `TooLong` exactly where a function has more than 65,535 steps, counted on its tree.
+/// `TooLong` exactly where a function has more than 65,535 steps, counted on its tree. What an instruction counts has 32 bits: a
+/// statement past the line 4,294,967,295, and more slots or longer jumps than that, which no accepted program has, are
+/// answered by `Memory`.
 pub fn lower<'a>(alloc: Global, checked: &'a Checked) -> Result<Program<'a>, LowerFault>
     ensures ok { IfOk result (λ p. p.unit ≡ checked.now) }
     ensures short { IfOk result (λ _. IsTooLong (unit_tree checked.now) → ⊥) }
@@ -50,7 +52,7 @@ pub fn lower<'a>(alloc: Global, checked: &'a Checked) -> Result<Program<'a>, Low
 fn declare_static<'a>(statics: &mut Vec<Known<'a>>, named: &'a Static) -> Result<(), AllocError>
     ensures { OnOk result (known_behind statics.new.items [] ≡ with_static (static_tree named.now) (known_behind statics.old.items [])) }
 {
-    let index = statics.len();
+    let index = counted(statics.len())?;
     statics.push(Known {
         name: &named.name,
         slot: Slot {

@@ -7,6 +7,7 @@ ghost use Rattle.syntax.specs.Views.{function_tree};
 ghost use Rattle.lower.specs.Layout.{new_slot, slots_after, with_name, closed, entry_layout};
 ghost use Rattle.lower.specs.Names.{sort_view, slot_view, known_behind, latest_of};
 
+use crate::emitting::counted;
 use code::slots::SlotCounts;
 use std::alloc::{AllocError, Global};
 use std::marker::Model;
@@ -24,14 +25,14 @@ pub(crate) enum Sort {
     /// Its elements, and whether they may be written.
     Buffer(ElementType, bool),
     /// Its elements, and how many there are.
-    Array(ElementType, usize),
+    Array(ElementType, u32),
 }
 
 /// A name's sort and where its value is, counted among the slots of its kind; the elements of an array begin there.
 #[derive(Clone, Copy)]
 pub(crate) struct Slot {
     pub(crate) sort: Sort,
-    pub(crate) index: usize,
+    pub(crate) index: u32,
 }
 
 /// A name and its slot.
@@ -95,7 +96,7 @@ impl<'a> Names<'a> {
             slots: SlotCounts {
                 numbers,
                 references,
-                statics: statics.len(),
+                statics: counted(statics.len())?,
                 field_ids: 0,
                 buffers: 0,
             },
@@ -161,7 +162,7 @@ impl<'a> Names<'a> {
     }
 }
 
-fn known_as<'a>(name: &'a Name, sort: Sort, index: usize) -> Known<'a>
+fn known_as<'a>(name: &'a Name, sort: Sort, index: u32) -> Known<'a>
     ensures slot { result.slot ≡ record { sort = sort; index = index } }
     ensures name { result.name.now ≡ name.now }
 {
@@ -185,13 +186,13 @@ fn latest(known: &[Known<'_>], name: &Name, before: Option<Slot>) -> Option<Slot
 }
 
 /// One more, where it can be counted.
-fn one_more(count: usize) -> Result<usize, AllocError>
+fn one_more(count: u32) -> Result<u32, AllocError>
     ensures { IfOk result (λ n. n ≡ count + 1) }
 {
     more(count, 1)
 }
 
-fn more(count: usize, by: usize) -> Result<usize, AllocError>
+fn more(count: u32, by: u32) -> Result<u32, AllocError>
     ensures { IfOk result (λ n. n ≡ count + by) }
 {
     match count.checked_add(by) {

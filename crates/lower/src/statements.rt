@@ -9,11 +9,11 @@ ghost use Rattle.lower.specs.Layout.{closed, layout_after, block_layout, with_na
 ghost use Rattle.lower.specs.Coding.{operand_code, call_code, right_code, assign_code, write_code, of_slot, return_code, returned_code, test_code, first_code, loop_code, expr_code, stmt_code, block_code};
 ghost use Rattle.lower.specs.Names.{sort_view, slot_view};
 
-use crate::emitting::{emit, replace};
+use crate::emitting::{counted, emit, replace};
 use crate::names::{Names, Slot, Sort};
 use crate::terms::{element_type, emit_expr, nullable};
 use code::instr;
-use code::instr::{Callee, Instr, LocalArray, ReferenceOperand, Target};
+use code::instr::{BoxedCall, Callee, Instr, LocalArray, ReferenceOperand, Target};
 use std::alloc::{AllocError, Global};
 use syntax::{
     Argument, Block, Call, Constant, ElementType, Expr, Form, Name, RightSide, Test, VariableType,
@@ -25,7 +25,7 @@ pub(crate) fn emit_form<'a>(
     alloc: Global,
     code: &mut Vec<Instr>,
     names: &mut Names<'a>,
-    line: usize,
+    line: u32,
     form: &'a Form,
 ) -> Result<(), AllocError>
     ensures code { OnOk result (code.new.items ≡ code.old.items ++ stmt_code names.old (form_tree line form.now)) }
@@ -43,7 +43,7 @@ pub(crate) fn emit_form<'a>(
             emit_declaration(code, names, line, name, sort, right)
         }
         Form::DeclareArray(element, name, size) => {
-            emit_array(code, names, name, *element, *size as usize)
+            emit_array(code, names, name, *element, *size)
         }
         Form::Assign(name, right) => emit_assignment(code, names, line, name, right),
         Form::AssignElement(name, index, value) => {
@@ -79,7 +79,7 @@ pub(crate) fn emit_block<'a>(
 {
     let mut inner = names.inside(alloc)?;
     for stmt in &block.statements {
-        emit_form(alloc, code, &mut inner, stmt.line, &stmt.form)?;
+        emit_form(alloc, code, &mut inner, counted(stmt.line)?, &stmt.form)?;
     }
     names.close(&inner);
     Ok(())
@@ -91,7 +91,7 @@ fn emit_first<'a>(
     alloc: Global,
     code: &mut Vec<Instr>,
     names: &mut Names<'a>,
-    line: usize,
+    line: u32,
     test: &Test,
     first: &'a Block,
 ) -> Result<usize, AllocError>
@@ -105,7 +105,7 @@ fn emit_first<'a>(
     emit_block(alloc, code, names, first)?;
     let end = code.len();
     emit(code, Instr::Jump(0))?;
-    replace(code, jump, Instr::JumpIfFalse(end - jump));
+    replace(code, jump, Instr::JumpIfFalse(counted(end - jump)?));
     Ok(end)
 }
 
@@ -114,7 +114,7 @@ fn emit_end(code: &mut Vec<Instr>, end: usize) -> Result<(), AllocError>
     requires { end < vec_len code.old }
     ensures { OnOk result (code.new.items ≡ slice_set (code.old.items ++ Instr.Jump 0 ∷ []) end (Instr.Jump (vec_len code.old - end))) }
 {
-    let skipped = code.len() - end;
+    let skipped = counted(code.len() - end)?;
     emit(code, Instr::Jump(0))?;
     replace(code, end, Instr::Jump(skipped));
     Ok(())
@@ -126,7 +126,7 @@ fn emit_loop<'a>(
     alloc: Global,
     code: &mut Vec<Instr>,
     names: &mut Names<'a>,
-    line: usize,
+    line: u32,
     body: &'a Block,
     test: &Expr,
 ) -> Result<(), AllocError>
@@ -139,8 +139,8 @@ fn emit_loop<'a>(
     emit(code, Instr::JumpIfFalse(0))?;
     emit_block(alloc, code, names, body)?;
     let back = code.len();
-    emit(code, Instr::JumpBack(back - start))?;
-    replace(code, jump, Instr::JumpIfFalse(back - jump));
+    emit(code, Instr::JumpBack(counted(back - start)?))?;
+    replace(code, jump, Instr::JumpIfFalse(counted(back - jump)?));
     Ok(())
 }
 
@@ -148,7 +148,7 @@ fn emit_loop<'a>(
 fn emit_test(
     code: &mut Vec<Instr>,
     names: &Names<'_>,
-    line: usize,
+    line: u32,
     test: &Test,
 ) -> Result<(), AllocError>
     ensures { OnOk result (code.new.items ≡ code.old.items ++ test_code names.now.known line (test_tree test.now)) }
@@ -176,7 +176,7 @@ fn variable_sort(kind: VariableType) -> Sort
 fn emit_declaration<'a>(
     code: &mut Vec<Instr>,
     names: &mut Names<'a>,
-    line: usize,
+    line: u32,
     name: &'a Name,
     sort: Sort,
     right: &RightSide,
@@ -194,7 +194,7 @@ fn emit_array<'a>(
     names: &mut Names<'a>,
     name: &'a Name,
     element: ElementType,
-    len: usize,
+    len: u32,
 ) -> Result<(), AllocError>
     ensures code { OnOk result (code.new.items ≡ code.old.items ++ Instr.ClearArray (record { start = names.old.slots.numbers; len = len }) ∷ []) }
     ensures names { OnOk result (names.new ≡ with_name name.now (sort_view (Sort.Array element len)) names.old) }
@@ -208,7 +208,7 @@ fn emit_array<'a>(
 fn emit_assignment(
     code: &mut Vec<Instr>,
     names: &Names<'_>,
-    line: usize,
+    line: u32,
     name: &Name,
     right: &RightSide,
 ) -> Result<(), AllocError>
@@ -224,7 +224,7 @@ fn emit_assignment(
 fn emit_right(
     code: &mut Vec<Instr>,
     names: &Names<'_>,
-    line: usize,
+    line: u32,
     slot: Slot,
     right: &RightSide,
 ) -> Result<(), AllocError>
@@ -247,7 +247,7 @@ fn emit_right(
 fn emit_element_set(
     code: &mut Vec<Instr>,
     names: &Names<'_>,
-    line: usize,
+    line: u32,
     name: &Name,
     index: &Expr,
     value: &Expr,
@@ -263,7 +263,7 @@ fn emit_element_set(
 fn emit_dropped(
     code: &mut Vec<Instr>,
     names: &Names<'_>,
-    line: usize,
+    line: u32,
     call: &Call,
 ) -> Result<(), AllocError>
     ensures { OnOk result (code.new.items ≡ code.old.items ++ call_code names.now.known line names.now.slots.numbers (call_tree call.now).arguments) }
@@ -276,7 +276,7 @@ fn emit_dropped(
 fn emit_print(
     code: &mut Vec<Instr>,
     names: &Names<'_>,
-    line: usize,
+    line: u32,
     number: &Expr,
 ) -> Result<(), AllocError>
     ensures { OnOk result (code.new.items ≡ code.old.items ++ (expr_code names.now.known line (expr_tree number.now) ++ Instr.PutJint ∷ [])) }
@@ -289,7 +289,7 @@ fn emit_print(
 fn emit_write(
     code: &mut Vec<Instr>,
     names: &Names<'_>,
-    line: usize,
+    line: u32,
     name: &Name,
 ) -> Result<(), AllocError>
     ensures { OnOk result (code.new.items ≡ code.old.items ++ of_slot (write_code line) (lookup name.now names.now.known)) }
@@ -304,7 +304,7 @@ fn emit_write(
             let array = LocalArray { start: index, len };
             emit(
                 code,
-                Instr::StoreElement(array, element_type(element), line),
+                Instr::StoreElement(element_type(element), array, line),
             )
         }
         _ => Ok(()),
@@ -315,8 +315,8 @@ fn emit_write(
 fn emit_call(
     code: &mut Vec<Instr>,
     names: &Names<'_>,
-    line: usize,
-    slot: usize,
+    line: u32,
+    slot: u32,
     arguments: &[Argument],
 ) -> Result<(), AllocError>
     ensures { OnOk result (code.new.items ≡ code.old.items ++ call_code names.now.known line slot (map argument_tree arguments.now)) }
@@ -325,14 +325,13 @@ fn emit_call(
         [Argument::Value(reference)] => {
             let function = Callee::GetArrayLength(operand_of(names, reference));
             let target = Target::Number(slot);
-            emit(
-                code,
-                Instr::Call(instr::Call {
-                    line,
-                    target,
-                    function,
-                }),
-            )
+            let call = instr::Call {
+                line,
+                target,
+                function,
+            };
+            let boxed = BoxedCall::of(*code.allocator(), call)?;
+            emit(code, Instr::Call(boxed))
         }
         _ => Ok(()),
     }
@@ -360,7 +359,7 @@ fn operand_of(names: &Names<'_>, argument: &Expr) -> ReferenceOperand
 fn emit_return(
     code: &mut Vec<Instr>,
     names: &Names<'_>,
-    line: usize,
+    line: u32,
     value: &Expr,
 ) -> Result<(), AllocError>
     ensures { OnOk result (code.new.items ≡ code.old.items ++ return_code names.now.known line (term_of (expr_tree value.now))) }

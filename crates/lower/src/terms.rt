@@ -11,7 +11,7 @@ ghost use Rattle.regions.specs.Term.{term_of};
 ghost use Rattle.lower.specs.Coding.{nullable_of, element_of, element_code, null_code, of_slot, constant_code, prefix_code, operator_code, is_signed, skip_code, logical_code, term_code, expr_code};
 ghost use Rattle.lower.specs.Names.{sort_view};
 
-use crate::emitting::{emit, replace};
+use crate::emitting::{counted, emit, replace};
 use crate::names::{Names, Slot, Sort};
 use code::instr;
 use code::instr::{Instr, LocalArray, NullableVariable, Operator, TrappingOperator};
@@ -23,7 +23,7 @@ use syntax::{BinaryOp, Constant, ElementType, Expr, Name, PrefixOp};
 pub(crate) fn emit_expr(
     code: &mut Vec<Instr>,
     names: &Names<'_>,
-    line: usize,
+    line: u32,
     expr: &Expr,
 ) -> Result<(), AllocError>
     ensures { OnOk result (code.new.items ≡ code.old.items ++ expr_code names.now.known line (expr_tree expr.now)) }
@@ -65,7 +65,7 @@ fn emit_constant(code: &mut Vec<Instr>, constant: Constant) -> Result<(), AllocE
 fn emit_element(
     code: &mut Vec<Instr>,
     names: &Names<'_>,
-    line: usize,
+    line: u32,
     name: &Name,
 ) -> Result<(), AllocError>
     ensures { OnOk result (code.new.items ≡ code.old.items ++ of_slot (element_code line) (lookup name.now names.now.known)) }
@@ -89,7 +89,7 @@ fn emit_element(
 fn emit_binary(
     code: &mut Vec<Instr>,
     names: &Names<'_>,
-    line: usize,
+    line: u32,
     operator: BinaryOp,
     left: &Expr,
     right: &Expr,
@@ -129,7 +129,7 @@ fn emit_binary(
 fn emit_operator(
     code: &mut Vec<Instr>,
     names: &Names<'_>,
-    line: usize,
+    line: u32,
     operator: BinaryOp,
     left: &Expr,
     right: &Expr,
@@ -147,7 +147,7 @@ fn emit_operator(
 fn emit_logical(
     code: &mut Vec<Instr>,
     names: &Names<'_>,
-    line: usize,
+    line: u32,
     conjunction: bool,
     left: &Expr,
     right: &Expr,
@@ -158,12 +158,12 @@ fn emit_logical(
     let place = code.len();
     emit(code, skip(conjunction, 0))?;
     emit_expr(code, names, line, right)?;
-    let skipped = code.len() - place - 1;
+    let skipped = counted(code.len() - place - 1)?;
     replace(code, place, skip(conjunction, skipped));
     Ok(())
 }
 
-fn skip(conjunction: bool, skipped: usize) -> Instr
+fn skip(conjunction: bool, skipped: u32) -> Instr
     ensures { result ≡ skip_code conjunction skipped }
 {
     if conjunction {
@@ -256,7 +256,7 @@ fn prefix_instr(operator: PrefixOp) -> Instr
 }
 
 /// A comparison is one of `jint`s where its operands are.
-fn operator_instr(line: usize, signed: bool, operator: BinaryOp) -> Instr
+fn operator_instr(line: u32, signed: bool, operator: BinaryOp) -> Instr
     ensures { result ≡ operator_code line signed (binary_tree operator) }
 {
     match operator {
