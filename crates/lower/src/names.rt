@@ -1,17 +1,17 @@
 //! The slots of a function's names.
 
-ghost use Rattle.std.specs.Prelude.{◌≡◌, ◌+◌, IfOk, OnOk};
+ghost use Rattle.std.specs.Prelude.{◌≡◌, ◌+◌, [], ◌∷◌, ◌++◌, map, IfOk, OnOk};
 ghost use Rattle.std.specs.Option.{option_map};
 ghost use Rattle.base.specs.Bytes.{lookup};
-ghost use Rattle.syntax.specs.Views.{function_tree};
-ghost use Rattle.lower.specs.Layout.{new_slot, slots_after, with_name, closed, entry_layout};
-ghost use Rattle.lower.specs.Names.{sort_view, slot_view, known_behind, latest_of};
+ghost use Rattle.syntax.specs.Views.{function_tree, parameter_type_tree};
+ghost use Rattle.lower.specs.Layout.{new_slot, parameter_slot, numbers_after, references_after, slots_after, with_name, closed, entry_layout};
+ghost use Rattle.lower.specs.Names.{sort_view, slot_view, entry_view, known_behind, latest_of};
 
 use crate::emitting::counted;
 use code::slots::SlotCounts;
 use std::alloc::{AllocError, Global};
 use std::marker::Model;
-use syntax::{ElementType, Function, Name, ParameterType};
+use syntax::{ElementType, Function, Name, Parameter, ParameterType};
 
 /// What a name is.
 #[derive(Clone, Copy)]
@@ -73,21 +73,13 @@ impl<'a> Names<'a> {
     ) -> Result<Names<'a>, AllocError>
         ensures { IfOk result (λ n. n ≡ entry_layout (known_behind statics.now []) (function_tree function.now)) }
     {
+        let declared = counted(statics.len())?;
         let mut known = Vec::new(alloc);
         known.push(known_as(&function.class_name, Sort::Reference, 0))?;
         let mut numbers = 0;
         let mut references = 1;
         for parameter in &function.parameters {
-            match parameter.kind {
-                ParameterType::Jint => {
-                    known.push(known_as(&parameter.name, Sort::Jint, numbers))?;
-                    numbers = one_more(numbers)?;
-                }
-                ParameterType::Reference(_) => {
-                    known.push(known_as(&parameter.name, Sort::Reference, references))?;
-                    references = one_more(references)?;
-                }
-            }
+            add_parameter(&mut known, &mut numbers, &mut references, parameter)?;
         }
         known.reverse();
         Ok(Names {
@@ -96,7 +88,7 @@ impl<'a> Names<'a> {
             slots: SlotCounts {
                 numbers,
                 references,
-                statics: counted(statics.len())?,
+                statics: declared,
                 field_ids: 0,
                 buffers: 0,
             },
@@ -160,6 +152,30 @@ impl<'a> Names<'a> {
     {
         self.slots
     }
+}
+
+/// A parameter after others that took so many slots.
+fn add_parameter<'a>(
+    known: &mut Vec<Known<'a>>,
+    numbers: &mut u32,
+    references: &mut u32,
+    parameter: &'a Parameter,
+) -> Result<(), AllocError>
+    ensures known { OnOk result (map entry_view known.new.items ≡ map entry_view known.old.items ++ (parameter.now.name, parameter_slot (parameter_type_tree parameter.now.kind) numbers.old references.old) ∷ []) }
+    ensures numbers { OnOk result (numbers.new ≡ numbers_after (parameter_type_tree parameter.now.kind) numbers.old) }
+    ensures references { OnOk result (references.new ≡ references_after (parameter_type_tree parameter.now.kind) references.old) }
+{
+    match parameter.kind {
+        ParameterType::Jint => {
+            known.push(known_as(&parameter.name, Sort::Jint, *numbers))?;
+            *numbers = one_more(*numbers)?;
+        }
+        ParameterType::Reference(_) => {
+            known.push(known_as(&parameter.name, Sort::Reference, *references))?;
+            *references = one_more(*references)?;
+        }
+    }
+    Ok(())
 }
 
 fn known_as<'a>(name: &'a Name, sort: Sort, index: u32) -> Known<'a>

@@ -1,6 +1,6 @@
 //! The code of statements and blocks.
 
-ghost use Rattle.std.specs.Prelude.{◌≡◌, ◌+◌, ◌-◌, ◌<◌, [], ◌∷◌, ◌++◌, slice_set, vec_len, map, IfOk, OnOk};
+ghost use Rattle.std.specs.Prelude.{◌≡◌, ◌+◌, ◌-◌, ◌<◌, ◌≤◌, [], ◌∷◌, ◌++◌, slice_set, vec_len, map, IfOk, OnOk};
 ghost use Rattle.base.specs.Bytes.{lookup};
 ghost use Rattle.syntax.specs.Views.{element_tree, expr_tree, argument_tree, call_tree, right_side_tree, test_tree, variable_type_tree, form_tree, block_tree};
 ghost use Rattle.types.specs.SortRules.{variable_sort};
@@ -103,9 +103,20 @@ fn emit_first<'a>(
     let jump = code.len();
     emit(code, Instr::JumpIfFalse(0))?;
     emit_block(alloc, code, names, first)?;
+    close_first(code, jump)
+}
+
+/// The end of an `if`'s first way: a jump, and how far that after the test leads. It answers the place of the former, which is
+/// not known yet.
+fn close_first(code: &mut Vec<Instr>, jump: usize) -> Result<usize, AllocError>
+    requires { jump < vec_len code.old }
+    ensures end { IfOk result (λ end. end + 1 ≡ vec_len code.new) }
+    ensures code { OnOk result (code.new.items ≡ slice_set (code.old.items ++ Instr.Jump 0 ∷ []) jump (Instr.JumpIfFalse (vec_len code.old - jump))) }
+{
     let end = code.len();
+    let skipped = counted(end - jump)?;
     emit(code, Instr::Jump(0))?;
-    replace(code, jump, Instr::JumpIfFalse(counted(end - jump)?));
+    replace(code, jump, Instr::JumpIfFalse(skipped));
     Ok(end)
 }
 
@@ -138,9 +149,20 @@ fn emit_loop<'a>(
     let jump = code.len();
     emit(code, Instr::JumpIfFalse(0))?;
     emit_block(alloc, code, names, body)?;
-    let back = code.len();
-    emit(code, Instr::JumpBack(counted(back - start)?))?;
-    replace(code, jump, Instr::JumpIfFalse(counted(back - jump)?));
+    close_turn(code, start, jump)
+}
+
+/// The end of a loop's turn: the jump back to the test, and how far that after the test leads.
+fn close_turn(code: &mut Vec<Instr>, start: usize, jump: usize) -> Result<(), AllocError>
+    requires begun { start ≤ jump }
+    requires inside { jump < vec_len code.old }
+    ensures { OnOk result (code.new.items ≡ slice_set (code.old.items ++ Instr.JumpBack (vec_len code.old - start) ∷ []) jump (Instr.JumpIfFalse (vec_len code.old - jump))) }
+{
+    let end = code.len();
+    let back = counted(end - start)?;
+    let skipped = counted(end - jump)?;
+    emit(code, Instr::JumpBack(back))?;
+    replace(code, jump, Instr::JumpIfFalse(skipped));
     Ok(())
 }
 

@@ -32,8 +32,14 @@ pub fn begin(
         function: next.function,
         place: 0,
         stack: Stack::new(),
-        numbers: number_slots(alloc, &next.arguments, slots.numbers)?,
-        references: reference_slots(alloc, loaded, next.class, &next.arguments, slots.references)?,
+        numbers: number_slots(alloc, &next.arguments, slots.numbers as usize)?,
+        references: reference_slots(
+            alloc,
+            loaded,
+            next.class,
+            &next.arguments,
+            slots.references as usize,
+        )?,
     })
 }
 

@@ -22,11 +22,11 @@ pub fn invoke(world: &World, heap: &Heap, call: &mut Activation, function: Call)
     match array_length(world, heap, reference_in(&call.references, operand)) {
         Ok(length) => {
             let Target::Number(slot) = function.target;
-            call.numbers[slot] = length;
+            call.numbers[slot as usize] = length;
             call.place += 1;
             Event::Quiet
         }
-        Err(trap) => Event::Trapped(trap, function.line),
+        Err(trap) => Event::Trapped(trap, function.line as usize),
     }
 }
 
@@ -36,7 +36,7 @@ fn reference_in(references: &[Option<Addr>], operand: ReferenceOperand) -> Optio
 {
     match operand {
         ReferenceOperand::Null => None,
-        ReferenceOperand::Local(slot) => references.get(slot).copied().unwrap_or(None),
+        ReferenceOperand::Local(slot) => references.get(slot as usize).copied().unwrap_or(None),
     }
 }
 

@@ -167,7 +167,7 @@ fn execute(program: &Program<'_>, world: &World, heap: &Heap, call: &mut Activat
             call.place += 1;
             Executed::Did(Event::Printed(word.cast_signed()))
         }
-        Instr::Call(function) => Executed::Did(invoke(world, heap, call, *function)),
+        Instr::Call(boxed) => Executed::Did(invoke(world, heap, call, *boxed.call())),
         Instr::Return | Instr::ReturnJint | Instr::ReturnReference(_) => Executed::Returned,
         _ => match plain(instr, &mut call.stack, &mut call.numbers) {
             Plain::Next => {
@@ -175,14 +175,14 @@ fn execute(program: &Program<'_>, world: &World, heap: &Heap, call: &mut Activat
                 Executed::Did(Event::Quiet)
             }
             Plain::Skip(skipped) => {
-                call.place += 1 + skipped;
+                call.place += 1 + skipped as usize;
                 Executed::Did(Event::Quiet)
             }
             Plain::Back(back) => {
-                call.place -= back;
+                call.place -= back as usize;
                 Executed::Did(Event::Quiet)
             }
-            Plain::Trap(trap, line) => Executed::Did(Event::Trapped(trap_of(trap), line)),
+            Plain::Trap(trap, line) => Executed::Did(Event::Trapped(trap_of(trap), line as usize)),
         },
     }
 }

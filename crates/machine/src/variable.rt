@@ -11,7 +11,11 @@ pub fn is_null(references: &[Option<Addr>], variable: NullableVariable) -> bool
     ensures { result ≡ is_null references.now variable }
 {
     match variable {
-        NullableVariable::Local(slot) => references.get(slot).copied().unwrap_or(None).is_none(),
+        NullableVariable::Local(slot) => references
+            .get(slot as usize)
+            .copied()
+            .unwrap_or(None)
+            .is_none(),
         NullableVariable::Static(_) | NullableVariable::FieldId(_) | NullableVariable::Buffer(_) =>
             true,
     }
@@ -23,7 +27,7 @@ pub fn set_null(references: &mut [Option<Addr>], variable: NullableVariable)
     ensures { references.new ≡ with_null variable references.old }
 {
     match variable {
-        NullableVariable::Local(slot) => references[slot] = None,
+        NullableVariable::Local(slot) => references[slot as usize] = None,
         NullableVariable::Static(_) | NullableVariable::FieldId(_) | NullableVariable::Buffer(_) =>
             {}
     }

@@ -8,4 +8,4 @@ pub returns : goal.returns
 returns c =
     rw c.in_ok-push.ensures.items
     (known_behind-append c.args.statics.now.items _ []
-    ∙ ap (λ (n : ℕ). (c.args.named.now.name, record { sort = Global; index = n }) ∷ known_behind c.args.statics.now.items []) (omega (arith, c.len-index.ensures, c.args.statics.now.ok, known_behind-length c.args.statics.now.items [])))
+    ∙ ap (λ (n : ℕ). (c.args.named.now.name, record { sort = Global; index = n }) ∷ known_behind c.args.statics.now.items []) (omega (arith, c.in_ok-index.ensures, c.len.ensures, c.args.statics.now.ok, known_behind-length c.args.statics.now.items [])))

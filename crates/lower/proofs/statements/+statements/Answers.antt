@@ -12,32 +12,50 @@ use Rattle.lower.specs.Coding.{first_code, ways_code, loop_code, stmt_code, bloc
 use Rattle.lower.proofs.Jumps.{first_made, ways_made, loop_made}
 use Rattle.lower.proofs.statements.+statements.Goals as goal
 
--- what four calls append, and the jump that is set at the end
-first_whole : (old a b c d new test then' : List Instr) (jump end : ℕ) → a ≡ old ++ test → b ≡ a ++ instr.JumpIfFalse 0 ∷ [] → c ≡ b ++ then' → d ≡ c ++ instr.Jump 0 ∷ [] → jump ≡ length a → end ≡ length c → new ≡ slice_set d jump (instr.JumpIfFalse (end - jump)) → new ≡ old ++ first_code test then'
-first_whole old a b c d new test then' jump end ea eb ec ed ej ee en =
-    let size : end - jump ≡ length then' + 1 = omega (arith, ej, ee, ap length ec, ap length eb, length-append b then', length-append a (instr.JumpIfFalse 0 ∷ [])) in
+on_ok : {A E : Type 0} (r : Result A E) (P Q : Type 0) → (P → Q) → OnOk r P → OnOk r Q
+on_ok (Ok x) P Q f h = f h
+on_ok (Err e) P Q f h = h
+
+-- what three calls append, and the jumps at the end
+first_whole : (old a b c new test then' : List Instr) (jump : ℕ) → a ≡ old ++ test → b ≡ a ++ instr.JumpIfFalse 0 ∷ [] → c ≡ b ++ then' → jump ≡ length a → new ≡ slice_set (c ++ instr.Jump 0 ∷ []) jump (instr.JumpIfFalse (length c - jump)) → new ≡ old ++ first_code test then'
+first_whole old a b c new test then' jump ea eb ec ej en =
+    let size : length c - jump ≡ length then' + 1 = omega (arith, ej, ap length ec, ap length eb, length-append b then', length-append a (instr.JumpIfFalse 0 ∷ [])) in
     let place : jump ≡ length (old ++ test) = ej ∙ ap length ea in
-    en ∙ rw (ed, ec, eb, ea) (first_made old test then' jump (end - jump) place size)
+    let appended : c ≡ ((old ++ test) ++ instr.JumpIfFalse 0 ∷ []) ++ then' = ec ∙ rw (eb, ea) refl in
+    en ∙ ap (λ l. slice_set (l ++ instr.Jump 0 ∷ []) jump (instr.JumpIfFalse (length c - jump))) appended ∙ first_made old test then' jump (length c - jump) place size
 
 pub emit_first-returns-clause-code : goal.emit_first-returns-clause-code
 emit_first-returns-clause-code t c =
-    first_whole c.args.code.now.items _ _ _ _ _ _ _ c.len-jump.result c.len-end.result c.in_ok-emit_test.ensures c.in_ok-emit.ensures c.in_ok-emit_block.ensures.code c.in_ok-emit-2.ensures (omega (arith, c.len-jump.ensures)) (omega (arith, c.len-end.ensures)) c.replace.ensures
+    let whole = c.emit_block.new.code in
+    on_ok c.close_first.result _ _
+    (λ (e : c.close_first.new.code.items ≡ slice_set (whole.items ++ instr.Jump 0 ∷ []) c.len-jump.result (instr.JumpIfFalse (vec_len whole - c.len-jump.result))).
+    first_whole c.args.code.now.items _ _ whole.items _ _ _ c.len-jump.result c.in_ok-emit_test.ensures c.in_ok-emit.ensures c.in_ok-emit_block.ensures.code (omega (arith, c.len-jump.ensures))
+    (e ∙ ap (λ n. slice_set (whole.items ++ instr.Jump 0 ∷ []) c.len-jump.result (instr.JumpIfFalse (n - c.len-jump.result))) whole.ok.0))
+    c.close_first.ensures.code
 
--- what the test, the jump and the body append, and the jump that is set at the end
-loop_whole : (old a b c d new test body : List Instr) (start jump back m n : ℕ) → a ≡ old ++ test → b ≡ a ++ instr.JumpIfFalse 0 ∷ [] → c ≡ b ++ body → d ≡ c ++ instr.JumpBack m ∷ [] → start ≡ length old → jump ≡ length a → back ≡ length c → m ≡ back - start → n ≡ back - jump
-    → new ≡ slice_set d jump (instr.JumpIfFalse n) → new ≡ old ++ loop_code test body
-loop_whole old a b c d new test body start jump back m n ea eb ec ed es ej ee em size en =
+-- what the test, the jump and the body append, and the jumps at the end
+loop_whole : (old a b c new test body : List Instr) (start jump : ℕ) → a ≡ old ++ test → b ≡ a ++ instr.JumpIfFalse 0 ∷ [] → c ≡ b ++ body → start ≡ length old → jump ≡ length a
+    → new ≡ slice_set (c ++ instr.JumpBack (length c - start) ∷ []) jump (instr.JumpIfFalse (length c - jump)) → new ≡ old ++ loop_code test body
+loop_whole old a b c new test body start jump ea eb ec es ej en =
     let first = ap length ea ∙ length-append old test in
     let all = ap length ec ∙ length-append b body in
     let more = ap length eb ∙ length-append a (instr.JumpIfFalse 0 ∷ []) in
-    let far : n ≡ length body + 1 = omega (arith, size, ej, ee, all, more) in
-    let turn : m ≡ length test + 1 + length body = omega (arith, em, es, ee, all, more, first) in
+    let appended : c ≡ ((old ++ test) ++ instr.JumpIfFalse 0 ∷ []) ++ body = ec ∙ rw (eb, ea) refl in
+    let far : length c - jump ≡ length body + 1 = omega (arith, ej, all, more) in
+    let turn : length c - start ≡ length test + 1 + length body = omega (arith, es, all, more, first) in
     let place : jump ≡ length (old ++ test) = ej ∙ ap length ea in
-    en ∙ rw (ed, ec, eb, ea) (loop_made old test body jump n m place far turn)
+    en ∙ ap (λ l. slice_set (l ++ instr.JumpBack (length c - start) ∷ []) jump (instr.JumpIfFalse (length c - jump))) appended ∙ loop_made old test body jump (length c - jump) (length c - start) place far turn
 
 pub emit_loop-returns-clause-code : goal.emit_loop-returns-clause-code
 emit_loop-returns-clause-code t c =
-    loop_whole c.args.code.now.items _ _ _ _ _ _ _ c.len-start.result c.len-jump.result c.len-back.result _ _ c.in_ok-emit_expr.ensures c.in_ok-emit.ensures c.in_ok-emit_block.ensures.code c.in_ok-emit-2.ensures (omega (arith, c.len-start.ensures)) (omega (arith, c.len-jump.ensures)) (omega (arith, c.len-back.ensures)) refl refl c.replace.ensures
+    let whole = c.emit_block.new.code in
+    let start = c.len-start.result in
+    let jump = c.len-jump.result in
+    on_ok c.close_turn.result _ _
+    (λ (e : c.close_turn.new.code.items ≡ slice_set (whole.items ++ instr.JumpBack (vec_len whole - start) ∷ []) jump (instr.JumpIfFalse (vec_len whole - jump))).
+    loop_whole c.args.code.now.items _ _ whole.items _ _ _ start jump c.in_ok-emit_expr.ensures c.in_ok-emit.ensures c.in_ok-emit_block.ensures.code (omega (arith, c.len-start.ensures)) (omega (arith, c.len-jump.ensures))
+    (e ∙ ap (λ n. slice_set (whole.items ++ instr.JumpBack (n - start) ∷ []) jump (instr.JumpIfFalse (n - jump))) whole.ok.0))
+    c.close_turn.ensures
 
 -- both ways of an `if`, of which the jump at the end of the first is set at the end
 ways_whole : (old a b new test then' else' : List Instr) (end n : ℕ) → a ≡ old ++ first_code test then' → b ≡ a ++ else' → end + 1 ≡ length a → n ≡ length b → new ≡ slice_set (b ++ instr.Jump 0 ∷ []) end (instr.Jump (n - end)) → new ≡ old ++ (test ++ ways_code then' (else' ++ instr.Jump 0 ∷ []))
@@ -48,10 +66,6 @@ ways_whole old a b new test then' else' end n ea eb at size en =
 
 way_whole : (old a new test then' : List Instr) (end n : ℕ) → a ≡ old ++ first_code test then' → end + 1 ≡ length a → n ≡ length a → new ≡ slice_set (a ++ instr.Jump 0 ∷ []) end (instr.Jump (n - end)) → new ≡ old ++ (test ++ ways_code then' (instr.Jump 0 ∷ []))
 way_whole old a new test then' end n ea at size en = ways_whole old a a new test then' [] end n ea (sym (append-nil a)) at size en
-
-on_ok : {A E : Type 0} (r : Result A E) (P Q : Type 0) → (P → Q) → OnOk r P → OnOk r Q
-on_ok (Ok x) P Q f h = f h
-on_ok (Err e) P Q f h = h
 
 pub emit_form-returns-in_ok-end-in-If-clause-code : goal.emit_form-returns-in_ok-end-in-If-clause-code
 emit_form-returns-in_ok-end-in-If-clause-code t c =

@@ -27,6 +27,7 @@ whole f statics items i n r ks same past known numbers references =
 
 pub returns : goal.returns
 returns c =
-    rw c.reverse.ensures.items
+    let declared : c.in_ok-declared.declared ≡ length c.args.statics.now = omega (arith, c.in_ok-declared.ensures) in
+    rw (c.reverse.ensures.items, declared)
     (whole c.args.function.now c.args.statics.now c.deref-parameter-items.result.now c.loop-parameter.parameter-index c.loop-parameter.numbers c.loop-parameter.references c.loop-parameter.known.items
     c.deref-parameter-items.ensures.value c.loop-parameter-test.false c.loop-parameter.invariant.known c.loop-parameter.invariant.numbers c.loop-parameter.invariant.references)
