@@ -1,7 +1,7 @@
 use code::code::Code;
 use code::instr::{
-    Call, Callee, ElementType, Instr, LocalArray, NullableVariable, Operator, Plain, PlainTrap,
-    ReferenceOperand, Target, TrappingOperator,
+    BoxedCall, Call, Callee, ElementType, Instr, LocalArray, NullableVariable, Operator, Plain,
+    PlainTrap, ReferenceOperand, Target, TrappingOperator,
 };
 use code::plain::plain;
 use code::slots::SlotCounts;
@@ -16,14 +16,22 @@ const NO_SLOTS: SlotCounts = SlotCounts {
     buffers: 0,
 };
 
+#[test]
+fn an_instruction_takes_16_bytes_at_most(rt: HostRuntime) {
+    assert!(rt; size_of::<Instr>() <= 16, "{}", size_of::<Instr>());
+}
+
 // jint n = GetArrayLength(a); while (n > 0) { put_jint(n); } return; with a in the second slot of references.
 #[test]
 fn code_keeps_its_instructions(rt: HostRuntime) -> Result<(), Fail> {
-    let call = Call {
-        line: 3,
-        target: Target::Number(0),
-        function: Callee::GetArrayLength(ReferenceOperand::Local(1)),
-    };
+    let call = BoxedCall::of(
+        rt.alloc(),
+        Call {
+            line: 3,
+            target: Target::Number(0),
+            function: Callee::GetArrayLength(ReferenceOperand::Local(1)),
+        },
+    )?;
     let instrs = vec![in rt.alloc();
         Instr::Call(call),
         Instr::Load(0),
@@ -43,8 +51,12 @@ fn code_keeps_its_instructions(rt: HostRuntime) -> Result<(), Fail> {
     let Some(code) = Code::of(instrs, slots)? else {
         return Err(Fail::new("refused"));
     };
-    let got = (code.len(), code.slots(), code.get(7).copied());
-    assert!(rt; got == (9, slots, Some(Instr::JumpBack(6))));
+    let line = match code.get(0) {
+        Some(Instr::Call(call)) => call.call().line,
+        _ => 0,
+    };
+    let jumps = matches!(code.get(7), Some(Instr::JumpBack(6)));
+    assert!(rt; (code.len(), code.slots(), line, jumps) == (9, slots, 3, true));
     Ok(())
 }
 
@@ -182,7 +194,7 @@ fn elements_are_converted(rt: HostRuntime) {
         stack.push(1);
         stack.push(98_432);
         let mut numbers = [5, 6, 7, 8];
-        let store = Instr::StoreElement(array, element, 4);
+        let store = Instr::StoreElement(element, array, 4);
         let _ = plain(&store, &mut stack, &mut numbers);
         assert!(rt; numbers == [5, 6, want, 8], "{element:?}");
     }

@@ -1,4 +1,4 @@
-use Rattle.std.proofs.Common.{rules, Bor, Option, ◌≡◌, ℕ, ◌+◌, ◌-◌, Some, ◌∷◌, List, length, refl, sym, ap, ◌∙◌, subst, arith, ℤ, Bool, ◌⊎◌, ⊎_elim}
+use Rattle.std.proofs.Common.{rules, Option, ◌≡◌, ℕ, ◌+◌, ◌-◌, Some, ◌∷◌, List, length, refl, sym, ap, ◌∙◌, subst, arith, ℤ, Bool, ◌⊎◌, ⊎_elim}
 use Rattle.std.specs.Prelude.{slice_get}
 use Rattle.std.specs.Bool.{beq}
 use Rattle.std.specs.Option.{option_copied}
