@@ -21,7 +21,7 @@ pub(crate) fn replace(code: &mut Vec<Instr>, place: usize, instr: Instr)
     code[place] = instr;
 }
 
-/// A number as instructions have it. Where it has more than 32 bits, so much can't be held.
+/// A number as instructions have it. One of more than 32 bits is no memory.
 pub(crate) fn counted(number: usize) -> Result<u32, AllocError>
     ensures { IfOk result (λ n. n ≡ number) }
 {

@@ -26,9 +26,9 @@ const MOST_STEPS: usize = 65_535;
 
 /// The program's code, of which each instruction is one step of the source.
 ///
-/// `TooLong` exactly where a function has more than 65,535 steps, counted on its tree. What an instruction counts has 32 bits: a
-/// statement past the line 4,294,967,295, and more slots or longer jumps than that, which no accepted program has, are
-/// answered by `Memory`.
+/// `TooLong` exactly where a function has more than 65,535 steps, counted on its tree. Instructions count with 32 bits, so
+/// `Memory` is also answered where a statement stands past line 4,294,967,295, where a function takes more slots, as none of an
+/// accepted program does, and where a jump leads over more instructions, as it can in a function alone that is too long.
 pub fn lower<'a>(alloc: Global, checked: &'a Checked) -> Result<Program<'a>, LowerFault>
     ensures ok { IfOk result (λ p. p.unit ≡ checked.now) }
     ensures short { IfOk result (λ _. IsTooLong (unit_tree checked.now) → ⊥) }
