@@ -46,16 +46,16 @@ fn complement(stack: &mut Stack)
     requires { 0 < length stack.old }
     ensures { (numbers : List ℕ) → plain_of Complement stack.old numbers ≡ Some (Next, stack.new, numbers) }
 {
-    let word = stack.pop();
-    stack.push(!word);
+    let word = stack.top();
+    stack.replace_top(!word);
 }
 
 fn invert(stack: &mut Stack)
     requires { 0 < length stack.old }
     ensures { (numbers : List ℕ) → plain_of Not stack.old numbers ≡ Some (Next, stack.new, numbers) }
 {
-    let word = stack.pop();
-    stack.push(truth_word(word == 0));
+    let word = stack.top();
+    stack.replace_top(truth_word(word == 0));
 }
 
 fn operate(operator: Operator, stack: &mut Stack)
@@ -63,8 +63,8 @@ fn operate(operator: Operator, stack: &mut Stack)
     ensures { (numbers : List ℕ) → plain_of (Operate operator) stack.old numbers ≡ Some (Next, stack.new, numbers) }
 {
     let right = stack.pop();
-    let left = stack.pop();
-    stack.push(result_of(operator, left, right));
+    let left = stack.top();
+    stack.replace_top(result_of(operator, left, right));
 }
 
 /// The word of a truth.
@@ -117,14 +117,13 @@ fn operate_or_trap(operator: TrappingOperator, line: u32, stack: &mut Stack) -> 
     ensures { (numbers : List ℕ) → plain_of (OperateOrTrap operator line) stack.old numbers ≡ Some (result, stack.new, numbers) }
 {
     let right = stack.pop();
-    let left = stack.pop();
+    let left = stack.top();
     match result_or_trap(operator, left, right) {
         Ok(word) => {
-            stack.push(word);
+            stack.replace_top(word);
             Plain::Next
         }
         Err(trap) => {
-            stack.push(left);
             stack.push(right);
             Plain::Trap(trap, line)
         }
@@ -135,11 +134,10 @@ fn jump_if_false_or_pop(n: u32, stack: &mut Stack) -> Plain
     requires { 0 < length stack.old }
     ensures { (numbers : List ℕ) → plain_of (JumpIfFalseOrPop n) stack.old numbers ≡ Some (result, stack.new, numbers) }
 {
-    let word = stack.pop();
-    if word == 0 {
-        stack.push(word);
+    if stack.top() == 0 {
         return Plain::Skip(n);
     }
+    let _ = stack.pop();
     Plain::Next
 }
 
@@ -147,11 +145,10 @@ fn jump_if_true_or_pop(n: u32, stack: &mut Stack) -> Plain
     requires { 0 < length stack.old }
     ensures { (numbers : List ℕ) → plain_of (JumpIfTrueOrPop n) stack.old numbers ≡ Some (result, stack.new, numbers) }
 {
-    let word = stack.pop();
-    if word == 0 {
+    if stack.top() == 0 {
+        let _ = stack.pop();
         return Plain::Next;
     }
-    stack.push(word);
     Plain::Skip(n)
 }
 
@@ -170,12 +167,11 @@ fn load_element(array: LocalArray, line: u32, stack: &mut Stack, numbers: &[u32]
     requires { IsSome (plain_of (LoadElement array line) stack.old numbers.now) }
     ensures { plain_of (LoadElement array line) stack.old numbers.now ≡ Some (result, stack.new, numbers.now) }
 {
-    let index = stack.pop();
+    let index = stack.top();
     if index < array.len {
-        stack.push(numbers[array.start as usize + index as usize]);
+        stack.replace_top(numbers[array.start as usize + index as usize]);
         Plain::Next
     } else {
-        stack.push(index);
         Plain::Trap(PlainTrap::OutOfRange, line)
     }
 }

@@ -1,6 +1,6 @@
 //! The operand stack.
 
-ghost use Rattle.std.specs.Prelude.{◌≡◌, ◌≤◌, ◌<◌, [], ◌∷◌, length};
+ghost use Rattle.std.specs.Prelude.{◌≡◌, ◌≤◌, ◌<◌, ℕ, List, [], ◌∷◌, length};
 
 use arrayvec::ArrayVec;
 use std::marker::Model;
@@ -37,6 +37,23 @@ impl Stack {
         ensures { self.new ≡ word ∷ self.old }
     {
         self.words.push(word);
+    }
+
+    /// The topmost word.
+    pub fn top(&self) -> u32
+        requires { 0 < length self.now }
+        ensures { (top : ℕ) (rest : List ℕ) → self.now ≡ top ∷ rest → result ≡ top }
+    {
+        self.words[self.words.len() - 1]
+    }
+
+    /// Another word in place of the topmost.
+    pub fn replace_top(&mut self, word: u32)
+        requires { 0 < length self.old }
+        ensures { (top : ℕ) (rest : List ℕ) → self.old ≡ top ∷ rest → self.new ≡ word ∷ rest }
+    {
+        let last = self.words.len() - 1;
+        self.words[last] = word;
     }
 
     /// Takes the topmost word.
