@@ -1,0 +1,85 @@
+-- A machine may be sent to another thread: each of its parts says the same to every thread. The prover finds this of types with
+-- one invariant; where they are nested it is told part by part.
+use Rattle.std.proofs.Common.{ℕ, List, [], ◌∷◌}
+use Rattle.std.proofs.Crossing.{crosses, Vec-sync, Vec-send}
+use Rattle.std.proofs.vec.Vec.TheSendSync as vec
+use Rattle.std.proofs.sync.Mutex.TheSendSync as mutex-sent
+use Rattle.std.specs.contracts.sync.Mutex as mutex
+use Rattle.std.proofs.boxed.Box.TheSendSync as boxed
+use denote.Param.Send.{IsSend, IsSync, view_sync, struct_sync, recorded_sync, sendable, view_send, struct_send, recorded_send, shr_send}
+use denote.Struct.Declared.{shape}
+use denote.Struct.Tuple.{TupleAt, field_at, type_at}
+use denote.RattleType.{RattleType}
+use Rattle.syntax.proofs.declared_type.ElementType.TheSendSync as element
+use Rattle.syntax.proofs.declared_type.VariableType.TheSendSync as variable-type
+use Rattle.syntax.proofs.expr.BinaryOp.TheSendSync as binary
+use Rattle.syntax.proofs.expr.Constant.TheSendSync as constant
+use Rattle.syntax.proofs.expr.PrefixOp.TheSendSync as prefix
+use Rattle.syntax.proofs.name.Name.TheSendSync as name
+use Rattle.syntax.proofs.unit.Parameter.TheSendSync as parameter
+use Rattle.syntax.proofs.unit.ResultType.TheSendSync as result-type
+use Rattle.syntax.proofs.unit.Static.TheSendSync as static
+use Rattle.syntax.proofs.expr.Expr.TheLaws.TheKnot as expr
+use Rattle.syntax.proofs.stmt.Form.TheLaws.TheKnot as form
+use Rattle.syntax.specs.contracts.unit.Unit as unit
+use Rattle.syntax.specs.contracts.unit.Unit.TheInside as unit-inside
+use Rattle.syntax.specs.contracts.unit.Item as item
+use Rattle.types.specs.contracts.typed.Typed as typed
+use Rattle.regions.specs.contracts.checked.Checked as checked
+use Rattle.regions.specs.contracts.checked.Checked.TheInside as checked-inside
+use Rattle.code.specs.contracts.code.Code as code
+use Rattle.world.specs.contracts.world.World as world
+use Rattle.heap.specs.contracts.heap.Heap as heap
+use Rattle.machine.specs.contracts.thread.Thread as thread
+use Rattle.machine.specs.contracts.machine.Machine as machine
+use Rattle.machine.specs.contracts.machine.Machine.TheInside as machine-inside
+use Rattle.lower.specs.contracts.program.Program as program
+use Rattle.lower.specs.contracts.program.Program.TheInside as program-inside
+use Rattle.types.specs.contracts.typed.Typed.TheInside as inside
+
+-- ---- what a machine borrows
+
+item_sync : IsSync item.the_row
+item_sync = search (element.the_field_sync, variable-type.the_field_sync, binary.the_field_sync, constant.the_field_sync, prefix.the_field_sync, name.the_sync, parameter.the_sync, result-type.the_field_sync, static.the_field_sync, vec.the_sync, boxed.the_sync, crosses, expr.crosses, form.crosses, sendable) depth 60 fits 20000
+
+unit_sync : IsSync unit.the_row
+unit_sync = view_sync unit-inside.the_row _ _ _ _ (recorded_sync (unit-inside.the_field).row _ _ unit-inside.the_type.to_one (struct_sync (shape unit-inside.the_type) (Vec-sync item.the_row item_sync, tt)))
+
+inside_sync : IsSync inside.the_row
+inside_sync = recorded_sync (inside.the_field).row _ _ inside.the_type.to_one (struct_sync (shape inside.the_type) (unit_sync, tt))
+
+pub typed_sync : IsSync typed.the_row
+typed_sync = view_sync inside.the_row _ _ _ _ inside_sync
+
+pub checked_sync : IsSync checked.the_row
+checked_sync = view_sync checked-inside.the_row _ _ _ _ (recorded_sync (checked-inside.the_field).row _ _ checked-inside.the_type.to_one (struct_sync (shape checked-inside.the_type) (typed_sync, tt)))
+
+-- ---- what it owns
+
+code_send : IsSend code.the_row
+code_send = search (crosses, sendable) depth 60 fits 20000
+
+pub program_send : (k : _) → IsSend (program.the_row k)
+program_send k = view_send (program-inside.the_row k) _ _ _ _ (recorded_send (program-inside.the_field k).row _ _ (program-inside.the_type k).to_one (struct_send (shape (program-inside.the_type k)) (shr_send _ _ checked.the_row checked_sync, (Vec-send code.the_row code_send, tt))))
+
+world_send : IsSend world.the_row
+world_send = search (crosses, sendable) depth 60 fits 20000
+
+heap_send : IsSend heap.the_row
+heap_send = search (crosses, sendable) depth 60 fits 20000
+
+thread_send : IsSend thread.the_row
+thread_send = search (crosses, sendable) depth 60 fits 20000
+
+pub machine_send : (k : _) → IsSend (machine.the_row k)
+machine_send k = view_send (machine-inside.the_row k) _ _ _ _ (recorded_send (machine-inside.the_field k).row _ _ (machine-inside.the_type k).to_one (struct_send (shape (machine-inside.the_type k))
+    (program_send k, (world_send, (heap_send, (search (crosses, sendable) depth 60 fits 20000, (Vec-send thread.the_row thread_send, (search (crosses, sendable) depth 60 fits 20000, (search (crosses, sendable) depth 60 fits 20000, (search (crosses, sendable) depth 60 fits 20000, tt))))))))))
+
+-- so two threads may share a lock over it
+pub shared_machine_sync : (k : _) → IsSync (mutex.the_row (machine.the_row k))
+shared_machine_sync k = mutex-sent.the_sync (machine.the_row k) (machine_send k)
+
+-- a closure that captures three values of which each may cross
+pub closure_send : (name : List ℕ) (a b c : RattleType) → IsSend a → IsSend b → IsSend c → IsSend (TupleAt name (a ∷ b ∷ c ∷ []))
+closure_send name a b c s t u =
+    recorded_send (field_at name (a ∷ b ∷ c ∷ [])).row _ _ (type_at name (a ∷ b ∷ c ∷ [])).to_one (struct_send (shape (type_at name (a ∷ b ∷ c ∷ []))) (s, (t, (u, tt))))
