@@ -23,13 +23,13 @@ use Rattle.replay.specs.declared.outcome.Outcome.{Outcome}
 use Rattle.replay.specs.declared.outcome.Outcome.TheVariants as outcome
 use Rattle.replay.specs.declared.task.Task.{Task as TaskInMemory}
 use Rattle.replay.specs.declared.task.Task.TheVariants as task
-use Rattle.replay.specs.declared.term.Term.{Term}
-use Rattle.replay.specs.declared.variable.Variable.{Variable as VariableInMemory}
+use Rattle.terms.specs.declared.term.Term.{Term}
+use Rattle.terms.specs.declared.variable.Variable.{Variable as VariableInMemory}
 use Rattle.replay.specs.Activations.{tasks_from, tasks_around, tasks_after, tasks_left, thread_in, advance_by, Advances, AreSet, BegunInRange, OuterInRange, IsInRange}
 use Rattle.replay.specs.Outcomes.{variable_step, Holds, LeavesVariables, LeavesIf}
 use Rattle.replay.specs.Steps.{Sees, Does, left_by}
 use Rattle.replay.specs.Tasks.{task_view, end_view, tasks_of_statements, EndInRange, StatementsInRange, TaskInRange, OutcomeInRange}
-use Rattle.replay.specs.Views.{variables_view, trap_view, term_view}
+use Rattle.terms.specs.Views.{variables_view, trap_view, term_view}
 
 -- ---- blocks around the one in progress
 

@@ -30,7 +30,7 @@ use Rattle.regions.specs.ThreadStep.{after_effect, with_tasks}
 use Rattle.regions.specs.Value.{Int, NullReference, WrongObject}
 use Rattle.regions.specs.Variable.{Variables, StaticReference, Empty, Live}
 use Rattle.replay.specs.Objects.{array_length, reference_of}
-use Rattle.replay.specs.declared.trap.Trap.TheVariants as trap
+use Rattle.terms.specs.declared.trap.Trap.TheVariants as trap
 use Rattle.replay.specs.declared.task.Task.{Task as TaskInMemory}
 use Rattle.replay.specs.declared.outcome.Outcome.{Outcome}
 use Rattle.replay.specs.declared.outcome.Outcome.TheVariants as outcome
@@ -39,7 +39,7 @@ use Rattle.replay.specs.declared.outcome.Target.TheVariants as target
 use Rattle.replay.specs.Outcomes.{target_view}
 use Rattle.replay.specs.Steps.{Sees, Does, first_expression, length_outcome}
 use Rattle.replay.specs.Tasks.{task_view, invoke_task}
-use Rattle.replay.proofs.SightLemmas.{held_in_none}
+use Rattle.terms.proofs.SightLemmas.{held_in_none}
 use Rattle.replay.proofs.TaskLemmas.{sees_so, same_thread}
 
 length_function : (o : Option JniFunction) → some_passes is_built_function o ≡ true → o ≡ Some GetArrayLength

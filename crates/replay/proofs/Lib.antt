@@ -1,6 +1,3 @@
-mod TermLemmas
-mod VariableLemmas
-mod SightLemmas
 mod PutLemmas
 mod LoadedObjects
 mod HeapLemmas

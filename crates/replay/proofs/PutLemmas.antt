@@ -19,12 +19,12 @@ use Rattle.regions.specs.Variable.{Variable, LocalArray, Variables, StaticRefere
 use Rattle.replay.specs.declared.outcome.Outcome.TheVariants as outcome
 use Rattle.replay.specs.declared.put.Given.{Given}
 use Rattle.replay.specs.declared.put.Given.TheVariants as given
-use Rattle.replay.specs.declared.variable.Content.{Content}
-use Rattle.replay.specs.declared.variable.Content.TheVariants as content
-use Rattle.replay.specs.declared.variable.Variable.{Variable as VariableInMemory}
+use Rattle.terms.specs.declared.variable.Content.{Content}
+use Rattle.terms.specs.declared.variable.Content.TheVariants as content
+use Rattle.terms.specs.declared.variable.Variable.{Variable as VariableInMemory}
 use Rattle.replay.specs.Outcomes.{given_view, variable_step, Holds, LeavesVariables, LeavesIf}
-use Rattle.replay.specs.Views.{content_view, variables_view, written}
-use Rattle.replay.proofs.VariableLemmas.{assigned_there, variable_found}
+use Rattle.terms.specs.Views.{content_view, variables_view, written}
+use Rattle.terms.proofs.VariableLemmas.{assigned_there, variable_found}
 
 -- ---- statics
 

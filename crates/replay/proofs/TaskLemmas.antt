@@ -23,18 +23,18 @@ use Rattle.regions.specs.Value.{Value, Outcome as Outcomes, Gives, Traps, Stuck,
 use Rattle.regions.specs.Variable.{Variables, Statics}
 use Rattle.replay.specs.declared.outcome.Outcome.{Outcome}
 use Rattle.replay.specs.declared.outcome.Outcome.TheVariants as outcome
-use Rattle.replay.specs.declared.reduce.Reduction.{Reduction}
-use Rattle.replay.specs.declared.reduce.Reduction.TheVariants as reduction
-use Rattle.replay.specs.declared.term.Term.{Term}
-use Rattle.replay.specs.declared.term.Term.TheVariants as term
-use Rattle.replay.specs.declared.sight.Indexed.{Indexed}
-use Rattle.replay.specs.declared.value.Value.{Value as ValueInMemory}
-use Rattle.replay.specs.declared.value.Value.TheVariants as value
+use Rattle.terms.specs.declared.reduction.Reduction.{Reduction}
+use Rattle.terms.specs.declared.reduction.Reduction.TheVariants as reduction
+use Rattle.terms.specs.declared.term.Term.{Term}
+use Rattle.terms.specs.declared.term.Term.TheVariants as term
+use Rattle.terms.specs.declared.sight.Indexed.{Indexed}
+use Rattle.terms.specs.declared.value.Value.{Value as ValueInMemory}
+use Rattle.terms.specs.declared.value.Value.TheVariants as value
 use Rattle.replay.specs.declared.task.Task.{Task as TaskInMemory}
 use Rattle.replay.specs.Steps.{effect_by, HasEffect, Sees, left_by, Does, reduced}
 use Rattle.replay.specs.declared.task.Task.TheVariants as task
 use Rattle.replay.specs.Tasks.{task_view, branch_task, else_tree, tasks_of_statements}
-use Rattle.replay.specs.Views.{value_view, indexed_view, term_view, trap_view, place_in, Reduces}
+use Rattle.terms.specs.Views.{value_view, indexed_view, term_view, trap_view, place_in, Reduces}
 use Rattle.replay.proofs.RangeLemmas.{tasks_of-statements}
 
 -- what a thread can see, where these are its variables

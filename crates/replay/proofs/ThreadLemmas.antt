@@ -21,7 +21,7 @@ use Rattle.replay.specs.declared.thread.Thread.{Thread as ThreadInMemory}
 use Rattle.replay.specs.declared.outcome.Outcome.TheVariants as outcome
 use Rattle.replay.specs.Activations.{tasks_left, thread_in, advance_by, Advances}
 use Rattle.replay.specs.Steps.{Sees}
-use Rattle.replay.specs.Views.{variables_view, trap_view}
+use Rattle.terms.specs.Views.{variables_view, trap_view}
 use Rattle.regions.specs.Activation.{parameter_variables}
 use Rattle.regions.specs.Variable.{LocalRef}
 use Rattle.std.specs.Prelude.{zip}

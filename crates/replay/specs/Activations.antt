@@ -17,7 +17,7 @@ use Rattle.replay.specs.declared.outcome.Outcome.TheVariants as outcome
 use Rattle.replay.specs.declared.task.Task.{Task as TaskInMemory}
 use Rattle.replay.specs.Steps.{Sees}
 use Rattle.replay.specs.Tasks.{task_view, end_view, tasks_of_statements, StatementsInRange, TaskInRange, EndInRange}
-use Rattle.replay.specs.Views.{variables_view, trap_view}
+use Rattle.terms.specs.Views.{variables_view, trap_view}
 
 -- the task that is begun, if there is one, and those after it
 abbrev pub tasks_from : Option TaskInMemory → List Task → List Task

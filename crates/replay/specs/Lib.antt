@@ -1,4 +1,3 @@
-pub mod Views
 pub mod Objects
 pub mod Rows
 pub mod Outcomes

@@ -17,8 +17,8 @@ use Rattle.replay.specs.declared.outcome.VariableKind.{VariableKind as KindInMem
 use Rattle.replay.specs.declared.outcome.VariableKind.TheVariants as kind
 use Rattle.replay.specs.declared.put.Given.{Given}
 use Rattle.replay.specs.declared.put.Given.TheVariants as given
-use Rattle.replay.specs.declared.variable.Variable.{Variable as VariableInMemory}
-use Rattle.replay.specs.Views.{value_view, variables_view}
+use Rattle.terms.specs.declared.variable.Variable.{Variable as VariableInMemory}
+use Rattle.terms.specs.Views.{value_view, variables_view}
 
 abbrev pub kind_view : KindInMemory → VariableKind
 kind_view kind.Number = ScalarKind

@@ -20,7 +20,7 @@ use Rattle.replay.specs.declared.thread.Step.{Step}
 use Rattle.replay.specs.declared.thread.Step.TheVariants as step
 use Rattle.replay.specs.declared.state.State.{State as StateInMemory}
 use Rattle.replay.specs.declared.state.Stop.{Stop as StopInMemory}
-use Rattle.replay.specs.Views.{trap_view}
+use Rattle.terms.specs.Views.{trap_view}
 use Rattle.replay.specs.Threads.{ThreadStands, WorkInRange}
 
 -- each thread in memory stands for the one of the same number

@@ -16,13 +16,13 @@ use Rattle.regions.specs.Variable.{Variables, Statics}
 use Rattle.replay.specs.declared.outcome.Outcome.{Outcome}
 use Rattle.replay.specs.declared.outcome.Outcome.TheVariants as outcome
 use Rattle.replay.specs.declared.outcome.Target.{Target as TargetInMemory}
-use Rattle.replay.specs.declared.reduce.Reduction.{Reduction as ReductionInMemory}
-use Rattle.replay.specs.declared.reduce.Reduction.TheVariants as reduction
+use Rattle.terms.specs.declared.reduction.Reduction.{Reduction as ReductionInMemory}
+use Rattle.terms.specs.declared.reduction.Reduction.TheVariants as reduction
 use Rattle.replay.specs.declared.task.Task.{Task as TaskInMemory}
-use Rattle.replay.specs.declared.trap.Trap.TheVariants as trap
+use Rattle.terms.specs.declared.trap.Trap.TheVariants as trap
 use Rattle.replay.specs.Outcomes.{target_view, variable_step}
 use Rattle.replay.specs.Tasks.{task_view, end_view, tasks_of_statements}
-use Rattle.replay.specs.Views.{value_view, trap_view}
+use Rattle.terms.specs.Views.{value_view, trap_view}
 
 -- the first argument of a call, where it is an expression
 abbrev pub first_expression : List ArgumentInMemory → Option Expr

@@ -19,9 +19,9 @@ use Rattle.replay.specs.declared.outcome.Outcome.TheVariants as outcome
 use Rattle.replay.specs.declared.outcome.Target.{Target as TargetInMemory}
 use Rattle.replay.specs.declared.task.Task.{Task as TaskInMemory}
 use Rattle.replay.specs.declared.task.Task.TheVariants as task
-use Rattle.replay.specs.declared.term.Term.{Term as TermInMemory}
+use Rattle.terms.specs.declared.term.Term.{Term as TermInMemory}
 use Rattle.replay.specs.Outcomes.{target_view}
-use Rattle.replay.specs.Views.{term_view, NumbersInRange}
+use Rattle.terms.specs.Views.{term_view, NumbersInRange}
 
 -- the block of an `else`, which may be missing in an `if` of this line
 abbrev pub else_tree : ℕ → Option (Bor BlockInMemory) → Block

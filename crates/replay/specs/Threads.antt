@@ -20,7 +20,7 @@ use Rattle.replay.specs.declared.thread.Thread.{Thread as ThreadInMemory}
 use Rattle.replay.specs.declared.thread.Step.{Step}
 use Rattle.replay.specs.declared.thread.Step.TheVariants as step
 use Rattle.replay.specs.Activations.{tasks_left, IsInRange}
-use Rattle.replay.specs.Views.{variables_view, trap_view}
+use Rattle.terms.specs.Views.{variables_view, trap_view}
 
 -- the tasks of the call in progress, if there is one
 abbrev pub tasks_in : Option Activation → Option (List Task)

@@ -11,10 +11,9 @@ use crate::outcome::{End, Outcome};
 use crate::put::set_variables;
 use crate::step::step;
 use crate::task::{Task, task_of};
-use crate::term::term_of;
-use crate::variable::Variable;
 use std::alloc::{AllocError, Global};
 use syntax::{Item, Stmt};
+use terms::{Variable, term_of};
 use world::World;
 
 /// What is still to do around a block: what comes at the block's end, and the statements after it.

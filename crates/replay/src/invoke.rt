@@ -13,14 +13,13 @@ ghost use Rattle.regions.specs.Variable.{as_static};
 ghost use Rattle.replay.specs.Objects.{array_length, reference_of};
 ghost use Rattle.replay.specs.Steps.{Does, first_expression, length_outcome};
 ghost use Rattle.replay.specs.Tasks.{invoke_task, OutcomeInRange};
-ghost use Rattle.replay.specs.Views.{variables_view};
+ghost use Rattle.terms.specs.Views.{variables_view};
 
 use crate::heap::array_length;
 use crate::outcome::{Outcome, Target};
-use crate::trap::Trap;
-use crate::variable::{Content, Variable, content_of};
 use std::alloc::AllocError;
 use syntax::{Argument, Call, Expr};
+use terms::{Content, Trap, Variable, content_of};
 use world::World;
 
 /// The object that an argument is, or NULL.

@@ -9,17 +9,11 @@ mod journal;
 mod load;
 mod outcome;
 mod put;
-mod reduce;
 mod rows;
-mod sight;
 mod state;
 mod step;
 mod task;
-mod term;
 mod thread;
-mod trap;
-mod value;
-mod variable;
 
 pub use fault::ReplayFault;
 pub use journal::replay;

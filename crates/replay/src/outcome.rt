@@ -5,9 +5,8 @@ ghost use Rattle.syntax.specs.Views.{variable_type_tree};
 ghost use Rattle.regions.specs.Task.{kind_of};
 ghost use Rattle.replay.specs.Outcomes.{kind_view};
 
-use crate::trap::Trap;
-use crate::value::Value;
 use syntax::{Block, ElementType, Expr, Name, Stmt, VariableType};
+use terms::{Trap, Value};
 
 /// What a declaration makes.
 #[derive(Clone, Copy)]

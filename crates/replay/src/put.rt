@@ -7,14 +7,12 @@ ghost use Rattle.regions.specs.Start.{null_statics};
 ghost use Rattle.regions.specs.Variable.{Statics, assign};
 ghost use Rattle.replay.specs.declared.outcome.Outcome.TheVariants as outcome;
 ghost use Rattle.replay.specs.Outcomes.{kind_view, target_view, given_view, variable_step, LeavesVariables, LeavesIf};
-ghost use Rattle.replay.specs.Views.{content_view, variables_view};
+ghost use Rattle.terms.specs.Views.{content_view, variables_view};
 
 use crate::outcome::{Outcome, Target, VariableKind};
-use crate::sight::is_static;
-use crate::value::Value;
-use crate::variable::{Content, Variable, assign, place_of, write_content, zeros};
 use std::alloc::{AllocError, Global};
 use syntax::{Item, Name};
+use terms::{Content, Value, Variable, assign, is_static, place_of, write_content, zeros};
 
 /// What goes into a variable.
 #[derive(Clone, Copy)]

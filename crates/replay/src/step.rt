@@ -7,21 +7,17 @@ ghost use Rattle.regions.specs.Start.{null_statics};
 ghost use Rattle.regions.specs.Task.{tasks_of};
 ghost use Rattle.regions.specs.Variable.{Statics};
 ghost use Rattle.replay.specs.declared.task.Task.TheVariants as task;
-ghost use Rattle.replay.specs.declared.term.Term.TheVariants as term;
+ghost use Rattle.terms.specs.declared.term.Term.TheVariants as term;
 ghost use Rattle.replay.specs.Steps.{HasEffect, Does, reduced};
 ghost use Rattle.replay.specs.Tasks.{branch_task, else_tree, tasks_of_statements, ExprInRange, BlockInRange, ElseInRange, StatementsInRange, TaskInRange, OutcomeInRange};
-ghost use Rattle.replay.specs.Views.{NumbersInRange, variables_view};
+ghost use Rattle.terms.specs.Views.{NumbersInRange, variables_view};
 
 use crate::invoke::invoke;
 use crate::outcome::{End, Outcome};
-use crate::reduce::{Reduction, reduce};
-use crate::sight::{Indexed, number_in, place_in};
 use crate::task::Task;
-use crate::term::{Term, put_term};
-use crate::value::{Evaluated, Value, constant};
-use crate::variable::Variable;
 use std::alloc::AllocError;
 use syntax::{Block, Expr, Item, Name, Stmt};
+use terms::{Evaluated, Indexed, Reduction, Term, Value, Variable, constant, number_in, place_in, put_term, reduce};
 use world::World;
 
 /// What a step does that reduces a term, which has no value yet.

@@ -2,15 +2,15 @@
 
 ghost use Rattle.std.specs.Prelude.{◌≡◌, IfOk};
 ghost use Rattle.syntax.specs.Views.{stmt_tree, expr_tree, right_side_tree, test_tree, block_tree};
-ghost use Rattle.regions.specs.Task.{Declared, SetElement, set_task, right_side_task, if_task, task_of};
+ghost use Rattle.regions.specs.Task.{Declared, Loop, Print, ReturnValue, SetElement, set_task, right_side_task, if_task, task_of};
 ghost use Rattle.regions.specs.Term.{term_of};
 ghost use Rattle.replay.specs.Outcomes.{kind_view, target_view};
 ghost use Rattle.replay.specs.Tasks.{task_view, else_tree, ExprInRange, RightSideInRange, TestInRange, BlockInRange, ElseInRange, StatementInRange, TaskInRange};
 
 use crate::outcome::{Target, VariableKind, kind_of};
-use crate::term::{Term, term_of};
 use std::alloc::{AllocError, Global};
 use syntax::{Block, Call, Constant, ElementType, Expr, Form, Name, RightSide, Stmt, Test};
+use terms::{Term, term_of};
 
 /// A call that is to do; its arguments are looked up in its one step.
 #[derive(Drop)]
@@ -141,6 +141,39 @@ fn element_task<'a>(
     Ok(Task::SetElement(line, name, index, number))
 }
 
+/// The task that prints a number.
+fn print_task<'a>(alloc: Global, line: usize, e: &Expr) -> Result<Task<'a>, AllocError>
+    requires { ExprInRange (expr_tree e.now) }
+    ensures view { IfOk result (λ t. task_view t ≡ Print line (term_of (expr_tree e.now))) }
+    ensures range { IfOk result TaskInRange }
+{
+    Ok(Task::Print(line, term_of(alloc, e)?))
+}
+
+/// The task of a loop.
+fn loop_task<'a>(
+    alloc: Global,
+    line: usize,
+    test: &'a Expr,
+    body: &'a Block,
+) -> Result<Task<'a>, AllocError>
+    requires test { ExprInRange (expr_tree test.now) }
+    requires body { BlockInRange (block_tree body.now) }
+    ensures view { IfOk result (λ t. task_view t ≡ Loop line (expr_tree test.entry.now) (term_of (expr_tree test.entry.now)) (block_tree body.entry.now)) }
+    ensures range { IfOk result TaskInRange }
+{
+    Ok(Task::Loop(line, test, term_of(alloc, test)?, body))
+}
+
+/// The task that returns a value.
+fn return_task<'a>(alloc: Global, line: usize, e: &Expr) -> Result<Task<'a>, AllocError>
+    requires { ExprInRange (expr_tree e.now) }
+    ensures view { IfOk result (λ t. task_view t ≡ ReturnValue line (term_of (expr_tree e.now))) }
+    ensures range { IfOk result TaskInRange }
+{
+    Ok(Task::ReturnValue(line, term_of(alloc, e)?))
+}
+
 /// The task that a statement begins as.
 pub(crate) fn task_of(alloc: Global, s: &Stmt) -> Result<Task<'_>, AllocError>
     requires { StatementInRange s.now }
@@ -169,11 +202,11 @@ pub(crate) fn task_of(alloc: Global, s: &Stmt) -> Result<Task<'_>, AllocError>
             let target = Target::Dropped;
             Ok(Task::Invoke(Invocation { line, target, call }))
         }
-        Form::PutJint(e) => Ok(Task::Print(line, term_of(alloc, e)?)),
+        Form::PutJint(e) => print_task(alloc, line, e),
         Form::If(test, block) => if_task(alloc, line, test, block, None),
         Form::IfElse(test, block, other) => if_task(alloc, line, test, block, Some(other)),
-        Form::While(test, body) => Ok(Task::Loop(line, test, term_of(alloc, test)?, body)),
+        Form::While(test, body) => loop_task(alloc, line, test, body),
         Form::Return(None) => Ok(Task::Return),
-        Form::Return(Some(e)) => Ok(Task::ReturnValue(line, term_of(alloc, e)?)),
+        Form::Return(Some(e)) => return_task(alloc, line, e),
     }
 }

@@ -2,10 +2,10 @@ use Rattle.std.proofs.Common.{Bool, List, subst}
 use Rattle.syntax.specs.Views.{unit_tree}
 use Rattle.world.specs.SceneWorld.{world_of_scene}
 use Rattle.regions.specs.Start.{null_statics}
-use Rattle.replay.specs.declared.variable.Variable.{Variable}
+use Rattle.terms.specs.declared.variable.Variable.{Variable}
 use Rattle.replay.specs.Outcomes.{variable_step, LeavesIf}
 use Rattle.replay.specs.Steps.{Does}
-use Rattle.replay.specs.Views.{variables_view}
+use Rattle.terms.specs.Views.{variables_view}
 use Rattle.replay.proofs.ActivationLemmas.{begun_before, fails, advances, range_after}
 use Rattle.replay.proofs.CallLemmas.{if_ok}
 use Rattle.replay.proofs.activation.advance.Goals as goal

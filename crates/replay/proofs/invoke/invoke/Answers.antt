@@ -1,7 +1,7 @@
 use Rattle.std.proofs.Common.{rules}
 use Rattle.syntax.specs.Views.{expr_tree}
 use Rattle.world.specs.SceneWorld.{world_of_scene}
-use Rattle.replay.specs.Views.{variables_view}
+use Rattle.terms.specs.Views.{variables_view}
 use Rattle.replay.proofs.CallLemmas.{invoke_nothing, invoke_null, invoke_object}
 use Rattle.replay.proofs.invoke.invoke.Goals as goal
 

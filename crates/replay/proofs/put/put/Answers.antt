@@ -3,9 +3,9 @@ use Rattle.syntax.specs.Views.{unit_tree}
 use Rattle.regions.specs.Start.{null_statics}
 use Rattle.regions.specs.Variable.{Variable, FieldHandle, assign}
 use Rattle.replay.specs.Outcomes.{given_view}
-use Rattle.replay.specs.Views.{content_view, variables_view}
+use Rattle.terms.specs.Views.{content_view, variables_view}
 use Rattle.replay.proofs.PutLemmas.{content_set, assigned_leaves, static_leaves}
-use Rattle.replay.proofs.VariableLemmas.{variable_at, variable_found, variable_missing}
+use Rattle.terms.proofs.VariableLemmas.{variable_at, variable_found, variable_missing}
 use Rattle.replay.proofs.put.put.Goals as goal
 
 pub returns-in-Some : goal.returns-in-Some

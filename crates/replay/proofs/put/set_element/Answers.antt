@@ -1,8 +1,8 @@
 use Rattle.std.proofs.Common.{None, rules}
 use Rattle.regions.specs.Variable.{FieldHandle}
-use Rattle.replay.specs.Views.{content_view}
+use Rattle.terms.specs.Views.{content_view}
 use Rattle.replay.proofs.PutLemmas.{content_set, element_leaves, element_missing}
-use Rattle.replay.proofs.VariableLemmas.{variable_at, variable_found, variable_missing}
+use Rattle.terms.proofs.VariableLemmas.{variable_at, variable_found, variable_missing}
 use Rattle.replay.proofs.put.set_element.Goals as goal
 
 pub returns-in-Some : goal.returns-in-Some

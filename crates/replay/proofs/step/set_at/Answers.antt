@@ -1,6 +1,6 @@
 use Rattle.syntax.specs.Views.{unit_tree}
 use Rattle.regions.specs.Start.{null_statics}
-use Rattle.replay.specs.Views.{variables_view}
+use Rattle.terms.specs.Views.{variables_view}
 use Rattle.replay.proofs.TaskLemmas.{element_reduces}
 use Rattle.replay.proofs.step.set_at.Goals as goal
 

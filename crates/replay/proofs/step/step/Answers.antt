@@ -6,7 +6,7 @@ use Rattle.replay.specs.declared.task.Task.{Task}
 use Rattle.replay.specs.declared.task.Task.TheVariants as task
 use Rattle.replay.specs.Steps.{Does}
 use Rattle.replay.specs.Tasks.{branch_task}
-use Rattle.replay.specs.Views.{variables_view}
+use Rattle.terms.specs.Views.{variables_view}
 use Rattle.replay.proofs.CallLemmas.{if_ok}
 use Rattle.replay.proofs.TaskLemmas.{does_as}
 use Rattle.replay.proofs.step.step.Goals as goal

@@ -2,9 +2,9 @@ use Rattle.std.proofs.Common.{◌≡◌, true}
 use Rattle.syntax.specs.Views.{expr_tree, block_tree, unit_tree}
 use Rattle.regions.specs.Start.{null_statics}
 use Rattle.regions.specs.Task.{EndTurn}
-use Rattle.replay.specs.declared.term.Term.TheVariants as term
-use Rattle.replay.specs.declared.value.Value.TheVariants as value
-use Rattle.replay.specs.Views.{variables_view}
+use Rattle.terms.specs.declared.term.Term.TheVariants as term
+use Rattle.terms.specs.declared.value.Value.TheVariants as value
+use Rattle.terms.specs.Views.{variables_view}
 use Rattle.replay.proofs.TaskLemmas.{way_entered, loop_reduces}
 use Rattle.replay.proofs.step.turn.Goals as goal
 

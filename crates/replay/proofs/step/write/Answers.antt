@@ -1,7 +1,7 @@
 use Rattle.std.proofs.Common.{refl, ap, ◌∙◌, rules}
 use Rattle.regions.specs.Effect.{SetsElement, at_line}
-use Rattle.replay.specs.declared.sight.Indexed.{Indexed}
-use Rattle.replay.specs.Views.{indexed_view, variables_view}
+use Rattle.terms.specs.declared.sight.Indexed.{Indexed}
+use Rattle.terms.specs.Views.{indexed_view, variables_view}
 use Rattle.replay.proofs.TaskLemmas.{written_at}
 use Rattle.replay.proofs.step.write.Goals as goal
 

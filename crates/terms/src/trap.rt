@@ -2,11 +2,11 @@
 
 ghost use Rattle.std.specs.Prelude.{◌≡◌};
 ghost use Rattle.regions.specs.Value.{trap_number};
-ghost use Rattle.replay.specs.Views.{trap_view};
+ghost use Rattle.terms.specs.Views.{trap_view};
 
 /// Why a run stops (JNI Specification, chapter 2, "Reporting Programming Errors"; ISO/IEC 9899:1999, 6.5.5 to 6.5.7).
 #[derive(Clone, Copy)]
-pub(crate) enum Trap {
+pub enum Trap {
     DivisionByZero,
     /// A shift by 32 or more.
     ShiftTooFar,
@@ -19,7 +19,7 @@ pub(crate) enum Trap {
 }
 
 /// The number under which a trap is reported.
-pub(crate) fn trap_number(trap: Trap) -> u8
+pub fn trap_number(trap: Trap) -> u8
     ensures { result ≡ trap_number (trap_view trap) }
 {
     match trap {

@@ -6,7 +6,7 @@ ghost use Rattle.syntax.specs.Parts.{null_tested};
 ghost use Rattle.syntax.specs.Tree.{Binary};
 ghost use Rattle.syntax.specs.Views.{expr_tree, binary_tree};
 ghost use Rattle.regions.specs.Term.{term_of, binary_term};
-ghost use Rattle.replay.specs.Views.{term_view, NumbersInRange, ComparesNull};
+ghost use Rattle.terms.specs.Views.{term_view, NumbersInRange, ComparesNull};
 
 use crate::value::Value;
 use std::alloc::{AllocError, Global};
@@ -14,7 +14,7 @@ use syntax::{BinaryOp, Constant, Expr, Name, PrefixOp};
 
 /// An expression of which some parts have their values; parentheses are dropped.
 #[derive(Drop)]
-pub(crate) enum Term {
+pub enum Term {
     Done(Value),
     Number { value: u32, unsigned: bool },
     Named(Constant),
@@ -31,7 +31,7 @@ pub(crate) enum Term {
 }
 
 /// Puts a term in the place of another.
-pub(crate) fn put_term(place: &mut Term, term: Term)
+pub fn put_term(place: &mut Term, term: Term)
     ensures { place.new ≡ term }
 {
     *place = term;
@@ -82,7 +82,7 @@ fn copy_of(alloc: Global, name: &Name) -> Result<Name, AllocError>
 }
 
 /// The term that an expression begins as.
-pub(crate) fn term_of(alloc: Global, e: &Expr) -> Result<Term, AllocError>
+pub fn term_of(alloc: Global, e: &Expr) -> Result<Term, AllocError>
     requires { IsTrue (numbers_in_range (expr_tree e.now)) }
     ensures view { IfOk result (λ t. term_view t ≡ term_of (expr_tree e.now)) }
     ensures numbers { IfOk result NumbersInRange }

@@ -6,7 +6,7 @@ ghost use Rattle.regions.specs.Heap.{Heap};
 ghost use Rattle.regions.specs.Sight.{seen};
 ghost use Rattle.regions.specs.Start.{null_statics};
 ghost use Rattle.regions.specs.Term.{Term as TermOfTree, and_then, or_else, done, reduce};
-ghost use Rattle.replay.specs.Views.{value_view, evaluated_view, term_view, variables_view, NumbersInRange, decided, IsLeaf, IsReplaced, Reduces};
+ghost use Rattle.terms.specs.Views.{value_view, evaluated_view, term_view, variables_view, NumbersInRange, decided, IsLeaf, IsReplaced, Reduces};
 
 use crate::sight::{element_in, null_value, number_in};
 use crate::term::{Term, put_term};
@@ -18,7 +18,7 @@ use syntax::Item;
 
 /// What a step of a term did.
 #[derive(Clone, Copy)]
-pub(crate) enum Reduction {
+pub enum Reduction {
     /// The leftmost part that can be reduced was replaced.
     Reduced,
     /// That part has no value, and the term is as it was.
@@ -88,7 +88,7 @@ fn leaf_value(items: &[Item], variables: &[Variable<'_>], term: &Term) -> Evalua
 /// Replaces the leftmost part that can be reduced by its value, or by the right side of `&&` or `||`.
 /// It walks to that part, through at most as many terms as the tree is high.
 #[tactic(auto, using(crate::proofs::TermLemmas::reduction_rules))]
-pub(crate) fn reduce(items: &[Item], variables: &[Variable<'_>], term: &mut Term) -> Reduction
+pub fn reduce(items: &[Item], variables: &[Variable<'_>], term: &mut Term) -> Reduction
     requires { NumbersInRange term.old }
     ensures step { Reduces (variables_view variables.now) (null_statics (unit_tree items.now)) term.old result term.new }
     ensures numbers { NumbersInRange term.new }

@@ -16,14 +16,14 @@ use Rattle.regions.specs.Term as tree
 use Rattle.regions.specs.Term.{Reduction, binary_term, with_part, done, reduce}
 use Rattle.regions.specs.Value.{Value, Gives, outcome_map}
 use Rattle.regions.specs.Variable.{Variables, Statics}
-use Rattle.replay.specs.declared.reduce.Reduction.{Reduction as ReductionInMemory}
-use Rattle.replay.specs.declared.reduce.Reduction.TheVariants as reduction
-use Rattle.replay.specs.declared.term.Term.{Term}
-use Rattle.replay.specs.declared.term.Term.TheVariants as term
-use Rattle.replay.specs.declared.value.Evaluated.{Evaluated}
-use Rattle.replay.specs.declared.value.Evaluated.TheVariants as evaluated
-use Rattle.replay.specs.declared.value.Value.{Value as ValueInMemory}
-use Rattle.replay.specs.Views.{evaluated_view, term_view, IsReplaced, Reduces}
+use Rattle.terms.specs.declared.reduction.Reduction.{Reduction as ReductionInMemory}
+use Rattle.terms.specs.declared.reduction.Reduction.TheVariants as reduction
+use Rattle.terms.specs.declared.term.Term.{Term}
+use Rattle.terms.specs.declared.term.Term.TheVariants as term
+use Rattle.terms.specs.declared.value.Evaluated.{Evaluated}
+use Rattle.terms.specs.declared.value.Evaluated.TheVariants as evaluated
+use Rattle.terms.specs.declared.value.Value.{Value as ValueInMemory}
+use Rattle.terms.specs.Views.{evaluated_view, term_view, IsReplaced, Reduces}
 
 -- ---- comparisons with NULL
 

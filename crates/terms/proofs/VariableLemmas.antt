@@ -9,8 +9,8 @@ use Rattle.std.proofs.lemmas.Option.{slice_get_read}
 use Rattle.std.proofs.lemmas.Slice.Eq.{bytes_eq-Decides}
 use Rattle.base.specs.Bytes.{Identifier, lookup}
 use Rattle.regions.specs.Variable.{Variable as Content, Variables, assign}
-use Rattle.replay.specs.Views.{content_view, variable_view, variables_view}
-use Rattle.replay.specs.declared.variable.Variable.{Variable}
+use Rattle.terms.specs.Views.{content_view, variable_view, variables_view}
+use Rattle.terms.specs.declared.variable.Variable.{Variable}
 
 module _ (x : Identifier) (content : Content) where
   abbrev named : Variable → Bool

@@ -10,7 +10,7 @@ ghost use Rattle.regions.specs.Start.{null_statics};
 ghost use Rattle.regions.specs.Term.{IsNull, done, index_of, element_value, reduce};
 ghost use Rattle.regions.specs.Value.{outcome_map, Truth};
 ghost use Rattle.regions.specs.Variable.{Statics};
-ghost use Rattle.replay.specs.Views.{value_view, evaluated_view, indexed_view, content_view, variables_view, if_there, negated, place_in};
+ghost use Rattle.terms.specs.Views.{value_view, evaluated_view, indexed_view, content_view, variables_view, if_there, negated, place_in};
 
 use crate::trap::Trap;
 use crate::value::{Evaluated, Value, truth};
@@ -18,7 +18,7 @@ use crate::variable::{Content, Variable, content_of};
 use syntax::{Item, Name};
 
 /// The value of a number variable.
-pub(crate) fn number_in(variables: &[Variable<'_>], name: &Name) -> Evaluated
+pub fn number_in(variables: &[Variable<'_>], name: &Name) -> Evaluated
     ensures { evaluated_view result ≡ scalar (lookup name.now (variables_view variables.now)) }
 {
     match content_of(variables, name) {
@@ -32,7 +32,7 @@ pub(crate) fn number_in(variables: &[Variable<'_>], name: &Name) -> Evaluated
 }
 
 /// Whether a static has this name; each is NULL, as nothing makes global references yet.
-pub(crate) fn is_static(items: &[Item], name: &Name) -> bool
+pub fn is_static(items: &[Item], name: &Name) -> bool
     ensures { result ≡ is_some (lookup name.now (null_statics (unit_tree items.now))) }
 {
     for item in items {
@@ -89,7 +89,7 @@ fn null_of(items: &[Item], variables: &[Variable<'_>], name: &Name) -> Evaluated
 
 /// Whether a variable or a static holds NULL, or, where that isn't wanted, whether it doesn't.
 #[tactic(auto, using(crate::proofs::SightLemmas::null_rules))]
-pub(crate) fn null_value(
+pub fn null_value(
     items: &[Item],
     variables: &[Variable<'_>],
     wanted: bool,
@@ -103,7 +103,7 @@ pub(crate) fn null_value(
 
 /// The place of an element.
 #[derive(Clone, Copy)]
-pub(crate) enum Indexed {
+pub enum Indexed {
     At(usize),
     Traps(Trap),
     /// Nothing fits, as in no accepted program.
@@ -143,7 +143,7 @@ fn numbers_in<'v>(variables: &'v [Variable<'_>], name: &Name) -> Option<&'v [i32
 
 /// The place of an element of the array of this name.
 #[tactic(auto, using(crate::proofs::SightLemmas::place_rules))]
-pub(crate) fn place_in(variables: &[Variable<'_>], name: &Name, v: Value) -> Indexed
+pub fn place_in(variables: &[Variable<'_>], name: &Name, v: Value) -> Indexed
     ensures { (heap : Heap) → indexed_view result ≡ place_in (elements_of heap (lookup name.now (variables_view variables.now))) (index_of (value_view v)) }
 {
     match index_of(v) {
@@ -164,7 +164,7 @@ pub(crate) fn place_in(variables: &[Variable<'_>], name: &Name, v: Value) -> Ind
 
 /// An element of the array of this name.
 #[tactic(auto, using(crate::proofs::SightLemmas::element_rules))]
-pub(crate) fn element_in(variables: &[Variable<'_>], name: &Name, v: Value) -> Evaluated
+pub fn element_in(variables: &[Variable<'_>], name: &Name, v: Value) -> Evaluated
     ensures { (statics : Statics) (heap : Heap) → evaluated_view result ≡ element_value (seen (variables_view variables.now) statics heap) name.now (value_view v) }
 {
     match index_of(v) {

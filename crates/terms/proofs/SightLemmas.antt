@@ -9,7 +9,7 @@ use Rattle.regions.specs.Sight.{static_is_null, held_reference, holds_null}
 use Rattle.regions.specs.Start.{null_static, null_statics}
 use Rattle.regions.specs.Value.{Truth, Outcome, Gives, Traps, Stuck, outcome_map}
 use Rattle.regions.specs.Variable.{Variable, Scalar, LocalRef, FieldHandle, Elements, LocalArray, StaticReference, Empty, Variables}
-use Rattle.replay.specs.Views.{negated}
+use Rattle.terms.specs.Views.{negated}
 
 -- each static is NULL
 empty_by_name : (b : Bool) (later : Option StaticReference) (r : StaticReference) → cond b (Some Empty) later ≡ Some r → (later ≡ Some r → r ≡ Empty) → r ≡ Empty

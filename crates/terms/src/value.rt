@@ -5,14 +5,14 @@ ghost use Rattle.syntax.specs.Limits.{number_limit};
 ghost use Rattle.syntax.specs.Views.{constant_tree, element_tree, prefix_tree, binary_tree};
 ghost use Rattle.regions.specs.Term.{literal, constant};
 ghost use Rattle.regions.specs.Value.{Word, Truth, Gives, convert, prefix_value, binary_value};
-ghost use Rattle.replay.specs.Views.{value_view, evaluated_view};
+ghost use Rattle.terms.specs.Views.{value_view, evaluated_view};
 
 use crate::trap::Trap;
 use syntax::{BinaryOp, Constant, ElementType, PrefixOp};
 
 /// The value of an expression.
 #[derive(Clone, Copy)]
-pub(crate) enum Value {
+pub enum Value {
     /// Of type `uint32_t`.
     Word(u32),
     /// Of type `jint`.
@@ -25,7 +25,7 @@ pub(crate) enum Value {
 
 /// What evaluating an expression gives.
 #[derive(Clone, Copy)]
-pub(crate) enum Evaluated {
+pub enum Evaluated {
     Gives(Value),
     Traps(Trap),
     /// The parts don't fit, as in no accepted program.
@@ -33,7 +33,7 @@ pub(crate) enum Evaluated {
 }
 
 /// The value of a number.
-pub(crate) fn literal(value: u32, unsigned: bool) -> Value
+pub fn literal(value: u32, unsigned: bool) -> Value
     requires { value < number_limit unsigned }
     ensures { value_view result ≡ literal value unsigned }
 {
@@ -45,7 +45,7 @@ pub(crate) fn literal(value: u32, unsigned: bool) -> Value
 }
 
 /// The value of a named constant; NULL has none.
-pub(crate) fn constant(c: Constant) -> Evaluated
+pub fn constant(c: Constant) -> Evaluated
     ensures { evaluated_view result ≡ constant (constant_tree c) }
 {
     match c {
@@ -58,7 +58,7 @@ pub(crate) fn constant(c: Constant) -> Evaluated
 }
 
 /// What is left of a number in an element type.
-pub(crate) fn convert(kind: ElementType, number: i32) -> i32
+pub fn convert(kind: ElementType, number: i32) -> i32
     ensures { result ≡ convert (element_tree kind) number }
 {
     let word = number.cast_unsigned();
@@ -71,7 +71,7 @@ pub(crate) fn convert(kind: ElementType, number: i32) -> i32
 }
 
 /// What a prefix makes of a value.
-pub(crate) fn prefix_value(op: PrefixOp, v: Value) -> Evaluated
+pub fn prefix_value(op: PrefixOp, v: Value) -> Evaluated
     ensures { evaluated_view result ≡ prefix_value (prefix_tree op) (value_view v) }
 {
     match (op, v) {
@@ -98,7 +98,7 @@ fn word(n: u32) -> Evaluated
 }
 
 /// A truth, as a value.
-pub(crate) fn truth(b: bool) -> Evaluated
+pub fn truth(b: bool) -> Evaluated
     ensures { evaluated_view result ≡ Gives (Truth b) }
 {
     Evaluated::Gives(Value::Truth(b))
@@ -169,7 +169,7 @@ fn flag_value(op: BinaryOp, a: bool, b: bool) -> Evaluated
 }
 
 /// What an operator, other than `&&` and `||`, makes of two values.
-pub(crate) fn binary_value(op: BinaryOp, a: Value, b: Value) -> Evaluated
+pub fn binary_value(op: BinaryOp, a: Value, b: Value) -> Evaluated
     ensures { evaluated_view result ≡ binary_value (binary_tree op) (value_view a) (value_view b) }
 {
     match a {

@@ -4,12 +4,12 @@ use Rattle.regions.specs.Sight.{seen}
 use Rattle.regions.specs.Start.{null_statics}
 use Rattle.regions.specs.Term as tree
 use Rattle.regions.specs.Term.{done}
-use Rattle.replay.specs.declared.term.Term.{Term}
-use Rattle.replay.specs.declared.value.Evaluated.{Evaluated}
-use Rattle.replay.specs.Views.{value_view, evaluated_view, term_view, variables_view, decided}
-use Rattle.replay.proofs.TermLemmas.{replaced}
-use Rattle.replay.proofs.reduce.+reduce.Goals as goal
-use Rattle.replay.proofs.reduce.+reduce.Goals.{in-Element+in-Done-deref_mut, in-Prefix+in-Done-deref_mut-2, in-And+in-Done-deref_mut-3+in-Some, in-Or+in-Done-deref_mut-4+in-Some-or_else, in-Binary+in-Done-deref_mut-5+in-Done-deref_mut-6, in-Read, in-Done}
+use Rattle.terms.specs.declared.term.Term.{Term}
+use Rattle.terms.specs.declared.value.Evaluated.{Evaluated}
+use Rattle.terms.specs.Views.{value_view, evaluated_view, term_view, variables_view, decided}
+use Rattle.terms.proofs.TermLemmas.{replaced}
+use Rattle.terms.proofs.reduction.+reduce.Goals as goal
+use Rattle.terms.proofs.reduction.+reduce.Goals.{in-Element+in-Done-deref_mut, in-Prefix+in-Done-deref_mut-2, in-And+in-Done-deref_mut-3+in-Some, in-Or+in-Done-deref_mut-4+in-Some-or_else, in-Binary+in-Done-deref_mut-5+in-Done-deref_mut-6, in-Read, in-Done}
 
 pub returns-clause-step : goal.returns-clause-step
 returns-clause-step t c =

@@ -9,21 +9,21 @@ use Rattle.regions.specs.Sight.{seen, in_range}
 use Rattle.regions.specs.Term.{Term, Done, Number, Named, Read, Element, IsNull, Prefix, And, Or, Binary, Reduction, binary_term, done, reduce}
 use Rattle.regions.specs.Value.{Value, Word, Int, Flag, Truth, Trap, DivisionByZero, ShiftTooFar, OutOfRange, NullReference, WrongObject, Outcome, Gives, Traps, Stuck, outcome_then, outcome_map, convert}
 use Rattle.regions.specs.Variable.{Variable, Scalar, LocalRef, FieldHandle, Elements, LocalArray, NoBuffer, Variables, Statics}
-use Rattle.replay.specs.declared.reduce.Reduction.{Reduction as ReductionInMemory}
-use Rattle.replay.specs.declared.reduce.Reduction.TheVariants as reduction
-use Rattle.replay.specs.declared.sight.Indexed.{Indexed}
-use Rattle.replay.specs.declared.sight.Indexed.TheVariants as indexed
-use Rattle.replay.specs.declared.trap.Trap.{Trap as TrapInMemory}
-use Rattle.replay.specs.declared.trap.Trap.TheVariants as trap
-use Rattle.replay.specs.declared.value.Evaluated.{Evaluated}
-use Rattle.replay.specs.declared.value.Evaluated.TheVariants as evaluated
-use Rattle.replay.specs.declared.value.Value.{Value as ValueInMemory}
-use Rattle.replay.specs.declared.value.Value.TheVariants as value
-use Rattle.replay.specs.declared.term.Term.{Term as TermInMemory}
-use Rattle.replay.specs.declared.term.Term.TheVariants as term
-use Rattle.replay.specs.declared.variable.Content.{Content}
-use Rattle.replay.specs.declared.variable.Content.TheVariants as content
-use Rattle.replay.specs.declared.variable.Variable.{Variable as VariableInMemory}
+use Rattle.terms.specs.declared.reduction.Reduction.{Reduction as ReductionInMemory}
+use Rattle.terms.specs.declared.reduction.Reduction.TheVariants as reduction
+use Rattle.terms.specs.declared.sight.Indexed.{Indexed}
+use Rattle.terms.specs.declared.sight.Indexed.TheVariants as indexed
+use Rattle.terms.specs.declared.trap.Trap.{Trap as TrapInMemory}
+use Rattle.terms.specs.declared.trap.Trap.TheVariants as trap
+use Rattle.terms.specs.declared.value.Evaluated.{Evaluated}
+use Rattle.terms.specs.declared.value.Evaluated.TheVariants as evaluated
+use Rattle.terms.specs.declared.value.Value.{Value as ValueInMemory}
+use Rattle.terms.specs.declared.value.Value.TheVariants as value
+use Rattle.terms.specs.declared.term.Term.{Term as TermInMemory}
+use Rattle.terms.specs.declared.term.Term.TheVariants as term
+use Rattle.terms.specs.declared.variable.Content.{Content}
+use Rattle.terms.specs.declared.variable.Content.TheVariants as content
+use Rattle.terms.specs.declared.variable.Variable.{Variable as VariableInMemory}
 
 abbrev pub trap_view : TrapInMemory → Trap
 trap_view trap.DivisionByZero = DivisionByZero

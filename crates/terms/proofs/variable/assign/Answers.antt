@@ -1,7 +1,7 @@
 use Rattle.std.proofs.Common.{refl, rules}
-use Rattle.replay.specs.Views.{content_view}
-use Rattle.replay.proofs.VariableLemmas.{assigned_new}
-use Rattle.replay.proofs.variable.assign.Goals as goal
+use Rattle.terms.specs.Views.{content_view}
+use Rattle.terms.proofs.VariableLemmas.{assigned_new}
+use Rattle.terms.proofs.variable.assign.Goals as goal
 
 pub returns-in_ok-push-in-None : goal.returns-in_ok-push-in-None
 returns-in_ok-push-in-None c =

@@ -7,7 +7,7 @@ ghost use Rattle.base.specs.Bytes.{lookup};
 ghost use Rattle.syntax.specs.Views.{element_tree};
 ghost use Rattle.regions.specs.Value.{convert};
 ghost use Rattle.regions.specs.Variable.{assign};
-ghost use Rattle.replay.specs.Views.{content_view, written, variables_view};
+ghost use Rattle.terms.specs.Views.{content_view, written, variables_view};
 
 use crate::value::{Value, convert};
 use std::alloc::{AllocError, Global};
@@ -15,7 +15,7 @@ use syntax::{ElementType, Name};
 
 /// What a variable holds.
 #[derive(Drop)]
-pub(crate) enum Content {
+pub enum Content {
     Number(Value),
     /// NULL or an object, by its name.
     Reference(Option<usize>),
@@ -29,13 +29,13 @@ pub(crate) enum Content {
 
 /// A variable with its name.
 #[derive(Drop)]
-pub(crate) struct Variable<'a> {
+pub struct Variable<'a> {
     pub name: &'a Name,
     pub content: Content,
 }
 
 /// The place of the first variable of this name. It compares the name with each: a function knows 256 names at most.
-pub(crate) fn place_of(variables: &[Variable<'_>], name: &Name) -> Option<usize>
+pub fn place_of(variables: &[Variable<'_>], name: &Name) -> Option<usize>
     ensures { result ≡ position (λ v. bytes_eq name.now v.name.now) variables.now }
 {
     variables
@@ -44,7 +44,7 @@ pub(crate) fn place_of(variables: &[Variable<'_>], name: &Name) -> Option<usize>
 }
 
 /// What the variable of this name holds. It compares the name with each.
-pub(crate) fn content_of<'v>(variables: &'v [Variable<'_>], name: &Name) -> Option<&'v Content>
+pub fn content_of<'v>(variables: &'v [Variable<'_>], name: &Name) -> Option<&'v Content>
     ensures { option_map (λ c. content_view c.now) result ≡ lookup name.now (variables_view variables.now) }
 {
     for variable in variables {
@@ -57,7 +57,7 @@ pub(crate) fn content_of<'v>(variables: &'v [Variable<'_>], name: &Name) -> Opti
 
 /// Sets the variable of this name, which is new where there is none.
 #[tactic(auto, using(crate::proofs::VariableLemmas::assigned_rules))]
-pub(crate) fn assign<'a>(
+pub fn assign<'a>(
     variables: &mut Vec<Variable<'a>>,
     name: &'a Name,
     content: Content,
@@ -78,7 +78,7 @@ pub(crate) fn assign<'a>(
 }
 
 /// `size` zeros.
-pub(crate) fn zeros(alloc: Global, size: u32) -> Result<Vec<i32>, AllocError>
+pub fn zeros(alloc: Global, size: u32) -> Result<Vec<i32>, AllocError>
     ensures { IfOk result (λ numbers. numbers.items ≡ replicate size (pos 0)) }
 {
     let mut numbers = Vec::new(alloc);
@@ -96,7 +96,7 @@ fn write(kind: ElementType, numbers: &mut [i32], index: usize, number: i32)
 }
 
 /// Writes an element of what a variable holds; false where it is no array.
-pub(crate) fn write_content(content: &mut Content, index: usize, number: i32) -> bool
+pub fn write_content(content: &mut Content, index: usize, number: i32) -> bool
     ensures { written index number (content_view content.old) ≡ if result then Some (content_view content.new) else None }
 {
     match content {
