@@ -1,10 +1,3 @@
-mod PutLemmas
-mod LoadedObjects
-mod HeapLemmas
-mod TaskLemmas
-mod CallLemmas
-mod ActivationLemmas
-mod RangeLemmas
 mod PlainTasks
 mod ThreadLemmas
 mod RowLemmas

@@ -1,9 +1,4 @@
-pub mod Objects
 pub mod Rows
-pub mod Outcomes
-pub mod Tasks
-pub mod Steps
-pub mod Activations
 pub mod Threads
 pub mod States
 pub mod Loading

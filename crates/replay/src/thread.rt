@@ -12,11 +12,10 @@ ghost use Rattle.regions.specs.Variable.{LocalRef};
 ghost use Rattle.replay.specs.Threads.{argument_content, TakesStep, WorkInRange, step_of};
 ghost use Rattle.terms.specs.Views.{content_view, variables_view};
 
-use crate::activation::{Activation, advance};
-use crate::outcome::Outcome;
 use classes::mangling::unmangle;
 use std::alloc::{AllocError, Global};
 use syntax::{Function, Item, Parameter};
+use tasks::{Activation, Outcome, advance};
 use terms::{Content, Trap, Value, Variable};
 use world::{Argument, Call, World};
 

@@ -1,5 +1,5 @@
 -- Terms: how they begin, and what a step of one does.
-use Rattle.std.proofs.Common.{◌≡◌, None, refl, sym, ap, ◌∙◌}
+use Rattle.std.proofs.Common.{◌≡◌, None, refl, ap}
 use Rattle.base.specs.Bytes.{Identifier}
 use Rattle.syntax.specs.declared.expr.BinaryOp.{BinaryOp}
 use Rattle.syntax.specs.declared.expr.BinaryOp.TheVariants as binary
@@ -14,15 +14,11 @@ use Rattle.regions.specs.Heap.{Heap}
 use Rattle.regions.specs.Sight.{seen}
 use Rattle.regions.specs.Term as tree
 use Rattle.regions.specs.Term.{Reduction, binary_term, with_part, done, reduce}
-use Rattle.regions.specs.Value.{Value, Gives, outcome_map}
 use Rattle.regions.specs.Variable.{Variables, Statics}
 use Rattle.terms.specs.declared.reduction.Reduction.{Reduction as ReductionInMemory}
-use Rattle.terms.specs.declared.reduction.Reduction.TheVariants as reduction
 use Rattle.terms.specs.declared.term.Term.{Term}
-use Rattle.terms.specs.declared.term.Term.TheVariants as term
 use Rattle.terms.specs.declared.value.Evaluated.{Evaluated}
 use Rattle.terms.specs.declared.value.Evaluated.TheVariants as evaluated
-use Rattle.terms.specs.declared.value.Value.{Value as ValueInMemory}
 use Rattle.terms.specs.Views.{evaluated_view, term_view, IsReplaced, Reduces}
 
 -- ---- comparisons with NULL
@@ -127,20 +123,6 @@ pub ruleset operator_rules = (operator_term)
 
 -- ---- steps
 
--- a part that has no value yet takes its step inside the whole
-pub inside : (t : Term) → ((v : ValueInMemory) → t ≡ term.Done v → ⊥) → (use_value : Value → Reduction) (whole : tree.Term → tree.Term) (step : Reduction)
-    → with_part use_value whole (term_view t) step ≡ outcome_map whole step
-inside (term.Done v) no_value use_value whole step = absurd (no_value v refl)
-inside (term.Number n unsigned) no_value use_value whole step = refl
-inside (term.Named c) no_value use_value whole step = refl
-inside (term.Read x) no_value use_value whole step = refl
-inside (term.Element' x p i) no_value use_value whole step = refl
-inside (term.IsNull wanted x) no_value use_value whole step = refl
-inside (term.Prefix' op p t) no_value use_value whole step = refl
-inside (term.And' p s q t) no_value use_value whole step = refl
-inside (term.Or' p s q t) no_value use_value whole step = refl
-inside (term.Binary' op p s q t) no_value use_value whole step = refl
-
 module _ (vs : Variables) (ss : Statics) where
   -- the value takes its place
   pub replaced : (old new : Term) (value : Evaluated) (took : ReductionInMemory) → IsReplaced old value took new
@@ -148,13 +130,3 @@ module _ (vs : Variables) (ss : Statics) where
   replaced old new (evaluated.Gives v) took is value = rw (is.0, is.1) value
   replaced old new (evaluated.Traps trap) took is value = rw (is.0, is.1) (value, refl)
   replaced old new evaluated.Stuck took is value = rw is.0 value
-
-  -- a part has taken its step
-  pub part_stepped : (old new : Term) (whole_old whole_new : Term) (whole : tree.Term → tree.Term) (took : ReductionInMemory) → Reduces vs ss old took new
-      → ((heap : Heap) → reduce (seen vs ss heap) (term_view whole_old) ≡ outcome_map whole (reduce (seen vs ss heap) (term_view old)))
-      → term_view whole_new ≡ whole (term_view new) → (new ≡ old → whole_new ≡ whole_old) → Reduces vs ss whole_old took whole_new
-  part_stepped old new whole_old whole_new whole reduction.Reduced step at is same = λ heap. at heap ∙ ap (outcome_map whole) (step heap) ∙ ap Gives (sym is)
-  part_stepped old new whole_old whole_new whole (reduction.Trapped trap) step at is same = (λ heap. at heap ∙ ap (outcome_map whole) (step.0 heap), same step.1)
-  part_stepped old new whole_old whole_new whole reduction.Stuck step at is same = λ heap. at heap ∙ ap (outcome_map whole) (step heap)
-
-pub ruleset reduction_rules = (replaced)

@@ -131,6 +131,25 @@ IsLeaf (term.IsNull wanted x) = Unit {0}
 IsLeaf (term.Done v) = Unit {0}
 IsLeaf t = ⊥
 
+-- its parts that take steps have their values
+abbrev pub IsValue : TermInMemory → Type 0
+IsValue (term.Done v) = Unit {0}
+IsValue t = ⊥
+
+abbrev pub HasValues : TermInMemory → Type 0
+HasValues (term.Element' x p i) = IsValue i
+HasValues (term.Prefix' op p t) = IsValue t
+HasValues (term.And' p s q t) = IsValue s
+HasValues (term.Or' p s q t) = IsValue s
+HasValues (term.Binary' op p s q t) = IsValue s × IsValue t
+HasValues t = Unit {0}
+
+-- the right side of `&&` or `||`
+abbrev pub right_side : Term → Term
+right_side (And s t) = t
+right_side (Or s t) = t
+right_side t = t
+
 -- the value takes the place of a term, if there is one
 abbrev pub IsReplaced : TermInMemory → Evaluated → ReductionInMemory → TermInMemory → Type 0
 IsReplaced old (evaluated.Gives v) took new = (took ≡ reduction.Reduced) × (new ≡ term.Done v)

@@ -6,7 +6,7 @@ ghost use Rattle.regions.specs.Heap.{Heap};
 ghost use Rattle.regions.specs.Sight.{seen};
 ghost use Rattle.regions.specs.Start.{null_statics};
 ghost use Rattle.regions.specs.Term.{Term as TermOfTree, and_then, or_else, done, reduce};
-ghost use Rattle.terms.specs.Views.{value_view, evaluated_view, term_view, variables_view, NumbersInRange, decided, IsLeaf, IsReplaced, Reduces};
+ghost use Rattle.terms.specs.Views.{value_view, evaluated_view, term_view, variables_view, NumbersInRange, decided, right_side, IsLeaf, HasValues, IsReplaced, Reduces};
 
 use crate::sight::{element_in, null_value, number_in};
 use crate::term::{Term, put_term};
@@ -85,54 +85,101 @@ fn leaf_value(items: &[Item], variables: &[Variable<'_>], term: &Term) -> Evalua
     }
 }
 
+/// The value of a term whose parts have theirs; none where its right side decides.
+fn value_of(items: &[Item], variables: &[Variable<'_>], term: &Term) -> Option<Evaluated>
+    requires { NumbersInRange term.now }
+    ensures { HasValues term.now → (heap : Heap) → reduce (seen (variables_view variables.now) (null_statics (unit_tree items.now)) heap) (term_view term.now) ≡ decided result (right_side (term_view term.now)) }
+{
+    match term {
+        Term::Element(name, i) => match **i {
+            Term::Done(i) => Some(element_in(variables, name, i)),
+            _ => None,
+        },
+        Term::Prefix(op, a) => match **a {
+            Term::Done(v) => Some(prefix_value(*op, v)),
+            _ => None,
+        },
+        Term::And(a, _) => match **a {
+            Term::Done(v) => and_then(v),
+            _ => None,
+        },
+        Term::Or(a, _) => match **a {
+            Term::Done(v) => or_else(v),
+            _ => None,
+        },
+        Term::Binary(op, a, b) => match **a {
+            Term::Done(v) => match **b {
+                Term::Done(w) => Some(binary_value(*op, v, w)),
+                _ => None,
+            },
+            _ => None,
+        },
+        Term::Done(_) | Term::Number { .. } | Term::Named(_) => Some(leaf_value(
+            items, variables, term,
+        )),
+        Term::Read(_) | Term::IsNull(_, _) => Some(leaf_value(items, variables, term)),
+    }
+}
+
+/// Puts the right side of `&&` or `||` in its place.
+fn replace_by_right(term: &mut Term)
+    ensures view { term_view term.new ≡ right_side (term_view term.old) }
+    ensures numbers { NumbersInRange term.old → NumbersInRange term.new }
+{
+    if let Term::And(_, b) | Term::Or(_, b) = term {
+        let right = take(b);
+        put_term(term, right);
+    }
+}
+
+/// Replaces a term whose parts have their values.
+fn settle(items: &[Item], variables: &[Variable<'_>], term: &mut Term) -> Reduction
+    requires numbers { NumbersInRange term.old }
+    requires values { HasValues term.old }
+    ensures step { Reduces (variables_view variables.now) (null_statics (unit_tree items.now)) term.old result term.new }
+    ensures numbers { NumbersInRange term.new }
+{
+    match value_of(items, variables, term) {
+        Some(value) => replace(term, value),
+        None => {
+            replace_by_right(term);
+            Reduction::Reduced
+        }
+    }
+}
+
 /// Replaces the leftmost part that can be reduced by its value, or by the right side of `&&` or `||`.
 /// It walks to that part, through at most as many terms as the tree is high.
-#[tactic(auto, using(crate::proofs::TermLemmas::reduction_rules))]
 pub fn reduce(items: &[Item], variables: &[Variable<'_>], term: &mut Term) -> Reduction
     requires { NumbersInRange term.old }
     ensures step { Reduces (variables_view variables.now) (null_statics (unit_tree items.now)) term.old result term.new }
     ensures numbers { NumbersInRange term.new }
 {
-    let value = match term {
-        Term::Element(name, i) => match &mut **i {
-            Term::Done(i) => element_in(variables, name, *i),
-            i => return reduce(items, variables, i),
+    match term {
+        Term::Element(_, i) => match &mut **i {
+            Term::Done(_) => settle(items, variables, term),
+            i => reduce(items, variables, i),
         },
-        Term::Prefix(op, a) => match &mut **a {
-            Term::Done(v) => prefix_value(*op, *v),
-            a => return reduce(items, variables, a),
+        Term::Prefix(_, a) => match &mut **a {
+            Term::Done(_) => settle(items, variables, term),
+            a => reduce(items, variables, a),
         },
-        Term::And(a, b) => match &mut **a {
-            Term::Done(v) => match and_then(*v) {
-                Some(value) => value,
-                None => {
-                    let right = take(b);
-                    put_term(term, right);
-                    return Reduction::Reduced;
-                }
+        Term::And(a, _) => match &mut **a {
+            Term::Done(_) => settle(items, variables, term),
+            a => reduce(items, variables, a),
+        },
+        Term::Or(a, _) => match &mut **a {
+            Term::Done(_) => settle(items, variables, term),
+            a => reduce(items, variables, a),
+        },
+        Term::Binary(_, a, b) => match &mut **a {
+            Term::Done(_) => match &mut **b {
+                Term::Done(_) => settle(items, variables, term),
+                b => reduce(items, variables, b),
             },
-            a => return reduce(items, variables, a),
+            a => reduce(items, variables, a),
         },
-        Term::Or(a, b) => match &mut **a {
-            Term::Done(v) => match or_else(*v) {
-                Some(value) => value,
-                None => {
-                    let right = take(b);
-                    put_term(term, right);
-                    return Reduction::Reduced;
-                }
-            },
-            a => return reduce(items, variables, a),
-        },
-        Term::Binary(op, a, b) => match &mut **a {
-            Term::Done(v) => match &mut **b {
-                Term::Done(w) => binary_value(*op, *v, *w),
-                b => return reduce(items, variables, b),
-            },
-            a => return reduce(items, variables, a),
-        },
-        Term::Done(_) | Term::Number { .. } | Term::Named(_) => leaf_value(items, variables, term),
-        Term::Read(_) | Term::IsNull(_, _) => leaf_value(items, variables, term),
-    };
-    replace(term, value)
+        Term::Done(_) | Term::Number { .. } | Term::Named(_) => settle(items, variables, term),
+        Term::Read(_) | Term::IsNull(_, _) => settle(items, variables, term),
+    }
 }

@@ -89,7 +89,7 @@ fn null_of(items: &[Item], variables: &[Variable<'_>], name: &Name) -> Evaluated
 
 /// Whether a variable or a static holds NULL, or, where that isn't wanted, whether it doesn't.
 #[tactic(auto, using(crate::proofs::SightLemmas::null_rules))]
-pub fn null_value(
+pub(crate) fn null_value(
     items: &[Item],
     variables: &[Variable<'_>],
     wanted: bool,
@@ -164,7 +164,7 @@ pub fn place_in(variables: &[Variable<'_>], name: &Name, v: Value) -> Indexed
 
 /// An element of the array of this name.
 #[tactic(auto, using(crate::proofs::SightLemmas::element_rules))]
-pub fn element_in(variables: &[Variable<'_>], name: &Name, v: Value) -> Evaluated
+pub(crate) fn element_in(variables: &[Variable<'_>], name: &Name, v: Value) -> Evaluated
     ensures { (statics : Statics) (heap : Heap) → evaluated_view result ≡ element_value (seen (variables_view variables.now) statics heap) name.now (value_view v) }
 {
     match index_of(v) {

@@ -33,7 +33,7 @@ pub enum Evaluated {
 }
 
 /// The value of a number.
-pub fn literal(value: u32, unsigned: bool) -> Value
+pub(crate) fn literal(value: u32, unsigned: bool) -> Value
     requires { value < number_limit unsigned }
     ensures { value_view result ≡ literal value unsigned }
 {
@@ -58,7 +58,7 @@ pub fn constant(c: Constant) -> Evaluated
 }
 
 /// What is left of a number in an element type.
-pub fn convert(kind: ElementType, number: i32) -> i32
+pub(crate) fn convert(kind: ElementType, number: i32) -> i32
     ensures { result ≡ convert (element_tree kind) number }
 {
     let word = number.cast_unsigned();
@@ -71,7 +71,7 @@ pub fn convert(kind: ElementType, number: i32) -> i32
 }
 
 /// What a prefix makes of a value.
-pub fn prefix_value(op: PrefixOp, v: Value) -> Evaluated
+pub(crate) fn prefix_value(op: PrefixOp, v: Value) -> Evaluated
     ensures { evaluated_view result ≡ prefix_value (prefix_tree op) (value_view v) }
 {
     match (op, v) {
@@ -98,7 +98,7 @@ fn word(n: u32) -> Evaluated
 }
 
 /// A truth, as a value.
-pub fn truth(b: bool) -> Evaluated
+pub(crate) fn truth(b: bool) -> Evaluated
     ensures { evaluated_view result ≡ Gives (Truth b) }
 {
     Evaluated::Gives(Value::Truth(b))
@@ -169,7 +169,7 @@ fn flag_value(op: BinaryOp, a: bool, b: bool) -> Evaluated
 }
 
 /// What an operator, other than `&&` and `||`, makes of two values.
-pub fn binary_value(op: BinaryOp, a: Value, b: Value) -> Evaluated
+pub(crate) fn binary_value(op: BinaryOp, a: Value, b: Value) -> Evaluated
     ensures { evaluated_view result ≡ binary_value (binary_tree op) (value_view a) (value_view b) }
 {
     match a {
