@@ -17,7 +17,10 @@ use crate::outcome::{End, Outcome};
 use crate::task::Task;
 use std::alloc::AllocError;
 use syntax::{Block, Expr, Item, Name, Stmt};
-use terms::{Evaluated, Indexed, Reduction, Term, Value, Variable, constant, number_in, place_in, put_term, reduce};
+use terms::{
+    Evaluated, Indexed, Reduction, Term, Value, Variable, constant, number_in, place_in, put_term,
+    reduce,
+};
 use world::World;
 
 /// What a step does that reduces a term, which has no value yet.
