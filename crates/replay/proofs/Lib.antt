@@ -1,13 +1,3 @@
-mod TermLemmas
-mod VariableLemmas
-mod SightLemmas
-mod PutLemmas
-mod LoadedObjects
-mod HeapLemmas
-mod TaskLemmas
-mod CallLemmas
-mod ActivationLemmas
-mod RangeLemmas
 mod PlainTasks
 mod ThreadLemmas
 mod RowLemmas

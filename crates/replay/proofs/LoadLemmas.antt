@@ -14,7 +14,7 @@ use Rattle.replay.specs.declared.thread.Thread.{Thread as ThreadInMemory}
 use Rattle.replay.specs.Loading.{refused_calls, first_line, IsWaiting, AreWaiting}
 use Rattle.replay.specs.States.{ThreadsStand}
 use Rattle.replay.specs.Threads.{ThreadStands, VariablesIn, FramesIn, tasks_in, ending_in}
-use Rattle.replay.specs.declared.activation.Activation.{Activation}
+use Rattle.tasks.specs.declared.activation.Activation.{Activation}
 
 -- the calls of each thread
 abbrev pub calls_of : List (Vec CallScene) → List (List Invocation)

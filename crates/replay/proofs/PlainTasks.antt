@@ -22,18 +22,18 @@ use Rattle.regions.specs.Term.{Term, Done, Number, Named, Read, Element, IsNull,
 use Rattle.regions.specs.Thread.{Thread, Shared, BuffersInUse, NoAdvance, sight_of}
 use Rattle.regions.specs.ThreadStep.{thread_step, step_within, after_refused_effect, next_effect, waits}
 use Rattle.regions.specs.Value.{Value, Word, Int, Flag, Truth, Trap, Outcome, Gives, Traps, Stuck}
-use Rattle.replay.specs.Activations.{tasks_from, tasks_around, tasks_after, tasks_left, BegunInRange}
-use Rattle.replay.specs.Outcomes.{target_view}
-use Rattle.replay.specs.Tasks.{task_view, end_view, tasks_of_statements, calls_built, StatementsInRange, TaskInRange}
+use Rattle.tasks.specs.Activations.{tasks_from, tasks_around, tasks_after, tasks_left, BegunInRange}
+use Rattle.tasks.specs.Outcomes.{target_view}
+use Rattle.tasks.specs.Tasks.{task_view, end_view, tasks_of_statements, calls_built, StatementsInRange, TaskInRange}
 use Rattle.replay.specs.Threads.{ThreadStands, tasks_in, WorkInRange}
-use Rattle.replay.specs.declared.activation.Activation.{Activation}
-use Rattle.replay.specs.declared.activation.Outer.{Outer}
-use Rattle.replay.specs.declared.outcome.End.{End}
-use Rattle.replay.specs.declared.outcome.End.TheVariants as end
-use Rattle.replay.specs.declared.task.Task.{Task as TaskInMemory}
-use Rattle.replay.specs.declared.task.Task.TheVariants as task
+use Rattle.tasks.specs.declared.activation.Activation.{Activation}
+use Rattle.tasks.specs.declared.activation.Outer.{Outer}
+use Rattle.tasks.specs.declared.outcome.End.{End}
+use Rattle.tasks.specs.declared.outcome.End.TheVariants as end
+use Rattle.tasks.specs.declared.task.Task.{Task as TaskInMemory}
+use Rattle.tasks.specs.declared.task.Task.TheVariants as task
 use Rattle.replay.specs.declared.thread.Thread.{Thread as ThreadInMemory}
-use Rattle.replay.proofs.CallLemmas.{is_length}
+use Rattle.tasks.proofs.CallLemmas.{is_length}
 
 -- the tasks of a thread in memory, which call GetArrayLength alone
 abbrev IsPlain : Task → Type 0

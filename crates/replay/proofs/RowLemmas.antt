@@ -17,7 +17,7 @@ use Rattle.world.specs.Shown.{row_head}
 use Rattle.world.specs.World.{World, loaded_objects, fits_cells}
 use Rattle.world.proofs.Puts.{flat_map-at, flat_map-past}
 use Rattle.replay.specs.Rows.{number_text, number_row, array_row, rows_of}
-use Rattle.replay.proofs.LoadedObjects.{loaded_is, plain_class_object, error_object}
+use Rattle.tasks.proofs.LoadedObjects.{loaded_is, plain_class_object, error_object}
 
 numbers_are : (values : List ℤ) → flat_map (λ (v : ShownValue). codes " " ++ shown_text v) (map ShownNumber values) ≡ flat_map number_text values
 numbers_are [] = refl

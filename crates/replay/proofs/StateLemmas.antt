@@ -29,7 +29,7 @@ use Rattle.replay.specs.declared.thread.Step.{Step}
 use Rattle.replay.specs.declared.thread.Step.TheVariants as step
 use Rattle.replay.specs.declared.state.Stop.{Stop as StopInMemory}
 use Rattle.replay.specs.Rows.{rows_of}
-use Rattle.replay.specs.Views.{trap_view}
+use Rattle.terms.specs.Views.{trap_view}
 use Rattle.replay.specs.States.{ThreadsStand, AreInRange, Stands, stop_view, printed_after, stop_after, is_possible, Leads, standing_by, standing_of, standings_of}
 use Rattle.replay.specs.Threads.{ThreadStands, WorkInRange, IsAsLoaded, ending_in, StepIs, TakesStep}
 use Rattle.replay.proofs.PlainTasks.{refused_none, waits_none}

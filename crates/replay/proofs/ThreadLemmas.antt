@@ -16,16 +16,16 @@ use Rattle.world.specs.SceneWorld.{invocation_of}
 use Rattle.regions.specs.Thread.{Thread, Shared, BuffersInUse, Event, Quiet, PrintedNumber, Trapped, Advances as AdvancesTo, NoAdvance, Unfinished, Ended}
 use Rattle.regions.specs.Activation.{return_step, enter, entered, entry_advance, entered_function, class_of_function, function_at}
 use Rattle.regions.specs.ThreadStep.{thread_step, step_within}
-use Rattle.replay.specs.declared.activation.Activation.{Activation}
+use Rattle.tasks.specs.declared.activation.Activation.{Activation}
 use Rattle.replay.specs.declared.thread.Thread.{Thread as ThreadInMemory}
-use Rattle.replay.specs.declared.outcome.Outcome.TheVariants as outcome
-use Rattle.replay.specs.Activations.{tasks_left, thread_in, advance_by, Advances}
-use Rattle.replay.specs.Steps.{Sees}
-use Rattle.replay.specs.Views.{variables_view, trap_view}
+use Rattle.tasks.specs.declared.outcome.Outcome.TheVariants as outcome
+use Rattle.tasks.specs.Activations.{tasks_left, thread_in, advance_by, Advances}
+use Rattle.tasks.specs.Steps.{Sees}
+use Rattle.terms.specs.Views.{variables_view, trap_view}
 use Rattle.regions.specs.Activation.{parameter_variables}
 use Rattle.regions.specs.Variable.{LocalRef}
 use Rattle.std.specs.Prelude.{zip}
-use Rattle.replay.specs.declared.outcome.Outcome.{Outcome}
+use Rattle.tasks.specs.declared.outcome.Outcome.{Outcome}
 use Rattle.replay.specs.Threads.{ThreadStands, VariablesIn, FramesIn, IsAsLoaded, Leaves, StepIs, step_of, tasks_in, ending_in}
 
 module _ (unit : SourceUnit) (w : World) (shared : Shared) (lent : BuffersInUse) (k : ℕ) where

@@ -1,10 +1,4 @@
-pub mod Views
-pub mod Objects
 pub mod Rows
-pub mod Outcomes
-pub mod Tasks
-pub mod Steps
-pub mod Activations
 pub mod Threads
 pub mod TrapAt
 pub mod States

@@ -22,7 +22,7 @@ use Rattle.replay.specs.declared.state.State.{State as StateInMemory}
 use Rattle.replay.specs.declared.state.Stop.{Stop as StopInMemory}
 use Rattle.replay.specs.declared.trap_at.TrapAt.{TrapAt}
 use Rattle.replay.specs.TrapAt.{trap_at}
-use Rattle.replay.specs.Views.{trap_view}
+use Rattle.terms.specs.Views.{trap_view}
 use Rattle.replay.specs.Threads.{ThreadStands, WorkInRange}
 
 -- each thread in memory stands for the one of the same number

@@ -13,14 +13,14 @@ use Rattle.regions.specs.Thread.{Frame, Ending, Unfinished, Ended, Thread, Share
 use Rattle.regions.specs.ThreadStep.{thread_step}
 use Rattle.regions.specs.Value.{Int}
 use Rattle.regions.specs.Variable.{Variable, Scalar, LocalRef, Variables}
-use Rattle.replay.specs.declared.activation.Activation.{Activation}
-use Rattle.replay.specs.declared.outcome.Outcome.{Outcome}
-use Rattle.replay.specs.declared.outcome.Outcome.TheVariants as outcome
+use Rattle.tasks.specs.declared.activation.Activation.{Activation}
+use Rattle.tasks.specs.declared.outcome.Outcome.{Outcome}
+use Rattle.tasks.specs.declared.outcome.Outcome.TheVariants as outcome
 use Rattle.replay.specs.declared.thread.Thread.{Thread as ThreadInMemory}
 use Rattle.replay.specs.declared.thread.Step.{Step}
 use Rattle.replay.specs.declared.thread.Step.TheVariants as step
-use Rattle.replay.specs.Activations.{tasks_left, IsInRange}
-use Rattle.replay.specs.Views.{variables_view, trap_view}
+use Rattle.tasks.specs.Activations.{tasks_left, IsInRange}
+use Rattle.terms.specs.Views.{variables_view, trap_view}
 
 -- the tasks of the call in progress, if there is one
 abbrev pub tasks_in : Option Activation → Option (List Task)

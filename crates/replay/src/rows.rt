@@ -9,7 +9,7 @@ ghost use Rattle.world.specs.Sink.{CanFail, Writes};
 ghost use Rattle.world.specs.Views.{element_view};
 ghost use Rattle.replay.specs.Rows.{number_text, number_row, rows_text};
 
-use crate::heap::made_before;
+use tasks::made_before;
 use world::{
     ClassName, Element, Rows, Shown, Sink, SinkFailed, World, put_row_end, put_row_head, put_value,
 };

@@ -7,10 +7,10 @@ ghost use Rattle.types.specs.BuiltCalls.{calls_are_built};
 ghost use Rattle.replay.specs.States.{AreInRange, TakesEntry, shown_stop, IsNoted, is_possible, standing_of, standings_of};
 
 use crate::thread::{Step, Thread, take_step};
-use crate::trap::{Trap, trap_number};
 use crate::trap_at::TrapAt;
 use std::alloc::{AllocError, Global};
 use syntax::Item;
+use terms::{Trap, trap_number};
 use world::{Entry, Printed, ThreadStatus, World};
 
 /// The trap that stopped the machine.

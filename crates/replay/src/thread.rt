@@ -10,16 +10,13 @@ ghost use Rattle.world.specs.Views.{argument_view};
 ghost use Rattle.regions.specs.Activation.{function_at, parameter_variables, class_of_function};
 ghost use Rattle.regions.specs.Variable.{LocalRef};
 ghost use Rattle.replay.specs.Threads.{argument_content, TakesStep, WorkInRange, step_of};
-ghost use Rattle.replay.specs.Views.{content_view, variables_view};
+ghost use Rattle.terms.specs.Views.{content_view, variables_view};
 
-use crate::activation::{Activation, advance};
-use crate::outcome::Outcome;
-use crate::trap::Trap;
-use crate::value::Value;
-use crate::variable::{Content, Variable};
 use classes::mangling::unmangle;
 use std::alloc::{AllocError, Global};
 use syntax::{Function, Item, Parameter};
+use tasks::{Activation, Outcome, advance};
+use terms::{Content, Trap, Value, Variable};
 use world::{Argument, Call, World};
 
 /// A thread: the calls to come, the one in progress, and whether all are done.
@@ -70,7 +67,7 @@ fn content_of(argument: Argument) -> Content
 }
 
 /// Adds the variables of parameters, each with its argument.
-#[tactic(auto, using(crate::proofs::VariableLemmas::added_rules))]
+#[tactic(auto, using(terms::proofs::VariableLemmas::added_rules))]
 fn add_parameters<'a>(
     variables: &mut Vec<Variable<'a>>,
     parameters: &'a [Parameter],

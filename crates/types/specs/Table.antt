@@ -1,10 +1,12 @@
 -- The table of the JNI functions in memory.
-use Rattle.std.specs.Prelude.{ℕ, Bool, true, false, List, [], ◌∷◌, map, Option, Some, None, bytes_eq, if◌then◌else◌}
+use Rattle.std.specs.Prelude.{ℕ, Bool, true, false, List, [], ◌∷◌, map, take, drop, flat_map, find, Option, Some, None, bytes_eq, if◌then◌else◌}
+use Rattle.std.specs.Option.{option_map}
 use Rattle.std.specs.Borrow.{Bor}
 use Rattle.base.specs.Bytes.{Identifier}
+use Rattle.base.specs.Element.{JInt, JShort, JByte, JChar}
 use Rattle.syntax.specs.Views.{element_tree}
 use Rattle.types.specs.JniFunction.{Access, ElementsCopy, ArrayView, CharsCopy, CharsView, JniFunction}
-use Rattle.types.specs.Prototype.{ParameterKind, Nullable, NonNull, ClassObject, ObjectArray, StringObject, NumberArray, LocalVariable, StaticVariable, FieldID, IntNumber, TextBytes, ArrayVariable, BufferVariable, Mode, IsCopy, ResultKind, NewLocal, NewGlobal, GivesFlag, GivesInt, GivesField, GivesNothing, GivesBuffer, prototype}
+use Rattle.types.specs.Prototype.{ParameterKind, Nullable, NonNull, ClassObject, ObjectArray, StringObject, NumberArray, LocalVariable, StaticVariable, FieldID, IntNumber, TextBytes, ArrayVariable, BufferVariable, Mode, IsCopy, ResultKind, NewLocal, NewGlobal, GivesFlag, GivesInt, GivesField, GivesNothing, GivesBuffer, prototype, plain_functions, typed_functions, access_functions}
 use Rattle.types.specs.SortRules.{is_push}
 use Rattle.types.specs.BuiltCalls.{is_built_function}
 use Rattle.types.specs.declared.access.Access.{Access as AccessInMemory}
@@ -83,3 +85,24 @@ facts p = facts_by p.parameters.now p.result p.built
 abbrev pub row_named : List (Identifier × Facts) → Identifier → Option Facts
 row_named [] name = None
 row_named (row ∷ rows) name = if bytes_eq row.0 name then Some row.1 else row_named rows name
+
+-- ---- the parts of the table
+
+abbrev pub reference_functions : List JniFunction
+reference_functions = take 14 plain_functions
+
+abbrev pub object_functions : List JniFunction
+object_functions = drop 14 plain_functions
+
+abbrev pub int_and_short_functions : List JniFunction
+int_and_short_functions = flat_map typed_functions (JInt ∷ JShort ∷ [])
+
+abbrev pub byte_and_char_functions : List JniFunction
+byte_and_char_functions = flat_map typed_functions (JByte ∷ JChar ∷ [])
+
+abbrev pub view_functions : List JniFunction
+view_functions = flat_map access_functions (ArrayView ∷ CharsCopy ∷ CharsView ∷ [])
+
+-- what the check asks of the function of this name, if it is one of these
+abbrev pub facts_among : List JniFunction → Identifier → Option Facts
+facts_among functions name = option_map facts_of (find (λ f. bytes_eq (prototype f).name name) functions)

@@ -3,7 +3,7 @@
 ghost use Rattle.std.specs.Prelude.{◌≡◌, map};
 ghost use Rattle.std.specs.Option.{option_map};
 ghost use Rattle.types.specs.Prototype.{function_named};
-ghost use Rattle.types.specs.Table.{facts, facts_of, row_value, row_named};
+ghost use Rattle.types.specs.Table.{facts, facts_of, facts_among, row_value, row_named, byte_and_char_functions, int_and_short_functions, object_functions, reference_functions, view_functions};
 
 use crate::access::Access;
 use crate::access::Access::{ArrayView, CharsCopy, CharsView, ElementsCopy};
@@ -64,7 +64,8 @@ pub(crate) struct Prototype {
 /// A function's name, parameters and result, and whether it can be called today.
 type Row = (&'static [u8], &'static [ParameterKind], ResultKind, bool);
 
-const PROTOTYPES: [Row; 77] = [
+/// The functions on classes and references.
+const REFERENCES: [Row; 14] = [
     (b"FindClass", &[TextBytes], NewLocal, false),
     (b"GetSuperclass", &[ClassObject], NewLocal, false),
     (b"GetObjectClass", &[NonNull], NewLocal, false),
@@ -84,6 +85,10 @@ const PROTOTYPES: [Row; 77] = [
     (b"EnsureLocalCapacity", &[IntNumber], GivesInt, false),
     (b"PushLocalFrame", &[IntNumber], GivesFrameStatus, false),
     (b"PopLocalFrame", &[Nullable], NewLocal, false),
+];
+
+/// The functions on fields that hold references, on arrays of any kind, on strings, exceptions and monitors.
+const OBJECTS: [Row; 21] = [
     (
         b"GetFieldID",
         &[ClassObject, TextBytes, TextBytes],
@@ -150,6 +155,10 @@ const PROTOTYPES: [Row; 77] = [
     (b"FatalError", &[TextBytes], GivesNothing, false),
     (b"MonitorEnter", &[NonNull], GivesInt, false),
     (b"MonitorExit", &[NonNull], GivesInt, false),
+];
+
+/// The functions on `jint` and `jshort`.
+const INTS_AND_SHORTS: [Row; 18] = [
     (b"GetIntField", &[NonNull, FieldID], GivesInt, false),
     (
         b"SetIntField",
@@ -252,6 +261,10 @@ const PROTOTYPES: [Row; 77] = [
         GivesNothing,
         false,
     ),
+];
+
+/// The functions on `jbyte` and `jchar`.
+const BYTES_AND_CHARS: [Row; 18] = [
     (b"GetByteField", &[NonNull, FieldID], GivesInt, false),
     (
         b"SetByteField",
@@ -368,6 +381,10 @@ const PROTOTYPES: [Row; 77] = [
         GivesNothing,
         false,
     ),
+];
+
+/// The functions that lend a view of an array or a string, or copy the characters of a string.
+const VIEWS: [Row; 6] = [
     (
         b"GetPrimitiveArrayCritical",
         &[NonNull, IsCopy],
@@ -423,9 +440,56 @@ fn row_named(mut rows: &[Row], name: &[u8]) -> Option<Prototype>
     None
 }
 
-/// The line of the table for a name.
+/// The line for a name among the functions on classes and references.
+fn reference_function(name: &[u8]) -> Option<Prototype>
+    ensures { option_map facts result ≡ facts_among reference_functions name.now }
+{
+    row_named(&REFERENCES, name)
+}
+
+/// The line for a name among the functions on objects.
+fn object_function(name: &[u8]) -> Option<Prototype>
+    ensures { option_map facts result ≡ facts_among object_functions name.now }
+{
+    row_named(&OBJECTS, name)
+}
+
+/// The line for a name among the functions on `jint` and `jshort`.
+fn int_or_short_function(name: &[u8]) -> Option<Prototype>
+    ensures { option_map facts result ≡ facts_among int_and_short_functions name.now }
+{
+    row_named(&INTS_AND_SHORTS, name)
+}
+
+/// The line for a name among the functions on `jbyte` and `jchar`.
+fn byte_or_char_function(name: &[u8]) -> Option<Prototype>
+    ensures { option_map facts result ≡ facts_among byte_and_char_functions name.now }
+{
+    row_named(&BYTES_AND_CHARS, name)
+}
+
+/// The line for a name among the functions on views.
+fn view_function(name: &[u8]) -> Option<Prototype>
+    ensures { option_map facts result ≡ facts_among view_functions name.now }
+{
+    row_named(&VIEWS, name)
+}
+
+/// The line of the table for a name. The parts of the table stand apart so that each is proved in short time.
 pub(crate) fn prototype_named(name: &[u8]) -> Option<Prototype>
     ensures { option_map facts result ≡ option_map facts_of (function_named name.now) }
 {
-    row_named(&PROTOTYPES, name)
+    if let Some(found) = reference_function(name) {
+        return Some(found);
+    }
+    if let Some(found) = object_function(name) {
+        return Some(found);
+    }
+    if let Some(found) = int_or_short_function(name) {
+        return Some(found);
+    }
+    if let Some(found) = byte_or_char_function(name) {
+        return Some(found);
+    }
+    view_function(name)
 }

@@ -1,6 +1,6 @@
 -- A text means one world at most: the parts of a line between spaces say which line it is.
-use Rattle.std.proofs.Common.{◌≡◌, ℕ, ◌+◌, ◌^◌, ◌≤◌, Bool, true, false, cond, inl, inr, List, [], ◌∷◌, ◌++◌, map, fold, Option, Some, None, refl, sym, ap, ◌∙◌, subst, arith}
-use Rattle.std.specs.Prelude.{codes, decimal, not, ◌&&◌, ◌||◌, ◌==◌, is_some, unwrap_or}
+use Rattle.std.proofs.Common.{◌≡◌, ℕ, ◌+◌, ◌≤◌, Bool, true, false, cond, inl, inr, List, [], ◌∷◌, ◌++◌, map, Option, Some, None, refl, sym, ap, ◌∙◌, subst, arith}
+use Rattle.std.specs.Prelude.{codes, decimal, not, ◌||◌, ◌==◌, is_some, unwrap_or}
 use Rattle.std.specs.List.{list_all, enumerate_from, AllZip}
 use Rattle.std.specs.Str.{bytes_eq}
 use Rattle.std.proofs.lemmas.Bool.{and_from}
@@ -11,19 +11,18 @@ use Rattle.base.specs.Element.{ElementType, JInt}
 use Rattle.base.specs.Options.{some_passes}
 use Rattle.classes.specs.Class.{FieldType, NumberField, ReferenceField, Class, Classes, class_named}
 use Rattle.classes.specs.BuiltIns.{built_ins}
-use Rattle.classes.specs.Mangling.{is_simple_name, is_class_name}
+use Rattle.classes.specs.Mangling.{is_simple_name}
 use Rattle.world.specs.Natural.{natural_of}
 use Rattle.world.specs.Split.{parts_of}
 use Rattle.world.specs.ReadingValues.{values_named, element_named}
-use Rattle.world.specs.World.{World}
-use Rattle.world.specs.WorldLines.{WorldValue, NumberValue, NullValue, NamedObject, NamedClass, WorldLine, ClassLine, FieldLine, StaticLine, ObjectLine, ObjectsLine, ArrayLine, StringLine, ThreadLine, CallLine, Lines, spaced, at_name, value_text, element_letter, IsLineText, text_lines}
+use Rattle.world.specs.WorldLines.{WorldValue, NumberValue, NullValue, NamedObject, NamedClass, WorldLine, ClassLine, FieldLine, StaticLine, ObjectLine, ObjectsLine, ArrayLine, StringLine, ThreadLine, CallLine, Lines, spaced, at_name, value_text, element_letter, IsLineText}
 use Rattle.world.specs.WorldMeaning.{class_number, superclass_number, field_of, table_with, table_of, values_of_line, world_of}
-use Rattle.world.specs.WorldRules.{is_formed_value, is_well_formed, is_class_allowed, is_name_taken, is_known_value, holds_value, each_holds, types_of_line, value_in_range, each_in_range, is_within_limits, LineForm, WrongName, OutOfLimit, broken_by_line, broken_after, IsNumberedLine, IsWorldText, MeansOneWorld}
+use Rattle.world.specs.WorldRules.{is_formed_value, is_well_formed, is_class_allowed, is_name_taken, is_known_value, holds_value, each_holds, types_of_line, value_in_range, each_in_range, is_within_limits, LineForm, WrongName, OutOfLimit, broken_by_line, broken_after, IsNumberedLine, MeansOneWorld}
 use Rattle.world.proofs.FreeWords.{class_name_free, simple_name_free, decimal_free, no_space, built_ins_free, added_free, class_free}
 use Rattle.world.proofs.KeptLines.{either_false, not_false}
 use Rattle.world.proofs.LineForms.{is_free}
 use Rattle.world.proofs.MeantLines.{first_part, pair_are, more_are}
-use Rattle.world.proofs.MeantRules.{IsKept, kept_line, each_keeps}
+use Rattle.world.proofs.MeantRules.{kept_line, each_keeps}
 use Rattle.world.proofs.MeantSchedules.{natural_of-decimal}
 use Rattle.world.proofs.ReadValues.{values_read, number_free, element_read, element_free}
 use Rattle.world.proofs.WordLaws.{both_true}

@@ -28,9 +28,13 @@ pub enum Value<'a> {
 pub fn object_name(word: &[u8]) -> Option<&[u8]>
     ensures { option_map (λ x. x.now) result ≡ object_named word.now }
 {
-    match word {
-        [b'@', name @ ..] if is_simple_name(name) => Some(name),
-        _ => None,
+    let [first, name @ ..] = word else {
+        return None;
+    };
+    if *first == b'@' && is_simple_name(name) {
+        Some(name)
+    } else {
+        None
     }
 }
 

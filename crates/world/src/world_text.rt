@@ -1,6 +1,6 @@
 //! Reading the text of a world.
 
-ghost use Rattle.std.specs.Prelude.{◌≡◌, ◌+◌, ◌==◌, ◌&&◌, ◌++◌, ◌∷◌, not, [], length, map, OnOk, nat_lt, nat_le, is_none, Some, None, IfOk, IsTrue};
+ghost use Rattle.std.specs.Prelude.{◌≡◌, ◌<◌, ◌≤◌, ◌*◌, ◌+◌, ◌==◌, ◌&&◌, ◌++◌, ◌∷◌, not, [], length, map, OnOk, nat_lt, nat_le, is_none, Some, None, IfOk, IsTrue};
 ghost use Rattle.std.specs.List.{list_all};
 ghost use Rattle.world.specs.TextLaws.{WorldsAreRead};
 ghost use Rattle.std.specs.Option.{option_map};
@@ -313,11 +313,23 @@ impl WorldBuilder {
           objects = self.old.objects ++ record { name = name.now; element = element_view element; values = map number_of (map value_view values.now) } ∷ [];
         }) }
     {
-        let values = numbers(alloc, element, values)?;
-        let size = 3 + values.len();
-        let array = Array::new(Vec::from_slice(alloc, name)?, element, values);
+        let array = array_of(alloc, name, element, values)?;
         self.objects.push(alloc, array)?;
-        self.used += size;
+        self.used += 3 + values.len();
+        Ok(())
+    }
+
+    /// One more class, whose line breaks no rule.
+    fn push_class(&mut self, alloc: Global, name: &[u8]) -> Result<(), AllocError>
+        requires few { length self.old.classes.items < 107 }
+        requires room { 136 + 6 * length self.old.classes.items ≤ self.old.heap }
+        requires objects { self.old.objects ≡ [] }
+        requires threads { self.old.threads.items ≡ [] }
+        ensures { OnOk result (scene_of self.new ≡ record (scene_of self.old) { classes = (scene_of self.old).classes ++ name.now ∷ [] }) }
+    {
+        let name = Vec::from_slice(alloc, name)?;
+        self.classes.push(name)?;
+        self.used += 6;
         Ok(())
     }
 }
@@ -350,8 +362,7 @@ fn take_class(
     if let Some(rule) = builder.class_rule(name) {
         return Err(ReadError::Fault(TextFault { rule, line: number }));
     }
-    builder.classes.push(Vec::from_slice(alloc, name)?)?;
-    builder.used += 6;
+    builder.push_class(alloc, name)?;
     Ok(())
 }
 
@@ -376,6 +387,36 @@ fn numbers(alloc: Global, element: Element, values: &[Value]) -> Result<Vec<i32>
         numbers.push(number_of(element, *value))?;
     }
     Ok(numbers)
+}
+
+/// An array of this name, with its numbers.
+fn with_numbers(
+    alloc: Global,
+    name: Vec<u8>,
+    element: Element,
+    values: &[Value],
+) -> Result<Array, AllocError>
+    requires { IsTrue (list_all (value_in_range (element_view element)) (map value_view values.now)) }
+    ensures { IfOk result (λ a. a ≡ record { name = name.items; element = element_view element; values = map number_of (map value_view values.now) }) }
+{
+    match numbers(alloc, element, values) {
+        Ok(values) => Ok(Array::new(name, element, values)),
+        Err(error) => Err(error),
+    }
+}
+
+/// The array of values, each in the range of a type.
+fn array_of(
+    alloc: Global,
+    name: &[u8],
+    element: Element,
+    values: &[Value],
+) -> Result<Array, AllocError>
+    requires { IsTrue (list_all (value_in_range (element_view element)) (map value_view values.now)) }
+    ensures { IfOk result (λ a. a ≡ record { name = name.now; element = element_view element; values = map number_of (map value_view values.now) }) }
+{
+    let name = Vec::from_slice(alloc, name)?;
+    with_numbers(alloc, name, element, values)
 }
 
 /// Takes a line `array @x K V ..`, where it has that form.

@@ -4,13 +4,13 @@ use Rattle.world.specs.Object.{ObjectValue}
 use Rattle.world.specs.SceneWorld.{world_of_scene}
 use Rattle.regions.specs.Activation.{parameter_variables}
 use Rattle.regions.specs.Variable.{LocalRef}
-use Rattle.replay.specs.declared.activation.Activation.{Activation}
-use Rattle.replay.specs.declared.activation.Outer.{Outer}
-use Rattle.replay.specs.Activations.{tasks_around}
-use Rattle.replay.specs.Tasks.{tasks_of_statements}
-use Rattle.replay.proofs.TaskLemmas.{block_tasks}
+use Rattle.tasks.specs.declared.activation.Activation.{Activation}
+use Rattle.tasks.specs.declared.activation.Outer.{Outer}
+use Rattle.tasks.specs.Activations.{tasks_around}
+use Rattle.tasks.specs.Tasks.{tasks_of_statements}
+use Rattle.tasks.proofs.TaskLemmas.{block_tasks}
 use Rattle.replay.proofs.ThreadLemmas.{enters}
-use Rattle.replay.proofs.RangeLemmas.{body_in_range}
+use Rattle.tasks.proofs.RangeLemmas.{body_in_range}
 use Rattle.replay.proofs.thread.enter.Goals as goal
 
 pub returns-clause-step : goal.returns-clause-step

@@ -1,4 +1,4 @@
-use Rattle.std.proofs.Common.{ℕ, ◌+◌, ◌∙◌, ap, arith, Some, None, []}
+use Rattle.std.proofs.Common.{ℕ, ◌+◌, ◌∙◌, ap, arith, []}
 use Rattle.std.specs.Option.{option_map}
 use Rattle.world.proofs.NameLemmas.{built_in_number_is, built_in_below}
 use Rattle.world.proofs.names.built_in_number.Goals as goal

@@ -1,4 +1,4 @@
-use Rattle.std.proofs.Common.{◌∙◌, arith, sym}
+use Rattle.std.proofs.Common.{arith, sym}
 use Rattle.world.proofs.NameLemmas.{kept_number}
 use Rattle.world.proofs.names.class_number.Goals as goal
 

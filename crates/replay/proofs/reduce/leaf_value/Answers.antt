@@ -1,4 +1,0 @@
-use Rattle.replay.proofs.reduce.leaf_value.Goals as goal
-
-pub returns-in-IsNull : goal.returns-in-IsNull
-returns-in-IsNull c = λ leaf heap. rw c.in-IsNull.is (c.null_value.ensures heap)

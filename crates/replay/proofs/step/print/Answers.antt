@@ -1,9 +1,0 @@
-use Rattle.syntax.specs.Views.{unit_tree}
-use Rattle.regions.specs.Start.{null_statics}
-use Rattle.replay.specs.Views.{variables_view}
-use Rattle.replay.proofs.TaskLemmas.{print_reduces}
-use Rattle.replay.proofs.step.print.Goals as goal
-
-pub returns-in_default-clause-step : goal.returns-in_default-clause-step
-returns-in_default-clause-step c =
-    rw c.reduced.ensures.view (print_reduces (variables_view c.args.variables.now) (null_statics (unit_tree c.args.items.now)) c.args.line _ _ _ c.in_default.not-Done c.reduce.ensures.step)

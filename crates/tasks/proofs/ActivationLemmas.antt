@@ -1,0 +1,238 @@
+-- A call in progress takes the step of its first task.
+use Rattle.std.proofs.Common.{◌≡◌, ℕ, false, List, [], ◌∷◌, ◌++◌, Option, Some, None, refl, sym, ap, ◌∙◌, subst, append_assoc}
+use Rattle.std.specs.Borrow.{Bor}
+use Rattle.std.specs.Global.{Vec}
+use Rattle.syntax.specs.declared.expr.Expr.{Expr}
+use Rattle.syntax.specs.declared.stmt.Block.{Block}
+use Rattle.syntax.specs.declared.stmt.Stmt.{Stmt}
+use Rattle.syntax.specs.Tree.{SourceUnit}
+use Rattle.syntax.specs.Views.{expr_tree, block_tree}
+use Rattle.world.specs.World.{World}
+use Rattle.regions.specs.Start.{null_statics}
+use Rattle.regions.specs.Task.{Task, Loop}
+use Rattle.regions.specs.Term as tree
+use Rattle.regions.specs.Term.{term_of}
+use Rattle.regions.specs.Thread.{Thread, Shared, BuffersInUse, Event, Quiet, PrintedNumber, Trapped, Advance, NoAdvance}
+use Rattle.regions.specs.Thread as thread
+use Rattle.regions.specs.ThreadStep.{step_within, with_tasks}
+use Rattle.tasks.specs.declared.activation.Activation.{Activation}
+use Rattle.tasks.specs.declared.activation.Outer.{Outer}
+use Rattle.tasks.specs.declared.outcome.End.{End}
+use Rattle.tasks.specs.declared.outcome.End.TheVariants as end
+use Rattle.tasks.specs.declared.outcome.Outcome.{Outcome}
+use Rattle.tasks.specs.declared.outcome.Outcome.TheVariants as outcome
+use Rattle.tasks.specs.declared.task.Task.{Task as TaskInMemory}
+use Rattle.tasks.specs.declared.task.Task.TheVariants as task
+use Rattle.terms.specs.declared.term.Term.{Term}
+use Rattle.terms.specs.declared.variable.Variable.{Variable as VariableInMemory}
+use Rattle.tasks.specs.Activations.{tasks_from, tasks_around, tasks_after, tasks_left, thread_in, advance_by, Advances, AreSet, BegunInRange, OuterInRange, IsInRange}
+use Rattle.tasks.specs.Outcomes.{variable_step, Holds, LeavesVariables, LeavesIf}
+use Rattle.tasks.specs.Steps.{Sees, Does, left_by}
+use Rattle.tasks.specs.Tasks.{task_view, end_view, tasks_of_statements, EndInRange, StatementsInRange, TaskInRange, OutcomeInRange}
+use Rattle.terms.specs.Views.{variables_view, trap_view, term_view}
+
+-- ---- blocks around the one in progress
+
+-- the innermost is told last
+pub around_more : (rest_of : List Task) (os : List Outer) (o : Outer) → tasks_around rest_of (os ++ o ∷ []) ≡ end_view o.end ∷ tasks_of_statements o.rest.now ++ tasks_around rest_of os
+around_more rest_of [] o = refl
+around_more rest_of (p ∷ os) o = around_more (end_view p.end ∷ tasks_of_statements p.rest.now ++ rest_of) os o
+
+pub outer_parts : (os : List Outer) (o : Outer) → OuterInRange (os ++ o ∷ []) → OuterInRange os × EndInRange o.end × StatementsInRange o.rest.now
+outer_parts [] o h = (tt, h.0, h.1)
+outer_parts (p ∷ os) o h = let parts = outer_parts os o h.2 in ((h.0, h.1, parts.0), parts.1, parts.2)
+
+pub outer_joined : (os : List Outer) (o : Outer) → OuterInRange os → EndInRange o.end → StatementsInRange o.rest.now → OuterInRange (os ++ o ∷ [])
+outer_joined [] o h e r = (e, r, tt)
+outer_joined (p ∷ os) o h e r = (h.0, h.1, outer_joined os o h.2 e r)
+
+left_is : (a : Activation) (o : Option TaskInMemory) (rest : List Stmt) (os : List Outer) → a.task ≡ o → a.rest.now ≡ rest → a.outer.items ≡ os → tasks_left a ≡ tasks_from o (tasks_after rest os)
+left_is a o rest os begun rest_of outer =
+    ap (λ (p : Option TaskInMemory). tasks_from p (tasks_after a.rest.now a.outer.items)) begun
+    ∙ ap (λ (b : List Stmt). tasks_from o (tasks_after b a.outer.items)) rest_of
+    ∙ ap (λ (ps : List Outer). tasks_from o (tasks_after rest ps)) outer
+
+-- a thread with other tasks, and the variables that it has
+thread_is : (s : Shared) (t : Thread) (a : Activation) (event : Event) (tasks : List Task) (vs : List VariableInMemory) → tasks_left a ≡ tasks → a.variables.items ≡ vs
+    → thread.Advances s (record t { tasks = Some tasks; variables = variables_view vs }) event ≡ thread.Advances s (thread_in t a) event
+thread_is s t a event tasks vs left same =
+    ap (λ (ts : List Task). let u : Thread = record t { tasks = Some ts; variables = variables_view vs } in thread.Advances s u event) (sym left)
+    ∙ ap (λ (us : List VariableInMemory). let u : Thread = record t { tasks = Some (tasks_left a); variables = variables_view us } in thread.Advances s u event) (sym same)
+
+abbrev with_event : Event → Advance → Advance
+with_event event (thread.Advances s t other) = thread.Advances s t event
+with_event event NoAdvance = NoAdvance
+
+-- ---- the next statement is begun
+
+-- a thread that sees the variables sees them then too
+seen_begun : (unit : SourceUnit) (w : World) (old begun : Activation) → begun.variables ≡ old.variables → (s : Shared) (t : Thread) → Sees w (variables_view old.variables.items) (null_statics unit) s t
+    → Sees w (variables_view begun.variables.items) (null_statics unit) s t
+seen_begun unit w old begun same s t sees = record {
+  variables = sees.variables ∙ ap (λ (v : Vec VariableInMemory). variables_view v.items) (sym same);
+  frames = sees.frames;
+  pending = sees.pending;
+  heap = sees.heap;
+  statics = sees.statics;
+}
+
+-- it takes the same step then
+pub begun_before : (unit : SourceUnit) (w : World) (old begun : Activation) (took : Outcome) (new : Activation) → tasks_left begun ≡ tasks_left old → begun.variables ≡ old.variables → Advances unit w begun took new → Advances unit w old took new
+begun_before unit w old begun took new tasks same does = λ lent k s t sees has.
+    ap (λ (ts : List Task). step_within unit w.classes lent k s t false (Some ts)) (sym tasks)
+    ∙ does lent k s t
+    (seen_begun unit w old begun same s t sees)
+    (has ∙ ap (λ (ts : List Task). let o : Option (List Task) = Some ts in o) (sym tasks))
+
+-- ---- the step of a task
+
+module _ (unit : SourceUnit) (w : World) (old begun : Activation) (begun_task after : TaskInMemory) (variables : Vec VariableInMemory) (new : Activation)
+    (tasks : tasks_left begun ≡ tasks_left old) (same : begun.variables ≡ old.variables) (is : begun.task ≡ Some begun_task) where
+  abbrev rest : List Task
+  rest = tasks_after begun.rest.now begun.outer.items
+
+  first : tasks_left old ≡ task_view begun_task ∷ rest
+  first = sym tasks ∙ ap (λ (o : Option TaskInMemory). tasks_from o rest) is
+
+  seen : (s : Shared) (t : Thread) → Sees w (variables_view old.variables.items) (null_statics unit) s t → Sees w (variables_view begun.variables.items) (null_statics unit) s t
+  seen = seen_begun unit w old begun same
+
+  holds : (s : Shared) (t : Thread) (ts : List Task) → Sees w (variables_view begun.variables.items) (null_statics unit) s t → Holds (null_statics unit) begun.variables.items s (with_tasks t ts)
+  holds s t ts sees = record { variables = sees.variables; frames = sees.frames; statics = sees.statics }
+
+  stepped : (took : Outcome) → Does w (variables_view begun.variables.items) (null_statics unit) begun_task took after
+      → ((k : ℕ) (s : Shared) (t : Thread) → Sees w (variables_view begun.variables.items) (null_statics unit) s t → left_by k s t rest took after ≡ advance_by k s t new outcome.Impossible) → Advances unit w old outcome.Impossible new
+  stepped took does left = λ lent k s t sees has.
+      ap (λ (ts : List Task). step_within unit w.classes lent k s t false (Some ts)) first
+      ∙ does lent k s t rest (seen s t sees) (has ∙ ap (λ (ts : List Task). let o : Option (List Task) = Some ts in o) first)
+      ∙ left k s t (seen s t sees)
+
+  -- a step that isn't possible
+  pub fails : (took : Outcome) → Does w (variables_view begun.variables.items) (null_statics unit) begun_task took after
+      → LeavesIf (null_statics unit) begun.variables.items (variable_step took) false variables.items → Advances unit w old outcome.Impossible new
+  fails took does none = stepped took does (by_outcome took none)
+    where
+      by_outcome : (took : Outcome) → LeavesIf (null_statics unit) begun.variables.items (variable_step took) false variables.items
+          → (k : ℕ) (s : Shared) (t : Thread) → Sees w (variables_view begun.variables.items) (null_statics unit) s t → left_by k s t rest took after ≡ NoAdvance
+      by_outcome outcome.Stays none k s t sees = absurd (let bad = none s (with_tasks t rest) (holds s t rest sees) in cc)
+      by_outcome (outcome.Printed z) none k s t sees = absurd (let bad = none s (with_tasks t rest) (holds s t rest sees) in cc)
+      by_outcome (outcome.Sets x v) none k s t sees = none s (with_tasks t rest) (holds s t rest sees)
+      by_outcome (outcome.SetsNull to) none k s t sees = none s (with_tasks t rest) (holds s t rest sees)
+      by_outcome (outcome.Puts to z) none k s t sees = none s (with_tasks t rest) (holds s t rest sees)
+      by_outcome (outcome.SetsElement x i z) none k s t sees = none s (with_tasks t rest) (holds s t rest sees)
+      by_outcome (outcome.Makes T x n) none k s t sees = none s (with_tasks t rest) (holds s t rest sees)
+      by_outcome (outcome.Enters statements e) none k s t sees = absurd (let bad = none s (with_tasks t rest) (holds s t rest sees) in cc)
+      by_outcome outcome.Ends none k s t sees = absurd (let bad = none s (with_tasks t rest) (holds s t rest sees) in cc)
+      by_outcome outcome.Returned none k s t sees = absurd (let bad = none s (with_tasks t rest) (holds s t rest sees) in cc)
+      by_outcome (outcome.Trapped trap line) none k s t sees = absurd (let bad = none s (with_tasks t rest) (holds s t rest sees) in cc)
+      by_outcome outcome.Impossible none k s t sees = refl
+
+  module _ (k : ℕ) (s : Shared) (t : Thread) (sees : Sees w (variables_view begun.variables.items) (null_statics unit) s t) where
+    -- the variables are those before
+    kept : (event : Event) (ts : List Task) → LeavesVariables (null_statics unit) begun.variables.items (λ s' t'. thread.Advances s' t' Quiet) variables.items → tasks_left new ≡ ts → new.variables ≡ variables
+        → thread.Advances s (with_tasks t ts) event ≡ thread.Advances s (thread_in t new) event
+    kept event ts leaves left vs =
+        ap (with_event event) (leaves s (with_tasks t ts) (holds s t ts sees))
+        ∙ thread_is s t new event ts variables.items left (ap (λ (v : Vec VariableInMemory). v.items) vs)
+
+    set : (took : Outcome) → LeavesVariables (null_statics unit) begun.variables.items (variable_step took) variables.items → tasks_left new ≡ rest → new.variables ≡ variables
+        → variable_step took s (with_tasks t rest) ≡ thread.Advances s (thread_in t new) Quiet
+    set took leaves left vs =
+        leaves s (with_tasks t rest) (holds s t rest sees)
+        ∙ thread_is s t new Quiet rest variables.items left (ap (λ (v : Vec VariableInMemory). v.items) vs)
+
+    left_with : (o : Option TaskInMemory) → new.task ≡ o → new.rest ≡ begun.rest → new.outer.items ≡ begun.outer.items → tasks_left new ≡ tasks_from o rest
+    left_with o task' rest' outer' = left_is new o begun.rest.now begun.outer.items task' (ap (λ (b : Bor (List Stmt)). b.now) rest') outer'
+
+    entered : (statements : Bor (List Stmt)) (e : End) → new.task ≡ None → new.rest ≡ statements → new.outer.items ≡ begun.outer.items ++ record { end = e; rest = begun.rest } ∷ []
+        → tasks_left new ≡ (tasks_of_statements statements.now ++ end_view e ∷ []) ++ rest
+    entered statements e task' rest' outer' =
+        left_is new None statements.now (begun.outer.items ++ record { end = e; rest = begun.rest } ∷ []) task' (ap (λ (b : Bor (List Stmt)). b.now) rest') outer'
+        ∙ ap (λ (ts : List Task). tasks_of_statements statements.now ++ ts) (around_more [] begun.outer.items (record { end = e; rest = begun.rest }))
+        ∙ sym (append_assoc (tasks_of_statements statements.now) (end_view e ∷ []) rest)
+
+    left_in : (took : Outcome) → LeavesVariables (null_statics unit) begun.variables.items (variable_step took) variables.items → AreSet (record begun { task = Some after; variables = variables }) took new
+        → left_by k s t rest took after ≡ advance_by k s t new took
+    left_in outcome.Stays leaves a = kept Quiet (task_view after ∷ rest) leaves (left_with (Some after) a.task a.rest a.outer) a.variables
+    left_in (outcome.Printed z) leaves a = kept (PrintedNumber z) rest leaves (left_with None a.task a.rest a.outer) a.variables
+    left_in (outcome.Sets x v) leaves a = set (outcome.Sets x v) leaves (left_with None a.task a.rest a.outer) a.variables
+    left_in (outcome.SetsNull to) leaves a = set (outcome.SetsNull to) leaves (left_with None a.task a.rest a.outer) a.variables
+    left_in (outcome.Puts to z) leaves a = set (outcome.Puts to z) leaves (left_with None a.task a.rest a.outer) a.variables
+    left_in (outcome.SetsElement x i z) leaves a = set (outcome.SetsElement x i z) leaves (left_with None a.task a.rest a.outer) a.variables
+    left_in (outcome.Makes T x n) leaves a = set (outcome.Makes T x n) leaves (left_with None a.task a.rest a.outer) a.variables
+    left_in (outcome.Enters statements e) leaves a = kept Quiet ((tasks_of_statements statements.now ++ end_view e ∷ []) ++ rest) leaves (entered statements e a.task a.rest a.outer) a.variables
+    left_in outcome.Ends leaves a = kept Quiet rest leaves (left_with None a.task a.rest a.outer) a.variables
+    left_in outcome.Returned leaves a = refl
+    left_in (outcome.Trapped trap line) leaves a = kept (Trapped (trap_view trap) line) (task_view after ∷ rest) leaves (left_with (Some after) a.task a.rest a.outer) a.variables
+    left_in outcome.Impossible leaves a = refl
+
+  -- what the task's step does is done to the call
+  pub advances : (took : Outcome) → Does w (variables_view begun.variables.items) (null_statics unit) begun_task took after
+      → LeavesVariables (null_statics unit) begun.variables.items (variable_step took) variables.items → AreSet (record begun { task = Some after; variables = variables }) took new → Advances unit w old took new
+  advances took does leaves applied = λ lent k s t sees has.
+      ap (λ (ts : List Task). step_within unit w.classes lent k s t false (Some ts)) first
+      ∙ does lent k s t rest (seen s t sees) (has ∙ ap (λ (ts : List Task). let o : Option (List Task) = Some ts in o) first)
+      ∙ left_in k s t (seen s t sees) took leaves applied
+
+-- ---- what is known of accepted programs
+
+module _ (begun new : Activation) (after : TaskInMemory) (variables : Vec VariableInMemory) (known : IsInRange begun) (known_after : TaskInRange after) where
+  built : (o : Option TaskInMemory) (rest_of : Bor (List Stmt)) (os : List Outer) → new.task ≡ o → new.rest ≡ rest_of → new.outer.items ≡ os → BegunInRange o → StatementsInRange rest_of.now → OuterInRange os → IsInRange new
+  built o rest_of os same_task same_rest same_outer task' rest' outer' = record {
+    begun = subst BegunInRange (sym same_task) task';
+    rest = subst (λ (b : Bor (List Stmt)). StatementsInRange b.now) (sym same_rest) rest';
+    outer = subst OuterInRange (sym same_outer) outer';
+  }
+
+  -- after a step it is known of the call in progress too
+  pub range_after : (took : Outcome) → OutcomeInRange took → AreSet (record begun { task = Some after; variables = variables }) took new → IsInRange new
+  range_after outcome.Stays h a = built (Some after) begun.rest begun.outer.items a.task a.rest a.outer known_after known.rest known.outer
+  range_after (outcome.Printed z) h a = built None begun.rest begun.outer.items a.task a.rest a.outer tt known.rest known.outer
+  range_after (outcome.Sets x v) h a = built None begun.rest begun.outer.items a.task a.rest a.outer tt known.rest known.outer
+  range_after (outcome.SetsNull to) h a = built None begun.rest begun.outer.items a.task a.rest a.outer tt known.rest known.outer
+  range_after (outcome.Puts to z) h a = built None begun.rest begun.outer.items a.task a.rest a.outer tt known.rest known.outer
+  range_after (outcome.SetsElement x i z) h a = built None begun.rest begun.outer.items a.task a.rest a.outer tt known.rest known.outer
+  range_after (outcome.Makes T x n) h a = built None begun.rest begun.outer.items a.task a.rest a.outer tt known.rest known.outer
+  range_after (outcome.Enters statements e) h a =
+      let o : Outer = record { end = e; rest = begun.rest } in
+      built None statements (begun.outer.items ++ o ∷ []) a.task a.rest a.outer tt h.0 (outer_joined begun.outer.items o known.outer h.1 known.rest)
+  range_after outcome.Ends h a = built None begun.rest begun.outer.items a.task a.rest a.outer tt known.rest known.outer
+  range_after outcome.Returned h a = built (Some after) begun.rest begun.outer.items a.task a.rest a.outer known_after known.rest known.outer
+  range_after (outcome.Trapped trap line) h a = built (Some after) begun.rest begun.outer.items a.task a.rest a.outer known_after known.rest known.outer
+  range_after outcome.Impossible h a = built (Some after) begun.rest begun.outer.items a.task a.rest a.outer known_after known.rest known.outer
+
+-- ---- the end of a block
+
+module _ (unit : SourceUnit) (w : World) (old new : Activation) (idle : old.task ≡ None) (done : old.rest.now ≡ []) where
+  -- no task is left
+  pub nothing_to_do : old.outer.items ≡ [] → Advances unit w old outcome.Impossible new
+  nothing_to_do none = λ lent k s t sees has. ap (λ (tasks : List Task). step_within unit w.classes lent k s t false (Some tasks)) (left_is old None [] [] idle done none)
+
+  module _ (os : List Outer) (o : Outer) (outer : old.outer.items ≡ os ++ o ∷ []) (rest : new.rest ≡ o.rest) (rest_of : new.outer.items ≡ os) (same : new.variables ≡ old.variables) where
+    abbrev after : List Task
+    after = tasks_after o.rest.now os
+
+    at_end : tasks_left old ≡ end_view o.end ∷ after
+    at_end = left_is old None [] (os ++ o ∷ []) idle done outer ∙ around_more [] os o
+
+    goes : (tasks : List Task) (s : Shared) (t : Thread) → t.variables ≡ variables_view old.variables.items → tasks_left new ≡ tasks → thread.Advances s (with_tasks t tasks) Quiet ≡ thread.Advances s (thread_in t new) Quiet
+    goes tasks s t sees left =
+        ap (λ us. let u : Thread = record t { tasks = Some tasks; variables = us } in thread.Advances s u Quiet) sees
+        ∙ thread_is s t new Quiet tasks old.variables.items left (ap (λ (v : Vec VariableInMemory). v.items) same)
+
+    left : (p : Option TaskInMemory) → new.task ≡ p → tasks_left new ≡ tasks_from p after
+    left p begun = left_is new p o.rest.now os begun (ap (λ (b : Bor (List Stmt)). b.now) rest) rest_of
+
+    -- after an `if`
+    pub if_over : o.end ≡ end.If → new.task ≡ None → Advances unit w old outcome.Ends new
+    if_over is none = λ lent k s t sees has.
+        ap (λ (ts : List Task). step_within unit w.classes lent k s t false (Some ts)) (at_end ∙ ap (λ (e : End). end_view e ∷ after) is)
+        ∙ goes after s t sees.variables (left None none)
+
+    -- at a loop's test
+    pub turn_over : (line : ℕ) (test : Bor Expr) (term : Term) (body : Bor Block) → o.end ≡ end.Turn line test body → new.task ≡ Some (task.Loop line test term body) → term_view term ≡ term_of (expr_tree test.now)
+        → Advances unit w old outcome.Stays new
+    turn_over line test term body is begun begins = λ lent k s t sees has.
+        ap (λ (ts : List Task). step_within unit w.classes lent k s t false (Some ts)) (at_end ∙ ap (λ (e : End). end_view e ∷ after) is)
+        ∙ ap (λ (u : tree.Term). let ts : List Task = Loop line (expr_tree test.now) u (block_tree body.now) ∷ after in thread.Advances s (with_tasks t ts) Quiet) (sym begins)
+        ∙ goes (task_view (task.Loop line test term body) ∷ after) s t sees.variables (left (Some (task.Loop line test term body)) begun)

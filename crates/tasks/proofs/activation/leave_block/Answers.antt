@@ -1,0 +1,36 @@
+use Rattle.std.proofs.Common.{refl, sym, subst}
+use Rattle.tasks.specs.declared.activation.Activation.{Activation}
+use Rattle.tasks.specs.Activations.{BegunInRange, OuterInRange}
+use Rattle.tasks.specs.Tasks.{EndInRange}
+use Rattle.tasks.proofs.ActivationLemmas.{outer_parts, if_over, turn_over}
+use Rattle.tasks.proofs.activation.leave_block.Goals as goal
+
+pub term_of-requires : goal.term_of-requires
+term_of-requires c =
+    let parts = outer_parts c.pop.new.self.items c.in-Some.outer (subst OuterInRange c.in-Some.ensures.items c.requires.range.outer) in
+    let turn = subst EndInRange c.in-Turn.is parts.1 in
+    turn.0
+
+pub returns-in-If-clause-step : goal.returns-in-If-clause-step
+returns-in-If-clause-step c = λ unit w.
+    let old = c.args.activation.now in
+    let new : Activation = record old { rest = c.in-Some.outer.rest; outer = c.pop.new.self } in
+    if_over unit w old new c.requires.task c.requires.rest c.pop.new.self.items c.in-Some.outer c.in-Some.ensures.items refl refl refl c.in-If.is c.requires.task
+
+pub returns-in-If-clause-range : goal.returns-in-If-clause-range
+returns-in-If-clause-range c =
+    let parts = outer_parts c.pop.new.self.items c.in-Some.outer (subst OuterInRange c.in-Some.ensures.items c.requires.range.outer) in
+    record { begun = c.requires.range.begun; rest = parts.2; outer = parts.0 }
+
+pub returns-in_ok-term-in-Turn-clause-step : goal.returns-in_ok-term-in-Turn-clause-step
+returns-in_ok-term-in-Turn-clause-step c = λ unit w.
+    let old = c.args.activation.now in
+    let new : Activation = record old { task = c.put_task.new.place; rest = c.in-Some.outer.rest; outer = c.pop.new.self } in
+    turn_over unit w old new c.requires.task c.requires.rest c.pop.new.self.items c.in-Some.outer c.in-Some.ensures.items refl refl refl
+    c.in-Turn.line c.in-Turn.test c.in_ok-term-in-Turn.term c.in-Turn.body c.in-Turn.is c.put_task.ensures c.in_ok-term-in-Turn.ensures.view
+
+pub returns-in_ok-term-in-Turn-clause-range : goal.returns-in_ok-term-in-Turn-clause-range
+returns-in_ok-term-in-Turn-clause-range c =
+    let parts = outer_parts c.pop.new.self.items c.in-Some.outer (subst OuterInRange c.in-Some.ensures.items c.requires.range.outer) in
+    let turn = subst EndInRange c.in-Turn.is parts.1 in
+    record { begun = subst BegunInRange (sym c.put_task.ensures) (turn.0, c.in_ok-term-in-Turn.ensures.numbers, turn.1); rest = parts.2; outer = parts.0 }

@@ -1,0 +1,25 @@
+use Rattle.std.proofs.Common.{None, ap, ◌∙◌, rules}
+use Rattle.syntax.specs.Views.{unit_tree}
+use Rattle.regions.specs.Start.{null_statics}
+use Rattle.regions.specs.Variable.{Variable, FieldHandle, assign}
+use Rattle.tasks.specs.Outcomes.{given_view}
+use Rattle.terms.specs.Views.{content_view, variables_view}
+use Rattle.tasks.proofs.PutLemmas.{content_set, assigned_leaves, static_leaves}
+use Rattle.terms.proofs.VariableLemmas.{variable_at, variable_found, variable_missing}
+use Rattle.tasks.proofs.put.put.Goals as goal
+
+pub returns-in-Some : goal.returns-in-Some
+returns-in-Some c = λ s t h.
+    let x = c.in-Assigned.name.now in
+    let old = c.args.variables.now.items in
+    let v = c.index_mut-variable.result.now in
+    let there = variable_at x (content_view v.content) old c.in-Some.place v (search rules) (search rules) in
+    rw c.in-Assigned.is (assigned_leaves (null_statics (unit_tree c.args.items.now)) old _ x (content_view v.content) (given_view c.args.given)
+    (variable_found x (content_view v.content) old c.in-Some.place v (search rules) there).0
+    (content_set x old c.in-Some.place v c.fill.new.content (search rules) there ∙ ap (λ (w : Variable). assign x w (variables_view old)) c.fill.ensures)
+    s t h)
+
+pub returns-else-not-is_static : goal.returns-else-not-is_static
+returns-else-not-is_static c = λ s t h.
+    let x = c.in-Assigned.name.now in
+    rw c.in-Assigned.is (static_leaves (unit_tree c.args.items.now) c.args.variables.now.items x c.args.given (variable_missing x (FieldHandle None) c.args.variables.now.items (search rules)) (search rules) s t h)

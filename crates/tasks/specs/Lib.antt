@@ -1,0 +1,5 @@
+pub mod Objects
+pub mod Outcomes
+pub mod Tasks
+pub mod Steps
+pub mod Activations

@@ -1,0 +1,88 @@
+-- What a step of a task does.
+use Rattle.std.specs.Prelude.{◌≡◌, ℕ, pos, List, [], ◌∷◌, ◌++◌, length, Option, Some, None}
+use Rattle.syntax.specs.declared.call.Argument.{Argument as ArgumentInMemory}
+use Rattle.syntax.specs.declared.call.Argument.TheVariants as argument
+use Rattle.syntax.specs.Tree.{Expr}
+use Rattle.syntax.specs.Views.{expr_tree, element_tree}
+use Rattle.world.specs.World.{World, loaded_objects}
+use Rattle.regions.specs.Activation.{return_step}
+use Rattle.regions.specs.Effect.{Effect, Becomes, Sets, SetsNull, SetsElement, MakesArray, Prints, Returns, TrapsAt, NoEffect, effect_of}
+use Rattle.regions.specs.Heap.{Heap}
+use Rattle.regions.specs.Sight.{seen}
+use Rattle.regions.specs.Task.{Task}
+use Rattle.regions.specs.Thread.{Thread, Shared, BuffersInUse, Quiet, PrintedNumber, Trapped, Advance, Advances, NoAdvance, sight_of}
+use Rattle.regions.specs.ThreadStep.{after_effect, with_tasks}
+use Rattle.regions.specs.Variable.{Variables, Statics}
+use Rattle.tasks.specs.declared.outcome.Outcome.{Outcome}
+use Rattle.tasks.specs.declared.outcome.Outcome.TheVariants as outcome
+use Rattle.tasks.specs.declared.outcome.Target.{Target as TargetInMemory}
+use Rattle.terms.specs.declared.reduction.Reduction.{Reduction as ReductionInMemory}
+use Rattle.terms.specs.declared.reduction.Reduction.TheVariants as reduction
+use Rattle.tasks.specs.declared.task.Task.{Task as TaskInMemory}
+use Rattle.terms.specs.declared.trap.Trap.TheVariants as trap
+use Rattle.tasks.specs.Outcomes.{target_view, variable_step}
+use Rattle.tasks.specs.Tasks.{task_view, end_view, tasks_of_statements}
+use Rattle.terms.specs.Views.{value_view, trap_view}
+
+-- the first argument of a call, where it is an expression
+abbrev pub first_expression : List ArgumentInMemory → Option Expr
+first_expression [] = None
+first_expression (argument.Value e ∷ more) = Some (expr_tree e)
+first_expression (other ∷ more) = None
+
+-- what a number of elements, or none, is for a target
+abbrev pub length_outcome : ℕ → TargetInMemory → Option ℕ → Outcome
+length_outcome line to None = outcome.Trapped trap.WrongObject line
+length_outcome line to (Some n) = outcome.Puts to (pos n)
+
+-- what a step does that reduces a term, which has no value yet
+abbrev pub reduced : ℕ → ReductionInMemory → Outcome
+reduced line reduction.Reduced = outcome.Stays
+reduced line (reduction.Trapped trap) = outcome.Trapped trap line
+reduced line reduction.Stuck = outcome.Impossible
+
+-- the effect of a step that left this task
+abbrev pub effect_by : Outcome → TaskInMemory → Effect
+effect_by outcome.Stays new = Becomes (task_view new ∷ [])
+effect_by (outcome.Printed z) new = Prints z
+effect_by (outcome.Sets x v) new = Sets x.now (value_view v)
+effect_by (outcome.SetsNull to) new = SetsNull (target_view to)
+effect_by (outcome.Puts to z) new = NoEffect
+effect_by (outcome.SetsElement x i z) new = SetsElement x.now i z
+effect_by (outcome.Makes T x n) new = MakesArray (element_tree T) x.now n
+effect_by (outcome.Enters statements e) new = Becomes (tasks_of_statements statements.now ++ end_view e ∷ [])
+effect_by outcome.Ends new = Becomes []
+effect_by outcome.Returned new = Returns
+effect_by (outcome.Trapped trap line) new = TrapsAt (trap_view trap) line
+effect_by outcome.Impossible new = NoEffect
+
+-- with these variables and statics, what a step in memory did is the effect of the task, which is no call
+abbrev pub HasEffect : Variables → Statics → TaskInMemory → Outcome → TaskInMemory → Type 0
+HasEffect vs ss old (outcome.Puts to z) new = ⊥
+HasEffect vs ss old (outcome.Trapped trap line) new = ((heap : Heap) → effect_of (seen vs ss heap) (task_view old) ≡ TrapsAt (trap_view trap) line) × (new ≡ old)
+HasEffect vs ss old took new = (heap : Heap) → effect_of (seen vs ss heap) (task_view old) ≡ effect_by took new
+
+-- a thread in its first frame sees these variables and statics, and a world's objects as they are made at load
+pub record Sees (w : World) (vs : Variables) (ss : Statics) (s : Shared) (t : Thread) : Type 0 where
+  pub variables : t.variables ≡ vs
+  pub frames : length t.frames ≡ 1
+  pub pending : t.pending ≡ None
+  pub heap : s.heap ≡ loaded_objects w
+  pub statics : s.statics ≡ ss
+
+-- what a step leaves of thread k that has this task and then the rest to do
+abbrev pub left_by : (k : ℕ) → Shared → Thread → List Task → Outcome → TaskInMemory → Advance
+left_by k s t rest outcome.Stays new = Advances s (with_tasks t (task_view new ∷ rest)) Quiet
+left_by k s t rest (outcome.Printed z) new = Advances s (with_tasks t rest) (PrintedNumber z)
+left_by k s t rest (outcome.Enters statements e) new = Advances s (with_tasks t ((tasks_of_statements statements.now ++ end_view e ∷ []) ++ rest)) Quiet
+left_by k s t rest outcome.Ends new = Advances s (with_tasks t rest) Quiet
+left_by k s t rest outcome.Returned new = return_step k s t
+left_by k s t rest (outcome.Trapped trap line) new = Advances s (with_tasks t (task_view new ∷ rest)) (Trapped (trap_view trap) line)
+left_by k s t rest outcome.Impossible new = NoAdvance
+left_by k s t rest took new = variable_step took s (with_tasks t rest)
+
+-- what a step in memory did is what the task's step does to each thread that it stands in
+abbrev pub Does : World → Variables → Statics → TaskInMemory → Outcome → TaskInMemory → Type 0
+Does w vs ss old took new =
+    (lent : BuffersInUse) (k : ℕ) (s : Shared) (t : Thread) (rest : List Task) → Sees w vs ss s t → t.tasks ≡ Some (task_view old ∷ rest)
+    → after_effect w.classes lent k s t rest (effect_of (sight_of s t) (task_view old)) ≡ left_by k s t rest took new

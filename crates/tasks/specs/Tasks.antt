@@ -1,0 +1,127 @@
+-- Tasks that lie in memory, as those of the language, and what is known of them in accepted programs.
+use Rattle.std.specs.Prelude.{ℕ, Bool, not, List, [], ◌∷◌, Option, Some, None, IsTrue}
+use Rattle.std.specs.List.{list_all}
+use Rattle.std.specs.Borrow.{Bor}
+use Rattle.base.specs.Options.{some_passes}
+use Rattle.syntax.specs.declared.call.Call.{Call as CallInMemory}
+use Rattle.syntax.specs.declared.stmt.Block.{Block as BlockInMemory}
+use Rattle.syntax.specs.declared.stmt.Stmt.{Stmt as StmtInMemory}
+use Rattle.syntax.specs.Limits.{numbers_in_range}
+use Rattle.syntax.specs.Parts.{statements_of, own_expressions, right_side_expressions, test_expressions, call_of_right_side}
+use Rattle.syntax.specs.Tree.{Expr, RightSide, Test, Stmt, If, IfElse, While, Block, End}
+use Rattle.syntax.specs.Views.{expr_tree, element_tree, stmt_tree, call_tree, block_tree}
+use Rattle.types.specs.BuiltCalls.{is_built_call, calls_unbuilt}
+use Rattle.regions.specs.Task.{Task, SetScalar, SetElement, SetNull, MakeArray, Print, Branch, EndIf, Loop, EndTurn, Return, ReturnValue, call_task, task_of}
+use Rattle.tasks.specs.declared.outcome.End.{End as EndInMemory}
+use Rattle.tasks.specs.declared.outcome.End.TheVariants as end
+use Rattle.tasks.specs.declared.outcome.Outcome.{Outcome}
+use Rattle.tasks.specs.declared.outcome.Outcome.TheVariants as outcome
+use Rattle.tasks.specs.declared.outcome.Target.{Target as TargetInMemory}
+use Rattle.tasks.specs.declared.task.Task.{Task as TaskInMemory}
+use Rattle.tasks.specs.declared.task.Task.TheVariants as task
+use Rattle.terms.specs.declared.term.Term.{Term as TermInMemory}
+use Rattle.tasks.specs.Outcomes.{target_view}
+use Rattle.terms.specs.Views.{term_view, NumbersInRange}
+
+-- the block of an `else`, which may be missing in an `if` of this line
+abbrev pub else_tree : ℕ → Option (Bor BlockInMemory) → Block
+else_tree line None = End line
+else_tree line (Some b) = block_tree b.now
+
+abbrev pub task_view : TaskInMemory → Task
+task_view (task.Print line t) = Print line (term_view t)
+task_view (task.Set line x t) = SetScalar line x.now (term_view t)
+task_view (task.SetElement line x i t) = SetElement line x.now (term_view i) (term_view t)
+task_view (task.SetNull to) = SetNull (target_view to)
+task_view (task.MakeArray T x n) = MakeArray (element_tree T) x.now n
+task_view (task.Invoke i) = call_task i.line (target_view i.target) (call_tree i.call.now)
+task_view (task.Branch c) = Branch c.line (term_view c.test) (block_tree c.block.now) (else_tree c.line c.otherwise)
+task_view (task.Loop line test t body) = Loop line (expr_tree test.now) (term_view t) (block_tree body.now)
+task_view task.Return = Return
+task_view (task.ReturnValue line t) = ReturnValue line (term_view t)
+
+abbrev pub end_view : EndInMemory → Task
+end_view end.If = EndIf
+end_view (end.Turn line test body) = EndTurn line (expr_tree test.now) (block_tree body.now)
+
+-- a call that is to do
+abbrev pub invoke_task : ℕ → TargetInMemory → Bor CallInMemory → TaskInMemory
+invoke_task line to c = task.Invoke (record { line = line; target = to; call = c })
+
+-- an `if` with its test's term
+abbrev pub branch_task : ℕ → TermInMemory → Bor BlockInMemory → Option (Bor BlockInMemory) → TaskInMemory
+branch_task line t b other = task.Branch (record { line = line; test = t; block = b; otherwise = other })
+
+-- the statements before their first steps
+abbrev pub tasks_of_statements : List StmtInMemory → List Task
+tasks_of_statements [] = []
+tasks_of_statements (s ∷ rest) = task_of (stmt_tree s) ∷ tasks_of_statements rest
+
+-- ---- what is known of accepted programs
+
+-- each number is in the range of its type
+abbrev pub ExprInRange : Expr → Type 0
+ExprInRange e = IsTrue (numbers_in_range e)
+
+-- the same of those that a statement evaluates itself
+abbrev pub has_numbers_in_range : Stmt → Bool
+has_numbers_in_range s = list_all numbers_in_range (own_expressions s)
+
+-- a call is of a function that can be called
+abbrev pub calls_built : Stmt → Bool
+calls_built s = not (calls_unbuilt s)
+
+-- both, of each statement in a block and inside it
+pub record BlockInRange (b : Block) : Type 0 where
+  pub numbers : IsTrue (list_all has_numbers_in_range (statements_of b))
+  pub built : IsTrue (list_all calls_built (statements_of b))
+
+-- the same of the blocks inside a statement
+abbrev pub InsideInRange : Stmt → Type 0
+InsideInRange (If line test b) = BlockInRange b
+InsideInRange (IfElse line test b d) = BlockInRange b × BlockInRange d
+InsideInRange (While line test body) = BlockInRange body
+InsideInRange s = Unit {0}
+
+-- the same of a statement with them
+pub record StatementInRange (s : StmtInMemory) : Type 0 where
+  pub numbers : IsTrue (has_numbers_in_range (stmt_tree s))
+  pub built : IsTrue (calls_built (stmt_tree s))
+  pub inside : InsideInRange (stmt_tree s)
+
+abbrev pub StatementsInRange : List StmtInMemory → Type 0
+StatementsInRange [] = Unit {0}
+StatementsInRange (s ∷ rest) = StatementInRange s × StatementsInRange rest
+
+-- the same of parts of statements
+pub record RightSideInRange (right : RightSide) : Type 0 where
+  pub numbers : IsTrue (list_all numbers_in_range (right_side_expressions right))
+  pub built : IsTrue (not (some_passes (λ c. not (is_built_call c)) (call_of_right_side (Some right))))
+
+abbrev pub TestInRange : Test → Type 0
+TestInRange test = IsTrue (list_all numbers_in_range (test_expressions test))
+
+abbrev pub ElseInRange : Option (Bor BlockInMemory) → Type 0
+ElseInRange None = Unit {0}
+ElseInRange (Some b) = BlockInRange (block_tree b.now)
+
+-- the same of tasks, of what comes at the end of a block, and of what a step leads into
+abbrev pub TaskInRange : TaskInMemory → Type 0
+TaskInRange (task.Print line t) = NumbersInRange t
+TaskInRange (task.Set line x t) = NumbersInRange t
+TaskInRange (task.SetElement line x i t) = NumbersInRange i × NumbersInRange t
+TaskInRange (task.SetNull to) = Unit {0}
+TaskInRange (task.MakeArray T x n) = Unit {0}
+TaskInRange (task.Invoke i) = IsTrue (is_built_call (call_tree i.call.now))
+TaskInRange (task.Branch c) = NumbersInRange c.test × BlockInRange (block_tree c.block.now) × ElseInRange c.otherwise
+TaskInRange (task.Loop line test t body) = ExprInRange (expr_tree test.now) × NumbersInRange t × BlockInRange (block_tree body.now)
+TaskInRange task.Return = Unit {0}
+TaskInRange (task.ReturnValue line t) = NumbersInRange t
+
+abbrev pub EndInRange : EndInMemory → Type 0
+EndInRange end.If = Unit {0}
+EndInRange (end.Turn line test body) = ExprInRange (expr_tree test.now) × BlockInRange (block_tree body.now)
+
+abbrev pub OutcomeInRange : Outcome → Type 0
+OutcomeInRange (outcome.Enters statements e) = StatementsInRange statements.now × EndInRange e
+OutcomeInRange took = Unit {0}

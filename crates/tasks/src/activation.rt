@@ -1,0 +1,136 @@
+//! Activations: calls in progress.
+
+ghost use Rattle.std.specs.Prelude.{◌≡◌, IfOk, None, []};
+ghost use Rattle.syntax.specs.Tree.{SourceUnit};
+ghost use Rattle.syntax.specs.Views.{unit_tree};
+ghost use Rattle.world.specs.SceneWorld.{world_of_scene};
+ghost use Rattle.world.specs.World.{World as WorldOfTree};
+ghost use Rattle.tasks.specs.Activations.{tasks_left, IsInRange, AreSet, Advances};
+
+use crate::outcome::{End, Outcome};
+use crate::put::set_variables;
+use crate::step::step;
+use crate::task::{Task, task_of};
+use std::alloc::{AllocError, Global};
+use syntax::{Item, Stmt};
+use terms::{Variable, term_of};
+use world::World;
+
+/// What is still to do around a block: what comes at the block's end, and the statements after it.
+#[derive(Clone, Copy)]
+pub struct Outer<'a> {
+    pub end: End<'a>,
+    pub rest: &'a [Stmt],
+}
+
+/// A call in progress: the task that is begun, the statements after it in its block, what is to do around the block,
+/// the outermost first, and the variables, in the order in which they came to be.
+#[derive(Drop)]
+pub struct Activation<'a> {
+    pub task: Option<Task<'a>>,
+    pub rest: &'a [Stmt],
+    pub outer: Vec<Outer<'a>>,
+    pub variables: Vec<Variable<'a>>,
+}
+
+/// Puts a task in the place of the one that is begun.
+fn put_task<'a>(place: &mut Option<Task<'a>>, task: Option<Task<'a>>)
+    ensures { place.new ≡ task.entry }
+{
+    *place = task;
+}
+
+/// Begins the block's next statement, where none is begun.
+fn begin<'a>(alloc: Global, activation: &mut Activation<'a>) -> Result<(), AllocError>
+    requires { IsInRange activation.old }
+    ensures tasks { IfOk result (λ _. tasks_left activation.new ≡ tasks_left activation.old) }
+    ensures range { IfOk result (λ _. IsInRange activation.new) }
+    ensures variables { IfOk result (λ _. activation.new.variables ≡ activation.old.variables) }
+    ensures begun { IfOk result (λ _. activation.new.task ≡ None → activation.new.rest.now ≡ []) }
+{
+    if activation.task.is_some() {
+        return Ok(());
+    }
+    let Some((first, after)) = activation.rest.split_first() else {
+        return Ok(());
+    };
+    let task = task_of(alloc, first)?;
+    put_task(&mut activation.task, Some(task));
+    activation.rest = after;
+    Ok(())
+}
+
+/// Goes on after a block whose statements are all done: after an `if`, or with its loop's test.
+fn leave_block<'a>(
+    alloc: Global,
+    activation: &mut Activation<'a>,
+) -> Result<Outcome<'a>, AllocError>
+    requires range { IsInRange activation.old }
+    requires task { activation.old.task ≡ None }
+    requires rest { activation.old.rest.now ≡ [] }
+    ensures step { IfOk result (λ o. (unit : SourceUnit) (w : WorldOfTree) → Advances unit w activation.old o activation.new) }
+    ensures range { IfOk result (λ _. IsInRange activation.new) }
+{
+    let Some(outer) = activation.outer.pop() else {
+        return Ok(Outcome::Impossible);
+    };
+    activation.rest = outer.rest;
+    match outer.end {
+        End::If => Ok(Outcome::Ends),
+        End::Turn(line, test, body) => {
+            let term = term_of(alloc, test)?;
+            put_task(
+                &mut activation.task,
+                Some(Task::Loop(line, test, term, body)),
+            );
+            Ok(Outcome::Stays)
+        }
+    }
+}
+
+/// Does what a step did to the tasks.
+fn set_tasks<'a>(activation: &mut Activation<'a>, outcome: Outcome<'a>) -> Result<(), AllocError>
+    ensures { IfOk result (λ _. AreSet activation.old outcome.entry activation.new) }
+{
+    match outcome {
+        Outcome::Stays | Outcome::Returned | Outcome::Trapped(_, _) | Outcome::Impossible => {}
+        Outcome::Enters(statements, end) => {
+            let rest = activation.rest;
+            activation.outer.push(Outer { end, rest })?;
+            put_task(&mut activation.task, None);
+            activation.rest = statements;
+        }
+        Outcome::Printed(_) | Outcome::Sets(_, _) | Outcome::SetsNull(_) => {
+            put_task(&mut activation.task, None);
+        }
+        Outcome::Puts(_, _) | Outcome::SetsElement(_, _, _) => {
+            put_task(&mut activation.task, None);
+        }
+        Outcome::Makes(_, _, _) | Outcome::Ends => put_task(&mut activation.task, None),
+    }
+    Ok(())
+}
+
+/// Lets an activation take its next step.
+pub fn advance<'a>(
+    alloc: Global,
+    items: &'a [Item],
+    world: &World,
+    activation: &mut Activation<'a>,
+) -> Result<Outcome<'a>, AllocError>
+    requires { IsInRange activation.old }
+    ensures step { IfOk result (λ o. Advances (unit_tree items.now) (world_of_scene world.now) activation.old o activation.new) }
+    ensures range { IfOk result (λ _. IsInRange activation.new) }
+{
+    begin(alloc, activation)?;
+    let Some(task) = &mut activation.task else {
+        return leave_block(alloc, activation);
+    };
+    let outcome = step(items, world, &activation.variables, task)?;
+    let done = set_variables(alloc, items, &mut activation.variables, outcome)?;
+    if !done {
+        return Ok(Outcome::Impossible);
+    }
+    set_tasks(activation, outcome)?;
+    Ok(outcome)
+}

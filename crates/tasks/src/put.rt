@@ -1,0 +1,140 @@
+//! What tasks do to variables.
+
+ghost use Rattle.std.specs.Prelude.{◌≡◌, IfOk};
+ghost use Rattle.syntax.specs.Views.{unit_tree};
+ghost use Rattle.regions.specs.CallStep.{blank, filled, put};
+ghost use Rattle.regions.specs.Start.{null_statics};
+ghost use Rattle.regions.specs.Variable.{Statics, assign};
+ghost use Rattle.tasks.specs.declared.outcome.Outcome.TheVariants as outcome;
+ghost use Rattle.tasks.specs.Outcomes.{kind_view, target_view, given_view, variable_step, LeavesVariables, LeavesIf};
+ghost use Rattle.terms.specs.Views.{content_view, variables_view};
+
+use crate::outcome::{Outcome, Target, VariableKind};
+use std::alloc::{AllocError, Global};
+use syntax::{Item, Name};
+use terms::{Content, Value, Variable, assign, is_static, place_of, write_content, zeros};
+
+/// What goes into a variable.
+#[derive(Clone, Copy)]
+pub(crate) enum Given {
+    Null,
+    Number(i32),
+}
+
+/// A variable as its declaration makes it.
+fn blank(kind: VariableKind) -> Content
+    ensures { content_view result ≡ blank (kind_view kind) 1 }
+{
+    match kind {
+        VariableKind::Number => Content::Number(Value::Int(0)),
+        VariableKind::Reference => Content::Reference(None),
+        VariableKind::Field => Content::Field,
+        VariableKind::Buffer(kind) => Content::Buffer(kind),
+    }
+}
+
+/// Puts NULL or a number into a variable. In accepted programs they fit.
+fn fill(content: &mut Content, given: Given)
+    ensures { content_view content.new ≡ filled (content_view content.old) (given_view given) }
+{
+    match given {
+        Given::Null => match content {
+            Content::Reference(object) => *object = None,
+            Content::Number(_) | Content::Field | Content::Buffer(_) | Content::Array(_, _) => {}
+        },
+        Given::Number(z) => match content {
+            Content::Number(value) => *value = Value::Int(z),
+            Content::Reference(_) | Content::Field | Content::Buffer(_) => {}
+            Content::Array(_, _) => {}
+        },
+    }
+}
+
+/// Declares a variable with what is given.
+fn declare<'a>(
+    variables: &mut Vec<Variable<'a>>,
+    kind: VariableKind,
+    name: &'a Name,
+    given: Given,
+) -> Result<(), AllocError>
+    ensures { IfOk result (λ _. variables_view variables.new.items ≡ assign name.entry.now (filled (blank (kind_view kind) 1) (given_view given)) (variables_view variables.old.items)) }
+{
+    let mut content = blank(kind);
+    fill(&mut content, given);
+    assign(variables, name, content)
+}
+
+/// Puts NULL or a number where it belongs. A static is NULL already: nothing makes global references yet.
+#[tactic(auto, using(crate::proofs::PutLemmas::put_rules))]
+fn put<'a>(
+    items: &[Item],
+    variables: &mut Vec<Variable<'a>>,
+    target: Target<'a>,
+    given: Given,
+) -> Result<(), AllocError>
+    ensures { IfOk result (λ _. LeavesVariables (null_statics (unit_tree items.now)) variables.old.items (put (target_view target.entry) (given_view given)) variables.new.items) }
+{
+    match target {
+        Target::Declared(kind, name) => declare(variables, kind, name, given),
+        Target::Assigned(name) => match place_of(variables, name) {
+            Some(place) => {
+                let variable = &mut variables[place];
+                fill(&mut variable.content, given);
+                Ok(())
+            }
+            None => {
+                // No accepted program sets an unknown name.
+                if !is_static(items, name) {
+                    return Err(AllocError);
+                }
+                Ok(())
+            }
+        },
+        Target::Dropped => Ok(()),
+    }
+}
+
+/// Writes an element of the array of this name, if it is one.
+#[tactic(auto, using(crate::proofs::PutLemmas::element_rules))]
+fn set_element<'a>(
+    variables: &mut Vec<Variable<'a>>,
+    name: &'a Name,
+    index: usize,
+    number: i32,
+) -> bool
+    ensures { (statics : Statics) → LeavesIf statics variables.old.items (variable_step (outcome.SetsElement name.entry index number)) result variables.new.items }
+{
+    match place_of(variables, name) {
+        Some(place) => {
+            let variable = &mut variables[place];
+            write_content(&mut variable.content, index, number)
+        }
+        None => false,
+    }
+}
+
+/// Does what an outcome does to the variables; false where it is not possible.
+#[tactic(auto, using(crate::proofs::PutLemmas::variable_rules))]
+pub(crate) fn set_variables<'a>(
+    alloc: Global,
+    items: &[Item],
+    variables: &mut Vec<Variable<'a>>,
+    outcome: Outcome<'a>,
+) -> Result<bool, AllocError>
+    ensures { IfOk result (λ done. LeavesIf (null_statics (unit_tree items.now)) variables.old.items (variable_step outcome.entry) done variables.new.items) }
+{
+    match outcome {
+        Outcome::Sets(name, value) => assign(variables, name, Content::Number(value))?,
+        Outcome::SetsNull(target) => put(items, variables, target, Given::Null)?,
+        Outcome::Puts(target, number) => put(items, variables, target, Given::Number(number))?,
+        Outcome::Makes(kind, name, size) => {
+            assign(variables, name, Content::Array(kind, zeros(alloc, size)?))?;
+        }
+        Outcome::SetsElement(name, index, number) => {
+            return Ok(set_element(variables, name, index, number));
+        }
+        Outcome::Stays | Outcome::Printed(_) | Outcome::Enters(_, _) | Outcome::Ends => {}
+        Outcome::Returned | Outcome::Trapped(_, _) | Outcome::Impossible => {}
+    }
+    Ok(true)
+}

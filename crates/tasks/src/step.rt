@@ -1,0 +1,264 @@
+//! Steps of tasks.
+
+ghost use Rattle.std.specs.Prelude.{◌≡◌, IfOk, ℕ};
+ghost use Rattle.syntax.specs.Views.{expr_tree, block_tree, unit_tree};
+ghost use Rattle.world.specs.SceneWorld.{world_of_scene};
+ghost use Rattle.regions.specs.Start.{null_statics};
+ghost use Rattle.regions.specs.Task.{tasks_of};
+ghost use Rattle.regions.specs.Variable.{Statics};
+ghost use Rattle.tasks.specs.declared.task.Task.TheVariants as task;
+ghost use Rattle.terms.specs.declared.term.Term.TheVariants as term;
+ghost use Rattle.tasks.specs.Steps.{HasEffect, Does, reduced};
+ghost use Rattle.tasks.specs.Tasks.{branch_task, else_tree, tasks_of_statements, ExprInRange, BlockInRange, ElseInRange, StatementsInRange, TaskInRange, OutcomeInRange};
+ghost use Rattle.terms.specs.Views.{NumbersInRange, variables_view};
+
+use crate::invoke::invoke;
+use crate::outcome::{End, Outcome};
+use crate::task::Task;
+use std::alloc::AllocError;
+use syntax::{Block, Expr, Item, Name, Stmt};
+use terms::{
+    Evaluated, Indexed, Reduction, Term, Value, Variable, constant, number_in, place_in, put_term,
+    reduce,
+};
+use world::World;
+
+/// What a step does that reduces a term, which has no value yet.
+fn reduced<'a>(line: usize, reduction: Reduction) -> Outcome<'a>
+    ensures view { result ≡ reduced line reduction }
+    ensures range { OutcomeInRange result }
+{
+    match reduction {
+        Reduction::Reduced => Outcome::Stays,
+        Reduction::Trapped(trap) => Outcome::Trapped(trap, line),
+        Reduction::Stuck => Outcome::Impossible,
+    }
+}
+
+/// Evaluates a number by one step, or prints it.
+fn print<'a>(items: &[Item], variables: &[Variable<'_>], line: usize, t: &mut Term) -> Outcome<'a>
+    requires { NumbersInRange t.old }
+    ensures step { HasEffect (variables_view variables.now) (null_statics (unit_tree items.now)) (task.Print line t.old) result (task.Print line t.new) }
+    ensures numbers { NumbersInRange t.new }
+    ensures range { OutcomeInRange result }
+{
+    match t {
+        Term::Done(v) => match v {
+            Value::Int(z) => Outcome::Printed(*z),
+            Value::Word(_) | Value::Flag(_) | Value::Truth(_) => Outcome::Impossible,
+        },
+        t => reduced(line, reduce(items, variables, t)),
+    }
+}
+
+/// Evaluates an expression by one step, or sets a variable to its value.
+fn set<'a>(
+    items: &[Item],
+    variables: &[Variable<'_>],
+    line: usize,
+    name: &'a Name,
+    t: &mut Term,
+) -> Outcome<'a>
+    requires { NumbersInRange t.old }
+    ensures step { HasEffect (variables_view variables.now) (null_statics (unit_tree items.now)) (task.Set line name.entry t.old) result (task.Set line name.entry t.new) }
+    ensures numbers { NumbersInRange t.new }
+    ensures range { OutcomeInRange result }
+{
+    match t {
+        Term::Done(v) => Outcome::Sets(name, *v),
+        t => reduced(line, reduce(items, variables, t)),
+    }
+}
+
+/// Sets an element whose index and number have their values.
+fn write<'a>(
+    variables: &[Variable<'_>],
+    line: usize,
+    name: &'a Name,
+    index: Value,
+    number: Value,
+) -> Outcome<'a>
+    ensures step { (statics : Statics) → HasEffect (variables_view variables.now) statics (task.SetElement line name.entry (term.Done index) (term.Done number)) result (task.SetElement line name.entry (term.Done index) (term.Done number)) }
+    ensures range { OutcomeInRange result }
+{
+    match number {
+        Value::Int(z) => match place_in(variables, name, index) {
+            Indexed::At(i) => Outcome::SetsElement(name, i, z),
+            Indexed::Traps(trap) => Outcome::Trapped(trap, line),
+            Indexed::Stuck => Outcome::Impossible,
+        },
+        Value::Word(_) | Value::Flag(_) | Value::Truth(_) => Outcome::Impossible,
+    }
+}
+
+/// Evaluates the number of an element by one step, or sets the element at this index.
+fn set_at<'a>(
+    items: &[Item],
+    variables: &[Variable<'_>],
+    line: usize,
+    name: &'a Name,
+    index: Value,
+    t: &mut Term,
+) -> Outcome<'a>
+    requires { NumbersInRange t.old }
+    ensures step { HasEffect (variables_view variables.now) (null_statics (unit_tree items.now)) (task.SetElement line name.entry (term.Done index) t.old) result (task.SetElement line name.entry (term.Done index) t.new) }
+    ensures number { NumbersInRange t.new }
+    ensures range { OutcomeInRange result }
+{
+    match t {
+        Term::Done(number) => write(variables, line, name, index, *number),
+        t => reduced(line, reduce(items, variables, t)),
+    }
+}
+
+/// Evaluates the index or the number of an element by one step, or sets it.
+fn set_element<'a>(
+    items: &[Item],
+    variables: &[Variable<'_>],
+    line: usize,
+    name: &'a Name,
+    i: &mut Term,
+    t: &mut Term,
+) -> Outcome<'a>
+    requires index { NumbersInRange i.old }
+    requires number { NumbersInRange t.old }
+    ensures step { HasEffect (variables_view variables.now) (null_statics (unit_tree items.now)) (task.SetElement line name.entry i.old t.old) result (task.SetElement line name.entry i.new t.new) }
+    ensures index { NumbersInRange i.new }
+    ensures number { NumbersInRange t.new }
+    ensures range { OutcomeInRange result }
+{
+    match i {
+        Term::Done(index) => set_at(items, variables, line, name, *index, t),
+        i => reduced(line, reduce(items, variables, i)),
+    }
+}
+
+/// The statements of a block; none where an `else` is missing.
+fn statements_of<'a>(block: Option<&'a Block>) -> &'a [Stmt]
+    requires { ElseInRange block }
+    ensures view { (line : ℕ) → tasks_of_statements result.now ≡ tasks_of (else_tree line block.entry) }
+    ensures range { StatementsInRange result.now }
+{
+    match block {
+        Some(block) => &block.statements,
+        None => &[],
+    }
+}
+
+/// Evaluates the test of an `if` by one step, or takes a way.
+fn branch<'a>(
+    items: &[Item],
+    variables: &[Variable<'_>],
+    line: usize,
+    t: &mut Term,
+    block: &'a Block,
+    otherwise: Option<&'a Block>,
+) -> Outcome<'a>
+    requires numbers { NumbersInRange t.old }
+    requires block { BlockInRange (block_tree block.now) }
+    requires otherwise { ElseInRange otherwise }
+    ensures step { HasEffect (variables_view variables.now) (null_statics (unit_tree items.now)) (branch_task line t.old block.entry otherwise.entry) result (branch_task line t.new block.entry otherwise.entry) }
+    ensures numbers { NumbersInRange t.new }
+    ensures range { OutcomeInRange result }
+{
+    match t {
+        Term::Done(v) => match v {
+            Value::Truth(true) => Outcome::Enters(statements_of(Some(block)), End::If),
+            Value::Truth(false) => Outcome::Enters(statements_of(otherwise), End::If),
+            Value::Word(_) | Value::Int(_) | Value::Flag(_) => Outcome::Impossible,
+        },
+        t => reduced(line, reduce(items, variables, t)),
+    }
+}
+
+/// Evaluates the test of a loop by one step, or takes a turn, or goes on after it.
+fn turn<'a>(
+    items: &[Item],
+    variables: &[Variable<'_>],
+    line: usize,
+    test: &'a Expr,
+    t: &mut Term,
+    body: &'a Block,
+) -> Outcome<'a>
+    requires test { ExprInRange (expr_tree test.now) }
+    requires numbers { NumbersInRange t.old }
+    requires body { BlockInRange (block_tree body.now) }
+    ensures step { HasEffect (variables_view variables.now) (null_statics (unit_tree items.now)) (task.Loop line test.entry t.old body.entry) result (task.Loop line test.entry t.new body.entry) }
+    ensures numbers { NumbersInRange t.new }
+    ensures range { OutcomeInRange result }
+{
+    match t {
+        Term::Done(v) => match v {
+            Value::Truth(true) => {
+                Outcome::Enters(statements_of(Some(body)), End::Turn(line, test, body))
+            }
+            Value::Truth(false) => Outcome::Ends,
+            Value::Word(_) | Value::Int(_) | Value::Flag(_) => Outcome::Impossible,
+        },
+        t => reduced(line, reduce(items, variables, t)),
+    }
+}
+
+/// Evaluates a result by one step, or returns it. A name of a number is evaluated; NULL or a reference is returned as it is.
+#[tactic(auto, using(crate::proofs::TaskLemmas::return_rules))]
+fn return_value<'a>(
+    items: &[Item],
+    variables: &[Variable<'_>],
+    line: usize,
+    t: &mut Term,
+) -> Outcome<'a>
+    requires { NumbersInRange t.old }
+    ensures step { HasEffect (variables_view variables.now) (null_statics (unit_tree items.now)) (task.ReturnValue line t.old) result (task.ReturnValue line t.new) }
+    ensures numbers { NumbersInRange t.new }
+    ensures range { OutcomeInRange result }
+{
+    match t {
+        Term::Done(_) => Outcome::Returned,
+        Term::Named(c) => match constant(*c) {
+            Evaluated::Gives(value) => {
+                put_term(t, Term::Done(value));
+                Outcome::Stays
+            }
+            Evaluated::Traps(_) | Evaluated::Stuck => Outcome::Returned,
+        },
+        Term::Read(name) => match number_in(variables, name) {
+            Evaluated::Gives(value) => {
+                put_term(t, Term::Done(value));
+                Outcome::Stays
+            }
+            Evaluated::Traps(_) | Evaluated::Stuck => Outcome::Returned,
+        },
+        t => reduced(line, reduce(items, variables, t)),
+    }
+}
+
+/// Lets a task take its next step.
+pub(crate) fn step<'a>(
+    items: &[Item],
+    world: &World,
+    variables: &[Variable<'_>],
+    task: &mut Task<'a>,
+) -> Result<Outcome<'a>, AllocError>
+    requires { TaskInRange task.old }
+    ensures step { IfOk result (λ o. Does (world_of_scene world.now) (variables_view variables.now) (null_statics (unit_tree items.now)) task.old o task.new) }
+    ensures task { IfOk result (λ _. TaskInRange task.new) }
+    ensures range { IfOk result OutcomeInRange }
+{
+    match task {
+        Task::Print(line, t) => Ok(print(items, variables, *line, t)),
+        Task::Set(line, name, t) => Ok(set(items, variables, *line, name, t)),
+        Task::SetElement(line, name, i, t) => {
+            Ok(set_element(items, variables, *line, name, i, t))
+        }
+        Task::SetNull(target) => Ok(Outcome::SetsNull(*target)),
+        Task::MakeArray(kind, name, size) => Ok(Outcome::Makes(*kind, name, *size)),
+        Task::Invoke(i) => invoke(world, variables, i.line, i.target, i.call),
+        Task::Branch(c) => {
+            let (line, block, otherwise) = (c.line, c.block, c.otherwise);
+            Ok(branch(items, variables, line, &mut c.test, block, otherwise))
+        }
+        Task::Loop(line, test, t, body) => Ok(turn(items, variables, *line, test, t, body)),
+        Task::Return => Ok(Outcome::Returned),
+        Task::ReturnValue(line, t) => Ok(return_value(items, variables, *line, t)),
+    }
+}

@@ -1,0 +1,212 @@
+//! Tasks: statements that are begun.
+
+ghost use Rattle.std.specs.Prelude.{◌≡◌, IfOk};
+ghost use Rattle.syntax.specs.Views.{stmt_tree, expr_tree, right_side_tree, test_tree, block_tree};
+ghost use Rattle.regions.specs.Task.{Declared, Loop, Print, ReturnValue, SetElement, set_task, right_side_task, if_task, task_of};
+ghost use Rattle.regions.specs.Term.{term_of};
+ghost use Rattle.tasks.specs.Outcomes.{kind_view, target_view};
+ghost use Rattle.tasks.specs.Tasks.{task_view, else_tree, ExprInRange, RightSideInRange, TestInRange, BlockInRange, ElseInRange, StatementInRange, TaskInRange};
+
+use crate::outcome::{Target, VariableKind, kind_of};
+use std::alloc::{AllocError, Global};
+use syntax::{Block, Call, Constant, ElementType, Expr, Form, Name, RightSide, Stmt, Test};
+use terms::{Term, term_of};
+
+/// A call that is to do; its arguments are looked up in its one step.
+#[derive(Drop)]
+pub struct Invocation<'a> {
+    pub line: usize,
+    pub target: Target<'a>,
+    pub call: &'a Call,
+}
+
+/// An `if`, with its test's term and its two ways.
+#[derive(Drop)]
+pub struct Choice<'a> {
+    pub line: usize,
+    pub test: Term,
+    pub block: &'a Block,
+    pub otherwise: Option<&'a Block>,
+}
+
+/// A statement still to do, with its line.
+#[derive(Drop)]
+pub enum Task<'a> {
+    Print(usize, Term),
+    /// A value for a variable.
+    Set(usize, &'a Name, Term),
+    /// A number for an element, after its index.
+    SetElement(usize, &'a Name, Term, Term),
+    SetNull(Target<'a>),
+    MakeArray(ElementType, &'a Name, u32),
+    Invoke(Invocation<'a>),
+    Branch(Choice<'a>),
+    /// A loop, with its test, the test's term, and the body.
+    Loop(usize, &'a Expr, Term, &'a Block),
+    Return,
+    ReturnValue(usize, Term),
+}
+
+/// The task that gives a variable the value of an expression.
+fn value_task<'a>(
+    alloc: Global,
+    line: usize,
+    target: Target<'a>,
+    name: &'a Name,
+    e: &'a Expr,
+) -> Result<Task<'a>, AllocError>
+    requires { ExprInRange (expr_tree e.now) }
+    ensures view { IfOk result (λ t. task_view t ≡ set_task line (target_view target.entry) name.entry.now (expr_tree e.entry.now)) }
+    ensures range { IfOk result TaskInRange }
+{
+    if let Expr::Named(Constant::Null) = e {
+        return Ok(Task::SetNull(target));
+    }
+    Ok(Task::Set(line, name, term_of(alloc, e)?))
+}
+
+/// The task that sets a variable.
+fn set_task<'a>(
+    alloc: Global,
+    line: usize,
+    target: Target<'a>,
+    name: &'a Name,
+    right: &'a RightSide,
+) -> Result<Task<'a>, AllocError>
+    requires { RightSideInRange (right_side_tree right.now) }
+    ensures view { IfOk result (λ t. task_view t ≡ right_side_task line (target_view target.entry) name.entry.now (right_side_tree right.entry.now)) }
+    ensures range { IfOk result TaskInRange }
+{
+    match right {
+        RightSide::Expr(e) => value_task(alloc, line, target, name, e),
+        RightSide::Call(call) => Ok(Task::Invoke(Invocation { line, target, call })),
+    }
+}
+
+/// The task of an `if`. No function that can be called today may be called in a test.
+fn if_task<'a>(
+    alloc: Global,
+    line: usize,
+    test: &'a Test,
+    block: &'a Block,
+    otherwise: Option<&'a Block>,
+) -> Result<Task<'a>, AllocError>
+    requires test { TestInRange (test_tree test.now) }
+    requires block { BlockInRange (block_tree block.now) }
+    requires otherwise { ElseInRange otherwise }
+    ensures view { IfOk result (λ t. task_view t ≡ if_task line (test_tree test.entry.now) (block_tree block.entry.now) (else_tree line otherwise.entry)) }
+    ensures range { IfOk result TaskInRange }
+{
+    match test {
+        Test::Expr(e) => Ok(Task::Branch(Choice {
+            line,
+            test: term_of(alloc, e)?,
+            block,
+            otherwise,
+        })),
+        Test::Call(_) => Err(AllocError),
+    }
+}
+
+/// The task that a declaration begins as.
+fn declaration<'a>(
+    alloc: Global,
+    line: usize,
+    kind: VariableKind,
+    name: &'a Name,
+    right: &'a RightSide,
+) -> Result<Task<'a>, AllocError>
+    requires { RightSideInRange (right_side_tree right.now) }
+    ensures view { IfOk result (λ t. task_view t ≡ right_side_task line (Declared (kind_view kind) name.entry.now) name.entry.now (right_side_tree right.entry.now)) }
+    ensures range { IfOk result TaskInRange }
+{
+    set_task(alloc, line, Target::Declared(kind, name), name, right)
+}
+
+/// The task that sets an element.
+fn element_task<'a>(
+    alloc: Global,
+    line: usize,
+    name: &'a Name,
+    index: &Expr,
+    e: &Expr,
+) -> Result<Task<'a>, AllocError>
+    requires index { ExprInRange (expr_tree index.now) }
+    requires number { ExprInRange (expr_tree e.now) }
+    ensures view { IfOk result (λ t. task_view t ≡ SetElement line name.entry.now (term_of (expr_tree index.now)) (term_of (expr_tree e.now))) }
+    ensures range { IfOk result TaskInRange }
+{
+    let index = term_of(alloc, index)?;
+    let number = term_of(alloc, e)?;
+    Ok(Task::SetElement(line, name, index, number))
+}
+
+/// The task that prints a number.
+fn print_task<'a>(alloc: Global, line: usize, e: &Expr) -> Result<Task<'a>, AllocError>
+    requires { ExprInRange (expr_tree e.now) }
+    ensures view { IfOk result (λ t. task_view t ≡ Print line (term_of (expr_tree e.now))) }
+    ensures range { IfOk result TaskInRange }
+{
+    Ok(Task::Print(line, term_of(alloc, e)?))
+}
+
+/// The task of a loop.
+fn loop_task<'a>(
+    alloc: Global,
+    line: usize,
+    test: &'a Expr,
+    body: &'a Block,
+) -> Result<Task<'a>, AllocError>
+    requires test { ExprInRange (expr_tree test.now) }
+    requires body { BlockInRange (block_tree body.now) }
+    ensures view { IfOk result (λ t. task_view t ≡ Loop line (expr_tree test.entry.now) (term_of (expr_tree test.entry.now)) (block_tree body.entry.now)) }
+    ensures range { IfOk result TaskInRange }
+{
+    Ok(Task::Loop(line, test, term_of(alloc, test)?, body))
+}
+
+/// The task that returns a value.
+fn return_task<'a>(alloc: Global, line: usize, e: &Expr) -> Result<Task<'a>, AllocError>
+    requires { ExprInRange (expr_tree e.now) }
+    ensures view { IfOk result (λ t. task_view t ≡ ReturnValue line (term_of (expr_tree e.now))) }
+    ensures range { IfOk result TaskInRange }
+{
+    Ok(Task::ReturnValue(line, term_of(alloc, e)?))
+}
+
+/// The task that a statement begins as.
+pub(crate) fn task_of(alloc: Global, s: &Stmt) -> Result<Task<'_>, AllocError>
+    requires { StatementInRange s.now }
+    ensures view { IfOk result (λ t. task_view t ≡ task_of (stmt_tree s.now)) }
+    ensures range { IfOk result TaskInRange }
+{
+    let line = s.line;
+    match &s.form {
+        Form::Declare(t, x, right) => declaration(alloc, line, kind_of(*t), x, right),
+        Form::DeclareBuffer(t, x, right) => {
+            declaration(alloc, line, VariableKind::Buffer(*t), x, right)
+        }
+        Form::DeclareChars(x, right) => {
+            declaration(
+                alloc,
+                line,
+                VariableKind::Buffer(ElementType::Jchar),
+                x,
+                right,
+            )
+        }
+        Form::DeclareArray(t, x, size) => Ok(Task::MakeArray(*t, x, *size)),
+        Form::Assign(x, right) => set_task(alloc, line, Target::Assigned(x), x, right),
+        Form::AssignElement(x, i, e) => element_task(alloc, line, x, i, e),
+        Form::Perform(call) => {
+            let target = Target::Dropped;
+            Ok(Task::Invoke(Invocation { line, target, call }))
+        }
+        Form::PutJint(e) => print_task(alloc, line, e),
+        Form::If(test, block) => if_task(alloc, line, test, block, None),
+        Form::IfElse(test, block, other) => if_task(alloc, line, test, block, Some(other)),
+        Form::While(test, body) => loop_task(alloc, line, test, body),
+        Form::Return(None) => Ok(Task::Return),
+        Form::Return(Some(e)) => return_task(alloc, line, e),
+    }
+}

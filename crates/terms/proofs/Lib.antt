@@ -1,0 +1,3 @@
+mod TermLemmas
+pub mod VariableLemmas
+pub mod SightLemmas

@@ -1,0 +1,22 @@
+use Rattle.std.proofs.Common.{◌≡◌, ap, sym, ◌∙◌, rules}
+use Rattle.syntax.specs.Views.{unit_tree}
+use Rattle.regions.specs.Sight.{seen}
+use Rattle.regions.specs.Start.{null_statics}
+use Rattle.regions.specs.Term as tree
+use Rattle.regions.specs.Term.{done}
+use Rattle.terms.specs.declared.term.Term.{Term}
+use Rattle.terms.specs.Views.{value_view, term_view, variables_view}
+use Rattle.terms.proofs.reduction.value_of.Goals as goal
+
+pub returns-in-Done-deref : goal.returns-in-Done-deref
+returns-in-Done-deref c = λ values heap.
+    let ss = null_statics (unit_tree c.args.items.now) in
+    let shape : term_view c.args.term.now ≡ tree.Element c.in-Element.name (tree.Done (value_view c.in-Done-deref.i)) =
+    ap term_view c.in-Element.is ∙ ap (λ (u : Term). tree.Element c.in-Element.name (term_view u)) (sym c.deref.ensures ∙ c.in-Done-deref.is) in
+    ap (tree.reduce (seen (variables_view c.args.variables.now) ss heap)) shape ∙ ap done (sym (c.element_in.ensures ss heap))
+
+pub returns-in-Read : goal.returns-in-Read
+returns-in-Read c = λ values heap. c.leaf_value.ensures (search rules) heap
+
+pub returns-in-Done : goal.returns-in-Done
+returns-in-Done c = λ values heap. c.leaf_value-in-Done.ensures (search rules) heap

@@ -1,0 +1,163 @@
+-- Values, terms and variables that lie in memory, as those of the language.
+use Rattle.std.specs.Prelude.{◌≡◌, ◌<◌, ℕ, ℤ, Bool, not, List, map, slice_get, slice_set, Option, Some, None}
+use Rattle.base.specs.Bytes.{Identifier}
+use Rattle.syntax.specs.Tree.{BinaryOp}
+use Rattle.syntax.specs.Views.{constant_tree, element_tree, prefix_tree, binary_tree}
+use Rattle.syntax.specs.Limits.{number_limit}
+use Rattle.regions.specs.Heap.{Heap}
+use Rattle.regions.specs.Sight.{seen, in_range}
+use Rattle.regions.specs.Term.{Term, Done, Number, Named, Read, Element, IsNull, Prefix, And, Or, Binary, Reduction, binary_term, done, reduce}
+use Rattle.regions.specs.Value.{Value, Word, Int, Flag, Truth, Trap, DivisionByZero, ShiftTooFar, OutOfRange, NullReference, WrongObject, Outcome, Gives, Traps, Stuck, outcome_then, outcome_map, convert}
+use Rattle.regions.specs.Variable.{Variable, Scalar, LocalRef, FieldHandle, Elements, LocalArray, NoBuffer, Variables, Statics}
+use Rattle.terms.specs.declared.reduction.Reduction.{Reduction as ReductionInMemory}
+use Rattle.terms.specs.declared.reduction.Reduction.TheVariants as reduction
+use Rattle.terms.specs.declared.sight.Indexed.{Indexed}
+use Rattle.terms.specs.declared.sight.Indexed.TheVariants as indexed
+use Rattle.terms.specs.declared.trap.Trap.{Trap as TrapInMemory}
+use Rattle.terms.specs.declared.trap.Trap.TheVariants as trap
+use Rattle.terms.specs.declared.value.Evaluated.{Evaluated}
+use Rattle.terms.specs.declared.value.Evaluated.TheVariants as evaluated
+use Rattle.terms.specs.declared.value.Value.{Value as ValueInMemory}
+use Rattle.terms.specs.declared.value.Value.TheVariants as value
+use Rattle.terms.specs.declared.term.Term.{Term as TermInMemory}
+use Rattle.terms.specs.declared.term.Term.TheVariants as term
+use Rattle.terms.specs.declared.variable.Content.{Content}
+use Rattle.terms.specs.declared.variable.Content.TheVariants as content
+use Rattle.terms.specs.declared.variable.Variable.{Variable as VariableInMemory}
+
+abbrev pub trap_view : TrapInMemory → Trap
+trap_view trap.DivisionByZero = DivisionByZero
+trap_view trap.ShiftTooFar = ShiftTooFar
+trap_view trap.OutOfRange = OutOfRange
+trap_view trap.NullReference = NullReference
+trap_view trap.WrongObject = WrongObject
+
+abbrev pub value_view : ValueInMemory → Value
+value_view (value.Word n) = Word n
+value_view (value.Int z) = Int z
+value_view (value.Flag b) = Flag b
+value_view (value.Truth b) = Truth b
+
+abbrev pub evaluated_view : Evaluated → Outcome Value
+evaluated_view (evaluated.Gives v) = Gives (value_view v)
+evaluated_view (evaluated.Traps trap) = Traps (trap_view trap)
+evaluated_view evaluated.Stuck = Stuck
+
+abbrev pub indexed_view : Indexed → Outcome ℕ
+indexed_view (indexed.At i) = Gives i
+indexed_view (indexed.Traps trap) = Traps (trap_view trap)
+indexed_view indexed.Stuck = Stuck
+
+-- ---- variables
+
+-- each reference variable is declared in the first frame, so its level is 1
+abbrev pub content_view : Content → Variable
+content_view (content.Number v) = Scalar (value_view v)
+content_view (content.Reference r) = LocalRef 1 r
+content_view content.Field = FieldHandle None
+content_view (content.Buffer T) = Elements (element_tree T) NoBuffer
+content_view (content.Array T numbers) = LocalArray (element_tree T) numbers.items
+
+-- a variable with its name
+abbrev pub variable_view : VariableInMemory → Identifier × Variable
+variable_view v = (v.name.now, content_view v.content)
+
+abbrev pub variables_view : List VariableInMemory → Variables
+variables_view vs = map variable_view vs
+
+-- what is there, or nothing fits
+abbrev pub if_there : {A : Type 0} → Option A → Outcome A
+if_there (Some a) = Gives a
+if_there None = Stuck
+
+-- an index within the range of these numbers
+abbrev pub place_in : Outcome (List ℤ) → Outcome ℕ → Outcome ℕ
+place_in numbers i = outcome_then (λ n. outcome_map (λ (z : ℤ). n) (outcome_then (λ (zs : List ℤ). in_range (slice_get zs n)) numbers)) i
+
+-- an array with a number, converted to its type, at an index; no other variable has elements today
+abbrev pub written : ℕ → ℤ → Variable → Option Variable
+written i z (LocalArray T zs) = Some (LocalArray T (slice_set zs i (convert T z)))
+written i z v = None
+
+-- ---- terms
+
+abbrev pub term_view : TermInMemory → Term
+term_view (term.Done v) = Done (value_view v)
+term_view (term.Number n unsigned) = Number n unsigned
+term_view (term.Named c) = Named (constant_tree c)
+term_view (term.Read x) = Read x
+term_view (term.Element' x p i) = Element x (term_view i)
+term_view (term.IsNull wanted x) = IsNull wanted x
+term_view (term.Prefix' op p t) = Prefix (prefix_tree op) (term_view t)
+term_view (term.And' p s q t) = And (term_view s) (term_view t)
+term_view (term.Or' p s q t) = Or (term_view s) (term_view t)
+term_view (term.Binary' op p s q t) = Binary (binary_tree op) (term_view s) (term_view t)
+
+-- each number that has no value yet is in the range of its type
+abbrev pub NumbersInRange : TermInMemory → Type 0
+NumbersInRange (term.Done v) = Unit {0}
+NumbersInRange (term.Number n unsigned) = n < number_limit unsigned
+NumbersInRange (term.Named c) = Unit {0}
+NumbersInRange (term.Read x) = Unit {0}
+NumbersInRange (term.Element' x p i) = NumbersInRange i
+NumbersInRange (term.IsNull wanted x) = Unit {0}
+NumbersInRange (term.Prefix' op p t) = NumbersInRange t
+NumbersInRange (term.And' p s q t) = NumbersInRange s × NumbersInRange t
+NumbersInRange (term.Or' p s q t) = NumbersInRange s × NumbersInRange t
+NumbersInRange (term.Binary' op p s q t) = NumbersInRange s × NumbersInRange t
+
+-- an operator with this tested name compares it with NULL
+abbrev pub ComparesNull : (wanted : Bool) → Identifier → BinaryOp → (tested : Option Identifier) → Type 0
+ComparesNull wanted x op tested = (s t : Term) → binary_term op tested s t ≡ IsNull wanted x
+
+-- ---- the step of a term
+
+-- the other truth
+abbrev pub negated : Outcome Value → Outcome Value
+negated (Gives (Truth b)) = Gives (Truth (not b))
+negated o = o
+
+-- what the left side of `&&` or `||` decides, or else the right side
+abbrev pub decided : Option Evaluated → (right : Term) → Reduction
+decided None right = Gives right
+decided (Some e) right = done (evaluated_view e)
+
+-- it has no parts that take steps
+abbrev pub IsLeaf : TermInMemory → Type 0
+IsLeaf (term.Number n unsigned) = Unit {0}
+IsLeaf (term.Named c) = Unit {0}
+IsLeaf (term.Read x) = Unit {0}
+IsLeaf (term.IsNull wanted x) = Unit {0}
+IsLeaf (term.Done v) = Unit {0}
+IsLeaf t = ⊥
+
+-- its parts that take steps have their values
+abbrev pub IsValue : TermInMemory → Type 0
+IsValue (term.Done v) = Unit {0}
+IsValue t = ⊥
+
+abbrev pub HasValues : TermInMemory → Type 0
+HasValues (term.Element' x p i) = IsValue i
+HasValues (term.Prefix' op p t) = IsValue t
+HasValues (term.And' p s q t) = IsValue s
+HasValues (term.Or' p s q t) = IsValue s
+HasValues (term.Binary' op p s q t) = IsValue s × IsValue t
+HasValues t = Unit {0}
+
+-- the right side of `&&` or `||`
+abbrev pub right_side : Term → Term
+right_side (And s t) = t
+right_side (Or s t) = t
+right_side t = t
+
+-- the value takes the place of a term, if there is one
+abbrev pub IsReplaced : TermInMemory → Evaluated → ReductionInMemory → TermInMemory → Type 0
+IsReplaced old (evaluated.Gives v) took new = (took ≡ reduction.Reduced) × (new ≡ term.Done v)
+IsReplaced old (evaluated.Traps trap) took new = (took ≡ reduction.Trapped trap) × (new ≡ old)
+IsReplaced old evaluated.Stuck took new = (took ≡ reduction.Stuck) × (new ≡ old)
+
+-- with these variables and statics, what a step in memory did is what a step of the language does
+abbrev pub Reduces : Variables → Statics → TermInMemory → ReductionInMemory → TermInMemory → Type 0
+Reduces vs ss old reduction.Reduced new = (heap : Heap) → reduce (seen vs ss heap) (term_view old) ≡ Gives (term_view new)
+Reduces vs ss old (reduction.Trapped trap) new = ((heap : Heap) → reduce (seen vs ss heap) (term_view old) ≡ Traps (trap_view trap)) × (new ≡ old)
+Reduces vs ss old reduction.Stuck new = (heap : Heap) → reduce (seen vs ss heap) (term_view old) ≡ Stuck

@@ -1,0 +1,16 @@
+//! The values, the variables and the terms of the source in memory, and how a term is reduced.
+#![tactic(auto)]
+
+mod reduction;
+mod sight;
+mod term;
+mod trap;
+mod value;
+mod variable;
+
+pub use reduction::{Reduction, reduce};
+pub use sight::{Indexed, is_static, number_in, place_in};
+pub use term::{Term, put_term, term_of};
+pub use trap::{Trap, trap_number};
+pub use value::{Evaluated, Value, constant};
+pub use variable::{Content, Variable, assign, content_of, place_of, write_content, zeros};

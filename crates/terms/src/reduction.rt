@@ -1,0 +1,185 @@
+//! Steps of terms.
+
+ghost use Rattle.std.specs.Prelude.{◌≡◌};
+ghost use Rattle.syntax.specs.Views.{unit_tree};
+ghost use Rattle.regions.specs.Heap.{Heap};
+ghost use Rattle.regions.specs.Sight.{seen};
+ghost use Rattle.regions.specs.Start.{null_statics};
+ghost use Rattle.regions.specs.Term.{Term as TermOfTree, and_then, or_else, done, reduce};
+ghost use Rattle.terms.specs.Views.{value_view, evaluated_view, term_view, variables_view, NumbersInRange, decided, right_side, IsLeaf, HasValues, IsReplaced, Reduces};
+
+use crate::sight::{element_in, null_value, number_in};
+use crate::term::{Term, put_term};
+use crate::trap::Trap;
+use crate::value::{Evaluated, Value, binary_value, constant, literal, prefix_value};
+use crate::variable::Variable;
+use std::mem;
+use syntax::Item;
+
+/// What a step of a term did.
+#[derive(Clone, Copy)]
+pub enum Reduction {
+    /// The leftmost part that can be reduced was replaced.
+    Reduced,
+    /// That part has no value, and the term is as it was.
+    Trapped(Trap),
+    /// Nothing fits, as in no accepted program.
+    Stuck,
+}
+
+/// The term, out of its place.
+fn take(term: &mut Term) -> Term
+    ensures { result ≡ term.old }
+{
+    mem::replace(term, Term::Done(Value::Truth(false)))
+}
+
+/// What `&&` is after its left side; none where its right side decides.
+fn and_then(left: Value) -> Option<Evaluated>
+    ensures { (right : TermOfTree) → decided result right ≡ and_then right (value_view left) }
+{
+    match left {
+        Value::Truth(true) => None,
+        Value::Truth(false) => Some(Evaluated::Gives(Value::Truth(false))),
+        Value::Word(_) | Value::Int(_) | Value::Flag(_) => Some(Evaluated::Stuck),
+    }
+}
+
+/// What `||` is after its left side; none where its right side decides.
+fn or_else(left: Value) -> Option<Evaluated>
+    ensures { (right : TermOfTree) → decided result right ≡ or_else right (value_view left) }
+{
+    match left {
+        Value::Truth(true) => Some(Evaluated::Gives(Value::Truth(true))),
+        Value::Truth(false) => None,
+        Value::Word(_) | Value::Int(_) | Value::Flag(_) => Some(Evaluated::Stuck),
+    }
+}
+
+/// Puts a value in the place of a term.
+fn replace(term: &mut Term, value: Evaluated) -> Reduction
+    ensures { IsReplaced term.old value result term.new }
+{
+    match value {
+        Evaluated::Gives(value) => {
+            *term = Term::Done(value);
+            Reduction::Reduced
+        }
+        Evaluated::Traps(trap) => Reduction::Trapped(trap),
+        Evaluated::Stuck => Reduction::Stuck,
+    }
+}
+
+/// The value of a part without parts.
+fn leaf_value(items: &[Item], variables: &[Variable<'_>], term: &Term) -> Evaluated
+    requires { NumbersInRange term.now }
+    ensures { IsLeaf term.now → (heap : Heap) → reduce (seen (variables_view variables.now) (null_statics (unit_tree items.now)) heap) (term_view term.now) ≡ done (evaluated_view result) }
+{
+    match term {
+        Term::Number { value, unsigned } => Evaluated::Gives(literal(*value, *unsigned)),
+        Term::Named(c) => constant(*c),
+        Term::Read(name) => number_in(variables, name),
+        Term::IsNull(wanted, name) => null_value(items, variables, *wanted, name),
+        Term::Done(_) | Term::Element(_, _) | Term::Prefix(_, _) => Evaluated::Stuck,
+        Term::And(_, _) | Term::Or(_, _) | Term::Binary(_, _, _) => Evaluated::Stuck,
+    }
+}
+
+/// The value of a term whose parts have theirs; none where its right side decides.
+fn value_of(items: &[Item], variables: &[Variable<'_>], term: &Term) -> Option<Evaluated>
+    requires { NumbersInRange term.now }
+    ensures { HasValues term.now → (heap : Heap) → reduce (seen (variables_view variables.now) (null_statics (unit_tree items.now)) heap) (term_view term.now) ≡ decided result (right_side (term_view term.now)) }
+{
+    match term {
+        Term::Element(name, i) => match **i {
+            Term::Done(i) => Some(element_in(variables, name, i)),
+            _ => None,
+        },
+        Term::Prefix(op, a) => match **a {
+            Term::Done(v) => Some(prefix_value(*op, v)),
+            _ => None,
+        },
+        Term::And(a, _) => match **a {
+            Term::Done(v) => and_then(v),
+            _ => None,
+        },
+        Term::Or(a, _) => match **a {
+            Term::Done(v) => or_else(v),
+            _ => None,
+        },
+        Term::Binary(op, a, b) => match **a {
+            Term::Done(v) => match **b {
+                Term::Done(w) => Some(binary_value(*op, v, w)),
+                _ => None,
+            },
+            _ => None,
+        },
+        Term::Done(_) | Term::Number { .. } | Term::Named(_) => Some(leaf_value(
+            items, variables, term,
+        )),
+        Term::Read(_) | Term::IsNull(_, _) => Some(leaf_value(items, variables, term)),
+    }
+}
+
+/// Puts the right side of `&&` or `||` in its place.
+fn replace_by_right(term: &mut Term)
+    ensures view { term_view term.new ≡ right_side (term_view term.old) }
+    ensures numbers { NumbersInRange term.old → NumbersInRange term.new }
+{
+    if let Term::And(_, b) | Term::Or(_, b) = term {
+        let right = take(b);
+        put_term(term, right);
+    }
+}
+
+/// Replaces a term whose parts have their values.
+fn settle(items: &[Item], variables: &[Variable<'_>], term: &mut Term) -> Reduction
+    requires numbers { NumbersInRange term.old }
+    requires values { HasValues term.old }
+    ensures step { Reduces (variables_view variables.now) (null_statics (unit_tree items.now)) term.old result term.new }
+    ensures numbers { NumbersInRange term.new }
+{
+    match value_of(items, variables, term) {
+        Some(value) => replace(term, value),
+        None => {
+            replace_by_right(term);
+            Reduction::Reduced
+        }
+    }
+}
+
+/// Replaces the leftmost part that can be reduced by its value, or by the right side of `&&` or `||`.
+/// It walks to that part, through at most as many terms as the tree is high.
+pub fn reduce(items: &[Item], variables: &[Variable<'_>], term: &mut Term) -> Reduction
+    requires { NumbersInRange term.old }
+    ensures step { Reduces (variables_view variables.now) (null_statics (unit_tree items.now)) term.old result term.new }
+    ensures numbers { NumbersInRange term.new }
+{
+    match term {
+        Term::Element(_, i) => match &mut **i {
+            Term::Done(_) => settle(items, variables, term),
+            i => reduce(items, variables, i),
+        },
+        Term::Prefix(_, a) => match &mut **a {
+            Term::Done(_) => settle(items, variables, term),
+            a => reduce(items, variables, a),
+        },
+        Term::And(a, _) => match &mut **a {
+            Term::Done(_) => settle(items, variables, term),
+            a => reduce(items, variables, a),
+        },
+        Term::Or(a, _) => match &mut **a {
+            Term::Done(_) => settle(items, variables, term),
+            a => reduce(items, variables, a),
+        },
+        Term::Binary(_, a, b) => match &mut **a {
+            Term::Done(_) => match &mut **b {
+                Term::Done(_) => settle(items, variables, term),
+                b => reduce(items, variables, b),
+            },
+            a => reduce(items, variables, a),
+        },
+        Term::Done(_) | Term::Number { .. } | Term::Named(_) => settle(items, variables, term),
+        Term::Read(_) | Term::IsNull(_, _) => settle(items, variables, term),
+    }
+}

@@ -1,0 +1,181 @@
+//! What can be seen in the variables and the statics.
+
+ghost use Rattle.std.specs.Prelude.{◌≡◌, is_some};
+ghost use Rattle.std.specs.Option.{option_map};
+ghost use Rattle.base.specs.Bytes.{lookup};
+ghost use Rattle.syntax.specs.Views.{unit_tree};
+ghost use Rattle.regions.specs.Heap.{Heap};
+ghost use Rattle.regions.specs.Sight.{scalar, seen, elements_of, variable_is_null, holds_null};
+ghost use Rattle.regions.specs.Start.{null_statics};
+ghost use Rattle.regions.specs.Term.{IsNull, done, index_of, element_value, reduce};
+ghost use Rattle.regions.specs.Value.{outcome_map, Truth};
+ghost use Rattle.regions.specs.Variable.{Statics};
+ghost use Rattle.terms.specs.Views.{value_view, evaluated_view, indexed_view, content_view, variables_view, if_there, negated, place_in};
+
+use crate::trap::Trap;
+use crate::value::{Evaluated, Value, truth};
+use crate::variable::{Content, Variable, content_of};
+use syntax::{Item, Name};
+
+/// The value of a number variable.
+pub fn number_in(variables: &[Variable<'_>], name: &Name) -> Evaluated
+    ensures { evaluated_view result ≡ scalar (lookup name.now (variables_view variables.now)) }
+{
+    match content_of(variables, name) {
+        None => Evaluated::Stuck,
+        Some(content) => match content {
+            Content::Number(value) => Evaluated::Gives(*value),
+            Content::Reference(_) | Content::Field | Content::Buffer(_) => Evaluated::Stuck,
+            Content::Array(_, _) => Evaluated::Stuck,
+        },
+    }
+}
+
+/// Whether a static has this name; each is NULL, as nothing makes global references yet.
+pub fn is_static(items: &[Item], name: &Name) -> bool
+    ensures { result ≡ is_some (lookup name.now (null_statics (unit_tree items.now))) }
+{
+    for item in items {
+        match item {
+            Item::Static(s) => {
+                if name.as_bytes() == s.name.as_bytes() {
+                    return true;
+                }
+            }
+            Item::Function(_) => {}
+        }
+    }
+    false
+}
+
+/// Whether a variable holds NULL, as a truth.
+fn is_null(content: &Content) -> Evaluated
+    ensures { evaluated_view result ≡ outcome_map Truth (variable_is_null (content_view content.now)) }
+{
+    match content {
+        Content::Reference(object) => truth(object.is_none()),
+        Content::Field | Content::Buffer(_) => truth(true),
+        Content::Number(_) | Content::Array(_, _) => Evaluated::Stuck,
+    }
+}
+
+/// The other truth.
+fn negated(value: Evaluated) -> Evaluated
+    ensures { evaluated_view result ≡ negated (evaluated_view value) }
+{
+    match value {
+        Evaluated::Gives(Value::Truth(b)) => truth(!b),
+        Evaluated::Gives(Value::Word(_) | Value::Int(_) | Value::Flag(_)) => value,
+        Evaluated::Traps(_) | Evaluated::Stuck => value,
+    }
+}
+
+/// Whether a variable or a static holds NULL, as a truth.
+#[tactic(auto, using(crate::proofs::SightLemmas::null_rules))]
+fn null_of(items: &[Item], variables: &[Variable<'_>], name: &Name) -> Evaluated
+    ensures { evaluated_view result ≡ outcome_map Truth (holds_null (lookup name.now (variables_view variables.now)) (lookup name.now (null_statics (unit_tree items.now)))) }
+{
+    match content_of(variables, name) {
+        Some(content) => is_null(content),
+        None => {
+            if is_static(items, name) {
+                truth(true)
+            } else {
+                Evaluated::Stuck
+            }
+        }
+    }
+}
+
+/// Whether a variable or a static holds NULL, or, where that isn't wanted, whether it doesn't.
+#[tactic(auto, using(crate::proofs::SightLemmas::null_rules))]
+pub(crate) fn null_value(
+    items: &[Item],
+    variables: &[Variable<'_>],
+    wanted: bool,
+    name: &Name,
+) -> Evaluated
+    ensures { (heap : Heap) → reduce (seen (variables_view variables.now) (null_statics (unit_tree items.now)) heap) (IsNull wanted name.now) ≡ done (evaluated_view result) }
+{
+    let null = null_of(items, variables, name);
+    if wanted { null } else { negated(null) }
+}
+
+/// The place of an element.
+#[derive(Clone, Copy)]
+pub enum Indexed {
+    At(usize),
+    Traps(Trap),
+    /// Nothing fits, as in no accepted program.
+    Stuck,
+}
+
+/// The index that a value is.
+fn index_of(v: Value) -> Indexed
+    ensures { indexed_view result ≡ index_of (value_view v) }
+{
+    match v {
+        Value::Word(n) => Indexed::At(n as usize),
+        Value::Int(z) => {
+            if z < 0 {
+                Indexed::Traps(Trap::OutOfRange)
+            } else {
+                Indexed::At(z as usize)
+            }
+        }
+        Value::Flag(_) | Value::Truth(_) => Indexed::Stuck,
+    }
+}
+
+/// The numbers of the array of this name.
+fn numbers_in<'v>(variables: &'v [Variable<'_>], name: &Name) -> Option<&'v [i32]>
+    ensures { (heap : Heap) → if_there (option_map (λ n. n.now) result) ≡ elements_of heap (lookup name.now (variables_view variables.now)) }
+{
+    match content_of(variables, name) {
+        None => None,
+        Some(content) => match content {
+            Content::Array(_, numbers) => Some(numbers.as_slice()),
+            Content::Number(_) | Content::Reference(_) | Content::Field | Content::Buffer(_) =>
+                None,
+        },
+    }
+}
+
+/// The place of an element of the array of this name.
+#[tactic(auto, using(crate::proofs::SightLemmas::place_rules))]
+pub fn place_in(variables: &[Variable<'_>], name: &Name, v: Value) -> Indexed
+    ensures { (heap : Heap) → indexed_view result ≡ place_in (elements_of heap (lookup name.now (variables_view variables.now))) (index_of (value_view v)) }
+{
+    match index_of(v) {
+        Indexed::At(i) => match numbers_in(variables, name) {
+            None => Indexed::Stuck,
+            Some(numbers) => {
+                if i < numbers.len() {
+                    Indexed::At(i)
+                } else {
+                    Indexed::Traps(Trap::OutOfRange)
+                }
+            }
+        },
+        Indexed::Traps(trap) => Indexed::Traps(trap),
+        Indexed::Stuck => Indexed::Stuck,
+    }
+}
+
+/// An element of the array of this name.
+#[tactic(auto, using(crate::proofs::SightLemmas::element_rules))]
+pub(crate) fn element_in(variables: &[Variable<'_>], name: &Name, v: Value) -> Evaluated
+    ensures { (statics : Statics) (heap : Heap) → evaluated_view result ≡ element_value (seen (variables_view variables.now) statics heap) name.now (value_view v) }
+{
+    match index_of(v) {
+        Indexed::At(i) => match numbers_in(variables, name) {
+            None => Evaluated::Stuck,
+            Some(numbers) => match numbers.get(i) {
+                Some(number) => Evaluated::Gives(Value::Int(*number)),
+                None => Evaluated::Traps(Trap::OutOfRange),
+            },
+        },
+        Indexed::Traps(trap) => Evaluated::Traps(trap),
+        Indexed::Stuck => Evaluated::Stuck,
+    }
+}

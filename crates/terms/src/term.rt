@@ -1,0 +1,113 @@
+//! Terms: expressions on the way to their values.
+
+ghost use Rattle.std.specs.Prelude.{◌≡◌, IfOk, IfSome, IfNone, IsTrue, None};
+ghost use Rattle.syntax.specs.Limits.{numbers_in_range};
+ghost use Rattle.syntax.specs.Parts.{null_tested};
+ghost use Rattle.syntax.specs.Tree.{Binary};
+ghost use Rattle.syntax.specs.Views.{expr_tree, binary_tree};
+ghost use Rattle.regions.specs.Term.{term_of, binary_term};
+ghost use Rattle.terms.specs.Views.{term_view, NumbersInRange, ComparesNull};
+
+use crate::value::Value;
+use std::alloc::{AllocError, Global};
+use syntax::{BinaryOp, Constant, Expr, Name, PrefixOp};
+
+/// An expression of which some parts have their values; parentheses are dropped.
+#[derive(Drop)]
+pub enum Term {
+    Done(Value),
+    Number { value: u32, unsigned: bool },
+    Named(Constant),
+    /// A number variable.
+    Read(Name),
+    /// An element of an array.
+    Element(Name, Box<Term>),
+    /// `x == NULL`, or `x != NULL` where it is false.
+    IsNull(bool, Name),
+    Prefix(PrefixOp, Box<Term>),
+    And(Box<Term>, Box<Term>),
+    Or(Box<Term>, Box<Term>),
+    Binary(BinaryOp, Box<Term>, Box<Term>),
+}
+
+/// Puts a term in the place of another.
+pub fn put_term(place: &mut Term, term: Term)
+    ensures { place.new ≡ term }
+{
+    *place = term;
+}
+
+/// The name that a comparison with NULL tests, and whether for NULL.
+#[tactic(auto, using(crate::proofs::TermLemmas::comparison_rules))]
+fn null_test<'a>(op: BinaryOp, a: &'a Expr, b: &Expr) -> Option<(bool, &'a Name)>
+    ensures some { IfSome result (λ t. ComparesNull t.0 t.1.now (binary_tree op) (null_tested (Binary (binary_tree op) (expr_tree a.now) (expr_tree b.now)))) }
+    ensures none { IfNone result (null_tested (Binary (binary_tree op) (expr_tree a.now) (expr_tree b.now)) ≡ None) }
+{
+    let wanted = match op {
+        BinaryOp::Equal => true,
+        BinaryOp::NotEqual => false,
+        _ => return None,
+    };
+    let Expr::Variable(name) = a else {
+        return None;
+    };
+    let Expr::Named(Constant::Null) = b else {
+        return None;
+    };
+    Some((wanted, name))
+}
+
+/// The term of an operator between two terms.
+#[tactic(auto, using(crate::proofs::TermLemmas::operator_rules))]
+fn binary_term(alloc: Global, op: BinaryOp, a: Term, b: Term) -> Result<Term, AllocError>
+    requires a { NumbersInRange a }
+    requires b { NumbersInRange b }
+    ensures view { IfOk result (λ t. term_view t ≡ binary_term (binary_tree op) None (term_view a) (term_view b)) }
+    ensures numbers { IfOk result NumbersInRange }
+{
+    let left = Box::new(alloc, a)?;
+    let right = Box::new(alloc, b)?;
+    match op {
+        BinaryOp::LogicalAnd => Ok(Term::And(left, right)),
+        BinaryOp::LogicalOr => Ok(Term::Or(left, right)),
+        op => Ok(Term::Binary(op, left, right)),
+    }
+}
+
+/// A copy of a name.
+fn copy_of(alloc: Global, name: &Name) -> Result<Name, AllocError>
+    ensures { IfOk result (λ copy. copy ≡ name.now) }
+{
+    Name::new(alloc, name.as_bytes())
+}
+
+/// The term that an expression begins as.
+pub fn term_of(alloc: Global, e: &Expr) -> Result<Term, AllocError>
+    requires { IsTrue (numbers_in_range (expr_tree e.now)) }
+    ensures view { IfOk result (λ t. term_view t ≡ term_of (expr_tree e.now)) }
+    ensures numbers { IfOk result NumbersInRange }
+{
+    let term = match e {
+        Expr::Number { value, unsigned } => Term::Number {
+            value: *value,
+            unsigned: *unsigned,
+        },
+        Expr::Named(c) => Term::Named(*c),
+        Expr::Variable(name) => Term::Read(copy_of(alloc, name)?),
+        Expr::Element(name, i) => {
+            let index = Box::new(alloc, term_of(alloc, i)?)?;
+            Term::Element(copy_of(alloc, name)?, index)
+        }
+        Expr::Prefix(op, a) => Term::Prefix(*op, Box::new(alloc, term_of(alloc, a)?)?),
+        Expr::Binary(op, a, b) => match null_test(*op, a, b) {
+            Some((wanted, name)) => Term::IsNull(wanted, copy_of(alloc, name)?),
+            None => {
+                let left = term_of(alloc, a)?;
+                let right = term_of(alloc, b)?;
+                binary_term(alloc, *op, left, right)?
+            }
+        },
+        Expr::Paren(a) => return term_of(alloc, a),
+    };
+    Ok(term)
+}
