@@ -1,5 +1,6 @@
 pub mod Words
 pub mod Meaning
+pub mod Order
 pub mod Spelling
 pub mod Faults
 pub mod Results

@@ -6,9 +6,10 @@ ghost use Rattle.parse.specs.Results.{Gives};
 ghost use Rattle.parse.specs.Lexemes.{views};
 ghost use Rattle.parse.specs.Reading.{interface_at, value_at, argument_at, arguments_at, call_at, starts_call, right_at, setting_at, test_at};
 
+use crate::cursor::Cursor;
 use crate::expressions::{expression, right_expression};
 use crate::fault::ParseFault;
-use crate::lexemes::{Fixed, Lexeme, expect, name_at, number_at, rest_of, starts_with, text_at};
+use crate::lexemes::{Fixed, expect, name_at, number_at, rest_of, starts_with, text_at};
 use crate::words::Word;
 use scan::Mark;
 use std::alloc::Global;
@@ -16,8 +17,8 @@ use syntax::{Argument, Call, Name, RightSide, Test};
 
 /// What comes after `(*env)->`.
 #[tactic(auto, unfolding(crate::specs::Reading::interface_at))]
-fn interface(lexemes: &[Lexeme]) -> Result<&[Lexeme], ParseFault>
-    ensures { Gives (λ x. views x.now) result (interface_at (views lexemes.now)) }
+fn interface(lexemes: Cursor<'_>) -> Result<Cursor<'_>, ParseFault>
+    ensures { Gives (λ x. views x) result (interface_at (views lexemes)) }
 {
     let rest = expect(Fixed::Mark(Mark::OpenParen), lexemes)?;
     let rest = expect(Fixed::Mark(Mark::Star), rest)?;
@@ -28,9 +29,13 @@ fn interface(lexemes: &[Lexeme]) -> Result<&[Lexeme], ParseFault>
 
 /// An argument that is no string.
 #[tactic(auto, unfolding(crate::specs::Reading::value_at))]
-fn value(alloc: Global, room: u32, lexemes: &[Lexeme]) -> Result<(Argument, &[Lexeme]), ParseFault>
+fn value(
+    alloc: Global,
+    room: u32,
+    lexemes: Cursor<'_>,
+) -> Result<(Argument, Cursor<'_>), ParseFault>
     requires { room ≤ 32 }
-    ensures { Gives (λ x. (argument_tree x.0, views x.1.now)) result (value_at room (views lexemes.now)) }
+    ensures { Gives (λ x. (argument_tree x.0, views x.1)) result (value_at room (views lexemes)) }
 {
     if starts_with(Fixed::Mark(Mark::Ampersand), lexemes) {
         let (name, rest) = name_at(rest_of(lexemes))?;
@@ -45,10 +50,10 @@ fn value(alloc: Global, room: u32, lexemes: &[Lexeme]) -> Result<(Argument, &[Le
 fn argument(
     alloc: Global,
     room: u32,
-    lexemes: &[Lexeme],
-) -> Result<(Argument, &[Lexeme]), ParseFault>
+    lexemes: Cursor<'_>,
+) -> Result<(Argument, Cursor<'_>), ParseFault>
     requires { room ≤ 32 }
-    ensures { Gives (λ x. (argument_tree x.0, views x.1.now)) result (argument_at room (views lexemes.now)) }
+    ensures { Gives (λ x. (argument_tree x.0, views x.1)) result (argument_at room (views lexemes)) }
 {
     match text_at(lexemes) {
         Some(bytes) => {
@@ -63,10 +68,10 @@ fn argument(
 fn arguments(
     alloc: Global,
     room: u32,
-    lexemes: &[Lexeme],
-) -> Result<(Vec<Argument>, &[Lexeme]), ParseFault>
+    lexemes: Cursor<'_>,
+) -> Result<(Vec<Argument>, Cursor<'_>), ParseFault>
     requires { room ≤ 32 }
-    ensures { Gives (λ x. (map argument_tree x.0.items, views x.1.now)) result (arguments_at room (length (views lexemes.now) + 1) (views lexemes.now)) }
+    ensures { Gives (λ x. (map argument_tree x.0.items, views x.1)) result (arguments_at room (length (views lexemes) + 1) (views lexemes)) }
 {
     let mut arguments = Vec::new(alloc);
     let mut rest = lexemes;
@@ -83,10 +88,10 @@ fn arguments(
 pub(crate) fn call(
     alloc: Global,
     room: u32,
-    lexemes: &[Lexeme],
-) -> Result<(Call, &[Lexeme]), ParseFault>
+    lexemes: Cursor<'_>,
+) -> Result<(Call, Cursor<'_>), ParseFault>
     requires { room ≤ 32 }
-    ensures { Gives (λ x. (call_tree x.0, views x.1.now)) result (call_at room (views lexemes.now)) }
+    ensures { Gives (λ x. (call_tree x.0, views x.1)) result (call_at room (views lexemes)) }
 {
     let rest = interface(lexemes)?;
     let (function, rest) = name_at(rest)?;
@@ -105,8 +110,8 @@ pub(crate) fn call(
 }
 
 /// Whether a call comes next, since no expression begins so.
-fn starts_call(lexemes: &[Lexeme]) -> bool
-    ensures { result ≡ starts_call (views lexemes.now) }
+fn starts_call(lexemes: Cursor<'_>) -> bool
+    ensures { result ≡ starts_call (views lexemes) }
 {
     starts_with(Fixed::Mark(Mark::OpenParen), lexemes)
         && starts_with(Fixed::Mark(Mark::Star), rest_of(lexemes))
@@ -117,10 +122,10 @@ fn starts_call(lexemes: &[Lexeme]) -> bool
 pub(crate) fn right_side(
     alloc: Global,
     room: u32,
-    lexemes: &[Lexeme],
-) -> Result<(RightSide, &[Lexeme]), ParseFault>
+    lexemes: Cursor<'_>,
+) -> Result<(RightSide, Cursor<'_>), ParseFault>
     requires { room ≤ 32 }
-    ensures { Gives (λ x. (right_side_tree x.0, views x.1.now)) result (right_at room (views lexemes.now)) }
+    ensures { Gives (λ x. (right_side_tree x.0, views x.1)) result (right_at room (views lexemes)) }
 {
     if starts_call(lexemes) {
         let (call, rest) = call(alloc, room, lexemes)?;
@@ -135,10 +140,10 @@ pub(crate) fn right_side(
 pub(crate) fn setting(
     alloc: Global,
     room: u32,
-    lexemes: &[Lexeme],
-) -> Result<(Name, RightSide, &[Lexeme]), ParseFault>
+    lexemes: Cursor<'_>,
+) -> Result<(Name, RightSide, Cursor<'_>), ParseFault>
     requires { room ≤ 32 }
-    ensures { Gives (λ x. (x.0, right_side_tree x.1, views x.2.now)) result (setting_at room (views lexemes.now)) }
+    ensures { Gives (λ x. (x.0, right_side_tree x.1, views x.2)) result (setting_at room (views lexemes)) }
 {
     let (name, rest) = name_at(lexemes)?;
     let rest = expect(Fixed::Mark(Mark::Assign), rest)?;
@@ -152,10 +157,10 @@ pub(crate) fn setting(
 pub(crate) fn test(
     alloc: Global,
     room: u32,
-    lexemes: &[Lexeme],
-) -> Result<(Test, &[Lexeme]), ParseFault>
+    lexemes: Cursor<'_>,
+) -> Result<(Test, Cursor<'_>), ParseFault>
     requires { room ≤ 32 }
-    ensures { Gives (λ x. (test_tree x.0, views x.1.now)) result (test_at room (views lexemes.now)) }
+    ensures { Gives (λ x. (test_tree x.0, views x.1)) result (test_at room (views lexemes)) }
 {
     if starts_call(lexemes) {
         let (call, rest) = call(alloc, room, lexemes)?;

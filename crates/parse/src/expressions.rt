@@ -8,9 +8,10 @@ ghost use Rattle.parse.specs.Results.{Gives};
 ghost use Rattle.parse.specs.Lexemes.{views};
 ghost use Rattle.parse.specs.Reading.{operator_at, binary_of_mark, constant_of_word, primary_at, starts_element, starts_inside, index_at, operand_at, expr_at, right_expr_at, under_prefix, after_paren, in_parens, element_by, deeper};
 
+use crate::cursor::Cursor;
 use crate::fault::{Fault, ParseFault};
 use crate::lexemes::{
-    Fixed, Lexeme, Shape, expect, fault_at, name_at, rest_of, starts_name, starts_with, unexpected,
+    Fixed, Shape, expect, fault_at, name_at, rest_of, starts_name, starts_with, unexpected,
 };
 use crate::words::Word;
 use scan::Mark;
@@ -18,7 +19,7 @@ use std::alloc::Global;
 use syntax::{BinaryOp, Constant, Expr, Name, PrefixOp};
 
 /// An expression, its height, and what comes after it.
-type ReadExpr<'t> = (Expr, u32, &'t [Lexeme]);
+type ReadExpr<'t> = (Expr, u32, Cursor<'t>);
 
 /// Prefixes bind tighter than all operators.
 const PREFIX_LEVEL: u32 = 11;
@@ -69,12 +70,11 @@ fn binary_of(mark: Mark) -> Option<BinaryOp>
 }
 
 /// The operator that comes next.
-fn operator(rest: &[Lexeme]) -> Option<BinaryOp>
-    ensures { option_map binary_tree result ≡ operator_at (views rest.now) }
+fn operator(rest: Cursor<'_>) -> Option<BinaryOp>
+    ensures { option_map binary_tree result ≡ operator_at (views rest) }
 {
-    let (first, _) = rest.split_first()?;
-    match &first.shape {
-        Shape::Fixed(Fixed::Mark(mark)) => binary_of(*mark),
+    match rest.shape {
+        Shape::Fixed(Fixed::Mark(mark)) => binary_of(mark),
         _ => None,
     }
 }
@@ -95,21 +95,21 @@ fn constant_of(word: Word) -> Option<Constant>
 
 /// A number, a named constant or a name.
 #[tactic(auto, unfolding(crate::specs::Reading::primary_at))]
-fn primary(alloc: Global, lexemes: &[Lexeme]) -> Result<ReadExpr<'_>, ParseFault>
+fn primary(alloc: Global, lexemes: Cursor<'_>) -> Result<ReadExpr<'_>, ParseFault>
     ensures low { IfOk result (λ x. x.1 ≡ 0) }
-    ensures gives { Gives (λ x. (expr_tree x.0, x.1, views x.2.now)) result (primary_at (views lexemes.now)) }
+    ensures gives { Gives (λ x. (expr_tree x.0, x.1, views x.2)) result (primary_at (views lexemes)) }
 {
-    let Some((first, rest)) = lexemes.split_first() else {
-        return Err(unexpected(lexemes));
-    };
-    match &first.shape {
+    match lexemes.shape {
         Shape::Number { value, unsigned } => {
-            let (value, unsigned) = (*value, *unsigned);
-            Ok((Expr::Number { value, unsigned }, 0, rest))
+            Ok((Expr::Number { value, unsigned }, 0, rest_of(lexemes)))
         }
-        Shape::Name(bytes) => Ok((Expr::Variable(Name::new(alloc, bytes)?), 0, rest)),
-        Shape::Fixed(Fixed::Word(word)) => match constant_of(*word) {
-            Some(constant) => Ok((Expr::Named(constant), 0, rest)),
+        Shape::Name(bytes) => Ok((
+            Expr::Variable(Name::new(alloc, bytes)?),
+            0,
+            rest_of(lexemes),
+        )),
+        Shape::Fixed(Fixed::Word(word)) => match constant_of(word) {
+            Some(constant) => Ok((Expr::Named(constant), 0, rest_of(lexemes))),
             None => Err(unexpected(lexemes)),
         },
         _ => Err(unexpected(lexemes)),
@@ -117,8 +117,8 @@ fn primary(alloc: Global, lexemes: &[Lexeme]) -> Result<ReadExpr<'_>, ParseFault
 }
 
 /// Whether a name with an index comes next.
-pub(crate) fn starts_element(lexemes: &[Lexeme]) -> bool
-    ensures { result ≡ starts_element (views lexemes.now) }
+pub(crate) fn starts_element(lexemes: Cursor<'_>) -> bool
+    ensures { result ≡ starts_element (views lexemes) }
 {
     starts_name(lexemes) && starts_with(Fixed::Mark(Mark::OpenBracket), rest_of(lexemes))
 }
@@ -130,11 +130,11 @@ pub(crate) fn expression(
     alloc: Global,
     room: u32,
     least: u32,
-    lexemes: &[Lexeme],
+    lexemes: Cursor<'_>,
 ) -> Result<ReadExpr<'_>, ParseFault>
     requires { room ≤ 32 }
     ensures low { IfOk result (λ x. x.1 ≤ room) }
-    ensures gives { Gives (λ x. (expr_tree x.0, x.1, views x.2.now)) result (expr_at room least (views lexemes.now)) }
+    ensures gives { Gives (λ x. (expr_tree x.0, x.1, views x.2)) result (expr_at room least (views lexemes)) }
 {
     let (mut left, mut height, mut rest) = operand(alloc, room, lexemes)?;
     while let Some(op) = operator(rest) {
@@ -160,10 +160,10 @@ pub(crate) fn expression(
 /// A prefix with its operand, parentheses, an element, or what holds best.
 #[cycle(expressions)]
 #[tactic(auto, unfolding(crate::specs::Reading::operand_by))]
-fn operand(alloc: Global, room: u32, lexemes: &[Lexeme]) -> Result<ReadExpr<'_>, ParseFault>
+fn operand(alloc: Global, room: u32, lexemes: Cursor<'_>) -> Result<ReadExpr<'_>, ParseFault>
     requires { room ≤ 32 }
     ensures low { IfOk result (λ x. x.1 ≤ room) }
-    ensures gives { Gives (λ x. (expr_tree x.0, x.1, views x.2.now)) result (operand_at room (views lexemes.now)) }
+    ensures gives { Gives (λ x. (expr_tree x.0, x.1, views x.2)) result (operand_at room (views lexemes)) }
 {
     let is_complement = starts_with(Fixed::Mark(Mark::Tilde), lexemes);
     let is_negation = starts_with(Fixed::Mark(Mark::Exclamation), lexemes);
@@ -189,11 +189,11 @@ fn operand(alloc: Global, room: u32, lexemes: &[Lexeme]) -> Result<ReadExpr<'_>,
 /// What comes after an opening parenthesis: a type, or an expression.
 #[cycle(expressions)]
 #[tactic(auto, unfolding(crate::specs::Reading::after_paren))]
-fn after_paren(alloc: Global, room: u32, lexemes: &[Lexeme]) -> Result<ReadExpr<'_>, ParseFault>
+fn after_paren(alloc: Global, room: u32, lexemes: Cursor<'_>) -> Result<ReadExpr<'_>, ParseFault>
     requires some { 1 ≤ room }
     requires bound { room ≤ 32 }
     ensures low { IfOk result (λ x. x.1 ≤ room) }
-    ensures gives { Gives (λ x. (expr_tree x.0, x.1, views x.2.now)) result (after_paren (deeper room) (views lexemes.now)) }
+    ensures gives { Gives (λ x. (expr_tree x.0, x.1, views x.2)) result (after_paren (deeper room) (views lexemes)) }
 {
     if starts_with(Fixed::Word(Word::Uint32), lexemes) {
         let rest = expect(Fixed::Mark(Mark::CloseParen), rest_of(lexemes))?;
@@ -209,11 +209,11 @@ fn after_paren(alloc: Global, room: u32, lexemes: &[Lexeme]) -> Result<ReadExpr<
 /// An expression after its opening parenthesis.
 #[cycle(expressions)]
 #[tactic(auto, using(crate::proofs::Climbing::deeps), unfolding(crate::specs::Reading::in_parens))]
-fn in_parens(alloc: Global, room: u32, lexemes: &[Lexeme]) -> Result<ReadExpr<'_>, ParseFault>
+fn in_parens(alloc: Global, room: u32, lexemes: Cursor<'_>) -> Result<ReadExpr<'_>, ParseFault>
     requires some { 1 ≤ room }
     requires bound { room ≤ 32 }
     ensures low { IfOk result (λ x. x.1 ≤ room) }
-    ensures gives { Gives (λ x. (expr_tree x.0, x.1, views x.2.now)) result (in_parens (deeper room) (views lexemes.now)) }
+    ensures gives { Gives (λ x. (expr_tree x.0, x.1, views x.2)) result (in_parens (deeper room) (views lexemes)) }
 {
     let (inside, height, rest) = expression(alloc, room - 1, 0, lexemes)?;
     let rest = expect(Fixed::Mark(Mark::CloseParen), rest)?;
@@ -223,10 +223,10 @@ fn in_parens(alloc: Global, room: u32, lexemes: &[Lexeme]) -> Result<ReadExpr<'_
 /// A name with an index.
 #[cycle(expressions)]
 #[tactic(auto, unfolding(crate::specs::Reading::element_by))]
-fn element(alloc: Global, room: u32, lexemes: &[Lexeme]) -> Result<ReadExpr<'_>, ParseFault>
+fn element(alloc: Global, room: u32, lexemes: Cursor<'_>) -> Result<ReadExpr<'_>, ParseFault>
     requires { room ≤ 32 }
     ensures low { IfOk result (λ x. x.1 ≤ room) }
-    ensures gives { Gives (λ x. (expr_tree x.0, x.1, views x.2.now)) result (element_by room (deeper room) (views lexemes.now)) }
+    ensures gives { Gives (λ x. (expr_tree x.0, x.1, views x.2)) result (element_by room (deeper room) (views lexemes)) }
 {
     let (name, rest) = name_at(lexemes)?;
     let (index, height, rest) = index(alloc, room, rest)?;
@@ -244,11 +244,11 @@ fn element(alloc: Global, room: u32, lexemes: &[Lexeme]) -> Result<ReadExpr<'_>,
 pub(crate) fn index(
     alloc: Global,
     room: u32,
-    lexemes: &[Lexeme],
+    lexemes: Cursor<'_>,
 ) -> Result<ReadExpr<'_>, ParseFault>
     requires { room ≤ 32 }
     ensures low { IfOk result (λ x. x.1 < room) }
-    ensures gives { Gives (λ x. (expr_tree x.0, x.1, views x.2.now)) result (index_at room (views lexemes.now)) }
+    ensures gives { Gives (λ x. (expr_tree x.0, x.1, views x.2)) result (index_at room (views lexemes)) }
 {
     if room == 0 {
         return Err(fault_at(Fault::TooHigh, lexemes));
@@ -266,12 +266,12 @@ fn prefixed(
     alloc: Global,
     room: u32,
     op: PrefixOp,
-    lexemes: &[Lexeme],
+    lexemes: Cursor<'_>,
 ) -> Result<ReadExpr<'_>, ParseFault>
     requires some { 1 ≤ room }
     requires bound { room ≤ 32 }
     ensures low { IfOk result (λ x. x.1 ≤ room) }
-    ensures gives { Gives (λ x. (expr_tree x.0, x.1, views x.2.now)) result (under_prefix (deeper room) (prefix_tree op) (views lexemes.now)) }
+    ensures gives { Gives (λ x. (expr_tree x.0, x.1, views x.2)) result (under_prefix (deeper room) (prefix_tree op) (views lexemes)) }
 {
     let (operand, height, rest) = expression(alloc, room - 1, PREFIX_LEVEL, lexemes)?;
     Ok((
@@ -283,23 +283,20 @@ fn prefixed(
 
 /// Whether a number, a named constant or a name comes next.
 #[tactic(auto, unfolding(crate::specs::Reading::primary_at))]
-fn starts_primary(lexemes: &[Lexeme]) -> bool
-    ensures { result ≡ is_ok (primary_at (views lexemes.now)) }
+fn starts_primary(lexemes: Cursor<'_>) -> bool
+    ensures { result ≡ is_ok (primary_at (views lexemes)) }
 {
-    let Some((first, _)) = lexemes.split_first() else {
-        return false;
-    };
-    match &first.shape {
+    match lexemes.shape {
         Shape::Number { .. } | Shape::Name(_) => true,
-        Shape::Fixed(Fixed::Word(word)) => constant_of(*word).is_some(),
+        Shape::Fixed(Fixed::Word(word)) => constant_of(word).is_some(),
         _ => false,
     }
 }
 
 /// Whether what comes next may follow the opening parenthesis of an operand.
 #[tactic(auto, unfolding(crate::specs::Reading::starts_inside))]
-fn starts_inside(lexemes: &[Lexeme]) -> bool
-    ensures { result ≡ starts_inside (views lexemes.now) }
+fn starts_inside(lexemes: Cursor<'_>) -> bool
+    ensures { result ≡ starts_inside (views lexemes) }
 {
     starts_primary(lexemes)
         || starts_with(Fixed::Mark(Mark::OpenParen), lexemes)
@@ -315,10 +312,10 @@ fn starts_inside(lexemes: &[Lexeme]) -> bool
 pub(crate) fn right_expression(
     alloc: Global,
     room: u32,
-    lexemes: &[Lexeme],
+    lexemes: Cursor<'_>,
 ) -> Result<ReadExpr<'_>, ParseFault>
     requires { room ≤ 32 }
-    ensures { Gives (λ x. (expr_tree x.0, x.1, views x.2.now)) result (right_expr_at room (views lexemes.now)) }
+    ensures { Gives (λ x. (expr_tree x.0, x.1, views x.2)) result (right_expr_at room (views lexemes)) }
 {
     if starts_with(Fixed::Mark(Mark::OpenParen), lexemes) && room == 0 {
         let rest = rest_of(lexemes);

@@ -7,9 +7,10 @@ ghost use Rattle.parse.specs.Lexemes.{views};
 ghost use Rattle.parse.specs.Reading.{put_at, return_at, perform_at, set_element_at, set_at, plain_at};
 
 use crate::calls::{call, setting};
+use crate::cursor::Cursor;
 use crate::expressions::{expression, index, starts_element};
 use crate::fault::ParseFault;
-use crate::lexemes::{Fixed, Lexeme, expect, line_at, name_at, rest_of, starts_with};
+use crate::lexemes::{Fixed, expect, line_at, name_at, rest_of, starts_with};
 use crate::words::Word;
 use scan::Mark;
 use std::alloc::Global;
@@ -21,10 +22,10 @@ fn put(
     alloc: Global,
     room: u32,
     line: usize,
-    lexemes: &[Lexeme],
-) -> Result<(Stmt, &[Lexeme]), ParseFault>
+    lexemes: Cursor<'_>,
+) -> Result<(Stmt, Cursor<'_>), ParseFault>
     requires { room ≤ 32 }
-    ensures { Gives (λ x. (stmt_tree x.0, views x.1.now)) result (put_at room line (views lexemes.now)) }
+    ensures { Gives (λ x. (stmt_tree x.0, views x.1)) result (put_at room line (views lexemes)) }
 {
     let rest = expect(Fixed::Mark(Mark::OpenParen), lexemes)?;
     let (operand, _, rest) = expression(alloc, room, 0, rest)?;
@@ -40,10 +41,10 @@ fn returned(
     alloc: Global,
     room: u32,
     line: usize,
-    lexemes: &[Lexeme],
-) -> Result<(Stmt, &[Lexeme]), ParseFault>
+    lexemes: Cursor<'_>,
+) -> Result<(Stmt, Cursor<'_>), ParseFault>
     requires { room ≤ 32 }
-    ensures { Gives (λ x. (stmt_tree x.0, views x.1.now)) result (return_at room line (views lexemes.now)) }
+    ensures { Gives (λ x. (stmt_tree x.0, views x.1)) result (return_at room line (views lexemes)) }
 {
     if starts_with(Fixed::Mark(Mark::Semicolon), lexemes) {
         let form = Form::Return(None);
@@ -61,10 +62,10 @@ fn perform(
     alloc: Global,
     room: u32,
     line: usize,
-    lexemes: &[Lexeme],
-) -> Result<(Stmt, &[Lexeme]), ParseFault>
+    lexemes: Cursor<'_>,
+) -> Result<(Stmt, Cursor<'_>), ParseFault>
     requires { room ≤ 32 }
-    ensures { Gives (λ x. (stmt_tree x.0, views x.1.now)) result (perform_at room line (views lexemes.now)) }
+    ensures { Gives (λ x. (stmt_tree x.0, views x.1)) result (perform_at room line (views lexemes)) }
 {
     let (call, rest) = call(alloc, room, lexemes)?;
     let rest = expect(Fixed::Mark(Mark::Semicolon), rest)?;
@@ -78,10 +79,10 @@ fn set_element(
     alloc: Global,
     room: u32,
     line: usize,
-    lexemes: &[Lexeme],
-) -> Result<(Stmt, &[Lexeme]), ParseFault>
+    lexemes: Cursor<'_>,
+) -> Result<(Stmt, Cursor<'_>), ParseFault>
     requires { room ≤ 32 }
-    ensures { Gives (λ x. (stmt_tree x.0, views x.1.now)) result (set_element_at room line (views lexemes.now)) }
+    ensures { Gives (λ x. (stmt_tree x.0, views x.1)) result (set_element_at room line (views lexemes)) }
 {
     let (name, rest) = name_at(lexemes)?;
     let (index, _, rest) = index(alloc, room, rest)?;
@@ -98,10 +99,10 @@ fn set(
     alloc: Global,
     room: u32,
     line: usize,
-    lexemes: &[Lexeme],
-) -> Result<(Stmt, &[Lexeme]), ParseFault>
+    lexemes: Cursor<'_>,
+) -> Result<(Stmt, Cursor<'_>), ParseFault>
     requires { room ≤ 32 }
-    ensures { Gives (λ x. (stmt_tree x.0, views x.1.now)) result (set_at room line (views lexemes.now)) }
+    ensures { Gives (λ x. (stmt_tree x.0, views x.1)) result (set_at room line (views lexemes)) }
 {
     if starts_element(lexemes) {
         return set_element(alloc, room, line, lexemes);
@@ -116,10 +117,10 @@ fn set(
 pub(crate) fn plain(
     alloc: Global,
     room: u32,
-    lexemes: &[Lexeme],
-) -> Result<(Stmt, &[Lexeme]), ParseFault>
+    lexemes: Cursor<'_>,
+) -> Result<(Stmt, Cursor<'_>), ParseFault>
     requires { room ≤ 32 }
-    ensures { Gives (λ x. (stmt_tree x.0, views x.1.now)) result (plain_at room (views lexemes.now)) }
+    ensures { Gives (λ x. (stmt_tree x.0, views x.1)) result (plain_at room (views lexemes)) }
 {
     let line = line_at(lexemes);
     if starts_with(Fixed::Word(Word::PutJint), lexemes) {
