@@ -79,19 +79,19 @@ fn lexemes_from<'t>(text: &'t [u8], place: usize, line: usize, tokens: &'t [Toke
     requires low { line ≤ place + 1 }
     ensures { views result ≡ lexemes text.now place line tokens.now }
 {
-    match tokens {
-        [first, ..] => Cursor {
-            text,
-            tokens,
-            line: line + line_ends(&text[place..first.start]),
-            shape: shape_of(text, first),
-        },
-        [] => Cursor {
+    let [first, ..] = tokens else {
+        return Cursor {
             text,
             tokens,
             line,
             shape: Shape::Fixed(Fixed::End),
-        },
+        };
+    };
+    Cursor {
+        text,
+        tokens,
+        line: line + line_ends(&text[place..first.start]),
+        shape: shape_of(text, first),
     }
 }
 
