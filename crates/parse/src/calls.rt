@@ -18,7 +18,7 @@ use syntax::{Argument, Call, Name, RightSide, Test};
 /// What comes after `(*env)->`.
 #[tactic(auto, unfolding(crate::specs::Reading::interface_at))]
 fn interface(lexemes: Cursor<'_>) -> Result<Cursor<'_>, ParseFault>
-    ensures { Gives (λ x. views x) result (interface_at (views lexemes)) }
+    ensures { Gives (λ x. views x) result (interface_at (views lexemes.entry)) }
 {
     let rest = expect(Fixed::Mark(Mark::OpenParen), lexemes)?;
     let rest = expect(Fixed::Mark(Mark::Star), rest)?;
@@ -35,7 +35,7 @@ fn value(
     lexemes: Cursor<'_>,
 ) -> Result<(Argument, Cursor<'_>), ParseFault>
     requires { room ≤ 32 }
-    ensures { Gives (λ x. (argument_tree x.0, views x.1)) result (value_at room (views lexemes)) }
+    ensures { Gives (λ x. (argument_tree x.0, views x.1)) result (value_at room (views lexemes.entry)) }
 {
     if starts_with(Fixed::Mark(Mark::Ampersand), lexemes) {
         let (name, rest) = name_at(rest_of(lexemes))?;
@@ -53,7 +53,7 @@ fn argument(
     lexemes: Cursor<'_>,
 ) -> Result<(Argument, Cursor<'_>), ParseFault>
     requires { room ≤ 32 }
-    ensures { Gives (λ x. (argument_tree x.0, views x.1)) result (argument_at room (views lexemes)) }
+    ensures { Gives (λ x. (argument_tree x.0, views x.1)) result (argument_at room (views lexemes.entry)) }
 {
     match text_at(lexemes) {
         Some(bytes) => {
@@ -71,7 +71,7 @@ fn arguments(
     lexemes: Cursor<'_>,
 ) -> Result<(Vec<Argument>, Cursor<'_>), ParseFault>
     requires { room ≤ 32 }
-    ensures { Gives (λ x. (map argument_tree x.0.items, views x.1)) result (arguments_at room (length (views lexemes) + 1) (views lexemes)) }
+    ensures { Gives (λ x. (map argument_tree x.0.items, views x.1)) result (arguments_at room (length (views lexemes.entry) + 1) (views lexemes.entry)) }
 {
     let mut arguments = Vec::new(alloc);
     let mut rest = lexemes;
@@ -91,7 +91,7 @@ pub(crate) fn call(
     lexemes: Cursor<'_>,
 ) -> Result<(Call, Cursor<'_>), ParseFault>
     requires { room ≤ 32 }
-    ensures { Gives (λ x. (call_tree x.0, views x.1)) result (call_at room (views lexemes)) }
+    ensures { Gives (λ x. (call_tree x.0, views x.1)) result (call_at room (views lexemes.entry)) }
 {
     let rest = interface(lexemes)?;
     let (function, rest) = name_at(rest)?;
@@ -111,7 +111,7 @@ pub(crate) fn call(
 
 /// Whether a call comes next, since no expression begins so.
 fn starts_call(lexemes: Cursor<'_>) -> bool
-    ensures { result ≡ starts_call (views lexemes) }
+    ensures { result ≡ starts_call (views lexemes.entry) }
 {
     starts_with(Fixed::Mark(Mark::OpenParen), lexemes)
         && starts_with(Fixed::Mark(Mark::Star), rest_of(lexemes))
@@ -125,7 +125,7 @@ pub(crate) fn right_side(
     lexemes: Cursor<'_>,
 ) -> Result<(RightSide, Cursor<'_>), ParseFault>
     requires { room ≤ 32 }
-    ensures { Gives (λ x. (right_side_tree x.0, views x.1)) result (right_at room (views lexemes)) }
+    ensures { Gives (λ x. (right_side_tree x.0, views x.1)) result (right_at room (views lexemes.entry)) }
 {
     if starts_call(lexemes) {
         let (call, rest) = call(alloc, room, lexemes)?;
@@ -143,7 +143,7 @@ pub(crate) fn setting(
     lexemes: Cursor<'_>,
 ) -> Result<(Name, RightSide, Cursor<'_>), ParseFault>
     requires { room ≤ 32 }
-    ensures { Gives (λ x. (x.0, right_side_tree x.1, views x.2)) result (setting_at room (views lexemes)) }
+    ensures { Gives (λ x. (x.0, right_side_tree x.1, views x.2)) result (setting_at room (views lexemes.entry)) }
 {
     let (name, rest) = name_at(lexemes)?;
     let rest = expect(Fixed::Mark(Mark::Assign), rest)?;
@@ -160,7 +160,7 @@ pub(crate) fn test(
     lexemes: Cursor<'_>,
 ) -> Result<(Test, Cursor<'_>), ParseFault>
     requires { room ≤ 32 }
-    ensures { Gives (λ x. (test_tree x.0, views x.1)) result (test_at room (views lexemes)) }
+    ensures { Gives (λ x. (test_tree x.0, views x.1)) result (test_at room (views lexemes.entry)) }
 {
     if starts_call(lexemes) {
         let (call, rest) = call(alloc, room, lexemes)?;

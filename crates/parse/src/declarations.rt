@@ -22,7 +22,7 @@ const ELEMENTS: u32 = 1024;
 /// What comes after the zeros of a local array.
 #[tactic(auto, unfolding(crate::specs::Reading::zeros_at))]
 fn zeros(lexemes: Cursor<'_>) -> Result<Cursor<'_>, ParseFault>
-    ensures { Gives (λ x. views x) result (zeros_at (views lexemes)) }
+    ensures { Gives (λ x. views x) result (zeros_at (views lexemes.entry)) }
 {
     let rest = expect(Fixed::Mark(Mark::Assign), lexemes)?;
     let rest = expect(Fixed::Mark(Mark::OpenBrace), rest)?;
@@ -39,7 +39,7 @@ fn array(
     element: ElementType,
     lexemes: Cursor<'_>,
 ) -> Result<(Stmt, Cursor<'_>), ParseFault>
-    ensures { Gives (λ x. (stmt_tree x.0, views x.1)) result (array_at line (element_tree element) (views lexemes)) }
+    ensures { Gives (λ x. (stmt_tree x.0, views x.1)) result (array_at line (element_tree element) (views lexemes.entry)) }
 {
     let (name, rest) = name_at(lexemes)?;
     let rest = expect(Fixed::Mark(Mark::OpenBracket), rest)?;
@@ -52,7 +52,7 @@ fn array(
 
 /// Whether an array is declared after an element's type, of which `jint` alone is a variable's too.
 fn is_array(element: ElementType, lexemes: Cursor<'_>) -> bool
-    ensures { result ≡ is_array (element_tree element) (views lexemes) }
+    ensures { result ≡ is_array (element_tree element) (views lexemes.entry) }
 {
     match element {
         ElementType::Jint => starts_with(Fixed::Mark(Mark::OpenBracket), rest_of(lexemes)),
@@ -70,7 +70,7 @@ fn after_element(
     lexemes: Cursor<'_>,
 ) -> Result<(Stmt, Cursor<'_>), ParseFault>
     requires { room ≤ 32 }
-    ensures { Gives (λ x. (stmt_tree x.0, views x.1)) result (after_element room line (element_tree element) (views lexemes)) }
+    ensures { Gives (λ x. (stmt_tree x.0, views x.1)) result (after_element room line (element_tree element) (views lexemes.entry)) }
 {
     if starts_with(Fixed::Mark(Mark::Star), lexemes) {
         let (name, right, rest) = setting(alloc, room, rest_of(lexemes))?;
@@ -95,7 +95,7 @@ fn after_variable(
     lexemes: Cursor<'_>,
 ) -> Result<(Stmt, Cursor<'_>), ParseFault>
     requires { room ≤ 32 }
-    ensures { Gives (λ x. (stmt_tree x.0, views x.1)) result (after_variable room line (variable_type_tree kind) (views lexemes)) }
+    ensures { Gives (λ x. (stmt_tree x.0, views x.1)) result (after_variable room line (variable_type_tree kind) (views lexemes.entry)) }
 {
     let (name, right, rest) = setting(alloc, room, lexemes)?;
     let form = Form::Declare(kind, name, right);
@@ -111,7 +111,7 @@ fn after_const(
     lexemes: Cursor<'_>,
 ) -> Result<(Stmt, Cursor<'_>), ParseFault>
     requires { room ≤ 32 }
-    ensures { Gives (λ x. (stmt_tree x.0, views x.1)) result (after_const room line (views lexemes)) }
+    ensures { Gives (λ x. (stmt_tree x.0, views x.1)) result (after_const room line (views lexemes.entry)) }
 {
     let rest = expect(Fixed::Word(Word::Jchar), lexemes)?;
     let rest = expect(Fixed::Mark(Mark::Star), rest)?;
@@ -128,7 +128,7 @@ pub(crate) fn declared(
     lexemes: Cursor<'_>,
 ) -> Result<(Stmt, Cursor<'_>), ParseFault>
     requires { room ≤ 32 }
-    ensures { Gives (λ x. (stmt_tree x.0, views x.1)) result (declared_at room (views lexemes)) }
+    ensures { Gives (λ x. (stmt_tree x.0, views x.1)) result (declared_at room (views lexemes.entry)) }
 {
     let line = line_at(lexemes);
     if let Some(element) = element_type(lexemes) {
@@ -142,7 +142,7 @@ pub(crate) fn declared(
 
 /// Whether a declaration comes next.
 pub(crate) fn starts_declaration(lexemes: Cursor<'_>) -> bool
-    ensures { result ≡ starts_declaration (views lexemes) }
+    ensures { result ≡ starts_declaration (views lexemes.entry) }
 {
     element_type(lexemes).is_some()
         || variable_type(lexemes).is_some()

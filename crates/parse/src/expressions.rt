@@ -71,7 +71,7 @@ fn binary_of(mark: Mark) -> Option<BinaryOp>
 
 /// The operator that comes next.
 fn operator(rest: Cursor<'_>) -> Option<BinaryOp>
-    ensures { option_map binary_tree result ≡ operator_at (views rest) }
+    ensures { option_map binary_tree result ≡ operator_at (views rest.entry) }
 {
     match rest.shape {
         Shape::Fixed(Fixed::Mark(mark)) => binary_of(mark),
@@ -97,7 +97,7 @@ fn constant_of(word: Word) -> Option<Constant>
 #[tactic(auto, unfolding(crate::specs::Reading::primary_at))]
 fn primary(alloc: Global, lexemes: Cursor<'_>) -> Result<ReadExpr<'_>, ParseFault>
     ensures low { IfOk result (λ x. x.1 ≡ 0) }
-    ensures gives { Gives (λ x. (expr_tree x.0, x.1, views x.2)) result (primary_at (views lexemes)) }
+    ensures gives { Gives (λ x. (expr_tree x.0, x.1, views x.2)) result (primary_at (views lexemes.entry)) }
 {
     match lexemes.shape {
         Shape::Number { value, unsigned } => {
@@ -118,7 +118,7 @@ fn primary(alloc: Global, lexemes: Cursor<'_>) -> Result<ReadExpr<'_>, ParseFaul
 
 /// Whether a name with an index comes next.
 pub(crate) fn starts_element(lexemes: Cursor<'_>) -> bool
-    ensures { result ≡ starts_element (views lexemes) }
+    ensures { result ≡ starts_element (views lexemes.entry) }
 {
     starts_name(lexemes) && starts_with(Fixed::Mark(Mark::OpenBracket), rest_of(lexemes))
 }
@@ -134,7 +134,7 @@ pub(crate) fn expression(
 ) -> Result<ReadExpr<'_>, ParseFault>
     requires { room ≤ 32 }
     ensures low { IfOk result (λ x. x.1 ≤ room) }
-    ensures gives { Gives (λ x. (expr_tree x.0, x.1, views x.2)) result (expr_at room least (views lexemes)) }
+    ensures gives { Gives (λ x. (expr_tree x.0, x.1, views x.2)) result (expr_at room least (views lexemes.entry)) }
 {
     let (mut left, mut height, mut rest) = operand(alloc, room, lexemes)?;
     while let Some(op) = operator(rest) {
@@ -163,7 +163,7 @@ pub(crate) fn expression(
 fn operand(alloc: Global, room: u32, lexemes: Cursor<'_>) -> Result<ReadExpr<'_>, ParseFault>
     requires { room ≤ 32 }
     ensures low { IfOk result (λ x. x.1 ≤ room) }
-    ensures gives { Gives (λ x. (expr_tree x.0, x.1, views x.2)) result (operand_at room (views lexemes)) }
+    ensures gives { Gives (λ x. (expr_tree x.0, x.1, views x.2)) result (operand_at room (views lexemes.entry)) }
 {
     let is_complement = starts_with(Fixed::Mark(Mark::Tilde), lexemes);
     let is_negation = starts_with(Fixed::Mark(Mark::Exclamation), lexemes);
@@ -193,7 +193,7 @@ fn after_paren(alloc: Global, room: u32, lexemes: Cursor<'_>) -> Result<ReadExpr
     requires some { 1 ≤ room }
     requires bound { room ≤ 32 }
     ensures low { IfOk result (λ x. x.1 ≤ room) }
-    ensures gives { Gives (λ x. (expr_tree x.0, x.1, views x.2)) result (after_paren (deeper room) (views lexemes)) }
+    ensures gives { Gives (λ x. (expr_tree x.0, x.1, views x.2)) result (after_paren (deeper room) (views lexemes.entry)) }
 {
     if starts_with(Fixed::Word(Word::Uint32), lexemes) {
         let rest = expect(Fixed::Mark(Mark::CloseParen), rest_of(lexemes))?;
@@ -213,7 +213,7 @@ fn in_parens(alloc: Global, room: u32, lexemes: Cursor<'_>) -> Result<ReadExpr<'
     requires some { 1 ≤ room }
     requires bound { room ≤ 32 }
     ensures low { IfOk result (λ x. x.1 ≤ room) }
-    ensures gives { Gives (λ x. (expr_tree x.0, x.1, views x.2)) result (in_parens (deeper room) (views lexemes)) }
+    ensures gives { Gives (λ x. (expr_tree x.0, x.1, views x.2)) result (in_parens (deeper room) (views lexemes.entry)) }
 {
     let (inside, height, rest) = expression(alloc, room - 1, 0, lexemes)?;
     let rest = expect(Fixed::Mark(Mark::CloseParen), rest)?;
@@ -226,7 +226,7 @@ fn in_parens(alloc: Global, room: u32, lexemes: Cursor<'_>) -> Result<ReadExpr<'
 fn element(alloc: Global, room: u32, lexemes: Cursor<'_>) -> Result<ReadExpr<'_>, ParseFault>
     requires { room ≤ 32 }
     ensures low { IfOk result (λ x. x.1 ≤ room) }
-    ensures gives { Gives (λ x. (expr_tree x.0, x.1, views x.2)) result (element_by room (deeper room) (views lexemes)) }
+    ensures gives { Gives (λ x. (expr_tree x.0, x.1, views x.2)) result (element_by room (deeper room) (views lexemes.entry)) }
 {
     let (name, rest) = name_at(lexemes)?;
     let (index, height, rest) = index(alloc, room, rest)?;
@@ -248,7 +248,7 @@ pub(crate) fn index(
 ) -> Result<ReadExpr<'_>, ParseFault>
     requires { room ≤ 32 }
     ensures low { IfOk result (λ x. x.1 < room) }
-    ensures gives { Gives (λ x. (expr_tree x.0, x.1, views x.2)) result (index_at room (views lexemes)) }
+    ensures gives { Gives (λ x. (expr_tree x.0, x.1, views x.2)) result (index_at room (views lexemes.entry)) }
 {
     if room == 0 {
         return Err(fault_at(Fault::TooHigh, lexemes));
@@ -271,7 +271,7 @@ fn prefixed(
     requires some { 1 ≤ room }
     requires bound { room ≤ 32 }
     ensures low { IfOk result (λ x. x.1 ≤ room) }
-    ensures gives { Gives (λ x. (expr_tree x.0, x.1, views x.2)) result (under_prefix (deeper room) (prefix_tree op) (views lexemes)) }
+    ensures gives { Gives (λ x. (expr_tree x.0, x.1, views x.2)) result (under_prefix (deeper room) (prefix_tree op) (views lexemes.entry)) }
 {
     let (operand, height, rest) = expression(alloc, room - 1, PREFIX_LEVEL, lexemes)?;
     Ok((
@@ -284,7 +284,7 @@ fn prefixed(
 /// Whether a number, a named constant or a name comes next.
 #[tactic(auto, unfolding(crate::specs::Reading::primary_at))]
 fn starts_primary(lexemes: Cursor<'_>) -> bool
-    ensures { result ≡ is_ok (primary_at (views lexemes)) }
+    ensures { result ≡ is_ok (primary_at (views lexemes.entry)) }
 {
     match lexemes.shape {
         Shape::Number { .. } | Shape::Name(_) => true,
@@ -296,7 +296,7 @@ fn starts_primary(lexemes: Cursor<'_>) -> bool
 /// Whether what comes next may follow the opening parenthesis of an operand.
 #[tactic(auto, unfolding(crate::specs::Reading::starts_inside))]
 fn starts_inside(lexemes: Cursor<'_>) -> bool
-    ensures { result ≡ starts_inside (views lexemes) }
+    ensures { result ≡ starts_inside (views lexemes.entry) }
 {
     starts_primary(lexemes)
         || starts_with(Fixed::Mark(Mark::OpenParen), lexemes)
@@ -315,7 +315,7 @@ pub(crate) fn right_expression(
     lexemes: Cursor<'_>,
 ) -> Result<ReadExpr<'_>, ParseFault>
     requires { room ≤ 32 }
-    ensures { Gives (λ x. (expr_tree x.0, x.1, views x.2)) result (right_expr_at room (views lexemes)) }
+    ensures { Gives (λ x. (expr_tree x.0, x.1, views x.2)) result (right_expr_at room (views lexemes.entry)) }
 {
     if starts_with(Fixed::Mark(Mark::OpenParen), lexemes) && room == 0 {
         let rest = rest_of(lexemes);

@@ -34,7 +34,7 @@ const STATICS: usize = 256;
 /// What comes after the parameters that each function has.
 #[tactic(auto, unfolding(crate::specs::Reading::head_at))]
 fn head(lexemes: Cursor<'_>) -> Result<Cursor<'_>, ParseFault>
-    ensures { Gives (λ x. views x) result (head_at (views lexemes)) }
+    ensures { Gives (λ x. views x) result (head_at (views lexemes.entry)) }
 {
     let rest = expect(Fixed::Mark(Mark::OpenParen), lexemes)?;
     let rest = expect(Fixed::Word(Word::JniEnv), rest)?;
@@ -47,7 +47,7 @@ fn head(lexemes: Cursor<'_>) -> Result<Cursor<'_>, ParseFault>
 /// A function's block, with what closes its parameters, where `free` more names may be declared.
 #[tactic(auto, unfolding(crate::specs::Reading::body_at))]
 fn body(alloc: Global, free: usize, lexemes: Cursor<'_>) -> Result<(Block, Cursor<'_>), ParseFault>
-    ensures { Gives (λ x. (block_tree x.0, views x.1)) result (body_at free (views lexemes)) }
+    ensures { Gives (λ x. (block_tree x.0, views x.1)) result (body_at free (views lexemes.entry)) }
 {
     let rest = expect(Fixed::Mark(Mark::CloseParen), lexemes)?;
     let rest = expect(Fixed::Mark(Mark::OpenBrace), rest)?;
@@ -58,7 +58,7 @@ fn body(alloc: Global, free: usize, lexemes: Cursor<'_>) -> Result<(Block, Curso
 /// The result, the name and the class of a function, and what comes after them.
 #[tactic(auto, unfolding(crate::specs::Reading::signature_at))]
 fn signature(lexemes: Cursor<'_>) -> Result<(ResultType, &[u8], &[u8], Cursor<'_>), ParseFault>
-    ensures { Gives (λ x. (result_tree x.0, x.1.now, x.2.now, views x.3)) result (signature_at (views lexemes)) }
+    ensures { Gives (λ x. (result_tree x.0, x.1.now, x.2.now, views x.3)) result (signature_at (views lexemes.entry)) }
 {
     let rest = expect(Fixed::Word(Word::JniExport), lexemes)?;
     let Some(result) = result_type(rest) else {
@@ -74,7 +74,7 @@ fn signature(lexemes: Cursor<'_>) -> Result<(ResultType, &[u8], &[u8], Cursor<'_
 /// A function (JNI Specification, chapter 2, "Native Method Arguments").
 #[tactic(auto, unfolding(crate::specs::Reading::function_at))]
 fn function(alloc: Global, lexemes: Cursor<'_>) -> Result<(Function, Cursor<'_>), ParseFault>
-    ensures { Gives (λ x. (function_tree x.0, views x.1)) result (function_at (views lexemes)) }
+    ensures { Gives (λ x. (function_tree x.0, views x.1)) result (function_at (views lexemes.entry)) }
 {
     let line = line_at(lexemes);
     let (result, name, class_name, rest) = signature(lexemes)?;
@@ -96,7 +96,7 @@ fn function(alloc: Global, lexemes: Cursor<'_>) -> Result<(Function, Cursor<'_>)
 /// A reference that all functions share.
 #[tactic(auto, unfolding(crate::specs::Reading::static_at))]
 fn static_reference(alloc: Global, lexemes: Cursor<'_>) -> Result<(Static, Cursor<'_>), ParseFault>
-    ensures { Gives (λ x. (static_tree x.0, views x.1)) result (static_at (views lexemes)) }
+    ensures { Gives (λ x. (static_tree x.0, views x.1)) result (static_at (views lexemes.entry)) }
 {
     let line = line_at(lexemes);
     let rest = expect(Fixed::Word(Word::Static), lexemes)?;
@@ -122,7 +122,7 @@ fn item(
     statics: usize,
     lexemes: Cursor<'_>,
 ) -> Result<ReadItem<'_>, ParseFault>
-    ensures { Gives (λ x. (item_tree x.0, x.1, x.2, views x.3)) result (item_at functions statics (views lexemes)) }
+    ensures { Gives (λ x. (item_tree x.0, x.1, x.2, views x.3)) result (item_at functions statics (views lexemes.entry)) }
 {
     if starts_with(Fixed::Word(Word::JniExport), lexemes) {
         if functions == 0 {
@@ -143,7 +143,7 @@ fn item(
 
 /// All items.
 fn items(alloc: Global, lexemes: Cursor<'_>) -> Result<Vec<Item>, ParseFault>
-    ensures { Gives (λ v. map item_tree v.items) result (items_at (length (views lexemes) + 1) 256 256 (views lexemes)) }
+    ensures { Gives (λ v. map item_tree v.items) result (items_at (length (views lexemes.entry) + 1) 256 256 (views lexemes.entry)) }
 {
     let mut items = Vec::new(alloc);
     let mut rest = lexemes;

@@ -105,7 +105,7 @@ pub(crate) fn lexemes<'t>(text: &'t [u8], tokens: &'t [Token]) -> Cursor<'t>
 
 /// What stands after the first lexeme.
 pub(crate) fn rest_of(rest: Cursor<'_>) -> Cursor<'_>
-    ensures { views result ≡ rest_of (views rest) }
+    ensures { views result ≡ rest_of (views rest.entry) }
 {
     match (rest.shape, rest.tokens) {
         (Shape::Nothing, _) => rest,
@@ -121,14 +121,14 @@ pub(crate) fn rest_of(rest: Cursor<'_>) -> Cursor<'_>
 
 /// The fault at the first of these lexemes, which can't stand there.
 pub(crate) fn unexpected(rest: Cursor<'_>) -> ParseFault
-    ensures { result ≡ fault_at NoForm (views rest) }
+    ensures { result ≡ fault_at NoForm (views rest.entry) }
 {
     fault_at(Fault::NoForm, rest)
 }
 
 /// This fault at the first of these lexemes.
 pub(crate) fn fault_at(fault: Fault, rest: Cursor<'_>) -> ParseFault
-    ensures { result ≡ fault_at fault (views rest) }
+    ensures { result ≡ fault_at fault (views rest.entry) }
 {
     ParseFault::Found {
         fault,
@@ -138,7 +138,7 @@ pub(crate) fn fault_at(fault: Fault, rest: Cursor<'_>) -> ParseFault
 
 /// The line of the first lexeme.
 pub(crate) fn line_at(rest: Cursor<'_>) -> usize
-    ensures { result ≡ line_at (views rest) }
+    ensures { result ≡ line_at (views rest.entry) }
 {
     match rest.shape {
         Shape::Nothing => 0,
@@ -149,7 +149,7 @@ pub(crate) fn line_at(rest: Cursor<'_>) -> usize
 /// What stands after this lexeme, which has to come next.
 #[tactic(auto, unfolding(crate::specs::Lexemes::expect))]
 pub(crate) fn expect(fixed: Fixed, rest: Cursor<'_>) -> Result<Cursor<'_>, ParseFault>
-    ensures { Gives views result (expect fixed (views rest)) }
+    ensures { Gives views result (expect fixed (views rest.entry)) }
 {
     if starts_with(fixed, rest) {
         return Ok(rest_of(rest));
@@ -159,7 +159,7 @@ pub(crate) fn expect(fixed: Fixed, rest: Cursor<'_>) -> Result<Cursor<'_>, Parse
 
 /// Whether this comes next.
 pub(crate) fn starts_with(fixed: Fixed, rest: Cursor<'_>) -> bool
-    ensures { result ≡ starts_with fixed (views rest) }
+    ensures { result ≡ starts_with fixed (views rest.entry) }
 {
     match (rest.shape, fixed) {
         (Shape::Fixed(Fixed::Mark(found)), Fixed::Mark(mark)) => same_mark(found, mark),
@@ -183,7 +183,7 @@ pub(crate) fn same_word(a: Word, b: Word) -> bool
 
 /// The reserved word that comes next.
 pub(crate) fn word_at(rest: Cursor<'_>) -> Option<Word>
-    ensures { result ≡ word_at (views rest) }
+    ensures { result ≡ word_at (views rest.entry) }
 {
     match rest.shape {
         Shape::Fixed(Fixed::Word(word)) => Some(word),
@@ -193,14 +193,14 @@ pub(crate) fn word_at(rest: Cursor<'_>) -> Option<Word>
 
 /// Whether a name comes next.
 pub(crate) fn starts_name(rest: Cursor<'_>) -> bool
-    ensures { result ≡ starts_name (views rest) }
+    ensures { result ≡ starts_name (views rest.entry) }
 {
     matches!(rest.shape, Shape::Name(_))
 }
 
 /// The string that comes next.
 pub(crate) fn text_at(rest: Cursor<'_>) -> Option<&[u8]>
-    ensures { option_map (λ bytes. bytes.now) result ≡ text_at (views rest) }
+    ensures { option_map (λ bytes. bytes.now) result ≡ text_at (views rest.entry) }
 {
     match rest.shape {
         Shape::Text(bytes) => Some(bytes),
@@ -215,7 +215,7 @@ pub(crate) fn number_at(
     most: u32,
     rest: Cursor<'_>,
 ) -> Result<(u32, Cursor<'_>), ParseFault>
-    ensures { Gives (λ x. (x.0, views x.1)) result (number_at least most (views rest)) }
+    ensures { Gives (λ x. (x.0, views x.1)) result (number_at least most (views rest.entry)) }
 {
     match rest.shape {
         Shape::Number { value, unsigned } => {
@@ -231,7 +231,7 @@ pub(crate) fn number_at(
 /// A name's bytes, and what stands after it.
 #[tactic(auto, unfolding(crate::specs::Lexemes::name_at))]
 pub(crate) fn name_at(rest: Cursor<'_>) -> Result<(&[u8], Cursor<'_>), ParseFault>
-    ensures { Gives (λ x. (x.0.now, views x.1)) result (name_at (views rest)) }
+    ensures { Gives (λ x. (x.0.now, views x.1)) result (name_at (views rest.entry)) }
 {
     match rest.shape {
         Shape::Name(bytes) => Ok((bytes, rest_of(rest))),

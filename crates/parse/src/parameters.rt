@@ -20,7 +20,7 @@ pub(crate) const NAMES: usize = 255;
 /// A parameter after its comma.
 #[tactic(auto, unfolding(crate::specs::Reading::parameter_at))]
 fn parameter(alloc: Global, lexemes: Cursor<'_>) -> Result<(Parameter, Cursor<'_>), ParseFault>
-    ensures { Gives (λ x. (parameter_tree x.0, views x.1)) result (parameter_at (views lexemes)) }
+    ensures { Gives (λ x. (parameter_tree x.0, views x.1)) result (parameter_at (views lexemes.entry)) }
 {
     let Some(kind) = parameter_type(lexemes) else {
         return Err(unexpected(lexemes));
@@ -36,7 +36,7 @@ pub(crate) fn parameters(
     lexemes: Cursor<'_>,
 ) -> Result<(Vec<Parameter>, Cursor<'_>), ParseFault>
     ensures few { IfOk result (λ x. length x.0.items ≤ 255) }
-    ensures gives { Gives (λ x. (map parameter_tree x.0.items, views x.1)) result (parameters_at 255 (views lexemes)) }
+    ensures gives { Gives (λ x. (map parameter_tree x.0.items, views x.1)) result (parameters_at 255 (views lexemes.entry)) }
 {
     let mut parameters = Vec::new(alloc);
     let mut rest = lexemes;

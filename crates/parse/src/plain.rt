@@ -25,7 +25,7 @@ fn put(
     lexemes: Cursor<'_>,
 ) -> Result<(Stmt, Cursor<'_>), ParseFault>
     requires { room ≤ 32 }
-    ensures { Gives (λ x. (stmt_tree x.0, views x.1)) result (put_at room line (views lexemes)) }
+    ensures { Gives (λ x. (stmt_tree x.0, views x.1)) result (put_at room line (views lexemes.entry)) }
 {
     let rest = expect(Fixed::Mark(Mark::OpenParen), lexemes)?;
     let (operand, _, rest) = expression(alloc, room, 0, rest)?;
@@ -44,7 +44,7 @@ fn returned(
     lexemes: Cursor<'_>,
 ) -> Result<(Stmt, Cursor<'_>), ParseFault>
     requires { room ≤ 32 }
-    ensures { Gives (λ x. (stmt_tree x.0, views x.1)) result (return_at room line (views lexemes)) }
+    ensures { Gives (λ x. (stmt_tree x.0, views x.1)) result (return_at room line (views lexemes.entry)) }
 {
     if starts_with(Fixed::Mark(Mark::Semicolon), lexemes) {
         let form = Form::Return(None);
@@ -65,7 +65,7 @@ fn perform(
     lexemes: Cursor<'_>,
 ) -> Result<(Stmt, Cursor<'_>), ParseFault>
     requires { room ≤ 32 }
-    ensures { Gives (λ x. (stmt_tree x.0, views x.1)) result (perform_at room line (views lexemes)) }
+    ensures { Gives (λ x. (stmt_tree x.0, views x.1)) result (perform_at room line (views lexemes.entry)) }
 {
     let (call, rest) = call(alloc, room, lexemes)?;
     let rest = expect(Fixed::Mark(Mark::Semicolon), rest)?;
@@ -82,7 +82,7 @@ fn set_element(
     lexemes: Cursor<'_>,
 ) -> Result<(Stmt, Cursor<'_>), ParseFault>
     requires { room ≤ 32 }
-    ensures { Gives (λ x. (stmt_tree x.0, views x.1)) result (set_element_at room line (views lexemes)) }
+    ensures { Gives (λ x. (stmt_tree x.0, views x.1)) result (set_element_at room line (views lexemes.entry)) }
 {
     let (name, rest) = name_at(lexemes)?;
     let (index, _, rest) = index(alloc, room, rest)?;
@@ -102,7 +102,7 @@ fn set(
     lexemes: Cursor<'_>,
 ) -> Result<(Stmt, Cursor<'_>), ParseFault>
     requires { room ≤ 32 }
-    ensures { Gives (λ x. (stmt_tree x.0, views x.1)) result (set_at room line (views lexemes)) }
+    ensures { Gives (λ x. (stmt_tree x.0, views x.1)) result (set_at room line (views lexemes.entry)) }
 {
     if starts_element(lexemes) {
         return set_element(alloc, room, line, lexemes);
@@ -120,7 +120,7 @@ pub(crate) fn plain(
     lexemes: Cursor<'_>,
 ) -> Result<(Stmt, Cursor<'_>), ParseFault>
     requires { room ≤ 32 }
-    ensures { Gives (λ x. (stmt_tree x.0, views x.1)) result (plain_at room (views lexemes)) }
+    ensures { Gives (λ x. (stmt_tree x.0, views x.1)) result (plain_at room (views lexemes.entry)) }
 {
     let line = line_at(lexemes);
     if starts_with(Fixed::Word(Word::PutJint), lexemes) {

@@ -33,7 +33,7 @@ fn simple(
     lexemes: Cursor<'_>,
 ) -> Result<ReadStmt<'_>, ParseFault>
     requires { room ≤ 32 }
-    ensures { Gives (λ x. (stmt_tree x.0, x.1, views x.2)) result (simple_at room free (views lexemes)) }
+    ensures { Gives (λ x. (stmt_tree x.0, x.1, views x.2)) result (simple_at room free (views lexemes.entry)) }
 {
     if starts_declaration(lexemes) {
         if free == 0 {
@@ -57,7 +57,7 @@ fn is_return(stmt: &Stmt) -> bool
 #[tactic(auto, unfolding(crate::specs::Reading::if_test_at))]
 fn if_test(alloc: Global, room: u32, lexemes: Cursor<'_>) -> Result<(Test, Cursor<'_>), ParseFault>
     requires { room ≤ 32 }
-    ensures { Gives (λ x. (test_tree x.0, views x.1)) result (if_test_at room (views lexemes)) }
+    ensures { Gives (λ x. (test_tree x.0, views x.1)) result (if_test_at room (views lexemes.entry)) }
 {
     let rest = expect(Fixed::Mark(Mark::OpenParen), lexemes)?;
     let (test, rest) = test(alloc, room, rest)?;
@@ -74,7 +74,7 @@ fn while_test(
     lexemes: Cursor<'_>,
 ) -> Result<(Expr, Cursor<'_>), ParseFault>
     requires { room ≤ 32 }
-    ensures { Gives (λ x. (expr_tree x.0, views x.1)) result (while_test_at room (views lexemes)) }
+    ensures { Gives (λ x. (expr_tree x.0, views x.1)) result (while_test_at room (views lexemes.entry)) }
 {
     let rest = expect(Fixed::Mark(Mark::OpenParen), lexemes)?;
     let (test, _, rest) = expression(alloc, room, 0, rest)?;
@@ -95,7 +95,7 @@ fn if_statement(
 ) -> Result<ReadStmt<'_>, ParseFault>
     requires some { 1 ≤ room }
     requires bound { room ≤ 32 }
-    ensures { Gives (λ x. (stmt_tree x.0, x.1, views x.2)) result (if_by (inner room) room free line (views lexemes)) }
+    ensures { Gives (λ x. (stmt_tree x.0, x.1, views x.2)) result (if_by (inner room) room free line (views lexemes.entry)) }
 {
     let (test, rest) = if_test(alloc, room, lexemes)?;
     let (body, left, rest) = block(alloc, room - 1, free, rest)?;
@@ -116,7 +116,7 @@ fn else_block(
 ) -> Result<ReadStmt<'_>, ParseFault>
     requires some { 1 ≤ room }
     requires bound { room ≤ 32 }
-    ensures { Gives (λ x. (stmt_tree x.0, x.1, views x.2)) result (else_by (inner room) line (test_tree test) (block_tree body) free (views lexemes)) }
+    ensures { Gives (λ x. (stmt_tree x.0, x.1, views x.2)) result (else_by (inner room) line (test_tree test) (block_tree body) free (views lexemes.entry)) }
 {
     if !starts_with(Fixed::Word(Word::Else), lexemes) {
         let form = Form::If(test, body);
@@ -140,7 +140,7 @@ fn while_statement(
 ) -> Result<ReadStmt<'_>, ParseFault>
     requires some { 1 ≤ room }
     requires bound { room ≤ 32 }
-    ensures { Gives (λ x. (stmt_tree x.0, x.1, views x.2)) result (while_by (inner room) room free line (views lexemes)) }
+    ensures { Gives (λ x. (stmt_tree x.0, x.1, views x.2)) result (while_by (inner room) room free line (views lexemes.entry)) }
 {
     let (test, rest) = while_test(alloc, room, lexemes)?;
     let (body, left, rest) = block(alloc, room - 1, free, rest)?;
@@ -158,7 +158,7 @@ fn statement(
     lexemes: Cursor<'_>,
 ) -> Result<ReadStmt<'_>, ParseFault>
     requires { room ≤ 32 }
-    ensures { Gives (λ x. (stmt_tree x.0, x.1, views x.2)) result (statement_at room free (views lexemes)) }
+    ensures { Gives (λ x. (stmt_tree x.0, x.1, views x.2)) result (statement_at room free (views lexemes.entry)) }
 {
     let line = line_at(lexemes);
     if starts_with(Fixed::Word(Word::If), lexemes) {
@@ -185,7 +185,7 @@ pub(crate) fn block(
     lexemes: Cursor<'_>,
 ) -> Result<ReadBlock<'_>, ParseFault>
     requires { room ≤ 32 }
-    ensures { Gives (λ x. (block_tree x.0, x.1, views x.2)) result (block_at room names (views lexemes)) }
+    ensures { Gives (λ x. (block_tree x.0, x.1, views x.2)) result (block_at room names (views lexemes.entry)) }
 {
     let mut statements = Vec::new(alloc);
     let mut rest = lexemes;

@@ -88,7 +88,7 @@ fn variable_of(word: Word) -> Option<VariableType>
 
 /// The type of references that comes next.
 pub(crate) fn reference_type(lexemes: Cursor<'_>) -> Option<ReferenceType>
-    ensures { option_map reference_tree result ≡ reference_type_at (views lexemes) }
+    ensures { option_map reference_tree result ≡ reference_type_at (views lexemes.entry) }
 {
     match word_at(lexemes) {
         Some(word) => reference_of(word),
@@ -98,7 +98,7 @@ pub(crate) fn reference_type(lexemes: Cursor<'_>) -> Option<ReferenceType>
 
 /// The type of a result, where one comes next.
 pub(crate) fn result_type(lexemes: Cursor<'_>) -> Option<ResultType>
-    ensures { option_map result_tree result ≡ result_type_at (views lexemes) }
+    ensures { option_map result_tree result ≡ result_type_at (views lexemes.entry) }
 {
     match word_at(lexemes) {
         Some(word) => result_of(word),
@@ -108,7 +108,7 @@ pub(crate) fn result_type(lexemes: Cursor<'_>) -> Option<ResultType>
 
 /// The type of an element, where one comes next.
 pub(crate) fn element_type(lexemes: Cursor<'_>) -> Option<ElementType>
-    ensures { option_map element_tree result ≡ element_type_at (views lexemes) }
+    ensures { option_map element_tree result ≡ element_type_at (views lexemes.entry) }
 {
     match word_at(lexemes) {
         Some(word) => element_of(word),
@@ -118,7 +118,7 @@ pub(crate) fn element_type(lexemes: Cursor<'_>) -> Option<ElementType>
 
 /// The type of a parameter, where one comes next.
 pub(crate) fn parameter_type(lexemes: Cursor<'_>) -> Option<ParameterType>
-    ensures { option_map parameter_type_tree result ≡ parameter_type_at (views lexemes) }
+    ensures { option_map parameter_type_tree result ≡ parameter_type_at (views lexemes.entry) }
 {
     match word_at(lexemes) {
         Some(word) => parameter_of(word),
@@ -128,7 +128,7 @@ pub(crate) fn parameter_type(lexemes: Cursor<'_>) -> Option<ParameterType>
 
 /// The type of a variable, where one comes next.
 pub(crate) fn variable_type(lexemes: Cursor<'_>) -> Option<VariableType>
-    ensures { option_map variable_type_tree result ≡ variable_type_at (views lexemes) }
+    ensures { option_map variable_type_tree result ≡ variable_type_at (views lexemes.entry) }
 {
     match word_at(lexemes) {
         Some(word) => variable_of(word),
