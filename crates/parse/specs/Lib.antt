@@ -1,4 +1,5 @@
 pub mod Words
+pub mod WordTable
 pub mod Meaning
 pub mod Order
 pub mod Spelling

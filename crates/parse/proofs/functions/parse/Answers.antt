@@ -1,4 +1,4 @@
-use Rattle.std.proofs.Common.{ap, map, ◌∙◌}
+use Rattle.std.proofs.Common.{map}
 use Rattle.std.proofs.lemmas.Result.{err_from_is_err_and}
 use Rattle.syntax.specs.Views.{item_tree}
 use Rattle.parse.specs.Lexemes.{views}
@@ -25,10 +25,10 @@ returns-clause-exact c =
 
 pub returns-in_err-items-clause-only : goal.returns-in_err-items-clause-only
 returns-in_err-items-clause-only c = λ unit spelled.
-    let p = err_from_is_err_and c.from_residual-in_err-items.result c.from_residual-in_err-items.ensures.1 in
+    let p = err_from_is_err_and c.from_residual.result c.from_residual.ensures.1 in
     rw (p.1, p.2) (no_fault_by c.args.text.now c.args.tokens.now c.requires (views c.lexemes.result) c.lexemes.ensures (λ others s. c.one_spelling.ensures c.args.text.now others c.args.tokens.now s c.requires) c.in_err-items.field-0.0 unit c.in_err-items.ensures spelled)
 
 pub returns-in_err-items-clause-exact : goal.returns-in_err-items-clause-exact
 returns-in_err-items-clause-exact c =
-    let p = err_from_is_err_and c.from_residual-in_err-items.result c.from_residual-in_err-items.ensures.1 in
+    let p = err_from_is_err_and c.from_residual.result c.from_residual.ensures.1 in
     rw (p.1, p.2) (fault_by c.args.text.now c.args.tokens.now c.requires (views c.lexemes.result) c.lexemes.ensures c.in_err-items.field-0.0 c.in_err-items.ensures)
