@@ -7,3 +7,4 @@ pub mod Faults
 pub mod Results
 pub mod Lexemes
 pub mod Reading
+pub mod Steps

@@ -3,7 +3,8 @@
 ghost use Rattle.std.specs.Prelude.{◌≡◌, ◌≤◌, ◌+◌, length, map};
 ghost use Rattle.syntax.specs.Views.{argument_tree, call_tree, right_side_tree, test_tree};
 ghost use Rattle.parse.specs.Results.{Gives};
-ghost use Rattle.parse.specs.Lexemes.{views};
+ghost use Rattle.parse.specs.Steps.{ReadCall, ReadSetting, made_of};
+ghost use Rattle.parse.specs.Lexemes.{views, expect};
 ghost use Rattle.parse.specs.Reading.{interface_at, value_at, argument_at, arguments_at, call_at, starts_call, right_at, setting_at, test_at};
 
 use crate::cursor::Cursor;
@@ -83,6 +84,27 @@ fn arguments(
     Ok((arguments, rest))
 }
 
+/// A call with its arguments, and what comes after its closing parenthesis.
+fn called<'t>(
+    alloc: Global,
+    function: &[u8],
+    arguments: Vec<Argument>,
+    paren: Fixed,
+    lexemes: Cursor<'t>,
+) -> Result<(Call, Cursor<'t>), ParseFault>
+    ensures { Gives (λ x. (call_tree x.0, views x.1)) result (made_of {B = ReadCall} (expect paren (views lexemes.entry)) (λ after. (record { function = function.now; arguments = map argument_tree arguments.items }, after))) }
+{
+    let rest = expect(paren, lexemes)?;
+    let function = Name::new(alloc, function)?;
+    Ok((
+        Call {
+            function,
+            arguments,
+        },
+        rest,
+    ))
+}
+
 /// A call.
 #[tactic(auto, unfolding(crate::specs::Reading::call_at))]
 pub(crate) fn call(
@@ -98,15 +120,13 @@ pub(crate) fn call(
     let rest = expect(Fixed::Mark(Mark::OpenParen), rest)?;
     let rest = expect(Fixed::Word(Word::Env), rest)?;
     let (arguments, rest) = arguments(alloc, room, rest)?;
-    let rest = expect(Fixed::Mark(Mark::CloseParen), rest)?;
-    let function = Name::new(alloc, function)?;
-    Ok((
-        Call {
-            function,
-            arguments,
-        },
+    called(
+        alloc,
+        function,
+        arguments,
+        Fixed::Mark(Mark::CloseParen),
         rest,
-    ))
+    )
 }
 
 /// Whether a call comes next, since no expression begins so.
@@ -135,6 +155,20 @@ pub(crate) fn right_side(
     Ok((RightSide::Expr(value), rest))
 }
 
+/// A name with what it is set to, and what comes after the semicolon.
+fn set_to<'t>(
+    alloc: Global,
+    name: &[u8],
+    right: RightSide,
+    semicolon: Fixed,
+    lexemes: Cursor<'t>,
+) -> Result<(Name, RightSide, Cursor<'t>), ParseFault>
+    ensures { Gives (λ x. (x.0, right_side_tree x.1, views x.2)) result (made_of {B = ReadSetting} (expect semicolon (views lexemes.entry)) (λ rest. (name.now, right_side_tree right, rest))) }
+{
+    let rest = expect(semicolon, lexemes)?;
+    Ok((Name::new(alloc, name)?, right, rest))
+}
+
 /// A name, what it is set to, and what comes after the semicolon.
 #[tactic(auto, unfolding(crate::specs::Reading::setting_at))]
 pub(crate) fn setting(
@@ -148,8 +182,7 @@ pub(crate) fn setting(
     let (name, rest) = name_at(lexemes)?;
     let rest = expect(Fixed::Mark(Mark::Assign), rest)?;
     let (right, rest) = right_side(alloc, room, rest)?;
-    let rest = expect(Fixed::Mark(Mark::Semicolon), rest)?;
-    Ok((Name::new(alloc, name)?, right, rest))
+    set_to(alloc, name, right, Fixed::Mark(Mark::Semicolon), rest)
 }
 
 /// An expression, or a call that is tested for 0.

@@ -3,10 +3,12 @@
 ghost use Rattle.std.specs.Prelude.{◌≡◌, ◌≤◌, ◌<◌, IfOk, is_ok};
 ghost use Rattle.std.specs.Option.{option_map};
 ghost use Rattle.syntax.specs.Limits.{operator_level};
+ghost use Rattle.syntax.specs.Tree.{Binary, Prefix, Paren, Element};
 ghost use Rattle.syntax.specs.Views.{constant_tree, prefix_tree, binary_tree, expr_tree};
 ghost use Rattle.parse.specs.Results.{Gives};
-ghost use Rattle.parse.specs.Lexemes.{views};
-ghost use Rattle.parse.specs.Reading.{operator_at, binary_of_mark, constant_of_word, primary_at, starts_element, starts_inside, index_at, operand_at, expr_at, right_expr_at, under_prefix, after_paren, in_parens, element_by, deeper};
+ghost use Rattle.parse.specs.Steps.{made_of};
+ghost use Rattle.parse.specs.Lexemes.{views, expect};
+ghost use Rattle.parse.specs.Reading.{ReadExpr, operator_at, binary_of_mark, constant_of_word, primary_at, starts_element, starts_inside, index_at, operand_at, expr_at, right_expr_at, under_prefix, after_paren, in_parens, element_by, deeper};
 
 use crate::cursor::Cursor;
 use crate::fault::{Fault, ParseFault};
@@ -15,7 +17,7 @@ use crate::lexemes::{
 };
 use crate::words::Word;
 use scan::Mark;
-use std::alloc::Global;
+use std::alloc::{AllocError, Global};
 use syntax::{BinaryOp, Constant, Expr, Name, PrefixOp};
 
 /// An expression, its height, and what comes after it.
@@ -116,6 +118,49 @@ fn primary(alloc: Global, lexemes: Cursor<'_>) -> Result<ReadExpr<'_>, ParseFaul
     }
 }
 
+/// An operator between two operands.
+fn binary(alloc: Global, op: BinaryOp, left: Expr, right: Expr) -> Result<Expr, AllocError>
+    ensures { IfOk result (λ e. expr_tree e ≡ Binary (binary_tree op) (expr_tree left) (expr_tree right)) }
+{
+    Ok(Expr::Binary(op, Box::new(alloc, left)?, Box::new(alloc, right)?))
+}
+
+/// A prefix before its operand.
+fn prefix(alloc: Global, op: PrefixOp, operand: Expr) -> Result<Expr, AllocError>
+    ensures { IfOk result (λ e. expr_tree e ≡ Prefix (prefix_tree op) (expr_tree operand)) }
+{
+    Ok(Expr::Prefix(op, Box::new(alloc, operand)?))
+}
+
+/// An expression in parentheses.
+fn paren(alloc: Global, inside: Expr) -> Result<Expr, AllocError>
+    ensures { IfOk result (λ e. expr_tree e ≡ Paren (expr_tree inside)) }
+{
+    Ok(Expr::Paren(Box::new(alloc, inside)?))
+}
+
+/// A name with its index.
+fn indexed(alloc: Global, name: &[u8], index: Expr) -> Result<Expr, AllocError>
+    ensures { IfOk result (λ e. expr_tree e ≡ Element name.now (expr_tree index)) }
+{
+    let index = Box::new(alloc, index)?;
+    Ok(Expr::Element(Name::new(alloc, name)?, index))
+}
+
+/// An expression with its height, and what comes after its closing bracket.
+fn closed(
+    bracket: Fixed,
+    inside: Expr,
+    height: u32,
+    lexemes: Cursor<'_>,
+) -> Result<ReadExpr<'_>, ParseFault>
+    ensures low { IfOk result (λ x. x.1 ≡ height) }
+    ensures gives { Gives (λ x. (expr_tree x.0, x.1, views x.2)) result (made_of {B = ReadExpr} (expect bracket (views lexemes.entry)) (λ after. (expr_tree inside, height, after))) }
+{
+    let rest = expect(bracket, lexemes)?;
+    Ok((inside, height, rest))
+}
+
 /// Whether a name with an index comes next.
 pub(crate) fn starts_element(lexemes: Cursor<'_>) -> bool
     ensures { result ≡ starts_element (views lexemes.entry) }
@@ -150,7 +195,7 @@ pub(crate) fn expression(
             level(op) + 1,
             rest_of(rest),
         )?;
-        left = Expr::Binary(op, Box::new(alloc, left)?, Box::new(alloc, right)?);
+        left = binary(alloc, op, left, right)?;
         height = 1 + height.max(right_height);
         rest = after;
     }
@@ -216,8 +261,8 @@ fn in_parens(alloc: Global, room: u32, lexemes: Cursor<'_>) -> Result<ReadExpr<'
     ensures gives { Gives (λ x. (expr_tree x.0, x.1, views x.2)) result (in_parens (deeper room) (views lexemes.entry)) }
 {
     let (inside, height, rest) = expression(alloc, room - 1, 0, lexemes)?;
-    let rest = expect(Fixed::Mark(Mark::CloseParen), rest)?;
-    Ok((Expr::Paren(Box::new(alloc, inside)?), 1 + height, rest))
+    let (inside, height, rest) = closed(Fixed::Mark(Mark::CloseParen), inside, height, rest)?;
+    Ok((paren(alloc, inside)?, 1 + height, rest))
 }
 
 /// A name with an index.
@@ -230,12 +275,7 @@ fn element(alloc: Global, room: u32, lexemes: Cursor<'_>) -> Result<ReadExpr<'_>
 {
     let (name, rest) = name_at(lexemes)?;
     let (index, height, rest) = index(alloc, room, rest)?;
-    let name = Name::new(alloc, name)?;
-    Ok((
-        Expr::Element(name, Box::new(alloc, index)?),
-        1 + height,
-        rest,
-    ))
+    Ok((indexed(alloc, name, index)?, 1 + height, rest))
 }
 
 /// An index in its brackets, which counts one.
@@ -255,8 +295,7 @@ pub(crate) fn index(
     }
     let rest = expect(Fixed::Mark(Mark::OpenBracket), lexemes)?;
     let (index, height, rest) = expression(alloc, room - 1, 0, rest)?;
-    let rest = expect(Fixed::Mark(Mark::CloseBracket), rest)?;
-    Ok((index, height, rest))
+    closed(Fixed::Mark(Mark::CloseBracket), index, height, rest)
 }
 
 /// The operand of a prefix.
@@ -274,11 +313,7 @@ fn prefixed(
     ensures gives { Gives (λ x. (expr_tree x.0, x.1, views x.2)) result (under_prefix (deeper room) (prefix_tree op) (views lexemes.entry)) }
 {
     let (operand, height, rest) = expression(alloc, room - 1, PREFIX_LEVEL, lexemes)?;
-    Ok((
-        Expr::Prefix(op, Box::new(alloc, operand)?),
-        1 + height,
-        rest,
-    ))
+    Ok((prefix(alloc, op, operand)?, 1 + height, rest))
 }
 
 /// Whether a number, a named constant or a name comes next.

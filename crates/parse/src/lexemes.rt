@@ -15,7 +15,7 @@ use crate::words::{Word, word_of};
 use scan::{Kind, Mark, Token};
 
 /// What always stands for itself.
-#[derive(Clone, Copy, Debug, PartialEq, Eq)]
+#[derive(Clone, Copy)]
 pub(crate) enum Fixed {
     Mark(Mark),
     Word(Word),

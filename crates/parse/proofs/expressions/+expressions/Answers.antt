@@ -28,7 +28,7 @@ pub expression-loop-op-preserved : goal.expression-loop-op-preserved
 expression-loop-op-preserved t c =
     let h : expr_at (c.args.room - 1) (operator_level (binary_tree c.in-Some.op) + 1) (rest_of (views c.loop-op.rest)) ≡ Ok (expr_tree c.in_ok-right.right, c.in_ok-right.right_height, views c.in_ok-right.after) = rw (sym c.level-in-Some.ensures, sym c.rest_of.ensures) c.in_ok-right.ensures.gives in
     let k = climb_on c.args.room c.args.least (expr_tree c.loop-op.left) c.loop-op.height (views c.loop-op.rest) (expr_at c.args.room c.args.least (views c.args.lexemes)) c.loop-op.invariant (binary_tree c.in-Some.op) (expr_tree c.in_ok-right.right) c.in_ok-right.right_height (1 + c.max-height.result) (views c.in_ok-right.after) c.in-Some.ensures (omega (arith, c.level.ensures)) c.if-height-room.false c.in_ok-right.ensures.low (ap (λ n. 1 + n) c.max-height.ensures) h in
-    rw (c.in_ok-new.ensures.ok, c.in_ok-new-2.ensures.ok) k
+    rw c.in_ok-left-2.ensures k
 
 pub expression-returns-clause-gives : goal.expression-returns-clause-gives
 expression-returns-clause-gives t c =
