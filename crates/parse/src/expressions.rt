@@ -147,17 +147,17 @@ fn indexed(alloc: Global, name: &[u8], index: Expr) -> Result<Expr, AllocError>
     Ok(Expr::Element(Name::new(alloc, name)?, index))
 }
 
-/// An expression with its height, and what comes after its closing bracket.
-fn closed(
-    bracket: Fixed,
+/// An expression with its height, and what comes after this lexeme, which ends it.
+pub(crate) fn closed(
+    end: Fixed,
     inside: Expr,
     height: u32,
     lexemes: Cursor<'_>,
 ) -> Result<ReadExpr<'_>, ParseFault>
     ensures low { IfOk result (λ x. x.1 ≡ height) }
-    ensures gives { Gives (λ x. (expr_tree x.0, x.1, views x.2)) result (made_of {B = ReadExpr} (expect bracket (views lexemes.entry)) (λ after. (expr_tree inside, height, after))) }
+    ensures gives { Gives (λ x. (expr_tree x.0, x.1, views x.2)) result (made_of {B = ReadExpr} (expect end (views lexemes.entry)) (λ after. (expr_tree inside, height, after))) }
 {
-    let rest = expect(bracket, lexemes)?;
+    let rest = expect(end, lexemes)?;
     Ok((inside, height, rest))
 }
 

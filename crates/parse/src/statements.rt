@@ -9,7 +9,7 @@ ghost use Rattle.parse.specs.Reading.{simple_at, inner, if_test_at, if_by, else_
 use crate::calls::test;
 use crate::cursor::Cursor;
 use crate::declarations::{declared, starts_declaration};
-use crate::expressions::expression;
+use crate::expressions::{closed, expression};
 use crate::fault::{Fault, ParseFault};
 use crate::lexemes::{Fixed, expect, fault_at, line_at, rest_of, starts_with, unexpected};
 use crate::plain::plain;
@@ -77,9 +77,9 @@ fn while_test(
     ensures { Gives (λ x. (expr_tree x.0, views x.1)) result (while_test_at room (views lexemes.entry)) }
 {
     let rest = expect(Fixed::Mark(Mark::OpenParen), lexemes)?;
-    let (test, _, rest) = expression(alloc, room, 0, rest)?;
-    let rest = expect(Fixed::Mark(Mark::CloseParen), rest)?;
-    let rest = expect(Fixed::Mark(Mark::OpenBrace), rest)?;
+    let (test, height, rest) = expression(alloc, room, 0, rest)?;
+    let (test, height, rest) = closed(Fixed::Mark(Mark::CloseParen), test, height, rest)?;
+    let (test, _, rest) = closed(Fixed::Mark(Mark::OpenBrace), test, height, rest)?;
     Ok((test, rest))
 }
 
