@@ -16,3 +16,4 @@ pub mod Again
 pub mod Ranges
 pub mod Trees
 pub mod Whole
+mod WordTable

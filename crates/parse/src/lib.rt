@@ -2,6 +2,7 @@
 #![tactic(auto)]
 
 mod calls;
+mod cursor;
 mod declarations;
 mod expressions;
 mod fault;

@@ -1,10 +1,12 @@
 //! Reserved words.
 
-ghost use Rattle.std.specs.Prelude.{◌≡◌};
-ghost use Rattle.parse.specs.Words.{keyword, interface_word, reference_word, constant_word, is_unused_type, is_unused_declaration, is_unused_statement, unused_word, word_of};
+ghost use Rattle.std.specs.Prelude.{◌≡◌, ◌<◌, [], length, map, get_or};
+ghost use Rattle.base.specs.Bytes.{lookup};
+ghost use Rattle.parse.specs.Words.{word_of};
+ghost use Rattle.parse.specs.WordTable.{row_value, rows_value};
 
 /// A reserved word.
-#[derive(Clone, Copy, Debug, PartialEq, Eq)]
+#[derive(Clone, Copy, PartialEq, Eq)]
 pub(crate) enum Word {
     /// `static`
     Static,
@@ -80,195 +82,134 @@ pub(crate) enum Word {
     Unused,
 }
 
-/// A keyword of C99 that has a use (ISO/IEC 9899:1999, 6.4.1).
-#[tactic(auto, unfolding(crate::specs::Words::keyword))]
-fn keyword(bytes: &[u8]) -> Option<Word>
-    ensures { result ≡ keyword bytes.now }
+/// A word's bytes, and the word.
+type Row = (&'static [u8], Word);
+
+/// The reserved words by their first letter, small or capital: `a` is 1, and `_` is 31.
+static WORDS: [&[Row]; 32] = [
+    &[],
+    &[(b"auto", Word::Unused)],
+    &[(b"break", Word::Unused)],
+    &[
+        (b"const", Word::Const),
+        (b"char", Word::Unused),
+        (b"case", Word::Unused),
+        (b"continue", Word::Unused),
+    ],
+    &[
+        (b"double", Word::Unused),
+        (b"default", Word::Unused),
+        (b"do", Word::Unused),
+    ],
+    &[
+        (b"else", Word::Else),
+        (b"env", Word::Env),
+        (b"enum", Word::Unused),
+        (b"extern", Word::Unused),
+    ],
+    &[(b"float", Word::Unused), (b"for", Word::Unused)],
+    &[(b"goto", Word::Unused)],
+    &[],
+    &[
+        (b"if", Word::If),
+        (b"int", Word::Unused),
+        (b"inline", Word::Unused),
+    ],
+    &[
+        (b"JNIEXPORT", Word::JniExport),
+        (b"JNICALL", Word::JniCall),
+        (b"JNIEnv", Word::JniEnv),
+        (b"jint", Word::Jint),
+        (b"jsize", Word::Jsize),
+        (b"jboolean", Word::Jboolean),
+        (b"jshort", Word::Jshort),
+        (b"jbyte", Word::Jbyte),
+        (b"jchar", Word::Jchar),
+        (b"jfieldID", Word::JfieldId),
+        (b"jobject", Word::Jobject),
+        (b"jclass", Word::Jclass),
+        (b"jstring", Word::Jstring),
+        (b"jarray", Word::Jarray),
+        (b"jthrowable", Word::Jthrowable),
+        (b"jintArray", Word::JintArray),
+        (b"jshortArray", Word::JshortArray),
+        (b"jbyteArray", Word::JbyteArray),
+        (b"jcharArray", Word::JcharArray),
+        (b"jobjectArray", Word::JobjectArray),
+        (b"JNI_TRUE", Word::JniTrue),
+        (b"JNI_FALSE", Word::JniFalse),
+        (b"JNI_COMMIT", Word::JniCommit),
+        (b"JNI_ABORT", Word::JniAbort),
+    ],
+    &[],
+    &[(b"long", Word::Unused)],
+    &[],
+    &[(b"NULL", Word::Null)],
+    &[],
+    &[(b"put_jint", Word::PutJint)],
+    &[],
+    &[
+        (b"return", Word::Return),
+        (b"register", Word::Unused),
+        (b"restrict", Word::Unused),
+    ],
+    &[
+        (b"static", Word::Static),
+        (b"short", Word::Unused),
+        (b"signed", Word::Unused),
+        (b"struct", Word::Unused),
+        (b"sizeof", Word::Unused),
+        (b"switch", Word::Unused),
+    ],
+    &[(b"typedef", Word::Unused)],
+    &[
+        (b"uint32_t", Word::Uint32),
+        (b"union", Word::Unused),
+        (b"unsigned", Word::Unused),
+    ],
+    &[(b"void", Word::Void), (b"volatile", Word::Unused)],
+    &[(b"while", Word::While)],
+    &[],
+    &[],
+    &[],
+    &[],
+    &[],
+    &[],
+    &[],
+    &[
+        (b"_Bool", Word::Unused),
+        (b"_Complex", Word::Unused),
+        (b"_Imaginary", Word::Unused),
+    ],
+];
+
+/// The word of these bytes in the rows.
+fn listed_in(mut rows: &[Row], bytes: &[u8]) -> Option<Word>
+    ensures { result ≡ lookup bytes.now (map row_value rows.entry.now) }
 {
-    if bytes == b"static".as_slice() {
-        Some(Word::Static)
-    } else if bytes == b"const".as_slice() {
-        Some(Word::Const)
-    } else if bytes == b"void".as_slice() {
-        Some(Word::Void)
-    } else if bytes == b"if".as_slice() {
-        Some(Word::If)
-    } else if bytes == b"else".as_slice() {
-        Some(Word::Else)
-    } else if bytes == b"while".as_slice() {
-        Some(Word::While)
-    } else if bytes == b"return".as_slice() {
-        Some(Word::Return)
-    } else {
-        None
+    while let [(of, word), rest @ ..] = rows {
+        if bytes == *of {
+            return Some(*word);
+        }
+        rows = rest;
     }
+    None
 }
 
-/// A name of the interface or of one of its types of numbers, or `put_jint`.
-#[tactic(auto, unfolding(crate::specs::Words::interface_word))]
-fn interface_word(bytes: &[u8]) -> Option<Word>
-    ensures { result ≡ interface_word bytes.now }
+/// The word of these bytes in the rows at a letter.
+fn listed_at(table: &[&[Row]], letter: usize, bytes: &[u8]) -> Option<Word>
+    requires { letter < length table.now }
+    ensures { result ≡ lookup bytes.now (get_or (map rows_value table.now) letter []) }
 {
-    if bytes == b"JNIEXPORT".as_slice() {
-        Some(Word::JniExport)
-    } else if bytes == b"JNICALL".as_slice() {
-        Some(Word::JniCall)
-    } else if bytes == b"JNIEnv".as_slice() {
-        Some(Word::JniEnv)
-    } else if bytes == b"env".as_slice() {
-        Some(Word::Env)
-    } else if bytes == b"put_jint".as_slice() {
-        Some(Word::PutJint)
-    } else if bytes == b"uint32_t".as_slice() {
-        Some(Word::Uint32)
-    } else if bytes == b"jint".as_slice() {
-        Some(Word::Jint)
-    } else if bytes == b"jsize".as_slice() {
-        Some(Word::Jsize)
-    } else if bytes == b"jboolean".as_slice() {
-        Some(Word::Jboolean)
-    } else if bytes == b"jshort".as_slice() {
-        Some(Word::Jshort)
-    } else if bytes == b"jbyte".as_slice() {
-        Some(Word::Jbyte)
-    } else if bytes == b"jchar".as_slice() {
-        Some(Word::Jchar)
-    } else if bytes == b"jfieldID".as_slice() {
-        Some(Word::JfieldId)
-    } else {
-        None
-    }
-}
-
-/// A type of references (JNI Specification, chapter 3, "Reference Types").
-#[tactic(auto, unfolding(crate::specs::Words::reference_word))]
-fn reference_word(bytes: &[u8]) -> Option<Word>
-    ensures { result ≡ reference_word bytes.now }
-{
-    if bytes == b"jobject".as_slice() {
-        Some(Word::Jobject)
-    } else if bytes == b"jclass".as_slice() {
-        Some(Word::Jclass)
-    } else if bytes == b"jstring".as_slice() {
-        Some(Word::Jstring)
-    } else if bytes == b"jarray".as_slice() {
-        Some(Word::Jarray)
-    } else if bytes == b"jthrowable".as_slice() {
-        Some(Word::Jthrowable)
-    } else if bytes == b"jintArray".as_slice() {
-        Some(Word::JintArray)
-    } else if bytes == b"jshortArray".as_slice() {
-        Some(Word::JshortArray)
-    } else if bytes == b"jbyteArray".as_slice() {
-        Some(Word::JbyteArray)
-    } else if bytes == b"jcharArray".as_slice() {
-        Some(Word::JcharArray)
-    } else if bytes == b"jobjectArray".as_slice() {
-        Some(Word::JobjectArray)
-    } else {
-        None
-    }
-}
-
-/// A named constant.
-#[tactic(auto, unfolding(crate::specs::Words::constant_word))]
-fn constant_word(bytes: &[u8]) -> Option<Word>
-    ensures { result ≡ constant_word bytes.now }
-{
-    if bytes == b"JNI_TRUE".as_slice() {
-        Some(Word::JniTrue)
-    } else if bytes == b"JNI_FALSE".as_slice() {
-        Some(Word::JniFalse)
-    } else if bytes == b"JNI_COMMIT".as_slice() {
-        Some(Word::JniCommit)
-    } else if bytes == b"JNI_ABORT".as_slice() {
-        Some(Word::JniAbort)
-    } else if bytes == b"NULL".as_slice() {
-        Some(Word::Null)
-    } else {
-        None
-    }
-}
-
-/// Whether this is another keyword of C99 that stands in types.
-#[tactic(auto, unfolding(crate::specs::Words::is_unused_type))]
-fn is_unused_type(bytes: &[u8]) -> bool
-    ensures { result ≡ is_unused_type bytes.now }
-{
-    bytes == b"char".as_slice()
-        || bytes == b"double".as_slice()
-        || bytes == b"enum".as_slice()
-        || bytes == b"float".as_slice()
-        || bytes == b"int".as_slice()
-        || bytes == b"long".as_slice()
-        || bytes == b"short".as_slice()
-        || bytes == b"signed".as_slice()
-        || bytes == b"struct".as_slice()
-        || bytes == b"union".as_slice()
-        || bytes == b"unsigned".as_slice()
-        || bytes == b"_Bool".as_slice()
-        || bytes == b"_Complex".as_slice()
-        || bytes == b"_Imaginary".as_slice()
-}
-
-/// Whether this is another keyword of C99 that stands in declarations.
-#[tactic(auto, unfolding(crate::specs::Words::is_unused_declaration))]
-fn is_unused_declaration(bytes: &[u8]) -> bool
-    ensures { result ≡ is_unused_declaration bytes.now }
-{
-    bytes == b"auto".as_slice()
-        || bytes == b"extern".as_slice()
-        || bytes == b"inline".as_slice()
-        || bytes == b"register".as_slice()
-        || bytes == b"restrict".as_slice()
-        || bytes == b"typedef".as_slice()
-        || bytes == b"volatile".as_slice()
-}
-
-/// Whether this is another keyword of C99 that stands in statements.
-#[tactic(auto, unfolding(crate::specs::Words::is_unused_statement))]
-fn is_unused_statement(bytes: &[u8]) -> bool
-    ensures { result ≡ is_unused_statement bytes.now }
-{
-    bytes == b"break".as_slice()
-        || bytes == b"case".as_slice()
-        || bytes == b"continue".as_slice()
-        || bytes == b"default".as_slice()
-        || bytes == b"do".as_slice()
-        || bytes == b"for".as_slice()
-        || bytes == b"goto".as_slice()
-        || bytes == b"sizeof".as_slice()
-        || bytes == b"switch".as_slice()
-}
-
-/// A keyword of C99 that has no use.
-#[tactic(auto, unfolding(crate::specs::Words::unused_word))]
-fn unused_word(bytes: &[u8]) -> Option<Word>
-    ensures { result ≡ unused_word bytes.now }
-{
-    if is_unused_type(bytes) || is_unused_declaration(bytes) || is_unused_statement(bytes) {
-        Some(Word::Unused)
-    } else {
-        None
-    }
+    listed_in(table[letter], bytes)
 }
 
 /// The reserved word of these bytes, if they are one.
-#[tactic(auto, unfolding(crate::specs::Words::word_of))]
 pub(crate) fn word_of(bytes: &[u8]) -> Option<Word>
     ensures { result ≡ word_of bytes.now }
 {
-    if let Some(word) = keyword(bytes) {
-        return Some(word);
-    }
-    if let Some(word) = interface_word(bytes) {
-        return Some(word);
-    }
-    if let Some(word) = reference_word(bytes) {
-        return Some(word);
-    }
-    if let Some(word) = constant_word(bytes) {
-        return Some(word);
-    }
-    unused_word(bytes)
+    let [first, ..] = bytes else {
+        return None;
+    };
+    listed_at(&WORDS, (*first % 32) as usize, bytes)
 }
