@@ -16,12 +16,10 @@ use Rattle.parse.specs.declared.words.Word.{Word}
 use Rattle.parse.specs.declared.lexemes.Fixed.TheVariants as fixed
 use Rattle.parse.specs.Words.{word_of}
 use Rattle.parse.specs.Meaning.{Fixed', name_or_word, meaning_of, token_meaning}
-use Rattle.parse.specs.Lexemes.{Lexed, is_fixed_meaning, line_ends, lexemes}
-use Rattle.parse.specs.Order.{AreInOrder}
+use Rattle.parse.specs.Lexemes.{Lexed, is_fixed_meaning, line_ends, lexemes, AreInOrder}
 use Rattle.parse.specs.Results.{Fails}
 use Rattle.parse.specs.Spelling.{Spelled, Anywhere, OnLine, item, spell, Stands, SpellsUnit}
 use Rattle.parse.specs.Reading.{starts_with, items_at, unit_at}
-use Rattle.parse.proofs.Lines.{order_from}
 use Rattle.parse.proofs.Singles.{Begins}
 use Rattle.parse.proofs.Ranges.{tokens_in_range, spelled_in_range}
 use Rattle.parse.proofs.Trees.{is_tree, tree_items}
@@ -35,10 +33,14 @@ reaches text (ends h) = omega arith
 reaches text (passes n gap rest) = let p = reaches text rest in omega (arith, p)
 reaches text (takes kind n token rest) = let p = reaches text rest in omega (arith, p)
 
+order_later : (text : List ℕ) (a b : ℕ) (tokens : List Token) → a ≤ b → AreInOrder text b tokens → AreInOrder text a tokens
+order_later text a b [] le h = omega arith
+order_later text a b (t ∷ tokens) le h = (omega (arith, h.0), h.1, h.2)
+
 pub order_of : (text : List ℕ) {at : ℕ} {tokens : List Token} → SpellsFrom text at tokens → AreInOrder text at tokens
 order_of text (ends h) = omega arith
-order_of text {at} {tokens} (passes n gap rest) = order_from text at (at + n) tokens (omega arith) (order_of text rest)
-order_of text {at} (takes kind n token rest) = let p = reaches text rest in (omega arith, ((omega arith, p), order_of text rest))
+order_of text {at} {tokens} (passes n gap rest) = order_later text at (at + n) tokens (omega arith) (order_of text rest)
+order_of text {at} (takes kind n token rest) = let p = reaches text rest in (omega arith, record { ordered = omega arith; within = p }, order_of text rest)
 
 -- ---- the lines, counted on or from the start
 
@@ -56,7 +58,7 @@ unfolding lexemes
 lexemes_is text place line [] order is = (line, refl)
 lexemes_is text place line (t ∷ tokens) order is =
     let now : line + line_ends (slice_range text place t.start) ≡ line_of text t.start = let p = lines_more text place t.start order.0 in omega (arith, is, p) in
-    let w = lexemes_is text t.start (line + line_ends (slice_range text place t.start)) tokens (order_from text t.start t.end tokens order.1.0.0 order.1.1) now in
+    let w = lexemes_is text t.start (line + line_ends (slice_range text place t.start)) tokens (order_later text t.start t.end tokens order.1.ordered order.2) now in
     (w.0, ap (λ (ls : List Lexed). record { meaning = token_meaning text t; line = line + line_ends (slice_range text place t.start) } ∷ ls) w.1 ∙ ap (λ n. record { meaning = token_meaning text t; line = n } ∷ (lexemes_of text tokens ++ record { meaning = Fixed' fixed.End; line = w.0 } ∷ [])) now)
 
 -- ---- the End stands after all tokens and nowhere else

@@ -1,5 +1,5 @@
 -- Lexemes: tokens with what they stand for and their lines, and reading single ones.
-use Rattle.std.specs.Prelude.{ℕ, ◌+◌, Bool, true, false, ◌==◌, List, [], ◌∷◌, count_by, slice_range, Option, Some, None, Result, Ok, Err, if◌then◌else◌}
+use Rattle.std.specs.Prelude.{ℕ, ◌+◌, ◌≤◌, Bool, true, false, ◌==◌, List, [], ◌∷◌, length, map, count_by, slice_range, Result, Ok, Err, if◌then◌else◌}
 use Rattle.scan.specs.declared.token.Token.{Token}
 use Rattle.scan.specs.declared.token.Mark.{Mark}
 use Rattle.scan.specs.declared.token.Mark.TheVariants as marks
@@ -13,12 +13,24 @@ use Rattle.parse.specs.declared.lexemes.Fixed.{Fixed}
 use Rattle.parse.specs.declared.lexemes.Fixed.TheVariants as fixed
 use Rattle.parse.specs.declared.lexemes.Shape.{Shape}
 use Rattle.parse.specs.declared.lexemes.Shape.TheVariants as shapes
-use Rattle.parse.specs.declared.cursor.Cursor.{Cursor}
+use Rattle.parse.specs.declared.lexemes.Lexeme.{Lexeme}
 use Rattle.parse.specs.Meaning.{Meaning, Fixed', Name', Number', Text', token_meaning}
 
 pub record Lexed : Type 0 where
   pub meaning : Meaning
   pub line : ℕ
+
+abbrev pub view_shape : Shape → Meaning
+view_shape (shapes.Fixed f) = Fixed' f
+view_shape (shapes.Name bytes) = Name' bytes.items
+view_shape (shapes.Number value unsigned) = Number' value unsigned
+view_shape (shapes.Text bytes) = Text' bytes.items
+
+abbrev pub view : Lexeme → Lexed
+view l = record { meaning = view_shape l.shape; line = l.line }
+
+abbrev pub views : List Lexeme → List Lexed
+views ls = map view ls
 
 -- ---- the lexemes of a text
 
@@ -32,26 +44,14 @@ lexemes text place line (token ∷ tokens) =
     record { meaning = token_meaning text token; line = line + line_ends (slice_range text place token.start) }
     ∷ lexemes text token.start (line + line_ends (slice_range text place token.start)) tokens
 
--- the lexemes after that of the first of these tokens, which stands in this line
-abbrev pub lexemes_after : List ℕ → ℕ → List Token → List Lexed
-lexemes_after text line [] = []
-lexemes_after text line (token ∷ tokens) = lexemes text token.start line tokens
+pub record IsInside (text : List ℕ) (token : Token) : Type 0 where
+  pub ordered : token.start ≤ token.end
+  pub within : token.end ≤ length text
 
--- what a first lexeme stands for; there is none after the end
-abbrev pub shape_meaning : Shape → Option Meaning
-shape_meaning (shapes.Fixed f) = Some (Fixed' f)
-shape_meaning (shapes.Name bytes) = Some (Name' bytes.now)
-shape_meaning (shapes.Number value unsigned) = Some (Number' value unsigned)
-shape_meaning (shapes.Text bytes) = Some (Text' bytes.now)
-shape_meaning shapes.Nothing = None
-
-abbrev pub with_first : Option Meaning → ℕ → List Lexed → List Lexed
-with_first None line after = []
-with_first (Some meaning) line after = record { meaning = meaning; line = line } ∷ after
-
--- the lexemes that aren't read yet
-abbrev pub views : Cursor → List Lexed
-views c = with_first (shape_meaning c.shape) c.line (lexemes_after c.text.now c.line c.tokens.now)
+-- the tokens stand one after the other, from a place on
+abbrev pub AreInOrder : List ℕ → ℕ → List Token → Type 0
+AreInOrder text place [] = place ≤ length text
+AreInOrder text place (token ∷ tokens) = (place ≤ token.start) × IsInside text token × AreInOrder text token.end tokens
 
 -- ---- single lexemes
 

@@ -1,10 +1,8 @@
 pub mod Words
 pub mod WordTable
 pub mod Meaning
-pub mod Order
 pub mod Spelling
 pub mod Faults
 pub mod Results
 pub mod Lexemes
 pub mod Reading
-pub mod Steps

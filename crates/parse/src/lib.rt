@@ -2,7 +2,6 @@
 #![tactic(auto)]
 
 mod calls;
-mod cursor;
 mod declarations;
 mod expressions;
 mod fault;

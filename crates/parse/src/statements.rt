@@ -7,11 +7,10 @@ ghost use Rattle.parse.specs.Lexemes.{views};
 ghost use Rattle.parse.specs.Reading.{simple_at, inner, if_test_at, if_by, else_by, while_test_at, while_by, is_return, statement_at, block_at};
 
 use crate::calls::test;
-use crate::cursor::Cursor;
 use crate::declarations::{declared, starts_declaration};
-use crate::expressions::{closed, expression};
+use crate::expressions::expression;
 use crate::fault::{Fault, ParseFault};
-use crate::lexemes::{Fixed, expect, fault_at, line_at, rest_of, starts_with, unexpected};
+use crate::lexemes::{Fixed, Lexeme, expect, fault_at, line_at, rest_of, starts_with, unexpected};
 use crate::plain::plain;
 use crate::words::Word;
 use scan::Mark;
@@ -19,10 +18,10 @@ use std::alloc::Global;
 use syntax::{Block, Expr, Form, Stmt, Test};
 
 /// A statement, how many more names may be declared after it, and what comes after it.
-type ReadStmt<'t> = (Stmt, usize, Cursor<'t>);
+type ReadStmt<'t> = (Stmt, usize, &'t [Lexeme]);
 
 /// A block, how many more names may be declared after it, and what comes after it.
-type ReadBlock<'t> = (Block, usize, Cursor<'t>);
+type ReadBlock<'t> = (Block, usize, &'t [Lexeme]);
 
 /// A statement without a block, where `free` more names may be declared.
 #[tactic(auto, unfolding(crate::specs::Reading::simple_at))]
@@ -30,10 +29,10 @@ fn simple(
     alloc: Global,
     room: u32,
     free: usize,
-    lexemes: Cursor<'_>,
+    lexemes: &[Lexeme],
 ) -> Result<ReadStmt<'_>, ParseFault>
     requires { room ≤ 32 }
-    ensures { Gives (λ x. (stmt_tree x.0, x.1, views x.2)) result (simple_at room free (views lexemes.entry)) }
+    ensures { Gives (λ x. (stmt_tree x.0, x.1, views x.2.now)) result (simple_at room free (views lexemes.now)) }
 {
     if starts_declaration(lexemes) {
         if free == 0 {
@@ -55,9 +54,9 @@ fn is_return(stmt: &Stmt) -> bool
 
 /// What an `if` tests, in its parentheses, and what comes after the brace of its block.
 #[tactic(auto, unfolding(crate::specs::Reading::if_test_at))]
-fn if_test(alloc: Global, room: u32, lexemes: Cursor<'_>) -> Result<(Test, Cursor<'_>), ParseFault>
+fn if_test(alloc: Global, room: u32, lexemes: &[Lexeme]) -> Result<(Test, &[Lexeme]), ParseFault>
     requires { room ≤ 32 }
-    ensures { Gives (λ x. (test_tree x.0, views x.1)) result (if_test_at room (views lexemes.entry)) }
+    ensures { Gives (λ x. (test_tree x.0, views x.1.now)) result (if_test_at room (views lexemes.now)) }
 {
     let rest = expect(Fixed::Mark(Mark::OpenParen), lexemes)?;
     let (test, rest) = test(alloc, room, rest)?;
@@ -68,18 +67,14 @@ fn if_test(alloc: Global, room: u32, lexemes: Cursor<'_>) -> Result<(Test, Curso
 
 /// What a `while` tests, in its parentheses, and what comes after the brace of its block.
 #[tactic(auto, unfolding(crate::specs::Reading::while_test_at))]
-fn while_test(
-    alloc: Global,
-    room: u32,
-    lexemes: Cursor<'_>,
-) -> Result<(Expr, Cursor<'_>), ParseFault>
+fn while_test(alloc: Global, room: u32, lexemes: &[Lexeme]) -> Result<(Expr, &[Lexeme]), ParseFault>
     requires { room ≤ 32 }
-    ensures { Gives (λ x. (expr_tree x.0, views x.1)) result (while_test_at room (views lexemes.entry)) }
+    ensures { Gives (λ x. (expr_tree x.0, views x.1.now)) result (while_test_at room (views lexemes.now)) }
 {
     let rest = expect(Fixed::Mark(Mark::OpenParen), lexemes)?;
-    let (test, height, rest) = expression(alloc, room, 0, rest)?;
-    let (test, height, rest) = closed(Fixed::Mark(Mark::CloseParen), test, height, rest)?;
-    let (test, _, rest) = closed(Fixed::Mark(Mark::OpenBrace), test, height, rest)?;
+    let (test, _, rest) = expression(alloc, room, 0, rest)?;
+    let rest = expect(Fixed::Mark(Mark::CloseParen), rest)?;
+    let rest = expect(Fixed::Mark(Mark::OpenBrace), rest)?;
     Ok((test, rest))
 }
 
@@ -91,11 +86,11 @@ fn if_statement(
     room: u32,
     free: usize,
     line: usize,
-    lexemes: Cursor<'_>,
+    lexemes: &[Lexeme],
 ) -> Result<ReadStmt<'_>, ParseFault>
     requires some { 1 ≤ room }
     requires bound { room ≤ 32 }
-    ensures { Gives (λ x. (stmt_tree x.0, x.1, views x.2)) result (if_by (inner room) room free line (views lexemes.entry)) }
+    ensures { Gives (λ x. (stmt_tree x.0, x.1, views x.2.now)) result (if_by (inner room) room free line (views lexemes.now)) }
 {
     let (test, rest) = if_test(alloc, room, lexemes)?;
     let (body, left, rest) = block(alloc, room - 1, free, rest)?;
@@ -112,11 +107,11 @@ fn else_block(
     test: Test,
     body: Block,
     free: usize,
-    lexemes: Cursor<'_>,
+    lexemes: &[Lexeme],
 ) -> Result<ReadStmt<'_>, ParseFault>
     requires some { 1 ≤ room }
     requires bound { room ≤ 32 }
-    ensures { Gives (λ x. (stmt_tree x.0, x.1, views x.2)) result (else_by (inner room) line (test_tree test) (block_tree body) free (views lexemes.entry)) }
+    ensures { Gives (λ x. (stmt_tree x.0, x.1, views x.2.now)) result (else_by (inner room) line (test_tree test) (block_tree body) free (views lexemes.now)) }
 {
     if !starts_with(Fixed::Word(Word::Else), lexemes) {
         let form = Form::If(test, body);
@@ -136,11 +131,11 @@ fn while_statement(
     room: u32,
     free: usize,
     line: usize,
-    lexemes: Cursor<'_>,
+    lexemes: &[Lexeme],
 ) -> Result<ReadStmt<'_>, ParseFault>
     requires some { 1 ≤ room }
     requires bound { room ≤ 32 }
-    ensures { Gives (λ x. (stmt_tree x.0, x.1, views x.2)) result (while_by (inner room) room free line (views lexemes.entry)) }
+    ensures { Gives (λ x. (stmt_tree x.0, x.1, views x.2.now)) result (while_by (inner room) room free line (views lexemes.now)) }
 {
     let (test, rest) = while_test(alloc, room, lexemes)?;
     let (body, left, rest) = block(alloc, room - 1, free, rest)?;
@@ -155,10 +150,10 @@ fn statement(
     alloc: Global,
     room: u32,
     free: usize,
-    lexemes: Cursor<'_>,
+    lexemes: &[Lexeme],
 ) -> Result<ReadStmt<'_>, ParseFault>
     requires { room ≤ 32 }
-    ensures { Gives (λ x. (stmt_tree x.0, x.1, views x.2)) result (statement_at room free (views lexemes.entry)) }
+    ensures { Gives (λ x. (stmt_tree x.0, x.1, views x.2.now)) result (statement_at room free (views lexemes.now)) }
 {
     let line = line_at(lexemes);
     if starts_with(Fixed::Word(Word::If), lexemes) {
@@ -182,10 +177,10 @@ pub(crate) fn block(
     alloc: Global,
     room: u32,
     names: usize,
-    lexemes: Cursor<'_>,
+    lexemes: &[Lexeme],
 ) -> Result<ReadBlock<'_>, ParseFault>
     requires { room ≤ 32 }
-    ensures { Gives (λ x. (block_tree x.0, x.1, views x.2)) result (block_at room names (views lexemes.entry)) }
+    ensures { Gives (λ x. (block_tree x.0, x.1, views x.2.now)) result (block_at room names (views lexemes.now)) }
 {
     let mut statements = Vec::new(alloc);
     let mut rest = lexemes;

@@ -6,8 +6,7 @@ ghost use Rattle.syntax.specs.Views.{reference_tree, result_tree, element_tree, 
 ghost use Rattle.parse.specs.Lexemes.{views};
 ghost use Rattle.parse.specs.Reading.{reference_of_word, result_of_word, element_of_word, parameter_of_word, variable_of_word, reference_type_at, result_type_at, element_type_at, parameter_type_at, variable_type_at};
 
-use crate::cursor::Cursor;
-use crate::lexemes::{same_word, word_at};
+use crate::lexemes::{Lexeme, same_word, word_at};
 use crate::words::Word;
 use syntax::{ElementType, ParameterType, ReferenceType, ResultType, VariableType};
 
@@ -87,8 +86,8 @@ fn variable_of(word: Word) -> Option<VariableType>
 }
 
 /// The type of references that comes next.
-pub(crate) fn reference_type(lexemes: Cursor<'_>) -> Option<ReferenceType>
-    ensures { option_map reference_tree result ≡ reference_type_at (views lexemes.entry) }
+pub(crate) fn reference_type(lexemes: &[Lexeme]) -> Option<ReferenceType>
+    ensures { option_map reference_tree result ≡ reference_type_at (views lexemes.now) }
 {
     match word_at(lexemes) {
         Some(word) => reference_of(word),
@@ -97,8 +96,8 @@ pub(crate) fn reference_type(lexemes: Cursor<'_>) -> Option<ReferenceType>
 }
 
 /// The type of a result, where one comes next.
-pub(crate) fn result_type(lexemes: Cursor<'_>) -> Option<ResultType>
-    ensures { option_map result_tree result ≡ result_type_at (views lexemes.entry) }
+pub(crate) fn result_type(lexemes: &[Lexeme]) -> Option<ResultType>
+    ensures { option_map result_tree result ≡ result_type_at (views lexemes.now) }
 {
     match word_at(lexemes) {
         Some(word) => result_of(word),
@@ -107,8 +106,8 @@ pub(crate) fn result_type(lexemes: Cursor<'_>) -> Option<ResultType>
 }
 
 /// The type of an element, where one comes next.
-pub(crate) fn element_type(lexemes: Cursor<'_>) -> Option<ElementType>
-    ensures { option_map element_tree result ≡ element_type_at (views lexemes.entry) }
+pub(crate) fn element_type(lexemes: &[Lexeme]) -> Option<ElementType>
+    ensures { option_map element_tree result ≡ element_type_at (views lexemes.now) }
 {
     match word_at(lexemes) {
         Some(word) => element_of(word),
@@ -117,8 +116,8 @@ pub(crate) fn element_type(lexemes: Cursor<'_>) -> Option<ElementType>
 }
 
 /// The type of a parameter, where one comes next.
-pub(crate) fn parameter_type(lexemes: Cursor<'_>) -> Option<ParameterType>
-    ensures { option_map parameter_type_tree result ≡ parameter_type_at (views lexemes.entry) }
+pub(crate) fn parameter_type(lexemes: &[Lexeme]) -> Option<ParameterType>
+    ensures { option_map parameter_type_tree result ≡ parameter_type_at (views lexemes.now) }
 {
     match word_at(lexemes) {
         Some(word) => parameter_of(word),
@@ -127,8 +126,8 @@ pub(crate) fn parameter_type(lexemes: Cursor<'_>) -> Option<ParameterType>
 }
 
 /// The type of a variable, where one comes next.
-pub(crate) fn variable_type(lexemes: Cursor<'_>) -> Option<VariableType>
-    ensures { option_map variable_type_tree result ≡ variable_type_at (views lexemes.entry) }
+pub(crate) fn variable_type(lexemes: &[Lexeme]) -> Option<VariableType>
+    ensures { option_map variable_type_tree result ≡ variable_type_at (views lexemes.now) }
 {
     match word_at(lexemes) {
         Some(word) => variable_of(word),

@@ -6,7 +6,7 @@ ghost use Rattle.parse.specs.Words.{word_of};
 ghost use Rattle.parse.specs.WordTable.{row_value, rows_value};
 
 /// A reserved word.
-#[derive(Clone, Copy, PartialEq, Eq)]
+#[derive(Clone, Copy, Debug, PartialEq, Eq)]
 pub(crate) enum Word {
     /// `static`
     Static,
