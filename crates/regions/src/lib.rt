@@ -10,6 +10,7 @@ mod rules;
 mod states;
 mod walk;
 
+ghost use Rattle.regions.specs.AccountLaws.{OthersStay, StepsMay};
 ghost use Rattle.regions.specs.FirstFaults.{AcceptedBreaksNothing, AcceptedOrBroken, AcceptedOrFirst, FirstIsBroken, NotBoth, OneFirst, OneFirstOfUnit};
 ghost use Rattle.regions.specs.Reachable.{ReachableIsComputed};
 
@@ -54,4 +55,14 @@ pub fn first_is_broken()
 /// The computed list is the set of the reachable objects.
 pub fn reachable_is_computed()
     ensures { ReachableIsComputed }
+{}
+
+/// An entry of one thread, marked or not, changes no other thread's part in a journal.
+pub fn others_stay()
+    ensures { OthersStay }
+{}
+
+/// An entry is of a thread that can step: no trap has stopped the machine, and it has neither ended nor waits.
+pub fn steps_may()
+    ensures { StepsMay }
 {}

@@ -32,6 +32,8 @@ use Rattle.world.specs.contracts.world.World as world
 use Rattle.heap.specs.contracts.heap.Heap as heap
 use Rattle.machine.specs.contracts.thread.Thread as thread
 use Rattle.machine.specs.contracts.machine.Machine as machine
+use Rattle.two_threads.specs.contracts.desk.Desk as desk
+use Rattle.two_threads.specs.contracts.desk.Desk.TheInside as desk-inside
 use Rattle.machine.specs.contracts.machine.Machine.TheInside as machine-inside
 use Rattle.lower.specs.contracts.program.Program as program
 use Rattle.lower.specs.contracts.program.Program.TheInside as program-inside
@@ -75,9 +77,12 @@ pub machine_send : (k : _) → IsSend (machine.the_row k)
 machine_send k = view_send (machine-inside.the_row k) _ _ _ _ (recorded_send (machine-inside.the_field k).row _ _ (machine-inside.the_type k).to_one (struct_send (shape (machine-inside.the_type k))
     (program_send k, (world_send, (heap_send, (search (crosses, sendable) depth 60 fits 20000, (Vec-send thread.the_row thread_send, (search (crosses, sendable) depth 60 fits 20000, (search (crosses, sendable) depth 60 fits 20000, (search (crosses, sendable) depth 60 fits 20000, tt))))))))))
 
--- so two threads may share a lock over it
-pub shared_machine_sync : (k : _) → IsSync (mutex.the_row (machine.the_row k))
-shared_machine_sync k = mutex-sent.the_sync (machine.the_row k) (machine_send k)
+-- and what lies under the lock, which two threads may share then
+desk_send : (k : _) (J : RattleType) (g : _) → IsSend J → IsSend (desk.the_row k J g)
+desk_send k J g s = view_send (desk-inside.the_row k J g) _ _ _ _ (recorded_send (desk-inside.the_field k J g).row _ _ (desk-inside.the_type k J g).to_one (struct_send (shape (desk-inside.the_type k J g)) (machine_send k, (search (crosses, sendable) depth 60 fits 20000, tt))))
+
+pub shared_desk_sync : (k : _) (J : RattleType) (g : _) → IsSend J → IsSync (mutex.the_row (desk.the_row k J g))
+shared_desk_sync k J g s = mutex-sent.the_sync (desk.the_row k J g) (desk_send k J g s)
 
 -- a closure that captures three values of which each may cross
 pub closure_send : (name : List ℕ) (a b c : RattleType) → IsSend a → IsSend b → IsSend c → IsSend (TupleAt name (a ∷ b ∷ c ∷ []))
