@@ -1,7 +1,7 @@
 -- A machine may be sent to another thread: each of its parts says the same to every thread. The prover finds this of types with
 -- one invariant; where they are nested it is told part by part.
 use Rattle.std.proofs.Common.{ℕ, List, [], ◌∷◌}
-use Rattle.std.proofs.Crossing.{crosses, Vec-sync, Vec-send}
+use Rattle.std.proofs.Crossing.{crosses, Vec-sync, Vec-send, Box-send}
 use Rattle.std.proofs.vec.Vec.TheSendSync as vec
 use Rattle.std.proofs.sync.Mutex.TheSendSync as mutex-sent
 use Rattle.std.specs.contracts.sync.Mutex as mutex
@@ -28,6 +28,11 @@ use Rattle.types.specs.contracts.typed.Typed as typed
 use Rattle.regions.specs.contracts.checked.Checked as checked
 use Rattle.regions.specs.contracts.checked.Checked.TheInside as checked-inside
 use Rattle.code.specs.contracts.code.Code as code
+use Rattle.code.specs.contracts.code.Code.TheInside as code-inside
+use Rattle.code.specs.contracts.instr.Instr as instr
+use Rattle.code.specs.contracts.instr.Call as call
+use Rattle.code.specs.contracts.instr.BoxedCall as boxed-call
+use Rattle.code.specs.contracts.instr.BoxedCall.TheInside as boxed-call-inside
 use Rattle.world.specs.contracts.world.World as world
 use Rattle.heap.specs.contracts.heap.Heap as heap
 use Rattle.machine.specs.contracts.thread.Thread as thread
@@ -58,8 +63,16 @@ checked_sync = view_sync checked-inside.the_row _ _ _ _ (recorded_sync (checked-
 
 -- ---- what it owns
 
+boxed_call_send : IsSend boxed-call.the_row
+boxed_call_send =
+    view_send boxed-call-inside.the_row _ _ _ _ (recorded_send (boxed-call-inside.the_field).row _ _ boxed-call-inside.the_type.to_one (struct_send (shape boxed-call-inside.the_type) (Box-send call.the_row (search (crosses, sendable) depth 60 fits 20000), tt)))
+
+instr_send : IsSend instr.the_row
+instr_send = search (boxed_call_send, crosses, sendable) depth 60 fits 20000
+
 code_send : IsSend code.the_row
-code_send = search (crosses, sendable) depth 60 fits 20000
+code_send =
+    view_send code-inside.the_row _ _ _ _ (recorded_send (code-inside.the_field).row _ _ code-inside.the_type.to_one (struct_send (shape code-inside.the_type) (Vec-send instr.the_row instr_send, (search (crosses, sendable) depth 60 fits 20000, tt))))
 
 pub program_send : (k : _) → IsSend (program.the_row k)
 program_send k = view_send (program-inside.the_row k) _ _ _ _ (recorded_send (program-inside.the_field k).row _ _ (program-inside.the_type k).to_one (struct_send (shape (program-inside.the_type k)) (shr_send _ _ checked.the_row checked_sync, (Vec-send code.the_row code_send, tt))))
