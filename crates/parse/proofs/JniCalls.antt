@@ -6,7 +6,7 @@ use Rattle.scan.specs.declared.token.Mark.TheVariants as marks
 use Rattle.syntax.specs.Tree.{LogicalNot, Complement, ToWord, ToInt, Expr, Number, Named, Variable, Element, Prefix, Binary, Paren, Argument, Value, Text, AddressOf, Call, RightSide, FromExpr, FromCall, Test, TestExpr, TestCall}
 use Rattle.syntax.specs.Limits.{height}
 use Rattle.parse.specs.declared.fault.ParseFault.{ParseFault}
-use Rattle.parse.specs.declared.words.Word.TheVariants as words
+use Rattle.scan.specs.declared.reserved.Word.TheVariants as words
 use Rattle.parse.specs.declared.lexemes.Fixed.TheVariants as fixed
 use Rattle.parse.specs.Results.{◌>>=◌}
 use Rattle.parse.specs.Meaning.{Meaning, Fixed', Name', Number', Text'}

@@ -8,8 +8,8 @@ use Rattle.scan.specs.declared.token.Mark.TheVariants as marks
 use Rattle.syntax.specs.Tree.{Constant, True, False, Commit, Abort, Null, PrefixOp, LogicalNot, Complement, ToWord, ToInt, BinaryOp, Expr, Number, Named, Variable, Element, Prefix, Binary, Paren}
 use Rattle.syntax.specs.Limits.{operator_level, prefix_level, height}
 use Rattle.parse.specs.declared.fault.ParseFault.{ParseFault}
-use Rattle.parse.specs.declared.words.Word.{Word}
-use Rattle.parse.specs.declared.words.Word.TheVariants as words
+use Rattle.scan.specs.declared.reserved.Word.{Word}
+use Rattle.scan.specs.declared.reserved.Word.TheVariants as words
 use Rattle.parse.specs.declared.lexemes.Fixed.{Fixed}
 use Rattle.parse.specs.declared.lexemes.Fixed.TheVariants as fixed
 use Rattle.parse.specs.Results.{◌>>=◌}

@@ -16,4 +16,3 @@ pub mod Again
 pub mod Ranges
 pub mod Trees
 pub mod Whole
-mod WordTable

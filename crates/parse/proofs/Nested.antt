@@ -8,8 +8,8 @@ use Rattle.scan.specs.declared.token.Mark.TheVariants as marks
 use Rattle.syntax.specs.Tree.{Expr, Test, Stmt, If, IfElse, While, Block, End, Next}
 use Rattle.syntax.specs.Parts.{statements_within, statements_of, declared_name, names_declared}
 use Rattle.parse.specs.declared.fault.ParseFault.{ParseFault}
-use Rattle.parse.specs.declared.words.Word.{Word}
-use Rattle.parse.specs.declared.words.Word.TheVariants as words
+use Rattle.scan.specs.declared.reserved.Word.{Word}
+use Rattle.scan.specs.declared.reserved.Word.TheVariants as words
 use Rattle.parse.specs.declared.lexemes.Fixed.TheVariants as fixed
 use Rattle.parse.specs.Results.{◌>>=◌}
 use Rattle.parse.specs.Meaning.{Fixed'}

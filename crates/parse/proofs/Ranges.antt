@@ -9,8 +9,8 @@ use Rattle.scan.specs.declared.token.Mark.TheVariants as marks
 use Rattle.scan.specs.Spelling.{SpellsFrom, ends, passes, takes, IsLexeme}
 use Rattle.syntax.specs.Tree.{Expr, Number, Named, Variable, Element, Prefix, Binary, Paren}
 use Rattle.syntax.specs.Limits.{number_limit, numbers_in_range}
-use Rattle.parse.specs.declared.words.Word.{Word}
-use Rattle.parse.specs.Words.{word_of}
+use Rattle.scan.specs.declared.reserved.Word.{Word}
+use Rattle.scan.specs.Words.{word_of}
 use Rattle.parse.specs.Meaning.{Meaning, Fixed', Name', Number', Text', name_or_word, meaning_of, token_meaning}
 use Rattle.parse.specs.Spelling.{Spelled, Anywhere, OnLine, meaning_in, mark, operator_mark, prefix_tokens, expression, Stands}
 

@@ -9,7 +9,7 @@ use Rattle.scan.specs.declared.token.Mark.TheVariants as marks
 use Rattle.syntax.specs.Tree.{Expr, Number, Named, Variable, Element, Prefix, Binary, Paren, Argument, Value, Text, AddressOf, Call, RightSide, FromExpr, FromCall, Test, TestExpr, TestCall, Stmt, Declare, DeclareBuffer, DeclareChars, DeclareArray, Assign, AssignElement, Perform, PutJint, If, IfElse, While, Return, ReturnValue, Block, End, Next, Function, Item, StaticItem, FunctionItem, SourceUnit}
 use Rattle.syntax.specs.Parts.{functions_of, statements_within, statements_of, argument_expressions, right_side_expressions, test_expressions, own_expressions, names_declared, parameter_names}
 use Rattle.syntax.specs.Limits.{operator_level, prefix_level, level, levelled, numbers_in_range, height, highest, own_height, statement_height, block_height, well_formed, block_well_formed, IsTree}
-use Rattle.parse.specs.declared.words.Word.TheVariants as words
+use Rattle.scan.specs.declared.reserved.Word.TheVariants as words
 use Rattle.parse.specs.declared.lexemes.Fixed.TheVariants as fixed
 use Rattle.parse.specs.Meaning.{Fixed', Number'}
 use Rattle.parse.specs.Spelling.{Spelled, Anywhere, OnLine, mark, word, expression, call, right, test_tokens, statement, inside, parameters, function, item, spell}

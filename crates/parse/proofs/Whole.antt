@@ -12,9 +12,9 @@ use Rattle.syntax.specs.Tree.{Item, SourceUnit}
 use Rattle.syntax.specs.Limits.{IsTree}
 use Rattle.parse.specs.declared.fault.ParseFault.{ParseFault}
 use Rattle.parse.specs.declared.fault.ParseFault.TheVariants.{Memory, Found}
-use Rattle.parse.specs.declared.words.Word.{Word}
+use Rattle.scan.specs.declared.reserved.Word.{Word}
 use Rattle.parse.specs.declared.lexemes.Fixed.TheVariants as fixed
-use Rattle.parse.specs.Words.{word_of}
+use Rattle.scan.specs.Words.{word_of}
 use Rattle.parse.specs.Meaning.{Fixed', name_or_word, meaning_of, token_meaning}
 use Rattle.parse.specs.Lexemes.{Lexed, is_fixed_meaning, line_ends, lexemes, AreInOrder}
 use Rattle.parse.specs.Results.{Fails}

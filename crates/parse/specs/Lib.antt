@@ -1,5 +1,3 @@
-pub mod Words
-pub mod WordTable
 pub mod Meaning
 pub mod Spelling
 pub mod Faults

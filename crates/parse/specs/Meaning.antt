@@ -3,10 +3,10 @@ use Rattle.std.specs.Prelude.{ℕ, ◌-◌, Bool, List, [], ◌∷◌, length, t
 use Rattle.scan.specs.declared.token.Token.{Token}
 use Rattle.scan.specs.declared.token.Kind.{Kind}
 use Rattle.scan.specs.declared.token.Kind.TheVariants as kinds
-use Rattle.parse.specs.declared.words.Word.{Word}
+use Rattle.scan.specs.declared.reserved.Word.{Word}
 use Rattle.parse.specs.declared.lexemes.Fixed.{Fixed}
 use Rattle.parse.specs.declared.lexemes.Fixed.TheVariants as fixed
-use Rattle.parse.specs.Words.{word_of}
+use Rattle.scan.specs.Words.{word_of}
 
 -- a mark or a reserved word, which stand for themselves, or a name, a number or a string
 pub data Meaning : Type 0 where

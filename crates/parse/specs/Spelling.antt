@@ -9,8 +9,8 @@ use Rattle.scan.specs.declared.token.Mark.TheVariants as marks
 use Rattle.scan.specs.Spelling.{Spells, line_of}
 use Rattle.syntax.specs.Tree.{ReferenceType, JObject, JClass, JString, JArray, JThrowable, JIntArray, JShortArray, JByteArray, JCharArray, JObjectArray, Constant, True, False, Commit, Abort, Null, ResultType, Void, IntResult, ReferenceResult, ParameterType, IntParameter, ReferenceParameter, VariableType, UInt32, JIntVariable, JSize, JBoolean, JFieldId, ReferenceVariable, PrefixOp, LogicalNot, Complement, ToWord, ToInt, BinaryOp, LogicalOr, LogicalAnd, BitOr, BitXor, BitAnd, Equal, NotEqual, Less, LessEqual, Greater, GreaterEqual, ShiftLeft, ShiftRight, Add, Subtract, Multiply, Divide, Remainder, Expr, Number, Named, Variable, Element, Prefix, Binary, Paren, Argument, Value, Text, AddressOf, Call, RightSide, FromExpr, FromCall, Test, TestExpr, TestCall, Stmt, Declare, DeclareBuffer, DeclareChars, DeclareArray, Assign, AssignElement, Perform, PutJint, If, IfElse, While, Return, ReturnValue, Block, End, Next, Parameter, Function, Item, StaticItem, FunctionItem, SourceUnit}
 use Rattle.syntax.specs.Limits.{IsTree}
-use Rattle.parse.specs.declared.words.Word.{Word}
-use Rattle.parse.specs.declared.words.Word.TheVariants as words
+use Rattle.scan.specs.declared.reserved.Word.{Word}
+use Rattle.scan.specs.declared.reserved.Word.TheVariants as words
 use Rattle.parse.specs.declared.lexemes.Fixed.TheVariants as fixed
 use Rattle.parse.specs.Meaning.{Meaning, Fixed', Name', Number', Text', token_meaning}
 

@@ -5,7 +5,7 @@ use Rattle.std.specs.List.{prefix_len}
 use Rattle.std.specs.Option.{option_map}
 use Rattle.std.proofs.lemmas.Bool.{and_parts, or_cases, eqb-true, eq-eqb}
 use Rattle.scan.specs.declared.token.Kind.{Kind}
-use Rattle.scan.specs.declared.token.Kind.TheVariants.{Name, Number, Text, Symbol}
+use Rattle.scan.specs.declared.token.Kind.TheVariants.{Name, Reserved, Number, Text, Symbol}
 use Rattle.scan.specs.declared.token.Mark.{Mark}
 use Rattle.scan.specs.declared.token.Mark.TheVariants.{OpenParen, CloseParen, OpenBrace, CloseBrace, OpenBracket, CloseBracket, Semicolon, Comma, Assign, Star, Arrow, Ampersand, Bar, Caret, Tilde, Exclamation, Plus, Minus, Slash, Percent, Less, Greater, LessEqual, GreaterEqual, Equal, NotEqual, LogicalAnd, LogicalOr, ShiftLeft, ShiftRight}
 use Rattle.scan.specs.declared.fault.Fault.{Fault}
@@ -13,7 +13,7 @@ use Rattle.scan.specs.declared.fault.Fault.TheVariants.{BadByte, OpenComment, Ba
 use Rattle.scan.specs.Bytes.{is_blank, is_name_start, is_word, is_text, is_in_line, is_within}
 use Rattle.scan.specs.Spelling.{IsLexeme, IsToken, mark_bytes}
 use Rattle.scan.specs.Faults.{BeginsNothing, HasFault}
-use Rattle.scan.specs.Reading.{Piece, piece_at, number_at, number_of, number_piece, text_at, comment_or_mark, mark_piece, mark_of, pair_of, block_piece, close_len}
+use Rattle.scan.specs.Reading.{Piece, piece_at, name_at, number_at, number_of, number_piece, text_at, comment_or_mark, mark_piece, mark_of, pair_of, block_piece, close_len}
 use Rattle.scan.proofs.Words.{figure_is_word}
 use Rattle.scan.proofs.Digits.{number_first}
 use Rattle.scan.proofs.Grammar.{chosen}
@@ -70,7 +70,8 @@ nothing : (a : ℕ) → is_blank a ≡ false → is_word a ≡ false → is_name
 nothing a blank word letter quote unmarked = record { no_blank = blank; no_lexeme = none }
   where
     none : (kind : Kind) (rest : List ℕ) → IsLexeme kind (a ∷ rest) → ⊥
-    none Name rest h = let f : true ≡ false = sym h.0 ∙ letter in absurd cc
+    none Name rest h = let f : true ≡ false = sym h.0.0 ∙ letter in absurd cc
+    none (Reserved w) rest h = let f : true ≡ false = sym h.0.0 ∙ letter in absurd cc
     none (Number unsigned value) rest h = let f : true ≡ false = sym (figure_is_word a (number_first a rest value unsigned h)) ∙ word in absurd cc
     none Text rest h = let e : a ≡ 34 = cc in let f : true ≡ false = sym (eq-eqb a 34 e) ∙ quote in absurd cc
     none (Symbol mark) rest h =
@@ -150,7 +151,7 @@ fault_here (a ∷ rest) fault lt e =
     elim (chosen (is_blank a) _ _ (refused fault) e) [
       | inl w ↦ absurd (no_refusal (None, 1) fault w.1)
       | inr blank ↦ elim (chosen (is_name_start a) _ _ (refused fault) blank.1) [
-        | inl w ↦ absurd (no_refusal (Some Name, prefix_len is_word (a ∷ rest)) fault w.1)
+        | inl w ↦ absurd (no_refusal (name_at (a ∷ rest)) fault w.1)
         | inr letter ↦ elim (chosen (is_word a) _ _ (refused fault) letter.1) [
           | inl w ↦ number letter.0 w.0 (number_refused (number_of (take (prefix_len is_word (a ∷ rest)) (a ∷ rest))) _ (prefix_len is_word (a ∷ rest)) fault w.1)
           | inr word ↦ elim (chosen (a == 34) _ _ (refused fault) word.1) [

@@ -4,14 +4,14 @@ use Rattle.std.specs.Prelude.{◌⊎◌}
 use Rattle.std.proofs.lemmas.Bool.{or_left}
 use Rattle.std.proofs.lemmas.List.{drop_all}
 use Rattle.scan.specs.declared.token.Kind.{Kind}
-use Rattle.scan.specs.declared.token.Kind.TheVariants.{Name, Number, Text, Symbol}
+use Rattle.scan.specs.declared.token.Kind.TheVariants.{Name, Reserved, Number, Text, Symbol}
 use Rattle.scan.specs.declared.token.Mark.TheVariants.{Slash}
 use Rattle.scan.specs.declared.token.Token.{Token}
 use Rattle.scan.specs.declared.fault.Fault.{Fault}
 use Rattle.scan.specs.declared.fault.Fault.TheVariants.{BadByte, OpenComment, BadNumber, BadText}
 use Rattle.scan.specs.declared.fault.ScanFault.TheVariants.{Found}
 use Rattle.scan.specs.Bytes.{is_within, is_blank, is_name_start, is_word, is_digit, digit_value, base_value}
-use Rattle.scan.specs.Spelling.{IsLexeme, IsGap, IsToken, SpellsFrom, ends, passes, takes, Spells, line_of}
+use Rattle.scan.specs.Spelling.{IsName, IsLexeme, IsGap, IsToken, SpellsFrom, ends, passes, takes, Spells, line_of}
 use Rattle.scan.specs.Faults.{IsFilledTo, begins, with_gap, with_token, BeginsNothing, HasFault, IsFirstFault, OneFirstFault, NoFaultWhereSpelled}
 use Rattle.scan.specs.Reading.{Piece, piece_at}
 use Rattle.scan.proofs.Words.{within_parts, figure_is_word, figure_no_letter, word_no_blank}
@@ -59,15 +59,23 @@ no_lexeme_of : (byte : ℕ) (rest : List ℕ) (kind : Kind) (n : ℕ) → Begins
 no_lexeme_of byte rest kind zero none lt form = absurd (omega (arith, lt))
 no_lexeme_of byte rest kind (suc n) none lt form = none.no_lexeme kind (take n rest) form
 
+figure_no_name : (digit : ℕ) (rest : List ℕ) (n : ℕ) → is_within 48 57 digit ≡ true → IsName (take n (digit ∷ rest)) → ⊥
+figure_no_name digit rest n figure name = let f : true ≡ false = sym (front_name n digit rest name) ∙ figure_no_letter digit figure in absurd cc
+
+quote_no_name : (rest : List ℕ) (n : ℕ) → IsName (take n (34 ∷ rest)) → ⊥
+quote_no_name rest n name = let f : false ≡ true = front_name n 34 rest name in absurd cc
+
 no_token : (text : List ℕ) (fault : Fault) → HasFault text fault → (kind : Kind) (n : ℕ) → IsToken kind text n → ⊥
 no_token text BadByte h kind n token =
     no_lexeme_of h.0 h.1 kind n h.3 (piece_sized text (Some kind) n (token_again text kind n token)).0 (subst (λ (t : List ℕ). IsLexeme kind (take n t)) h.2 token.form)
 no_token text OpenComment h kind n token = token.no_comment (rw h.1 (refl, inl refl))
-no_token text BadNumber h Name n token = let f : true ≡ false = sym (front_name n h.0 h.1 (subst (λ (t : List ℕ). IsLexeme Name (take n t)) h.2 token.form)) ∙ figure_no_letter h.0 h.3 in absurd cc
+no_token text BadNumber h Name n token = figure_no_name h.0 h.1 n h.3 (subst (λ (t : List ℕ). IsLexeme Name (take n t)) h.2 token.form).0
+no_token text BadNumber h (Reserved w) n token = figure_no_name h.0 h.1 n h.3 (subst (λ (t : List ℕ). IsLexeme (Reserved w) (take n t)) h.2 token.form).0
 no_token text BadNumber h (Number unsigned value) n token = h.4 value unsigned n token
 no_token text BadNumber h Text n token = word_no_quote h.0 (figure_is_word h.0 h.3) (front_text n h.0 h.1 (subst (λ (t : List ℕ). IsLexeme Text (take n t)) h.2 token.form))
 no_token text BadNumber h (Symbol mark) n token = word_no_mark n h.0 h.1 mark (figure_is_word h.0 h.3) (subst (λ (t : List ℕ). IsLexeme (Symbol mark) (take n t)) h.2 token.form)
-no_token text BadText h Name n token = let f : false ≡ true = front_name n 34 h.0 (subst (λ (t : List ℕ). IsLexeme Name (take n t)) h.1 token.form) in absurd cc
+no_token text BadText h Name n token = quote_no_name h.0 n (subst (λ (t : List ℕ). IsLexeme Name (take n t)) h.1 token.form).0
+no_token text BadText h (Reserved w) n token = quote_no_name h.0 n (subst (λ (t : List ℕ). IsLexeme (Reserved w) (take n t)) h.1 token.form).0
 no_token text BadText h (Number unsigned value) n token = let f : false ≡ true = front_number n 34 h.0 value unsigned (subst (λ (t : List ℕ). IsLexeme (Number unsigned value) (take n t)) h.1 token.form) in absurd cc
 no_token text BadText h Text n token = h.2 n token
 no_token text BadText h (Symbol mark) n token = let p = front_mark n 34 h.0 mark (subst (λ (t : List ℕ). IsLexeme (Symbol mark) (take n t)) h.1 token.form) in let f : true ≡ false = p.3 in absurd cc

@@ -65,7 +65,7 @@ abbrev pub IsOne : Mark → Type 0
 IsOne mark = (byte : ℕ) × (mark_bytes mark ≡ byte ∷ []) × (mark_of byte ≡ Some mark) × IsMarkByte byte
 
 abbrev pub IsTwo : Mark → Type 0
-IsTwo mark = (first second : ℕ) × (mark_bytes mark ≡ first ∷ second ∷ []) × (pair_of first second ≡ Some mark) × IsMarkByte first
+IsTwo mark = (first second : ℕ) × (mark_bytes mark ≡ first ∷ second ∷ []) × (pair_of first second ≡ Some mark) × IsMarkByte first × (is_blank second ≡ false)
 
 pub one_or_two : (mark : Mark) → IsOne mark ⊎ IsTwo mark
 one_or_two OpenParen = inl (40, refl, refl, (refl, refl, refl, refl))
@@ -78,7 +78,7 @@ one_or_two Semicolon = inl (59, refl, refl, (refl, refl, refl, refl))
 one_or_two Comma = inl (44, refl, refl, (refl, refl, refl, refl))
 one_or_two Assign = inl (61, refl, refl, (refl, refl, refl, refl))
 one_or_two Star = inl (42, refl, refl, (refl, refl, refl, refl))
-one_or_two Arrow = inr (45, 62, refl, refl, (refl, refl, refl, refl))
+one_or_two Arrow = inr (45, 62, refl, refl, (refl, refl, refl, refl), refl)
 one_or_two Ampersand = inl (38, refl, refl, (refl, refl, refl, refl))
 one_or_two Bar = inl (124, refl, refl, (refl, refl, refl, refl))
 one_or_two Caret = inl (94, refl, refl, (refl, refl, refl, refl))
@@ -90,11 +90,11 @@ one_or_two Slash = inl (47, refl, refl, (refl, refl, refl, refl))
 one_or_two Percent = inl (37, refl, refl, (refl, refl, refl, refl))
 one_or_two Less = inl (60, refl, refl, (refl, refl, refl, refl))
 one_or_two Greater = inl (62, refl, refl, (refl, refl, refl, refl))
-one_or_two LessEqual = inr (60, 61, refl, refl, (refl, refl, refl, refl))
-one_or_two GreaterEqual = inr (62, 61, refl, refl, (refl, refl, refl, refl))
-one_or_two Equal = inr (61, 61, refl, refl, (refl, refl, refl, refl))
-one_or_two NotEqual = inr (33, 61, refl, refl, (refl, refl, refl, refl))
-one_or_two LogicalAnd = inr (38, 38, refl, refl, (refl, refl, refl, refl))
-one_or_two LogicalOr = inr (124, 124, refl, refl, (refl, refl, refl, refl))
-one_or_two ShiftLeft = inr (60, 60, refl, refl, (refl, refl, refl, refl))
-one_or_two ShiftRight = inr (62, 62, refl, refl, (refl, refl, refl, refl))
+one_or_two LessEqual = inr (60, 61, refl, refl, (refl, refl, refl, refl), refl)
+one_or_two GreaterEqual = inr (62, 61, refl, refl, (refl, refl, refl, refl), refl)
+one_or_two Equal = inr (61, 61, refl, refl, (refl, refl, refl, refl), refl)
+one_or_two NotEqual = inr (33, 61, refl, refl, (refl, refl, refl, refl), refl)
+one_or_two LogicalAnd = inr (38, 38, refl, refl, (refl, refl, refl, refl), refl)
+one_or_two LogicalOr = inr (124, 124, refl, refl, (refl, refl, refl, refl), refl)
+one_or_two ShiftLeft = inr (60, 60, refl, refl, (refl, refl, refl, refl), refl)
+one_or_two ShiftRight = inr (62, 62, refl, refl, (refl, refl, refl, refl), refl)

@@ -1,4 +1,6 @@
 pub mod Bytes
+pub mod Words
+pub mod WordTable
 pub mod Spelling
 pub mod Faults
 pub mod Reading

@@ -6,9 +6,11 @@ use Rattle.base.specs.Numbers.{number_limit}
 use Rattle.scan.specs.declared.token.Mark.{Mark}
 use Rattle.scan.specs.declared.token.Mark.TheVariants.{OpenParen, CloseParen, OpenBrace, CloseBrace, OpenBracket, CloseBracket, Semicolon, Comma, Assign, Star, Arrow, Ampersand, Bar, Caret, Tilde, Exclamation, Plus, Minus, Slash, Percent, Less, Greater, LessEqual, GreaterEqual, Equal, NotEqual, LogicalAnd, LogicalOr, ShiftLeft, ShiftRight}
 use Rattle.scan.specs.declared.token.Kind.{Kind}
-use Rattle.scan.specs.declared.token.Kind.TheVariants.{Name, Number, Text, Symbol}
+use Rattle.scan.specs.declared.token.Kind.TheVariants.{Name, Reserved, Number, Text, Symbol}
+use Rattle.scan.specs.declared.reserved.Word.{Word}
 use Rattle.scan.specs.declared.fault.Fault.{Fault}
 use Rattle.scan.specs.declared.fault.Fault.TheVariants.{BadByte, OpenComment, BadNumber, BadText}
+use Rattle.scan.specs.Words.{word_of}
 use Rattle.scan.specs.Bytes.{is_blank, is_name_start, is_word, is_text, is_in_line, is_digit, base_value}
 
 -- ---- marks
@@ -61,6 +63,13 @@ number_of (a ∷ b ∷ digits) = if a == 48 && b == 120 then number_in 16 digits
 abbrev pub Piece : Type 0
 Piece = Option Kind × ℕ
 
+abbrev pub word_kind : Option Word → Kind
+word_kind None = Name
+word_kind (Some reserved) = Reserved reserved
+
+unfoldable pub name_at : List ℕ → Piece
+name_at text = (Some (word_kind (word_of (take (prefix_len is_word text) text))), prefix_len is_word text)
+
 abbrev pub is_e : ℕ → Bool
 is_e byte = byte == 101 || byte == 69
 
@@ -108,7 +117,7 @@ unfoldable pub piece_at : List ℕ → Result Piece Fault
 piece_at [] = Err BadByte
 piece_at (first ∷ rest) =
     if is_blank first then Ok (None, 1)
-    else if is_name_start first then Ok (Some Name, prefix_len is_word (first ∷ rest))
+    else if is_name_start first then Ok (name_at (first ∷ rest))
     else if is_word first then number_at (first ∷ rest)
     else if first == 34 then text_at rest
     else comment_or_mark first rest

@@ -1,12 +1,13 @@
 -- Which tokens a text spells (ISO/IEC 9899:1999, 6.4).
-use Rattle.std.specs.Prelude.{◌≡◌, ◌≢◌, ℕ, ◌+◌, ◌-◌, ◌<◌, ◌≤◌, Bool, true, false, IsTrue, List, [], ◌∷◌, ◌++◌, length, take, drop, slice_index, ◌⊎◌, count_by, ◌==◌}
+use Rattle.std.specs.Prelude.{◌≡◌, ◌≢◌, ℕ, ◌+◌, ◌-◌, ◌<◌, ◌≤◌, Bool, true, false, IsTrue, List, [], ◌∷◌, ◌++◌, length, take, drop, slice_index, ◌⊎◌, count_by, ◌==◌, Some, None}
 use Rattle.std.specs.List.{prefix_len}
 use Rattle.base.specs.Numbers.{number_limit}
 use Rattle.scan.specs.declared.token.Mark.{Mark}
 use Rattle.scan.specs.declared.token.Mark.TheVariants.{OpenParen, CloseParen, OpenBrace, CloseBrace, OpenBracket, CloseBracket, Semicolon, Comma, Assign, Star, Arrow, Ampersand, Bar, Caret, Tilde, Exclamation, Plus, Minus, Slash, Percent, Less, Greater, LessEqual, GreaterEqual, Equal, NotEqual, LogicalAnd, LogicalOr, ShiftLeft, ShiftRight}
 use Rattle.scan.specs.declared.token.Kind.{Kind}
-use Rattle.scan.specs.declared.token.Kind.TheVariants.{Name, Number, Text, Symbol}
+use Rattle.scan.specs.declared.token.Kind.TheVariants.{Name, Reserved, Number, Text, Symbol}
 use Rattle.scan.specs.declared.token.Token.{Token}
+use Rattle.scan.specs.Words.{word_of}
 use Rattle.scan.specs.Bytes.{is_blank, is_name_start, is_word, is_text, is_in_line, is_digit, base_value}
 
 -- every byte is of this class
@@ -82,7 +83,8 @@ abbrev pub IsQuoted : List ℕ → Type 0
 IsQuoted word = (inside : List ℕ) × Every is_text inside × (word ≡ 34 ∷ (inside ++ 34 ∷ []))
 
 abbrev pub IsLexeme : Kind → List ℕ → Type 0
-IsLexeme Name word = IsName word
+IsLexeme Name word = IsName word × (word_of word ≡ None)
+IsLexeme (Reserved reserved) word = IsName word × (word_of word ≡ Some reserved)
 IsLexeme (Number unsigned value) word = IsNumber word value unsigned
 IsLexeme Text word = IsQuoted word
 IsLexeme (Symbol mark) word = word ≡ mark_bytes mark
@@ -92,6 +94,7 @@ IsLexeme (Symbol mark) word = word ≡ mark_bytes mark
 -- No letter, digit or underscore comes right after a number, nor a sign after one that ends in e.
 abbrev pub IsApart : Kind → List ℕ → List ℕ → Type 0
 IsApart Name word rest = Unit {0}
+IsApart (Reserved reserved) word rest = Unit {0}
 IsApart (Number unsigned value) word rest =
     IsFreeOf rest × (EndsInE word → (slice_index rest 0 ≢ 43) × (slice_index rest 0 ≢ 45))
   where
@@ -134,15 +137,23 @@ pub record IsToken (kind : Kind) (text : List ℕ) (n : ℕ) : Type 0 where
   pub no_comment : BeginsComment text → ⊥
   pub apart : IsApart kind (take n text) (drop n text)
 
+-- how many lines end in these bytes
+abbrev pub line_ends : List ℕ → ℕ
+line_ends bytes = count_by (λ byte. byte == 10) bytes
+
+-- the line of a place, counted from 1
+abbrev pub line_of : List ℕ → ℕ → ℕ
+line_of text place = line_ends (take place text) + 1
+
+-- a token of this kind in n bytes of the text, from a place on
+abbrev pub token_at : List ℕ → ℕ → Kind → ℕ → Token
+token_at text at kind n = record { kind = kind; line = line_of text at; start = at; end = at + n }
+
 -- From a place on, the text is these tokens, and blanks and comments between them.
 pub data SpellsFrom (text : List ℕ) : ℕ → List Token → Type 0 where
   ends : {at : ℕ} → at ≡ length text → SpellsFrom text at []
   passes : {at : ℕ} {tokens : List Token} (n : ℕ) → IsGap (drop at text) n → SpellsFrom text (at + n) tokens → SpellsFrom text at tokens
-  takes : {at : ℕ} {tokens : List Token} (kind : Kind) (n : ℕ) → IsToken kind (drop at text) n → SpellsFrom text (at + n) tokens → SpellsFrom text at (record { kind = kind; start = at; end = at + n } ∷ tokens)
+  takes : {at : ℕ} {tokens : List Token} (kind : Kind) (n : ℕ) → IsToken kind (drop at text) n → SpellsFrom text (at + n) tokens → SpellsFrom text at (token_at text at kind n ∷ tokens)
 
 abbrev pub Spells : List ℕ → List Token → Type 0
 Spells text tokens = SpellsFrom text 0 tokens
-
--- the line of a place, counted from 1
-abbrev pub line_of : List ℕ → ℕ → ℕ
-line_of text place = count_by (λ byte. byte == 10) (take place text) + 1

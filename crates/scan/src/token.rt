@@ -1,5 +1,7 @@
 //! Tokens: their kinds, and where they stand in a text.
 
+use crate::reserved::Word;
+
 /// A punctuator (ISO/IEC 9899:1999, 6.4.6), of those that the language uses.
 #[derive(Clone, Copy, Debug, PartialEq, Eq)]
 pub enum Mark {
@@ -68,9 +70,11 @@ pub enum Mark {
 /// What a token is (ISO/IEC 9899:1999, 6.4).
 #[derive(Clone, Copy, Debug, PartialEq, Eq)]
 pub enum Kind {
-    /// A name or a reserved word: letters, digits and underscores, of which the first is no digit
-    /// (6.4.1, 6.4.2).
+    /// A name: letters, digits and underscores, of which the first is no digit (6.4.2), and which
+    /// are together no reserved word.
     Name,
+    /// A reserved word (6.4.1), or a word that the language reserves beside those of C99.
+    Reserved(Word),
     /// A decimal or hexadecimal number, and whether it ends in `u` (6.4.4.1). Its value is below
     /// 2^31, or with `u` below 2^32. Of C99's suffixes there is no other; octal numbers there are
     /// none. The flag comes first, so that a kind takes 8 bytes.
@@ -81,10 +85,13 @@ pub enum Kind {
     Symbol(Mark),
 }
 
-/// A token, from the byte `start` of its text up to the byte `end`, which is no part of it.
+/// A token, from the byte `start` of its text up to the byte `end`, which is no part of it. It
+/// takes 20 bytes.
 #[derive(Clone, Copy, Debug, PartialEq, Eq)]
 pub struct Token {
     pub kind: Kind,
-    pub start: usize,
-    pub end: usize,
+    /// The line that it begins in, counted from 1.
+    pub line: u32,
+    pub start: u32,
+    pub end: u32,
 }

@@ -13,7 +13,7 @@ use Rattle.scan.proofs.Grammar.{gap_takes}
 use Rattle.scan.proofs.Tokens.{token_takes}
 use Rattle.parse.specs.Meaning.{token_meaning}
 use Rattle.parse.specs.Spelling.{Spelled, Anywhere, OnLine, Stands, spell, SpellsUnit}
-use Rattle.parse.specs.Words.{keyword, interface_word, reference_word, constant_word, is_unused_type, is_unused_declaration, is_unused_statement, unused_word, word_of}
+use Rattle.scan.specs.Words.{keyword, interface_word, reference_word, constant_word, is_unused_type, is_unused_declaration, is_unused_statement, unused_word, word_of}
 
 -- what the computations unfold
 unfoldable pub opened : Unit {0}

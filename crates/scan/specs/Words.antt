@@ -3,8 +3,8 @@ use Rattle.std.specs.Prelude.{ℕ, Bool, ◌||◌, List, [], ◌∷◌, Option, 
 use Rattle.std.specs.List.{list_any}
 use Rattle.std.specs.Option.{option_or}
 use Rattle.base.specs.Bytes.{ByName, lookup}
-use Rattle.parse.specs.declared.words.Word.{Word}
-use Rattle.parse.specs.declared.words.Word.TheVariants as words
+use Rattle.scan.specs.declared.reserved.Word.{Word}
+use Rattle.scan.specs.declared.reserved.Word.TheVariants as words
 
 -- the keywords of C99 that have a use (6.4.1)
 abbrev pub keywords : ByName Word

@@ -8,9 +8,9 @@ use Rattle.std.proofs.lemmas.Slice.Eq.{bytes_eq-Decides}
 use Rattle.std.proofs.lemmas.List.Folds.{list_any-append}
 use Rattle.std.proofs.lemmas.List.FromFn.{get_or-map-range_with_len}
 use Rattle.base.specs.Bytes.{ByName, lookup}
-use Rattle.parse.specs.declared.words.Word.{Word}
-use Rattle.parse.specs.declared.words.Word.TheVariants as words
-use Rattle.parse.specs.Words.{keywords, interface_words, reference_words, constant_words, unused_types, unused_declarations, unused_statements, keyword, interface_word, reference_word, constant_word, is_unused_type, is_unused_declaration, is_unused_statement, unused_word, word_of}
+use Rattle.scan.specs.declared.reserved.Word.{Word}
+use Rattle.scan.specs.declared.reserved.Word.TheVariants as words
+use Rattle.scan.specs.Words.{keywords, interface_words, reference_words, constant_words, unused_types, unused_declarations, unused_statements, keyword, interface_word, reference_word, constant_word, is_unused_type, is_unused_declaration, is_unused_statement, unused_word, word_of}
 
 -- ---- one list of all words
 

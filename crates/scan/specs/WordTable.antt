@@ -2,7 +2,7 @@
 use Rattle.std.specs.Prelude.{ℕ, List, map}
 use Rattle.std.specs.Borrow.{Bor}
 use Rattle.base.specs.Bytes.{ByName}
-use Rattle.parse.specs.declared.words.Word.{Word}
+use Rattle.scan.specs.declared.reserved.Word.{Word}
 
 -- a row of the table in memory
 abbrev pub row_value : Bor (List ℕ) × Word → List ℕ × Word

@@ -2,12 +2,12 @@
 
 ghost use Rattle.std.specs.Prelude.{◌≡◌, ◌<◌, [], length, map, get_or};
 ghost use Rattle.base.specs.Bytes.{lookup};
-ghost use Rattle.parse.specs.Words.{word_of};
-ghost use Rattle.parse.specs.WordTable.{row_value, rows_value};
+ghost use Rattle.scan.specs.Words.{word_of};
+ghost use Rattle.scan.specs.WordTable.{row_value, rows_value};
 
 /// A reserved word.
 #[derive(Clone, Copy, Debug, PartialEq, Eq)]
-pub(crate) enum Word {
+pub enum Word {
     /// `static`
     Static,
     /// `const`

@@ -1,6 +1,6 @@
 use Rattle.std.proofs.Common.{◌∙◌}
-use Rattle.parse.proofs.WordTable.{listed, no_word}
-use Rattle.parse.proofs.words.word_of.Goals as goal
+use Rattle.scan.proofs.WordTable.{listed, no_word}
+use Rattle.scan.proofs.reserved.word_of.Goals as goal
 
 pub returns-in_default : goal.returns-in_default
 returns-in_default c = no_word c.args.bytes.now c.in_default.len_below
