@@ -4,7 +4,7 @@ pub mod Table
 pub mod TypeWords
 pub mod Levels
 pub mod Climbing
-pub mod Lines
+pub mod Shapes
 pub mod JniCalls
 pub mod Commas
 pub mod Sentences

@@ -1,5 +1,5 @@
 -- The numbers of a tree are in range, since those of the tokens are.
-use Rattle.std.proofs.Common.{◌≡◌, ℕ, ◌<◌, Bool, true, false, List, [], ◌∷◌, ◌++◌, Option, Some, None, refl, subst}
+use Rattle.std.proofs.Common.{◌≡◌, ℕ, ◌<◌, true, List, [], ◌∷◌, ◌++◌, Option, Some, None, refl, subst}
 use Rattle.std.specs.List.{AllZip}
 use Rattle.std.proofs.lemmas.Bool.{and_from, lt-ltb}
 use Rattle.scan.specs.declared.token.Token.{Token}
@@ -9,9 +9,7 @@ use Rattle.scan.specs.declared.token.Mark.TheVariants as marks
 use Rattle.scan.specs.Spelling.{SpellsFrom, ends, passes, takes, IsLexeme}
 use Rattle.syntax.specs.Tree.{Expr, Number, Named, Variable, Element, Prefix, Binary, Paren}
 use Rattle.syntax.specs.Limits.{number_limit, numbers_in_range}
-use Rattle.scan.specs.declared.reserved.Word.{Word}
-use Rattle.scan.specs.Words.{word_of}
-use Rattle.parse.specs.Meaning.{Meaning, Fixed', Name', Number', Text', name_or_word, meaning_of, token_meaning}
+use Rattle.parse.specs.Meaning.{Meaning, Fixed', Name', Number', Text', meaning_of, token_meaning}
 use Rattle.parse.specs.Spelling.{Spelled, Anywhere, OnLine, meaning_in, mark, operator_mark, prefix_tokens, expression, Stands}
 
 abbrev pub IsInRange : Meaning → Type 0
@@ -45,12 +43,9 @@ numbers_of (Paren e) h = numbers_of e (range_left (expression e) (mark marks.Clo
 
 -- ---- the tokens of a text
 
-word_in_range : (o : Option Word) (bytes : List ℕ) → IsInRange (name_or_word o bytes)
-word_in_range None bytes = tt
-word_in_range (Some w) bytes = tt
-
 lexeme_in_range : (kind : Kind) (word bytes : List ℕ) → IsLexeme kind word → IsInRange (meaning_of kind bytes)
-lexeme_in_range kinds.Name word bytes h = word_in_range (word_of bytes) bytes
+lexeme_in_range kinds.Name word bytes h = tt
+lexeme_in_range (kinds.Reserved w) word bytes h = tt
 lexeme_in_range (kinds.Number unsigned value) word bytes h = h.small
 lexeme_in_range kinds.Text word bytes h = tt
 lexeme_in_range (kinds.Symbol m) word bytes h = tt

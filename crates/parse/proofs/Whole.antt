@@ -2,21 +2,18 @@
 use Rattle.std.proofs.Common.{◌≡◌, ℕ, ◌+◌, ◌-◌, ◌≤◌, true, false, cond, List, [], ◌∷◌, ◌++◌, length, map, take, drop, Option, Some, None, Result, Ok, Err, refl, sym, ap, subst, ◌∙◌, arith, add-one}
 use Rattle.std.specs.Prelude.{slice_range, ◌==◌, flat_map}
 use Rattle.std.specs.List.{AllZip}
-use Rattle.std.proofs.lemmas.List.Sums.{sum_by-append}
-use Rattle.std.proofs.Math.Seq.{take-add}
 use Rattle.scan.specs.declared.token.Token.{Token}
 use Rattle.scan.specs.declared.token.Kind.{Kind}
 use Rattle.scan.specs.declared.token.Kind.TheVariants as kinds
-use Rattle.scan.specs.Spelling.{SpellsFrom, ends, passes, takes, Spells, line_of}
+use Rattle.scan.specs.Spelling.{SpellsFrom, ends, passes, takes, Spells}
 use Rattle.syntax.specs.Tree.{Item, SourceUnit}
 use Rattle.syntax.specs.Limits.{IsTree}
 use Rattle.parse.specs.declared.fault.ParseFault.{ParseFault}
 use Rattle.parse.specs.declared.fault.ParseFault.TheVariants.{Memory, Found}
-use Rattle.scan.specs.declared.reserved.Word.{Word}
 use Rattle.parse.specs.declared.lexemes.Fixed.TheVariants as fixed
-use Rattle.scan.specs.Words.{word_of}
-use Rattle.parse.specs.Meaning.{Fixed', name_or_word, meaning_of, token_meaning}
-use Rattle.parse.specs.Lexemes.{Lexed, is_fixed_meaning, line_ends, lexemes, AreInOrder}
+use Rattle.parse.specs.Meaning.{Fixed', meaning_of, token_meaning}
+use Rattle.parse.specs.Lexemes.{Lexed, is_fixed_meaning, lexemes}
+use Rattle.parse.specs.Order.{AreInside}
 use Rattle.parse.specs.Results.{Fails}
 use Rattle.parse.specs.Spelling.{Spelled, Anywhere, OnLine, item, spell, Stands, SpellsUnit}
 use Rattle.parse.specs.Reading.{starts_with, items_at, unit_at}
@@ -26,49 +23,34 @@ use Rattle.parse.proofs.Trees.{is_tree, tree_items}
 use Rattle.parse.proofs.Programs.{items_take}
 use Rattle.parse.proofs.Again.{items_again}
 
--- ---- the tokens stand in order
+-- ---- the tokens stand in the text
 
 reaches : (text : List ℕ) {at : ℕ} {tokens : List Token} → SpellsFrom text at tokens → at ≤ length text
 reaches text (ends h) = omega arith
 reaches text (passes n gap rest) = let p = reaches text rest in omega (arith, p)
 reaches text (takes kind n token rest) = let p = reaches text rest in omega (arith, p)
 
-order_later : (text : List ℕ) (a b : ℕ) (tokens : List Token) → a ≤ b → AreInOrder text b tokens → AreInOrder text a tokens
-order_later text a b [] le h = omega arith
-order_later text a b (t ∷ tokens) le h = (omega (arith, h.0), h.1, h.2)
-
-pub order_of : (text : List ℕ) {at : ℕ} {tokens : List Token} → SpellsFrom text at tokens → AreInOrder text at tokens
-order_of text (ends h) = omega arith
-order_of text {at} {tokens} (passes n gap rest) = order_later text at (at + n) tokens (omega arith) (order_of text rest)
-order_of text {at} (takes kind n token rest) = let p = reaches text rest in (omega arith, record { ordered = omega arith; within = p }, order_of text rest)
-
--- ---- the lines, counted on or from the start
-
-lines_more : (text : List ℕ) (a b : ℕ) → a ≤ b → line_ends (take a text) + line_ends (slice_range text a b) ≡ line_ends (take b text)
-lines_more text a b le =
-    let f : b ≡ a + (b - a) = omega arith in
-    sym (sum_by-append (λ byte. cond (byte == 10) 1 0) (take a text) (take (b - a) (drop a text))) ∙ ap line_ends (sym (take-add a (b - a) text)) ∙ ap (λ n. line_ends (take n text)) (sym f)
+pub inside_of : (text : List ℕ) {at : ℕ} {tokens : List Token} → SpellsFrom text at tokens → AreInside text tokens
+inside_of text (ends h) = tt
+inside_of text (passes n gap rest) = inside_of text rest
+inside_of text {at} (takes kind n token rest) = let p = reaches text rest in ((omega arith, p), inside_of text rest)
 
 -- what the tokens of a text stand for, with their lines
 abbrev lexemes_of : List ℕ → List Token → List Lexed
-lexemes_of text tokens = map (λ token. record { meaning = token_meaning text token; line = line_of text token.start }) tokens
+lexemes_of text tokens = map (λ token. record { meaning = token_meaning text token; line = token.line }) tokens
 
-pub lexemes_is : (text : List ℕ) (place line : ℕ) (tokens : List Token) → AreInOrder text place tokens → line ≡ line_of text place → (last : ℕ) × (lexemes text place line tokens ≡ lexemes_of text tokens ++ record { meaning = Fixed' fixed.End; line = last } ∷ [])
+pub lexemes_is : (text : List ℕ) (line : ℕ) (tokens : List Token) → (last : ℕ) × (lexemes text line tokens ≡ lexemes_of text tokens ++ record { meaning = Fixed' fixed.End; line = last } ∷ [])
 unfolding lexemes
-lexemes_is text place line [] order is = (line, refl)
-lexemes_is text place line (t ∷ tokens) order is =
-    let now : line + line_ends (slice_range text place t.start) ≡ line_of text t.start = let p = lines_more text place t.start order.0 in omega (arith, is, p) in
-    let w = lexemes_is text t.start (line + line_ends (slice_range text place t.start)) tokens (order_later text t.start t.end tokens order.1.ordered order.2) now in
-    (w.0, ap (λ (ls : List Lexed). record { meaning = token_meaning text t; line = line + line_ends (slice_range text place t.start) } ∷ ls) w.1 ∙ ap (λ n. record { meaning = token_meaning text t; line = n } ∷ (lexemes_of text tokens ++ record { meaning = Fixed' fixed.End; line = w.0 } ∷ [])) now)
+lexemes_is text line [] = (line, refl)
+lexemes_is text line (t ∷ tokens) =
+    let w = lexemes_is text t.line tokens in
+    (w.0, ap (λ (ls : List Lexed). record { meaning = token_meaning text t; line = t.line } ∷ ls) w.1)
 
 -- ---- the End stands after all tokens and nowhere else
 
-word_not_end : (o : Option Word) (bytes : List ℕ) → is_fixed_meaning (name_or_word o bytes) fixed.End ≡ false
-word_not_end None bytes = refl
-word_not_end (Some w) bytes = refl
-
 not_end : (kind : Kind) (bytes : List ℕ) → is_fixed_meaning (meaning_of kind bytes) fixed.End ≡ false
-not_end kinds.Name bytes = word_not_end (word_of bytes) bytes
+not_end kinds.Name bytes = refl
+not_end (kinds.Reserved w) bytes = refl
 not_end (kinds.Number unsigned value) bytes = refl
 not_end kinds.Text bytes = refl
 not_end (kinds.Symbol m) bytes = refl
@@ -105,7 +87,7 @@ unit_of items = record { items = items }
 
 -- the items that the lexemes of a text give
 abbrev pub items_of : List ℕ → List Token → Result (List Item) ParseFault
-items_of text tokens = items_at (length (lexemes text 0 1 tokens) + 1) 256 256 (lexemes text 0 1 tokens)
+items_of text tokens = items_at (length (lexemes text 1 tokens) + 1) 256 256 (lexemes text 1 tokens)
 
 pub record IsFound (text : List ℕ) (items : List Item) : Type 0 where
   pub tree : IsTree (unit_of items)
@@ -113,8 +95,8 @@ pub record IsFound (text : List ℕ) (items : List Item) : Type 0 where
 
 pub items_found : (text : List ℕ) (tokens : List Token) (items : List Item) → Spells text tokens → items_of text tokens ≡ Ok items → IsFound text items
 items_found text tokens items spelled h =
-    let w = lexemes_is text 0 1 tokens (order_of text spelled) refl in
-    let t = items_take (length (lexemes text 0 1 tokens) + 1) 256 256 (lexemes text 0 1 tokens) items h in
+    let w = lexemes_is text 1 tokens in
+    let t = items_take (length (lexemes text 1 tokens) + 1) 256 256 (lexemes text 1 tokens) items h in
     let parts = subst (λ (ls : List Lexed). Begins (flat_map item items) ls t.rest) w.1 t.parts in
     let stand = stand_of text tokens (flat_map item items) (strip (flat_map item items) text tokens (record { meaning = Fixed' fixed.End; line = w.0 }) t.rest parts t.ended) in
     let range = spelled_in_range text tokens (flat_map item items) (tokens_in_range text spelled) stand in
@@ -131,11 +113,11 @@ extend (e ∷ es) (l ∷ ls) more h = (h.0, extend es ls more h.1)
 -- where the tokens are those of a unit, its items are read
 pub items_only : (text : List ℕ) (tokens : List Token) (unit : SourceUnit) → ((others : List Token) → Spells text others → others ≡ tokens) → Spells text tokens → SpellsUnit text unit → items_of text tokens ≡ Ok unit.items
 items_only text tokens unit unique spelled s =
-    let w = lexemes_is text 0 1 tokens (order_of text spelled) refl in
+    let w = lexemes_is text 1 tokens in
     let after_all : List Lexed = record { meaning = Fixed' fixed.End; line = w.0 } ∷ [] in
     let stand = subst (λ (ts : List Token). AllZip (Stands text) ts (spell unit)) (unique s.0 s.1) s.2.1 in
     let parts = subst (λ (ls : List Lexed). Begins (spell unit) ls after_all) (sym w.1) (extend (spell unit) (lexemes_of text tokens) after_all (begins_of text tokens (spell unit) stand)) in
-    rw (add-one (length (lexemes text 0 1 tokens))) (items_again unit.items (length (lexemes text 0 1 tokens)) 256 256 (lexemes text 0 1 tokens) after_all (omega arith) parts refl (tree_items unit s.2.0) s.2.0.few_functions s.2.0.few_statics)
+    rw (add-one (length (lexemes text 1 tokens))) (items_again unit.items (length (lexemes text 1 tokens)) 256 256 (lexemes text 1 tokens) after_all (omega arith) parts refl (tree_items unit s.2.0) s.2.0.few_functions s.2.0.few_statics)
 
 -- ---- from items to units
 
@@ -149,15 +131,15 @@ items_same : (a b : List Item) → items_given a ≡ items_given b → a ≡ b
 items_same a b e = cc
 
 -- what is read of lexemes, which are the text's
-module _ (text : List ℕ) (tokens : List Token) (spelled : Spells text tokens) (ls : List Lexed) (is : ls ≡ lexemes text 0 1 tokens) where
+module _ (text : List ℕ) (tokens : List Token) (spelled : Spells text tokens) (ls : List Lexed) (is : ls ≡ lexemes text 1 tokens) where
   pub found_by : (items : List Item) → items_at (length ls + 1) 256 256 ls ≡ Ok items → IsFound text items
   found_by items given = items_found text tokens items spelled (subst (λ (l : List Lexed). items_at (length l + 1) 256 256 l ≡ items_given items) is given)
 
-  pub unit_by : (items : List Item) → items_at (length ls + 1) 256 256 ls ≡ Ok items → unit_at (lexemes text 0 1 tokens) ≡ Ok (unit_of items)
+  pub unit_by : (items : List Item) → items_at (length ls + 1) 256 256 ls ≡ Ok items → unit_at (lexemes text 1 tokens) ≡ Ok (unit_of items)
   unfolding unit_at
   unit_by items given = ap unit_at (sym is) ∙ rw given refl
 
-  pub fault_by : (e : ParseFault) → Fails e (items_at (length ls + 1) 256 256 ls) → Fails e (unit_at (lexemes text 0 1 tokens))
+  pub fault_by : (e : ParseFault) → Fails e (items_at (length ls + 1) 256 256 ls) → Fails e (unit_at (lexemes text 1 tokens))
   unfolding unit_at
   fault_by Memory h = tt
   fault_by (Found fault line) h = ap unit_at (sym is) ∙ rw h refl

@@ -1,5 +1,5 @@
 -- Lexemes: tokens with what they stand for and their lines, and reading single ones.
-use Rattle.std.specs.Prelude.{ℕ, ◌+◌, ◌≤◌, Bool, true, false, ◌==◌, List, [], ◌∷◌, length, map, count_by, slice_range, Result, Ok, Err, if◌then◌else◌}
+use Rattle.std.specs.Prelude.{ℕ, Bool, true, false, ◌==◌, List, [], ◌∷◌, drop, Result, Ok, Err, if◌then◌else◌}
 use Rattle.scan.specs.declared.token.Token.{Token}
 use Rattle.scan.specs.declared.token.Mark.{Mark}
 use Rattle.scan.specs.declared.token.Mark.TheVariants as marks
@@ -11,47 +11,23 @@ use Rattle.scan.specs.declared.reserved.Word.{Word}
 use Rattle.scan.specs.declared.reserved.Word.TheVariants as words
 use Rattle.parse.specs.declared.lexemes.Fixed.{Fixed}
 use Rattle.parse.specs.declared.lexemes.Fixed.TheVariants as fixed
-use Rattle.parse.specs.declared.lexemes.Shape.{Shape}
-use Rattle.parse.specs.declared.lexemes.Shape.TheVariants as shapes
-use Rattle.parse.specs.declared.lexemes.Lexeme.{Lexeme}
+use Rattle.parse.specs.declared.cursor.Cursor.{Cursor}
 use Rattle.parse.specs.Meaning.{Meaning, Fixed', Name', Number', Text', token_meaning}
 
 pub record Lexed : Type 0 where
   pub meaning : Meaning
   pub line : ℕ
 
-abbrev pub view_shape : Shape → Meaning
-view_shape (shapes.Fixed f) = Fixed' f
-view_shape (shapes.Name bytes) = Name' bytes.items
-view_shape (shapes.Number value unsigned) = Number' value unsigned
-view_shape (shapes.Text bytes) = Text' bytes.items
-
-abbrev pub view : Lexeme → Lexed
-view l = record { meaning = view_shape l.shape; line = l.line }
-
-abbrev pub views : List Lexeme → List Lexed
-views ls = map view ls
-
 -- ---- the lexemes of a text
 
-abbrev pub line_ends : List ℕ → ℕ
-line_ends bytes = count_by (λ byte. byte == 10) bytes
+-- the lexemes of tokens, and the end after them, in the line of the last one
+unfoldable pub lexemes : List ℕ → ℕ → List Token → List Lexed
+lexemes text line [] = record { meaning = Fixed' fixed.End; line = line } ∷ []
+lexemes text line (token ∷ tokens) = record { meaning = token_meaning text token; line = token.line } ∷ lexemes text token.line tokens
 
--- the lexemes of tokens, with the lines counted on from a place, and the end after them
-unfoldable pub lexemes : List ℕ → ℕ → ℕ → List Token → List Lexed
-lexemes text place line [] = record { meaning = Fixed' fixed.End; line = line } ∷ []
-lexemes text place line (token ∷ tokens) =
-    record { meaning = token_meaning text token; line = line + line_ends (slice_range text place token.start) }
-    ∷ lexemes text token.start (line + line_ends (slice_range text place token.start)) tokens
-
-pub record IsInside (text : List ℕ) (token : Token) : Type 0 where
-  pub ordered : token.start ≤ token.end
-  pub within : token.end ≤ length text
-
--- the tokens stand one after the other, from a place on
-abbrev pub AreInOrder : List ℕ → ℕ → List Token → Type 0
-AreInOrder text place [] = place ≤ length text
-AreInOrder text place (token ∷ tokens) = (place ≤ token.start) × IsInside text token × AreInOrder text token.end tokens
+-- the lexemes that aren't read yet
+unfoldable pub views : Cursor → List Lexed
+views c = drop c.at (lexemes c.source.now.text.now 1 c.source.now.tokens.now)
 
 -- ---- single lexemes
 

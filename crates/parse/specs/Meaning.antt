@@ -1,12 +1,10 @@
 -- What a token stands for, by the bytes that it has.
-use Rattle.std.specs.Prelude.{ℕ, ◌-◌, Bool, List, [], ◌∷◌, length, take, slice_range, Option, Some, None}
+use Rattle.std.specs.Prelude.{ℕ, ◌-◌, Bool, List, [], ◌∷◌, length, take, slice_range}
 use Rattle.scan.specs.declared.token.Token.{Token}
 use Rattle.scan.specs.declared.token.Kind.{Kind}
 use Rattle.scan.specs.declared.token.Kind.TheVariants as kinds
-use Rattle.scan.specs.declared.reserved.Word.{Word}
 use Rattle.parse.specs.declared.lexemes.Fixed.{Fixed}
 use Rattle.parse.specs.declared.lexemes.Fixed.TheVariants as fixed
-use Rattle.scan.specs.Words.{word_of}
 
 -- a mark or a reserved word, which stand for themselves, or a name, a number or a string
 pub data Meaning : Type 0 where
@@ -15,11 +13,6 @@ pub data Meaning : Type 0 where
   Number' : (value : ℕ) (unsigned : Bool) → Meaning
   Text' : List ℕ → Meaning
 
--- a name token is a reserved word or a name
-abbrev pub name_or_word : Option Word → List ℕ → Meaning
-name_or_word None bytes = Name' bytes
-name_or_word (Some word) bytes = Fixed' (fixed.Word word)
-
 -- what is between the quotes of a string
 abbrev pub between_quotes : List ℕ → List ℕ
 between_quotes [] = []
@@ -27,7 +20,8 @@ between_quotes (quote ∷ rest) = take (length rest - 1) rest
 
 -- what a token of this kind with these bytes stands for
 abbrev pub meaning_of : Kind → List ℕ → Meaning
-meaning_of kinds.Name bytes = name_or_word (word_of bytes) bytes
+meaning_of kinds.Name bytes = Name' bytes
+meaning_of (kinds.Reserved word) bytes = Fixed' (fixed.Word word)
 meaning_of (kinds.Number unsigned value) bytes = Number' value unsigned
 meaning_of kinds.Text bytes = Text' (between_quotes bytes)
 meaning_of (kinds.Symbol mark) bytes = Fixed' (fixed.Mark mark)

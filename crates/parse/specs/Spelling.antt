@@ -6,7 +6,7 @@ use Rattle.base.specs.Element.{ElementType, JInt, JShort, JByte, JChar}
 use Rattle.scan.specs.declared.token.Token.{Token}
 use Rattle.scan.specs.declared.token.Mark.{Mark}
 use Rattle.scan.specs.declared.token.Mark.TheVariants as marks
-use Rattle.scan.specs.Spelling.{Spells, line_of}
+use Rattle.scan.specs.Spelling.{Spells}
 use Rattle.syntax.specs.Tree.{ReferenceType, JObject, JClass, JString, JArray, JThrowable, JIntArray, JShortArray, JByteArray, JCharArray, JObjectArray, Constant, True, False, Commit, Abort, Null, ResultType, Void, IntResult, ReferenceResult, ParameterType, IntParameter, ReferenceParameter, VariableType, UInt32, JIntVariable, JSize, JBoolean, JFieldId, ReferenceVariable, PrefixOp, LogicalNot, Complement, ToWord, ToInt, BinaryOp, LogicalOr, LogicalAnd, BitOr, BitXor, BitAnd, Equal, NotEqual, Less, LessEqual, Greater, GreaterEqual, ShiftLeft, ShiftRight, Add, Subtract, Multiply, Divide, Remainder, Expr, Number, Named, Variable, Element, Prefix, Binary, Paren, Argument, Value, Text, AddressOf, Call, RightSide, FromExpr, FromCall, Test, TestExpr, TestCall, Stmt, Declare, DeclareBuffer, DeclareChars, DeclareArray, Assign, AssignElement, Perform, PutJint, If, IfElse, While, Return, ReturnValue, Block, End, Next, Parameter, Function, Item, StaticItem, FunctionItem, SourceUnit}
 use Rattle.syntax.specs.Limits.{IsTree}
 use Rattle.scan.specs.declared.reserved.Word.{Word}
@@ -208,7 +208,7 @@ spell unit = flat_map item unit.items
 -- a token of the text is the one that the tree has, in its line
 abbrev pub Stands : List ℕ → Token → Spelled → Type 0
 Stands text token (Anywhere meaning) = token_meaning text token ≡ meaning
-Stands text token (OnLine line meaning) = (token_meaning text token ≡ meaning) × (line_of text token.start ≡ line)
+Stands text token (OnLine line meaning) = (token_meaning text token ≡ meaning) × (token.line ≡ line)
 
 -- the tree of these tokens of a text
 abbrev pub SpellsTree : List ℕ → List Token → SourceUnit → Type 0

@@ -3,21 +3,22 @@
 ghost use Rattle.std.specs.Prelude.{◌≡◌, ◌≤◌, ◌+◌, length, map};
 ghost use Rattle.syntax.specs.Views.{argument_tree, call_tree, right_side_tree, test_tree};
 ghost use Rattle.parse.specs.Results.{Gives};
-ghost use Rattle.parse.specs.Lexemes.{views};
+ghost use Rattle.parse.specs.Steps.{ReadCall, ReadSetting, made_of};
+ghost use Rattle.parse.specs.Lexemes.{views, expect};
 ghost use Rattle.parse.specs.Reading.{interface_at, value_at, argument_at, arguments_at, call_at, starts_call, right_at, setting_at, test_at};
 
+use crate::cursor::Cursor;
 use crate::expressions::{expression, right_expression};
 use crate::fault::ParseFault;
-use crate::lexemes::{Fixed, Lexeme, expect, name_at, number_at, rest_of, starts_with, text_at};
-use crate::words::Word;
-use scan::Mark;
+use crate::lexemes::{Fixed, expect, name_at, number_at, rest_of, starts_with, text_at};
+use scan::{Mark, Word};
 use std::alloc::Global;
 use syntax::{Argument, Call, Name, RightSide, Test};
 
 /// What comes after `(*env)->`.
 #[tactic(auto, unfolding(crate::specs::Reading::interface_at))]
-fn interface(lexemes: &[Lexeme]) -> Result<&[Lexeme], ParseFault>
-    ensures { Gives (λ x. views x.now) result (interface_at (views lexemes.now)) }
+fn interface(lexemes: Cursor<'_>) -> Result<Cursor<'_>, ParseFault>
+    ensures { Gives (λ x. views x) result (interface_at (views lexemes.entry)) }
 {
     let rest = expect(Fixed::Mark(Mark::OpenParen), lexemes)?;
     let rest = expect(Fixed::Mark(Mark::Star), rest)?;
@@ -28,9 +29,13 @@ fn interface(lexemes: &[Lexeme]) -> Result<&[Lexeme], ParseFault>
 
 /// An argument that is no string.
 #[tactic(auto, unfolding(crate::specs::Reading::value_at))]
-fn value(alloc: Global, room: u32, lexemes: &[Lexeme]) -> Result<(Argument, &[Lexeme]), ParseFault>
+fn value(
+    alloc: Global,
+    room: u32,
+    lexemes: Cursor<'_>,
+) -> Result<(Argument, Cursor<'_>), ParseFault>
     requires { room ≤ 32 }
-    ensures { Gives (λ x. (argument_tree x.0, views x.1.now)) result (value_at room (views lexemes.now)) }
+    ensures { Gives (λ x. (argument_tree x.0, views x.1)) result (value_at room (views lexemes.entry)) }
 {
     if starts_with(Fixed::Mark(Mark::Ampersand), lexemes) {
         let (name, rest) = name_at(rest_of(lexemes))?;
@@ -45,10 +50,10 @@ fn value(alloc: Global, room: u32, lexemes: &[Lexeme]) -> Result<(Argument, &[Le
 fn argument(
     alloc: Global,
     room: u32,
-    lexemes: &[Lexeme],
-) -> Result<(Argument, &[Lexeme]), ParseFault>
+    lexemes: Cursor<'_>,
+) -> Result<(Argument, Cursor<'_>), ParseFault>
     requires { room ≤ 32 }
-    ensures { Gives (λ x. (argument_tree x.0, views x.1.now)) result (argument_at room (views lexemes.now)) }
+    ensures { Gives (λ x. (argument_tree x.0, views x.1)) result (argument_at room (views lexemes.entry)) }
 {
     match text_at(lexemes) {
         Some(bytes) => {
@@ -63,10 +68,10 @@ fn argument(
 fn arguments(
     alloc: Global,
     room: u32,
-    lexemes: &[Lexeme],
-) -> Result<(Vec<Argument>, &[Lexeme]), ParseFault>
+    lexemes: Cursor<'_>,
+) -> Result<(Vec<Argument>, Cursor<'_>), ParseFault>
     requires { room ≤ 32 }
-    ensures { Gives (λ x. (map argument_tree x.0.items, views x.1.now)) result (arguments_at room (length (views lexemes.now) + 1) (views lexemes.now)) }
+    ensures { Gives (λ x. (map argument_tree x.0.items, views x.1)) result (arguments_at room (length (views lexemes.entry) + 1) (views lexemes.entry)) }
 {
     let mut arguments = Vec::new(alloc);
     let mut rest = lexemes;
@@ -78,22 +83,17 @@ fn arguments(
     Ok((arguments, rest))
 }
 
-/// A call.
-#[tactic(auto, unfolding(crate::specs::Reading::call_at))]
-pub(crate) fn call(
+/// A call with its arguments, and what comes after its closing parenthesis.
+fn called<'t>(
     alloc: Global,
-    room: u32,
-    lexemes: &[Lexeme],
-) -> Result<(Call, &[Lexeme]), ParseFault>
-    requires { room ≤ 32 }
-    ensures { Gives (λ x. (call_tree x.0, views x.1.now)) result (call_at room (views lexemes.now)) }
+    function: &[u8],
+    arguments: Vec<Argument>,
+    paren: Fixed,
+    lexemes: Cursor<'t>,
+) -> Result<(Call, Cursor<'t>), ParseFault>
+    ensures { Gives (λ x. (call_tree x.0, views x.1)) result (made_of {B = ReadCall} (expect paren (views lexemes.entry)) (λ after. (record { function = function.now; arguments = map argument_tree arguments.items }, after))) }
 {
-    let rest = interface(lexemes)?;
-    let (function, rest) = name_at(rest)?;
-    let rest = expect(Fixed::Mark(Mark::OpenParen), rest)?;
-    let rest = expect(Fixed::Word(Word::Env), rest)?;
-    let (arguments, rest) = arguments(alloc, room, rest)?;
-    let rest = expect(Fixed::Mark(Mark::CloseParen), rest)?;
+    let rest = expect(paren, lexemes)?;
     let function = Name::new(alloc, function)?;
     Ok((
         Call {
@@ -104,9 +104,33 @@ pub(crate) fn call(
     ))
 }
 
+/// A call.
+#[tactic(auto, unfolding(crate::specs::Reading::call_at))]
+pub(crate) fn call(
+    alloc: Global,
+    room: u32,
+    lexemes: Cursor<'_>,
+) -> Result<(Call, Cursor<'_>), ParseFault>
+    requires { room ≤ 32 }
+    ensures { Gives (λ x. (call_tree x.0, views x.1)) result (call_at room (views lexemes.entry)) }
+{
+    let rest = interface(lexemes)?;
+    let (function, rest) = name_at(rest)?;
+    let rest = expect(Fixed::Mark(Mark::OpenParen), rest)?;
+    let rest = expect(Fixed::Word(Word::Env), rest)?;
+    let (arguments, rest) = arguments(alloc, room, rest)?;
+    called(
+        alloc,
+        function,
+        arguments,
+        Fixed::Mark(Mark::CloseParen),
+        rest,
+    )
+}
+
 /// Whether a call comes next, since no expression begins so.
-fn starts_call(lexemes: &[Lexeme]) -> bool
-    ensures { result ≡ starts_call (views lexemes.now) }
+fn starts_call(lexemes: Cursor<'_>) -> bool
+    ensures { result ≡ starts_call (views lexemes.entry) }
 {
     starts_with(Fixed::Mark(Mark::OpenParen), lexemes)
         && starts_with(Fixed::Mark(Mark::Star), rest_of(lexemes))
@@ -117,10 +141,10 @@ fn starts_call(lexemes: &[Lexeme]) -> bool
 pub(crate) fn right_side(
     alloc: Global,
     room: u32,
-    lexemes: &[Lexeme],
-) -> Result<(RightSide, &[Lexeme]), ParseFault>
+    lexemes: Cursor<'_>,
+) -> Result<(RightSide, Cursor<'_>), ParseFault>
     requires { room ≤ 32 }
-    ensures { Gives (λ x. (right_side_tree x.0, views x.1.now)) result (right_at room (views lexemes.now)) }
+    ensures { Gives (λ x. (right_side_tree x.0, views x.1)) result (right_at room (views lexemes.entry)) }
 {
     if starts_call(lexemes) {
         let (call, rest) = call(alloc, room, lexemes)?;
@@ -130,21 +154,34 @@ pub(crate) fn right_side(
     Ok((RightSide::Expr(value), rest))
 }
 
+/// A name with what it is set to, and what comes after the semicolon.
+fn set_to<'t>(
+    alloc: Global,
+    name: &[u8],
+    right: RightSide,
+    semicolon: Fixed,
+    lexemes: Cursor<'t>,
+) -> Result<(Name, RightSide, Cursor<'t>), ParseFault>
+    ensures { Gives (λ x. (x.0, right_side_tree x.1, views x.2)) result (made_of {B = ReadSetting} (expect semicolon (views lexemes.entry)) (λ rest. (name.now, right_side_tree right, rest))) }
+{
+    let rest = expect(semicolon, lexemes)?;
+    Ok((Name::new(alloc, name)?, right, rest))
+}
+
 /// A name, what it is set to, and what comes after the semicolon.
 #[tactic(auto, unfolding(crate::specs::Reading::setting_at))]
 pub(crate) fn setting(
     alloc: Global,
     room: u32,
-    lexemes: &[Lexeme],
-) -> Result<(Name, RightSide, &[Lexeme]), ParseFault>
+    lexemes: Cursor<'_>,
+) -> Result<(Name, RightSide, Cursor<'_>), ParseFault>
     requires { room ≤ 32 }
-    ensures { Gives (λ x. (x.0, right_side_tree x.1, views x.2.now)) result (setting_at room (views lexemes.now)) }
+    ensures { Gives (λ x. (x.0, right_side_tree x.1, views x.2)) result (setting_at room (views lexemes.entry)) }
 {
     let (name, rest) = name_at(lexemes)?;
     let rest = expect(Fixed::Mark(Mark::Assign), rest)?;
     let (right, rest) = right_side(alloc, room, rest)?;
-    let rest = expect(Fixed::Mark(Mark::Semicolon), rest)?;
-    Ok((Name::new(alloc, name)?, right, rest))
+    set_to(alloc, name, right, Fixed::Mark(Mark::Semicolon), rest)
 }
 
 /// An expression, or a call that is tested for 0.
@@ -152,10 +189,10 @@ pub(crate) fn setting(
 pub(crate) fn test(
     alloc: Global,
     room: u32,
-    lexemes: &[Lexeme],
-) -> Result<(Test, &[Lexeme]), ParseFault>
+    lexemes: Cursor<'_>,
+) -> Result<(Test, Cursor<'_>), ParseFault>
     requires { room ≤ 32 }
-    ensures { Gives (λ x. (test_tree x.0, views x.1.now)) result (test_at room (views lexemes.now)) }
+    ensures { Gives (λ x. (test_tree x.0, views x.1)) result (test_at room (views lexemes.entry)) }
 {
     if starts_call(lexemes) {
         let (call, rest) = call(alloc, room, lexemes)?;

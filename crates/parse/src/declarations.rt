@@ -7,11 +7,11 @@ ghost use Rattle.parse.specs.Lexemes.{views};
 ghost use Rattle.parse.specs.Reading.{zeros_at, array_at, is_array, after_element, after_variable, after_const, declared_at, starts_declaration};
 
 use crate::calls::setting;
+use crate::cursor::Cursor;
 use crate::fault::ParseFault;
-use crate::lexemes::{Fixed, Lexeme, expect, line_at, name_at, number_at, rest_of, starts_with};
+use crate::lexemes::{Fixed, expect, line_at, name_at, number_at, rest_of, starts_with};
 use crate::type_words::{element_type, variable_type};
-use crate::words::Word;
-use scan::Mark;
+use scan::{Mark, Word};
 use std::alloc::Global;
 use syntax::{ElementType, Form, Name, Stmt, VariableType};
 
@@ -20,8 +20,8 @@ const ELEMENTS: u32 = 1024;
 
 /// What comes after the zeros of a local array.
 #[tactic(auto, unfolding(crate::specs::Reading::zeros_at))]
-fn zeros(lexemes: &[Lexeme]) -> Result<&[Lexeme], ParseFault>
-    ensures { Gives (λ x. views x.now) result (zeros_at (views lexemes.now)) }
+fn zeros(lexemes: Cursor<'_>) -> Result<Cursor<'_>, ParseFault>
+    ensures { Gives (λ x. views x) result (zeros_at (views lexemes.entry)) }
 {
     let rest = expect(Fixed::Mark(Mark::Assign), lexemes)?;
     let rest = expect(Fixed::Mark(Mark::OpenBrace), rest)?;
@@ -36,9 +36,9 @@ fn array(
     alloc: Global,
     line: usize,
     element: ElementType,
-    lexemes: &[Lexeme],
-) -> Result<(Stmt, &[Lexeme]), ParseFault>
-    ensures { Gives (λ x. (stmt_tree x.0, views x.1.now)) result (array_at line (element_tree element) (views lexemes.now)) }
+    lexemes: Cursor<'_>,
+) -> Result<(Stmt, Cursor<'_>), ParseFault>
+    ensures { Gives (λ x. (stmt_tree x.0, views x.1)) result (array_at line (element_tree element) (views lexemes.entry)) }
 {
     let (name, rest) = name_at(lexemes)?;
     let rest = expect(Fixed::Mark(Mark::OpenBracket), rest)?;
@@ -50,8 +50,8 @@ fn array(
 }
 
 /// Whether an array is declared after an element's type, of which `jint` alone is a variable's too.
-fn is_array(element: ElementType, lexemes: &[Lexeme]) -> bool
-    ensures { result ≡ is_array (element_tree element) (views lexemes.now) }
+fn is_array(element: ElementType, lexemes: Cursor<'_>) -> bool
+    ensures { result ≡ is_array (element_tree element) (views lexemes.entry) }
 {
     match element {
         ElementType::Jint => starts_with(Fixed::Mark(Mark::OpenBracket), rest_of(lexemes)),
@@ -66,10 +66,10 @@ fn after_element(
     room: u32,
     line: usize,
     element: ElementType,
-    lexemes: &[Lexeme],
-) -> Result<(Stmt, &[Lexeme]), ParseFault>
+    lexemes: Cursor<'_>,
+) -> Result<(Stmt, Cursor<'_>), ParseFault>
     requires { room ≤ 32 }
-    ensures { Gives (λ x. (stmt_tree x.0, views x.1.now)) result (after_element room line (element_tree element) (views lexemes.now)) }
+    ensures { Gives (λ x. (stmt_tree x.0, views x.1)) result (after_element room line (element_tree element) (views lexemes.entry)) }
 {
     if starts_with(Fixed::Mark(Mark::Star), lexemes) {
         let (name, right, rest) = setting(alloc, room, rest_of(lexemes))?;
@@ -91,10 +91,10 @@ fn after_variable(
     room: u32,
     line: usize,
     kind: VariableType,
-    lexemes: &[Lexeme],
-) -> Result<(Stmt, &[Lexeme]), ParseFault>
+    lexemes: Cursor<'_>,
+) -> Result<(Stmt, Cursor<'_>), ParseFault>
     requires { room ≤ 32 }
-    ensures { Gives (λ x. (stmt_tree x.0, views x.1.now)) result (after_variable room line (variable_type_tree kind) (views lexemes.now)) }
+    ensures { Gives (λ x. (stmt_tree x.0, views x.1)) result (after_variable room line (variable_type_tree kind) (views lexemes.entry)) }
 {
     let (name, right, rest) = setting(alloc, room, lexemes)?;
     let form = Form::Declare(kind, name, right);
@@ -107,10 +107,10 @@ fn after_const(
     alloc: Global,
     room: u32,
     line: usize,
-    lexemes: &[Lexeme],
-) -> Result<(Stmt, &[Lexeme]), ParseFault>
+    lexemes: Cursor<'_>,
+) -> Result<(Stmt, Cursor<'_>), ParseFault>
     requires { room ≤ 32 }
-    ensures { Gives (λ x. (stmt_tree x.0, views x.1.now)) result (after_const room line (views lexemes.now)) }
+    ensures { Gives (λ x. (stmt_tree x.0, views x.1)) result (after_const room line (views lexemes.entry)) }
 {
     let rest = expect(Fixed::Word(Word::Jchar), lexemes)?;
     let rest = expect(Fixed::Mark(Mark::Star), rest)?;
@@ -124,10 +124,10 @@ fn after_const(
 pub(crate) fn declared(
     alloc: Global,
     room: u32,
-    lexemes: &[Lexeme],
-) -> Result<(Stmt, &[Lexeme]), ParseFault>
+    lexemes: Cursor<'_>,
+) -> Result<(Stmt, Cursor<'_>), ParseFault>
     requires { room ≤ 32 }
-    ensures { Gives (λ x. (stmt_tree x.0, views x.1.now)) result (declared_at room (views lexemes.now)) }
+    ensures { Gives (λ x. (stmt_tree x.0, views x.1)) result (declared_at room (views lexemes.entry)) }
 {
     let line = line_at(lexemes);
     if let Some(element) = element_type(lexemes) {
@@ -140,8 +140,8 @@ pub(crate) fn declared(
 }
 
 /// Whether a declaration comes next.
-pub(crate) fn starts_declaration(lexemes: &[Lexeme]) -> bool
-    ensures { result ≡ starts_declaration (views lexemes.now) }
+pub(crate) fn starts_declaration(lexemes: Cursor<'_>) -> bool
+    ensures { result ≡ starts_declaration (views lexemes.entry) }
 {
     element_type(lexemes).is_some()
         || variable_type(lexemes).is_some()

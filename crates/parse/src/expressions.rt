@@ -3,22 +3,25 @@
 ghost use Rattle.std.specs.Prelude.{◌≡◌, ◌≤◌, ◌<◌, IfOk, is_ok};
 ghost use Rattle.std.specs.Option.{option_map};
 ghost use Rattle.syntax.specs.Limits.{operator_level};
+ghost use Rattle.syntax.specs.Tree.{Binary, Prefix, Paren, Element};
 ghost use Rattle.syntax.specs.Views.{constant_tree, prefix_tree, binary_tree, expr_tree};
 ghost use Rattle.parse.specs.Results.{Gives};
-ghost use Rattle.parse.specs.Lexemes.{views};
-ghost use Rattle.parse.specs.Reading.{operator_at, binary_of_mark, constant_of_word, primary_at, starts_element, starts_inside, index_at, operand_at, expr_at, right_expr_at, under_prefix, after_paren, in_parens, element_by, deeper};
+ghost use Rattle.parse.specs.Steps.{made_of};
+ghost use Rattle.parse.specs.Lexemes.{views, expect};
+ghost use Rattle.parse.specs.Reading.{ReadExpr, operator_at, binary_of_mark, constant_of_word, primary_at, starts_element, starts_inside, index_at, operand_at, expr_at, right_expr_at, under_prefix, after_paren, in_parens, element_by, deeper};
 
+use crate::cursor::Cursor;
 use crate::fault::{Fault, ParseFault};
 use crate::lexemes::{
-    Fixed, Lexeme, Shape, expect, fault_at, name_at, rest_of, starts_name, starts_with, unexpected,
+    Fixed, Shape, expect, fault_at, mark_at, name_at, rest_of, shape_at, starts_name, starts_with,
+    unexpected,
 };
-use crate::words::Word;
-use scan::Mark;
-use std::alloc::Global;
+use scan::{Mark, Word};
+use std::alloc::{AllocError, Global};
 use syntax::{BinaryOp, Constant, Expr, Name, PrefixOp};
 
 /// An expression, its height, and what comes after it.
-type ReadExpr<'t> = (Expr, u32, &'t [Lexeme]);
+type ReadExpr<'t> = (Expr, u32, Cursor<'t>);
 
 /// Prefixes bind tighter than all operators.
 const PREFIX_LEVEL: u32 = 11;
@@ -69,13 +72,12 @@ fn binary_of(mark: Mark) -> Option<BinaryOp>
 }
 
 /// The operator that comes next.
-fn operator(rest: &[Lexeme]) -> Option<BinaryOp>
-    ensures { option_map binary_tree result ≡ operator_at (views rest.now) }
+fn operator(rest: Cursor<'_>) -> Option<BinaryOp>
+    ensures { option_map binary_tree result ≡ operator_at (views rest.entry) }
 {
-    let (first, _) = rest.split_first()?;
-    match &first.shape {
-        Shape::Fixed(Fixed::Mark(mark)) => binary_of(*mark),
-        _ => None,
+    match mark_at(rest) {
+        Some(mark) => binary_of(mark),
+        None => None,
     }
 }
 
@@ -95,30 +97,72 @@ fn constant_of(word: Word) -> Option<Constant>
 
 /// A number, a named constant or a name.
 #[tactic(auto, unfolding(crate::specs::Reading::primary_at))]
-fn primary(alloc: Global, lexemes: &[Lexeme]) -> Result<ReadExpr<'_>, ParseFault>
+fn primary(alloc: Global, lexemes: Cursor<'_>) -> Result<ReadExpr<'_>, ParseFault>
     ensures low { IfOk result (λ x. x.1 ≡ 0) }
-    ensures gives { Gives (λ x. (expr_tree x.0, x.1, views x.2.now)) result (primary_at (views lexemes.now)) }
+    ensures gives { Gives (λ x. (expr_tree x.0, x.1, views x.2)) result (primary_at (views lexemes.entry)) }
 {
-    let Some((first, rest)) = lexemes.split_first() else {
-        return Err(unexpected(lexemes));
-    };
-    match &first.shape {
+    match shape_at(lexemes) {
         Shape::Number { value, unsigned } => {
-            let (value, unsigned) = (*value, *unsigned);
-            Ok((Expr::Number { value, unsigned }, 0, rest))
+            Ok((Expr::Number { value, unsigned }, 0, rest_of(lexemes)))
         }
-        Shape::Name(bytes) => Ok((Expr::Variable(Name::new(alloc, bytes)?), 0, rest)),
-        Shape::Fixed(Fixed::Word(word)) => match constant_of(*word) {
-            Some(constant) => Ok((Expr::Named(constant), 0, rest)),
+        Shape::Name => {
+            let (name, rest) = name_at(lexemes)?;
+            Ok((Expr::Variable(Name::new(alloc, name)?), 0, rest))
+        }
+        Shape::Fixed(Fixed::Word(word)) => match constant_of(word) {
+            Some(constant) => Ok((Expr::Named(constant), 0, rest_of(lexemes))),
             None => Err(unexpected(lexemes)),
         },
         _ => Err(unexpected(lexemes)),
     }
 }
 
+/// An operator between two operands.
+fn binary(alloc: Global, op: BinaryOp, left: Expr, right: Expr) -> Result<Expr, AllocError>
+    ensures { IfOk result (λ e. expr_tree e ≡ Binary (binary_tree op) (expr_tree left) (expr_tree right)) }
+{
+    Ok(Expr::Binary(op, Box::new(alloc, left)?, Box::new(alloc, right)?))
+}
+
+/// A prefix before its operand.
+fn prefix(alloc: Global, op: PrefixOp, operand: Expr) -> Result<Expr, AllocError>
+    ensures { IfOk result (λ e. expr_tree e ≡ Prefix (prefix_tree op) (expr_tree operand)) }
+{
+    Ok(Expr::Prefix(op, Box::new(alloc, operand)?))
+}
+
+/// An expression in parentheses.
+fn paren(alloc: Global, inside: Expr) -> Result<Expr, AllocError>
+    ensures { IfOk result (λ e. expr_tree e ≡ Paren (expr_tree inside)) }
+{
+    Ok(Expr::Paren(Box::new(alloc, inside)?))
+}
+
+/// A name with its index.
+fn indexed(alloc: Global, name: &[u8], index: Expr) -> Result<Expr, AllocError>
+    ensures { IfOk result (λ e. expr_tree e ≡ Element name.now (expr_tree index)) }
+{
+    let index = Box::new(alloc, index)?;
+    Ok(Expr::Element(Name::new(alloc, name)?, index))
+}
+
+/// An expression with its height, and what comes after this lexeme, which ends it.
+pub(crate) fn closed(
+    end: Fixed,
+    inside: Expr,
+    height: u32,
+    lexemes: Cursor<'_>,
+) -> Result<ReadExpr<'_>, ParseFault>
+    ensures low { IfOk result (λ x. x.1 ≡ height) }
+    ensures gives { Gives (λ x. (expr_tree x.0, x.1, views x.2)) result (made_of {B = ReadExpr} (expect end (views lexemes.entry)) (λ after. (expr_tree inside, height, after))) }
+{
+    let rest = expect(end, lexemes)?;
+    Ok((inside, height, rest))
+}
+
 /// Whether a name with an index comes next.
-pub(crate) fn starts_element(lexemes: &[Lexeme]) -> bool
-    ensures { result ≡ starts_element (views lexemes.now) }
+pub(crate) fn starts_element(lexemes: Cursor<'_>) -> bool
+    ensures { result ≡ starts_element (views lexemes.entry) }
 {
     starts_name(lexemes) && starts_with(Fixed::Mark(Mark::OpenBracket), rest_of(lexemes))
 }
@@ -130,11 +174,11 @@ pub(crate) fn expression(
     alloc: Global,
     room: u32,
     least: u32,
-    lexemes: &[Lexeme],
+    lexemes: Cursor<'_>,
 ) -> Result<ReadExpr<'_>, ParseFault>
     requires { room ≤ 32 }
     ensures low { IfOk result (λ x. x.1 ≤ room) }
-    ensures gives { Gives (λ x. (expr_tree x.0, x.1, views x.2.now)) result (expr_at room least (views lexemes.now)) }
+    ensures gives { Gives (λ x. (expr_tree x.0, x.1, views x.2)) result (expr_at room least (views lexemes.entry)) }
 {
     let (mut left, mut height, mut rest) = operand(alloc, room, lexemes)?;
     while let Some(op) = operator(rest) {
@@ -150,7 +194,7 @@ pub(crate) fn expression(
             level(op) + 1,
             rest_of(rest),
         )?;
-        left = Expr::Binary(op, Box::new(alloc, left)?, Box::new(alloc, right)?);
+        left = binary(alloc, op, left, right)?;
         height = 1 + height.max(right_height);
         rest = after;
     }
@@ -160,10 +204,10 @@ pub(crate) fn expression(
 /// A prefix with its operand, parentheses, an element, or what holds best.
 #[cycle(expressions)]
 #[tactic(auto, unfolding(crate::specs::Reading::operand_by))]
-fn operand(alloc: Global, room: u32, lexemes: &[Lexeme]) -> Result<ReadExpr<'_>, ParseFault>
+fn operand(alloc: Global, room: u32, lexemes: Cursor<'_>) -> Result<ReadExpr<'_>, ParseFault>
     requires { room ≤ 32 }
     ensures low { IfOk result (λ x. x.1 ≤ room) }
-    ensures gives { Gives (λ x. (expr_tree x.0, x.1, views x.2.now)) result (operand_at room (views lexemes.now)) }
+    ensures gives { Gives (λ x. (expr_tree x.0, x.1, views x.2)) result (operand_at room (views lexemes.entry)) }
 {
     let is_complement = starts_with(Fixed::Mark(Mark::Tilde), lexemes);
     let is_negation = starts_with(Fixed::Mark(Mark::Exclamation), lexemes);
@@ -189,11 +233,11 @@ fn operand(alloc: Global, room: u32, lexemes: &[Lexeme]) -> Result<ReadExpr<'_>,
 /// What comes after an opening parenthesis: a type, or an expression.
 #[cycle(expressions)]
 #[tactic(auto, unfolding(crate::specs::Reading::after_paren))]
-fn after_paren(alloc: Global, room: u32, lexemes: &[Lexeme]) -> Result<ReadExpr<'_>, ParseFault>
+fn after_paren(alloc: Global, room: u32, lexemes: Cursor<'_>) -> Result<ReadExpr<'_>, ParseFault>
     requires some { 1 ≤ room }
     requires bound { room ≤ 32 }
     ensures low { IfOk result (λ x. x.1 ≤ room) }
-    ensures gives { Gives (λ x. (expr_tree x.0, x.1, views x.2.now)) result (after_paren (deeper room) (views lexemes.now)) }
+    ensures gives { Gives (λ x. (expr_tree x.0, x.1, views x.2)) result (after_paren (deeper room) (views lexemes.entry)) }
 {
     if starts_with(Fixed::Word(Word::Uint32), lexemes) {
         let rest = expect(Fixed::Mark(Mark::CloseParen), rest_of(lexemes))?;
@@ -209,33 +253,28 @@ fn after_paren(alloc: Global, room: u32, lexemes: &[Lexeme]) -> Result<ReadExpr<
 /// An expression after its opening parenthesis.
 #[cycle(expressions)]
 #[tactic(auto, using(crate::proofs::Climbing::deeps), unfolding(crate::specs::Reading::in_parens))]
-fn in_parens(alloc: Global, room: u32, lexemes: &[Lexeme]) -> Result<ReadExpr<'_>, ParseFault>
+fn in_parens(alloc: Global, room: u32, lexemes: Cursor<'_>) -> Result<ReadExpr<'_>, ParseFault>
     requires some { 1 ≤ room }
     requires bound { room ≤ 32 }
     ensures low { IfOk result (λ x. x.1 ≤ room) }
-    ensures gives { Gives (λ x. (expr_tree x.0, x.1, views x.2.now)) result (in_parens (deeper room) (views lexemes.now)) }
+    ensures gives { Gives (λ x. (expr_tree x.0, x.1, views x.2)) result (in_parens (deeper room) (views lexemes.entry)) }
 {
     let (inside, height, rest) = expression(alloc, room - 1, 0, lexemes)?;
-    let rest = expect(Fixed::Mark(Mark::CloseParen), rest)?;
-    Ok((Expr::Paren(Box::new(alloc, inside)?), 1 + height, rest))
+    let (inside, height, rest) = closed(Fixed::Mark(Mark::CloseParen), inside, height, rest)?;
+    Ok((paren(alloc, inside)?, 1 + height, rest))
 }
 
 /// A name with an index.
 #[cycle(expressions)]
 #[tactic(auto, unfolding(crate::specs::Reading::element_by))]
-fn element(alloc: Global, room: u32, lexemes: &[Lexeme]) -> Result<ReadExpr<'_>, ParseFault>
+fn element(alloc: Global, room: u32, lexemes: Cursor<'_>) -> Result<ReadExpr<'_>, ParseFault>
     requires { room ≤ 32 }
     ensures low { IfOk result (λ x. x.1 ≤ room) }
-    ensures gives { Gives (λ x. (expr_tree x.0, x.1, views x.2.now)) result (element_by room (deeper room) (views lexemes.now)) }
+    ensures gives { Gives (λ x. (expr_tree x.0, x.1, views x.2)) result (element_by room (deeper room) (views lexemes.entry)) }
 {
     let (name, rest) = name_at(lexemes)?;
     let (index, height, rest) = index(alloc, room, rest)?;
-    let name = Name::new(alloc, name)?;
-    Ok((
-        Expr::Element(name, Box::new(alloc, index)?),
-        1 + height,
-        rest,
-    ))
+    Ok((indexed(alloc, name, index)?, 1 + height, rest))
 }
 
 /// An index in its brackets, which counts one.
@@ -244,19 +283,18 @@ fn element(alloc: Global, room: u32, lexemes: &[Lexeme]) -> Result<ReadExpr<'_>,
 pub(crate) fn index(
     alloc: Global,
     room: u32,
-    lexemes: &[Lexeme],
+    lexemes: Cursor<'_>,
 ) -> Result<ReadExpr<'_>, ParseFault>
     requires { room ≤ 32 }
     ensures low { IfOk result (λ x. x.1 < room) }
-    ensures gives { Gives (λ x. (expr_tree x.0, x.1, views x.2.now)) result (index_at room (views lexemes.now)) }
+    ensures gives { Gives (λ x. (expr_tree x.0, x.1, views x.2)) result (index_at room (views lexemes.entry)) }
 {
     if room == 0 {
         return Err(fault_at(Fault::TooHigh, lexemes));
     }
     let rest = expect(Fixed::Mark(Mark::OpenBracket), lexemes)?;
     let (index, height, rest) = expression(alloc, room - 1, 0, rest)?;
-    let rest = expect(Fixed::Mark(Mark::CloseBracket), rest)?;
-    Ok((index, height, rest))
+    closed(Fixed::Mark(Mark::CloseBracket), index, height, rest)
 }
 
 /// The operand of a prefix.
@@ -266,40 +304,33 @@ fn prefixed(
     alloc: Global,
     room: u32,
     op: PrefixOp,
-    lexemes: &[Lexeme],
+    lexemes: Cursor<'_>,
 ) -> Result<ReadExpr<'_>, ParseFault>
     requires some { 1 ≤ room }
     requires bound { room ≤ 32 }
     ensures low { IfOk result (λ x. x.1 ≤ room) }
-    ensures gives { Gives (λ x. (expr_tree x.0, x.1, views x.2.now)) result (under_prefix (deeper room) (prefix_tree op) (views lexemes.now)) }
+    ensures gives { Gives (λ x. (expr_tree x.0, x.1, views x.2)) result (under_prefix (deeper room) (prefix_tree op) (views lexemes.entry)) }
 {
     let (operand, height, rest) = expression(alloc, room - 1, PREFIX_LEVEL, lexemes)?;
-    Ok((
-        Expr::Prefix(op, Box::new(alloc, operand)?),
-        1 + height,
-        rest,
-    ))
+    Ok((prefix(alloc, op, operand)?, 1 + height, rest))
 }
 
 /// Whether a number, a named constant or a name comes next.
 #[tactic(auto, unfolding(crate::specs::Reading::primary_at))]
-fn starts_primary(lexemes: &[Lexeme]) -> bool
-    ensures { result ≡ is_ok (primary_at (views lexemes.now)) }
+fn starts_primary(lexemes: Cursor<'_>) -> bool
+    ensures { result ≡ is_ok (primary_at (views lexemes.entry)) }
 {
-    let Some((first, _)) = lexemes.split_first() else {
-        return false;
-    };
-    match &first.shape {
-        Shape::Number { .. } | Shape::Name(_) => true,
-        Shape::Fixed(Fixed::Word(word)) => constant_of(*word).is_some(),
+    match shape_at(lexemes) {
+        Shape::Number { .. } | Shape::Name => true,
+        Shape::Fixed(Fixed::Word(word)) => constant_of(word).is_some(),
         _ => false,
     }
 }
 
 /// Whether what comes next may follow the opening parenthesis of an operand.
 #[tactic(auto, unfolding(crate::specs::Reading::starts_inside))]
-fn starts_inside(lexemes: &[Lexeme]) -> bool
-    ensures { result ≡ starts_inside (views lexemes.now) }
+fn starts_inside(lexemes: Cursor<'_>) -> bool
+    ensures { result ≡ starts_inside (views lexemes.entry) }
 {
     starts_primary(lexemes)
         || starts_with(Fixed::Mark(Mark::OpenParen), lexemes)
@@ -315,10 +346,10 @@ fn starts_inside(lexemes: &[Lexeme]) -> bool
 pub(crate) fn right_expression(
     alloc: Global,
     room: u32,
-    lexemes: &[Lexeme],
+    lexemes: Cursor<'_>,
 ) -> Result<ReadExpr<'_>, ParseFault>
     requires { room ≤ 32 }
-    ensures { Gives (λ x. (expr_tree x.0, x.1, views x.2.now)) result (right_expr_at room (views lexemes.now)) }
+    ensures { Gives (λ x. (expr_tree x.0, x.1, views x.2)) result (right_expr_at room (views lexemes.entry)) }
 {
     if starts_with(Fixed::Mark(Mark::OpenParen), lexemes) && room == 0 {
         let rest = rest_of(lexemes);

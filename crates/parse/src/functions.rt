@@ -9,15 +9,15 @@ ghost use Rattle.parse.specs.Lexemes.{views, lexemes};
 ghost use Rattle.parse.specs.Spelling.{SpellsUnit};
 ghost use Rattle.parse.specs.Reading.{head_at, body_at, signature_at, function_at, static_at, item_at, items_at, unit_at};
 
+use crate::cursor::{Cursor, Source};
 use crate::fault::{Fault, ParseFault};
 use crate::lexemes::{
-    Fixed, Lexeme, expect, fault_at, lexemes, line_at, name_at, rest_of, starts_with, unexpected,
+    Fixed, expect, fault_at, lexemes, line_at, name_at, rest_of, starts_with, unexpected,
 };
 use crate::parameters::{NAMES, parameters};
 use crate::statements::block;
 use crate::type_words::{reference_type, result_type};
-use crate::words::Word;
-use scan::{Mark, Token, one_spelling};
+use scan::{Mark, Token, Word, one_spelling};
 use std::alloc::Global;
 use syntax::{Block, Function, Item, Name, ResultType, Static, Unit};
 
@@ -32,8 +32,8 @@ const STATICS: usize = 256;
 
 /// What comes after the parameters that each function has.
 #[tactic(auto, unfolding(crate::specs::Reading::head_at))]
-fn head(lexemes: &[Lexeme]) -> Result<&[Lexeme], ParseFault>
-    ensures { Gives (λ x. views x.now) result (head_at (views lexemes.now)) }
+fn head(lexemes: Cursor<'_>) -> Result<Cursor<'_>, ParseFault>
+    ensures { Gives (λ x. views x) result (head_at (views lexemes.entry)) }
 {
     let rest = expect(Fixed::Mark(Mark::OpenParen), lexemes)?;
     let rest = expect(Fixed::Word(Word::JniEnv), rest)?;
@@ -45,8 +45,8 @@ fn head(lexemes: &[Lexeme]) -> Result<&[Lexeme], ParseFault>
 
 /// A function's block, with what closes its parameters, where `free` more names may be declared.
 #[tactic(auto, unfolding(crate::specs::Reading::body_at))]
-fn body(alloc: Global, free: usize, lexemes: &[Lexeme]) -> Result<(Block, &[Lexeme]), ParseFault>
-    ensures { Gives (λ x. (block_tree x.0, views x.1.now)) result (body_at free (views lexemes.now)) }
+fn body(alloc: Global, free: usize, lexemes: Cursor<'_>) -> Result<(Block, Cursor<'_>), ParseFault>
+    ensures { Gives (λ x. (block_tree x.0, views x.1)) result (body_at free (views lexemes.entry)) }
 {
     let rest = expect(Fixed::Mark(Mark::CloseParen), lexemes)?;
     let rest = expect(Fixed::Mark(Mark::OpenBrace), rest)?;
@@ -56,8 +56,8 @@ fn body(alloc: Global, free: usize, lexemes: &[Lexeme]) -> Result<(Block, &[Lexe
 
 /// The result, the name and the class of a function, and what comes after them.
 #[tactic(auto, unfolding(crate::specs::Reading::signature_at))]
-fn signature(lexemes: &[Lexeme]) -> Result<(ResultType, &[u8], &[u8], &[Lexeme]), ParseFault>
-    ensures { Gives (λ x. (result_tree x.0, x.1.now, x.2.now, views x.3.now)) result (signature_at (views lexemes.now)) }
+fn signature(lexemes: Cursor<'_>) -> Result<(ResultType, &[u8], &[u8], Cursor<'_>), ParseFault>
+    ensures { Gives (λ x. (result_tree x.0, x.1.now, x.2.now, views x.3)) result (signature_at (views lexemes.entry)) }
 {
     let rest = expect(Fixed::Word(Word::JniExport), lexemes)?;
     let Some(result) = result_type(rest) else {
@@ -72,8 +72,8 @@ fn signature(lexemes: &[Lexeme]) -> Result<(ResultType, &[u8], &[u8], &[Lexeme])
 
 /// A function (JNI Specification, chapter 2, "Native Method Arguments").
 #[tactic(auto, unfolding(crate::specs::Reading::function_at))]
-fn function(alloc: Global, lexemes: &[Lexeme]) -> Result<(Function, &[Lexeme]), ParseFault>
-    ensures { Gives (λ x. (function_tree x.0, views x.1.now)) result (function_at (views lexemes.now)) }
+fn function(alloc: Global, lexemes: Cursor<'_>) -> Result<(Function, Cursor<'_>), ParseFault>
+    ensures { Gives (λ x. (function_tree x.0, views x.1)) result (function_at (views lexemes.entry)) }
 {
     let line = line_at(lexemes);
     let (result, name, class_name, rest) = signature(lexemes)?;
@@ -94,8 +94,8 @@ fn function(alloc: Global, lexemes: &[Lexeme]) -> Result<(Function, &[Lexeme]), 
 
 /// A reference that all functions share.
 #[tactic(auto, unfolding(crate::specs::Reading::static_at))]
-fn static_reference(alloc: Global, lexemes: &[Lexeme]) -> Result<(Static, &[Lexeme]), ParseFault>
-    ensures { Gives (λ x. (static_tree x.0, views x.1.now)) result (static_at (views lexemes.now)) }
+fn static_reference(alloc: Global, lexemes: Cursor<'_>) -> Result<(Static, Cursor<'_>), ParseFault>
+    ensures { Gives (λ x. (static_tree x.0, views x.1)) result (static_at (views lexemes.entry)) }
 {
     let line = line_at(lexemes);
     let rest = expect(Fixed::Word(Word::Static), lexemes)?;
@@ -111,7 +111,7 @@ fn static_reference(alloc: Global, lexemes: &[Lexeme]) -> Result<(Static, &[Lexe
 }
 
 /// An item, how many more functions and statics there may be after it, and what comes after it.
-type ReadItem<'t> = (Item, usize, usize, &'t [Lexeme]);
+type ReadItem<'t> = (Item, usize, usize, Cursor<'t>);
 
 /// An item, where there may be this many more functions and statics.
 #[tactic(auto, unfolding(crate::specs::Reading::item_at))]
@@ -119,9 +119,9 @@ fn item(
     alloc: Global,
     functions: usize,
     statics: usize,
-    lexemes: &[Lexeme],
+    lexemes: Cursor<'_>,
 ) -> Result<ReadItem<'_>, ParseFault>
-    ensures { Gives (λ x. (item_tree x.0, x.1, x.2, views x.3.now)) result (item_at functions statics (views lexemes.now)) }
+    ensures { Gives (λ x. (item_tree x.0, x.1, x.2, views x.3)) result (item_at functions statics (views lexemes.entry)) }
 {
     if starts_with(Fixed::Word(Word::JniExport), lexemes) {
         if functions == 0 {
@@ -141,8 +141,8 @@ fn item(
 }
 
 /// All items.
-fn items(alloc: Global, lexemes: &[Lexeme]) -> Result<Vec<Item>, ParseFault>
-    ensures { Gives (λ v. map item_tree v.items) result (items_at (length (views lexemes.now) + 1) 256 256 (views lexemes.now)) }
+fn items(alloc: Global, lexemes: Cursor<'_>) -> Result<Vec<Item>, ParseFault>
+    ensures { Gives (λ v. map item_tree v.items) result (items_at (length (views lexemes.entry) + 1) 256 256 (views lexemes.entry)) }
 {
     let mut items = Vec::new(alloc);
     let mut rest = lexemes;
@@ -167,11 +167,11 @@ pub fn parse(alloc: Global, text: &[u8], tokens: &[Token]) -> Result<Unit, Parse
     // What the text spells is found, unless memory runs out.
     ensures only { (unit : SourceUnit) → SpellsUnit text.now unit → Gives unit_tree result (Ok unit) }
     // Which fault it is, and at which line.
-    ensures exact { Gives unit_tree result (unit_at (lexemes text.now 0 1 tokens.now)) }
+    ensures exact { Gives unit_tree result (unit_at (lexemes text.now 1 tokens.now)) }
 {
     one_spelling();
-    let lexemes = lexemes(alloc, text, tokens)?;
-    let items = items(alloc, &lexemes)?;
+    let source = Source { text, tokens };
+    let items = items(alloc, lexemes(&source))?;
     Ok(Unit::new(items))
 }
 

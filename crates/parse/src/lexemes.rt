@@ -1,20 +1,21 @@
 //! Tokens with what they stand for and their lines, and reading single ones.
 
-ghost use Rattle.std.specs.Prelude.{◌≡◌, ◌≤◌, length, IfOk};
+ghost use Rattle.std.specs.Prelude.{◌≡◌, ◌≤◌, ◌<◌, ◌+◌, length, get_or, slice_range};
 ghost use Rattle.parse.specs.declared.fault.Fault.TheVariants.{NoForm};
-ghost use Rattle.parse.specs.Meaning.{between_quotes, token_meaning};
+ghost use Rattle.parse.specs.Meaning.{between_quotes};
+ghost use Rattle.parse.specs.Order.{IsInside};
 ghost use Rattle.parse.specs.Results.{Gives};
-ghost use Rattle.parse.specs.Lexemes.{IsInside, AreInOrder, line_ends, lexemes, expect, same_mark, same_word, is_fixed, name_at, fault_at, line_at, view_shape, view, views};
+ghost use Rattle.parse.specs.Lexemes.{lexemes, expect, same_mark, same_word, name_at, fault_at, line_at, views};
+ghost use Rattle.parse.specs.Shapes.{shape_of_kind, shape_at, is_shape, mark_of_shape, word_of_shape, is_name_shape, line_of_end, IsNameOf, IsTextOf};
 ghost use Rattle.std.specs.Option.{option_map};
 ghost use Rattle.parse.specs.Reading.{rest_of, starts_with, starts_name, text_at, number_at, word_at};
 
+use crate::cursor::{Cursor, Source};
 use crate::fault::{Fault, ParseFault};
-use crate::words::{Word, word_of};
-use scan::{Kind, Mark, Token};
-use std::alloc::{AllocError, Global};
+use scan::{Kind, Mark, Token, Word};
 
 /// What always stands for itself.
-#[derive(Clone, Copy, Debug, PartialEq, Eq)]
+#[derive(Clone, Copy)]
 pub(crate) enum Fixed {
     Mark(Mark),
     Word(Word),
@@ -22,20 +23,18 @@ pub(crate) enum Fixed {
     End,
 }
 
-/// What a token stands for.
-#[derive(Drop)]
+/// What a lexeme stands for, but for the bytes of a name or a string.
+#[derive(Clone, Copy)]
 pub(crate) enum Shape {
     Fixed(Fixed),
-    Name(Vec<u8>),
-    Number { value: u32, unsigned: bool },
-    Text(Vec<u8>),
-}
-
-/// A token with its line.
-#[derive(Drop)]
-pub(crate) struct Lexeme {
-    pub shape: Shape,
-    pub line: usize,
+    Name,
+    Number {
+        unsigned: bool,
+        value: u32,
+    },
+    Text,
+    /// There is no lexeme after the end.
+    Nothing,
 }
 
 /// What stands between the quotes of a string.
@@ -48,71 +47,117 @@ fn between_quotes(bytes: &[u8]) -> &[u8]
     }
 }
 
-/// What a token of a text stands for.
-#[tactic(auto, unfolding(crate::specs::Meaning::token_meaning))]
-fn shape_of(alloc: Global, text: &[u8], token: &Token) -> Result<Shape, AllocError>
-    requires { IsInside text.now token.now }
-    ensures { IfOk result (λ shape. view_shape shape ≡ token_meaning text.now token.now) }
+/// What a token of this kind stands for.
+#[inline(always)]
+fn shape_of(kind: Kind) -> Shape
+    ensures { result ≡ shape_of_kind kind }
 {
-    let bytes = &text[token.start..token.end];
-    let shape = match token.kind {
-        Kind::Name => match word_of(bytes) {
-            Some(word) => Shape::Fixed(Fixed::Word(word)),
-            None => Shape::Name(Vec::from_slice(alloc, bytes)?),
-        },
+    match kind {
+        Kind::Name => Shape::Name,
+        Kind::Reserved(word) => Shape::Fixed(Fixed::Word(word)),
         Kind::Number { value, unsigned } => Shape::Number { value, unsigned },
-        Kind::Text => Shape::Text(Vec::from_slice(alloc, between_quotes(bytes))?),
+        Kind::Text => Shape::Text,
         Kind::Symbol(mark) => Shape::Fixed(Fixed::Mark(mark)),
-    };
-    Ok(shape)
-}
-
-/// How many lines end in these bytes.
-#[tactic(auto, using(crate::proofs::Lines::counts))]
-fn line_ends(bytes: &[u8]) -> usize
-    ensures count { result ≡ line_ends bytes.now }
-    ensures bound { result ≤ length bytes.now }
-{
-    bytes.iter().filter(|b| **b == b'\n').count()
-}
-
-/// The lexemes of a text with these tokens, and the end after them, on the last one's line.
-pub(crate) fn lexemes(
-    alloc: Global,
-    text: &[u8],
-    tokens: &[Token],
-) -> Result<Vec<Lexeme>, AllocError>
-    requires { AreInOrder text.now 0 tokens.now }
-    ensures { IfOk result (λ v. views v.items ≡ lexemes text.now 0 1 tokens.now) }
-{
-    let mut lexemes = Vec::with_capacity(alloc, tokens.len() + 1)?;
-    let mut place = 0;
-    let mut line = 1;
-    for token in tokens {
-        line += line_ends(&text[place..token.start]);
-        place = token.start;
-        lexemes.push_reserved(Lexeme {
-            shape: shape_of(alloc, text, token)?,
-            line,
-        });
     }
-    lexemes.push_reserved(Lexeme {
-        shape: Shape::Fixed(Fixed::End),
-        line,
-    });
-    Ok(lexemes)
+}
+
+/// The token at a place.
+#[inline(always)]
+fn token_in(tokens: &[Token], at: usize) -> Token
+    requires { at < length tokens.now }
+    ensures { result ≡ get_or tokens.now at result }
+{
+    tokens[at]
+}
+
+/// The bytes of a token.
+fn part_of(text: &[u8], token: Token) -> &[u8]
+    requires { IsInside text.now token }
+    ensures { result.now ≡ slice_range text.now token.start token.end }
+{
+    &text[token.start as usize..token.end as usize]
+}
+
+/// What the first lexeme stands for.
+#[inline(always)]
+pub(crate) fn shape_at(rest: Cursor<'_>) -> Shape
+    ensures { result ≡ shape_at (views rest.entry) }
+{
+    let tokens = rest.source.tokens;
+    if rest.at < tokens.len() {
+        return shape_of(token_in(tokens, rest.at).kind);
+    }
+    if rest.at == tokens.len() {
+        return Shape::Fixed(Fixed::End);
+    }
+    Shape::Nothing
+}
+
+/// The lexemes of a text with its tokens.
+pub(crate) fn lexemes<'t>(source: &'t Source<'t>) -> Cursor<'t>
+    ensures { views result ≡ lexemes source.now.text.now 1 source.now.tokens.now }
+{
+    Cursor { source, at: 0 }
+}
+
+/// The place after this one, which is past the end already where that is passed.
+#[inline(always)]
+fn next(tokens: &[Token], at: usize) -> usize
+    ensures within { at ≤ length tokens.now → result ≡ at + 1 }
+    ensures past { length tokens.now < at → length tokens.now < result }
+{
+    if at <= tokens.len() {
+        return at + 1;
+    }
+    at
+}
+
+/// What stands after the first lexeme.
+#[inline(always)]
+pub(crate) fn rest_of(rest: Cursor<'_>) -> Cursor<'_>
+    ensures { views result ≡ rest_of (views rest.entry) }
+{
+    Cursor {
+        source: rest.source,
+        at: next(rest.source.tokens, rest.at),
+    }
+}
+
+/// The line of the first lexeme.
+pub(crate) fn line_at(rest: Cursor<'_>) -> usize
+    ensures { result ≡ line_at (views rest.entry) }
+{
+    let tokens = rest.source.tokens;
+    if rest.at < tokens.len() {
+        return token_in(tokens, rest.at).line as usize;
+    }
+    line_of_end(tokens, rest.at)
+}
+
+/// The line of the end, which is the last token's, where it comes next.
+fn line_of_end(tokens: &[Token], at: usize) -> usize
+    requires { length tokens.now ≤ at }
+    ensures { result ≡ line_of_end tokens.now at }
+{
+    if at > tokens.len() {
+        return 0;
+    }
+    if tokens.len() == 0 {
+        return 1;
+    }
+    token_in(tokens, tokens.len() - 1).line as usize
 }
 
 /// The fault at the first of these lexemes, which can't stand there.
-pub(crate) fn unexpected(rest: &[Lexeme]) -> ParseFault
-    ensures { result ≡ fault_at NoForm (views rest.now) }
+pub(crate) fn unexpected(rest: Cursor<'_>) -> ParseFault
+    ensures { result ≡ fault_at NoForm (views rest.entry) }
 {
     fault_at(Fault::NoForm, rest)
 }
 
 /// This fault at the first of these lexemes.
-pub(crate) fn fault_at(fault: Fault, rest: &[Lexeme]) -> ParseFault
-    ensures { result ≡ fault_at fault (views rest.now) }
+pub(crate) fn fault_at(fault: Fault, rest: Cursor<'_>) -> ParseFault
+    ensures { result ≡ fault_at fault (views rest.entry) }
 {
     ParseFault::Found {
         fault,
@@ -120,99 +165,118 @@ pub(crate) fn fault_at(fault: Fault, rest: &[Lexeme]) -> ParseFault
     }
 }
 
-/// The line of the first lexeme.
-pub(crate) fn line_at(rest: &[Lexeme]) -> usize
-    ensures { result ≡ line_at (views rest.now) }
-{
-    match rest {
-        [first, ..] => first.line,
-        [] => 0,
-    }
-}
-
-/// What stands after the first lexeme.
-pub(crate) fn rest_of(rest: &[Lexeme]) -> &[Lexeme]
-    ensures { views result.now ≡ rest_of (views rest.now) }
-{
-    match rest {
-        [_, after @ ..] => after,
-        [] => rest,
-    }
-}
-
 /// What stands after this lexeme, which has to come next.
+#[inline(always)]
 #[tactic(auto, unfolding(crate::specs::Lexemes::expect))]
-pub(crate) fn expect(fixed: Fixed, rest: &[Lexeme]) -> Result<&[Lexeme], ParseFault>
-    ensures { Gives (λ l. views l.now) result (expect fixed (views rest.now)) }
+pub(crate) fn expect(fixed: Fixed, rest: Cursor<'_>) -> Result<Cursor<'_>, ParseFault>
+    ensures { Gives views result (expect fixed (views rest.entry)) }
 {
-    match rest {
-        [first, after @ ..] if is_fixed(first, fixed) => Ok(after),
-        _ => Err(unexpected(rest)),
+    if starts_with(fixed, rest) {
+        return Ok(rest_of(rest));
     }
+    Err(unexpected(rest))
 }
 
-/// Whether this comes next.
-pub(crate) fn starts_with(fixed: Fixed, rest: &[Lexeme]) -> bool
-    ensures { result ≡ starts_with fixed (views rest.now) }
-{
-    match rest {
-        [first, ..] => is_fixed(first, fixed),
-        [] => false,
-    }
-}
-
+#[inline(always)]
 fn same_mark(a: Mark, b: Mark) -> bool
     ensures { result ≡ same_mark a b }
 {
     a == b
 }
 
+#[inline(always)]
 pub(crate) fn same_word(a: Word, b: Word) -> bool
     ensures { result ≡ same_word a b }
 {
     a == b
 }
 
-/// Whether a lexeme is this one.
-fn is_fixed(lexeme: &Lexeme, fixed: Fixed) -> bool
-    ensures { result ≡ is_fixed (view lexeme.now) fixed }
+/// Whether this is such a lexeme.
+#[inline(always)]
+fn is_shape(shape: Shape, fixed: Fixed) -> bool
+    ensures { result ≡ is_shape shape fixed }
 {
-    match (&lexeme.shape, fixed) {
-        (Shape::Fixed(Fixed::Mark(found)), Fixed::Mark(mark)) => same_mark(*found, mark),
-        (Shape::Fixed(Fixed::Word(found)), Fixed::Word(word)) => same_word(*found, word),
+    match (shape, fixed) {
+        (Shape::Fixed(Fixed::Mark(found)), Fixed::Mark(mark)) => same_mark(found, mark),
+        (Shape::Fixed(Fixed::Word(found)), Fixed::Word(word)) => same_word(found, word),
         (Shape::Fixed(Fixed::End), Fixed::End) => true,
         _ => false,
     }
 }
 
-/// The reserved word that comes next.
-pub(crate) fn word_at(rest: &[Lexeme]) -> Option<Word>
-    ensures { result ≡ word_at (views rest.now) }
+/// Whether this comes next.
+#[inline(always)]
+#[tactic(auto, using(crate::proofs::Shapes::starts_with_is))]
+pub(crate) fn starts_with(fixed: Fixed, rest: Cursor<'_>) -> bool
+    ensures { result ≡ starts_with fixed (views rest.entry) }
 {
-    let (first, _) = rest.split_first()?;
-    match &first.shape {
-        Shape::Fixed(Fixed::Word(word)) => Some(*word),
+    is_shape(shape_at(rest), fixed)
+}
+
+/// The mark that comes next.
+#[inline(always)]
+pub(crate) fn mark_at(rest: Cursor<'_>) -> Option<Mark>
+    ensures { result ≡ mark_of_shape (shape_at (views rest.entry)) }
+{
+    match shape_at(rest) {
+        Shape::Fixed(Fixed::Mark(mark)) => Some(mark),
         _ => None,
     }
 }
 
-/// Whether a name comes next.
-pub(crate) fn starts_name(rest: &[Lexeme]) -> bool
-    ensures { result ≡ starts_name (views rest.now) }
+#[inline(always)]
+fn word_of(shape: Shape) -> Option<Word>
+    ensures { result ≡ word_of_shape shape }
 {
-    match rest {
-        [first, ..] => matches!(first.shape, Shape::Name(_)),
-        [] => false,
+    match shape {
+        Shape::Fixed(Fixed::Word(word)) => Some(word),
+        _ => None,
     }
 }
 
-/// The string that comes next.
-pub(crate) fn text_at(rest: &[Lexeme]) -> Option<&[u8]>
-    ensures { option_map (λ bytes. bytes.now) result ≡ text_at (views rest.now) }
+/// The reserved word that comes next.
+#[inline(always)]
+#[tactic(auto, using(crate::proofs::Shapes::word_at_is))]
+pub(crate) fn word_at(rest: Cursor<'_>) -> Option<Word>
+    ensures { result ≡ word_at (views rest.entry) }
 {
-    let (first, _) = rest.split_first()?;
-    match &first.shape {
-        Shape::Text(bytes) => Some(bytes.as_slice()),
+    word_of(shape_at(rest))
+}
+
+#[inline(always)]
+fn is_name(shape: Shape) -> bool
+    ensures { result ≡ is_name_shape shape }
+{
+    matches!(shape, Shape::Name)
+}
+
+/// Whether a name comes next.
+#[inline(always)]
+#[tactic(auto, using(crate::proofs::Shapes::starts_name_is))]
+pub(crate) fn starts_name(rest: Cursor<'_>) -> bool
+    ensures { result ≡ starts_name (views rest.entry) }
+{
+    is_name(shape_at(rest))
+}
+
+/// The bytes of the first lexeme's token.
+fn bytes_at(rest: Cursor<'_>) -> &[u8]
+    ensures name { IsNameOf result.now (views rest.entry) }
+    ensures text { IsTextOf result.now (views rest.entry) }
+{
+    let tokens = rest.source.tokens;
+    if rest.at < tokens.len() {
+        return part_of(rest.source.text, token_in(tokens, rest.at));
+    }
+    &[]
+}
+
+/// The string that comes next.
+pub(crate) fn text_at(rest: Cursor<'_>) -> Option<&[u8]>
+    ensures { option_map (λ bytes. bytes.now) result ≡ text_at (views rest.entry) }
+{
+    match shape_at(rest) {
+        Shape::Text => Some(between_quotes(bytes_at(rest))),
         _ => None,
     }
 }
@@ -222,20 +286,16 @@ pub(crate) fn text_at(rest: &[Lexeme]) -> Option<&[u8]>
 pub(crate) fn number_at(
     least: u32,
     most: u32,
-    rest: &[Lexeme],
-) -> Result<(u32, &[Lexeme]), ParseFault>
-    ensures { Gives (λ x. (x.0, views x.1.now)) result (number_at least most (views rest.now)) }
+    rest: Cursor<'_>,
+) -> Result<(u32, Cursor<'_>), ParseFault>
+    ensures { Gives (λ x. (x.0, views x.1)) result (number_at least most (views rest.entry)) }
 {
-    let Some((first, after)) = rest.split_first() else {
-        return Err(unexpected(rest));
-    };
-    match &first.shape {
+    match shape_at(rest) {
         Shape::Number { value, unsigned } => {
-            let (value, unsigned) = (*value, *unsigned);
             if unsigned || value < least || most < value {
                 return Err(unexpected(rest));
             }
-            Ok((value, after))
+            Ok((value, rest_of(rest)))
         }
         _ => Err(unexpected(rest)),
     }
@@ -243,14 +303,11 @@ pub(crate) fn number_at(
 
 /// A name's bytes, and what stands after it.
 #[tactic(auto, unfolding(crate::specs::Lexemes::name_at))]
-pub(crate) fn name_at(rest: &[Lexeme]) -> Result<(&[u8], &[Lexeme]), ParseFault>
-    ensures { Gives (λ x. (x.0.now, views x.1.now)) result (name_at (views rest.now)) }
+pub(crate) fn name_at(rest: Cursor<'_>) -> Result<(&[u8], Cursor<'_>), ParseFault>
+    ensures { Gives (λ x. (x.0.now, views x.1)) result (name_at (views rest.entry)) }
 {
-    let Some((first, after)) = rest.split_first() else {
-        return Err(unexpected(rest));
-    };
-    match &first.shape {
-        Shape::Name(bytes) => Ok((bytes.as_slice(), after)),
-        _ => Err(unexpected(rest)),
+    if starts_name(rest) {
+        return Ok((bytes_at(rest), rest_of(rest)));
     }
+    Err(unexpected(rest))
 }

@@ -2,6 +2,7 @@
 #![tactic(auto)]
 
 mod calls;
+mod cursor;
 mod declarations;
 mod expressions;
 mod fault;
@@ -11,7 +12,6 @@ mod parameters;
 mod plain;
 mod statements;
 mod type_words;
-mod words;
 
 pub use fault::{Fault, ParseFault};
 pub use functions::{one_unit, parse};

@@ -6,8 +6,9 @@ ghost use Rattle.parse.specs.Results.{Gives};
 ghost use Rattle.parse.specs.Lexemes.{views};
 ghost use Rattle.parse.specs.Reading.{parameter_at, parameters_at};
 
+use crate::cursor::Cursor;
 use crate::fault::{Fault, ParseFault};
-use crate::lexemes::{Fixed, Lexeme, fault_at, name_at, rest_of, starts_with, unexpected};
+use crate::lexemes::{Fixed, fault_at, name_at, rest_of, starts_with, unexpected};
 use crate::type_words::parameter_type;
 use scan::Mark;
 use std::alloc::Global;
@@ -18,8 +19,8 @@ pub(crate) const NAMES: usize = 255;
 
 /// A parameter after its comma.
 #[tactic(auto, unfolding(crate::specs::Reading::parameter_at))]
-fn parameter(alloc: Global, lexemes: &[Lexeme]) -> Result<(Parameter, &[Lexeme]), ParseFault>
-    ensures { Gives (λ x. (parameter_tree x.0, views x.1.now)) result (parameter_at (views lexemes.now)) }
+fn parameter(alloc: Global, lexemes: Cursor<'_>) -> Result<(Parameter, Cursor<'_>), ParseFault>
+    ensures { Gives (λ x. (parameter_tree x.0, views x.1)) result (parameter_at (views lexemes.entry)) }
 {
     let Some(kind) = parameter_type(lexemes) else {
         return Err(unexpected(lexemes));
@@ -32,10 +33,10 @@ fn parameter(alloc: Global, lexemes: &[Lexeme]) -> Result<(Parameter, &[Lexeme])
 /// The parameters after the class, each with the comma before it.
 pub(crate) fn parameters(
     alloc: Global,
-    lexemes: &[Lexeme],
-) -> Result<(Vec<Parameter>, &[Lexeme]), ParseFault>
+    lexemes: Cursor<'_>,
+) -> Result<(Vec<Parameter>, Cursor<'_>), ParseFault>
     ensures few { IfOk result (λ x. length x.0.items ≤ 255) }
-    ensures gives { Gives (λ x. (map parameter_tree x.0.items, views x.1.now)) result (parameters_at 255 (views lexemes.now)) }
+    ensures gives { Gives (λ x. (map parameter_tree x.0.items, views x.1)) result (parameters_at 255 (views lexemes.entry)) }
 {
     let mut parameters = Vec::new(alloc);
     let mut rest = lexemes;

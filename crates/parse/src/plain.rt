@@ -1,19 +1,20 @@
 //! Statements that declare no name and have no block (ISO/IEC 9899:1999, 6.8.3 and 6.8.6.4).
 
 ghost use Rattle.std.specs.Prelude.{◌≡◌, ◌≤◌};
-ghost use Rattle.syntax.specs.Views.{stmt_tree};
+ghost use Rattle.syntax.specs.Views.{expr_tree, stmt_tree};
 ghost use Rattle.parse.specs.Results.{Gives};
+ghost use Rattle.parse.specs.Steps.{element_set_at};
 ghost use Rattle.parse.specs.Lexemes.{views};
 ghost use Rattle.parse.specs.Reading.{put_at, return_at, perform_at, set_element_at, set_at, plain_at};
 
 use crate::calls::{call, setting};
-use crate::expressions::{expression, index, starts_element};
+use crate::cursor::Cursor;
+use crate::expressions::{closed, expression, index, starts_element};
 use crate::fault::ParseFault;
-use crate::lexemes::{Fixed, Lexeme, expect, line_at, name_at, rest_of, starts_with};
-use crate::words::Word;
-use scan::Mark;
+use crate::lexemes::{Fixed, expect, line_at, name_at, rest_of, starts_with};
+use scan::{Mark, Word};
 use std::alloc::Global;
-use syntax::{Form, Name, Stmt};
+use syntax::{Expr, Form, Name, Stmt};
 
 /// What comes after the `put_jint` of this line.
 #[tactic(auto, unfolding(crate::specs::Reading::put_at))]
@@ -21,15 +22,15 @@ fn put(
     alloc: Global,
     room: u32,
     line: usize,
-    lexemes: &[Lexeme],
-) -> Result<(Stmt, &[Lexeme]), ParseFault>
+    lexemes: Cursor<'_>,
+) -> Result<(Stmt, Cursor<'_>), ParseFault>
     requires { room ≤ 32 }
-    ensures { Gives (λ x. (stmt_tree x.0, views x.1.now)) result (put_at room line (views lexemes.now)) }
+    ensures { Gives (λ x. (stmt_tree x.0, views x.1)) result (put_at room line (views lexemes.entry)) }
 {
     let rest = expect(Fixed::Mark(Mark::OpenParen), lexemes)?;
-    let (operand, _, rest) = expression(alloc, room, 0, rest)?;
-    let rest = expect(Fixed::Mark(Mark::CloseParen), rest)?;
-    let rest = expect(Fixed::Mark(Mark::Semicolon), rest)?;
+    let (operand, height, rest) = expression(alloc, room, 0, rest)?;
+    let (operand, height, rest) = closed(Fixed::Mark(Mark::CloseParen), operand, height, rest)?;
+    let (operand, _, rest) = closed(Fixed::Mark(Mark::Semicolon), operand, height, rest)?;
     let form = Form::PutJint(operand);
     Ok((Stmt { line, form }, rest))
 }
@@ -40,17 +41,17 @@ fn returned(
     alloc: Global,
     room: u32,
     line: usize,
-    lexemes: &[Lexeme],
-) -> Result<(Stmt, &[Lexeme]), ParseFault>
+    lexemes: Cursor<'_>,
+) -> Result<(Stmt, Cursor<'_>), ParseFault>
     requires { room ≤ 32 }
-    ensures { Gives (λ x. (stmt_tree x.0, views x.1.now)) result (return_at room line (views lexemes.now)) }
+    ensures { Gives (λ x. (stmt_tree x.0, views x.1)) result (return_at room line (views lexemes.entry)) }
 {
     if starts_with(Fixed::Mark(Mark::Semicolon), lexemes) {
         let form = Form::Return(None);
         return Ok((Stmt { line, form }, rest_of(lexemes)));
     }
-    let (operand, _, rest) = expression(alloc, room, 0, lexemes)?;
-    let rest = expect(Fixed::Mark(Mark::Semicolon), rest)?;
+    let (operand, height, rest) = expression(alloc, room, 0, lexemes)?;
+    let (operand, _, rest) = closed(Fixed::Mark(Mark::Semicolon), operand, height, rest)?;
     let form = Form::Return(Some(operand));
     Ok((Stmt { line, form }, rest))
 }
@@ -61,10 +62,10 @@ fn perform(
     alloc: Global,
     room: u32,
     line: usize,
-    lexemes: &[Lexeme],
-) -> Result<(Stmt, &[Lexeme]), ParseFault>
+    lexemes: Cursor<'_>,
+) -> Result<(Stmt, Cursor<'_>), ParseFault>
     requires { room ≤ 32 }
-    ensures { Gives (λ x. (stmt_tree x.0, views x.1.now)) result (perform_at room line (views lexemes.now)) }
+    ensures { Gives (λ x. (stmt_tree x.0, views x.1)) result (perform_at room line (views lexemes.entry)) }
 {
     let (call, rest) = call(alloc, room, lexemes)?;
     let rest = expect(Fixed::Mark(Mark::Semicolon), rest)?;
@@ -72,24 +73,41 @@ fn perform(
     Ok((Stmt { line, form }, rest))
 }
 
+/// What an element of this name and index is set to.
+#[tactic(auto, unfolding(crate::specs::Steps::element_set_at))]
+fn set_to(
+    alloc: Global,
+    room: u32,
+    line: usize,
+    name: Name,
+    index: Expr,
+    lexemes: Cursor<'_>,
+) -> Result<(Stmt, Cursor<'_>), ParseFault>
+    requires { room ≤ 32 }
+    ensures { Gives (λ x. (stmt_tree x.0, views x.1)) result (element_set_at room line name (expr_tree index) (views lexemes.entry)) }
+{
+    let rest = expect(Fixed::Mark(Mark::Assign), lexemes)?;
+    let (value, height, rest) = expression(alloc, room, 0, rest)?;
+    let (value, _, rest) = closed(Fixed::Mark(Mark::Semicolon), value, height, rest)?;
+    let form = Form::AssignElement(name, index, value);
+    Ok((Stmt { line, form }, rest))
+}
+
 /// An assignment to an element.
-#[tactic(auto, unfolding(crate::specs::Reading::set_element_at))]
+#[tactic(auto, unfolding(crate::specs::Reading::set_element_at, crate::specs::Steps::element_set_at))]
 fn set_element(
     alloc: Global,
     room: u32,
     line: usize,
-    lexemes: &[Lexeme],
-) -> Result<(Stmt, &[Lexeme]), ParseFault>
+    lexemes: Cursor<'_>,
+) -> Result<(Stmt, Cursor<'_>), ParseFault>
     requires { room ≤ 32 }
-    ensures { Gives (λ x. (stmt_tree x.0, views x.1.now)) result (set_element_at room line (views lexemes.now)) }
+    ensures { Gives (λ x. (stmt_tree x.0, views x.1)) result (set_element_at room line (views lexemes.entry)) }
 {
     let (name, rest) = name_at(lexemes)?;
     let (index, _, rest) = index(alloc, room, rest)?;
-    let rest = expect(Fixed::Mark(Mark::Assign), rest)?;
-    let (value, _, rest) = expression(alloc, room, 0, rest)?;
-    let rest = expect(Fixed::Mark(Mark::Semicolon), rest)?;
-    let form = Form::AssignElement(Name::new(alloc, name)?, index, value);
-    Ok((Stmt { line, form }, rest))
+    let name = Name::new(alloc, name)?;
+    set_to(alloc, room, line, name, index, rest)
 }
 
 /// An assignment to a name or an element.
@@ -98,10 +116,10 @@ fn set(
     alloc: Global,
     room: u32,
     line: usize,
-    lexemes: &[Lexeme],
-) -> Result<(Stmt, &[Lexeme]), ParseFault>
+    lexemes: Cursor<'_>,
+) -> Result<(Stmt, Cursor<'_>), ParseFault>
     requires { room ≤ 32 }
-    ensures { Gives (λ x. (stmt_tree x.0, views x.1.now)) result (set_at room line (views lexemes.now)) }
+    ensures { Gives (λ x. (stmt_tree x.0, views x.1)) result (set_at room line (views lexemes.entry)) }
 {
     if starts_element(lexemes) {
         return set_element(alloc, room, line, lexemes);
@@ -116,10 +134,10 @@ fn set(
 pub(crate) fn plain(
     alloc: Global,
     room: u32,
-    lexemes: &[Lexeme],
-) -> Result<(Stmt, &[Lexeme]), ParseFault>
+    lexemes: Cursor<'_>,
+) -> Result<(Stmt, Cursor<'_>), ParseFault>
     requires { room ≤ 32 }
-    ensures { Gives (λ x. (stmt_tree x.0, views x.1.now)) result (plain_at room (views lexemes.now)) }
+    ensures { Gives (λ x. (stmt_tree x.0, views x.1)) result (plain_at room (views lexemes.entry)) }
 {
     let line = line_at(lexemes);
     if starts_with(Fixed::Word(Word::PutJint), lexemes) {

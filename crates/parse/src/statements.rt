@@ -7,21 +7,21 @@ ghost use Rattle.parse.specs.Lexemes.{views};
 ghost use Rattle.parse.specs.Reading.{simple_at, inner, if_test_at, if_by, else_by, while_test_at, while_by, is_return, statement_at, block_at};
 
 use crate::calls::test;
+use crate::cursor::Cursor;
 use crate::declarations::{declared, starts_declaration};
-use crate::expressions::expression;
+use crate::expressions::{closed, expression};
 use crate::fault::{Fault, ParseFault};
-use crate::lexemes::{Fixed, Lexeme, expect, fault_at, line_at, rest_of, starts_with, unexpected};
+use crate::lexemes::{Fixed, expect, fault_at, line_at, rest_of, starts_with, unexpected};
 use crate::plain::plain;
-use crate::words::Word;
-use scan::Mark;
+use scan::{Mark, Word};
 use std::alloc::Global;
 use syntax::{Block, Expr, Form, Stmt, Test};
 
 /// A statement, how many more names may be declared after it, and what comes after it.
-type ReadStmt<'t> = (Stmt, usize, &'t [Lexeme]);
+type ReadStmt<'t> = (Stmt, usize, Cursor<'t>);
 
 /// A block, how many more names may be declared after it, and what comes after it.
-type ReadBlock<'t> = (Block, usize, &'t [Lexeme]);
+type ReadBlock<'t> = (Block, usize, Cursor<'t>);
 
 /// A statement without a block, where `free` more names may be declared.
 #[tactic(auto, unfolding(crate::specs::Reading::simple_at))]
@@ -29,10 +29,10 @@ fn simple(
     alloc: Global,
     room: u32,
     free: usize,
-    lexemes: &[Lexeme],
+    lexemes: Cursor<'_>,
 ) -> Result<ReadStmt<'_>, ParseFault>
     requires { room ≤ 32 }
-    ensures { Gives (λ x. (stmt_tree x.0, x.1, views x.2.now)) result (simple_at room free (views lexemes.now)) }
+    ensures { Gives (λ x. (stmt_tree x.0, x.1, views x.2)) result (simple_at room free (views lexemes.entry)) }
 {
     if starts_declaration(lexemes) {
         if free == 0 {
@@ -54,9 +54,9 @@ fn is_return(stmt: &Stmt) -> bool
 
 /// What an `if` tests, in its parentheses, and what comes after the brace of its block.
 #[tactic(auto, unfolding(crate::specs::Reading::if_test_at))]
-fn if_test(alloc: Global, room: u32, lexemes: &[Lexeme]) -> Result<(Test, &[Lexeme]), ParseFault>
+fn if_test(alloc: Global, room: u32, lexemes: Cursor<'_>) -> Result<(Test, Cursor<'_>), ParseFault>
     requires { room ≤ 32 }
-    ensures { Gives (λ x. (test_tree x.0, views x.1.now)) result (if_test_at room (views lexemes.now)) }
+    ensures { Gives (λ x. (test_tree x.0, views x.1)) result (if_test_at room (views lexemes.entry)) }
 {
     let rest = expect(Fixed::Mark(Mark::OpenParen), lexemes)?;
     let (test, rest) = test(alloc, room, rest)?;
@@ -67,14 +67,18 @@ fn if_test(alloc: Global, room: u32, lexemes: &[Lexeme]) -> Result<(Test, &[Lexe
 
 /// What a `while` tests, in its parentheses, and what comes after the brace of its block.
 #[tactic(auto, unfolding(crate::specs::Reading::while_test_at))]
-fn while_test(alloc: Global, room: u32, lexemes: &[Lexeme]) -> Result<(Expr, &[Lexeme]), ParseFault>
+fn while_test(
+    alloc: Global,
+    room: u32,
+    lexemes: Cursor<'_>,
+) -> Result<(Expr, Cursor<'_>), ParseFault>
     requires { room ≤ 32 }
-    ensures { Gives (λ x. (expr_tree x.0, views x.1.now)) result (while_test_at room (views lexemes.now)) }
+    ensures { Gives (λ x. (expr_tree x.0, views x.1)) result (while_test_at room (views lexemes.entry)) }
 {
     let rest = expect(Fixed::Mark(Mark::OpenParen), lexemes)?;
-    let (test, _, rest) = expression(alloc, room, 0, rest)?;
-    let rest = expect(Fixed::Mark(Mark::CloseParen), rest)?;
-    let rest = expect(Fixed::Mark(Mark::OpenBrace), rest)?;
+    let (test, height, rest) = expression(alloc, room, 0, rest)?;
+    let (test, height, rest) = closed(Fixed::Mark(Mark::CloseParen), test, height, rest)?;
+    let (test, _, rest) = closed(Fixed::Mark(Mark::OpenBrace), test, height, rest)?;
     Ok((test, rest))
 }
 
@@ -86,11 +90,11 @@ fn if_statement(
     room: u32,
     free: usize,
     line: usize,
-    lexemes: &[Lexeme],
+    lexemes: Cursor<'_>,
 ) -> Result<ReadStmt<'_>, ParseFault>
     requires some { 1 ≤ room }
     requires bound { room ≤ 32 }
-    ensures { Gives (λ x. (stmt_tree x.0, x.1, views x.2.now)) result (if_by (inner room) room free line (views lexemes.now)) }
+    ensures { Gives (λ x. (stmt_tree x.0, x.1, views x.2)) result (if_by (inner room) room free line (views lexemes.entry)) }
 {
     let (test, rest) = if_test(alloc, room, lexemes)?;
     let (body, left, rest) = block(alloc, room - 1, free, rest)?;
@@ -107,11 +111,11 @@ fn else_block(
     test: Test,
     body: Block,
     free: usize,
-    lexemes: &[Lexeme],
+    lexemes: Cursor<'_>,
 ) -> Result<ReadStmt<'_>, ParseFault>
     requires some { 1 ≤ room }
     requires bound { room ≤ 32 }
-    ensures { Gives (λ x. (stmt_tree x.0, x.1, views x.2.now)) result (else_by (inner room) line (test_tree test) (block_tree body) free (views lexemes.now)) }
+    ensures { Gives (λ x. (stmt_tree x.0, x.1, views x.2)) result (else_by (inner room) line (test_tree test) (block_tree body) free (views lexemes.entry)) }
 {
     if !starts_with(Fixed::Word(Word::Else), lexemes) {
         let form = Form::If(test, body);
@@ -131,11 +135,11 @@ fn while_statement(
     room: u32,
     free: usize,
     line: usize,
-    lexemes: &[Lexeme],
+    lexemes: Cursor<'_>,
 ) -> Result<ReadStmt<'_>, ParseFault>
     requires some { 1 ≤ room }
     requires bound { room ≤ 32 }
-    ensures { Gives (λ x. (stmt_tree x.0, x.1, views x.2.now)) result (while_by (inner room) room free line (views lexemes.now)) }
+    ensures { Gives (λ x. (stmt_tree x.0, x.1, views x.2)) result (while_by (inner room) room free line (views lexemes.entry)) }
 {
     let (test, rest) = while_test(alloc, room, lexemes)?;
     let (body, left, rest) = block(alloc, room - 1, free, rest)?;
@@ -150,10 +154,10 @@ fn statement(
     alloc: Global,
     room: u32,
     free: usize,
-    lexemes: &[Lexeme],
+    lexemes: Cursor<'_>,
 ) -> Result<ReadStmt<'_>, ParseFault>
     requires { room ≤ 32 }
-    ensures { Gives (λ x. (stmt_tree x.0, x.1, views x.2.now)) result (statement_at room free (views lexemes.now)) }
+    ensures { Gives (λ x. (stmt_tree x.0, x.1, views x.2)) result (statement_at room free (views lexemes.entry)) }
 {
     let line = line_at(lexemes);
     if starts_with(Fixed::Word(Word::If), lexemes) {
@@ -177,10 +181,10 @@ pub(crate) fn block(
     alloc: Global,
     room: u32,
     names: usize,
-    lexemes: &[Lexeme],
+    lexemes: Cursor<'_>,
 ) -> Result<ReadBlock<'_>, ParseFault>
     requires { room ≤ 32 }
-    ensures { Gives (λ x. (block_tree x.0, x.1, views x.2.now)) result (block_at room names (views lexemes.now)) }
+    ensures { Gives (λ x. (block_tree x.0, x.1, views x.2)) result (block_at room names (views lexemes.entry)) }
 {
     let mut statements = Vec::new(alloc);
     let mut rest = lexemes;

@@ -6,8 +6,9 @@ ghost use Rattle.syntax.specs.Views.{reference_tree, result_tree, element_tree, 
 ghost use Rattle.parse.specs.Lexemes.{views};
 ghost use Rattle.parse.specs.Reading.{reference_of_word, result_of_word, element_of_word, parameter_of_word, variable_of_word, reference_type_at, result_type_at, element_type_at, parameter_type_at, variable_type_at};
 
-use crate::lexemes::{Lexeme, same_word, word_at};
-use crate::words::Word;
+use crate::cursor::Cursor;
+use crate::lexemes::{same_word, word_at};
+use scan::Word;
 use syntax::{ElementType, ParameterType, ReferenceType, ResultType, VariableType};
 
 /// The reference type of a word (JNI Specification, chapter 3, "Reference Types").
@@ -86,8 +87,8 @@ fn variable_of(word: Word) -> Option<VariableType>
 }
 
 /// The type of references that comes next.
-pub(crate) fn reference_type(lexemes: &[Lexeme]) -> Option<ReferenceType>
-    ensures { option_map reference_tree result ≡ reference_type_at (views lexemes.now) }
+pub(crate) fn reference_type(lexemes: Cursor<'_>) -> Option<ReferenceType>
+    ensures { option_map reference_tree result ≡ reference_type_at (views lexemes.entry) }
 {
     match word_at(lexemes) {
         Some(word) => reference_of(word),
@@ -96,8 +97,8 @@ pub(crate) fn reference_type(lexemes: &[Lexeme]) -> Option<ReferenceType>
 }
 
 /// The type of a result, where one comes next.
-pub(crate) fn result_type(lexemes: &[Lexeme]) -> Option<ResultType>
-    ensures { option_map result_tree result ≡ result_type_at (views lexemes.now) }
+pub(crate) fn result_type(lexemes: Cursor<'_>) -> Option<ResultType>
+    ensures { option_map result_tree result ≡ result_type_at (views lexemes.entry) }
 {
     match word_at(lexemes) {
         Some(word) => result_of(word),
@@ -106,8 +107,8 @@ pub(crate) fn result_type(lexemes: &[Lexeme]) -> Option<ResultType>
 }
 
 /// The type of an element, where one comes next.
-pub(crate) fn element_type(lexemes: &[Lexeme]) -> Option<ElementType>
-    ensures { option_map element_tree result ≡ element_type_at (views lexemes.now) }
+pub(crate) fn element_type(lexemes: Cursor<'_>) -> Option<ElementType>
+    ensures { option_map element_tree result ≡ element_type_at (views lexemes.entry) }
 {
     match word_at(lexemes) {
         Some(word) => element_of(word),
@@ -116,8 +117,8 @@ pub(crate) fn element_type(lexemes: &[Lexeme]) -> Option<ElementType>
 }
 
 /// The type of a parameter, where one comes next.
-pub(crate) fn parameter_type(lexemes: &[Lexeme]) -> Option<ParameterType>
-    ensures { option_map parameter_type_tree result ≡ parameter_type_at (views lexemes.now) }
+pub(crate) fn parameter_type(lexemes: Cursor<'_>) -> Option<ParameterType>
+    ensures { option_map parameter_type_tree result ≡ parameter_type_at (views lexemes.entry) }
 {
     match word_at(lexemes) {
         Some(word) => parameter_of(word),
@@ -126,8 +127,8 @@ pub(crate) fn parameter_type(lexemes: &[Lexeme]) -> Option<ParameterType>
 }
 
 /// The type of a variable, where one comes next.
-pub(crate) fn variable_type(lexemes: &[Lexeme]) -> Option<VariableType>
-    ensures { option_map variable_type_tree result ≡ variable_type_at (views lexemes.now) }
+pub(crate) fn variable_type(lexemes: Cursor<'_>) -> Option<VariableType>
+    ensures { option_map variable_type_tree result ≡ variable_type_at (views lexemes.entry) }
 {
     match word_at(lexemes) {
         Some(word) => variable_of(word),

@@ -1,6 +1,6 @@
 use Rattle.std.proofs.Common.{sym, ◌∙◌, rules}
 use denote.Enum.Bare.{same_true, true_same}
-use Rattle.parse.specs.contracts.words.Word.{the_type}
+use Rattle.scan.specs.contracts.reserved.Word.{the_type}
 use Rattle.parse.proofs.Singles.{word_flag}
 use Rattle.parse.proofs.lexemes.same_word.Goals as goal
 
