@@ -29,7 +29,7 @@ pub scan_refusal : (text : List ℕ) (f : ScanFault) → IsFirstFault text f →
 scan_refusal text scanning.Memory h = tt
 scan_refusal text (scanning.Found fault line) h = by_scan fault line h
 
-pub parse_refusal : (text : List ℕ) (tokens : List Token) (f : ParseFault) → Spells text tokens → Fails f (unit_at (lexemes text 0 1 tokens)) → IsRefusal text (of_parse f)
+pub parse_refusal : (text : List ℕ) (tokens : List Token) (f : ParseFault) → Spells text tokens → Fails f (unit_at (lexemes text 1 tokens)) → IsRefusal text (of_parse f)
 parse_refusal text tokens parsing.Memory s h = tt
 parse_refusal text tokens (parsing.Found fault line) s h = by_parse tokens fault line s h
 

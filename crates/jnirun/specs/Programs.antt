@@ -31,7 +31,7 @@ pub data IsRefusedProgram (text : List ℕ) : (number line : ℕ) → Type 0 whe
   -- it has no tokens
   by_scan : (fault : BadToken) (line : ℕ) → IsFirstFault text (scanning.Found fault line) → IsRefusedProgram text (scan_faults.number_of_kind fault) line
   -- its tokens form no tree
-  by_parse : (tokens : List Token) (fault : BadForm) (line : ℕ) → Spells text tokens → unit_at (lexemes text 0 1 tokens) ≡ Err (parsing.Found fault line) → IsRefusedProgram text (parse_faults.number_of_kind fault) line
+  by_parse : (tokens : List Token) (fault : BadForm) (line : ℕ) → Spells text tokens → unit_at (lexemes text 1 tokens) ≡ Err (parsing.Found fault line) → IsRefusedProgram text (parse_faults.number_of_kind fault) line
   -- a rule of sorts is broken, or a function is called that is not built
   by_sorts : (unit : SourceUnit) (rule : SortRule) (line : ℕ) → SpellsUnit text unit → first_refused unit ≡ Some (line, rule) → IsRefusedProgram text (sort_rule_number rule) line
   -- a rule of regions is broken

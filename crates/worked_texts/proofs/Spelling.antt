@@ -31,7 +31,7 @@ with_token t (Some tokens) = Some (t ∷ tokens)
 abbrev pub after_piece : ℕ → (ℕ → Option (List Token)) → Result Piece Fault → Option (List Token)
 after_piece at go (Err fault) = None
 after_piece at go (Ok (None, n)) = go (at + n)
-after_piece at go (Ok (Some kind, n)) = with_token (record { kind = kind; start = at; end = at + n }) (go (at + n))
+after_piece at go (Ok (Some kind, n)) = with_token (record { kind = kind; line = line_of text at; start = at; end = at + n }) (go (at + n))
 
 -- at the text's end, or before it
 abbrev pub at_end : List ℕ → ℕ → (ℕ → Option (List Token)) → Bool → Option (List Token)
