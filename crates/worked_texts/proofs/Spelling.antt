@@ -7,8 +7,8 @@ use Rattle.syntax.specs.Tree.{SourceUnit}
 use Rattle.scan.specs.declared.fault.Fault.{Fault}
 use Rattle.scan.specs.declared.token.Kind.{Kind}
 use Rattle.scan.specs.declared.token.Token.{Token}
-use Rattle.scan.specs.Reading.{Piece, number_in, number_of, number_at, text_at, comment_or_mark, piece_at}
-use Rattle.scan.specs.Spelling.{SpellsFrom, ends, passes, takes, line_of}
+use Rattle.scan.specs.Reading.{Piece, name_at, number_in, number_of, number_at, text_at, comment_or_mark, piece_at}
+use Rattle.scan.specs.Spelling.{SpellsFrom, ends, passes, takes, token_at}
 use Rattle.scan.proofs.Grammar.{gap_takes}
 use Rattle.scan.proofs.Tokens.{token_takes}
 use Rattle.parse.specs.Meaning.{token_meaning}
@@ -17,7 +17,7 @@ use Rattle.scan.specs.Words.{keyword, interface_word, reference_word, constant_w
 
 -- what the computations unfold
 unfoldable pub opened : Unit {0}
-unfolding number_in number_of number_at text_at comment_or_mark piece_at token_meaning keyword interface_word reference_word constant_word is_unused_type is_unused_declaration is_unused_statement unused_word word_of
+unfolding name_at number_in number_of number_at text_at comment_or_mark piece_at token_meaning keyword interface_word reference_word constant_word is_unused_type is_unused_declaration is_unused_statement unused_word word_of
 opened = tt
 
 -- ---- tokens
@@ -28,15 +28,15 @@ with_token t None = None
 with_token t (Some tokens) = Some (t ∷ tokens)
 
 -- after a piece of the text
-abbrev pub after_piece : ℕ → (ℕ → Option (List Token)) → Result Piece Fault → Option (List Token)
-after_piece at go (Err fault) = None
-after_piece at go (Ok (None, n)) = go (at + n)
-after_piece at go (Ok (Some kind, n)) = with_token (record { kind = kind; line = line_of text at; start = at; end = at + n }) (go (at + n))
+abbrev pub after_piece : List ℕ → ℕ → (ℕ → Option (List Token)) → Result Piece Fault → Option (List Token)
+after_piece text at go (Err fault) = None
+after_piece text at go (Ok (None, n)) = go (at + n)
+after_piece text at go (Ok (Some kind, n)) = with_token (token_at text at kind n) (go (at + n))
 
 -- at the text's end, or before it
 abbrev pub at_end : List ℕ → ℕ → (ℕ → Option (List Token)) → Bool → Option (List Token)
 at_end text at go true = Some []
-at_end text at go false = after_piece at go (piece_at (drop at text))
+at_end text at go false = after_piece text at go (piece_at (drop at text))
 
 -- the tokens from a place on, where there are at most as many pieces as fuel
 abbrev pub tokens_from : (fuel : ℕ) → List ℕ → ℕ → Option (List Token)
@@ -51,11 +51,11 @@ gap-spelled : (text : List ℕ) (at n : ℕ) (r : Option (List Token)) → piece
 gap-spelled text at n None e h = tt
 gap-spelled text at n (Some tokens) e h = passes n (gap_takes (drop at text) n e) h
 
-token-spelled : (text : List ℕ) (at n : ℕ) (kind : Kind) (r : Option (List Token)) → piece_at (drop at text) ≡ Ok (Some kind, n) → SpellsIf text (at + n) r → SpellsIf text at (with_token (record { kind = kind; start = at; end = at + n }) r)
+token-spelled : (text : List ℕ) (at n : ℕ) (kind : Kind) (r : Option (List Token)) → piece_at (drop at text) ≡ Ok (Some kind, n) → SpellsIf text (at + n) r → SpellsIf text at (with_token (token_at text at kind n) r)
 token-spelled text at n kind None e h = tt
 token-spelled text at n kind (Some tokens) e h = takes kind n (token_takes (drop at text) kind n e) h
 
-piece-spelled : (text : List ℕ) (at : ℕ) (go : ℕ → Option (List Token)) (r : Result Piece Fault) → piece_at (drop at text) ≡ r → ((next : ℕ) → SpellsIf text next (go next)) → SpellsIf text at (after_piece at go r)
+piece-spelled : (text : List ℕ) (at : ℕ) (go : ℕ → Option (List Token)) (r : Result Piece Fault) → piece_at (drop at text) ≡ r → ((next : ℕ) → SpellsIf text next (go next)) → SpellsIf text at (after_piece text at go r)
 piece-spelled text at go (Err fault) e further = tt
 piece-spelled text at go (Ok (None, n)) e further = gap-spelled text at n (go (at + n)) e (further (at + n))
 piece-spelled text at go (Ok (Some kind, n)) e further = token-spelled text at n kind (go (at + n)) e (further (at + n))
@@ -73,7 +73,7 @@ from-spelled (suc fuel) text at = end-spelled text at (λ next. tokens_from fuel
 -- a token as the tree would spell it, in the line that it has if the tree tells one
 abbrev pub as_spelled : List ℕ → Token → Spelled → Spelled
 as_spelled text token (Anywhere meaning) = Anywhere (token_meaning text token)
-as_spelled text token (OnLine line meaning) = OnLine (line_of text token.start) (token_meaning text token)
+as_spelled text token (OnLine line meaning) = OnLine token.line (token_meaning text token)
 
 -- all tokens so, and none where the tree has fewer
 abbrev pub all_spelled : List ℕ → List Token → List Spelled → List Spelled
