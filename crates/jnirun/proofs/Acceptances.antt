@@ -1,9 +1,9 @@
 -- A pass refuses the text of an accepted program for want of memory alone.
 use Rattle.std.proofs.Common.{◌≡◌, List, ℕ, IsTrue, Ok, refl, subst}
 use Rattle.syntax.specs.Tree.{SourceUnit}
-use Rattle.parse.specs.declared.fault.ParseFault.{ParseFault}
-use Rattle.parse.specs.declared.fault.ParseFault.TheVariants as parsing
-use Rattle.parse.specs.Results.{Fails}
+use Rattle.lexemes.specs.declared.fault.ParseFault.{ParseFault}
+use Rattle.lexemes.specs.declared.fault.ParseFault.TheVariants as parsing
+use Rattle.lexemes.specs.Results.{Fails}
 use Rattle.types.specs.BuiltCalls.{calls_are_built}
 use Rattle.types.specs.SortRules.{IsSorted}
 use Rattle.regions.specs.Regions.{HasRegions}

@@ -6,11 +6,11 @@ use Rattle.scan.specs.declared.fault.ScanFault.{ScanFault}
 use Rattle.scan.specs.declared.fault.ScanFault.TheVariants as scanning
 use Rattle.scan.specs.Spelling.{Spells}
 use Rattle.scan.specs.Faults.{IsFirstFault}
-use Rattle.parse.specs.declared.fault.ParseFault.{ParseFault}
-use Rattle.parse.specs.declared.fault.ParseFault.TheVariants as parsing
-use Rattle.parse.specs.Lexemes.{lexemes}
+use Rattle.lexemes.specs.declared.fault.ParseFault.{ParseFault}
+use Rattle.lexemes.specs.declared.fault.ParseFault.TheVariants as parsing
+use Rattle.lexemes.specs.Lexemes.{lexemes}
 use Rattle.parse.specs.Reading.{unit_at}
-use Rattle.parse.specs.Results.{Fails}
+use Rattle.lexemes.specs.Results.{Fails}
 use Rattle.parse.specs.Spelling.{SpellsUnit}
 use Rattle.types.specs.declared.fault.TypeFault.{TypeFault}
 use Rattle.types.specs.declared.fault.TypeFault.TheVariants as sorting

@@ -2,9 +2,9 @@
 use Rattle.scan.specs.declared.fault.ScanFault.{ScanFault}
 use Rattle.scan.specs.declared.fault.ScanFault.TheVariants as scanning
 use Rattle.scan.specs.Faults as scan_faults
-use Rattle.parse.specs.declared.fault.ParseFault.{ParseFault}
-use Rattle.parse.specs.declared.fault.ParseFault.TheVariants as parsing
-use Rattle.parse.specs.Faults as parse_faults
+use Rattle.lexemes.specs.declared.fault.ParseFault.{ParseFault}
+use Rattle.lexemes.specs.declared.fault.ParseFault.TheVariants as parsing
+use Rattle.lexemes.specs.Faults as parse_faults
 use Rattle.types.specs.declared.fault.TypeFault.{TypeFault}
 use Rattle.types.specs.declared.fault.TypeFault.TheVariants as sorting
 use Rattle.types.specs.Faults as type_faults

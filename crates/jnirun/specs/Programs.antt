@@ -7,10 +7,10 @@ use Rattle.scan.specs.declared.fault.ScanFault.TheVariants as scanning
 use Rattle.scan.specs.Spelling.{Spells}
 use Rattle.scan.specs.Faults.{IsFirstFault}
 use Rattle.scan.specs.Faults as scan_faults
-use Rattle.parse.specs.declared.fault.Fault.{Fault as BadForm}
-use Rattle.parse.specs.declared.fault.ParseFault.TheVariants as parsing
-use Rattle.parse.specs.Faults as parse_faults
-use Rattle.parse.specs.Lexemes.{lexemes}
+use Rattle.lexemes.specs.declared.fault.Fault.{Fault as BadForm}
+use Rattle.lexemes.specs.declared.fault.ParseFault.TheVariants as parsing
+use Rattle.lexemes.specs.Faults as parse_faults
+use Rattle.lexemes.specs.Lexemes.{lexemes}
 use Rattle.parse.specs.Reading.{unit_at}
 use Rattle.parse.specs.Spelling.{SpellsUnit}
 use Rattle.types.specs.BuiltCalls.{calls_are_built, first_refused}

@@ -8,7 +8,8 @@ ghost use Rattle.jnirun.specs.Programs.{IsProgram};
 ghost use Rattle.jnirun.specs.Passes.{IsRefusal, IsUnitOr};
 
 use crate::fault::{Place, RunError, Text};
-use parse::{ParseFault, parse};
+use lexemes::ParseFault;
+use parse::parse;
 use regions::{CheckFault, Checked, check};
 use scan::{ScanFault, scan};
 use std::alloc::Global;

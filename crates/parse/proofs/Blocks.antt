@@ -5,13 +5,14 @@ use Rattle.scan.specs.declared.token.Mark.TheVariants as marks
 use Rattle.syntax.specs.Tree.{Block, End, Next, Item}
 use Rattle.syntax.specs.declared.stmt.Stmt.{Stmt as StmtInMemory}
 use Rattle.syntax.specs.Views.{stmt_tree, statements_tree}
-use Rattle.parse.specs.declared.fault.Fault.TheVariants.{NoForm}
-use Rattle.parse.specs.declared.fault.ParseFault.{ParseFault}
-use Rattle.parse.specs.declared.fault.ParseFault.TheVariants.{Memory, Found}
-use Rattle.parse.specs.declared.lexemes.Fixed.TheVariants as fixed
-use Rattle.parse.specs.Results.{◌>>=◌, Fails}
-use Rattle.parse.specs.Lexemes.{Lexed, line_at, fault_at}
-use Rattle.parse.specs.Reading.{starts_with, rest_of, is_return, ReadBlock, block_by, inner, statement_at, block_at, item_at, items_at}
+use Rattle.lexemes.specs.declared.fault.Fault.TheVariants.{NoForm}
+use Rattle.lexemes.specs.declared.fault.ParseFault.{ParseFault}
+use Rattle.lexemes.specs.declared.fault.ParseFault.TheVariants.{Memory, Found}
+use Rattle.lexemes.specs.declared.first.Fixed.TheVariants as fixed
+use Rattle.lexemes.specs.Results.{◌>>=◌, Fails}
+use Rattle.lexemes.specs.Lexemes.{Lexed, line_at, fault_at}
+use Rattle.lexemes.specs.Reading.{starts_with, rest_of}
+use Rattle.parse.specs.Reading.{is_return, ReadBlock, block_by, inner, statement_at, block_at, item_at, items_at}
 use Rattle.parse.proofs.Nested.{statement_takes}
 use Rattle.parse.proofs.Programs.{item_takes}
 

@@ -6,18 +6,23 @@ use Rattle.scan.specs.declared.token.Mark.TheVariants as marks
 use Rattle.base.specs.Bytes.{Identifier}
 use Rattle.base.specs.Element.{ElementType, JInt, JShort, JByte, JChar}
 use Rattle.syntax.specs.Tree.{VariableType, JIntVariable, RightSide, Stmt, Declare, DeclareBuffer, DeclareChars, DeclareArray, Assign, AssignElement, Perform, PutJint, If, IfElse, While, Return, ReturnValue}
-use Rattle.parse.specs.declared.fault.ParseFault.{ParseFault}
+use Rattle.lexemes.specs.declared.fault.ParseFault.{ParseFault}
 use Rattle.scan.specs.declared.reserved.Word.TheVariants as words
-use Rattle.parse.specs.declared.lexemes.Fixed.{Fixed}
-use Rattle.parse.specs.declared.lexemes.Fixed.TheVariants as fixed
-use Rattle.parse.specs.Results.{◌>>=◌}
-use Rattle.parse.specs.Meaning.{Meaning, Fixed', Name', Number'}
-use Rattle.parse.specs.Lexemes.{Lexed, is_fixed_meaning, line_at, expect, name_at}
-use Rattle.parse.specs.Spelling.{Spelled, Anywhere, OnLine, mark, word, element_word, variable_word, right, setting, statement}
-use Rattle.parse.specs.Reading.{starts_with, rest_of, element_type_at, variable_type_at, setting_at, number_at, ReadPlain, zeros_at, array_at, is_array, after_element, after_variable, after_const, declared_by, declared_at, starts_declaration}
-use Rattle.parse.proofs.Forms.{IsRight, IsSize, IsForm, names_of}
-use Rattle.parse.proofs.Singles.{Begins, bind_ok, ok_is, chosen, begins_append, fixed_is, expect_takes, then_takes, name_takes, on_takes, starts_takes, first_takes, first_rest, first_is, on_line_is, expect_again, name_again, number_takes, zero_takes, number_again}
-use Rattle.parse.proofs.TypeWords.{element_type_takes, variable_type_takes, element_in, variable_in, first_element, first_variable, element_word_in, variable_word_in}
+use Rattle.lexemes.specs.declared.first.Fixed.{Fixed}
+use Rattle.lexemes.specs.declared.first.Fixed.TheVariants as fixed
+use Rattle.lexemes.specs.Results.{◌>>=◌}
+use Rattle.lexemes.specs.Meaning.{Meaning, Fixed', Name', Number'}
+use Rattle.lexemes.specs.Lexemes.{Lexed, is_fixed_meaning, line_at, expect, name_at}
+use Rattle.lexemes.specs.Spelling.{Spelled, Anywhere, OnLine, mark, word, element_word, variable_word}
+use Rattle.expressions.specs.Spelling.{right, setting}
+use Rattle.parse.specs.Spelling.{statement}
+use Rattle.lexemes.specs.Reading.{starts_with, rest_of, element_type_at, variable_type_at, number_at}
+use Rattle.expressions.specs.Reading.{setting_at}
+use Rattle.parse.specs.Reading.{ReadPlain, zeros_at, array_at, is_array, after_element, after_variable, after_const, declared_by, declared_at, starts_declaration}
+use Rattle.expressions.proofs.Forms.{IsRight}
+use Rattle.parse.proofs.Forms.{IsSize, IsForm, names_of}
+use Rattle.lexemes.proofs.Singles.{Begins, bind_ok, ok_is, chosen, begins_append, fixed_is, expect_takes, then_takes, name_takes, on_takes, starts_takes, first_takes, first_rest, first_is, on_line_is, expect_again, name_again, number_takes, zero_takes, number_again}
+use Rattle.lexemes.proofs.TypeWords.{element_type_takes, variable_type_takes, element_in, variable_in, first_element, first_variable, element_word_in, variable_word_in}
 use Rattle.parse.proofs.Sentences.{setting_tail, setting_takes, setting_again}
 
 -- ---- what is read is spelled so

@@ -1,11 +1,4 @@
 pub mod Forms
-pub mod Singles
-pub mod Table
-pub mod TypeWords
-pub mod Levels
-pub mod Climbing
-pub mod Shapes
-pub mod JniCalls
 pub mod Commas
 pub mod Sentences
 pub mod Declared

@@ -7,19 +7,24 @@ use Rattle.std.proofs.lemmas.List.Elements.{filter_map-append}
 use Rattle.scan.specs.declared.token.Mark.TheVariants as marks
 use Rattle.syntax.specs.Tree.{Expr, Test, Stmt, If, IfElse, While, Block, End, Next}
 use Rattle.syntax.specs.Parts.{statements_within, statements_of, declared_name, names_declared}
-use Rattle.parse.specs.declared.fault.ParseFault.{ParseFault}
+use Rattle.lexemes.specs.declared.fault.ParseFault.{ParseFault}
 use Rattle.scan.specs.declared.reserved.Word.{Word}
 use Rattle.scan.specs.declared.reserved.Word.TheVariants as words
-use Rattle.parse.specs.declared.lexemes.Fixed.TheVariants as fixed
-use Rattle.parse.specs.Results.{◌>>=◌}
-use Rattle.parse.specs.Meaning.{Fixed'}
-use Rattle.parse.specs.Lexemes.{Lexed, line_at, expect}
-use Rattle.parse.specs.Spelling.{Spelled, OnLine, mark, word, expression, test_tokens, statement, inside}
-use Rattle.parse.specs.Reading.{starts_with, rest_of, ReadExpr, expr_at, plain_at, declared_at, starts_declaration, ReadStmt, simple_at, ReadBlock, BlockReader, test_at, else_by, if_test_at, if_by, while_test_at, while_by, statement_by, is_return, block_by, inner, statement_at, block_at}
-use Rattle.parse.proofs.Forms.{IsForm, IsTest, IsBlock, MayFollow, names_of, names_in}
-use Rattle.parse.proofs.Singles.{Begins, bind_ok, ok_is, chosen, begins_append, first_takes, starts_takes, expect_takes, then_takes, shortens, on_takes}
-use Rattle.parse.proofs.Levels.{expr_reads}
-use Rattle.parse.proofs.JniCalls.{test_takes}
+use Rattle.lexemes.specs.declared.first.Fixed.TheVariants as fixed
+use Rattle.lexemes.specs.Results.{◌>>=◌}
+use Rattle.lexemes.specs.Meaning.{Fixed'}
+use Rattle.lexemes.specs.Lexemes.{Lexed, line_at, expect}
+use Rattle.lexemes.specs.Spelling.{Spelled, OnLine, mark, word}
+use Rattle.expressions.specs.Spelling.{expression, test_tokens}
+use Rattle.parse.specs.Spelling.{statement, inside}
+use Rattle.lexemes.specs.Reading.{starts_with, rest_of}
+use Rattle.expressions.specs.Reading.{ReadExpr, expr_at, test_at}
+use Rattle.parse.specs.Reading.{plain_at, declared_at, starts_declaration, ReadStmt, simple_at, ReadBlock, BlockReader, else_by, if_test_at, if_by, while_test_at, while_by, statement_by, is_return, block_by, inner, statement_at, block_at}
+use Rattle.parse.proofs.Forms.{IsForm, IsBlock, MayFollow, names_of, names_in}
+use Rattle.expressions.proofs.Forms.{IsTest}
+use Rattle.lexemes.proofs.Singles.{Begins, bind_ok, ok_is, chosen, begins_append, first_takes, starts_takes, expect_takes, then_takes, shortens, on_takes}
+use Rattle.expressions.proofs.Levels.{expr_reads}
+use Rattle.expressions.proofs.JniCalls.{test_takes}
 use Rattle.parse.proofs.Sentences.{plain_takes}
 use Rattle.parse.proofs.Declared.{declared_takes}
 

@@ -3,19 +3,24 @@ use Rattle.std.proofs.Common.{◌≡◌, ℕ, ◌<◌, Bool, true, false, List, 
 use Rattle.scan.specs.declared.token.Mark.TheVariants as marks
 use Rattle.base.specs.Bytes.{Identifier}
 use Rattle.syntax.specs.Tree.{Expr, Call, RightSide, Stmt, Declare, DeclareBuffer, DeclareChars, DeclareArray, Assign, AssignElement, Perform, PutJint, If, IfElse, While, Return, ReturnValue}
-use Rattle.parse.specs.declared.fault.ParseFault.{ParseFault}
+use Rattle.lexemes.specs.declared.fault.ParseFault.{ParseFault}
 use Rattle.scan.specs.declared.reserved.Word.TheVariants as words
-use Rattle.parse.specs.declared.lexemes.Fixed.TheVariants as fixed
-use Rattle.parse.specs.Results.{◌>>=◌}
-use Rattle.parse.specs.Meaning.{Meaning, Fixed', Name'}
-use Rattle.parse.specs.Lexemes.{Lexed, line_at, expect, name_at}
-use Rattle.parse.specs.Spelling.{Spelled, Anywhere, OnLine, mark, word, expression, call, right, setting, statement}
-use Rattle.parse.specs.Reading.{starts_with, rest_of, ReadExpr, expr_at, index_at, starts_name, starts_element, call_at, right_at, setting_at, ReadPlain, put_at, return_at, perform_at, set_element_at, set_at, plain_at}
-use Rattle.parse.proofs.Forms.{IsExpr, IsIndex, AreArguments, IsRight, IsForm, names_of}
-use Rattle.parse.proofs.Singles.{Begins, bind_ok, ok_is, chosen, begins_append, begins_split, starts_takes, expect_takes, then_takes, name_takes, shortens, on_takes, on_first, off_first, on_is, on_line_is, first_is, first_rest, expect_again, name_again, starts_name_again}
-use Rattle.parse.proofs.Table.{closes_mark}
-use Rattle.parse.proofs.Levels.{index_tokens, index_more, index_split, index_reads, index_reads_again, expr_reads, expr_reads_again, no_first, no_first_mark}
-use Rattle.parse.proofs.JniCalls.{argument_tokens, call_takes, call_again, right_takes, right_again}
+use Rattle.lexemes.specs.declared.first.Fixed.TheVariants as fixed
+use Rattle.lexemes.specs.Results.{◌>>=◌}
+use Rattle.lexemes.specs.Meaning.{Meaning, Fixed', Name'}
+use Rattle.lexemes.specs.Lexemes.{Lexed, line_at, expect, name_at}
+use Rattle.lexemes.specs.Spelling.{Spelled, Anywhere, OnLine, mark, word}
+use Rattle.expressions.specs.Spelling.{expression, call, right, setting}
+use Rattle.parse.specs.Spelling.{statement}
+use Rattle.lexemes.specs.Reading.{starts_with, rest_of, starts_name}
+use Rattle.expressions.specs.Reading.{ReadExpr, expr_at, index_at, starts_element, call_at, right_at, setting_at}
+use Rattle.parse.specs.Reading.{ReadPlain, put_at, return_at, perform_at, set_element_at, set_at, plain_at}
+use Rattle.expressions.proofs.Forms.{IsExpr, AreArguments, IsRight}
+use Rattle.parse.proofs.Forms.{IsIndex, IsForm, names_of}
+use Rattle.lexemes.proofs.Singles.{Begins, bind_ok, ok_is, chosen, begins_append, begins_split, starts_takes, expect_takes, then_takes, name_takes, shortens, on_takes, on_first, off_first, on_is, on_line_is, first_is, first_rest, expect_again, name_again, starts_name_again}
+use Rattle.expressions.proofs.Table.{closes_mark}
+use Rattle.expressions.proofs.Levels.{index_tokens, index_more, index_split, index_reads, index_reads_again, expr_reads, expr_reads_again, no_first, no_first_mark}
+use Rattle.expressions.proofs.JniCalls.{argument_tokens, call_takes, call_again, right_takes, right_again}
 
 put_takes : (room line : ℕ) (ls : List Lexed) (x : ReadPlain) → put_at room line ls ≡ Ok x → (e : Expr) × (PutJint line e ≡ x.0) × IsExpr room e × Begins (mark marks.OpenParen ∷ (expression e ++ (mark marks.CloseParen ∷ mark marks.Semicolon ∷ []))) ls x.1
 unfolding put_at

@@ -10,14 +10,17 @@ use Rattle.syntax.specs.Tree.{Expr, Number, Named, Variable, Element, Prefix, Bi
 use Rattle.syntax.specs.Parts.{functions_of, statements_within, statements_of, argument_expressions, right_side_expressions, test_expressions, own_expressions, names_declared, parameter_names}
 use Rattle.syntax.specs.Limits.{operator_level, prefix_level, level, levelled, numbers_in_range, height, highest, own_height, statement_height, block_height, well_formed, block_well_formed, IsTree}
 use Rattle.scan.specs.declared.reserved.Word.TheVariants as words
-use Rattle.parse.specs.declared.lexemes.Fixed.TheVariants as fixed
-use Rattle.parse.specs.Meaning.{Fixed', Number'}
-use Rattle.parse.specs.Spelling.{Spelled, Anywhere, OnLine, mark, word, expression, call, right, test_tokens, statement, inside, parameters, function, item, spell}
+use Rattle.lexemes.specs.declared.first.Fixed.TheVariants as fixed
+use Rattle.lexemes.specs.Meaning.{Fixed', Number'}
+use Rattle.lexemes.specs.Spelling.{Spelled, Anywhere, OnLine, mark, word}
+use Rattle.expressions.specs.Spelling.{expression, call, right, test_tokens}
+use Rattle.parse.specs.Spelling.{statement, inside, parameters, function, item, spell}
 use Rattle.parse.specs.Reading.{is_return}
-use Rattle.parse.proofs.Forms.{IsLevelled, IsExpr, AreArguments, IsRight, IsTest, IsForm, MayFollow, IsBlock, names_in, IsFunction, AreItems}
-use Rattle.parse.proofs.Table.{level_small}
+use Rattle.expressions.proofs.Forms.{IsLevelled, IsExpr, AreArguments, IsRight, IsTest}
+use Rattle.parse.proofs.Forms.{IsForm, MayFollow, IsBlock, names_in, IsFunction, AreItems}
+use Rattle.expressions.proofs.Table.{level_small}
 use Rattle.parse.proofs.Ranges.{AreInRange, range_left, range_right, numbers_of}
-use Rattle.parse.proofs.JniCalls.{argument_tokens}
+use Rattle.expressions.proofs.JniCalls.{argument_tokens}
 use Rattle.parse.proofs.Nested.{tested_tail}
 use Rattle.parse.proofs.Programs.{functions_in, statics_in}
 

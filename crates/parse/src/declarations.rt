@@ -2,15 +2,15 @@
 
 ghost use Rattle.std.specs.Prelude.{◌≡◌, ◌≤◌};
 ghost use Rattle.syntax.specs.Views.{element_tree, variable_type_tree, stmt_tree};
-ghost use Rattle.parse.specs.Results.{Gives};
-ghost use Rattle.parse.specs.Lexemes.{views};
+ghost use Rattle.lexemes.specs.Results.{Gives};
+ghost use Rattle.lexemes.specs.Lexemes.{views};
 ghost use Rattle.parse.specs.Reading.{zeros_at, array_at, is_array, after_element, after_variable, after_const, declared_at, starts_declaration};
 
-use crate::calls::setting;
-use crate::cursor::Cursor;
-use crate::fault::ParseFault;
-use crate::lexemes::{Fixed, expect, line_at, name_at, number_at, rest_of, starts_with};
-use crate::type_words::{element_type, variable_type};
+use expressions::setting;
+use lexemes::Cursor;
+use lexemes::ParseFault;
+use lexemes::{Fixed, expect, line_at, name_at, number_at, rest_of, starts_with};
+use lexemes::{element_type, variable_type};
 use scan::{Mark, Word};
 use std::alloc::Global;
 use syntax::{ElementType, Form, Name, Stmt, VariableType};

@@ -4,19 +4,19 @@ ghost use Rattle.std.specs.Prelude.{◌≡◌, ℕ, ◌+◌, List, length, map, 
 ghost use Rattle.scan.specs.Spelling.{Spells};
 ghost use Rattle.syntax.specs.Tree.{SourceUnit};
 ghost use Rattle.syntax.specs.Views.{result_tree, block_tree, function_tree, static_tree, item_tree, unit_tree};
-ghost use Rattle.parse.specs.Results.{Gives};
-ghost use Rattle.parse.specs.Lexemes.{views, lexemes};
+ghost use Rattle.lexemes.specs.Results.{Gives};
+ghost use Rattle.lexemes.specs.Lexemes.{views, lexemes};
 ghost use Rattle.parse.specs.Spelling.{SpellsUnit};
 ghost use Rattle.parse.specs.Reading.{head_at, body_at, signature_at, function_at, static_at, item_at, items_at, unit_at};
 
-use crate::cursor::{Cursor, Source};
-use crate::fault::{Fault, ParseFault};
-use crate::lexemes::{
-    Fixed, expect, fault_at, lexemes, line_at, name_at, rest_of, starts_with, unexpected,
+use lexemes::{Cursor, Source};
+use lexemes::{Fault, ParseFault};
+use lexemes::{
+    Fixed, expect, fault_at, line_at, name_at, rest_of, start, starts_with, unexpected,
 };
 use crate::parameters::{NAMES, parameters};
 use crate::statements::block;
-use crate::type_words::{reference_type, result_type};
+use lexemes::{reference_type, result_type};
 use scan::{Mark, Token, Word, one_spelling};
 use std::alloc::Global;
 use syntax::{Block, Function, Item, Name, ResultType, Static, Unit};
@@ -171,7 +171,7 @@ pub fn parse(alloc: Global, text: &[u8], tokens: &[Token]) -> Result<Unit, Parse
 {
     one_spelling();
     let source = Source { text, tokens };
-    let items = items(alloc, lexemes(&source))?;
+    let items = items(alloc, start(&source))?;
     Ok(Unit::new(items))
 }
 

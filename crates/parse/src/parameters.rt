@@ -2,14 +2,14 @@
 
 ghost use Rattle.std.specs.Prelude.{◌≡◌, ◌≤◌, length, map, IfOk};
 ghost use Rattle.syntax.specs.Views.{parameter_tree};
-ghost use Rattle.parse.specs.Results.{Gives};
-ghost use Rattle.parse.specs.Lexemes.{views};
+ghost use Rattle.lexemes.specs.Results.{Gives};
+ghost use Rattle.lexemes.specs.Lexemes.{views};
 ghost use Rattle.parse.specs.Reading.{parameter_at, parameters_at};
 
-use crate::cursor::Cursor;
-use crate::fault::{Fault, ParseFault};
-use crate::lexemes::{Fixed, fault_at, name_at, rest_of, starts_with, unexpected};
-use crate::type_words::parameter_type;
+use lexemes::Cursor;
+use lexemes::{Fault, ParseFault};
+use lexemes::{Fixed, fault_at, name_at, rest_of, starts_with, unexpected};
+use lexemes::parameter_type;
 use scan::Mark;
 use std::alloc::Global;
 use syntax::{Name, Parameter};

@@ -2,16 +2,16 @@
 
 ghost use Rattle.std.specs.Prelude.{◌≡◌, ◌≤◌};
 ghost use Rattle.syntax.specs.Views.{expr_tree, stmt_tree};
-ghost use Rattle.parse.specs.Results.{Gives};
+ghost use Rattle.lexemes.specs.Results.{Gives};
 ghost use Rattle.parse.specs.Steps.{element_set_at};
-ghost use Rattle.parse.specs.Lexemes.{views};
+ghost use Rattle.lexemes.specs.Lexemes.{views};
 ghost use Rattle.parse.specs.Reading.{put_at, return_at, perform_at, set_element_at, set_at, plain_at};
 
-use crate::calls::{call, setting};
-use crate::cursor::Cursor;
-use crate::expressions::{closed, expression, index, starts_element};
-use crate::fault::ParseFault;
-use crate::lexemes::{Fixed, expect, line_at, name_at, rest_of, starts_with};
+use expressions::{call, setting};
+use lexemes::Cursor;
+use expressions::{closed, expression, index, starts_element};
+use lexemes::ParseFault;
+use lexemes::{Fixed, expect, line_at, name_at, rest_of, starts_with};
 use scan::{Mark, Word};
 use std::alloc::Global;
 use syntax::{Expr, Form, Name, Stmt};

@@ -2,16 +2,16 @@
 
 ghost use Rattle.std.specs.Prelude.{◌≡◌, ◌≤◌};
 ghost use Rattle.syntax.specs.Views.{expr_tree, test_tree, stmt_tree, block_tree};
-ghost use Rattle.parse.specs.Results.{Gives};
-ghost use Rattle.parse.specs.Lexemes.{views};
+ghost use Rattle.lexemes.specs.Results.{Gives};
+ghost use Rattle.lexemes.specs.Lexemes.{views};
 ghost use Rattle.parse.specs.Reading.{simple_at, inner, if_test_at, if_by, else_by, while_test_at, while_by, is_return, statement_at, block_at};
 
-use crate::calls::test;
-use crate::cursor::Cursor;
+use expressions::test;
+use lexemes::Cursor;
 use crate::declarations::{declared, starts_declaration};
-use crate::expressions::{closed, expression};
-use crate::fault::{Fault, ParseFault};
-use crate::lexemes::{Fixed, expect, fault_at, line_at, rest_of, starts_with, unexpected};
+use expressions::{closed, expression};
+use lexemes::{Fault, ParseFault};
+use lexemes::{Fixed, expect, fault_at, line_at, rest_of, starts_with, unexpected};
 use crate::plain::plain;
 use scan::{Mark, Word};
 use std::alloc::Global;

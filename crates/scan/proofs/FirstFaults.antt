@@ -1,5 +1,5 @@
 -- A text has one first fault at most, and none where it spells tokens.
-use Rattle.std.proofs.Common.{◌≡◌, ℕ, zero, suc, ◌+◌, ◌<◌, ◌≤◌, true, false, List, [], ◌∷◌, ◌++◌, length, take, drop, Option, Some, None, Result, Ok, Err, refl, sym, ap, subst, ◌∙◌, append_assoc, arith, inl, inr}
+use Rattle.std.proofs.Common.{◌≡◌, ℕ, zero, suc, ◌+◌, ◌<◌, true, false, List, [], ◌∷◌, ◌++◌, take, drop, Option, Some, None, Result, Ok, refl, sym, ap, subst, ◌∙◌, append_assoc, arith, inl, inr}
 use Rattle.std.specs.Prelude.{◌⊎◌}
 use Rattle.std.proofs.lemmas.Bool.{or_left}
 use Rattle.std.proofs.lemmas.List.{drop_all}
@@ -9,10 +9,9 @@ use Rattle.scan.specs.declared.token.Mark.TheVariants.{Slash}
 use Rattle.scan.specs.declared.token.Token.{Token}
 use Rattle.scan.specs.declared.fault.Fault.{Fault}
 use Rattle.scan.specs.declared.fault.Fault.TheVariants.{BadByte, OpenComment, BadNumber, BadText}
-use Rattle.scan.specs.declared.fault.ScanFault.TheVariants.{Found}
-use Rattle.scan.specs.Bytes.{is_within, is_blank, is_name_start, is_word, is_digit, digit_value, base_value}
+use Rattle.scan.specs.Bytes.{is_within, is_blank, base_value}
 use Rattle.scan.specs.Spelling.{IsName, IsLexeme, IsGap, IsToken, SpellsFrom, ends, passes, takes, Spells, line_of}
-use Rattle.scan.specs.Faults.{IsFilledTo, begins, with_gap, with_token, BeginsNothing, HasFault, IsFirstFault, OneFirstFault, NoFaultWhereSpelled}
+use Rattle.scan.specs.Faults.{IsFilledTo, begins, with_gap, with_token, BeginsNothing, HasFault, OneFirstFault, NoFaultWhereSpelled}
 use Rattle.scan.specs.Reading.{Piece, piece_at}
 use Rattle.scan.proofs.Words.{within_parts, figure_is_word, figure_no_letter, word_no_blank}
 use Rattle.scan.proofs.Grammar.{gap_takes, gap_again, piece_sized}

@@ -8,4 +8,5 @@ pub mod PlaceLemmas
 pub mod BlockLemmas
 pub mod ItemLemmas
 pub mod UnitLemmas
+pub mod FormedLemmas
 mod TableLemmas

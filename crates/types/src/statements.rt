@@ -4,7 +4,7 @@ ghost use Rattle.std.specs.Prelude.{◌≡◌, ℕ, [], ◌∷◌, not, ◌&&◌
 ghost use Rattle.std.specs.List.{list_all};
 ghost use Rattle.std.specs.Option.{option_map};
 ghost use Rattle.base.specs.Options.{some_passes};
-ghost use Rattle.syntax.specs.Parts.{own_expressions, own_call, assigned_name, right_side_expressions, test_expressions};
+ghost use Rattle.syntax.specs.Parts.{own_call, assigned_name, call_expressions};
 ghost use Rattle.syntax.specs.Tree.{Void};
 ghost use Rattle.syntax.specs.Views.{expr_tree, right_side_tree, test_tree, call_tree, form_tree, stmt_tree, result_tree};
 ghost use Rattle.types.specs.Prototype.{function_named};
@@ -18,7 +18,7 @@ use crate::calls::{
     call_arguments_fit, call_fits, call_formed, call_unknown, has_wrong_count, has_wrong_mode,
     is_built, may_be_dropped, may_be_tested,
 };
-use crate::expressions::{has_unknown, is_formed, is_null, name_sort, sort_of};
+use crate::expressions::{has_unknown, is_null, name_sort, sort_of};
 use crate::fault::{SortRule, TypeFault, refuse_if};
 use crate::scope::{Known, has_name, is_unknown, sort_in};
 use crate::sort::{
@@ -136,47 +136,6 @@ fn declares_taken(taken: &[Name], form: &Form) -> bool
     }
 }
 
-/// Whether the expressions of a right side are bare or have sorts.
-fn right_formed(known: &[Known], right: &RightSide) -> bool
-    ensures { result ≡ list_all (is_formed (scope_of known.now)) (right_side_expressions (right_side_tree right.now)) }
-{
-    match right {
-        RightSide::Expr(e) => is_formed(known, e),
-        RightSide::Call(c) => call_formed(known, c),
-    }
-}
-
-/// Whether the expressions of a test are bare or have sorts.
-fn test_formed(known: &[Known], test: &Test) -> bool
-    ensures { result ≡ list_all (is_formed (scope_of known.now)) (test_expressions (test_tree test.now)) }
-{
-    match test {
-        Test::Expr(e) => is_formed(known, e),
-        Test::Call(c) => call_formed(known, c),
-    }
-}
-
-/// Whether each expression of a statement is a bare name or constant, or has a sort.
-fn are_formed(known: &[Known], form: &Form) -> bool
-    ensures { (line : ℕ) → result ≡ list_all (is_formed (scope_of known.now)) (own_expressions (form_tree line form.now)) }
-{
-    match form {
-        Form::Declare(_, _, r) => right_formed(known, r),
-        Form::DeclareBuffer(_, _, r) => right_formed(known, r),
-        Form::DeclareChars(_, r) => right_formed(known, r),
-        Form::DeclareArray(..) => true,
-        Form::Assign(_, r) => right_formed(known, r),
-        Form::AssignElement(_, i, e) => is_formed(known, i) && is_formed(known, e),
-        Form::Perform(c) => call_formed(known, c),
-        Form::PutJint(e) => is_formed(known, e),
-        Form::If(test, _) => test_formed(known, test),
-        Form::IfElse(test, _, _) => test_formed(known, test),
-        Form::While(e, _) => is_formed(known, e),
-        Form::Return(None) => true,
-        Form::Return(Some(e)) => is_formed(known, e),
-    }
-}
-
 /// Whether a variable of a sort may be set to an expression. Of a known name in a local reference another rule speaks.
 fn value_sets(known: &[Known], sort: Option<Sort>, e: &Expr) -> bool
     ensures { result ≡ value_sets (scope_of known.now) (option_map sort_value sort) (expr_tree e.now) }
@@ -268,21 +227,21 @@ fn statement_fits(known: &[Known], returns: ResultType, form: &Form) -> bool
     }
 }
 
-/// Whether the arguments of a statement's call do not fit.
+/// Whether the arguments of a statement's call do not fit, or one of them is neither bare nor has a sort.
 fn call_misfits(known: &[Known], form: &Form) -> bool
-    ensures { (line : ℕ) → result ≡ some_passes (λ c. not (call_arguments_fit (scope_of known.now) c (function_named c.function))) (own_call (form_tree line form.now)) }
+    ensures { (line : ℕ) → result ≡ some_passes (λ c. not (list_all (is_formed (scope_of known.now)) (call_expressions c)) || not (call_arguments_fit (scope_of known.now) c (function_named c.function))) (own_call (form_tree line form.now)) }
 {
     match own_call(form) {
-        Some(call) => !call_arguments_fit(known, call),
+        Some(call) => !call_formed(known, call) || !call_arguments_fit(known, call),
         None => false,
     }
 }
 
-/// Whether a statement does not fit.
+/// Whether a statement does not fit. Where it fits, each of its expressions beside a call's arguments is bare or has a sort.
 fn misfits(known: &[Known], returns: ResultType, form: &Form) -> bool
     ensures { (line : ℕ) → result ≡ breaks_sort_rule SortMisfit (scope_of known.now) [] (result_tree returns) (form_tree line form.now) }
 {
-    !are_formed(known, form) || !statement_fits(known, returns, form) || call_misfits(known, form)
+    !statement_fits(known, returns, form) || call_misfits(known, form)
 }
 
 /// Whether a statement calls a function that is not known, or can't be called today.

@@ -11,8 +11,9 @@ use Rattle.scan.specs.Reading.{Piece, name_at, number_in, number_of, number_at, 
 use Rattle.scan.specs.Spelling.{SpellsFrom, ends, passes, takes, token_at}
 use Rattle.scan.proofs.Grammar.{gap_takes}
 use Rattle.scan.proofs.Tokens.{token_takes}
-use Rattle.parse.specs.Meaning.{token_meaning}
-use Rattle.parse.specs.Spelling.{Spelled, Anywhere, OnLine, Stands, spell, SpellsUnit}
+use Rattle.lexemes.specs.Meaning.{token_meaning}
+use Rattle.lexemes.specs.Spelling.{Spelled, Anywhere, OnLine}
+use Rattle.parse.specs.Spelling.{Stands, spell, SpellsUnit}
 use Rattle.scan.specs.Words.{keyword, interface_word, reference_word, constant_word, is_unused_type, is_unused_declaration, is_unused_statement, unused_word, word_of}
 
 -- what the computations unfold

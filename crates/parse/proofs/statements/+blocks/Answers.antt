@@ -2,7 +2,7 @@ use Rattle.std.proofs.Common.{sym, ◌∙◌}
 use Rattle.std.proofs.lemmas.Result.{err_from_is_err_and}
 use Rattle.syntax.specs.Views.{stmt_tree}
 use Rattle.syntax.proofs.Blocks.{block_made}
-use Rattle.parse.specs.Lexemes.{line_at, views}
+use Rattle.lexemes.specs.Lexemes.{line_at, views}
 use Rattle.parse.specs.Reading.{block_at}
 use Rattle.parse.proofs.Nested.{statement_takes}
 use Rattle.parse.proofs.Blocks.{fills_start, fills_done, fills_refuses, fills_fails, fills_on}

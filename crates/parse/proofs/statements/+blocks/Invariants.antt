@@ -1,5 +1,5 @@
 use Rattle.std.proofs.Common.{◌+◌, ◌*◌, length}
-use Rattle.parse.specs.Lexemes.{views}
+use Rattle.lexemes.specs.Lexemes.{views}
 use Rattle.parse.specs.Reading.{block_at}
 use Rattle.parse.proofs.Blocks.{Fills}
 use Rattle.parse.proofs.statements.+blocks.Given as goal

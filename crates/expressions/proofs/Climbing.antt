@@ -1,0 +1,68 @@
+-- What the loop over operators keeps.
+use Rattle.std.proofs.Common.{◌≡◌, ℕ, zero, suc, ◌+◌, ◌-◌, ◌<◌, ◌≤◌, max, List, Option, Some, None, Result, Ok, Err, refl, sym, ap, ◌∙◌, arith, add-one}
+use Rattle.std.proofs.lemmas.Bool.{le-ltb, lt-ltb}
+use Rattle.syntax.specs.Tree.{BinaryOp, Expr, Binary}
+use Rattle.syntax.specs.Limits.{operator_level}
+use Rattle.syntax.specs.declared.expr.BinaryOp.{BinaryOp as BinaryInMemory}
+use Rattle.lexemes.specs.declared.fault.Fault.TheVariants.{TooHigh}
+use Rattle.lexemes.specs.declared.fault.ParseFault.{ParseFault}
+use Rattle.lexemes.specs.declared.fault.ParseFault.TheVariants.{Memory, Found}
+use Rattle.lexemes.specs.Results.{◌>>=◌, Fails}
+use Rattle.lexemes.specs.Lexemes.{Lexed, fault_at}
+use Rattle.expressions.specs.Reading.{ReadExpr, operator_at, climb, climb_step, deeper, operand_at, expr_by, expr_at}
+use Rattle.lexemes.specs.Reading.{rest_of}
+
+-- Some steps are left, and what is read from here is all that is read.
+pub record Climbs (room least : ℕ) (left : Expr) (high : ℕ) (ls : List Lexed) (total : Result ReadExpr ParseFault) : Type 0 where
+  pub low : high ≤ room
+  pub steps : ℕ
+  pub enough : room < high + suc steps
+  pub same : climb (deeper room) room least (suc steps) left high ls ≡ total
+
+-- expressions one step deeper are those where there is less room
+pub deeper_is : (room least : ℕ) (ls : List Lexed) → 0 < room → deeper room least ls ≡ expr_at (room - 1) least ls
+unfolding deeper
+deeper_is zero least ls lt = absurd (omega arith)
+deeper_is (suc room) least ls lt = let e : suc room - 1 ≡ room = omega arith in rw e refl
+
+pub ruleset deeps = (deeper_is)
+
+pub none_since : (o : Option BinaryInMemory) → ((op : BinaryInMemory) → o ≡ Some op → ⊥) → None ≡ o
+none_since None h = refl
+none_since (Some op) h = absurd (h op refl)
+
+pub climbs_start : (room least : ℕ) (ls : List Lexed) (left : Expr) (high : ℕ) (rest : List Lexed) → high ≤ room → operand_at room ls ≡ Ok (left, high, rest) → Climbs room least left high rest (expr_at room least ls)
+unfolding expr_by
+climbs_start room least ls left high rest low h = record { low = low; steps = room; enough = omega arith; same = sym (rw (h, add-one room) refl) }
+
+module _ (room least : ℕ) (left : Expr) (high : ℕ) (ls : List Lexed) (total : Result ReadExpr ParseFault) (c : Climbs room least left high ls total) where
+  step_is : (o : Option BinaryOp) → o ≡ operator_at ls → climb_step (deeper room) room least (climb (deeper room) room least c.steps) left high ls o ≡ total
+  unfolding climb
+  step_is o e = ap (climb_step (deeper room) room least (climb (deeper room) room least c.steps) left high ls) e ∙ c.same
+
+  -- no operator comes, or a looser one
+  pub climb_none : None ≡ operator_at ls → total ≡ Ok (left, high, ls)
+  climb_none e = sym (step_is None e)
+
+  pub climb_loose : (op : BinaryOp) → Some op ≡ operator_at ls → operator_level op < least → total ≡ Ok (left, high, ls)
+  climb_loose op e lt = sym (step_is (Some op) e) ∙ rw (lt-ltb (operator_level op) least lt) refl
+
+  pub climb_high : (op : BinaryOp) → Some op ≡ operator_at ls → least ≤ operator_level op → room ≤ high → total ≡ Err (fault_at TooHigh ls)
+  climb_high op e le full = sym (step_is (Some op) e) ∙ rw (le-ltb (operator_level op) least le, le-ltb high room full) refl
+
+  joined : (op : BinaryOp) → Some op ≡ operator_at ls → least ≤ operator_level op → high < room → total ≡ (expr_at (room - 1) (operator_level op + 1) (rest_of ls) >>= λ r. climb (deeper room) room least c.steps (Binary op left r.0) (1 + max high r.1) r.2)
+  joined op e le lt =
+      sym (step_is (Some op) e) ∙ rw (le-ltb (operator_level op) least le, lt-ltb high room lt, deeper_is room (operator_level op + 1) (rest_of ls) (omega arith)) refl
+
+  pub climb_fails : (op : BinaryOp) (f : ParseFault) → Some op ≡ operator_at ls → least ≤ operator_level op → high < room → Fails f (expr_at (room - 1) (operator_level op + 1) (rest_of ls)) → Fails f total
+  climb_fails op Memory e le lt h = tt
+  climb_fails op (Found fault line) e le lt h = joined op e le lt ∙ rw h refl
+
+  pub climb_on : (op : BinaryOp) (right : Expr) (right_high high' : ℕ) (rest : List Lexed) → Some op ≡ operator_at ls → least ≤ operator_level op → high < room → right_high ≤ room - 1 → high' ≡ 1 + max high right_high → expr_at (room - 1) (operator_level op + 1) (rest_of ls) ≡ Ok (right, right_high, rest) → Climbs room least (Binary op left right) high' rest total
+  climb_on op right right_high high' rest e le lt fits is h =
+      let on : climb (deeper room) room least c.steps (Binary op left right) (1 + max high right_high) rest ≡ total = sym (joined op e le lt ∙ rw h refl) in
+      climbs_from op right high' rest (omega arith) c.steps (omega (arith, c.enough)) (rw is on)
+    where
+      climbs_from : (op : BinaryOp) (right : Expr) (high' : ℕ) (rest : List Lexed) → high' ≤ room → (steps : ℕ) → room < high' + steps → climb (deeper room) room least steps (Binary op left right) high' rest ≡ total → Climbs room least (Binary op left right) high' rest total
+      climbs_from op right high' rest low zero enough same = absurd (omega arith)
+      climbs_from op right high' rest low (suc steps) enough same = record { low = low; steps = steps; enough = enough; same = same }

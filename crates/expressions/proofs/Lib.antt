@@ -1,0 +1,7 @@
+pub mod Forms
+pub mod Table
+pub mod Levels
+pub mod Climbing
+pub mod Primaries
+pub mod JniCalls
+pub mod Commas

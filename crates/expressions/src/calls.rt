@@ -1,0 +1,205 @@
+//! Calls of JNI functions, what variables are set to, and what is tested.
+
+ghost use Rattle.std.specs.Prelude.{◌≡◌, ◌≤◌, ◌+◌, length, map};
+ghost use Rattle.syntax.specs.Views.{argument_tree, call_tree, right_side_tree, test_tree};
+ghost use Rattle.lexemes.specs.Results.{Gives};
+ghost use Rattle.expressions.specs.Steps.{ReadCall, ReadSetting, made_of};
+ghost use Rattle.lexemes.specs.Lexemes.{views, expect};
+ghost use Rattle.expressions.specs.Reading.{interface_at, value_at, argument_at, arguments_at, call_at, starts_call, right_at, setting_at, test_at};
+
+use lexemes::Cursor;
+use crate::expressions::{expression, right_expression};
+use lexemes::ParseFault;
+use lexemes::{Fixed, expect, name_at, number_at, rest_of, starts_with, text_at};
+use scan::{Mark, Word};
+use std::alloc::Global;
+use syntax::{Argument, Call, Name, RightSide, Test};
+
+/// What comes after `(*env)->`.
+#[tactic(auto, unfolding(crate::specs::Reading::interface_at))]
+fn interface(lexemes: Cursor<'_>) -> Result<Cursor<'_>, ParseFault>
+    ensures { Gives (λ x. views x) result (interface_at (views lexemes.entry)) }
+{
+    let rest = expect(Fixed::Mark(Mark::OpenParen), lexemes)?;
+    let rest = expect(Fixed::Mark(Mark::Star), rest)?;
+    let rest = expect(Fixed::Word(Word::Env), rest)?;
+    let rest = expect(Fixed::Mark(Mark::CloseParen), rest)?;
+    expect(Fixed::Mark(Mark::Arrow), rest)
+}
+
+/// An argument that is no string.
+#[tactic(auto, unfolding(crate::specs::Reading::value_at))]
+fn value(
+    alloc: Global,
+    room: u32,
+    lexemes: Cursor<'_>,
+) -> Result<(Argument, Cursor<'_>), ParseFault>
+    requires { room ≤ 32 }
+    ensures { Gives (λ x. (argument_tree x.0, views x.1)) result (value_at room (views lexemes.entry)) }
+{
+    if starts_with(Fixed::Mark(Mark::Ampersand), lexemes) {
+        let (name, rest) = name_at(rest_of(lexemes))?;
+        return Ok((Argument::AddressOf(Name::new(alloc, name)?), rest));
+    }
+    let (value, _, rest) = expression(alloc, room, 0, lexemes)?;
+    Ok((Argument::Value(value), rest))
+}
+
+/// An argument.
+#[tactic(auto, unfolding(crate::specs::Reading::argument_at))]
+fn argument(
+    alloc: Global,
+    room: u32,
+    lexemes: Cursor<'_>,
+) -> Result<(Argument, Cursor<'_>), ParseFault>
+    requires { room ≤ 32 }
+    ensures { Gives (λ x. (argument_tree x.0, views x.1)) result (argument_at room (views lexemes.entry)) }
+{
+    match text_at(lexemes) {
+        Some(bytes) => {
+            let bytes = Vec::from_slice(alloc, bytes)?;
+            Ok((Argument::Text(bytes), rest_of(lexemes)))
+        }
+        None => value(alloc, room, lexemes),
+    }
+}
+
+/// Arguments, each with the comma before it.
+fn arguments(
+    alloc: Global,
+    room: u32,
+    lexemes: Cursor<'_>,
+) -> Result<(Vec<Argument>, Cursor<'_>), ParseFault>
+    requires { room ≤ 32 }
+    ensures { Gives (λ x. (map argument_tree x.0.items, views x.1)) result (arguments_at room (length (views lexemes.entry) + 1) (views lexemes.entry)) }
+{
+    let mut arguments = Vec::new(alloc);
+    let mut rest = lexemes;
+    'arguments: while starts_with(Fixed::Mark(Mark::Comma), rest) {
+        let (argument, after) = argument(alloc, room, rest_of(rest))?;
+        arguments.push(argument)?;
+        rest = after;
+    }
+    Ok((arguments, rest))
+}
+
+/// A call with its arguments, and what comes after its closing parenthesis.
+fn called<'t>(
+    alloc: Global,
+    function: &[u8],
+    arguments: Vec<Argument>,
+    paren: Fixed,
+    lexemes: Cursor<'t>,
+) -> Result<(Call, Cursor<'t>), ParseFault>
+    ensures { Gives (λ x. (call_tree x.0, views x.1)) result (made_of {B = ReadCall} (expect paren (views lexemes.entry)) (λ after. (record { function = function.now; arguments = map argument_tree arguments.items }, after))) }
+{
+    let rest = expect(paren, lexemes)?;
+    let function = Name::new(alloc, function)?;
+    Ok((
+        Call {
+            function,
+            arguments,
+        },
+        rest,
+    ))
+}
+
+/// A call.
+#[tactic(auto, unfolding(crate::specs::Reading::call_at))]
+pub fn call(
+    alloc: Global,
+    room: u32,
+    lexemes: Cursor<'_>,
+) -> Result<(Call, Cursor<'_>), ParseFault>
+    requires { room ≤ 32 }
+    ensures { Gives (λ x. (call_tree x.0, views x.1)) result (call_at room (views lexemes.entry)) }
+{
+    let rest = interface(lexemes)?;
+    let (function, rest) = name_at(rest)?;
+    let rest = expect(Fixed::Mark(Mark::OpenParen), rest)?;
+    let rest = expect(Fixed::Word(Word::Env), rest)?;
+    let (arguments, rest) = arguments(alloc, room, rest)?;
+    called(
+        alloc,
+        function,
+        arguments,
+        Fixed::Mark(Mark::CloseParen),
+        rest,
+    )
+}
+
+/// Whether a call comes next, since no expression begins so.
+fn starts_call(lexemes: Cursor<'_>) -> bool
+    ensures { result ≡ starts_call (views lexemes.entry) }
+{
+    starts_with(Fixed::Mark(Mark::OpenParen), lexemes)
+        && starts_with(Fixed::Mark(Mark::Star), rest_of(lexemes))
+}
+
+/// An expression or a call.
+#[tactic(auto, unfolding(crate::specs::Reading::right_at))]
+pub(crate) fn right_side(
+    alloc: Global,
+    room: u32,
+    lexemes: Cursor<'_>,
+) -> Result<(RightSide, Cursor<'_>), ParseFault>
+    requires { room ≤ 32 }
+    ensures { Gives (λ x. (right_side_tree x.0, views x.1)) result (right_at room (views lexemes.entry)) }
+{
+    if starts_call(lexemes) {
+        let (call, rest) = call(alloc, room, lexemes)?;
+        return Ok((RightSide::Call(call), rest));
+    }
+    let (value, _, rest) = right_expression(alloc, room, lexemes)?;
+    Ok((RightSide::Expr(value), rest))
+}
+
+/// A name with what it is set to, and what comes after the semicolon.
+fn set_to<'t>(
+    alloc: Global,
+    name: &[u8],
+    right: RightSide,
+    semicolon: Fixed,
+    lexemes: Cursor<'t>,
+) -> Result<(Name, RightSide, Cursor<'t>), ParseFault>
+    ensures { Gives (λ x. (x.0, right_side_tree x.1, views x.2)) result (made_of {B = ReadSetting} (expect semicolon (views lexemes.entry)) (λ rest. (name.now, right_side_tree right, rest))) }
+{
+    let rest = expect(semicolon, lexemes)?;
+    Ok((Name::new(alloc, name)?, right, rest))
+}
+
+/// A name, what it is set to, and what comes after the semicolon.
+#[tactic(auto, unfolding(crate::specs::Reading::setting_at))]
+pub fn setting(
+    alloc: Global,
+    room: u32,
+    lexemes: Cursor<'_>,
+) -> Result<(Name, RightSide, Cursor<'_>), ParseFault>
+    requires { room ≤ 32 }
+    ensures { Gives (λ x. (x.0, right_side_tree x.1, views x.2)) result (setting_at room (views lexemes.entry)) }
+{
+    let (name, rest) = name_at(lexemes)?;
+    let rest = expect(Fixed::Mark(Mark::Assign), rest)?;
+    let (right, rest) = right_side(alloc, room, rest)?;
+    set_to(alloc, name, right, Fixed::Mark(Mark::Semicolon), rest)
+}
+
+/// An expression, or a call that is tested for 0.
+#[tactic(auto, unfolding(crate::specs::Reading::test_at))]
+pub fn test(
+    alloc: Global,
+    room: u32,
+    lexemes: Cursor<'_>,
+) -> Result<(Test, Cursor<'_>), ParseFault>
+    requires { room ≤ 32 }
+    ensures { Gives (λ x. (test_tree x.0, views x.1)) result (test_at room (views lexemes.entry)) }
+{
+    if starts_call(lexemes) {
+        let (call, rest) = call(alloc, room, lexemes)?;
+        let rest = expect(Fixed::Mark(Mark::Equal), rest)?;
+        let (_, rest) = number_at(0, 0, rest)?;
+        return Ok((Test::Call(call), rest));
+    }
+    let (value, _, rest) = expression(alloc, room, 0, lexemes)?;
+    Ok((Test::Expr(value), rest))
+}

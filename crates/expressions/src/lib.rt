@@ -1,0 +1,8 @@
+//! Expressions and calls, read from lexemes.
+#![tactic(auto)]
+
+mod calls;
+mod expressions;
+
+pub use calls::{call, setting, test};
+pub use expressions::{closed, expression, index, starts_element};

@@ -1,0 +1,3 @@
+pub mod Singles
+pub mod TypeWords
+pub mod Shapes
