@@ -47,7 +47,7 @@ row_here scene s addresses place address h at low high =
     let there : slice_get w.objects j ≡ Some o = slice_get-map array_object scene.objects j ∙ ap (option_map array_object) array.1 in
     let block = named s (loaded_objects w) _ address (place + 1) h.agree (h.table.named place address at) in
     let object = object_there w place j o (omega arith) there in
-    let row = row_is s (loaded_objects w) w.classes address (place + 1) o array.0.values block object refl in
+    let row = row_is s (loaded_objects w) w.classes address (place + 1) o block object in
     let name : length w.classes + 2 + j ≡ place + 1 = omega arith in
     let next : suc j ≡ place + 1 - (length w.classes + 1) = omega arith in
     row_at w.classes (length w.classes + 2) w.objects j o there
