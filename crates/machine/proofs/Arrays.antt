@@ -7,10 +7,10 @@ use Rattle.std.proofs.lemmas.List.Sums.{sum_by-append, sum_by-cons}
 use Rattle.heap.specs.declared.value.Value.{Value}
 use Rattle.heap.specs.declared.value.Value.TheVariants.{Number as Word}
 use Rattle.heap.specs.Heap.{Block, Space, IsLaidOut, IsNumberAt, end_of, left_of, fresh_block, with_block, with_value}
-use Rattle.world.specs.Object.{Object, Number, size, sizes}
+use Rattle.source.specs.Object.{Object, Number, size, sizes}
 use Rattle.world.specs.Scene.{ArrayScene}
 use Rattle.world.specs.SceneWorld.{array_object}
-use Rattle.regions.specs.Heap.{Heap}
+use Rattle.source.specs.Heap.{Heap}
 use Rattle.machine.specs.HeapAgrees.{ValuesAgree, AreMade}
 use Rattle.machine.proofs.HeapLaws.{IsNext}
 use Rattle.machine.proofs.Loaded.{made_more, changed_new, values_new}

@@ -8,11 +8,11 @@ use Rattle.classes.specs.Class.{Classes, class_name}
 use Rattle.heap.specs.declared.value.Value.{Value}
 use Rattle.heap.specs.declared.value.Value.TheVariants.{Number as Word, Null, Block as Address}
 use Rattle.heap.specs.Heap.{Block, Space, IsAddress, block_at, name_at, values_at}
-use Rattle.world.specs.Object.{Object, ObjectValue, Number, Refers, Reference}
-use Rattle.world.specs.Report.{ShownValue, ShownNumber, ShownRow}
-use Rattle.world.specs.World.{World, loaded_objects}
-use Rattle.regions.specs.Heap.{Heap, object_at}
-use Rattle.regions.specs.ReportOf.{shown_value}
+use Rattle.source.specs.Object.{Object, ObjectValue, Number, Refers, Reference}
+use Rattle.source.specs.Report.{ShownValue, ShownNumber, ShownRow}
+use Rattle.source.specs.World.{World, loaded_objects}
+use Rattle.source.specs.Heap.{Heap, object_at}
+use Rattle.source.specs.ReportOf.{shown_value}
 use Rattle.machine.specs.HeapAgrees.{ValueAgrees, ValuesAgree, BlockAgrees, BlocksAgree, HeapAgrees, made_before}
 use Rattle.machine.specs.Rows.{object_row, block_row, shown_cell, shown_cells, IsThere, AreThere}
 use Rattle.machine.proofs.LoadedObjects.{loaded_is}

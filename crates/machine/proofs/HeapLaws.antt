@@ -12,9 +12,9 @@ use Rattle.heap.specs.declared.value.Value.{Value}
 use Rattle.heap.specs.declared.value.Value.TheVariants.{Number as Word, Null, Block as Address}
 use Rattle.heap.specs.Heap.{Block, Space, block_end, end_from, end_of, LieFrom, IsLaidOut, block_at, name_at, with_block}
 use Rattle.heap.proofs.Layouts.{from_below_end}
-use Rattle.world.specs.Object.{Object, ObjectValue, Number, Refers}
-use Rattle.regions.specs.Heap.{Heap, object_at}
-use Rattle.regions.specs.Reachable.{from_one, IsName}
+use Rattle.source.specs.Object.{Object, ObjectValue, Number, Refers}
+use Rattle.source.specs.Heap.{Heap, object_at}
+use Rattle.source.specs.Reachable.{from_one, IsName}
 use Rattle.machine.specs.HeapAgrees.{ReferenceAgrees, ValueAgrees, ValuesAgree, BlockAgrees, BlocksAgree, HeapAgrees, IsTable}
 
 -- ---- the block at an address

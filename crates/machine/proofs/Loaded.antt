@@ -9,9 +9,9 @@ use Rattle.heap.specs.declared.value.Value.{Value}
 use Rattle.heap.specs.declared.value.Value.TheVariants.{Null}
 use Rattle.heap.specs.Heap.{Block, Space, block_end, end_from, end_of, left_of, LieFrom, IsLaidOut, values_at, fresh_block, with_block, with_changed}
 use Rattle.heap.proofs.Layouts.{from_below_end, end_from-push, LieFrom-push}
-use Rattle.world.specs.Object.{Object, ObjectValue, size, sizes}
-use Rattle.regions.specs.Heap.{Heap}
-use Rattle.regions.specs.Reachable.{IsName}
+use Rattle.source.specs.Object.{Object, ObjectValue, size, sizes}
+use Rattle.source.specs.Heap.{Heap}
+use Rattle.source.specs.Reachable.{IsName}
 use Rattle.machine.specs.HeapAgrees.{ValuesAgree, IsTable, AreMade}
 use Rattle.machine.proofs.HeapLaws.{IsNext, block_new, agrees_with_block, table_push, from_one-bounds, IsName-more}
 use Rattle.machine.proofs.LoadedObjects.{plain_class_object, error_object, made_first}

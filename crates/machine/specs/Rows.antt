@@ -7,10 +7,10 @@ use Rattle.classes.specs.Class.{Classes, class_name}
 use Rattle.heap.specs.declared.value.Value.{Value}
 use Rattle.heap.specs.declared.value.Value.TheVariants.{Number as Word, Null, Block as Address}
 use Rattle.heap.specs.Heap.{Space, IsAddress, class_at, name_at, values_at}
-use Rattle.world.specs.Object.{Object, Refers}
-use Rattle.world.specs.Report.{ShownValue, ShownNumber, ShownNull, ShownRow}
-use Rattle.world.specs.World.{World}
-use Rattle.regions.specs.ReportOf.{shown_value}
+use Rattle.source.specs.Object.{Object, Refers}
+use Rattle.source.specs.Report.{ShownValue, ShownNumber, ShownNull, ShownRow}
+use Rattle.source.specs.World.{World}
+use Rattle.source.specs.ReportOf.{shown_value}
 
 -- the row of an object
 abbrev pub object_row : Classes → ℕ × Object → ShownRow

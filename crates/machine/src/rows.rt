@@ -3,13 +3,13 @@
 ghost use Rattle.std.specs.Prelude.{◌≡◌, ℕ, Some, codes, ◌++◌, flat_map};
 ghost use Rattle.classes.specs.Class.{Classes};
 ghost use Rattle.heap.specs.Heap.{IsAddress, values_at};
-ghost use Rattle.world.specs.Object.{Refers};
-ghost use Rattle.world.specs.Report.{object_line, shown_text};
+ghost use Rattle.source.specs.Object.{Refers};
+ghost use Rattle.report.specs.ReportText.{object_line, shown_text};
 ghost use Rattle.world.specs.SceneWorld.{world_of_scene};
-ghost use Rattle.world.specs.Shown.{shown_view};
-ghost use Rattle.world.specs.Sink.{CanFail, Writes};
-ghost use Rattle.world.specs.World.{loaded_objects};
-ghost use Rattle.regions.specs.ReportOf.{shown_value};
+ghost use Rattle.report.specs.Shown.{shown_view};
+ghost use Rattle.report.specs.Sink.{CanFail, Writes};
+ghost use Rattle.source.specs.World.{loaded_objects};
+ghost use Rattle.source.specs.ReportOf.{shown_value};
 ghost use Rattle.machine.specs.Rows.{block_row, shown_cell, shown_cells, IsThere, AreThere};
 
 use heap::{Addr, Heap, Value};

@@ -2,10 +2,11 @@ use Rattle.std.proofs.Common.{◌++◌, subst}
 use Rattle.std.specs.Prelude.{codes}
 use Rattle.std.proofs.lemmas.Result.{err_from_is_err_and}
 use Rattle.heap.specs.Heap.{values_at}
-use Rattle.world.specs.Report.{ShownValue, shown_text}
+use Rattle.source.specs.Report.{ShownValue}
+use Rattle.report.specs.ReportText.{shown_text}
 use Rattle.world.specs.SceneWorld.{world_of_scene}
-use Rattle.world.specs.Sink.{AppendsText, StopsWithin}
-use Rattle.world.proofs.Puts.{goes_on, stops}
+use Rattle.report.specs.Sink.{AppendsText, StopsWithin}
+use Rattle.report.proofs.Puts.{goes_on, stops}
 use Rattle.machine.proofs.BlockRows.{there_at}
 use Rattle.machine.proofs.RowTexts.{value_at}
 use Rattle.machine.proofs.rows.put_values.Goals as goal

@@ -1,9 +1,10 @@
 use Rattle.std.proofs.Common.{drop, ◌++◌}
 use Rattle.std.specs.Prelude.{codes, flat_map}
 use Rattle.heap.specs.Heap.{values_at}
-use Rattle.world.specs.Report.{ShownValue, shown_text}
+use Rattle.source.specs.Report.{ShownValue}
+use Rattle.report.specs.ReportText.{shown_text}
 use Rattle.world.specs.SceneWorld.{world_of_scene}
-use Rattle.world.proofs.Puts.{PutSoFar}
+use Rattle.report.proofs.Puts.{PutSoFar}
 use Rattle.machine.specs.Rows.{shown_cells}
 use Rattle.machine.proofs.rows.put_values.Given as goal
 
