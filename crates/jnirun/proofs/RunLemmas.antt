@@ -11,17 +11,19 @@ use Rattle.world.specs.Reading.{Fails}
 use Rattle.world.specs.ReadingSchedules.{schedule_of}
 use Rattle.world.specs.ReadingWorlds.{scene_of_text}
 use Rattle.world.specs.Scene.{Scene}
-use Rattle.world.specs.Schedule.{Schedule, IsScheduleText}
+use Rattle.source.specs.Schedule.{Schedule}
+use Rattle.world.specs.ScheduleText.{IsScheduleText}
 use Rattle.world.specs.SceneWorld.{world_of_scene}
 use Rattle.world.specs.Sink.{Written}
-use Rattle.regions.specs.Load.{first_load_fault}
-use Rattle.world.specs.declared.journal.Entry.{Entry}
-use Rattle.world.specs.Journal.{Journal}
-use Rattle.world.specs.World.{World}
+use Rattle.source.specs.Load.{first_load_fault}
+use Rattle.source.specs.declared.journal.Entry.{Entry}
+use Rattle.source.specs.Journal.{Journal}
+use Rattle.source.specs.World.{World}
 use Rattle.world.specs.WorldRules.{IsWorldText}
-use Rattle.regions.specs.State.{State}
-use Rattle.regions.specs.Run.{Over, Collects, Waits, Steps, Follows, JournalFollows, JournalHasRoom, Writes, replay}
-use Rattle.regions.specs.Start.{start}
+use Rattle.source.specs.State.{State}
+use Rattle.source.specs.Run.{Over, Collects, Waits, Steps, Follows, JournalFollows, JournalHasRoom, replay}
+use Rattle.world.specs.RunText.{Writes}
+use Rattle.source.specs.Start.{start}
 use Rattle.lower.specs.declared.fault.LowerFault.{LowerFault}
 use Rattle.lower.specs.declared.fault.LowerFault.TheVariants as lowering
 use Rattle.lower.specs.Length.{IsTooLong}

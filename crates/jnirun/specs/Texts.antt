@@ -7,8 +7,8 @@ use Rattle.world.specs.ReadingWorlds.{scene_of_text}
 use Rattle.world.specs.Rule.{rule_number}
 use Rattle.world.specs.Scene.{Scene}
 use Rattle.world.specs.SceneWorld.{world_of_scene}
-use Rattle.world.specs.Schedule.{Schedule}
-use Rattle.regions.specs.Load.{first_load_fault}
+use Rattle.source.specs.Schedule.{Schedule}
+use Rattle.source.specs.Load.{first_load_fault}
 use Rattle.jnirun.specs.declared.fault.Place.{Place}
 use Rattle.jnirun.specs.declared.fault.Place.TheVariants.{Line}
 use Rattle.jnirun.specs.declared.fault.Text.TheVariants as which

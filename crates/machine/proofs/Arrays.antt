@@ -5,10 +5,10 @@ use Rattle.std.specs.Int.{w32, cast_unsigned}
 use Rattle.std.proofs.lemmas.List.{length-map}
 use Rattle.std.proofs.lemmas.List.Sums.{sum_by-append, sum_by-cons}
 use Rattle.heap.specs.Heap.{Block, Space, IsLaidOut, end_of, left_of, values_at, fresh_block, with_block, with_value}
-use Rattle.world.specs.Object.{Object, Number, size, sizes}
+use Rattle.source.specs.Object.{Object, Number, size, sizes}
 use Rattle.world.specs.Scene.{ArrayScene}
 use Rattle.world.specs.SceneWorld.{array_object}
-use Rattle.regions.specs.Heap.{Heap}
+use Rattle.source.specs.Heap.{Heap}
 use Rattle.machine.specs.HeapAgrees.{WordsAgree, AreMade}
 use Rattle.machine.proofs.HeapLaws.{IsNext}
 use Rattle.machine.proofs.Loaded.{made_more, changed_new, values_new}

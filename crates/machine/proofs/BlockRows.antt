@@ -6,11 +6,11 @@ use Rattle.std.specs.Int.{w32, cast_signed}
 use Rattle.std.proofs.Math.Facts.{to_z-of_z}
 use Rattle.classes.specs.Class.{Classes, class_name}
 use Rattle.heap.specs.Heap.{Block, Space, IsAddress, block_at, name_at}
-use Rattle.world.specs.Object.{Object, Number}
-use Rattle.world.specs.Report.{ShownValue, ShownNumber, ShownRow}
-use Rattle.world.specs.World.{World, loaded_objects}
-use Rattle.regions.specs.Heap.{Heap, object_at}
-use Rattle.regions.specs.ReportOf.{shown_value}
+use Rattle.source.specs.Object.{Object, Number}
+use Rattle.source.specs.Report.{ShownValue, ShownNumber, ShownRow}
+use Rattle.source.specs.World.{World, loaded_objects}
+use Rattle.source.specs.Heap.{Heap, object_at}
+use Rattle.source.specs.ReportOf.{shown_value}
 use Rattle.machine.specs.HeapAgrees.{WordsAgree, BlockAgrees, BlocksAgree, HeapAgrees, made_before}
 use Rattle.machine.specs.Rows.{object_row, block_row, shown_numbers}
 use Rattle.machine.proofs.LoadedObjects.{loaded_is}

@@ -10,9 +10,9 @@ use Rattle.std.proofs.lemmas.List.Folds.{find-append}
 use Rattle.std.proofs.lemmas.Option.{slice_get_within}
 use Rattle.heap.specs.Heap.{Block, Space, block_end, end_from, end_of, LieFrom, IsLaidOut, block_at, name_at, with_block}
 use Rattle.heap.proofs.Layouts.{from_below_end}
-use Rattle.world.specs.Object.{Object, ObjectValue, Number, Refers}
-use Rattle.regions.specs.Heap.{Heap, object_at}
-use Rattle.regions.specs.Reachable.{from_one, IsName}
+use Rattle.source.specs.Object.{Object, ObjectValue, Number, Refers}
+use Rattle.source.specs.Heap.{Heap, object_at}
+use Rattle.source.specs.Reachable.{from_one, IsName}
 use Rattle.machine.specs.HeapAgrees.{ReferenceAgrees, WordAgrees, WordsAgree, BlockAgrees, BlocksAgree, HeapAgrees, IsTable}
 
 -- ---- the block at an address

@@ -8,7 +8,7 @@ use Rattle.classes.specs.Class.{Classes, class_kind, is_plain}
 use Rattle.types.specs.JniFunction.{JniFunction, GetArrayLength}
 use Rattle.types.specs.Sorts.{Ref}
 use Rattle.heap.specs.Heap.{Block, Space, block_at, class_at, name_at, values_at, IsAddress}
-use Rattle.world.specs.Object.{Object, ObjectValue, Reference}
+use Rattle.source.specs.Object.{Object, ObjectValue, Reference}
 use Rattle.code.specs.declared.instr.Instr.{Instr}
 use Rattle.code.specs.declared.instr.Instr.TheVariants as instr
 use Rattle.code.specs.declared.instr.Call.{Call}
@@ -19,15 +19,15 @@ use Rattle.code.specs.declared.instr.ReferenceOperand.TheVariants.{Null, Local}
 use Rattle.code.specs.declared.instr.Target.{Target as Destination}
 use Rattle.code.specs.declared.instr.Target.TheVariants as destination
 use Rattle.code.specs.Depth.{Listing, depth_after, Leaves}
-use Rattle.regions.specs.Arguments.{Actual, ReferenceActual}
-use Rattle.regions.specs.CallStep.{call_step, put, put_assigned, is_zero}
-use Rattle.regions.specs.Effect.{Calls, tasks_after, effect_of}
-use Rattle.regions.specs.Heap.{Heap, object_at, class_of, values_of}
-use Rattle.regions.specs.Task.{Task, Target, ScalarKind, ReferenceKind, FieldKind, BufferKind, Declared, Assigned, Dropped, Tested}
-use Rattle.regions.specs.Thread as source
-use Rattle.regions.specs.Thread.{BuffersInUse, Shared}
-use Rattle.regions.specs.Value.{Value, Int}
-use Rattle.regions.specs.Variable.{Variables, Scalar, assign, as_static}
+use Rattle.source.specs.Arguments.{Actual, ReferenceActual}
+use Rattle.source.specs.CallStep.{call_step, put, put_assigned, is_zero}
+use Rattle.source.specs.Effect.{Calls, tasks_after, effect_of}
+use Rattle.source.specs.Heap.{Heap, object_at, class_of, values_of}
+use Rattle.source.specs.Task.{Task, Target, ScalarKind, ReferenceKind, FieldKind, BufferKind, Declared, Assigned, Dropped, Tested}
+use Rattle.source.specs.Thread as source
+use Rattle.source.specs.Thread.{BuffersInUse, Shared}
+use Rattle.source.specs.Value.{Value, Int}
+use Rattle.source.specs.Variable.{Variables, Scalar, assign, as_static}
 use Rattle.lower.specs.Layout.{Known}
 use Rattle.lower.specs.Slots.{Visible, visible_to, Shows}
 use Rattle.lower.specs.Stands.{StandsFor}

@@ -8,9 +8,9 @@ use Rattle.std.proofs.lemmas.List.Sums.{sum_by-append, sum_by-cons}
 use Rattle.classes.specs.BuiltIns.{class_class, out_of_memory_error}
 use Rattle.heap.specs.Heap.{Block, Space, block_end, end_from, end_of, left_of, LieFrom, IsLaidOut, values_at, fresh_block, with_block, with_changed, with_value}
 use Rattle.heap.proofs.Layouts.{from_below_end, end_from-push, LieFrom-push}
-use Rattle.world.specs.Object.{Object, ObjectValue, size, sizes}
-use Rattle.regions.specs.Heap.{Heap}
-use Rattle.regions.specs.Reachable.{IsName}
+use Rattle.source.specs.Object.{Object, ObjectValue, size, sizes}
+use Rattle.source.specs.Heap.{Heap}
+use Rattle.source.specs.Reachable.{IsName}
 use Rattle.machine.specs.HeapAgrees.{WordsAgree, IsTable, AreMade, null_word}
 use Rattle.machine.proofs.HeapLaws.{IsNext, block_new, agrees_with_block, table_push, from_one-bounds, IsName-more}
 use Rattle.machine.proofs.LoadedObjects.{plain_class_object, error_object, made_first}

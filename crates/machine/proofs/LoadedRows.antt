@@ -6,12 +6,12 @@ use Rattle.std.proofs.lemmas.Bool.Decides.{nat_tests}
 use Rattle.std.proofs.lemmas.List.{length-map}
 use Rattle.std.proofs.lemmas.Option.{slice_get-map}
 use Rattle.heap.specs.Heap.{Space}
-use Rattle.world.specs.Object.{Object, sizes}
-use Rattle.world.specs.Report.{object_line}
+use Rattle.source.specs.Object.{Object, sizes}
+use Rattle.world.specs.ReportText.{object_line}
 use Rattle.world.specs.Scene.{ArrayScene, Scene}
 use Rattle.world.specs.SceneWorld.{world_of_scene, array_object}
 use Rattle.world.specs.Shown.{row_lines}
-use Rattle.world.specs.World.{World, loaded_objects, fits_cells}
+use Rattle.source.specs.World.{World, loaded_objects, fits_cells}
 use Rattle.machine.specs.HeapAgrees.{AgreesAtLoad}
 use Rattle.machine.specs.Rows.{loaded_rows, object_row, block_row}
 use Rattle.machine.proofs.Arrays.{few_objects}

@@ -5,26 +5,27 @@ use Rattle.std.specs.List.{list_all, enumerate_from}
 use Rattle.std.specs.Option.{option_map}
 use Rattle.syntax.specs.Views.{unit_tree}
 use Rattle.classes.specs.Class.{Classes}
-use Rattle.world.specs.declared.journal.Entry.{Entry}
-use Rattle.world.specs.declared.report.Printed.{Printed}
+use Rattle.source.specs.declared.journal.Entry.{Entry}
+use Rattle.source.specs.declared.printed.Printed.{Printed}
 use Rattle.world.specs.declared.report.ThreadStatus.{ThreadStatus}
 use Rattle.world.specs.declared.report.ThreadStatus.TheVariants as held
-use Rattle.world.specs.Journal.{journal_line}
-use Rattle.world.specs.Report.{ThreadStanding, HasTrapped, ShownRow, Report, report_text}
+use Rattle.world.specs.JournalText.{journal_line}
+use Rattle.source.specs.Report.{ThreadStanding, HasTrapped, ShownRow, Report}
+use Rattle.world.specs.ReportText.{report_text}
 use Rattle.world.specs.Sink as sink
 use Rattle.world.specs.Sink.{Written}
 use Rattle.world.specs.Scene.{Scene}
 use Rattle.world.specs.SceneWorld.{world_of_scene}
 use Rattle.world.specs.Shown.{report_with}
 use Rattle.world.specs.ThreadStatus.{standing_view}
-use Rattle.regions.specs.ReportOf.{standing_by_ending, standing_of, shown, shown_row, report}
-use Rattle.regions.specs.Run as source_run
-use Rattle.regions.specs.State as state
-use Rattle.regions.specs.State.{State}
-use Rattle.regions.specs.Value.{trap_number}
-use Rattle.regions.specs.Step.{is_waiting, is_blocked, is_unfinished}
-use Rattle.regions.specs.Thread as source
-use Rattle.regions.specs.Thread.{Shared}
+use Rattle.source.specs.ReportOf.{standing_by_ending, standing_of, shown, shown_row, report}
+use Rattle.source.specs.Run as source_run
+use Rattle.source.specs.State as state
+use Rattle.source.specs.State.{State}
+use Rattle.source.specs.Value.{trap_number}
+use Rattle.source.specs.Step.{is_waiting, is_blocked, is_unfinished}
+use Rattle.source.specs.Thread as source
+use Rattle.source.specs.Thread.{Shared}
 use Rattle.heap.specs.Heap.{Space}
 use Rattle.lower.specs.Lowered.{Lowered, IsLowered}
 use Rattle.machine.specs.declared.thread.Ending.{Ending}
@@ -35,7 +36,7 @@ use Rattle.machine.specs.Agrees.{ThreadsAgree, ending_view}
 use Rattle.machine.specs.Stops as machine
 use Rattle.machine.specs.Stops.{stop_view, trap_view}
 use Rattle.machine.specs.Run as run
-use Rattle.regions.specs.Run.{JournalHasRoom}
+use Rattle.source.specs.Run.{JournalHasRoom}
 use Rattle.machine.specs.Run.{Run, Corresponds, WritesRun, IsFinished}
 use Rattle.machine.specs.Rows.{loaded_rows}
 use Rattle.machine.proofs.ShownRows.{shown_rows}

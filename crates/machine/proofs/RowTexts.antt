@@ -5,8 +5,9 @@ use Rattle.std.specs.List.{enumerate_from}
 use Rattle.std.specs.Int.{w32, cast_signed}
 use Rattle.std.proofs.lemmas.List.Concat.{flat_map-cons}
 use Rattle.classes.specs.Class.{Classes}
-use Rattle.world.specs.Object.{Object}
-use Rattle.world.specs.Report.{ShownValue, ShownNumber, ShownRow, shown_text, text_line, object_line}
+use Rattle.source.specs.Object.{Object}
+use Rattle.source.specs.Report.{ShownValue, ShownNumber, ShownRow}
+use Rattle.world.specs.ReportText.{shown_text, text_line, object_line}
 use Rattle.world.specs.Shown.{row_head, row_lines}
 use Rattle.world.specs.Sink.{Written, AppendsText, StopsWithin, Writes}
 use Rattle.world.proofs.Puts.{AppendsText-then, StopsWithin-more, Writes-then, stops}

@@ -12,17 +12,17 @@ use Rattle.world.specs.ReadingSchedules.{repeated_words}
 use Rattle.syntax.specs.Views.{unit_tree}
 use Rattle.syntax.specs.declared.unit.Item.{Item}
 use Rattle.classes.specs.Class.{Classes}
-use Rattle.world.specs.declared.journal.Entry.{Entry}
-use Rattle.world.specs.declared.schedule.ScheduleWord.{ScheduleWord}
-use Rattle.world.specs.declared.schedule.ScheduleWord.TheVariants.{Turn, Collect}
+use Rattle.source.specs.declared.journal.Entry.{Entry}
+use Rattle.source.specs.declared.schedule.ScheduleWord.{ScheduleWord}
+use Rattle.source.specs.declared.schedule.ScheduleWord.TheVariants.{Turn, Collect}
 use Rattle.world.specs.Scene.{Scene}
 use Rattle.world.specs.SceneWorld.{world_of_scene}
-use Rattle.world.specs.Schedule.{Schedule}
-use Rattle.regions.specs.Run.{replay, replay_from, Follows, Over, Collects, Waits, Steps}
-use Rattle.regions.specs.Start.{start}
-use Rattle.regions.specs.State.{State, Stop, thread_at}
-use Rattle.regions.specs.Step.{can_step, is_live, is_waiting, world_step}
-use Rattle.regions.proofs.RunLaws.{replay_from-append, follows-replay, follows-append}
+use Rattle.source.specs.Schedule.{Schedule}
+use Rattle.source.specs.Run.{replay, replay_from, Follows, Over, Collects, Waits, Steps}
+use Rattle.source.specs.Start.{start}
+use Rattle.source.specs.State.{State, Stop, thread_at}
+use Rattle.source.specs.Step.{can_step, is_live, is_waiting, world_step}
+use Rattle.source.proofs.RunLaws.{replay_from-append, follows-replay, follows-append}
 use Rattle.machine.specs.declared.turn.Turn.{Turn as Answer}
 use Rattle.machine.specs.declared.turn.Turn.TheVariants as turn
 use Rattle.machine.specs.Run.{Run, replay_of, can_turn, HasEnded, TurnHolds, GivesNoStep, GivesStep, entry_of, stepped, RunsAlong, RunsInto}

@@ -6,18 +6,18 @@ use Rattle.std.proofs.Math.ListN.{length-set}
 use Rattle.std.proofs.Math.Seq.{drop-length}
 use Rattle.syntax.specs.Views.{unit_tree}
 use Rattle.classes.specs.Class.{Classes}
-use Rattle.world.specs.declared.journal.Entry.{Entry}
-use Rattle.world.specs.declared.report.Printed.{Printed}
+use Rattle.source.specs.declared.journal.Entry.{Entry}
+use Rattle.source.specs.declared.printed.Printed.{Printed}
 use Rattle.world.specs.Scene.{Scene}
 use Rattle.world.specs.SceneWorld.{world_of_scene}
-use Rattle.regions.specs.State.{State, thread_at, set_thread, lent, with_event, advanced}
-use Rattle.regions.specs.Step.{can_step, is_unfinished, world_step}
-use Rattle.regions.specs.Thread as source
-use Rattle.regions.specs.Thread.{BuffersInUse, Shared}
-use Rattle.regions.proofs.RunLaws.{replay_more, has_room-more}
-use Rattle.regions.specs.Run.{HasRoom, made_between}
-use Rattle.regions.specs.Start.{start}
-use Rattle.regions.proofs.StepLaws.{Steps, steps, step-thread}
+use Rattle.source.specs.State.{State, thread_at, set_thread, lent, with_event, advanced}
+use Rattle.source.specs.Step.{can_step, is_unfinished, world_step}
+use Rattle.source.specs.Thread as source
+use Rattle.source.specs.Thread.{BuffersInUse, Shared}
+use Rattle.source.proofs.RunLaws.{replay_more, has_room-more}
+use Rattle.source.specs.Run.{HasRoom, made_between}
+use Rattle.source.specs.Start.{start}
+use Rattle.source.proofs.StepLaws.{Steps, steps, step-thread}
 use Rattle.heap.specs.Heap.{Space}
 use Rattle.lower.specs.Lowered.{Lowered}
 use Rattle.machine.specs.declared.thread.Ending.TheVariants.{Unfinished, Ended}
@@ -26,7 +26,7 @@ use Rattle.machine.specs.declared.thread.Event.TheVariants as event
 use Rattle.machine.specs.declared.thread.Thread.{Thread}
 use Rattle.machine.specs.declared.stop.Stop.{Stop}
 use Rattle.machine.specs.Stops.{stop_view, stop_after}
-use Rattle.regions.specs.Heap.{Heap}
+use Rattle.source.specs.Heap.{Heap}
 use Rattle.machine.specs.HeapAgrees.{BlocksAgree, IsTable}
 use Rattle.machine.specs.Agrees.{StaticsAgree, ThreadAgrees, ThreadsAgree, Advances, ending_view, event_view}
 use Rattle.machine.specs.Run.{Corresponds, printed_after, entry_of, HasEnded}

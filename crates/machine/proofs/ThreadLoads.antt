@@ -12,10 +12,10 @@ use Rattle.heap.specs.Heap.{Space}
 use Rattle.world.specs.CallArguments.{are_arguments}
 use Rattle.world.specs.Scene.{CallScene}
 use Rattle.world.specs.SceneWorld.{invocation_of}
-use Rattle.world.specs.World.{Invocation}
-use Rattle.regions.specs.Start.{waiting_thread}
-use Rattle.regions.specs.Thread as source
-use Rattle.regions.specs.Thread.{Shared}
+use Rattle.source.specs.World.{Invocation}
+use Rattle.source.specs.Start.{waiting_thread}
+use Rattle.source.specs.Thread as source
+use Rattle.source.specs.Thread.{Shared}
 use Rattle.lower.specs.Lowered.{Lowered}
 use Rattle.machine.specs.declared.fault.LoadFault.{LoadFault}
 use Rattle.machine.specs.declared.fault.LoadFault.TheVariants.{DoesNotFit, Memory}

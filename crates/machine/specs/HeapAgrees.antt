@@ -4,10 +4,10 @@ use Rattle.std.specs.Int.{w32, cast_unsigned}
 use Rattle.classes.specs.BuiltIns.{out_of_memory_error}
 use Rattle.classes.specs.Class.{Classes}
 use Rattle.heap.specs.Heap.{Block, Space, IsLaidOut, end_of, name_at, AreNamesUnique}
-use Rattle.world.specs.Object.{Object, ObjectValue, Number, Refers, Reference, sizes}
-use Rattle.world.specs.World.{World, class_objects, fresh_object, loaded_objects}
-use Rattle.regions.specs.Heap.{Heap, object_at}
-use Rattle.regions.specs.Reachable.{IsName}
+use Rattle.source.specs.Object.{Object, ObjectValue, Number, Refers, Reference, sizes}
+use Rattle.source.specs.World.{World, class_objects, fresh_object, loaded_objects}
+use Rattle.source.specs.Heap.{Heap, object_at}
+use Rattle.source.specs.Reachable.{IsName}
 
 -- ---- references and words
 

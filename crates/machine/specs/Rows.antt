@@ -5,10 +5,10 @@ use Rattle.std.specs.Option.{option_map_or}
 use Rattle.std.specs.Int.{w32, cast_signed}
 use Rattle.classes.specs.Class.{Classes, class_name}
 use Rattle.heap.specs.Heap.{Space, class_at, values_at}
-use Rattle.world.specs.Object.{Object}
-use Rattle.world.specs.Report.{ShownValue, ShownNumber, ShownRow}
-use Rattle.world.specs.World.{World}
-use Rattle.regions.specs.ReportOf.{shown_value}
+use Rattle.source.specs.Object.{Object}
+use Rattle.source.specs.Report.{ShownValue, ShownNumber, ShownRow}
+use Rattle.source.specs.World.{World}
+use Rattle.source.specs.ReportOf.{shown_value}
 
 -- the row of an object
 abbrev pub object_row : Classes → ℕ × Object → ShownRow

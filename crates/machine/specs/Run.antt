@@ -5,21 +5,21 @@ use Rattle.std.specs.List.{list_all, enumerate_from}
 use Rattle.syntax.specs.declared.unit.Item.{Item}
 use Rattle.classes.specs.Class.{Classes}
 use Rattle.syntax.specs.Views.{unit_tree}
-use Rattle.world.specs.declared.journal.Entry.{Entry}
-use Rattle.world.specs.declared.report.Printed.{Printed}
-use Rattle.world.specs.declared.schedule.ScheduleWord.{ScheduleWord}
-use Rattle.world.specs.declared.schedule.ScheduleWord.TheVariants.{Turn, Collect}
+use Rattle.source.specs.declared.journal.Entry.{Entry}
+use Rattle.source.specs.declared.printed.Printed.{Printed}
+use Rattle.source.specs.declared.schedule.ScheduleWord.{ScheduleWord}
+use Rattle.source.specs.declared.schedule.ScheduleWord.TheVariants.{Turn, Collect}
 use Rattle.world.specs.Scene.{Scene}
 use Rattle.world.specs.SceneWorld.{world_of_scene}
-use Rattle.world.specs.Schedule.{Schedule}
+use Rattle.source.specs.Schedule.{Schedule}
 use Rattle.world.specs.Sink as sink
 use Rattle.world.specs.Sink.{Written}
-use Rattle.world.specs.World.{loaded_objects}
-use Rattle.regions.specs.Run as source
-use Rattle.regions.specs.Run.{replay, Follows, JournalHasRoom}
-use Rattle.regions.specs.State.{State, thread_at}
-use Rattle.regions.specs.Step.{can_step, is_blocked, is_unfinished}
-use Rattle.regions.specs.Thread.{Thread as SourceThread}
+use Rattle.source.specs.World.{loaded_objects}
+use Rattle.source.specs.Run as source
+use Rattle.source.specs.Run.{replay, Follows, JournalHasRoom}
+use Rattle.source.specs.State.{State, thread_at}
+use Rattle.source.specs.Step.{can_step, is_blocked, is_unfinished}
+use Rattle.source.specs.Thread.{Thread as SourceThread}
 use Rattle.heap.specs.Heap.{Space}
 use Rattle.lower.specs.Lowered.{Lowered, IsLowered}
 use Rattle.machine.specs.declared.thread.Thread.{Thread}

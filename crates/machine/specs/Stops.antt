@@ -2,8 +2,8 @@
 use Rattle.std.specs.Prelude.{ℕ, ◌==◌, if◌then◌else◌, Option, Some, None}
 use Rattle.world.specs.declared.report.ThreadStatus.{ThreadStatus}
 use Rattle.world.specs.declared.report.ThreadStatus.TheVariants as standing
-use Rattle.regions.specs.State as state
-use Rattle.regions.specs.Value as source
+use Rattle.source.specs.State as state
+use Rattle.source.specs.Value as source
 use Rattle.machine.specs.declared.stop.Trap.{Trap}
 use Rattle.machine.specs.declared.stop.Trap.TheVariants.{DivisionByZero, ShiftTooFar, OutOfRange, NullReference, ExceptionPending, WrongObject, DeletedReference, NoCapacity, Fatal}
 use Rattle.machine.specs.declared.stop.Stop.{Stop}

@@ -4,10 +4,10 @@ ghost use Rattle.std.specs.Prelude.{◌≡◌, ◌+◌, ◌<◌, ◌≤◌, [], 
 ghost use Rattle.heap.specs.Heap.{IsLaidOut, left_of, end_of, fresh_block, with_block};
 ghost use Rattle.world.specs.SceneWorld.{world_of_scene};
 ghost use Rattle.world.specs.Views.{element_view};
-ghost use Rattle.world.specs.World.{loaded_objects};
+ghost use Rattle.source.specs.World.{loaded_objects};
 ghost use Rattle.classes.specs.BuiltIns.{number_array};
-ghost use Rattle.world.specs.Object.{Number};
-ghost use Rattle.regions.specs.Heap.{Heap as Objects};
+ghost use Rattle.source.specs.Object.{Number};
+ghost use Rattle.source.specs.Heap.{Heap as Objects};
 ghost use Rattle.machine.specs.HeapAgrees.{AreMade, made_before};
 
 use heap::{Addr, Heap, MOST_CELLS};

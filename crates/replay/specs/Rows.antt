@@ -5,7 +5,7 @@ use Rattle.std.specs.List.{enumerate_from}
 use Rattle.base.specs.Bytes.{Identifier}
 use Rattle.classes.specs.BuiltIns.{number_array}
 use Rattle.classes.specs.Class.{Classes, class_name}
-use Rattle.world.specs.Report.{ShownNumber, ShownRow}
+use Rattle.source.specs.Report.{ShownNumber, ShownRow}
 use Rattle.world.specs.Scene.{ArrayScene, Scene}
 use Rattle.world.specs.SceneWorld.{world_of_scene}
 use Rattle.world.specs.Shown.{row_lines}

@@ -13,34 +13,37 @@ use Rattle.classes.specs.Class.{Classes}
 use Rattle.classes.specs.Mangling.{unmangle}
 use Rattle.types.specs.Prototype.{function_named}
 use Rattle.types.specs.SortRules.{SortRule, sort_rule_number, IsSorted}
-use Rattle.world.specs.declared.journal.Entry.{Entry}
-use Rattle.world.specs.declared.schedule.ScheduleWord.{ScheduleWord}
-use Rattle.world.specs.declared.schedule.ScheduleWord.TheVariants.{Turn, Collect}
-use Rattle.world.specs.Journal.{Journal, IsJournalText, entry_text, journal_line}
-use Rattle.world.specs.Object.{Object, sizes}
+use Rattle.source.specs.declared.journal.Entry.{Entry}
+use Rattle.source.specs.declared.schedule.ScheduleWord.{ScheduleWord}
+use Rattle.source.specs.declared.schedule.ScheduleWord.TheVariants.{Turn, Collect}
+use Rattle.source.specs.Journal.{Journal}
+use Rattle.world.specs.JournalText.{IsJournalText, entry_text, journal_line}
+use Rattle.source.specs.Object.{Object, sizes}
 use Rattle.world.specs.ReadingValues.{value_named}
 use Rattle.world.specs.ReadingWords.{lines_words, allowed_words}
 use Rattle.world.specs.ReadingWorlds.{lines_scene, line_scene, heap_scene, class_scene, array_scene, thread_scene, finished_scene}
-use Rattle.world.specs.Report.{report_text}
-use Rattle.world.specs.Schedule.{Schedule, IsScheduleText, schedule_word, words_meant, is_turn, is_count}
+use Rattle.world.specs.ReportText.{report_text}
+use Rattle.source.specs.Schedule.{Schedule}
+use Rattle.world.specs.ScheduleText.{IsScheduleText, schedule_word, words_meant, is_turn, is_count}
 use Rattle.world.specs.Words.{words_of, is_thread}
-use Rattle.world.specs.World.{World}
+use Rattle.source.specs.World.{World}
 use Rattle.world.specs.WorldLines.{WorldLine, Lines, line_text, spaced, text_lines}
 use Rattle.world.specs.WorldMeaning.{world_of}
 use Rattle.world.specs.WorldRules.{IsWorldText, IsNumberedLine, broken_after, is_thread_line}
 use Rattle.world.proofs.WrittenValues.{same_bytes}
-use Rattle.regions.specs.CallTable.{call_effect}
-use Rattle.regions.specs.Checks.{go_together, call_trap}
+use Rattle.source.specs.CallTable.{call_effect}
+use Rattle.source.specs.Checks.{go_together, call_trap}
 use Rattle.regions.specs.Findings.{first_fault}
-use Rattle.regions.specs.Load.{first_load_fault}
-use Rattle.regions.specs.Reachable.{live_size}
+use Rattle.source.specs.Load.{first_load_fault}
+use Rattle.source.specs.Reachable.{live_size}
 use Rattle.regions.specs.RegionRules.{RegionRule, region_rule_number}
-use Rattle.regions.specs.ReportOf.{report}
-use Rattle.regions.specs.Run.{Follows, Over, Collects, Waits, Steps, HasRoom, HasRoomFrom, Writes, made_between, made, wanted, replay}
-use Rattle.regions.specs.Start.{start}
-use Rattle.regions.specs.State.{State, thread_at, views}
-use Rattle.regions.specs.Step.{world_step, can_step, step_of}
-use Rattle.regions.proofs.RunLaws.{follows-replay}
+use Rattle.source.specs.ReportOf.{report}
+use Rattle.source.specs.Run.{Follows, Over, Collects, Waits, Steps, HasRoom, HasRoomFrom, made_between, made, wanted, replay}
+use Rattle.world.specs.RunText.{Writes}
+use Rattle.source.specs.Start.{start}
+use Rattle.source.specs.State.{State, thread_at, views}
+use Rattle.source.specs.Step.{world_step, can_step, step_of}
+use Rattle.source.proofs.RunLaws.{follows-replay}
 use Rattle.regions.proofs.UnitLemmas.{accepted-all, faulty-all}
 use Rattle.worked.specs.Claims.{first_sort_fault, IsAccepted, IsRefused, by_sorts, by_regions, Beginning, IsWorkedRun, IsWorkedReplay, IsStoppedReplay, IsUnloaded}
 use Rattle.worked.proofs.Programs.{entry}

@@ -7,8 +7,9 @@ use Rattle.std.proofs.lemmas.Bool.{and_from}
 use Rattle.std.proofs.lemmas.Bool.Decides.{nat_tests}
 use Rattle.std.proofs.lemmas.Fmt.{decimal_digit}
 use Rattle.base.specs.Bytes.{is_some_byte}
-use Rattle.world.specs.declared.journal.Entry.{Entry}
-use Rattle.world.specs.Journal.{Journal, entry_text, IsJournalText}
+use Rattle.source.specs.declared.journal.Entry.{Entry}
+use Rattle.source.specs.Journal.{Journal}
+use Rattle.world.specs.JournalText.{entry_text, IsJournalText}
 use Rattle.world.specs.Split.{parts_of}
 use Rattle.world.specs.ReadingJournals.{entry_named, entry_of, journal_of}
 use Rattle.world.specs.Reading.{Gives}

@@ -5,11 +5,11 @@ use Rattle.std.specs.List.{onto_first, list_all}
 use Rattle.std.proofs.lemmas.List.Concat.{flat_map-cons}
 use Rattle.std.proofs.lemmas.Bool.Decides.{nat_tests}
 use Rattle.std.proofs.lemmas.Fmt.{decimal_digit}
-use Rattle.world.specs.declared.journal.Entry.{Entry}
+use Rattle.source.specs.declared.journal.Entry.{Entry}
 use Rattle.world.specs.Split.{parts_of}
 use Rattle.world.specs.Reading.{◌>>=◌}
 use Rattle.world.specs.ReadingWords.{formed_words, with_word, line_words, lines_words}
-use Rattle.world.specs.Journal.{entry_text}
+use Rattle.world.specs.JournalText.{entry_text}
 use Rattle.world.specs.ReadingJournals.{entry_named, entry_of, spelled_entries, AreEntries, EntriesAreReadAgain}
 use Rattle.world.proofs.WordLemmas.{are_allowed}
 

@@ -3,8 +3,9 @@ use Rattle.std.proofs.Common.{◌≡◌, ℕ, ◌≤◌, true, List, [], ◌∷�
 use Rattle.std.specs.Prelude.{nat_le}
 use Rattle.std.specs.List.{list_all}
 use Rattle.std.proofs.lemmas.Bool.Decides.{nat_tests}
-use Rattle.world.specs.declared.journal.Entry.{Entry}
-use Rattle.world.specs.Journal.{Journal, IsJournalText}
+use Rattle.source.specs.declared.journal.Entry.{Entry}
+use Rattle.source.specs.Journal.{Journal}
+use Rattle.world.specs.JournalText.{IsJournalText}
 use Rattle.world.specs.Split.{parts_of}
 use Rattle.world.specs.ReadingJournals.{entry_of, journal_of, AreEntries}
 use Rattle.world.specs.ReadingWords.{formed_words}

@@ -12,15 +12,16 @@ use Rattle.std.proofs.lemmas.Fmt.{decimal_digit, decimal_nonempty, digits_decima
 use Rattle.std.proofs.lemmas.List.Concat.{flat_map-cons}
 use Rattle.std.proofs.lemmas.List.Folds.{list_all-append}
 use Rattle.std.proofs.lemmas.Str.Parse.{numerals_by_value, tells_all_ascii_digits}
-use Rattle.world.specs.declared.schedule.ScheduleWord.{ScheduleWord}
-use Rattle.world.specs.declared.schedule.ScheduleWord.TheVariants.{Turn, Collect}
+use Rattle.source.specs.declared.schedule.ScheduleWord.{ScheduleWord}
+use Rattle.source.specs.declared.schedule.ScheduleWord.TheVariants.{Turn, Collect}
 use Rattle.world.specs.declared.schedule.Repetition.{Repetition}
 use Rattle.world.specs.Natural.{digits_number, natural_of}
 use Rattle.world.specs.Split.{parts_of}
 use Rattle.world.specs.Reading.{◌>>=◌}
 use Rattle.world.specs.ReadingSchedules.{named_turn, repetition, repetition_of, is_known_turn, repeated_words, schedule_of}
 use Rattle.world.specs.ReadingWords.{with_word, formed_words}
-use Rattle.world.specs.Schedule.{schedule_word, words_meant, is_turn, is_count, Schedule, IsScheduleText}
+use Rattle.source.specs.Schedule.{Schedule}
+use Rattle.world.specs.ScheduleText.{schedule_word, words_meant, is_turn, is_count, IsScheduleText}
 use Rattle.world.specs.TextLaws.{is_turn_word}
 use Rattle.world.specs.Words.{is_thread}
 use Rattle.world.proofs.ScheduleLaws.{all_digits, length-repeated}

@@ -17,7 +17,7 @@ use Rattle.world.specs.ReadingWorlds.{number_of, line_scene, finished_scene, lin
 use Rattle.world.specs.Scene.{ArrayScene, Scene}
 use Rattle.world.specs.SceneWorld.{world_of_scene}
 use Rattle.world.specs.TextLaws.{world_of_text, IsBuiltWorldText}
-use Rattle.world.specs.World.{World}
+use Rattle.source.specs.World.{World}
 use Rattle.world.specs.WorldLines.{WorldValue, NumberValue, WorldLine, ClassLine, ArrayLine, ThreadLine, Lines, spaced, line_text}
 use Rattle.world.specs.WorldMeaning.{threads_with, threads_of, invocation_of_line, world_of}
 use Rattle.world.specs.WorldRules.{is_thread_line, broken_by_line, broken_after, IsNumberedLine}

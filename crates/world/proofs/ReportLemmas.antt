@@ -6,16 +6,17 @@ use Rattle.std.specs.Io.KnownBytes.{Keeps}
 use Rattle.std.proofs.KnownBytes.{Appends-kept}
 use Rattle.std.proofs.lemmas.List.{get_or-map, length-map}
 use Rattle.std.proofs.lemmas.List.FromFn.{length-enumerate_from, get_or-enumerate_from}
-use Rattle.world.specs.declared.report.Printed.{Printed}
+use Rattle.source.specs.declared.printed.Printed.{Printed}
 use Rattle.world.specs.declared.report.ThreadStatus.{ThreadStatus}
-use Rattle.world.specs.Report.{ShownRow, thread_line, printed_line, report_text}
+use Rattle.source.specs.Report.{ShownRow}
+use Rattle.world.specs.ReportText.{thread_line, printed_line, report_text}
 use Rattle.world.specs.Shown.{row_lines, report_with}
 use Rattle.world.specs.ThreadStatus.{standing_view}
 use Rattle.world.specs.Sink.{Written, AppendsText, Writes}
 use Rattle.world.proofs.Puts.{flat_map-at, flat_map-past}
 
 -- threads with their numbers
-abbrev pub numbered : List ThreadStatus → List (ℕ × Rattle.world.specs.Report.ThreadStanding)
+abbrev pub numbered : List ThreadStatus → List (ℕ × Rattle.source.specs.Report.ThreadStanding)
 numbered xs = enumerate_from 1 (map standing_view xs)
 
 pub length-numbered : (xs : List ThreadStatus) → length (numbered xs) ≡ length xs

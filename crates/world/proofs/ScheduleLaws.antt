@@ -14,14 +14,14 @@ use Rattle.std.proofs.lemmas.List.Concat.{flat_map-cons}
 use Rattle.std.proofs.lemmas.List.Sums.{sum_by-cons}
 use Rattle.std.proofs.lemmas.Str.Parse.{numerals_by_value, tells_all_ascii_digits}
 use Rattle.base.specs.Bytes.{is_some_byte}
-use Rattle.world.specs.declared.schedule.ScheduleWord.{ScheduleWord}
-use Rattle.world.specs.declared.schedule.ScheduleWord.TheVariants.{Turn}
+use Rattle.source.specs.declared.schedule.ScheduleWord.{ScheduleWord}
+use Rattle.source.specs.declared.schedule.ScheduleWord.TheVariants.{Turn}
 use Rattle.world.specs.declared.schedule.Repetition.{Repetition}
 use Rattle.world.specs.Natural.{digits_number, natural_of}
 use Rattle.world.specs.Split.{parts_of}
 use Rattle.world.specs.ReadingSchedules.{named_turn, repetition, repetition_of, is_known_turn, repeated_words, schedule_of}
 use Rattle.world.specs.ReadingWords.{with_word, formed_words, text_words}
-use Rattle.world.specs.Schedule.{turn_text, schedule_word, words_meant, is_turn, is_count, IsScheduleText}
+use Rattle.world.specs.ScheduleText.{turn_text, schedule_word, words_meant, is_turn, is_count, IsScheduleText}
 use Rattle.world.proofs.WordLaws.{words_of-parts, all_parts, and_then_ok, both_true, are_words}
 
 -- ---- options

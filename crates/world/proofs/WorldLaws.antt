@@ -14,14 +14,14 @@ use Rattle.classes.specs.Mangling.{is_class_name, is_simple_name}
 use Rattle.world.specs.declared.fault.Rule.TheVariants.{Form, Limit}
 use Rattle.world.specs.declared.fault.ReadError.{ReadError}
 use Rattle.world.specs.BuiltLines.{is_built_line, are_built}
-use Rattle.world.specs.Object.{ObjectValue, Object}
+use Rattle.source.specs.Object.{ObjectValue, Object}
 use Rattle.world.specs.Split.{parts_of}
 use Rattle.world.specs.Reading.{refused, Gives}
 use Rattle.world.specs.ReadingWorlds.{class_rule, place_of, is_number, array_rule, is_there, thread_rule, argument_of, line_scene, finished_scene, lines_scene, scene_of_text}
 use Rattle.world.specs.Scene.{ArrayScene, Scene, array_size, cells_used}
 use Rattle.world.specs.SceneWorld.{classes_named, array_object, world_of_scene}
 use Rattle.world.specs.TextLaws.{world_of_text, IsBuiltWorldText}
-use Rattle.world.specs.World.{Invocation, World}
+use Rattle.source.specs.World.{Invocation, World}
 use Rattle.world.specs.WorldLines.{WorldValue, NumberValue, WorldLine, ClassLine, ArrayLine, ThreadLine, Lines, spaced, line_text}
 use Rattle.world.specs.WorldMeaning.{table_of, object_of, threads_of, world_of}
 use Rattle.world.specs.WorldRules.{is_thread_line, is_line_word, is_formed_value, value_in_range, WorldRule, broken_by_line, broken_after, IsNumberedLine, IsWorldText}

@@ -1,8 +1,8 @@
 -- How the words of a journal are read.
 use Rattle.std.specs.Prelude.{◌≡◌, ℕ, ◌-◌, ◌≤◌, List, [], ◌∷◌, ◌++◌, length, codes, Ok, Bool, true, false, ◌&&◌, Option, Some, None, Result, nat_le, ◌==◌, if◌then◌else◌}
 use Rattle.std.specs.List.{flat_map}
-use Rattle.world.specs.Journal.{entry_text}
-use Rattle.world.specs.declared.journal.Entry.{Entry}
+use Rattle.world.specs.JournalText.{entry_text}
+use Rattle.source.specs.declared.journal.Entry.{Entry}
 use Rattle.world.specs.declared.fault.TextFault.{TextFault}
 use Rattle.world.specs.ReadingWords.{text_words}
 

@@ -1,8 +1,8 @@
 -- How the words of a schedule are read. Collections are not built yet: their word has no form.
 use Rattle.std.specs.Prelude.{ℕ, ◌-◌, List, [], ◌∷◌, Bool, false, ◌&&◌, Option, Some, None, option_and_then, Result, Ok, ◌==◌, nat_le, replicate, if◌then◌else◌}
 use Rattle.std.specs.List.{flat_map}
-use Rattle.world.specs.declared.schedule.ScheduleWord.{ScheduleWord}
-use Rattle.world.specs.declared.schedule.ScheduleWord.TheVariants.{Turn, Collect}
+use Rattle.source.specs.declared.schedule.ScheduleWord.{ScheduleWord}
+use Rattle.source.specs.declared.schedule.ScheduleWord.TheVariants.{Turn, Collect}
 use Rattle.world.specs.declared.schedule.Repetition.{Repetition}
 use Rattle.world.specs.declared.fault.TextFault.{TextFault}
 use Rattle.world.specs.Natural.{natural_of}

@@ -15,7 +15,7 @@ use Rattle.world.specs.declared.builder.WorldBuilder.{WorldBuilder}
 use Rattle.world.specs.Scene.{ArrayScene, Scene, cells_used}
 use Rattle.world.specs.SceneWorld.{classes_named}
 use Rattle.world.specs.Natural.{natural_of}
-use Rattle.world.specs.Object.{ObjectValue, Number, Refers}
+use Rattle.source.specs.Object.{ObjectValue, Number, Refers}
 use Rattle.world.specs.Split.{parts_of}
 use Rattle.world.specs.Reading.{◌>>=◌, refused, Fails}
 use Rattle.world.specs.ReadingValues.{object_named, values_named, element_named}

@@ -6,9 +6,10 @@ use Rattle.world.specs.declared.names.ClassName.{ClassName}
 use Rattle.world.specs.declared.names.ClassName.TheVariants.{Plain, Array}
 use Rattle.world.specs.declared.rows.Shown.{Shown}
 use Rattle.world.specs.declared.rows.Shown.TheVariants as held
-use Rattle.world.specs.declared.report.Printed.{Printed}
+use Rattle.source.specs.declared.printed.Printed.{Printed}
 use Rattle.world.specs.declared.report.ThreadStatus.{ThreadStatus}
-use Rattle.world.specs.Report.{ShownValue, ShownNumber, ShownNull, ShownClass, ShownObject, ShownRow, object_line, Report}
+use Rattle.source.specs.Report.{ShownValue, ShownNumber, ShownNull, ShownClass, ShownObject, ShownRow, Report}
+use Rattle.world.specs.ReportText.{object_line}
 use Rattle.world.specs.ThreadStatus.{standing_view}
 
 -- the name of a class

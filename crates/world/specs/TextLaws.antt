@@ -1,18 +1,20 @@
 -- Laws: what a text means is what is read of it.
 use Rattle.std.specs.Prelude.{◌≡◌, ◌↔◌, ◌≤◌, ℕ, Bool, true, false, List, IsTrue, Result, Ok}
 use Rattle.std.specs.List.{list_all}
-use Rattle.world.specs.declared.schedule.ScheduleWord.{ScheduleWord}
-use Rattle.world.specs.declared.schedule.ScheduleWord.TheVariants.{Turn, Collect}
+use Rattle.source.specs.declared.schedule.ScheduleWord.{ScheduleWord}
+use Rattle.source.specs.declared.schedule.ScheduleWord.TheVariants.{Turn, Collect}
 use Rattle.world.specs.declared.fault.TextFault.{TextFault}
 use Rattle.world.specs.BuiltLines.{are_built}
-use Rattle.world.specs.Journal.{Journal, IsJournalText}
+use Rattle.source.specs.Journal.{Journal}
+use Rattle.world.specs.JournalText.{IsJournalText}
 use Rattle.world.specs.Reading.{◌>>=◌}
 use Rattle.world.specs.ReadingJournals.{journal_of}
 use Rattle.world.specs.ReadingSchedules.{schedule_of}
 use Rattle.world.specs.ReadingWorlds.{scene_of_text}
 use Rattle.world.specs.SceneWorld.{world_of_scene}
-use Rattle.world.specs.Schedule.{Schedule, IsScheduleText}
-use Rattle.world.specs.World.{World}
+use Rattle.source.specs.Schedule.{Schedule}
+use Rattle.world.specs.ScheduleText.{IsScheduleText}
+use Rattle.source.specs.World.{World}
 use Rattle.world.specs.WorldRules.{IsWorldText}
 
 -- a turn, and no collection

@@ -1,9 +1,9 @@
 -- How threads stand, as they are held in memory.
 use Rattle.std.specs.Prelude.{List, [], map}
-use Rattle.world.specs.declared.report.Printed.{Printed}
+use Rattle.source.specs.declared.printed.Printed.{Printed}
 use Rattle.world.specs.declared.report.ThreadStatus.{ThreadStatus}
 use Rattle.world.specs.declared.report.ThreadStatus.TheVariants.{Trapped, Ended, Blocked, Running}
-use Rattle.world.specs.Report.{ThreadStanding, HasTrapped, HasEnded, IsBlocked, IsRunning, Report}
+use Rattle.source.specs.Report.{ThreadStanding, HasTrapped, HasEnded, IsBlocked, IsRunning, Report}
 
 -- what a standing in memory says
 abbrev pub standing_view : ThreadStatus → ThreadStanding

@@ -1,23 +1,15 @@
 //! The entries of a run.
 
 ghost use Rattle.std.specs.Prelude.{◌≡◌, ℕ, List, Some, None, IfOk};
-ghost use Rattle.world.specs.Journal.{IsJournalText};
+ghost use Rattle.world.specs.JournalText.{IsJournalText};
 ghost use Rattle.world.specs.TextLaws.{JournalsAreRead};
 ghost use Rattle.world.specs.Reading.{Gives};
 ghost use Rattle.world.specs.ReadingJournals.{journal_of, EntriesAreReadAgain};
 
 use crate::fault::ReadError;
 use crate::words::{Word, read_words};
+use source::Entry;
 use std::alloc::Global;
-
-/// A step that a run took.
-#[derive(Clone, Copy, Debug, PartialEq, Eq)]
-pub struct Entry {
-    /// The thread's number, from 1.
-    pub thread: u8,
-    /// Whether the step's allocation was refused.
-    pub refused: bool,
-}
 
 impl Word for Entry {
     ghost use Rattle.std.specs.Prelude.{nat_le};

@@ -3,20 +3,13 @@
 ghost use Rattle.std.specs.Prelude.{◌≡◌, ℕ, List, [], ◌∷◌, ◌++◌, codes, map};
 ghost use Rattle.std.specs.List.{flat_map, enumerate_from};
 ghost use Rattle.world.specs.Sink.{CanFail, Writes};
-ghost use Rattle.world.specs.Report.{thread_line};
+ghost use Rattle.world.specs.ReportText.{thread_line};
 ghost use Rattle.world.specs.ThreadStatus.{standing_view};
 
 use crate::sink::{Sink, SinkFailed, put_pieces};
 use crate::text::Text;
 use itoa::Buffer;
-
-/// A number that a thread printed.
-#[derive(Clone, Copy, Debug, PartialEq, Eq)]
-pub struct Printed {
-    /// The thread's number, from 1.
-    pub thread: u8,
-    pub number: i32,
-}
+use source::Printed;
 
 /// How a thread stands when the run is over.
 #[derive(Clone, Copy, Debug, PartialEq, Eq)]
@@ -38,7 +31,7 @@ impl Default for ThreadStatus {
 }
 
 impl Text for Printed {
-    ghost use Rattle.world.specs.Report.{printed_line};
+    ghost use Rattle.world.specs.ReportText.{printed_line};
 
     ghost text = { printed_line };
 

@@ -1,7 +1,8 @@
 //! The rows of a report: the objects that can still be reached.
 
 ghost use Rattle.std.specs.Prelude.{◌≡◌, List, ◌++◌, [], codes};
-ghost use Rattle.world.specs.Report.{ShownRow, shown_text, text_line};
+ghost use Rattle.source.specs.Report.{ShownRow};
+ghost use Rattle.world.specs.ReportText.{shown_text, text_line};
 ghost use Rattle.world.specs.Shown.{name_view, shown_view, row_head, row_lines};
 ghost use Rattle.world.specs.Sink.{CanFail, Writes};
 

@@ -1,7 +1,7 @@
 //! In which order the threads step.
 
 ghost use Rattle.std.specs.Prelude.{◌≡◌, ℕ, List, ◌≤◌, IfOk};
-ghost use Rattle.world.specs.Schedule.{IsScheduleText};
+ghost use Rattle.world.specs.ScheduleText.{IsScheduleText};
 ghost use Rattle.world.specs.TextLaws.{SchedulesAreRead};
 ghost use Rattle.world.specs.Reading.{Gives};
 ghost use Rattle.world.specs.ReadingSchedules.{named_turn, schedule_of};
@@ -9,17 +9,9 @@ ghost use Rattle.world.specs.ReadingSchedules.{named_turn, schedule_of};
 use crate::fault::ReadError;
 use crate::natural::natural;
 use crate::words::{Word, read_words};
+use source::ScheduleWord;
 use std::alloc::Global;
 use std::marker::Model;
-
-/// A word of a schedule.
-#[derive(Clone, Copy, Debug, PartialEq, Eq)]
-pub enum ScheduleWord {
-    /// A turn of the thread of this number, from 1.
-    Turn(u8),
-    /// A collection of the heap.
-    Collect,
-}
 
 /// A word, so many times in a row.
 #[derive(Clone, Copy, Debug, PartialEq, Eq)]
@@ -37,7 +29,7 @@ pub struct Schedule {
 impl Model for Schedule {
     ghost use Rattle.std.specs.Prelude.{List};
     ghost use Rattle.std.specs.List.{flat_map};
-    ghost use Rattle.world.specs.declared.schedule.ScheduleWord.{ScheduleWord};
+    ghost use Rattle.source.specs.declared.schedule.ScheduleWord.{ScheduleWord};
     ghost use Rattle.world.specs.ReadingSchedules.{repeated_words};
 
     ghost Value = { List ScheduleWord };

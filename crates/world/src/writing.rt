@@ -3,18 +3,18 @@
 ghost use Rattle.std.specs.Prelude.{◌≡◌, ◌+◌, ◌≤◌, ◌++◌, OnOk, codes, decimal};
 ghost use Rattle.arrayvec.specs.ArrayVec.{array_vec_len};
 ghost use Rattle.world.specs.Sink.{CanFail, Writes};
-ghost use Rattle.world.specs.Report.{report_text};
+ghost use Rattle.world.specs.ReportText.{report_text};
 ghost use Rattle.world.specs.Shown.{report_with};
-ghost use Rattle.world.specs.Journal.{entry_text, journal_line};
+ghost use Rattle.world.specs.JournalText.{entry_text, journal_line};
 ghost use Rattle.world.specs.ReadingJournals.{spelled_entries};
 
-use crate::journal::Entry;
-use crate::report::{Printed, ThreadStatus, put_standings};
+use crate::report::{ThreadStatus, put_standings};
 use crate::rows::Rows;
 use crate::sink::{Sink, SinkFailed, put_all};
 use crate::text::put_each;
 use arrayvec::ArrayVec;
 use itoa::Buffer;
+use source::{Entry, Printed};
 
 /// Appends a number in decimal.
 #[tactic(auto, using(std::proofs::lemmas::Fmt::decimal_digit))]

@@ -4,7 +4,8 @@ use Rattle.std.specs.Int.{w32, cast_signed, cast_unsigned}
 use Rattle.std.proofs.Math.Facts.{to_z-of_z}
 use Rattle.std.proofs.lemmas.Result.{err_from_is_err_and}
 use Rattle.heap.specs.Heap.{values_at}
-use Rattle.world.specs.Report.{ShownNumber, shown_text}
+use Rattle.source.specs.Report.{ShownNumber}
+use Rattle.world.specs.ReportText.{shown_text}
 use Rattle.world.specs.Sink.{AppendsText, StopsWithin}
 use Rattle.world.proofs.Puts.{goes_on, stops}
 use Rattle.machine.proofs.RowTexts.{value_at}

@@ -1,7 +1,8 @@
 use Rattle.std.proofs.Common.{drop, ◌++◌}
 use Rattle.std.specs.Prelude.{codes, flat_map}
 use Rattle.heap.specs.Heap.{values_at}
-use Rattle.world.specs.Report.{ShownValue, shown_text}
+use Rattle.source.specs.Report.{ShownValue}
+use Rattle.world.specs.ReportText.{shown_text}
 use Rattle.world.proofs.Puts.{PutSoFar}
 use Rattle.machine.specs.Rows.{shown_numbers}
 use Rattle.machine.proofs.rows.put_numbers.Given as goal

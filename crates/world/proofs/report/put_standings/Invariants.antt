@@ -1,6 +1,6 @@
 use Rattle.std.proofs.Common.{◌≡◌, drop, map}
 use Rattle.std.specs.List.{flat_map, enumerate_from}
-use Rattle.world.specs.Report.{thread_line}
+use Rattle.world.specs.ReportText.{thread_line}
 use Rattle.world.specs.ThreadStatus.{standing_view}
 use Rattle.world.proofs.Puts.{PutSoFar}
 use Rattle.world.proofs.report.put_standings.Given as goal

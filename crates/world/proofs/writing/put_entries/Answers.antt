@@ -1,8 +1,8 @@
 use Rattle.std.proofs.Common.{◌≡◌, ℕ, ◌+◌, ◌<◌, ◌≤◌, List, [], ◌++◌, length, get_or, drop, Result, Ok, Err, refl, sym, ap, subst, ◌∙◌, append_assoc}
 use Rattle.std.specs.Prelude.{codes}
 use Rattle.std.proofs.lemmas.Result.{err_from_is_err_and}
-use Rattle.world.specs.declared.journal.Entry.{Entry}
-use Rattle.world.specs.Journal.{entry_text}
+use Rattle.source.specs.declared.journal.Entry.{Entry}
+use Rattle.world.specs.JournalText.{entry_text}
 use Rattle.world.specs.ReadingJournals.{spelled_entries}
 use Rattle.world.specs.Sink.{Written, AppendsText, Writes}
 use Rattle.world.proofs.Puts.{PutSoFar, goes_on, is_all, stops, flat_map-at, flat_map-past}

@@ -2,8 +2,8 @@ use Rattle.std.proofs.Common.{◌++◌, List, ℕ}
 use Rattle.std.specs.Prelude.{codes}
 use Rattle.std.specs.List.{flat_map}
 use Rattle.std.proofs.lemmas.Result.{err_from_is_err_and}
-use Rattle.world.specs.declared.journal.Entry.{Entry}
-use Rattle.world.specs.Journal.{entry_text, journal_line}
+use Rattle.source.specs.declared.journal.Entry.{Entry}
+use Rattle.world.specs.JournalText.{entry_text, journal_line}
 use Rattle.world.proofs.Puts.{Writes-then, StopsWithin-more, StopsWithin-then}
 use Rattle.world.proofs.writing.write_journal.Goals as goal
 

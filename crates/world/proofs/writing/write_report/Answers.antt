@@ -1,7 +1,7 @@
 use Rattle.std.proofs.Common.{◌++◌}
 use Rattle.std.specs.List.{flat_map}
 use Rattle.std.proofs.lemmas.Result.{err_from_is_err_and}
-use Rattle.world.specs.Report.{printed_line, thread_line}
+use Rattle.world.specs.ReportText.{printed_line, thread_line}
 use Rattle.world.specs.Shown.{row_lines}
 use Rattle.world.proofs.Puts.{AppendsText-then, Writes-then, StopsWithin-more, StopsWithin-then}
 use Rattle.world.proofs.ReportLemmas.{numbered, report_text-with}

@@ -1,7 +1,7 @@
 use Rattle.std.proofs.lemmas.Result.{err_from_is_err_and}
-use Rattle.world.specs.Report.{report_text}
+use Rattle.world.specs.ReportText.{report_text}
 use Rattle.world.specs.Shown.{report_with}
-use Rattle.world.specs.Journal.{journal_line}
+use Rattle.world.specs.JournalText.{journal_line}
 use Rattle.world.proofs.Puts.{AppendsText-then, StopsWithin-then, StopsWithin-more}
 use Rattle.world.proofs.ReportLemmas.{Writes-flushed}
 use Rattle.world.proofs.writing.write_run.Goals as goal

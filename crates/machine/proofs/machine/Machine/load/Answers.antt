@@ -1,7 +1,7 @@
 use Rattle.std.proofs.Common.{◌≡◌, ℕ, subst, length, refl, sym, ap, ◌∙◌, arith}
 use Rattle.syntax.specs.Views.{unit_tree}
 use Rattle.world.specs.SceneWorld.{world_of_scene}
-use Rattle.regions.specs.Start.{start}
+use Rattle.source.specs.Start.{start}
 use Rattle.machine.specs.Agrees.{ThreadsAgree}
 use Rattle.machine.proofs.ThreadLoads.{agree_length, waiting_length, items_length}
 use Rattle.machine.proofs.machine.Machine.load.Goals as goal
