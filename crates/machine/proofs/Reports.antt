@@ -19,7 +19,7 @@ use Rattle.world.specs.SceneWorld.{world_of_scene}
 use Rattle.world.specs.Shown.{report_with}
 use Rattle.world.specs.ThreadStatus.{standing_view}
 use Rattle.source.specs.ReportOf.{standing_by_ending, standing_of, shown, shown_row, report}
-use Rattle.source.specs.Run as source_run
+use Rattle.world.specs.RunText as run_text
 use Rattle.source.specs.State as state
 use Rattle.source.specs.State.{State}
 use Rattle.source.specs.Value.{trap_number}
@@ -140,10 +140,10 @@ writes_run p scene space addresses ts printed stop journal c now view old new re
     ∙ ap (λ (l : List ShownRow). report_text (report_with printed threads l) ++ journal_line entries) o
     ∙ ap (λ (l : List Entry). report_text (report_with printed threads (loaded_rows (world_of_scene scene))) ++ journal_line l) e
     ∙ ap (λ (r : Report). report_text r ++ journal_line journal) (sym (report_is p scene space addresses ts printed stop journal c)) in
-    let written : source_run.Writes (unit_tree p.unit) (world_of_scene scene) journal (report_text (report_with numbers shown rows) ++ journal_line entries) = record { end = c.state; replays = c.replays; same = same } in
+    let written : run_text.Writes (unit_tree p.unit) (world_of_scene scene) journal (report_text (report_with numbers shown rows) ++ journal_line entries) = record { end = c.state; replays = c.replays; same = same } in
     record {
       text = report_text (report_with numbers shown rows) ++ journal_line entries;
-      is = subst (λ (r : Run). source_run.Writes (unit_tree r.unit) (world_of_scene r.world) r.journal (report_text (report_with numbers shown rows) ++ journal_line entries)) view written;
+      is = subst (λ (r : Run). run_text.Writes (unit_tree r.unit) (world_of_scene r.world) r.journal (report_text (report_with numbers shown rows) ++ journal_line entries)) view written;
       has_room = subst (λ (r : Run). JournalHasRoom (unit_tree r.unit) (world_of_scene r.world) r.journal) view c.has_room;
       written = h;
     }

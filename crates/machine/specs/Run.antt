@@ -15,7 +15,7 @@ use Rattle.source.specs.Schedule.{Schedule}
 use Rattle.world.specs.Sink as sink
 use Rattle.world.specs.Sink.{Written}
 use Rattle.source.specs.World.{loaded_objects}
-use Rattle.source.specs.Run as source
+use Rattle.world.specs.RunText as run_text
 use Rattle.source.specs.Run.{replay, Follows, JournalHasRoom}
 use Rattle.source.specs.State.{State, thread_at}
 use Rattle.source.specs.Step.{can_step, is_blocked, is_unfinished}
@@ -171,6 +171,6 @@ IsFinished r answer = InState r (λ s. answer ≡ is_finished (world_of_scene r.
 -- what a run writes in all was written, or a beginning of it
 pub record WritesRun {T E : Type 0} (r : Run) (old new : Written) (result : Result T E) : Type 0 where
   pub text : List ℕ
-  pub is : source.Writes (unit_tree r.unit) (world_of_scene r.world) r.journal text
+  pub is : run_text.Writes (unit_tree r.unit) (world_of_scene r.world) r.journal text
   pub has_room : JournalHasRoom (unit_tree r.unit) (world_of_scene r.world) r.journal
   pub written : sink.Writes old new result text
