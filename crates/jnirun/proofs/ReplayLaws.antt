@@ -3,14 +3,14 @@ use Rattle.std.proofs.Common.{◌≡◌, ℕ, List, ◌++◌, Ok, is_some, lengt
 use Rattle.syntax.specs.Tree.{SourceUnit}
 use Rattle.parse.specs.Spelling.{SpellsUnit}
 use Rattle.source.specs.Journal.{Journal}
-use Rattle.world.specs.JournalText.{journal_line}
-use Rattle.world.specs.ReadingJournals.{journal_of}
-use Rattle.world.specs.ReportText.{report_text}
+use Rattle.report.specs.JournalText.{journal_line}
+use Rattle.texts.specs.ReadingJournals.{journal_of}
+use Rattle.report.specs.ReportText.{report_text}
 use Rattle.world.specs.Scene.{Scene}
 use Rattle.world.specs.SceneWorld.{world_of_scene}
 use Rattle.source.specs.World.{World}
 use Rattle.source.specs.ReportOf.{report}
-use Rattle.world.specs.RunText.{Writes}
+use Rattle.report.specs.RunText.{Writes}
 use Rattle.source.specs.State.{State}
 use Rattle.jnirun.specs.Runs.{IsRun}
 use Rattle.jnirun.specs.Replays.{ReplayMeaning, IsReplay, IsPossible}

@@ -5,16 +5,16 @@ use Rattle.std.specs.Option.{option_map}
 use Rattle.syntax.specs.declared.unit.Item.{Item}
 use Rattle.syntax.specs.Tree.{SourceUnit}
 use Rattle.syntax.specs.Views.{unit_tree}
-use Rattle.world.specs.declared.fault.ReadError.{ReadError}
-use Rattle.world.specs.declared.fault.ReadError.TheVariants as reading
-use Rattle.world.specs.Reading.{Fails}
-use Rattle.world.specs.ReadingSchedules.{schedule_of}
+use Rattle.texts.specs.declared.fault.ReadError.{ReadError}
+use Rattle.texts.specs.declared.fault.ReadError.TheVariants as reading
+use Rattle.texts.specs.Reading.{Fails}
+use Rattle.texts.specs.ReadingSchedules.{schedule_of}
 use Rattle.world.specs.ReadingWorlds.{scene_of_text}
 use Rattle.world.specs.Scene.{Scene}
 use Rattle.source.specs.Schedule.{Schedule}
-use Rattle.world.specs.ScheduleText.{IsScheduleText}
+use Rattle.texts.specs.ScheduleText.{IsScheduleText}
 use Rattle.world.specs.SceneWorld.{world_of_scene}
-use Rattle.world.specs.Sink.{Written}
+use Rattle.report.specs.Sink.{Written}
 use Rattle.source.specs.Load.{first_load_fault}
 use Rattle.source.specs.declared.journal.Entry.{Entry}
 use Rattle.source.specs.Journal.{Journal}
@@ -22,7 +22,7 @@ use Rattle.source.specs.World.{World}
 use Rattle.world.specs.WorldRules.{IsWorldText}
 use Rattle.source.specs.State.{State}
 use Rattle.source.specs.Run.{Over, Collects, Waits, Steps, Follows, JournalFollows, JournalHasRoom, replay}
-use Rattle.world.specs.RunText.{Writes}
+use Rattle.report.specs.RunText.{Writes}
 use Rattle.source.specs.Start.{start}
 use Rattle.lower.specs.declared.fault.LowerFault.{LowerFault}
 use Rattle.lower.specs.declared.fault.LowerFault.TheVariants as lowering

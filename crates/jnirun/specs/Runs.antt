@@ -2,12 +2,12 @@
 use Rattle.std.specs.Prelude.{◌≡◌, ℕ, List, length, Option, Result, Ok, Err}
 use Rattle.std.specs.Option.{option_map}
 use Rattle.source.specs.Journal.{Journal}
-use Rattle.world.specs.ScheduleText.{IsScheduleText}
-use Rattle.world.specs.Sink.{Written, AppendsText, StopsWithin}
+use Rattle.texts.specs.ScheduleText.{IsScheduleText}
+use Rattle.report.specs.Sink.{Written, AppendsText, StopsWithin}
 use Rattle.world.specs.SceneWorld.{world_of_scene}
 use Rattle.world.specs.WorldRules.{IsWorldText}
 use Rattle.source.specs.Run.{JournalFollows, JournalHasRoom}
-use Rattle.world.specs.RunText.{Writes}
+use Rattle.report.specs.RunText.{Writes}
 use Rattle.replay.specs.declared.trap_at.TrapAt.{TrapAt}
 use Rattle.replay.specs.TrapAt.{trap_at}
 use Rattle.jnirun.specs.Texts.{Meaning}

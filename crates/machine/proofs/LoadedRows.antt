@@ -7,10 +7,10 @@ use Rattle.std.proofs.lemmas.List.{length-map}
 use Rattle.std.proofs.lemmas.Option.{slice_get-map}
 use Rattle.heap.specs.Heap.{Space}
 use Rattle.source.specs.Object.{Object, sizes}
-use Rattle.world.specs.ReportText.{object_line}
+use Rattle.report.specs.ReportText.{object_line}
 use Rattle.world.specs.Scene.{ArrayScene, Scene}
 use Rattle.world.specs.SceneWorld.{world_of_scene, array_object}
-use Rattle.world.specs.Shown.{row_lines}
+use Rattle.report.specs.Shown.{row_lines}
 use Rattle.source.specs.World.{World, loaded_objects, fits_cells}
 use Rattle.machine.specs.HeapAgrees.{AgreesAtLoad}
 use Rattle.machine.specs.Rows.{loaded_rows, object_row, block_row}

@@ -7,19 +7,19 @@ use Rattle.syntax.specs.Views.{unit_tree}
 use Rattle.classes.specs.Class.{Classes}
 use Rattle.source.specs.declared.journal.Entry.{Entry}
 use Rattle.source.specs.declared.printed.Printed.{Printed}
-use Rattle.world.specs.declared.report.ThreadStatus.{ThreadStatus}
-use Rattle.world.specs.declared.report.ThreadStatus.TheVariants as held
-use Rattle.world.specs.JournalText.{journal_line}
+use Rattle.report.specs.declared.thread_status.ThreadStatus.{ThreadStatus}
+use Rattle.report.specs.declared.thread_status.ThreadStatus.TheVariants as held
+use Rattle.report.specs.JournalText.{journal_line}
 use Rattle.source.specs.Report.{ThreadStanding, HasTrapped, ShownRow, Report}
-use Rattle.world.specs.ReportText.{report_text}
-use Rattle.world.specs.Sink as sink
-use Rattle.world.specs.Sink.{Written}
+use Rattle.report.specs.ReportText.{report_text}
+use Rattle.report.specs.Sink as sink
+use Rattle.report.specs.Sink.{Written}
 use Rattle.world.specs.Scene.{Scene}
 use Rattle.world.specs.SceneWorld.{world_of_scene}
-use Rattle.world.specs.Shown.{report_with}
-use Rattle.world.specs.ThreadStatus.{standing_view}
+use Rattle.report.specs.Shown.{report_with}
+use Rattle.report.specs.ThreadStatus.{standing_view}
 use Rattle.source.specs.ReportOf.{standing_by_ending, standing_of, shown, shown_row, report}
-use Rattle.world.specs.RunText as run_text
+use Rattle.report.specs.RunText as run_text
 use Rattle.source.specs.State as state
 use Rattle.source.specs.State.{State}
 use Rattle.source.specs.Value.{trap_number}

@@ -7,10 +7,10 @@ use Rattle.std.proofs.lemmas.List.Concat.{flat_map-cons}
 use Rattle.classes.specs.Class.{Classes}
 use Rattle.source.specs.Object.{Object}
 use Rattle.source.specs.Report.{ShownValue, ShownNumber, ShownRow}
-use Rattle.world.specs.ReportText.{shown_text, text_line, object_line}
-use Rattle.world.specs.Shown.{row_head, row_lines}
-use Rattle.world.specs.Sink.{Written, AppendsText, StopsWithin, Writes}
-use Rattle.world.proofs.Puts.{AppendsText-then, StopsWithin-more, Writes-then, stops}
+use Rattle.report.specs.ReportText.{shown_text, text_line, object_line}
+use Rattle.report.specs.Shown.{row_head, row_lines}
+use Rattle.report.specs.Sink.{Written, AppendsText, StopsWithin, Writes}
+use Rattle.report.proofs.Puts.{AppendsText-then, StopsWithin-more, Writes-then, stops}
 use Rattle.machine.specs.Rows.{object_row, shown_numbers}
 
 -- ---- values

@@ -7,8 +7,8 @@ use Rattle.std.proofs.lemmas.List.{replicate-append-replicate, take-append-drop,
 use Rattle.std.proofs.lemmas.Option.{slice_get_past, slice_get-get_or}
 use Rattle.std.proofs.lemmas.List.Concat.{flat_map-cons}
 use Rattle.std.proofs.lemmas.Grind.{flat_map-append}
-use Rattle.world.specs.declared.schedule.Repetition.{Repetition}
-use Rattle.world.specs.ReadingSchedules.{repeated_words}
+use Rattle.texts.specs.declared.schedule.Repetition.{Repetition}
+use Rattle.texts.specs.ReadingSchedules.{repeated_words}
 use Rattle.syntax.specs.Views.{unit_tree}
 use Rattle.syntax.specs.declared.unit.Item.{Item}
 use Rattle.classes.specs.Class.{Classes}

@@ -12,10 +12,10 @@ use Rattle.source.specs.declared.schedule.ScheduleWord.TheVariants.{Turn, Collec
 use Rattle.world.specs.Scene.{Scene}
 use Rattle.world.specs.SceneWorld.{world_of_scene}
 use Rattle.source.specs.Schedule.{Schedule}
-use Rattle.world.specs.Sink as sink
-use Rattle.world.specs.Sink.{Written}
+use Rattle.report.specs.Sink as sink
+use Rattle.report.specs.Sink.{Written}
 use Rattle.source.specs.World.{loaded_objects}
-use Rattle.world.specs.RunText as run_text
+use Rattle.report.specs.RunText as run_text
 use Rattle.source.specs.Run.{replay, Follows, JournalHasRoom}
 use Rattle.source.specs.State.{State, thread_at}
 use Rattle.source.specs.Step.{can_step, is_blocked, is_unfinished}

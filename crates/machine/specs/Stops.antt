@@ -1,7 +1,7 @@
 -- Why and where the machine has stopped, as it is held in memory.
 use Rattle.std.specs.Prelude.{ℕ, ◌==◌, if◌then◌else◌, Option, Some, None}
-use Rattle.world.specs.declared.report.ThreadStatus.{ThreadStatus}
-use Rattle.world.specs.declared.report.ThreadStatus.TheVariants as standing
+use Rattle.report.specs.declared.thread_status.ThreadStatus.{ThreadStatus}
+use Rattle.report.specs.declared.thread_status.ThreadStatus.TheVariants as standing
 use Rattle.source.specs.State as state
 use Rattle.source.specs.Value as source
 use Rattle.machine.specs.declared.stop.Trap.{Trap}

@@ -3,9 +3,9 @@
 ghost use Rattle.std.specs.Prelude.{◌≡◌, ℕ, codes, ◌++◌, flat_map};
 ghost use Rattle.classes.specs.Class.{Classes};
 ghost use Rattle.heap.specs.Heap.{IsAddress, values_at};
-ghost use Rattle.world.specs.ReportText.{object_line, shown_text};
+ghost use Rattle.report.specs.ReportText.{object_line, shown_text};
 ghost use Rattle.world.specs.SceneWorld.{world_of_scene};
-ghost use Rattle.world.specs.Sink.{CanFail, Writes};
+ghost use Rattle.report.specs.Sink.{CanFail, Writes};
 ghost use Rattle.source.specs.World.{loaded_objects};
 ghost use Rattle.machine.specs.Rows.{block_row, shown_numbers};
 

@@ -6,15 +6,15 @@ use Rattle.std.proofs.lemmas.List.{take-append-drop, length-take-le, take_all}
 use Rattle.syntax.specs.Tree.{SourceUnit}
 use Rattle.source.specs.declared.journal.Entry.{Entry}
 use Rattle.source.specs.Journal.{Journal}
-use Rattle.world.specs.JournalText.{journal_line}
+use Rattle.report.specs.JournalText.{journal_line}
 use Rattle.source.specs.Report.{Report}
-use Rattle.world.specs.ReportText.{report_text}
-use Rattle.world.specs.Sink.{Written}
-use Rattle.world.specs.Shown.{report_with}
+use Rattle.report.specs.ReportText.{report_text}
+use Rattle.report.specs.Sink.{Written}
+use Rattle.report.specs.Shown.{report_with}
 use Rattle.source.specs.World.{World}
 use Rattle.source.specs.Load.{first_load_fault}
 use Rattle.source.specs.Run.{replay, replay_from}
-use Rattle.world.specs.RunText.{Writes}
+use Rattle.report.specs.RunText.{Writes}
 use Rattle.source.specs.Start.{start}
 use Rattle.source.specs.State.{State}
 use Rattle.source.proofs.RunLaws.{replay_from-append, replay_more}

@@ -9,13 +9,13 @@ use Rattle.classes.specs.Class.{Classes}
 use Rattle.source.specs.declared.journal.Entry.{Entry}
 use Rattle.source.specs.declared.printed.Printed.{Printed}
 use Rattle.source.specs.Report.{ThreadStanding, HasTrapped}
-use Rattle.world.specs.Shown.{report_with}
-use Rattle.world.specs.ThreadStatus.{standing_view}
+use Rattle.report.specs.Shown.{report_with}
+use Rattle.report.specs.ThreadStatus.{standing_view}
 use Rattle.world.specs.Scene.{Scene}
 use Rattle.world.specs.SceneWorld.{world_of_scene}
 use Rattle.source.specs.World.{World, loaded_objects}
 use Rattle.source.specs.Value.{trap_number}
-use Rattle.world.specs.declared.report.ThreadStatus.TheVariants as standing
+use Rattle.report.specs.declared.thread_status.ThreadStatus.TheVariants as standing
 use Rattle.source.specs.ReportOf.{report, shown, shown_row}
 use Rattle.source.specs.ReportOf as language
 use Rattle.source.specs.State.{State, thread_at, set_thread, lent, with_event, advanced}

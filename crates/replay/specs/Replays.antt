@@ -4,11 +4,11 @@ use Rattle.std.specs.Option.{option_map}
 use Rattle.syntax.specs.Tree.{SourceUnit}
 use Rattle.source.specs.declared.journal.Entry.{Entry}
 use Rattle.source.specs.Journal.{Journal}
-use Rattle.world.specs.Sink.{Written, AppendsText, StopsWithin}
+use Rattle.report.specs.Sink.{Written, AppendsText, StopsWithin}
 use Rattle.source.specs.World.{World}
 use Rattle.source.specs.Load.{first_load_fault}
 use Rattle.source.specs.Run.{replay}
-use Rattle.world.specs.RunText.{Writes}
+use Rattle.report.specs.RunText.{Writes}
 use Rattle.source.specs.State.{State}
 use Rattle.source.specs.Step.{world_step}
 use Rattle.replay.specs.declared.fault.ReplayFault.{ReplayFault}

@@ -6,8 +6,8 @@ use Rattle.syntax.specs.Tree.{SourceUnit}
 use Rattle.classes.specs.Class.{Classes}
 use Rattle.source.specs.declared.journal.Entry.{Entry}
 use Rattle.source.specs.declared.printed.Printed.{Printed}
-use Rattle.world.specs.declared.report.ThreadStatus.{ThreadStatus}
-use Rattle.world.specs.declared.report.ThreadStatus.TheVariants as standing
+use Rattle.report.specs.declared.thread_status.ThreadStatus.{ThreadStatus}
+use Rattle.report.specs.declared.thread_status.ThreadStatus.TheVariants as standing
 use Rattle.world.specs.SceneWorld.{world_of_scene}
 use Rattle.source.specs.World.{World}
 use Rattle.source.specs.Thread.{Thread}

@@ -17,15 +17,16 @@ use Rattle.source.specs.declared.journal.Entry.{Entry}
 use Rattle.source.specs.declared.schedule.ScheduleWord.{ScheduleWord}
 use Rattle.source.specs.declared.schedule.ScheduleWord.TheVariants.{Turn, Collect}
 use Rattle.source.specs.Journal.{Journal}
-use Rattle.world.specs.JournalText.{IsJournalText, entry_text, journal_line}
+use Rattle.texts.specs.JournalMeaning.{IsJournalText}
+use Rattle.report.specs.JournalText.{entry_text, journal_line}
 use Rattle.source.specs.Object.{Object, sizes}
 use Rattle.world.specs.ReadingValues.{value_named}
-use Rattle.world.specs.ReadingWords.{lines_words, allowed_words}
+use Rattle.texts.specs.ReadingWords.{lines_words, allowed_words}
 use Rattle.world.specs.ReadingWorlds.{lines_scene, line_scene, heap_scene, class_scene, array_scene, thread_scene, finished_scene}
-use Rattle.world.specs.ReportText.{report_text}
+use Rattle.report.specs.ReportText.{report_text}
 use Rattle.source.specs.Schedule.{Schedule}
-use Rattle.world.specs.ScheduleText.{IsScheduleText, schedule_word, words_meant, is_turn, is_count}
-use Rattle.world.specs.Words.{words_of, is_thread}
+use Rattle.texts.specs.ScheduleText.{IsScheduleText, schedule_word, words_meant, is_turn, is_count}
+use Rattle.texts.specs.Words.{words_of, is_thread}
 use Rattle.source.specs.World.{World}
 use Rattle.world.specs.WorldLines.{WorldLine, Lines, line_text, spaced, text_lines}
 use Rattle.world.specs.WorldMeaning.{world_of}
@@ -39,7 +40,7 @@ use Rattle.source.specs.Reachable.{live_size}
 use Rattle.regions.specs.RegionRules.{RegionRule, region_rule_number}
 use Rattle.source.specs.ReportOf.{report}
 use Rattle.source.specs.Run.{Follows, Over, Collects, Waits, Steps, HasRoom, HasRoomFrom, made_between, made, wanted, replay}
-use Rattle.world.specs.RunText.{Writes}
+use Rattle.report.specs.RunText.{Writes}
 use Rattle.source.specs.Start.{start}
 use Rattle.source.specs.State.{State, thread_at, views}
 use Rattle.source.specs.Step.{world_step, can_step, step_of}

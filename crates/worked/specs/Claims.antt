@@ -5,9 +5,9 @@ use Rattle.syntax.specs.Tree.{SourceUnit}
 use Rattle.types.specs.SortRules.{SortRule, sort_rule_number, IsSorted, broken}
 use Rattle.source.specs.declared.journal.Entry.{Entry}
 use Rattle.source.specs.Journal.{Journal}
-use Rattle.world.specs.JournalText.{IsJournalText}
+use Rattle.texts.specs.JournalMeaning.{IsJournalText}
 use Rattle.source.specs.Schedule.{Schedule}
-use Rattle.world.specs.ScheduleText.{IsScheduleText}
+use Rattle.texts.specs.ScheduleText.{IsScheduleText}
 use Rattle.source.specs.World.{World}
 use Rattle.world.specs.WorldRules.{IsWorldText}
 use Rattle.regions.specs.FirstFaults.{IsFirstRegionFault}
@@ -15,7 +15,7 @@ use Rattle.source.specs.Load.{first_load_fault}
 use Rattle.regions.specs.RegionRules.{RegionRule, region_rule_number}
 use Rattle.regions.specs.Regions.{HasRegions}
 use Rattle.source.specs.Run.{JournalFollows, JournalHasRoom, replay}
-use Rattle.world.specs.RunText.{Writes}
+use Rattle.report.specs.RunText.{Writes}
 use Rattle.source.specs.State.{State}
 use Rattle.source.specs.Step.{world_step}
 

@@ -11,7 +11,7 @@ use Rattle.world.specs.WorldLines.{WorldValue, WorldLine, ClassLine, FieldLine, 
 use Rattle.world.specs.WorldMeaning.{threads_with, invocation_of_line}
 use Rattle.world.specs.WorldRules.{part_of, broken_after}
 use Rattle.world.proofs.MeantRules.{kept_line, behind_one, each_keeps}
-use Rattle.world.proofs.WordLaws.{both_true}
+use Rattle.texts.proofs.WordLaws.{both_true}
 
 -- a form that is read
 pub data Built (line : WorldLine) : Type 0 where

@@ -16,7 +16,7 @@ use Rattle.classes.specs.Fields.{FieldId}
 use Rattle.source.specs.Object.{size, sizes}
 use Rattle.world.specs.SceneWorld.{with_named_class, classes_named}
 use Rattle.source.specs.World.{World, initial, class_object, fresh_object, class_objects, loaded_objects}
-use Rattle.world.proofs.WordLaws.{both_true}
+use Rattle.texts.proofs.WordLaws.{both_true}
 
 -- ---- how the table grows
 

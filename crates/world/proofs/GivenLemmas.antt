@@ -15,7 +15,7 @@ use Rattle.classes.specs.Class.{Class, Classes, class_named}
 use Rattle.world.specs.CallArguments.{objects_made, is_argument, are_arguments}
 use Rattle.source.specs.Object.{ObjectValue, Refers}
 use Rattle.world.specs.declared.builder.WorldBuilder.{WorldBuilder}
-use Rattle.world.specs.declared.fault.Rule.{Rule}
+use Rattle.texts.specs.declared.fault.Rule.{Rule}
 use Rattle.world.specs.ReadingWorlds.{scene_of, place_of, object_at, is_there, argument_of, thread_rule}
 use Rattle.world.specs.Scene.{ArrayScene, CallScene, Scene}
 use Rattle.classes.specs.BuiltIns.{out_of_memory_error}
@@ -27,7 +27,7 @@ use Rattle.world.proofs.ClassTables.{classes_length}
 use Rattle.world.proofs.FitLemmas.{scene_in}
 use Rattle.world.proofs.KeptArrays.{least_kept}
 use Rattle.world.proofs.NameLemmas.{place_below}
-use Rattle.world.proofs.WordLaws.{both_true}
+use Rattle.texts.proofs.WordLaws.{both_true}
 
 -- a number from 1 on
 is_one : (n made : ℕ) → 0 < n → n ≤ made → is_argument made (Refers (Some n)) ≡ true

@@ -5,9 +5,9 @@ use Rattle.std.proofs.Math.Facts.{to_z-of_z}
 use Rattle.std.proofs.lemmas.Result.{err_from_is_err_and}
 use Rattle.heap.specs.Heap.{values_at}
 use Rattle.source.specs.Report.{ShownNumber}
-use Rattle.world.specs.ReportText.{shown_text}
-use Rattle.world.specs.Sink.{AppendsText, StopsWithin}
-use Rattle.world.proofs.Puts.{goes_on, stops}
+use Rattle.report.specs.ReportText.{shown_text}
+use Rattle.report.specs.Sink.{AppendsText, StopsWithin}
+use Rattle.report.proofs.Puts.{goes_on, stops}
 use Rattle.machine.proofs.RowTexts.{value_at}
 use Rattle.machine.proofs.rows.put_numbers.Goals as goal
 

@@ -2,8 +2,8 @@ use Rattle.std.proofs.Common.{drop, ◌++◌}
 use Rattle.std.specs.Prelude.{codes, flat_map}
 use Rattle.heap.specs.Heap.{values_at}
 use Rattle.source.specs.Report.{ShownValue}
-use Rattle.world.specs.ReportText.{shown_text}
-use Rattle.world.proofs.Puts.{PutSoFar}
+use Rattle.report.specs.ReportText.{shown_text}
+use Rattle.report.proofs.Puts.{PutSoFar}
 use Rattle.machine.specs.Rows.{shown_numbers}
 use Rattle.machine.proofs.rows.put_numbers.Given as goal
 

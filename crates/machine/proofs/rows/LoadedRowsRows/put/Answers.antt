@@ -2,12 +2,12 @@ use Rattle.std.proofs.Common.{◌≡◌, ◌+◌, ◌-◌, [], ◌++◌, length,
 use Rattle.std.specs.Prelude.{slice_index_or}
 use Rattle.std.proofs.lemmas.Option.{slice_get-get_or}
 use Rattle.std.proofs.lemmas.Result.{err_from_is_err_and}
-use Rattle.world.specs.ReportText.{object_line}
+use Rattle.report.specs.ReportText.{object_line}
 use Rattle.world.specs.Scene.{Scene}
 use Rattle.world.specs.SceneWorld.{world_of_scene}
-use Rattle.world.specs.Shown.{row_lines}
+use Rattle.report.specs.Shown.{row_lines}
 use Rattle.source.specs.World.{loaded_objects}
-use Rattle.world.proofs.Puts.{PutSoFar, starts, goes_on, stops, is_all}
+use Rattle.report.proofs.Puts.{PutSoFar, starts, goes_on, stops, is_all}
 use Rattle.machine.specs.Rows.{loaded_rows, block_row}
 use Rattle.machine.proofs.BlockRows.{is_address}
 use Rattle.machine.proofs.LoadedRows.{few_loaded, table_length, row_here, rows_end}
