@@ -36,7 +36,7 @@ use Rattle.machine.specs.Agrees.{ThreadsAgree, ending_view}
 use Rattle.machine.specs.Stops as machine
 use Rattle.machine.specs.Stops.{stop_view, trap_view}
 use Rattle.machine.specs.Run as run
-use Rattle.source.specs.Run.{JournalHasRoom}
+use Rattle.source.specs.Run.{UnmarkedFit, MarkedAreFair}
 use Rattle.machine.specs.Run.{Run, Corresponds, WritesRun, IsFinished}
 use Rattle.machine.specs.Rows.{loaded_rows}
 use Rattle.machine.proofs.ShownRows.{shown_rows}
@@ -144,6 +144,7 @@ writes_run p scene space addresses ts printed stop journal c now view old new re
     record {
       text = report_text (report_with numbers shown rows) ++ journal_line entries;
       is = subst (λ (r : Run). run_text.Writes (unit_tree r.unit) (world_of_scene r.world) r.journal (report_text (report_with numbers shown rows) ++ journal_line entries)) view written;
-      has_room = subst (λ (r : Run). JournalHasRoom (unit_tree r.unit) (world_of_scene r.world) r.journal) view c.has_room;
+      fits = subst (λ (r : Run). UnmarkedFit (unit_tree r.unit) (world_of_scene r.world) r.journal) view c.fits;
+      fair = subst (λ (r : Run). MarkedAreFair (unit_tree r.unit) (world_of_scene r.world) r.journal) view c.fair;
       written = h;
     }

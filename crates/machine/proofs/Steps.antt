@@ -14,8 +14,8 @@ use Rattle.source.specs.State.{State, thread_at, set_thread, lent, with_event, a
 use Rattle.source.specs.Step.{can_step, is_unfinished, world_step}
 use Rattle.source.specs.Thread as source
 use Rattle.source.specs.Thread.{BuffersInUse, Shared}
-use Rattle.source.proofs.RunLaws.{replay_more, has_room-more}
-use Rattle.source.specs.Run.{HasRoom, made_between}
+use Rattle.source.proofs.RunLaws.{replay_more, each-more}
+use Rattle.source.specs.Run.{Fits, FitsUnmarked, IsFairMarked, made_between}
 use Rattle.source.specs.Start.{start}
 use Rattle.source.proofs.StepLaws.{Steps, steps, step-thread}
 use Rattle.heap.specs.Heap.{Space}
@@ -111,7 +111,7 @@ module _ (p : Lowered) (scene : Scene) (space : Space) (addresses : List ℕ) (t
   has_ended goes ended = record { running = running goes; thread = the_thread.source; is = there; ended = ap is_unfinished (the_thread.agrees.ending ∙ ap ending_view ended) }
 
   -- a step that leaves the heap as it was has room
-  makes_nothing : (s next : State) → world_step (unit_tree p.unit) classes s (entry_of k) ≡ Some next → next.shared.heap ≡ s.shared.heap → HasRoom (unit_tree p.unit) (world_of_scene scene) s k false
+  makes_nothing : (s next : State) → world_step (unit_tree p.unit) classes s (entry_of k) ≡ Some next → next.shared.heap ≡ s.shared.heap → Fits (unit_tree p.unit) (world_of_scene scene) s k
   makes_nothing s next step same = λ some. absurd (some (ap (made_between s) step ∙ ap (drop (length s.shared.heap)) same ∙ drop-length s.shared.heap))
 
   -- the machine after the step
@@ -136,8 +136,9 @@ module _ (p : Lowered) (scene : Scene) (space : Space) (addresses : List ℕ) (t
         heap = ap (λ (x : Shared). x.heap) (shared_next c.state k a.next e) ∙ c.heap;
         blocks = c.blocks;
         monitors = ap (λ (x : Shared). x.monitors) (shared_next c.state k a.next e) ∙ c.monitors;
-        has_room = has_room-more (unit_tree p.unit) (world_of_scene scene) (Some (start (unit_tree p.unit) (world_of_scene scene))) journal (entry_of k) c.has_room
-            (λ s there. let same : c.state ≡ s = cc (sym c.replays, there) in subst (λ (x : State). HasRoom (unit_tree p.unit) (world_of_scene scene) x k false) same (makes_nothing c.state next step (ap (λ (x : Shared). x.heap) (shared_next c.state k a.next e))));
+        fits = each-more (unit_tree p.unit) (world_of_scene scene) (λ s e. FitsUnmarked (unit_tree p.unit) (world_of_scene scene) s e.thread e.refused) (Some (start (unit_tree p.unit) (world_of_scene scene))) journal (entry_of k) c.fits
+            (λ s there. let same : c.state ≡ s = cc (sym c.replays, there) in subst (λ (x : State). Fits (unit_tree p.unit) (world_of_scene scene) x k) same (makes_nothing c.state next step (ap (λ (x : Shared). x.heap) (shared_next c.state k a.next e))));
+        fair = each-more (unit_tree p.unit) (world_of_scene scene) (λ s e. IsFairMarked (unit_tree p.unit) (world_of_scene scene) s e.thread e.refused) (Some (start (unit_tree p.unit) (world_of_scene scene))) journal (entry_of k) c.fair (λ s there. tt);
         count = length-set ts i after ∙ c.count;
         few = subst (λ n. n ≤ 8) (sym (length-set ts i after)) c.few;
       }

@@ -7,7 +7,7 @@ use Rattle.source.specs.declared.journal.Entry.{Entry}
 use Rattle.source.specs.Journal.{Journal}
 use Rattle.source.specs.Schedule.{Schedule}
 use Rattle.source.specs.World.{World}
-use Rattle.source.specs.Run.{HasRoom, HasRoomFrom, replay, replay_from, Follows, Over, Collects, Waits, Steps}
+use Rattle.source.specs.Run.{EachFrom, replay, replay_from, Follows, Over, Collects, Waits, Steps}
 use Rattle.source.specs.Start.{start}
 use Rattle.source.specs.State.{State}
 use Rattle.source.specs.Step.{world_step}
@@ -43,9 +43,9 @@ module _ (unit : SourceUnit) (w : World) where
   follows-append k more end (Waits s m n j words e h) g = Waits s end n (j ++ k) (words ++ more) e (follows-append k more end h g)
   follows-append k more end (Steps s next m n refused j words c e h) g = Steps s next end n refused (j ++ k) (words ++ more) c e (follows-append k more end h g)
 
-  -- one entry more that has room, where the others led
-  pub has_room-more : (o : Option State) (j : Journal) (e : Entry) → HasRoomFrom unit w o j → ((s : State) → option_and_then (λ s'. replay_from unit w s' j) o ≡ Some s → HasRoom unit w s e.thread e.refused) → HasRoomFrom unit w o (j ++ e ∷ [])
-  has_room-more None [] e h g = tt
-  has_room-more (Some s) [] e h g = (g s refl, tt)
-  has_room-more None (x ∷ j) e h g = tt
-  has_room-more (Some s) (x ∷ j) e h g = (h.0, has_room-more (world_step unit w.classes s x) j e h.1 g)
+  -- one entry more of which it holds, where the others led
+  pub each-more : (Holds : State → Entry → Type 0) (o : Option State) (j : Journal) (e : Entry) → EachFrom unit w Holds o j → ((s : State) → option_and_then (λ s'. replay_from unit w s' j) o ≡ Some s → Holds s e) → EachFrom unit w Holds o (j ++ e ∷ [])
+  each-more Holds None [] e h g = tt
+  each-more Holds (Some s) [] e h g = (g s refl, tt)
+  each-more Holds None (x ∷ j) e h g = tt
+  each-more Holds (Some s) (x ∷ j) e h g = (h.0, each-more Holds (world_step unit w.classes s x) j e h.1 g)

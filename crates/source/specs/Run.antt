@@ -63,20 +63,28 @@ IsFair unit w s k = (w.cells < wanted unit w s k) ⊎ (views s ≢ [])
 abbrev pub Fits : SourceUnit → World → State → ℕ → Type 0
 Fits unit w s k = (made unit w s k ≢ []) → wanted unit w s k ≤ w.cells
 
--- a step of thread k, refused or not
-abbrev pub HasRoom : SourceUnit → World → State → ℕ → Bool → Type 0
-HasRoom unit w s k true = IsFair unit w s k
-HasRoom unit w s k false = Fits unit w s k
+-- what is asked of an entry that isn't marked as refused, and of one that is
+abbrev pub FitsUnmarked : SourceUnit → World → State → ℕ → (refused : Bool) → Type 0
+FitsUnmarked unit w s k true = Unit {0}
+FitsUnmarked unit w s k false = Fits unit w s k
 
--- each entry of a journal, where the entries before it have led
-abbrev pub HasRoomFrom : SourceUnit → World → Option State → Journal → Type 0
-HasRoomFrom unit w s [] = Unit {0}
-HasRoomFrom unit w None (e ∷ rest) = Unit {0}
-HasRoomFrom unit w (Some s) (e ∷ rest) = HasRoom unit w s e.thread e.refused × HasRoomFrom unit w (world_step unit w.classes s e) rest
+abbrev pub IsFairMarked : SourceUnit → World → State → ℕ → (refused : Bool) → Type 0
+IsFairMarked unit w s k true = IsFair unit w s k
+IsFairMarked unit w s k false = Unit {0}
 
--- each entry of a run's journal
-abbrev pub JournalHasRoom : SourceUnit → World → Journal → Type 0
-JournalHasRoom unit w journal = HasRoomFrom unit w (Some (start unit w)) journal
+-- what holds of each entry of a journal and of the state to which the entries before it have led
+abbrev pub EachFrom : SourceUnit → World → (State → Entry → Type 0) → Option State → Journal → Type 0
+EachFrom unit w Holds s [] = Unit {0}
+EachFrom unit w Holds None (e ∷ rest) = Unit {0}
+EachFrom unit w Holds (Some s) (e ∷ rest) = Holds s e × EachFrom unit w Holds (world_step unit w.classes s e) rest
+
+-- each unmarked entry of a run's journal fits
+abbrev pub UnmarkedFit : SourceUnit → World → Journal → Type 0
+UnmarkedFit unit w journal = EachFrom unit w (λ s e. FitsUnmarked unit w s e.thread e.refused) (Some (start unit w)) journal
+
+-- each marked entry of a run's journal is fair
+abbrev pub MarkedAreFair : SourceUnit → World → Journal → Type 0
+MarkedAreFair unit w journal = EachFrom unit w (λ s e. IsFairMarked unit w s e.thread e.refused) (Some (start unit w)) journal
 
 -- ---- a thread's part in a journal
 

@@ -14,7 +14,7 @@ use Rattle.regions.specs.FirstFaults.{IsFirstRegionFault}
 use Rattle.source.specs.Load.{first_load_fault}
 use Rattle.regions.specs.RegionRules.{RegionRule, region_rule_number}
 use Rattle.regions.specs.Regions.{HasRegions}
-use Rattle.source.specs.Run.{JournalFollows, JournalHasRoom, replay}
+use Rattle.source.specs.Run.{JournalFollows, UnmarkedFit, MarkedAreFair, replay}
 use Rattle.report.specs.RunText.{Writes}
 use Rattle.source.specs.State.{State}
 use Rattle.source.specs.Step.{world_step}
@@ -52,7 +52,8 @@ pub record IsWorkedRun (unit : SourceUnit) (world schedule text : List ℕ) : Ty
   pub of_schedule : IsScheduleText (length beginning.w.threads) schedule words
   pub journal : Journal
   pub follows : JournalFollows unit beginning.w journal words
-  pub has_room : JournalHasRoom unit beginning.w journal
+  pub fits : UnmarkedFit unit beginning.w journal
+  pub fair : MarkedAreFair unit beginning.w journal
   pub writes : Writes unit beginning.w journal text
 
 -- the text is what a replay of the journal writes

@@ -24,7 +24,8 @@ invariant_of-result c =
       heap = refl;
       blocks = record { agree = c.in_ok-heap.ensures.made.agree; table = c.in_ok-heap.ensures.made.table };
       monitors = refl;
-      has_room = rw c.new-in-Ok.ensures.items tt;
+      fits = rw c.new-in-Ok.ensures.items tt;
+      fair = rw c.new-in-Ok.ensures.items tt;
       count = count;
       few = omega (arith, count, long, c.threads.ensures.few);
     }
