@@ -15,9 +15,9 @@ use Rattle.regions.specs.Findings as region_faults
 use Rattle.regions.specs.RegionRules.{region_rule_number}
 use Rattle.lower.specs.declared.fault.LowerFault.{LowerFault}
 use Rattle.lower.specs.declared.fault.LowerFault.TheVariants as lowering
-use Rattle.world.specs.declared.fault.ReadError.{ReadError}
-use Rattle.world.specs.declared.fault.ReadError.TheVariants as reading
-use Rattle.world.specs.Rule.{rule_number}
+use Rattle.texts.specs.declared.fault.ReadError.{ReadError}
+use Rattle.texts.specs.declared.fault.ReadError.TheVariants as reading
+use Rattle.texts.specs.Rule.{rule_number}
 use Rattle.machine.specs.declared.fault.LoadFault.{LoadFault}
 use Rattle.machine.specs.declared.fault.LoadFault.TheVariants as loading
 use Rattle.replay.specs.declared.fault.ReplayFault.{ReplayFault}

@@ -23,12 +23,12 @@ use Rattle.code.specs.declared.instr.Plain.TheVariants as plain
 use Rattle.code.specs.Depth.{Listing}
 use Rattle.code.specs.Effect.{plain_of, cleared}
 use Rattle.code.proofs.Effects.{KeepsSlots, plain_keeps}
-use Rattle.regions.specs.Effect.{Effect, goes_on, with_value, call_effect_of, effect_of}
-use Rattle.regions.specs.Arguments.{ReferenceActual}
-use Rattle.regions.specs.Sight.{Sight}
-use Rattle.regions.specs.Task.{Task, SetScalar, SetNull, MakeArray, Invoke, Print, Target, Declared, Assigned, Dropped, ScalarKind, ReferenceKind, FieldKind, BufferKind, Operand}
-use Rattle.regions.specs.Term.{Term, Done, reduce}
-use Rattle.regions.specs.Value.{Value, Word, Int, Flag, Truth, Gives}
+use Rattle.source.specs.Effect.{Effect, goes_on, with_value, call_effect_of, effect_of}
+use Rattle.source.specs.Arguments.{ReferenceActual}
+use Rattle.source.specs.Sight.{Sight}
+use Rattle.source.specs.Task.{Task, SetScalar, SetNull, MakeArray, Invoke, Print, Target, Declared, Assigned, Dropped, ScalarKind, ReferenceKind, FieldKind, BufferKind, Operand}
+use Rattle.source.specs.Term.{Term, Done, reduce}
+use Rattle.source.specs.Value.{Value, Word, Int, Flag, Truth, Gives}
 use Rattle.lower.specs.Layout.{Slot, Known}
 use Rattle.lower.specs.Coding.{nullable_of, term_code}
 use Rattle.lower.specs.Slots.{word_of, IsNumberSort, Visible, Slots, ShowsSlot, Shows}

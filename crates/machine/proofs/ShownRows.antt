@@ -9,14 +9,14 @@ use Rattle.std.proofs.lemmas.List.Elements.{filter-append, Contains-append_left}
 use Rattle.std.proofs.lemmas.List.FromFn.{length-enumerate_from}
 use Rattle.classes.specs.BuiltIns.{out_of_memory_error}
 use Rattle.classes.specs.Class.{Class, Classes, class_name}
-use Rattle.world.specs.Object.{Object}
-use Rattle.world.specs.Report.{ShownRow}
-use Rattle.world.specs.World.{World, class_object, class_objects, fresh_object, loaded_objects}
-use Rattle.regions.specs.Heap.{Heap, object_at}
-use Rattle.regions.specs.Reachable.{from_one, is_in, reachable, loaded_count, FromRoot}
-use Rattle.regions.specs.ReportOf.{shown, shown_value, shown_row}
-use Rattle.regions.specs.State.{State}
-use Rattle.regions.proofs.ReachableLemmas.{reachable_lists}
+use Rattle.source.specs.Object.{Object}
+use Rattle.source.specs.Report.{ShownRow}
+use Rattle.source.specs.World.{World, class_object, class_objects, fresh_object, loaded_objects}
+use Rattle.source.specs.Heap.{Heap, object_at}
+use Rattle.source.specs.Reachable.{from_one, is_in, reachable, loaded_count, FromRoot}
+use Rattle.source.specs.ReportOf.{shown, shown_value, shown_row}
+use Rattle.source.specs.State.{State}
+use Rattle.source.proofs.ReachableLemmas.{reachable_lists}
 use Rattle.machine.specs.HeapAgrees.{made_before}
 use Rattle.machine.specs.Rows.{object_row, loaded_rows}
 use Rattle.machine.proofs.HeapLaws.{from_one-contains}

@@ -10,17 +10,17 @@ use Rattle.std.proofs.lemmas.List.Elements.{filter-append, Contains-append_left,
 use Rattle.std.proofs.lemmas.List.FromFn.{length-enumerate_from}
 use Rattle.classes.specs.BuiltIns.{out_of_memory_error}
 use Rattle.classes.specs.Class.{Class, Classes, class_name}
-use Rattle.world.specs.Object.{Object}
-use Rattle.world.specs.Report.{ShownValue, ShownRow}
-use Rattle.world.specs.World.{World, class_object, class_objects, fresh_object, loaded_objects}
-use Rattle.regions.specs.Heap.{Heap, object_at}
-use Rattle.regions.specs.Reachable.{from_one, is_in, reachable, loaded_count, FromRoot}
-use Rattle.regions.specs.ReportOf.{shown, shown_value, shown_row}
-use Rattle.regions.specs.State.{State}
-use Rattle.regions.proofs.ReachableLemmas.{reachable_lists}
+use Rattle.source.specs.Object.{Object}
+use Rattle.source.specs.Report.{ShownValue, ShownRow}
+use Rattle.source.specs.World.{World, class_object, class_objects, fresh_object, loaded_objects}
+use Rattle.source.specs.Heap.{Heap, object_at}
+use Rattle.source.specs.Reachable.{from_one, is_in, reachable, loaded_count, FromRoot}
+use Rattle.source.specs.ReportOf.{shown, shown_value, shown_row}
+use Rattle.source.specs.State.{State}
+use Rattle.source.proofs.ReachableLemmas.{reachable_lists}
 use Rattle.classes.specs.BuiltIns.{number_array}
-use Rattle.world.specs.Object.{Number}
-use Rattle.world.specs.Report.{ShownNumber}
+use Rattle.source.specs.Object.{Number}
+use Rattle.source.specs.Report.{ShownNumber}
 use Rattle.world.specs.Scene.{ArrayScene, Scene}
 use Rattle.world.specs.SceneWorld.{array_object, world_of_scene}
 use Rattle.replay.specs.Rows.{array_row, rows_of}

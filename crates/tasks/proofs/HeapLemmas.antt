@@ -8,13 +8,13 @@ use Rattle.base.specs.Bytes.{Identifier}
 use Rattle.base.specs.Element.{ElementType, JInt, JShort, JByte, JChar}
 use Rattle.classes.specs.BuiltIns.{built_ins, number_array, class_class, out_of_memory_error}
 use Rattle.classes.specs.Class.{Classes, class_kind, is_plain}
-use Rattle.world.specs.Object.{Object, Number, sizes}
+use Rattle.source.specs.Object.{Object, Number, sizes}
 use Rattle.world.specs.Scene.{ArrayScene, Scene, array_size}
 use Rattle.world.specs.SceneWorld.{array_object, classes_named, world_of_scene}
-use Rattle.world.specs.World.{World, loaded_objects, fits_cells}
+use Rattle.source.specs.World.{World, loaded_objects, fits_cells}
 use Rattle.world.proofs.ArrayLines.{array_sizes}
 use Rattle.world.proofs.ClassTables.{loaded_size}
-use Rattle.regions.specs.Heap.{Heap, object_at}
+use Rattle.source.specs.Heap.{Heap, object_at}
 use Rattle.tasks.specs.Objects.{array_length}
 use Rattle.tasks.proofs.LoadedObjects.{classes_count, classes_grown, loaded_is, made_first, plain_class_object, error_object}
 

@@ -10,10 +10,10 @@ use Rattle.classes.specs.Class.{Field, Class, Classes, class_at}
 use Rattle.classes.specs.BuiltIns.{built_ins, object_array_class, class_class, out_of_memory_error}
 use Rattle.classes.specs.Additions.{new_class}
 use Rattle.classes.specs.Fields.{FieldId}
-use Rattle.world.specs.Object.{Object, Refers}
+use Rattle.source.specs.Object.{Object, Refers}
 use Rattle.world.specs.SceneWorld.{with_named_class, classes_named}
-use Rattle.world.specs.World.{World, initial, class_object, fresh_object, loaded_objects}
-use Rattle.regions.specs.Heap.{Heap}
+use Rattle.source.specs.World.{World, initial, class_object, fresh_object, loaded_objects}
+use Rattle.source.specs.Heap.{Heap}
 
 -- ---- how the table of classes grows
 

@@ -13,10 +13,10 @@ use Rattle.classes.specs.Class.{Field, Class, Classes, class_at, class_named}
 use Rattle.classes.specs.BuiltIns.{built_ins, object_array_class, out_of_memory_error, has_own_making}
 use Rattle.classes.specs.Additions.{BadSuperclass, class_breaks, new_class}
 use Rattle.classes.specs.Fields.{FieldId}
-use Rattle.world.specs.Object.{size, sizes}
+use Rattle.source.specs.Object.{size, sizes}
 use Rattle.world.specs.SceneWorld.{with_named_class, classes_named}
-use Rattle.world.specs.World.{World, initial, class_object, fresh_object, class_objects, loaded_objects}
-use Rattle.world.proofs.WordLaws.{both_true}
+use Rattle.source.specs.World.{World, initial, class_object, fresh_object, class_objects, loaded_objects}
+use Rattle.texts.proofs.WordLaws.{both_true}
 
 -- ---- how the table grows
 

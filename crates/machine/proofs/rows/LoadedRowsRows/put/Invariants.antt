@@ -1,7 +1,7 @@
 use Rattle.std.proofs.Common.{◌-◌, ◌+◌, length, drop}
 use Rattle.world.specs.SceneWorld.{world_of_scene}
-use Rattle.world.specs.Shown.{row_lines}
-use Rattle.world.proofs.Puts.{PutSoFar}
+use Rattle.report.specs.Shown.{row_lines}
+use Rattle.report.proofs.Puts.{PutSoFar}
 use Rattle.machine.specs.Rows.{loaded_rows}
 use Rattle.machine.proofs.rows.LoadedRowsRows.put.Given as goal
 
