@@ -10,10 +10,12 @@ use Rattle.base.specs.Options.{some_passes}
 use Rattle.syntax.specs.declared.call.Argument.{Argument as ArgumentInMemory}
 use Rattle.syntax.specs.Tree.{Commit, Named, Argument, Value, Call}
 use Rattle.syntax.specs.Views.{argument_tree}
-use Rattle.types.specs.JniFunction.{Access, ElementsCopy, ArrayView, CharsCopy, CharsView, JniFunction, GetBuffer, ReleaseBuffer, DeleteLocalRef, PopLocalFrame}
-use Rattle.types.specs.Prototype.{prototype, all_functions, function_named}
+use Rattle.jni.specs.JniFunction.{Access, ElementsCopy, ArrayView, CharsCopy, CharsView, JniFunction, GetBuffer, ReleaseBuffer, DeleteLocalRef, PopLocalFrame}
+use Rattle.jni.specs.Prototype.{prototype, all_functions, function_named}
 use Rattle.regions.specs.declared.calls.TheConstants.{EFFECTS}
-use Rattle.regions.specs.StateEffects.{StateEffect, Releases, Other, EffectCall, state_effect, effect_value, call_state_effect, named_effect, got, released, deleted, popped, is_forbidden}
+use Rattle.jni.specs.StateEffect.{StateEffect, Releases, Other, state_effect}
+use Rattle.jni.specs.Table.{effect_value}
+use Rattle.regions.specs.StateEffects.{EffectCall, call_state_effect, named_effect, got, released, deleted, popped, is_forbidden}
 use Rattle.regions.specs.RegionRules.{is_critical_call}
 use Rattle.regions.specs.RegionStates.{FunctionCall, call_of, get_of, release_of, deleted_name, pops, has_commit}
 use Rattle.regions.proofs.Ways.{find_some}

@@ -6,9 +6,10 @@ use Rattle.std.specs.Option.{option_or}
 use Rattle.base.specs.Options.{some_passes}
 use Rattle.syntax.specs.Parts.{functions_of, statements_of, own_call}
 use Rattle.syntax.specs.Tree.{Call, Block, End, Next, Function, Item, StaticItem, FunctionItem}
-use Rattle.types.specs.JniFunction.{JniFunction}
-use Rattle.types.specs.Prototype.{function_named}
-use Rattle.types.specs.BuiltCalls.{is_built_function, is_built_call, calls_unbuilt}
+use Rattle.jni.specs.JniFunction.{JniFunction}
+use Rattle.jni.specs.Prototype.{function_named}
+use Rattle.jni.specs.BuiltFunctions.{is_built_function}
+use Rattle.types.specs.BuiltCalls.{is_built_call, calls_unbuilt}
 use Rattle.regions.specs.declared.fault.CheckFault.{CheckFault}
 use Rattle.regions.specs.declared.fault.CheckFault.TheVariants.{Memory, Broken}
 use Rattle.regions.specs.StateEffects.{calls_known, items_known}

@@ -4,10 +4,12 @@ ghost use Rattle.std.specs.Prelude.{◌≡◌, ℕ, [], ◌∷◌, map, Some, Is
 ghost use Rattle.std.specs.Option.{option_map, is_some};
 ghost use Rattle.syntax.specs.Parts.{own_call};
 ghost use Rattle.syntax.specs.Views.{argument_tree, call_tree, form_tree};
-ghost use Rattle.types.specs.Prototype.{function_named};
+ghost use Rattle.jni.specs.Prototype.{function_named};
 ghost use Rattle.regions.specs.RegionStates.{argument_name, first_name, has_commit, function_called};
-ghost use Rattle.types.specs.Table.{access_value};
-ghost use Rattle.regions.specs.StateEffects.{Releases, state_effect, effect_value, call_state_effect, made_value, release_value, calls_known, got, released, deleted, popped, is_forbidden, named_effect, row_value};
+ghost use Rattle.jni.specs.Table.{access_value};
+ghost use Rattle.jni.specs.StateEffect.{Releases, state_effect};
+ghost use Rattle.jni.specs.Table.{effect_value};
+ghost use Rattle.regions.specs.StateEffects.{call_state_effect, made_value, release_value, calls_known, got, released, deleted, popped, is_forbidden, named_effect, row_value};
 
 use syntax::{Argument, Constant, ElementType, Expr, Form};
 use types::{Access, own_call};

@@ -15,7 +15,7 @@ use crate::calls::{MadeCall, Release, called, deleted, got, popped, released};
 use crate::states::{StaticState, Variable, VariableState, is_same};
 use std::alloc::AllocError;
 use syntax::{BinaryOp, Constant, Expr, Form, Test, VariableType};
-use types::Access;
+use jni::Access;
 
 /// A change of what is known.
 #[derive(Clone, Copy)]

@@ -1,7 +1,7 @@
 use Rattle.std.proofs.Common.{ap, map}
 use Rattle.syntax.specs.Parts.{own_call}
 use Rattle.syntax.specs.Views.{argument_tree, call_tree, form_tree}
-use Rattle.regions.specs.StateEffects.{effect_value}
+use Rattle.jni.specs.Table.{effect_value}
 use Rattle.regions.proofs.EffectLemmas.{is_known, called_is}
 use Rattle.regions.proofs.calls.called.Goals as goal
 
