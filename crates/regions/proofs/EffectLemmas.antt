@@ -1,11 +1,12 @@
 -- What the rules see of a call is what its effect says.
-use Rattle.std.proofs.Common.{◌≡◌, ◌<◌, not, ◌||◌, List, [], ◌∷◌, length, map, Option, Some, None, refl, ap, arith}
+use Rattle.std.proofs.Common.{◌≡◌, ◌<◌, not, ◌||◌, List, [], ◌∷◌, length, map, Option, Some, None, refl, ap, ap₂, ◌∙◌, arith}
 use Rattle.std.specs.Option.{option_map}
+use Rattle.base.specs.Bytes.{Identifier}
 use Rattle.base.specs.Options.{some_passes}
 use Rattle.syntax.specs.declared.call.Argument.{Argument as ArgumentInMemory}
 use Rattle.syntax.specs.Tree.{Commit, Named, Argument, Value, Call}
 use Rattle.syntax.specs.Views.{argument_tree}
-use Rattle.jni.specs.JniFunction.{Access, GetBuffer, ReleaseBuffer, DeleteLocalRef, PopLocalFrame}
+use Rattle.jni.specs.JniFunction.{Access, JniFunction, GetBuffer, ReleaseBuffer, DeleteLocalRef, PopLocalFrame}
 use Rattle.jni.specs.Prototype.{function_named}
 use Rattle.jni.specs.StateEffect.{Releases}
 use Rattle.regions.specs.StateEffects.{call_state_effect, got, released, deleted, popped, is_forbidden}
@@ -44,8 +45,12 @@ forbidden_is (Some (f, arguments)) = refl
 
 -- ---- a call in memory
 
-pub called_is : (o : Option Call) (k : Call) → Some k ≡ o → option_map call_state_effect (option_map (λ f. (f, k.arguments)) (function_named k.function)) ≡ option_map call_state_effect (call_of o)
-called_is o k e = ap (λ (x : Option Call). option_map call_state_effect (call_of x)) e
+pub called_is : (o : Option Call) (k : Call) (f : Option JniFunction) (name : Identifier) (arguments : List Argument) → Some k ≡ o → f ≡ function_named name → name ≡ k.function → arguments ≡ k.arguments
+    → option_map call_state_effect (option_map (λ g. (g, arguments)) f) ≡ option_map call_state_effect (call_of o)
+called_is o k f name arguments e h n a =
+    ap (λ (x : Option JniFunction). option_map call_state_effect (option_map (λ g. (g, arguments)) x)) h
+    ∙ ap₂ (λ (x : Identifier) (xs : List Argument). option_map call_state_effect (option_map (λ g. (g, xs)) (function_named x))) n a
+    ∙ ap (λ (x : Option Call). option_map call_state_effect (call_of x)) e
 
 -- a release wants two arguments
 pub few_released : (access : Access) (arguments : List ArgumentInMemory) → length arguments < 2 → released (Some (Releases access, map argument_tree arguments)) ≡ None

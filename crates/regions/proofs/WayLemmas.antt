@@ -1,13 +1,10 @@
 -- The walk over the ways in memory is that of the definitions.
-use Rattle.std.proofs.Common.{◌≡◌, ℕ, zero, suc, ◌+◌, ◌<◌, ◌≤◌, true, false, not, List, [], ◌∷◌, ◌++◌, length, get_or, drop, Some, None, Result, Ok, Err, refl, sym, ap, ap₂, ◌∙◌, subst, arith, add-one, drop-cons}
-use Rattle.std.specs.Prelude.{IsTrue}
-use Rattle.std.specs.List.{list_all}
-use Rattle.std.proofs.lemmas.List.Folds.{list_all-append}
+use Rattle.std.proofs.Common.{◌≡◌, ℕ, zero, suc, ◌+◌, ◌<◌, ◌≤◌, true, false, not, List, [], ◌∷◌, length, get_or, drop, Some, None, Result, Ok, Err, refl, sym, ap, ap₂, ◌∙◌, subst, arith, add-one, drop-cons}
 use Rattle.syntax.specs.declared.stmt.Form.{Form as FormInMemory}
 use Rattle.syntax.specs.declared.stmt.Form.TheVariants as form
 use Rattle.syntax.specs.declared.stmt.Stmt.{Stmt as StmtInMemory}
 use Rattle.syntax.specs.declared.stmt.Block.{Block as BlockInMemory, out-Block}
-use Rattle.syntax.specs.Parts.{statements_of, statements_within, line_of}
+use Rattle.syntax.specs.Parts.{line_of}
 use Rattle.syntax.specs.Tree.{Stmt, If, IfElse, While, Return, ReturnValue, Block, End, Next}
 use Rattle.syntax.specs.Views.{form_tree, stmt_tree, statements_tree, block_tree}
 use Rattle.syntax.proofs.Blocks.{block_is}
@@ -23,7 +20,6 @@ use Rattle.regions.specs.Walks.{holds_other, Stops, Goes, go_on, inner_way}
 use Rattle.regions.specs.Ways.{Fault, way_if, own_way, way_after, returned_before, join_ways, turn_way, way_of, way_of_block}
 use Rattle.syntax.specs.declared.unit.Item.{Item as ItemInMemory}
 use Rattle.regions.proofs.StateLemmas.{own_is}
-use Rattle.regions.proofs.UnitLemmas.{both_hold}
 
 -- ---- answers along equations
 

@@ -1,5 +1,5 @@
 -- Which calls can be made today, and what is refused for it.
-use Rattle.std.specs.Prelude.{◌≡◌, ◌⊎◌, ℕ, Bool, true, false, not, ◌||◌, List, Option, map, filter, flat_map, slice_get, Contains, IsTrue}
+use Rattle.std.specs.Prelude.{◌≡◌, ◌⊎◌, ℕ, Bool, false, not, ◌||◌, List, Option, map, filter, flat_map, slice_get, Contains, IsTrue}
 use Rattle.std.specs.List.{list_all}
 use Rattle.base.specs.Options.{some_passes}
 use Rattle.syntax.specs.Tree.{Call, Stmt, SourceUnit}

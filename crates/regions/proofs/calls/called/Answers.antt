@@ -1,11 +1,12 @@
-use Rattle.std.proofs.Common.{sym, ap, ap₂, ◌∙◌, map}
-use Rattle.std.specs.Option.{option_map}
+use Rattle.std.proofs.Common.{ap, ◌∙◌, map}
 use Rattle.syntax.specs.Parts.{own_call}
 use Rattle.syntax.specs.Views.{argument_tree, call_tree, form_tree}
-use Rattle.jni.specs.Prototype.{function_named}
-use Rattle.regions.specs.StateEffects.{call_state_effect}
 use Rattle.regions.proofs.EffectLemmas.{called_is}
 use Rattle.regions.proofs.calls.called.Goals as goal
 
 pub returns-in-Some : goal.returns-in-Some
-returns-in-Some c = ?
+returns-in-Some c =
+    λ line.
+    c.made.ensures
+    ∙ called_is (own_call (form_tree line c.args.form.now)) (call_tree c.in-Some.call.now) _ _ _
+    (c.in-Some.ensures line) c.function_named.ensures c.as_bytes.ensures (ap (map argument_tree) c.deref.ensures.value)

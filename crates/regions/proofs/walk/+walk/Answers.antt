@@ -1,13 +1,8 @@
-use Rattle.std.proofs.Common.{◌+◌, List, drop, sym, ap, subst, ◌∙◌, rules}
-use Rattle.std.specs.Prelude.{IsTrue}
-use Rattle.std.specs.List.{list_all}
+use Rattle.std.proofs.Common.{◌+◌, List, drop, sym, ap, ◌∙◌}
 use Rattle.syntax.specs.declared.stmt.Stmt.{Stmt as StmtInMemory}
 use Rattle.syntax.specs.declared.stmt.Block.{out-Block}
-use Rattle.syntax.specs.declared.stmt.Form.{Form as FormInMemory}
-use Rattle.syntax.specs.declared.stmt.Form.{the_lemmas}
-use Rattle.syntax.specs.Parts.{statements_of, statements_within}
 use Rattle.syntax.specs.Tree.{Block, Next}
-use Rattle.syntax.specs.Views.{form_tree, stmt_tree, block_tree, statements_tree}
+use Rattle.syntax.specs.Views.{stmt_tree, statements_tree}
 use Rattle.syntax.proofs.Blocks.{block_is}
 use Rattle.regions.specs.declared.walk.Way.{Way as WayInMemory}
 use Rattle.regions.specs.Findings.{rule_of}

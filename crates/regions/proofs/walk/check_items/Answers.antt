@@ -1,4 +1,4 @@
-use Rattle.std.proofs.Common.{◌+◌, List, Option, drop, map, sym, ap, subst, ◌∙◌}
+use Rattle.std.proofs.Common.{◌+◌, List, Option, drop, map, sym, ap, ◌∙◌}
 use Rattle.std.specs.Option.{option_or}
 use Rattle.syntax.specs.declared.unit.Item.{Item as ItemInMemory}
 use Rattle.syntax.specs.Views.{item_tree}

@@ -1,5 +1,4 @@
 use Rattle.std.proofs.Common.{refl, sym, ap, ◌∙◌, Some}
-use Rattle.jni.specs.Prototype.{typed_functions, access_functions}
 use Rattle.jni.specs.Table.{function_value}
 use Rattle.jni.proofs.Places.{first_placed, placed}
 use Rattle.jni.proofs.function.JniFunction.number.Goals as goal
