@@ -29,28 +29,35 @@ row_is n f r at row = same r (facts_of f) (sym row ∙ slice_get-map facts_of al
 abbrev place : Identifier → ℕ
 place name = length name % 32
 
-filtered : (fs : List JniFunction) (name : Identifier) → find (has_name name) (filter (λ f. place (prototype f).name == place name) fs) ≡ find (has_name name) fs
+abbrev place_of : JniFunction → ℕ
+place_of f = place (prototype f).name
+
+filtered : (fs : List JniFunction) (name : Identifier) → find (has_name name) (filter (λ f. place_of f == place name) fs) ≡ find (has_name name) fs
 unfolding has_name
 filtered [] name = refl
 filtered (f ∷ fs) name =
-    let rest = filter (λ g. place (prototype g).name == place name) fs in
-    elim (place (prototype f).name == place name) as (λ b. (place (prototype f).name == place name) ≡ b → find (has_name name) (if b then f ∷ rest else rest) ≡ find (has_name name) (f ∷ fs)) [
+    let rest = filter (λ g. place_of g == place name) fs in
+    elim (place_of f == place name) as (λ b. (place_of f == place name) ≡ b → find (has_name name) (if b then f ∷ rest else rest) ≡ find (has_name name) (f ∷ fs)) [
       | true ↦ λ e. ap (λ o. if has_name name f then Some f else o) (filtered fs name)
       | false ↦ λ e. filtered fs name ∙ other (has_name name f) refl e
     ] refl
   where
-    other : (b : Bool) → has_name name f ≡ b → (place (prototype f).name == place name) ≡ false → find (has_name name) fs ≡ (if b then Some f else find (has_name name) fs)
-    other true same e = absurd (let there : (place (prototype f).name == place name) ≡ true = eq-eqb (place (prototype f).name) (place name) (ap place ((bytes_eq-Decides (prototype f).name name).0 same)) in let c : true ≡ false = sym there ∙ e in cc)
+    other : (b : Bool) → has_name name f ≡ b → (place_of f == place name) ≡ false → find (has_name name) fs ≡ (if b then Some f else find (has_name name) fs)
+    other true same e =
+        let there : (place_of f == place name) ≡ true = eq-eqb (place_of f) (place name) (ap place ((bytes_eq-Decides (prototype f).name name).0 same)) in
+        let c : true ≡ false = sym there ∙ e in
+        absurd cc
     other false same e = refl
 
 abbrev pub by_length : List (List JniFunction)
-by_length = map (λ k. filter (λ f. place (prototype f).name == k) all_functions) (range_with_len 0 32)
+by_length = map (λ k. filter (λ f. place_of f == k) all_functions) (range_with_len 0 32)
 
 pub named : (name : Identifier) → find (has_name name) (get_or by_length (length name % 32) []) ≡ function_named name
 unfolding function_named has_name
 named name =
     let low : place name < 32 = omega arith in
-    let there : get_or by_length (place name) [] ≡ filter (λ f. place (prototype f).name == place name) all_functions = get_or-map-range_with_len (λ k. filter (λ f. place (prototype f).name == k) all_functions) 0 32 (place name) (place name) [] low (omega arith) in
+    let there : get_or by_length (place name) [] ≡ filter (λ f. place_of f == place name) all_functions =
+    get_or-map-range_with_len (λ k. filter (λ f. place_of f == k) all_functions) 0 32 (place name) (place name) [] low (omega arith) in
     ap (find (has_name name)) there ∙ filtered all_functions name
 
 pub name_is : (name : Identifier) (p : PrototypeInMemory) (f : JniFunction) → facts p ≡ facts_of f → bytes_eq p.name.now name ≡ has_name name f

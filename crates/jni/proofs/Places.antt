@@ -22,10 +22,14 @@ after (suc n) k zero (x ∷ xs) f e h = absurd omega (arith, e)
 after (suc n) k (suc j) (x ∷ xs) f e h = after n k j xs f (omega (arith, e)) h
 
 pub placed : (n m k : ℕ) (fs : List JniFunction) (f : JniFunction) → take m (drop n all_functions) ≡ fs → slice_get fs k ≡ Some f → slice_get all_functions (n + k) ≡ Some f
-placed n m k fs f part at = after n k (n + k) all_functions f refl (in_front (drop n all_functions) m k f (subst (λ xs. slice_get xs k ≡ Some f) (sym part) at))
+placed n m k fs f part at =
+    after n k (n + k) all_functions f refl
+    (in_front (drop n all_functions) m k f (subst (λ xs. slice_get xs k ≡ Some f) (sym part) at))
 
 pub first_placed : (n m : ℕ) (fs : List JniFunction) (f : JniFunction) → take m (drop n all_functions) ≡ fs → slice_get fs 0 ≡ Some f → slice_get all_functions n ≡ Some f
-first_placed n m fs f part at = after n 0 n all_functions f (omega arith) (in_front (drop n all_functions) m 0 f (subst (λ xs. slice_get xs 0 ≡ Some f) (sym part) at))
+first_placed n m fs f part at =
+    after n 0 n all_functions f (omega arith)
+    (in_front (drop n all_functions) m 0 f (subst (λ xs. slice_get xs 0 ≡ Some f) (sym part) at))
 
 further : (n k j : ℕ) (xs : List JniFunction) → n + k ≡ j → drop j xs ≡ drop k (drop n xs)
 further zero k j xs e = let same : j ≡ k = omega (arith, e) in ap (λ i. drop i xs) same

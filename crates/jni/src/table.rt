@@ -16,8 +16,11 @@ use crate::kinds::StateEffect::*;
 use syntax::ElementType::{Jbyte, Jchar, Jint, Jshort};
 
 const INTS: Access = ElementsCopy(Jint);
+
 const SHORTS: Access = ElementsCopy(Jshort);
+
 const BYTES: Access = ElementsCopy(Jbyte);
+
 const CHARS: Access = ElementsCopy(Jchar);
 
 macro_rules! rows {
@@ -137,17 +140,87 @@ static BY_LENGTH: [&[JniFunction]; 32] = [
     &[ThrowNew],
     &[FindClass],
     &[GetFieldID, FatalError],
-    &[AllocObject, NewLocalRef, MonitorExit, GetField(Jint), SetField(Jint), NewArray(Jint)],
-    &[IsInstanceOf, NewGlobalRef, IsSameObject, NewStringUTF, MonitorEnter, GetField(Jbyte), SetField(Jbyte), NewArray(Jbyte), GetField(Jchar), SetField(Jchar), NewArray(Jchar)],
-    &[GetSuperclass, PopLocalFrame, GetField(Jshort), SetField(Jshort), NewArray(Jshort)],
-    &[GetObjectClass, DeleteLocalRef, PushLocalFrame, GetObjectField, SetObjectField, GetArrayLength, NewObjectArray, ExceptionCheck, ExceptionClear, GetBuffer(CharsCopy)],
+    &[
+        AllocObject,
+        NewLocalRef,
+        MonitorExit,
+        GetField(Jint),
+        SetField(Jint),
+        NewArray(Jint),
+    ],
+    &[
+        IsInstanceOf,
+        NewGlobalRef,
+        IsSameObject,
+        NewStringUTF,
+        MonitorEnter,
+        GetField(Jbyte),
+        SetField(Jbyte),
+        NewArray(Jbyte),
+        GetField(Jchar),
+        SetField(Jchar),
+        NewArray(Jchar),
+    ],
+    &[
+        GetSuperclass,
+        PopLocalFrame,
+        GetField(Jshort),
+        SetField(Jshort),
+        NewArray(Jshort),
+    ],
+    &[
+        GetObjectClass,
+        DeleteLocalRef,
+        PushLocalFrame,
+        GetObjectField,
+        SetObjectField,
+        GetArrayLength,
+        NewObjectArray,
+        ExceptionCheck,
+        ExceptionClear,
+        GetBuffer(CharsCopy),
+    ],
     &[DeleteGlobalRef, GetStringLength, GetStringRegion],
     &[IsAssignableFrom, GetStaticFieldID],
-    &[ExceptionOccurred, GetStaticField(Jint), SetStaticField(Jint), GetArrayRegion(Jint), SetArrayRegion(Jint), GetBuffer(CharsView)],
-    &[GetStaticField(Jbyte), SetStaticField(Jbyte), GetArrayRegion(Jbyte), SetArrayRegion(Jbyte), GetStaticField(Jchar), SetStaticField(Jchar), GetArrayRegion(Jchar), SetArrayRegion(Jchar), ReleaseBuffer(CharsCopy)],
-    &[EnsureLocalCapacity, GetBuffer(INTS), GetStaticField(Jshort), SetStaticField(Jshort), GetArrayRegion(Jshort), SetArrayRegion(Jshort)],
-    &[GetStaticObjectField, SetStaticObjectField, GetBuffer(BYTES), GetBuffer(CHARS)],
-    &[GetObjectArrayElement, SetObjectArrayElement, GetBuffer(SHORTS), ReleaseBuffer(CharsView)],
+    &[
+        ExceptionOccurred,
+        GetStaticField(Jint),
+        SetStaticField(Jint),
+        GetArrayRegion(Jint),
+        SetArrayRegion(Jint),
+        GetBuffer(CharsView),
+    ],
+    &[
+        GetStaticField(Jbyte),
+        SetStaticField(Jbyte),
+        GetArrayRegion(Jbyte),
+        SetArrayRegion(Jbyte),
+        GetStaticField(Jchar),
+        SetStaticField(Jchar),
+        GetArrayRegion(Jchar),
+        SetArrayRegion(Jchar),
+        ReleaseBuffer(CharsCopy),
+    ],
+    &[
+        EnsureLocalCapacity,
+        GetBuffer(INTS),
+        GetStaticField(Jshort),
+        SetStaticField(Jshort),
+        GetArrayRegion(Jshort),
+        SetArrayRegion(Jshort),
+    ],
+    &[
+        GetStaticObjectField,
+        SetStaticObjectField,
+        GetBuffer(BYTES),
+        GetBuffer(CHARS),
+    ],
+    &[
+        GetObjectArrayElement,
+        SetObjectArrayElement,
+        GetBuffer(SHORTS),
+        ReleaseBuffer(CharsView),
+    ],
     &[],
     &[ReleaseBuffer(INTS)],
     &[ReleaseBuffer(BYTES), ReleaseBuffer(CHARS)],

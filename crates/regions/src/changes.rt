@@ -13,9 +13,9 @@ ghost use Rattle.regions.specs.Changes.{get_value, change_value, changed_named, 
 
 use crate::calls::{MadeCall, Release, called, deleted, got, popped, released};
 use crate::states::{StaticState, Variable, VariableState, is_same};
+use jni::Access;
 use std::alloc::AllocError;
 use syntax::{BinaryOp, Constant, Expr, Form, Test, VariableType};
-use jni::Access;
 
 /// A change of what is known.
 #[derive(Clone, Copy)]

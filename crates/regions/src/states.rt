@@ -9,8 +9,8 @@ ghost use Rattle.regions.specs.RegionStates.{state_of};
 ghost use Rattle.regions.specs.RegionRules.{holds_buffer, is_level};
 ghost use Rattle.regions.specs.StatesInMemory.{variable_state, state_value, condition_holds, asks, held_in, holds_critical, holds_of};
 
-use std::alloc::{AllocError, Global};
 use jni::Access;
+use std::alloc::{AllocError, Global};
 
 /// What is known of a reference or a buffer. A buffer that is not free has an access, and the variable of its array or
 /// string.
