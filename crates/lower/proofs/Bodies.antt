@@ -4,8 +4,8 @@ use Rattle.base.specs.Bytes.{Identifier, lookup}
 use Rattle.base.specs.Element.{JChar}
 use Rattle.syntax.specs.Tree as tree
 use Rattle.syntax.specs.Tree.{Expr, Argument, RightSide, FromExpr, FromCall, Test, TestExpr, TestCall, Stmt, Block, End, Next, VariableType, BitOr}
-use Rattle.types.specs.JniFunction.{GetArrayLength}
-use Rattle.types.specs.Prototype.{function_named}
+use Rattle.jni.specs.JniFunction.{GetArrayLength}
+use Rattle.jni.specs.Prototype.{function_named}
 use Rattle.types.specs.Sorts.{Sort, Jint, Ref, Global, FieldId, Buffer, Array}
 use Rattle.types.specs.Sorts as sort
 use Rattle.types.specs.SortRules.{variable_sort}

@@ -6,7 +6,7 @@ use Rattle.base.specs.Bytes.{Identifier}
 use Rattle.base.specs.Element.{ElementType}
 use Rattle.syntax.specs.Tree.{Function, Item, StaticItem, FunctionItem}
 use Rattle.syntax.specs.Views.{unit_tree}
-use Rattle.types.specs.JniFunction.{JniFunction}
+use Rattle.jni.specs.JniFunction.{JniFunction}
 use Rattle.heap.specs.Heap.{Space}
 use Rattle.source.specs.Object.{Reference}
 use Rattle.code.specs.declared.instr.Instr.{Instr}

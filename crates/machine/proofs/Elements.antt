@@ -2,7 +2,7 @@
 use Rattle.std.proofs.Common.{◌≡◌, ℕ, ℤ, Bool, true, false, List, cond, refl}
 use Rattle.base.specs.Bytes.{Identifier}
 use Rattle.syntax.specs.Tree.{Expr, Block, Null}
-use Rattle.types.specs.JniFunction.{JniFunction}
+use Rattle.jni.specs.JniFunction.{JniFunction}
 use Rattle.source.specs.Arguments.{actuals}
 use Rattle.source.specs.Effect as effect
 use Rattle.source.specs.Effect.{Effect, SetsElement, Calls, at_line, goes_on, with_value, print_effect, branch_effect, loop_effect, element_effect, reduce_first, is_ready, call_effect_of, returned_name, return_effect, effect_of}

@@ -5,7 +5,7 @@ use Rattle.std.specs.Option.{option_map, option_map_or}
 use Rattle.std.specs.Int.{w32}
 use Rattle.base.specs.Bytes.{Identifier, lookup}
 use Rattle.classes.specs.Class.{Classes, class_kind, is_plain}
-use Rattle.types.specs.JniFunction.{JniFunction, GetArrayLength}
+use Rattle.jni.specs.JniFunction.{JniFunction, GetArrayLength}
 use Rattle.types.specs.Sorts.{Ref}
 use Rattle.heap.specs.Heap.{Block, Space, block_at, class_at, name_at, values_at, IsAddress}
 use Rattle.source.specs.Object.{Object, Reference}

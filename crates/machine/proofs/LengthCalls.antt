@@ -2,7 +2,7 @@
 use Rattle.std.proofs.Common.{◌≡◌, ℕ, pos, Bool, true, false, List, [], ◌∷◌, ◌++◌, length, Some, None, ap, not, ◌∙◌, append-nil}
 use Rattle.base.specs.Bytes.{Identifier}
 use Rattle.classes.specs.Class.{Classes, class_kind, is_plain}
-use Rattle.types.specs.JniFunction.{GetArrayLength}
+use Rattle.jni.specs.JniFunction.{GetArrayLength}
 use Rattle.source.specs.Object.{Reference}
 use Rattle.source.specs.Arguments.{Actual, ReferenceActual}
 use Rattle.source.specs.CallEffects.{CallResult, ScalarResult}

@@ -11,7 +11,7 @@ use Rattle.syntax.specs.Views.{unit_tree}
 use Rattle.base.specs.Bytes.{Identifier, lookup}
 use Rattle.classes.specs.Class.{Classes}
 use Rattle.heap.specs.Heap.{Space}
-use Rattle.types.specs.JniFunction.{JniFunction}
+use Rattle.jni.specs.JniFunction.{JniFunction}
 use Rattle.types.specs.Sorts.{Global}
 use Rattle.world.specs.CallArguments.{is_argument}
 use Rattle.source.specs.Object.{ObjectValue, Number, Refers, Reference}

@@ -11,7 +11,7 @@ use Rattle.syntax.specs.Tree.{SourceUnit, Call, Expr, Block, True, False, Commit
 use Rattle.syntax.specs.Views.{stmt_tree, call_tree}
 use Rattle.classes.specs.Class.{Classes}
 use Rattle.types.specs.BuiltCalls.{is_built_call}
-use Rattle.types.specs.JniFunction.{JniFunction, GetArrayLength}
+use Rattle.jni.specs.JniFunction.{JniFunction, GetArrayLength}
 use Rattle.source.specs.Arguments.{Actual, actuals}
 use Rattle.source.specs.CallStep.{waits_with, call_step, after_refusal, makes_objects, checked, trap_of_call}
 use Rattle.source.specs.CallTable.{call_effect}

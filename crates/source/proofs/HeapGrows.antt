@@ -2,11 +2,11 @@
 use Rattle.std.specs.Prelude.{◌≡◌, ℕ, ◌+◌, ◌-◌, nat_lt, nat_le, ◌==◌, Bool, true, false, ℤ, pos, negsuc, List, [], ◌∷◌, length, Option, Some, None, refl}
 use Rattle.std.proofs.lemmas.Bool.{cond_both}
 use lib.ListN.{length-set}
-use Rattle.types.specs.JniFunction as jni
+use Rattle.jni.specs.JniFunction as jni
 use Rattle.base.specs.Bytes.{Identifier, lookup}
 use Rattle.classes.specs.Class.{Classes, class_named}
 use Rattle.classes.specs.Fields.{FieldId, find_field, find_static}
-use Rattle.types.specs.JniFunction.{JniFunction}
+use Rattle.jni.specs.JniFunction.{JniFunction}
 use Rattle.source.specs.Object.{ObjectValue, Reference}
 use Rattle.source.specs.Arguments.{Actual, ReleaseMode, CopyBackAndFree, CopyBack, FreeUncopied, number_given, reference_given, object_given, text_given, variable_given, mode_given}
 use Rattle.source.specs.CallTable.{call_effect}

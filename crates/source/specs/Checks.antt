@@ -5,8 +5,8 @@ use Rattle.base.specs.Element.{ElementType, same_element}
 use Rattle.classes.specs.BuiltIns.{has_own_making, string_class, throwable_class, number_array}
 use Rattle.classes.specs.Class.{Classes, FieldType, NumberField, ReferenceField, class_kind, is_plain, is_object_array, assignable}
 use Rattle.classes.specs.Fields.{FieldId}
-use Rattle.types.specs.JniFunction.{is_allowed_pending, JniFunction, AllocObject, GetField, SetField, GetObjectField, SetObjectField, GetStaticField, SetStaticField, GetStaticObjectField, SetStaticObjectField, GetArrayLength, NewObjectArray, GetBuffer, ArrayView, Throw, ThrowNew, PopLocalFrame}
-use Rattle.types.specs.Prototype.{LocalVariable, StaticVariable, ParameterKind, Nullable, ClassObject, NumberArray, ObjectArray, StringObject, ResultKind, NewLocal, prototype}
+use Rattle.jni.specs.JniFunction.{is_allowed_pending, JniFunction, AllocObject, GetField, SetField, GetObjectField, SetObjectField, GetStaticField, SetStaticField, GetStaticObjectField, SetStaticObjectField, GetArrayLength, NewObjectArray, GetBuffer, ArrayView, Throw, ThrowNew, PopLocalFrame}
+use Rattle.jni.specs.Prototype.{LocalVariable, StaticVariable, ParameterKind, Nullable, ClassObject, NumberArray, ObjectArray, StringObject, ResultKind, NewLocal, prototype}
 use Rattle.source.specs.Object.{Reference}
 use Rattle.source.specs.Arguments.{Actual, ReferenceActual, FieldActual, object_given, reference_given, field_given}
 use Rattle.source.specs.Heap.{Heap, class_of, is_class_object, is_instance, fits_class}

@@ -4,7 +4,7 @@ use Rattle.std.specs.List.{list_all}
 use Rattle.base.specs.Bytes.{Identifier}
 use Rattle.base.specs.Element.{ElementType}
 use Rattle.syntax.specs.Tree.{Null, Expr, Block}
-use Rattle.types.specs.JniFunction.{JniFunction}
+use Rattle.jni.specs.JniFunction.{JniFunction}
 use Rattle.source.specs.Arguments.{Actual, actuals}
 use Rattle.source.specs.Sight.{Sight}
 use Rattle.source.specs.Task.{Task, SetScalar, SetElement, SetNull, MakeArray, Invoke, Print, Branch, EndIf, Loop, EndTurn, Return, ReturnValue, Impossible, Target, Tested, Operand, NumberOperand, Given, tasks_of}

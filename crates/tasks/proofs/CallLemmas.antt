@@ -11,9 +11,10 @@ use Rattle.syntax.specs.Tree as tree
 use Rattle.syntax.specs.Parts.{statics_of}
 use Rattle.syntax.specs.Tree.{Expr, Argument, Call, SourceUnit}
 use Rattle.classes.specs.Class.{class_kind, is_plain}
-use Rattle.types.specs.BuiltCalls.{is_built_function, is_built_call}
-use Rattle.types.specs.JniFunction.{JniFunction, GetArrayLength}
-use Rattle.types.specs.Prototype.{function_named}
+use Rattle.jni.specs.BuiltFunctions.{is_built_function}
+use Rattle.types.specs.BuiltCalls.{is_built_call}
+use Rattle.jni.specs.JniFunction.{JniFunction, GetArrayLength}
+use Rattle.jni.specs.Prototype.{function_named}
 use Rattle.source.specs.World.{World, loaded_objects}
 use Rattle.source.specs.Arguments.{Actual, ReferenceActual, TextActual, VariableActual, reference_argument}
 use Rattle.source.specs.CallEffects.{ScalarResult}

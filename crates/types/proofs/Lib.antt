@@ -4,8 +4,8 @@ pub mod SortLemmas
 pub mod UseLemmas
 pub mod StatementLemmas
 pub mod ArgumentLemmas
+mod CalledLemmas
 pub mod PlaceLemmas
 pub mod BlockLemmas
 pub mod ItemLemmas
 pub mod UnitLemmas
-mod TableLemmas

@@ -11,7 +11,7 @@ use Rattle.syntax.specs.Tree.{SourceUnit}
 use Rattle.classes.specs.BuiltIns.{built_ins}
 use Rattle.classes.specs.Class.{Classes}
 use Rattle.classes.specs.Mangling.{unmangle}
-use Rattle.types.specs.Prototype.{function_named}
+use Rattle.jni.specs.Prototype.{function_named}
 use Rattle.types.specs.SortRules.{SortRule, sort_rule_number, IsSorted}
 use Rattle.source.specs.declared.journal.Entry.{Entry}
 use Rattle.source.specs.declared.schedule.ScheduleWord.{ScheduleWord}

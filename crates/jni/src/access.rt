@@ -3,8 +3,8 @@
 ghost use Rattle.std.specs.Prelude.{◌≡◌};
 ghost use Rattle.base.specs.Element.{same_element};
 ghost use Rattle.syntax.specs.Views.{element_tree};
-ghost use Rattle.types.specs.JniFunction.{is_critical, same_access};
-ghost use Rattle.types.specs.Table.{access_value};
+ghost use Rattle.jni.specs.JniFunction.{is_critical, same_access};
+ghost use Rattle.jni.specs.Table.{access_value};
 
 use syntax::ElementType;
 
@@ -46,7 +46,7 @@ impl Access {
 }
 
 /// Whether two element types are the same.
-pub(crate) fn is_same_element(a: ElementType, b: ElementType) -> bool
+pub fn is_same_element(a: ElementType, b: ElementType) -> bool
     ensures { result ≡ same_element (element_tree a) (element_tree b) }
 {
     a == b
