@@ -13,10 +13,12 @@ use Rattle.source.specs.Report.{ShownValue, ShownNumber, ShownRow}
 use Rattle.source.specs.World.{World, loaded_objects}
 use Rattle.source.specs.Heap.{Heap, object_at}
 use Rattle.source.specs.ReportOf.{shown_value}
-use Rattle.machine.specs.HeapAgrees.{ValueAgrees, ValuesAgree, BlockAgrees, BlocksAgree, HeapAgrees, made_before}
-use Rattle.machine.specs.Rows.{object_row, block_row, shown_cell, shown_cells, IsThere, AreThere}
-use Rattle.machine.proofs.LoadedObjects.{loaded_is}
-use Rattle.machine.proofs.ShownRows.{length-before}
+use Rattle.machine.specs.HeapAgrees.{ValueAgrees, ValuesAgree, BlockAgrees, BlocksAgree, HeapAgrees}
+use Rattle.source.specs.World.{made_before}
+use Rattle.machine.specs.Rows.{block_row, shown_cell, shown_cells, IsThere, AreThere}
+use Rattle.source.specs.ReportOf.{object_row}
+use Rattle.source.proofs.ShownRows.{loaded_is}
+use Rattle.source.proofs.ShownRows.{length-before}
 
 -- the block of a name
 pub record Named (s : Space) (heap : Heap) (a n : ℕ) : Type 0 where

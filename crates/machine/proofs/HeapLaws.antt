@@ -1,11 +1,11 @@
 -- A heap that gets a further block still stands for the source's heap, which gets a further object.
-use Rattle.std.proofs.Common.{◌≡◌, ℕ, zero, suc, ◌+◌, ◌<◌, ◌≤◌, Bool, true, false, cond, eqb, List, [], ◌∷◌, ◌++◌, length, get_or, Option, Some, None, refl, sym, ap, ◌∙◌, subst, arith, ⊎_elim, ◌⊎◌, inl, inr, length-append, Contains}
+use Rattle.std.proofs.Common.{◌≡◌, ℕ, zero, suc, ◌+◌, ◌<◌, ◌≤◌, Bool, true, false, cond, eqb, List, [], ◌∷◌, ◌++◌, length, get_or, Option, Some, None, refl, sym, ap, ◌∙◌, arith, ⊎_elim, ◌⊎◌, inl, inr, length-append, Contains}
 use Rattle.std.specs.Prelude.{find, slice_get, AllPairs, ◌≢◌}
 use Rattle.std.specs.Option.{option_map, option_or}
 use Rattle.std.proofs.lemmas.Bool.{cases_lt}
 use Rattle.std.proofs.lemmas.Bool.Decides.{eqb_tells}
 use Rattle.std.proofs.lemmas.List.{get_or_push, get_or_append_left}
-use Rattle.std.proofs.lemmas.List.Elements.{Contains-append_cases, Contains-append_left, Contains-push}
+use Rattle.std.proofs.lemmas.List.Elements.{Contains-append_cases}
 use Rattle.std.proofs.lemmas.List.Folds.{find-append}
 use Rattle.std.proofs.lemmas.Option.{slice_get_within}
 use Rattle.heap.specs.declared.value.Value.{Value}
@@ -15,6 +15,7 @@ use Rattle.heap.proofs.Layouts.{from_below_end}
 use Rattle.source.specs.Object.{Object, ObjectValue, Number, Refers}
 use Rattle.source.specs.Heap.{Heap, object_at}
 use Rattle.source.specs.Reachable.{from_one, IsName}
+use Rattle.source.proofs.ShownRows.{from_one-contains}
 use Rattle.machine.specs.HeapAgrees.{ReferenceAgrees, ValueAgrees, ValuesAgree, BlockAgrees, BlocksAgree, HeapAgrees, IsTable}
 
 -- ---- the block at an address
@@ -198,14 +199,6 @@ from_one-bounds (suc k) n c =
     (λ (old : Contains (from_one k) n). let b = from_one-bounds k n old in (b.0, omega arith))
     (λ (new : Contains (suc k ∷ []) n). let e : n ≡ suc k = only (suc k) n new in (omega arith, omega arith))
     (Contains-append_cases (from_one k) (suc k ∷ []) n c)
-
-pub from_one-contains : (k n : ℕ) → 0 < n → n ≤ k → Contains (from_one k) n
-from_one-contains zero n low high = absurd (omega arith)
-from_one-contains (suc k) n low high =
-    ⊎_elim
-    (λ (l : n < suc k). Contains-append_left (from_one k) (suc k ∷ []) n (from_one-contains k n low (omega arith)))
-    (λ (l : suc k ≤ n). let e : suc k ≡ n = omega arith in subst (λ m. Contains (from_one (suc k)) m) e (Contains-push (from_one k) (suc k)))
-    (cases_lt n (suc k))
 
 -- each name of a heap with one more object is an old name or the new one
 pub IsName-more : (heap : Heap) (o : Object) → Needs (IsName heap) (IsName (heap ++ o ∷ [])) (length heap + 1)

@@ -14,7 +14,8 @@ use Rattle.source.specs.Heap.{Heap}
 use Rattle.source.specs.Reachable.{IsName}
 use Rattle.machine.specs.HeapAgrees.{ValuesAgree, IsTable, AreMade}
 use Rattle.machine.proofs.HeapLaws.{IsNext, block_new, agrees_with_block, table_push, from_one-bounds, IsName-more}
-use Rattle.machine.proofs.LoadedObjects.{plain_class_object, error_object, made_first}
+use Rattle.machine.proofs.LoadedObjects.{made_first}
+use Rattle.world.proofs.PlainObjects.{plain_class_object, error_object}
 
 -- nothing has been made
 pub none_made : (cells : ℕ) → AreMade (record { cells = cells; blocks = [] }) [] []

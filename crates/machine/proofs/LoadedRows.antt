@@ -13,11 +13,12 @@ use Rattle.world.specs.SceneWorld.{world_of_scene, array_object}
 use Rattle.report.specs.Shown.{row_lines}
 use Rattle.source.specs.World.{World, loaded_objects, fits_cells}
 use Rattle.machine.specs.HeapAgrees.{AgreesAtLoad}
-use Rattle.machine.specs.Rows.{loaded_rows, object_row, block_row}
+use Rattle.machine.specs.Rows.{block_row}
+use Rattle.source.specs.ReportOf.{loaded_rows, object_row}
 use Rattle.machine.proofs.Arrays.{few_objects}
 use Rattle.machine.proofs.BlockRows.{named, row_is, object_there}
 use Rattle.machine.proofs.RowTexts.{row_at, row_past}
-use Rattle.machine.proofs.ShownRows.{length-loaded}
+use Rattle.source.proofs.ShownRows.{length-loaded}
 
 -- there are few objects in a heap
 pub few_loaded : (w : World) → IsTrue (fits_cells w) → w.cells ≤ 1048576 → 3 * length (loaded_objects w) ≤ 1048576

@@ -38,8 +38,8 @@ use Rattle.machine.specs.Stops.{stop_view, trap_view}
 use Rattle.machine.specs.Run as run
 use Rattle.source.specs.Run.{UnmarkedFit, MarkedAreFair}
 use Rattle.machine.specs.Run.{Run, Corresponds, WritesRun, IsFinished}
-use Rattle.machine.specs.Rows.{loaded_rows}
-use Rattle.machine.proofs.ShownRows.{shown_rows}
+use Rattle.source.specs.ReportOf.{loaded_rows}
+use Rattle.source.proofs.ShownRows.{shown_rows}
 use Rattle.machine.proofs.Standings.{standings}
 use Rattle.machine.proofs.Threads.{unblocked}
 

@@ -12,7 +12,8 @@ use Rattle.report.specs.ReportText.{shown_text, text_line, object_line}
 use Rattle.report.specs.Shown.{row_head, row_lines}
 use Rattle.report.specs.Sink.{Written, AppendsText, StopsWithin, Writes}
 use Rattle.report.proofs.Puts.{AppendsText-then, StopsWithin-more, Writes-then, stops}
-use Rattle.machine.specs.Rows.{object_row, shown_cell, shown_cells}
+use Rattle.machine.specs.Rows.{shown_cell, shown_cells}
+use Rattle.source.specs.ReportOf.{object_row}
 
 -- ---- values
 

@@ -1,13 +1,11 @@
 -- How a heap of blocks stands for a heap of the source. A block's birth number is the name of its object, wherever it lies.
-use Rattle.std.specs.Prelude.{◌≡◌, ℕ, ◌+◌, List, [], ◌∷◌, ◌++◌, length, slice_get, Option, Some, None, FitsSigned}
+use Rattle.std.specs.Prelude.{◌≡◌, ℕ, ◌+◌, List, [], ◌∷◌, length, slice_get, Option, Some, None, FitsSigned}
 use Rattle.std.specs.Int.{w32, cast_unsigned}
-use Rattle.classes.specs.BuiltIns.{out_of_memory_error}
-use Rattle.classes.specs.Class.{Classes}
 use Rattle.heap.specs.declared.value.Value.{Value}
 use Rattle.heap.specs.declared.value.Value.TheVariants.{Number as Word, Null, Block as Address}
 use Rattle.heap.specs.Heap.{Block, Space, IsLaidOut, end_of, name_at, AreNamesUnique}
 use Rattle.source.specs.Object.{Object, ObjectValue, Number, Refers, Reference, sizes}
-use Rattle.source.specs.World.{World, class_objects, fresh_object, loaded_objects}
+use Rattle.source.specs.World.{World, loaded_objects}
 use Rattle.source.specs.Heap.{Heap, object_at}
 use Rattle.source.specs.Reachable.{IsName}
 
@@ -74,10 +72,6 @@ pub record AreMade (space : Space) (addresses : List ℕ) (objects : Heap) : Typ
   pub table : IsTable space addresses (length objects)
   pub laid_out : IsLaidOut space
   pub filled : end_of space ≡ sizes objects
-
--- the objects that are made before the world's
-abbrev pub made_before : Classes → Heap
-made_before classes = class_objects classes ++ fresh_object classes out_of_memory_error ∷ []
 
 -- The heap stands for the objects that were made at load, each at its address in the table.
 pub record AgreesAtLoad (space : Space) (addresses : List ℕ) (w : World) : Type 0 where

@@ -1,24 +1,14 @@
 -- The rows of a report, read off the blocks.
-use Rattle.std.specs.Prelude.{ℕ, ◌+◌, List, [], ◌∷◌, map, length}
-use Rattle.std.specs.List.{enumerate_from}
+use Rattle.std.specs.Prelude.{ℕ, List, [], ◌∷◌, map}
 use Rattle.std.specs.Option.{option_map_or}
 use Rattle.std.specs.Int.{w32, cast_signed}
 use Rattle.classes.specs.Class.{Classes, class_name}
 use Rattle.heap.specs.declared.value.Value.{Value}
 use Rattle.heap.specs.declared.value.Value.TheVariants.{Number as Word, Null, Block as Address}
 use Rattle.heap.specs.Heap.{Space, IsAddress, class_at, name_at, values_at}
-use Rattle.source.specs.Object.{Object, Refers}
+use Rattle.source.specs.Object.{Refers}
 use Rattle.source.specs.Report.{ShownValue, ShownNumber, ShownNull, ShownRow}
-use Rattle.source.specs.World.{World}
 use Rattle.source.specs.ReportOf.{shown_value}
-
--- the row of an object
-abbrev pub object_row : Classes → ℕ × Object → ShownRow
-object_row classes (name, o) = record { name = name; class = class_name classes o.class; values = map (shown_value classes) o.values }
-
--- The rows of the world's objects as they are made at load, after the class objects and the OutOfMemoryError object.
-abbrev pub loaded_rows : World → List ShownRow
-loaded_rows w = map (object_row w.classes) (enumerate_from (length w.classes + 2) w.objects)
 
 -- what a cell holds, as it is shown: an address by the name of its object
 abbrev pub shown_cell : Classes → Space → Value → ShownValue

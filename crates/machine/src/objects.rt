@@ -8,7 +8,8 @@ ghost use Rattle.source.specs.World.{loaded_objects};
 ghost use Rattle.classes.specs.BuiltIns.{number_array};
 ghost use Rattle.source.specs.Object.{Number};
 ghost use Rattle.source.specs.Heap.{Heap as Objects};
-ghost use Rattle.machine.specs.HeapAgrees.{AreMade, made_before};
+ghost use Rattle.machine.specs.HeapAgrees.{AreMade};
+ghost use Rattle.source.specs.World.{made_before};
 
 use heap::{Addr, Heap, MOST_CELLS, Value};
 use std::alloc::{AllocError, Global};

@@ -39,7 +39,7 @@ impl<'a> Model for LoadedRows<'a> {
 
 impl<'a> Rows for LoadedRows<'a> {
     ghost use Rattle.world.specs.SceneWorld.{world_of_scene};
-    ghost use Rattle.machine.specs.Rows.{loaded_rows};
+    ghost use Rattle.source.specs.ReportOf.{loaded_rows};
 
     ghost rows = { λ r. loaded_rows (world_of_scene r) };
 

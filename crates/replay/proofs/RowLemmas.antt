@@ -18,7 +18,8 @@ use Rattle.report.specs.Shown.{row_head}
 use Rattle.source.specs.World.{World, loaded_objects, fits_cells}
 use Rattle.report.proofs.Puts.{flat_map-at, flat_map-past}
 use Rattle.replay.specs.Rows.{number_text, number_row, array_row, rows_of}
-use Rattle.tasks.proofs.LoadedObjects.{loaded_is, plain_class_object, error_object}
+use Rattle.tasks.proofs.LoadedObjects.{loaded_is}
+use Rattle.world.proofs.PlainObjects.{plain_class_object, error_object}
 
 numbers_are : (values : List ℤ) → flat_map (λ (v : ShownValue). codes " " ++ shown_text v) (map ShownNumber values) ≡ flat_map number_text values
 numbers_are [] = refl

@@ -4,3 +4,4 @@ pub mod NoObjects
 pub mod ReachableLemmas
 pub mod RunLaws
 pub mod StepLaws
+pub mod ShownRows

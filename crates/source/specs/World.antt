@@ -1,5 +1,5 @@
 -- Worlds: the heap's cells, the classes, the objects and each thread's calls, with which a run begins.
-use Rattle.std.specs.Prelude.{ℕ, pos, Bool, List, ◌∷◌, ◌++◌, map, nat_le, None}
+use Rattle.std.specs.Prelude.{ℕ, pos, Bool, List, [], ◌∷◌, ◌++◌, map, nat_le, None}
 use Rattle.std.specs.List.{enumerate_from}
 use Rattle.base.specs.Bytes.{Identifier}
 use Rattle.classes.specs.Class.{FieldType, NumberField, ReferenceField, Class, Classes}
@@ -39,6 +39,10 @@ class_object classes c = record { class = class_class; values = map (λ (f : Fie
 -- the class objects in the order of the table
 abbrev pub class_objects : Classes → List Object
 class_objects classes = map (λ (c : ℕ × Class). class_object classes c.0) (enumerate_from 1 classes)
+
+-- the class objects and the OutOfMemoryError object, which are made before the world's
+abbrev pub made_before : Classes → List Object
+made_before classes = class_objects classes ++ fresh_object classes out_of_memory_error ∷ []
 
 -- the class objects, the OutOfMemoryError object, and the world's
 abbrev pub loaded_objects : World → List Object

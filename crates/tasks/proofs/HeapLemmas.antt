@@ -16,7 +16,9 @@ use Rattle.world.proofs.ArrayLines.{array_sizes}
 use Rattle.world.proofs.ClassTables.{loaded_size}
 use Rattle.source.specs.Heap.{Heap, object_at}
 use Rattle.tasks.specs.Objects.{array_length}
-use Rattle.tasks.proofs.LoadedObjects.{classes_count, classes_grown, loaded_is, made_first, plain_class_object, error_object}
+use Rattle.tasks.proofs.LoadedObjects.{loaded_is, made_first}
+use Rattle.world.proofs.ClassTables.{classes_length, classes_grown}
+use Rattle.world.proofs.PlainObjects.{plain_class_object, error_object}
 
 below : (i k : ℕ) → i ≤ k → (i < k) ⊎ (i ≡ k)
 below zero zero low = inr refl
@@ -117,7 +119,7 @@ module _ (scene : Scene) where
   loaded = loaded_is scene.classes w refl
 
   pub before_is : (names : List Identifier) → names ≡ scene.classes → 42 + 2 * length names + 1 ≡ length w.classes + 1
-  before_is names is = let same : length names ≡ length scene.classes = ap (λ (l : List Identifier). length l) is in omega (arith, classes_count scene.classes, same)
+  before_is names is = let same : length names ≡ length scene.classes = ap (λ (l : List Identifier). length l) is in omega (arith, classes_length scene.classes, same)
 
   pub no_length : (n before : ℕ) → before ≡ length w.classes + 1 → n ≤ before → array_length w.classes (loaded_objects w) n ≡ None
   no_length n before is low =

@@ -3,6 +3,7 @@ pub mod NameLemmas
 pub mod ClassNames
 pub mod BuilderLemmas
 pub mod ClassTables
+pub mod PlainObjects
 pub mod WorldLaws
 pub mod WrittenValues
 pub mod KeptLines

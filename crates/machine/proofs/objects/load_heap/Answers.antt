@@ -2,10 +2,12 @@ use Rattle.std.proofs.Common.{◌≡◌, ◌+◌, [], ◌∷◌, ◌++◌, lengt
 use Rattle.heap.specs.declared.value.Value.TheVariants.{Null}
 use Rattle.heap.specs.Heap.{Space, end_of, fresh_block, with_block}
 use Rattle.classes.specs.BuiltIns.{out_of_memory_error}
-use Rattle.machine.specs.HeapAgrees.{AreMade, made_before}
+use Rattle.machine.specs.HeapAgrees.{AreMade}
+use Rattle.source.specs.World.{made_before}
 use Rattle.std.proofs.lemmas.List.{length-replicate}
 use Rattle.world.specs.SceneWorld.{world_of_scene}
-use Rattle.machine.proofs.LoadedObjects.{plain_class_object, made_first, before_is, fits_first, sizes_plain}
+use Rattle.machine.proofs.LoadedObjects.{made_first, before_is, fits_first, sizes_plain}
+use Rattle.world.proofs.PlainObjects.{plain_class_object}
 use Rattle.machine.proofs.Loaded.{class_made, error_made}
 use Rattle.machine.proofs.objects.load_heap.Goals as goal
 

@@ -8,7 +8,8 @@ use Rattle.world.specs.SceneWorld.{world_of_scene}
 use Rattle.report.specs.Shown.{row_lines}
 use Rattle.source.specs.World.{loaded_objects}
 use Rattle.report.proofs.Puts.{PutSoFar, starts, goes_on, stops, is_all}
-use Rattle.machine.specs.Rows.{loaded_rows, block_row}
+use Rattle.machine.specs.Rows.{block_row}
+use Rattle.source.specs.ReportOf.{loaded_rows}
 use Rattle.machine.proofs.BlockRows.{is_address, named, row_there}
 use Rattle.machine.proofs.LoadedRows.{few_loaded, table_length, row_here, rows_end}
 use Rattle.machine.proofs.rows.LoadedRowsRows.put.Goals as goal

@@ -1,28 +1,38 @@
 -- Which objects a report shows where the heap is as it was made at load.
-use Rattle.std.proofs.Common.{◌≡◌, ℕ, zero, suc, ◌+◌, ◌<◌, ◌≤◌, Bool, true, false, cond, List, [], ◌∷◌, ◌++◌, length, map, get_or, Option, Some, refl, sym, ap, ◌∙◌, subst, arith, append_assoc, length-append, Contains}
+use Rattle.std.proofs.Common.{◌≡◌, ℕ, zero, suc, ◌+◌, ◌<◌, ◌≤◌, Bool, true, false, cond, List, [], ◌∷◌, ◌++◌, length, map, get_or, Option, Some, refl, sym, ap, ◌∙◌, subst, arith, append_assoc, length-append, Contains, ⊎_elim}
 use Rattle.std.specs.Prelude.{slice_get, filter, nat_lt, ◌==◌, ◌||◌}
 use Rattle.std.specs.List.{enumerate_from}
 use Rattle.std.specs.Option.{option_map_or}
+use Rattle.std.proofs.lemmas.Bool.{cases_lt}
 use Rattle.std.proofs.lemmas.Bool.Decides.{nat_tests}
 use Rattle.std.proofs.lemmas.List.{length-map}
-use Rattle.std.proofs.lemmas.List.Elements.{filter-append, Contains-append_left}
+use Rattle.std.proofs.lemmas.List.Elements.{filter-append, Contains-append_left, Contains-push}
 use Rattle.std.proofs.lemmas.List.FromFn.{length-enumerate_from}
 use Rattle.classes.specs.BuiltIns.{out_of_memory_error}
 use Rattle.classes.specs.Class.{Class, Classes, class_name}
 use Rattle.source.specs.Object.{Object}
 use Rattle.source.specs.Report.{ShownRow}
-use Rattle.source.specs.World.{World, class_object, class_objects, fresh_object, loaded_objects}
+use Rattle.source.specs.World.{World, class_object, class_objects, fresh_object, made_before, loaded_objects}
 use Rattle.source.specs.Heap.{Heap, object_at}
 use Rattle.source.specs.Reachable.{from_one, is_in, reachable, loaded_count, FromRoot}
-use Rattle.source.specs.ReportOf.{shown, shown_value, shown_row}
+use Rattle.source.specs.ReportOf.{shown, shown_value, shown_row, object_row, loaded_rows}
 use Rattle.source.specs.State.{State}
 use Rattle.source.proofs.ReachableLemmas.{reachable_lists}
-use Rattle.machine.specs.HeapAgrees.{made_before}
-use Rattle.machine.specs.Rows.{object_row, loaded_rows}
-use Rattle.machine.proofs.HeapLaws.{from_one-contains}
-use Rattle.machine.proofs.LoadedObjects.{loaded_is}
+
+-- the world's objects are the last
+pub loaded_is : (w : World) → loaded_objects w ≡ made_before w.classes ++ w.objects
+loaded_is w = sym (append_assoc (class_objects w.classes) (fresh_object w.classes out_of_memory_error ∷ []) w.objects)
 
 -- ---- all names are reachable
+
+-- the numbers from 1 on
+pub from_one-contains : (k n : ℕ) → 0 < n → n ≤ k → Contains (from_one k) n
+from_one-contains zero n low high = absurd (omega arith)
+from_one-contains (suc k) n low high =
+    ⊎_elim
+    (λ (l : n < suc k). Contains-append_left (from_one k) (suc k ∷ []) n (from_one-contains k n low (omega arith)))
+    (λ (l : suc k ≤ n). let e : suc k ≡ n = omega arith in subst (λ m. Contains (from_one (suc k)) m) e (Contains-push (from_one k) (suc k)))
+    (cases_lt n (suc k))
 
 -- an element is among the elements
 found_in : (xs : List ℕ) (n k : ℕ) → k < length xs → get_or xs k n ≡ n → is_in xs n ≡ true
