@@ -1,6 +1,6 @@
 -- What is said, as what the program answers.
 use Rattle.std.proofs.Common.{◌≡◌, ℕ, List, Result, Ok, Err, inl, inr, refl, sym, subst}
-use Rattle.world.specs.Sink.{Written, Writes}
+use Rattle.report.specs.Sink.{Written, Writes}
 use Rattle.jnirun.specs.Serve.{Tells}
 use Rattle.command_line.specs.Answers.{Shows, is_said, is_none, lacks_memory, loses_text}
 

@@ -4,7 +4,7 @@ use Rattle.std.specs.List.{list_any}
 use Rattle.clap.specs.declared.error.Error.{Error}
 use Rattle.clap.specs.declared.error.kind.ErrorKind.TheVariants.{DisplayHelp, DisplayVersion}
 use Rattle.clap.specs.Values.{kind_of}
-use Rattle.world.specs.Sink.{Written}
+use Rattle.report.specs.Sink.{Written}
 use Rattle.jnirun.specs.Runs.{AppendsRun, StopsRun}
 use Rattle.jnirun.specs.Serve.{Tells, Serves}
 use Rattle.explanations.specs.declared.Explanation.{Explanation}

@@ -1,7 +1,7 @@
 //! The program over any files and sinks, once the words are parsed.
 
 ghost use Rattle.std.specs.Prelude.{◌≡◌, ◌↔◌, IsTrue};
-ghost use Rattle.world.specs.Sink.{CanFail};
+ghost use Rattle.report.specs.Sink.{CanFail};
 ghost use Rattle.command_line.specs.Answers.{is_help_word, asks_for_help, IsTextOf, IsHelp, Shows, Answers};
 
 use crate::words::Asked;
@@ -11,7 +11,7 @@ use explanations::Explanation;
 use jnirun::{COMMAND_LINE, DONE, Files, fail, say, serve};
 use std::alloc::Global;
 use std::convert::AsStr;
-use world::Sink;
+use report::Sink;
 
 const NO_EXPLANATION: &[u8] =
     b"error: there is no fault or trap of this number: explain N, or explain trap N\n";

@@ -9,7 +9,7 @@ use crate::answering::answer;
 use crate::words::parse;
 use jnirun::{COMMAND_LINE, FileSystem, fail};
 use std::process::ExitCode;
-use world::StdSink;
+use report::StdSink;
 
 fn main(rt: HostRuntime) -> ExitCode {
     let mut out = StdSink::new(rt.stdout());

@@ -1,13 +1,15 @@
 -- The heap: blocks at addresses in a fixed number of cells.
-use Rattle.std.specs.Prelude.{◌≢◌, ℕ, ◌+◌, ◌-◌, ◌≤◌, ◌==◌, List, [], ◌∷◌, ◌++◌, length, map, find, replicate, slice_set, Option, IsSome, AllPairs, if◌then◌else◌}
+use Rattle.std.specs.Prelude.{◌≡◌, ◌≢◌, ℕ, ◌+◌, ◌-◌, ◌≤◌, ◌==◌, List, [], ◌∷◌, ◌++◌, length, map, find, replicate, slice_get, slice_set, Option, Some, IsSome, AllPairs, if◌then◌else◌}
 use Rattle.std.specs.Option.{option_map, option_map_or}
+use Rattle.heap.specs.declared.value.Value.{Value}
+use Rattle.heap.specs.declared.value.Value.TheVariants.{Number}
 
--- a block: where it begins, its class, its birth number, its values as words, and how often it is pinned
+-- a block: where it begins, its class, its birth number, its values, and how often it is pinned
 pub record Block : Type 0 where
   pub address : ℕ
   pub class : ℕ
   pub birth : ℕ
-  pub values : List ℕ
+  pub values : List Value
   pub pins : ℕ
 
 -- how many cells there are, and the blocks in the order of their addresses
@@ -66,8 +68,12 @@ abbrev pub name_at : Space → ℕ → Option ℕ
 name_at s a = option_map (λ (b : Block). b.birth) (block_at s a)
 
 -- its values; none where no block begins
-abbrev pub values_at : Space → ℕ → List ℕ
+abbrev pub values_at : Space → ℕ → List Value
 values_at s a = option_map_or (λ (b : Block). b.values) (block_at s a) []
+
+-- a number is at a place of the block at an address
+abbrev pub IsNumberAt : Space → ℕ → ℕ → Type 0
+IsNumberAt s a place = (n : ℕ) × (slice_get (values_at s a) place ≡ Some (Number n))
 
 -- how often it is pinned; 0 where no block begins
 abbrev pub pins_at : Space → ℕ → ℕ
@@ -83,9 +89,9 @@ AreNamesUnique s = AllPairs (λ (b c : Block). b.birth ≢ c.birth) s.blocks
 
 -- ---- changes
 
--- a block as it is made: its values are 0, and it isn't pinned
-abbrev pub fresh_block : ℕ → ℕ → ℕ → ℕ → Block
-fresh_block address class birth len = record { address = address; class = class; birth = birth; values = replicate len 0; pins = 0 }
+-- a block as it is made: its values are all the same, and it isn't pinned
+abbrev pub fresh_block : ℕ → ℕ → ℕ → ℕ → Value → Block
+fresh_block address class birth len fill = record { address = address; class = class; birth = birth; values = replicate len fill; pins = 0 }
 
 -- the heap with a further block, the highest
 abbrev pub with_block : Space → Block → Space
@@ -95,9 +101,9 @@ with_block s b = record s { blocks = s.blocks ++ b ∷ [] }
 abbrev pub with_changed : Space → ℕ → (Block → Block) → Space
 with_changed s a change = record s { blocks = map (λ (b : Block). if b.address == a then change b else b) s.blocks }
 
--- the heap with another word at a place of the block at an address
-abbrev pub with_value : Space → ℕ → ℕ → ℕ → Space
-with_value s a place word = with_changed s a (λ b. record b { values = slice_set b.values place word })
+-- the heap with another value at a place of the block at an address
+abbrev pub with_value : Space → ℕ → ℕ → Value → Space
+with_value s a place value = with_changed s a (λ b. record b { values = slice_set b.values place value })
 
 -- the heap with the block at an address pinned so often
 abbrev pub with_pins : Space → ℕ → ℕ → Space

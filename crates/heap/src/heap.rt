@@ -1,10 +1,14 @@
 //! The heap.
 
 ghost use Rattle.std.specs.Prelude.{◌≡◌, ℕ, ◌+◌, ◌-◌, ◌<◌, ◌≤◌, [], Some, length, take, replicate, slice_get, slice_index, IfOk, OnOk, OnErr};
-ghost use Rattle.heap.specs.Heap.{IsAddress, IsLaidOut, block_at, class_at, name_at, values_at, pins_at, addresses, left_of, end_of, fresh_block, with_block, with_value, with_pins};
-ghost use Rattle.heap.specs.Cells.{words_from};
+ghost use Rattle.heap.specs.declared.value.Value.TheVariants.{Number};
+ghost use Rattle.heap.specs.Heap.{IsAddress, IsNumberAt, IsLaidOut, block_at, class_at, name_at, values_at, pins_at, addresses, left_of, end_of, fresh_block, with_block, with_value, with_pins};
+ghost use Rattle.heap.specs.Cells.{cells_from};
+ghost use Rattle.heap.specs.Values.{word_in};
 
 use crate::addr::Addr;
+use crate::cells::Cells;
+use crate::value::Value;
 use std::alloc::{AllocError, Global};
 use std::marker::Model;
 use thiserror::Error;
@@ -29,7 +33,7 @@ pub struct NoRoom;
 /// other call allocates.
 #[derive(Drop)]
 pub struct Heap {
-    cells: Vec<u32>,
+    cells: Cells,
     /// The addresses of the blocks, rising.
     starts: Vec<u32>,
     /// After the highest block.
@@ -45,9 +49,9 @@ impl Model for Heap {
 
     ghost use Rattle.heap.specs.Cells.{space_in, IsStored};
 
-    ghost view = { λ h. space_in h.cells.items h.pins.items h.starts.items };
+    ghost view = { λ h. space_in h.cells h.pins.items h.starts.items };
 
-    ghost invariant = { λ h. IsStored h.cells.items h.pins.items h.starts.items h.end h.starts.cap };
+    ghost invariant = { λ h. IsStored h.cells h.pins.items h.starts.items h.end h.starts.cap };
 }
 
 impl Heap {
@@ -58,7 +62,7 @@ impl Heap {
     {
         let cells = cells as usize;
         Ok(Heap {
-            cells: vec![in alloc; 0; cells]?,
+            cells: Cells::new(alloc, cells)?,
             starts: Vec::with_capacity(alloc, cells / HEADER)?,
             end: 0,
             pins: vec![in alloc; 0; cells]?,
@@ -97,12 +101,12 @@ impl Heap {
         Addr::new(self.starts[place])
     }
 
-    /// Makes a block of `len` values after the highest one, each 0.
+    /// Makes a block of `len` values after the highest one, each `fill`.
     ///
     /// `NoRoom` exactly where too few cells are left there.
-    pub fn alloc(&mut self, class: u32, birth: u32, len: usize) -> Result<Addr, NoRoom>
+    pub fn alloc(&mut self, class: u32, birth: u32, len: usize, fill: Value) -> Result<Addr, NoRoom>
         ensures address { IfOk result (λ a. a ≡ end_of self.old) }
-        ensures block { IfOk result (λ a. self.new ≡ with_block self.old (fresh_block a class birth len)) }
+        ensures block { IfOk result (λ a. self.new ≡ with_block self.old (fresh_block a class birth len fill)) }
         ensures room { OnOk result (3 + len ≤ left_of self.old) }
         ensures no_room { OnErr result (left_of self.old < 3 + len) }
         ensures err { OnErr result (self.new ≡ self.old) }
@@ -112,7 +116,7 @@ impl Heap {
             return Err(NoRoom);
         }
         let address = self.end;
-        write_block(&mut self.cells, address, class, birth, len);
+        write_block(&mut self.cells, address, class, birth, len, &fill);
         self.pins[address] = 0;
         self.starts.push(address as u32).unwrap();
         self.end = address + HEADER + len;
@@ -124,7 +128,7 @@ impl Heap {
         requires { IsAddress self.now addr }
         ensures { class_at self.now addr ≡ Some result }
     {
-        self.cells[addr.cell() as usize]
+        self.cells.word(addr.cell() as usize)
     }
 
     /// The birth number of a block.
@@ -132,7 +136,7 @@ impl Heap {
         requires { IsAddress self.now addr }
         ensures { name_at self.now addr ≡ Some result }
     {
-        self.cells[addr.cell() as usize + 1]
+        self.cells.word(addr.cell() as usize + 1)
     }
 
     /// The number of a block's values.
@@ -140,24 +144,40 @@ impl Heap {
         requires { IsAddress self.now addr }
         ensures { result ≡ length (values_at self.now addr) }
     {
-        self.cells[addr.cell() as usize + 2] as usize
+        self.cells.word(addr.cell() as usize + 2) as usize
     }
 
     /// A value of a block, by its place, counted from 0.
-    pub fn get(&self, addr: Addr, place: usize) -> u32
+    pub fn get(&self, addr: Addr, place: usize) -> Value
         requires { place < length (values_at self.now addr) }
         ensures { slice_get (values_at self.now addr) place ≡ Some result }
     {
-        self.cells[addr.cell() as usize + HEADER + place]
+        self.cells.get(addr.cell() as usize + HEADER + place)
     }
 
     /// Changes a value of a block.
-    pub fn set(&mut self, addr: Addr, place: usize, word: u32)
+    pub fn set(&mut self, addr: Addr, place: usize, value: Value)
         requires { place < length (values_at self.old addr) }
-        ensures { self.new ≡ with_value self.old addr place word }
+        ensures { self.new ≡ with_value self.old addr place value }
     {
-        let index = addr.cell() as usize;
-        self.cells[index + HEADER + place] = word;
+        self.cells.set(addr.cell() as usize + HEADER + place, value);
+    }
+
+    /// A number of a block, by its place, at the cost of an array access.
+    pub fn number(&self, addr: Addr, place: usize) -> u32
+        requires { IsNumberAt self.now addr place }
+        ensures { slice_get (values_at self.now addr) place ≡ Some (Number result) }
+    {
+        self.cells.word(addr.cell() as usize + HEADER + place)
+    }
+
+    /// Changes a number of a block to another, at the cost of an array access.
+    pub fn set_number(&mut self, addr: Addr, place: usize, number: u32)
+        requires { IsNumberAt self.old addr place }
+        ensures { self.new ≡ with_value self.old addr place (Number number) }
+    {
+        self.cells
+            .set_number(addr.cell() as usize + HEADER + place, number);
     }
 
     /// The number of a block's pins.
@@ -188,20 +208,21 @@ impl Heap {
     }
 }
 
-/// Writes a block whose values are 0.
-fn write_block(cells: &mut [u32], address: usize, class: u32, birth: u32, len: usize)
+/// Writes a block whose values are all the same.
+fn write_block(cells: &mut Cells, address: usize, class: u32, birth: u32, len: usize, fill: &Value)
     requires room { address + 3 + len ≤ length cells.old }
     requires limit { length cells.old ≤ MOST_CELLS }
+    ensures count { length cells.new ≡ length cells.old }
     ensures below { take address cells.new ≡ take address cells.old }
-    ensures class { slice_index cells.new address ≡ class }
-    ensures birth { slice_index cells.new (address + 1) ≡ birth }
-    ensures length { slice_index cells.new (address + 2) ≡ len }
-    ensures values { words_from cells.new (address + 3) len ≡ replicate len 0 }
+    ensures class { word_in cells.new address ≡ class }
+    ensures birth { word_in cells.new (address + 1) ≡ birth }
+    ensures length { word_in cells.new (address + 2) ≡ len }
+    ensures values { cells_from cells.new (address + 3) len ≡ replicate len fill.now }
 {
-    cells[address] = class;
-    cells[address + 1] = birth;
-    cells[address + 2] = len as u32;
+    cells.set(address, Value::Number(class));
+    cells.set(address + 1, Value::Number(birth));
+    cells.set(address + 2, Value::Number(len as u32));
     for place in 0..len {
-        cells[address + HEADER + place] = 0;
+        cells.set(address + HEADER + place, *fill);
     }
 }

@@ -2,7 +2,10 @@
 #![tactic(auto)]
 
 mod addr;
+mod cells;
 mod heap;
+mod value;
 
 pub use addr::Addr;
 pub use heap::{Heap, MOST_CELLS, MOST_PINS, NoRoom};
+pub use value::Value;

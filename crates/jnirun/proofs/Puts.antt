@@ -1,9 +1,9 @@
 -- Texts that are put one after the other.
-use Rattle.std.proofs.Common.{◌≡◌, ℕ, ◌+◌, List, [], ◌++◌, Result, Ok, Err, refl, sym, ap, ◌∙◌, append_assoc, append-nil}
+use Rattle.std.proofs.Common.{◌≡◌, ℕ, ◌+◌, List, [], ◌++◌, Result, Ok, Err, sym, ap, ◌∙◌, append_assoc, append-nil}
 use Rattle.std.specs.Prelude.{OnOk, OnErr}
 use Rattle.std.specs.Io.KnownBytes.{Keeps}
 use Rattle.std.proofs.KnownBytes.{Appends-trans, Appends-kept}
-use Rattle.world.specs.Sink.{Written, AppendsText, StopsWithin, Writes}
+use Rattle.report.specs.Sink.{Written, AppendsText, StopsWithin, Writes}
 
 pub AppendsText-then : (a b c : Written) (x y : List ℕ) → AppendsText a b x → AppendsText b c y → AppendsText a c (x ++ y)
 AppendsText-then a b c x y p q =

@@ -2,15 +2,16 @@
 use Rattle.std.proofs.Common.{◌≡◌, ℕ, List, ◌++◌, Ok, is_some, length, sym, ap, ◌∙◌, subst}
 use Rattle.syntax.specs.Tree.{SourceUnit}
 use Rattle.parse.specs.Spelling.{SpellsUnit}
-use Rattle.world.specs.Journal.{Journal, journal_line}
-use Rattle.world.specs.ReadingJournals.{journal_of}
-use Rattle.world.specs.Report.{report_text}
+use Rattle.source.specs.Journal.{Journal}
+use Rattle.report.specs.JournalText.{journal_line}
+use Rattle.texts.specs.ReadingJournals.{journal_of}
+use Rattle.report.specs.ReportText.{report_text}
 use Rattle.world.specs.Scene.{Scene}
 use Rattle.world.specs.SceneWorld.{world_of_scene}
-use Rattle.world.specs.World.{World}
-use Rattle.regions.specs.ReportOf.{report}
-use Rattle.regions.specs.Run.{Writes}
-use Rattle.regions.specs.State.{State}
+use Rattle.source.specs.World.{World}
+use Rattle.source.specs.ReportOf.{report}
+use Rattle.report.specs.RunText.{Writes}
+use Rattle.source.specs.State.{State}
 use Rattle.jnirun.specs.Runs.{IsRun}
 use Rattle.jnirun.specs.Replays.{ReplayMeaning, IsReplay, IsPossible}
 use Rattle.jnirun.specs.ReplayLaws.{IsJournalOf, RunsAreReplayed}

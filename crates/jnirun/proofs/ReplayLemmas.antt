@@ -1,20 +1,21 @@
 -- What the layers answer, as what a replay does to the sink.
-use Rattle.std.proofs.Common.{◌≡◌, ℕ, List, Option, None, Result, Ok, Err, length, refl, sym, ap, ◌∙◌, subst}
+use Rattle.std.proofs.Common.{◌≡◌, ℕ, List, Option, None, Ok, Err, length, refl, sym, ap, ◌∙◌, subst}
 use Rattle.std.specs.Option.{option_map}
 use Rattle.syntax.specs.Tree.{SourceUnit}
-use Rattle.world.specs.declared.fault.ReadError.{ReadError}
-use Rattle.world.specs.declared.fault.ReadError.TheVariants as reading
-use Rattle.world.specs.Journal.{Journal, IsJournalText}
-use Rattle.world.specs.Reading.{Fails}
-use Rattle.world.specs.ReadingJournals.{journal_of}
+use Rattle.texts.specs.declared.fault.ReadError.{ReadError}
+use Rattle.texts.specs.declared.fault.ReadError.TheVariants as reading
+use Rattle.source.specs.Journal.{Journal}
+use Rattle.texts.specs.JournalMeaning.{IsJournalText}
+use Rattle.texts.specs.Reading.{Fails}
+use Rattle.texts.specs.ReadingJournals.{journal_of}
 use Rattle.world.specs.ReadingWorlds.{scene_of_text}
 use Rattle.world.specs.Scene.{Scene}
 use Rattle.world.specs.SceneWorld.{world_of_scene}
-use Rattle.world.specs.Sink.{Written}
+use Rattle.report.specs.Sink.{Written}
 use Rattle.world.specs.WorldRules.{IsWorldText}
-use Rattle.regions.specs.Load.{first_load_fault}
-use Rattle.regions.specs.Run.{Writes}
-use Rattle.regions.specs.State.{State}
+use Rattle.source.specs.Load.{first_load_fault}
+use Rattle.report.specs.RunText.{Writes}
+use Rattle.source.specs.State.{State}
 use Rattle.replay.specs.declared.fault.ReplayFault.{ReplayFault}
 use Rattle.replay.specs.declared.fault.ReplayFault.TheVariants as replaying
 use Rattle.replay.specs.Replays.{WritesRun, IsStoppedBy, IsReplayable, IsFromOutside, EndsBy}

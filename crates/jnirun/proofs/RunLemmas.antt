@@ -5,23 +5,25 @@ use Rattle.std.specs.Option.{option_map}
 use Rattle.syntax.specs.declared.unit.Item.{Item}
 use Rattle.syntax.specs.Tree.{SourceUnit}
 use Rattle.syntax.specs.Views.{unit_tree}
-use Rattle.world.specs.declared.fault.ReadError.{ReadError}
-use Rattle.world.specs.declared.fault.ReadError.TheVariants as reading
-use Rattle.world.specs.Reading.{Fails}
-use Rattle.world.specs.ReadingSchedules.{schedule_of}
+use Rattle.texts.specs.declared.fault.ReadError.{ReadError}
+use Rattle.texts.specs.declared.fault.ReadError.TheVariants as reading
+use Rattle.texts.specs.Reading.{Fails}
+use Rattle.texts.specs.ReadingSchedules.{schedule_of}
 use Rattle.world.specs.ReadingWorlds.{scene_of_text}
 use Rattle.world.specs.Scene.{Scene}
-use Rattle.world.specs.Schedule.{Schedule, IsScheduleText}
+use Rattle.source.specs.Schedule.{Schedule}
+use Rattle.texts.specs.ScheduleText.{IsScheduleText}
 use Rattle.world.specs.SceneWorld.{world_of_scene}
-use Rattle.world.specs.Sink.{Written}
-use Rattle.regions.specs.Load.{first_load_fault}
-use Rattle.world.specs.declared.journal.Entry.{Entry}
-use Rattle.world.specs.Journal.{Journal}
-use Rattle.world.specs.World.{World}
+use Rattle.report.specs.Sink.{Written}
+use Rattle.source.specs.Load.{first_load_fault}
+use Rattle.source.specs.declared.journal.Entry.{Entry}
+use Rattle.source.specs.Journal.{Journal}
+use Rattle.source.specs.World.{World}
 use Rattle.world.specs.WorldRules.{IsWorldText}
-use Rattle.regions.specs.State.{State}
-use Rattle.regions.specs.Run.{Over, Collects, Waits, Steps, Follows, JournalFollows, JournalHasRoom, Writes, replay}
-use Rattle.regions.specs.Start.{start}
+use Rattle.source.specs.State.{State}
+use Rattle.source.specs.Run.{Over, Collects, Waits, Steps, Follows, JournalFollows, UnmarkedFit, MarkedAreFair, replay}
+use Rattle.report.specs.RunText.{Writes}
+use Rattle.source.specs.Start.{start}
 use Rattle.lower.specs.declared.fault.LowerFault.{LowerFault}
 use Rattle.lower.specs.declared.fault.LowerFault.TheVariants as lowering
 use Rattle.lower.specs.Length.{IsTooLong}
@@ -132,15 +134,16 @@ module _ (program world schedule : List ℕ) (old : Written) where
   -- the run that a machine wrote
   abbrev is_run : (items : List Item) (scene : Scene) (words : Schedule) (begun ended : Run) (text : List ℕ) (is : IsProgram program (unit_tree items)) (w : scene_of_text world ≡ Ok scene) (s : schedule_of schedule (length scene.threads) ≡ Ok words) (l : first_load_fault (unit_tree items) (world_of_scene scene) ≡ None)
       → IsWorldText world (world_of_scene scene) → IsScheduleText (length scene.threads) schedule words
-      → IsUnstarted items scene begun → RunsAlong begun ended words → Writes (unit_tree ended.unit) (world_of_scene ended.world) ended.journal text → JournalHasRoom (unit_tree ended.unit) (world_of_scene ended.world) ended.journal → IsRun program world schedule text
-  is_run items scene words begun ended text is w s l of_world of_schedule un along writes room = record {
+      → IsUnstarted items scene begun → RunsAlong begun ended words → Writes (unit_tree ended.unit) (world_of_scene ended.world) ended.journal text → UnmarkedFit (unit_tree ended.unit) (world_of_scene ended.world) ended.journal → MarkedAreFair (unit_tree ended.unit) (world_of_scene ended.world) ended.journal → IsRun program world schedule text
+  is_run items scene words begun ended text is w s l of_world of_schedule un along writes fits fair = record {
     meaning = meaning_of items scene words is w s l;
     of_world = of_world;
     of_schedule = of_schedule;
     journal = ended.journal;
     writes = subst (λ (r : Run). Writes (unit_tree r.unit) (world_of_scene r.world) ended.journal text) (same_parts items scene begun ended words un along) writes;
     follows = follows_all items scene begun ended words un along;
-    has_room = subst (λ (r : Run). JournalHasRoom (unit_tree r.unit) (world_of_scene r.world) ended.journal) (same_parts items scene begun ended words un along) room;
+    fits = subst (λ (r : Run). UnmarkedFit (unit_tree r.unit) (world_of_scene r.world) ended.journal) (same_parts items scene begun ended words un along) fits;
+    fair = subst (λ (r : Run). MarkedAreFair (unit_tree r.unit) (world_of_scene r.world) ended.journal) (same_parts items scene begun ended words un along) fair;
   }
 
   pub ran : (items : List Item) (scene : Scene) (words : Schedule) (begun ended : Run) (stop : Option Stop) (new : Written) {T E : Type 0} (result : Result T E) → StoppedBy ended stop → OnOk result (new.waiting ≡ 0)
@@ -149,7 +152,7 @@ module _ (program world schedule : List ℕ) (old : Written) where
       → IsUnstarted items scene begun → RunsAlong begun ended words → WritesRun ended old new result
       → RunsTexts old new (as_run (option_map (λ s. trap_at (stop_view s)) stop) result) (EndsRun program world schedule) (AreRefused program world schedule)
   ran items scene words begun ended stop new (Ok x) halts none is w s l of_world of_schedule un along h =
-      let run : IsRun program world schedule h.text = is_run items scene words begun ended h.text is w s l of_world of_schedule un along h.is h.has_room in
+      let run : IsRun program world schedule h.text = is_run items scene words begun ended h.text is w s l of_world of_schedule un along h.is h.fits h.fair in
       let there : replay_of ended ≡ Some run.writes.end = ap replay_of (same_parts items scene begun ended words un along) ∙ run.writes.replays in
       let same : run.writes.end ≡ halts.0 = cc (there, halts.1) in
       record {
@@ -159,7 +162,7 @@ module _ (program world schedule : List ℕ) (old : Written) where
         none_waits = none;
       }
   ran items scene words begun ended stop new (Err x) halts none is w s l of_world of_schedule un along h =
-      let run : IsRun program world schedule h.text = is_run items scene words begun ended h.text is w s l of_world of_schedule un along h.is h.has_room in
+      let run : IsRun program world schedule h.text = is_run items scene words begun ended h.text is w s l of_world of_schedule un along h.is h.fits h.fair in
       record { text = h.text; runs = (option_map trap_at run.writes.end.stop, record { run = run; stopped = refl }); stopped = h.written }
 
   -- texts that mean a run load

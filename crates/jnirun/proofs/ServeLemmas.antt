@@ -1,7 +1,7 @@
 -- What is said on standard error, as how a command goes.
-use Rattle.std.proofs.Common.{◌≡◌, ℕ, List, ◌++◌, Some, Result, Ok, Err, inl, inr, refl, subst}
+use Rattle.std.proofs.Common.{◌≡◌, ℕ, List, Some, Result, Ok, Err, inl, inr, refl, subst}
 use Rattle.std.specs.Prelude.{codes}
-use Rattle.world.specs.Sink.{Written, AppendsText, Writes}
+use Rattle.report.specs.Sink.{Written, AppendsText, Writes}
 use Rattle.jnirun.specs.declared.command.Command.{Command}
 use Rattle.jnirun.specs.declared.fault.Place.{Place}
 use Rattle.jnirun.specs.declared.fault.Place.TheVariants.{Line}

@@ -2,16 +2,18 @@
 use Rattle.std.specs.Prelude.{◌≡◌, ℕ, List, length, Option, Some, None, IsSome, Result, Ok, Err}
 use Rattle.std.specs.Option.{option_map}
 use Rattle.syntax.specs.Tree.{SourceUnit}
-use Rattle.world.specs.declared.fault.TextFault.{TextFault}
-use Rattle.world.specs.Journal.{Journal, IsJournalText}
-use Rattle.world.specs.ReadingJournals.{journal_of}
+use Rattle.texts.specs.declared.fault.TextFault.{TextFault}
+use Rattle.source.specs.Journal.{Journal}
+use Rattle.texts.specs.JournalMeaning.{IsJournalText}
+use Rattle.texts.specs.ReadingJournals.{journal_of}
 use Rattle.world.specs.ReadingWorlds.{scene_of_text}
-use Rattle.world.specs.Rule.{rule_number}
+use Rattle.texts.specs.Rule.{rule_number}
 use Rattle.world.specs.Scene.{Scene}
 use Rattle.world.specs.SceneWorld.{world_of_scene}
 use Rattle.world.specs.WorldRules.{IsWorldText}
-use Rattle.regions.specs.Load.{first_load_fault}
-use Rattle.regions.specs.Run.{Writes, replay}
+use Rattle.source.specs.Load.{first_load_fault}
+use Rattle.source.specs.Run.{replay}
+use Rattle.report.specs.RunText.{Writes}
 use Rattle.replay.specs.declared.trap_at.TrapAt.{TrapAt}
 use Rattle.replay.specs.Replays.{IsFirstImpossible}
 use Rattle.replay.specs.TrapAt.{trap_at}

@@ -1,12 +1,13 @@
 -- What a run of three texts writes.
 use Rattle.std.specs.Prelude.{◌≡◌, ℕ, List, length, Option, Result, Ok, Err}
 use Rattle.std.specs.Option.{option_map}
-use Rattle.world.specs.Journal.{Journal}
-use Rattle.world.specs.Schedule.{IsScheduleText}
-use Rattle.world.specs.Sink.{Written, AppendsText, StopsWithin}
+use Rattle.source.specs.Journal.{Journal}
+use Rattle.texts.specs.ScheduleText.{IsScheduleText}
+use Rattle.report.specs.Sink.{Written, AppendsText, StopsWithin}
 use Rattle.world.specs.SceneWorld.{world_of_scene}
 use Rattle.world.specs.WorldRules.{IsWorldText}
-use Rattle.regions.specs.Run.{Writes, JournalFollows, JournalHasRoom}
+use Rattle.source.specs.Run.{JournalFollows, UnmarkedFit, MarkedAreFair}
+use Rattle.report.specs.RunText.{Writes}
 use Rattle.replay.specs.declared.trap_at.TrapAt.{TrapAt}
 use Rattle.replay.specs.TrapAt.{trap_at}
 use Rattle.jnirun.specs.Texts.{Meaning}
@@ -26,7 +27,8 @@ pub record IsRun (program world schedule text : List ℕ) : Type 0 where
   pub journal : Journal
   pub writes : Writes meaning.unit (world_of_scene meaning.scene) journal text
   pub follows : JournalFollows meaning.unit (world_of_scene meaning.scene) journal meaning.words
-  pub has_room : JournalHasRoom meaning.unit (world_of_scene meaning.scene) journal
+  pub fits : UnmarkedFit meaning.unit (world_of_scene meaning.scene) journal
+  pub fair : MarkedAreFair meaning.unit (world_of_scene meaning.scene) journal
 
 -- the same, and the trap that stopped the run, if one did
 pub record EndsRun (program world schedule : List ℕ) (trap : Option TrapAt) (text : List ℕ) : Type 0 where

@@ -1,6 +1,6 @@
 -- What the commands do with files, standard output and standard error.
 use Rattle.std.specs.Prelude.{◌≡◌, ◌⊎◌, ℕ, List, ◌++◌, Option, Some, None, codes, decimal}
-use Rattle.world.specs.Sink.{Written, AppendsText, StopsWithin}
+use Rattle.report.specs.Sink.{Written, AppendsText, StopsWithin}
 use Rattle.jnirun.specs.declared.command.Command.{Command}
 use Rattle.jnirun.specs.declared.command.Command.TheVariants.{Check, Run, Replay}
 use Rattle.jnirun.specs.declared.fault.Place.{Place}

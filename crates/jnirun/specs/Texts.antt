@@ -1,14 +1,14 @@
 -- What a program, a world and a schedule mean together, and which fault others earn.
 use Rattle.std.specs.Prelude.{◌≡◌, ℕ, List, length, Some, None, Ok, Err}
 use Rattle.syntax.specs.Tree.{SourceUnit}
-use Rattle.world.specs.declared.fault.TextFault.{TextFault}
-use Rattle.world.specs.ReadingSchedules.{schedule_of}
+use Rattle.texts.specs.declared.fault.TextFault.{TextFault}
+use Rattle.texts.specs.ReadingSchedules.{schedule_of}
 use Rattle.world.specs.ReadingWorlds.{scene_of_text}
-use Rattle.world.specs.Rule.{rule_number}
+use Rattle.texts.specs.Rule.{rule_number}
 use Rattle.world.specs.Scene.{Scene}
 use Rattle.world.specs.SceneWorld.{world_of_scene}
-use Rattle.world.specs.Schedule.{Schedule}
-use Rattle.regions.specs.Load.{first_load_fault}
+use Rattle.source.specs.Schedule.{Schedule}
+use Rattle.source.specs.Load.{first_load_fault}
 use Rattle.jnirun.specs.declared.fault.Place.{Place}
 use Rattle.jnirun.specs.declared.fault.Place.TheVariants.{Line}
 use Rattle.jnirun.specs.declared.fault.Text.TheVariants as which

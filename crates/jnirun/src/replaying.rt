@@ -1,7 +1,7 @@
 //! A replay, from its texts to its report.
 
 ghost use Rattle.std.specs.Prelude.{◌≡◌};
-ghost use Rattle.world.specs.Sink.{CanFail};
+ghost use Rattle.report.specs.Sink.{CanFail};
 ghost use Rattle.jnirun.specs.Errors.{of_replay};
 ghost use Rattle.jnirun.specs.Runs.{RunsTexts};
 ghost use Rattle.jnirun.specs.ReplayLaws.{RunsAreReplayed};

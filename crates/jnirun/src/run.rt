@@ -1,7 +1,7 @@
 //! A run, from its texts to its report.
 
 ghost use Rattle.std.specs.Prelude.{◌≡◌, ℕ, List};
-ghost use Rattle.world.specs.Sink.{CanFail};
+ghost use Rattle.report.specs.Sink.{CanFail};
 ghost use Rattle.jnirun.specs.Errors.{of_lower, of_reading, of_load};
 ghost use Rattle.jnirun.specs.Texts.{Meaning, AreRefused};
 ghost use Rattle.jnirun.specs.Runs.{RunsTexts, EndsRun, IsRunOrFails};

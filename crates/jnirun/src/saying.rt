@@ -1,7 +1,7 @@
 //! Texts that are sent on at once.
 
 ghost use Rattle.std.specs.Prelude.{◌≡◌, ◌++◌, OnOk, codes, decimal};
-ghost use Rattle.world.specs.Sink.{CanFail, Writes};
+ghost use Rattle.report.specs.Sink.{CanFail, Writes};
 ghost use Rattle.jnirun.specs.Serve.{Tells, fault_line};
 
 use crate::fault::Place;

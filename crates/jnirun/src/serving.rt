@@ -1,7 +1,7 @@
 //! The commands over any files and sinks.
 
 ghost use Rattle.std.specs.Prelude.{◌≡◌, None};
-ghost use Rattle.world.specs.Sink.{CanFail};
+ghost use Rattle.report.specs.Sink.{CanFail};
 ghost use Rattle.jnirun.specs.Checks.{PassesCheck, FailsCheck};
 ghost use Rattle.jnirun.specs.Runs.{RunsTexts};
 ghost use Rattle.jnirun.specs.Serve.{TextsWrite, TextsEarn, passed, TellsTrap, ServesTexts, Serves};

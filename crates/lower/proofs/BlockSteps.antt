@@ -16,11 +16,11 @@ use Rattle.code.specs.declared.instr.Plain.TheVariants as plain
 use Rattle.code.specs.declared.instr.PlainTrap.TheVariants as trap
 use Rattle.code.specs.Depth.{Listing}
 use Rattle.code.specs.Effect.{element_word}
-use Rattle.regions.specs.Effect.{Returns, with_value, return_effect, element_effect, effect_of}
-use Rattle.regions.specs.Task.{Task, SetScalar, SetElement, SetNull, MakeArray, Invoke, Print, Branch, EndIf, Loop, EndTurn, Return, ReturnValue, Impossible, tasks_of}
-use Rattle.regions.specs.Term as term
-use Rattle.regions.specs.Term.{Term, Done, Read, term_of}
-use Rattle.regions.specs.Value.{Value, Word, Int, Flag, Truth, Gives}
+use Rattle.source.specs.Effect.{Returns, with_value, return_effect, element_effect, effect_of}
+use Rattle.source.specs.Task.{Task, SetScalar, SetElement, SetNull, MakeArray, Invoke, Print, Branch, EndIf, Loop, EndTurn, Return, ReturnValue, Impossible, tasks_of}
+use Rattle.source.specs.Term as term
+use Rattle.source.specs.Term.{Term, Done, Read, term_of}
+use Rattle.source.specs.Value.{Value, Word, Int, Flag, Truth, Gives}
 use Rattle.lower.specs.Layout.{Known, Layout}
 use Rattle.lower.specs.Coding.{element_of, term_code, ways_code, turn_code, block_code}
 use Rattle.lower.specs.Slots.{word_of, Visible, Slots, Shows}

@@ -4,8 +4,8 @@ use Rattle.base.specs.Bytes.{Identifier, lookup}
 use Rattle.base.specs.Element.{JChar}
 use Rattle.syntax.specs.Tree as tree
 use Rattle.syntax.specs.Tree.{Expr, Argument, RightSide, FromExpr, FromCall, Test, TestExpr, TestCall, Stmt, Block, End, Next, VariableType, BitOr}
-use Rattle.types.specs.JniFunction.{GetArrayLength}
-use Rattle.types.specs.Prototype.{function_named}
+use Rattle.jni.specs.JniFunction.{GetArrayLength}
+use Rattle.jni.specs.Prototype.{function_named}
 use Rattle.types.specs.Sorts.{Sort, Jint, Ref, Global, FieldId, Buffer, Array}
 use Rattle.types.specs.Sorts as sort
 use Rattle.types.specs.SortRules.{variable_sort}
@@ -16,9 +16,9 @@ use Rattle.code.specs.declared.instr.ReferenceOperand.TheVariants.{Null, Local}
 use Rattle.code.specs.declared.instr.Target.TheVariants as destination
 use Rattle.code.specs.declared.instr.Instr.TheVariants as instr
 use Rattle.code.specs.Depth.{Listing}
-use Rattle.regions.specs.Term as term
-use Rattle.regions.specs.Term.{Term, Done, Read, Binary, term_of}
-use Rattle.regions.specs.Task.{Task, SetScalar, Branch, ReturnValue, Target, Declared, Assigned, Dropped, ScalarKind, BufferKind, kind_of, set_task, invocation, call_task, right_side_task, if_task, task_of, tasks_of}
+use Rattle.source.specs.Term as term
+use Rattle.source.specs.Term.{Term, Done, Read, Binary, term_of}
+use Rattle.source.specs.Task.{Task, SetScalar, Branch, ReturnValue, Target, Declared, Assigned, Dropped, ScalarKind, BufferKind, kind_of, set_task, invocation, call_task, right_side_task, if_task, task_of, tasks_of}
 use Rattle.lower.specs.Layout.{Slot, Known, Layout, new_slot, closed, layout_after, block_layout}
 use Rattle.lower.specs.Coding.{nullable_of, store_of, element_of, write_code, of_slot, operand_of, term_code, expr_code, call_code, value_code, right_code, assign_code, returned_code, return_code, ways_code, turn_code, loop_code, if_code, stmt_code, block_code}
 use Rattle.lower.specs.Slots.{IsNumberSort}

@@ -6,13 +6,13 @@ use Rattle.std.specs.Str.{bytes_eq}
 use Rattle.base.specs.Bytes.{Identifier, lookup}
 use Rattle.syntax.specs.Tree.{Parameter, ParameterType, IntParameter, ReferenceParameter, Function}
 use Rattle.types.specs.Sorts.{Sort, Jint, Ref, Global}
-use Rattle.world.specs.Object.{ObjectValue, Number, Refers, Reference}
-use Rattle.world.specs.World.{Invocation}
-use Rattle.regions.specs.Activation.{entered, parameter_variables}
-use Rattle.regions.specs.Sight.{scalar, held_reference, holds_null}
-use Rattle.regions.specs.Thread.{Shared, Thread}
-use Rattle.regions.specs.Value.{Int}
-use Rattle.regions.specs.Variable.{Variable, Scalar, LocalRef, StaticReference}
+use Rattle.source.specs.Object.{ObjectValue, Number, Refers, Reference}
+use Rattle.source.specs.World.{Invocation}
+use Rattle.source.specs.Activation.{entered, parameter_variables}
+use Rattle.source.specs.Sight.{scalar, held_reference, holds_null}
+use Rattle.source.specs.Thread.{Shared, Thread}
+use Rattle.source.specs.Value.{Int}
+use Rattle.source.specs.Variable.{Variable, Scalar, LocalRef, StaticReference}
 use Rattle.code.specs.Depth.{Listing}
 use Rattle.lower.specs.Layout.{Slot, Known, parameter_slot, parameter_slots, numbers_after, references_after, numbers_of, references_of, entry_names, entry_layout}
 use Rattle.lower.specs.Slots.{visible_to, Slots, ShowsSlot, Shows, ArgumentFits, ArgumentsFit, argument_word, argument_reference, EntrySlots, AreNull}

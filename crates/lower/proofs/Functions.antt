@@ -3,11 +3,11 @@ use Rattle.std.proofs.Common.{◌≡◌, ◌+◌, ◌≤◌, List, [], ◌∷◌
 use Rattle.std.specs.Prelude.{IsTrue}
 use Rattle.std.proofs.lemmas.List.{append-nil}
 use Rattle.syntax.specs.Tree.{Function}
-use Rattle.world.specs.Object.{ObjectValue}
+use Rattle.source.specs.Object.{ObjectValue}
 use Rattle.code.specs.declared.instr.Instr.TheVariants as instr
 use Rattle.code.specs.Depth.{Listing, IsValid}
 use Rattle.code.proofs.Pieces.{piece_moves, piece_jumps}
-use Rattle.regions.specs.Task.{tasks_of}
+use Rattle.source.specs.Task.{tasks_of}
 use Rattle.lower.specs.Layout.{Known, entry_layout, block_layout, function_slots}
 use Rattle.lower.specs.Coding.{block_code, function_code}
 use Rattle.lower.specs.Length.{function_steps, step_limit}

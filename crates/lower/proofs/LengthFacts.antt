@@ -5,14 +5,14 @@ use Rattle.syntax.specs.Parts.{null_tested, names_declared, statements_of, state
 use Rattle.syntax.specs.Tree as tree
 use Rattle.syntax.specs.Tree.{ResultType, Void, IntResult, ReferenceResult, LogicalNot, Complement, ToWord, ToInt, BinaryOp, LogicalOr, LogicalAnd, Equal, NotEqual, Expr, Argument, Call, RightSide, FromExpr, FromCall, Test, TestExpr, TestCall, Stmt, Block, End, Next}
 use Rattle.base.specs.Element.{JChar}
-use Rattle.types.specs.JniFunction.{GetArrayLength}
+use Rattle.jni.specs.JniFunction.{GetArrayLength}
 use Rattle.types.specs.Sorts.{Sort, Jint, Ref, Global, FieldId, Buffer, constant_sort, sort_in, sort_of, is_ref, is_null, name_sort}
 use Rattle.types.specs.Sorts as sort
 use Rattle.types.specs.SortRules.{variable_sort, return_fits, places_within, places_of}
 use Rattle.code.specs.declared.instr.Instr.{Instr}
 use Rattle.code.specs.declared.instr.Instr.TheVariants as instr
-use Rattle.regions.specs.Term as term
-use Rattle.regions.specs.Term.{Term, Done, Read, IsNull, Prefix, And, Or, Binary, binary_term, term_of}
+use Rattle.source.specs.Term as term
+use Rattle.source.specs.Term.{Term, Done, Read, IsNull, Prefix, And, Or, Binary, binary_term, term_of}
 use Rattle.lower.specs.Layout.{Slot, Known, Layout, new_slot, closed, layout_after, block_layout}
 use Rattle.lower.specs.Coding.{nullable_of, test_of, store_of, null_code, element_code, write_code, of_slot, load_code, prefix_code, operator_code, is_signed, skip_code, term_code, expr_code, call_code, value_code, right_code, assign_code, returned_code, return_code, test_code, ways_code, if_code, turn_code, loop_code, stmt_code, block_code}
 use Rattle.lower.specs.Fits.{IsNullable, TermHasSort, NumberFits, ArgumentsFit, CallFits, ValueFits, RightFits, TestFits, ReturnFits, StmtFits, BlockFits}

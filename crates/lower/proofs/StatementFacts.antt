@@ -8,12 +8,12 @@ use Rattle.syntax.specs.Limits.{height, highest, numbers_in_range}
 use Rattle.syntax.specs.Parts.{call_of_right_side, right_side_expressions, test_expressions, names_in}
 use Rattle.syntax.specs.Tree as tree
 use Rattle.syntax.specs.Tree.{ResultType, Void, IntResult, ReferenceResult, Expr, Argument, Call, RightSide, FromExpr, FromCall, Test, TestExpr, TestCall, Stmt}
-use Rattle.types.specs.JniFunction.{GetArrayLength}
-use Rattle.types.specs.Prototype.{NonNull, function_named}
+use Rattle.jni.specs.JniFunction.{GetArrayLength}
+use Rattle.jni.specs.Prototype.{NonNull, function_named}
 use Rattle.types.specs.Sorts.{Sort, Word, Jint, Flag, Truth, Ref, Global, FieldId, Buffer, Array, sort_in, sort_of, is_word, is_jint, is_flag, is_truth, is_ref, is_index, has_elements, is_null, is_reference, name_sort, arguments_fit, call_arguments_fit}
 use Rattle.types.specs.SortRules.{call_fits, may_be_tested, value_sets, right_side_sets, buffer_begins, test_fits, return_fits, has_wrong_count, copies_reference}
-use Rattle.regions.specs.Term as term
-use Rattle.regions.specs.Term.{Term, Read, term_of}
+use Rattle.source.specs.Term as term
+use Rattle.source.specs.Term.{Term, Read, term_of}
 use Rattle.regions.specs.RegionStates.{RegionState}
 use Rattle.lower.specs.Layout.{Slot, Known}
 use Rattle.lower.specs.Fits.{IsArray, IsIndexSort, NumberFits, ReferenceFits, ArgumentsFit, CallFits, ValueFits, RightFits, TestFits, ReturnFits}

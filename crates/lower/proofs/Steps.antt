@@ -7,7 +7,7 @@ use Rattle.std.proofs.Math.Facts.{to_z-of_z}
 use Rattle.std.proofs.lemmas.List.{append-nil}
 use Rattle.std.proofs.lemmas.Bool.{lt-ltb, le-leb}
 use Rattle.base.specs.Bytes.{Identifier}
-use Rattle.types.specs.JniFunction.{JniFunction}
+use Rattle.jni.specs.JniFunction.{JniFunction}
 use Rattle.types.specs.Sorts.{Sort, Jint, Ref, Global, FieldId, Buffer, Array}
 use Rattle.types.specs.Sorts as sort
 use Rattle.code.specs.declared.instr.Callee.{Callee}
@@ -23,12 +23,12 @@ use Rattle.code.specs.declared.instr.Plain.TheVariants as plain
 use Rattle.code.specs.Depth.{Listing}
 use Rattle.code.specs.Effect.{plain_of, cleared}
 use Rattle.code.proofs.Effects.{KeepsSlots, plain_keeps}
-use Rattle.regions.specs.Effect.{Effect, goes_on, with_value, call_effect_of, effect_of}
-use Rattle.regions.specs.Arguments.{ReferenceActual}
-use Rattle.regions.specs.Sight.{Sight}
-use Rattle.regions.specs.Task.{Task, SetScalar, SetNull, MakeArray, Invoke, Print, Target, Declared, Assigned, Dropped, ScalarKind, ReferenceKind, FieldKind, BufferKind, Operand}
-use Rattle.regions.specs.Term.{Term, Done, reduce}
-use Rattle.regions.specs.Value.{Value, Word, Int, Flag, Truth, Gives}
+use Rattle.source.specs.Effect.{Effect, goes_on, with_value, call_effect_of, effect_of}
+use Rattle.source.specs.Arguments.{ReferenceActual}
+use Rattle.source.specs.Sight.{Sight}
+use Rattle.source.specs.Task.{Task, SetScalar, SetNull, MakeArray, Invoke, Print, Target, Declared, Assigned, Dropped, ScalarKind, ReferenceKind, FieldKind, BufferKind, Operand}
+use Rattle.source.specs.Term.{Term, Done, reduce}
+use Rattle.source.specs.Value.{Value, Word, Int, Flag, Truth, Gives}
 use Rattle.lower.specs.Layout.{Slot, Known}
 use Rattle.lower.specs.Coding.{nullable_of, term_code}
 use Rattle.lower.specs.Slots.{word_of, IsNumberSort, Visible, Slots, ShowsSlot, Shows}

@@ -27,9 +27,9 @@ use Rattle.code.specs.declared.instr.Plain.TheVariants as plain
 use Rattle.code.specs.declared.instr.PlainTrap.{PlainTrap}
 use Rattle.code.specs.declared.instr.PlainTrap.TheVariants as trap
 use Rattle.code.specs.Effect.{plain_of, truth_word, operate}
-use Rattle.regions.specs.Value.{Value, Word, Int, Flag, Truth, Gives, Traps, outcome_map, convert}
-use Rattle.regions.specs.Term as term
-use Rattle.regions.specs.Term.{Term, Done, Read, IsNull, Prefix, And, Or, Binary, Reduction, done, with_part, reduce}
+use Rattle.source.specs.Value.{Value, Word, Int, Flag, Truth, Gives, Traps, outcome_map, convert}
+use Rattle.source.specs.Term as term
+use Rattle.source.specs.Term.{Term, Done, Read, IsNull, Prefix, And, Or, Binary, Reduction, done, with_part, reduce}
 use Rattle.lower.specs.Layout.{Slot, Known}
 use Rattle.lower.specs.Coding.{nullable_of, test_of, null_code, element_code, of_slot, load_code, prefix_code, operator_code, is_signed, skip_code, term_code}
 use Rattle.lower.specs.Slots.{word_of, ValueHasSort, IsNumberSort, Visible, Slots, ShowsNumber, ShowsArray, ShowsSlot, holds_null}

@@ -3,9 +3,9 @@ use Rattle.std.proofs.Common.{◌≡◌, ℕ, Bool, true, false, ◌&&◌, ◌||
 use Rattle.std.specs.List.{list_any}
 use Rattle.syntax.specs.Tree as tree
 use Rattle.syntax.specs.Tree.{Call, Test, TestExpr, TestCall, Stmt, Block, End, Next}
-use Rattle.types.specs.JniFunction.{JniFunction}
-use Rattle.types.specs.Prototype.{function_named}
-use Rattle.regions.specs.Task.{Task, Tested, invocation, if_task, task_of, tasks_of}
+use Rattle.jni.specs.JniFunction.{JniFunction}
+use Rattle.jni.specs.Prototype.{function_named}
+use Rattle.source.specs.Task.{Task, Tested, invocation, if_task, task_of, tasks_of}
 use Rattle.lower.specs.Stands.{stmt_returns, block_returns, task_returns}
 
 either_true : (a b : Bool) → a ≡ true → (a || b) ≡ true

@@ -21,9 +21,9 @@ use Rattle.code.specs.declared.instr.Target.TheVariants.{Number}
 use Rattle.code.specs.declared.instr.Instr.{Instr}
 use Rattle.code.specs.declared.instr.Instr.TheVariants.{Push, Load, Store, Convert, Operate, OperateOrTrap, JumpIfFalseOrPop, JumpIfTrueOrPop, JumpIfFalse, Jump, JumpBack, LoadElement, StoreElement, ClearArray, TestNull, StoreNull, PutJint, Call, Return, ReturnJint, ReturnReference}
 use Rattle.code.specs.declared.instr.Instr.TheVariants as instr
-use Rattle.regions.specs.Term as term
-use Rattle.regions.specs.Term.{Term, Done, Read, And, Or, IsNull, Prefix, Binary, term_of}
-use Rattle.regions.specs.Value.{Int}
+use Rattle.source.specs.Term as term
+use Rattle.source.specs.Term.{Term, Done, Read, And, Or, IsNull, Prefix, Binary, term_of}
+use Rattle.source.specs.Value.{Int}
 use Rattle.lower.specs.Layout.{Slot, Known, Layout, new_slot, entry_layout, closed, layout_after, block_layout}
 
 -- ---- variables

@@ -4,14 +4,14 @@ use Rattle.std.specs.Bool.{beq}
 use Rattle.std.specs.Int.{w32, cast_signed}
 use Rattle.base.specs.Bytes.{Identifier, lookup}
 use Rattle.base.specs.Element.{ElementType}
-use Rattle.types.specs.JniFunction.{JniFunction, GetArrayLength}
+use Rattle.jni.specs.JniFunction.{JniFunction, GetArrayLength}
 use Rattle.types.specs.Sorts.{Ref}
-use Rattle.regions.specs.Arguments.{Actual, ReferenceActual}
-use Rattle.regions.specs.Effect.{Effect, Becomes, Sets, SetsNull, SetsElement, MakesArray, Prints, Calls, Returns, TrapsAt, NoEffect}
-use Rattle.regions.specs.Task.{Task, Target, Declared, Assigned, Dropped, ScalarKind}
-use Rattle.regions.specs.Value.{Value, Trap, Int, Gives}
-use Rattle.regions.specs.Value as value
-use Rattle.regions.specs.Variable.{Empty}
+use Rattle.source.specs.Arguments.{Actual, ReferenceActual}
+use Rattle.source.specs.Effect.{Effect, Becomes, Sets, SetsNull, SetsElement, MakesArray, Prints, Calls, Returns, TrapsAt, NoEffect}
+use Rattle.source.specs.Task.{Task, Target, Declared, Assigned, Dropped, ScalarKind}
+use Rattle.source.specs.Value.{Value, Trap, Int, Gives}
+use Rattle.source.specs.Value as value
+use Rattle.source.specs.Variable.{Empty}
 use Rattle.code.specs.declared.instr.Call.{Call}
 use Rattle.code.specs.declared.instr.Callee.{Callee}
 use Rattle.code.specs.declared.instr.Callee.TheVariants as callee

@@ -4,13 +4,13 @@ use Rattle.base.specs.Bytes.{Identifier, lookup}
 use Rattle.base.specs.Element.{ElementType, JChar}
 use Rattle.syntax.specs.Tree as tree
 use Rattle.syntax.specs.Tree.{LogicalNot, Complement, ToWord, ToInt, Expr, Argument, Call, RightSide, FromExpr, FromCall, Test, TestExpr, TestCall, Stmt, Block, End, Next, Function}
-use Rattle.types.specs.JniFunction.{GetArrayLength}
-use Rattle.types.specs.Prototype.{function_named}
+use Rattle.jni.specs.JniFunction.{GetArrayLength}
+use Rattle.jni.specs.Prototype.{function_named}
 use Rattle.types.specs.Sorts.{Sort, Word, Jint, Flag, Truth, Ref, Global, FieldId, Buffer, Array, OperatorGroup, Logic, Equality, Order, OnWords, group}
 use Rattle.types.specs.SortRules.{variable_sort}
 use Rattle.code.specs.declared.slots.SlotCounts.{SlotCounts}
-use Rattle.regions.specs.Term as term
-use Rattle.regions.specs.Term.{Term, Done, Read, And, Or, IsNull, Prefix, Binary, term_of}
+use Rattle.source.specs.Term as term
+use Rattle.source.specs.Term.{Term, Done, Read, And, Or, IsNull, Prefix, Binary, term_of}
 use Rattle.lower.specs.Layout.{Slot, Known, Layout, width, closed, layout_after, block_layout, entry_layout}
 use Rattle.lower.specs.Slots.{ValueHasSort, IsNumberSort}
 

@@ -3,12 +3,12 @@ use Rattle.std.specs.Prelude.{◌≡◌, ℕ, ◌+◌, ◌≤◌, List, [], ◌�
 use Rattle.syntax.specs.declared.unit.Item.{Item as ItemInMemory}
 use Rattle.syntax.specs.Tree.{Function, Item, StaticItem, FunctionItem}
 use Rattle.syntax.specs.Views.{unit_tree}
-use Rattle.world.specs.Object.{ObjectValue}
-use Rattle.world.specs.World.{Invocation}
-use Rattle.regions.specs.Activation.{entered}
-use Rattle.regions.specs.Effect.{effect_of}
-use Rattle.regions.specs.Task.{Task, tasks_of}
-use Rattle.regions.specs.Thread.{Shared, Thread}
+use Rattle.source.specs.Object.{ObjectValue}
+use Rattle.source.specs.World.{Invocation}
+use Rattle.source.specs.Activation.{entered}
+use Rattle.source.specs.Effect.{effect_of}
+use Rattle.source.specs.Task.{Task, tasks_of}
+use Rattle.source.specs.Thread.{Shared, Thread}
 use Rattle.code.specs.Depth.{Listing, IsValid}
 use Rattle.lower.specs.Layout.{Known, with_static, entry_layout}
 use Rattle.lower.specs.Length.{function_steps, step_limit}

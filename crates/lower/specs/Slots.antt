@@ -7,11 +7,11 @@ use Rattle.base.specs.Element.{ElementType}
 use Rattle.syntax.specs.Tree.{ParameterType, IntParameter, ReferenceParameter, Parameter}
 use Rattle.types.specs.Sorts.{Sort, Jint, Ref, Global, FieldId, Buffer, Array}
 use Rattle.types.specs.Sorts as sort
-use Rattle.world.specs.Object.{ObjectValue, Number, Refers, Reference}
-use Rattle.regions.specs.Sight.{Sight}
-use Rattle.regions.specs.Thread.{Shared, Thread, sight_of}
-use Rattle.regions.specs.Value.{Value, Word, Int, Flag, Truth, OutOfRange, Outcome, Gives, Traps, Stuck, convert}
-use Rattle.regions.specs.Variable.{Variable, LocalArray, Empty, as_static}
+use Rattle.source.specs.Object.{ObjectValue, Number, Refers, Reference}
+use Rattle.source.specs.Sight.{Sight}
+use Rattle.source.specs.Thread.{Shared, Thread, sight_of}
+use Rattle.source.specs.Value.{Value, Word, Int, Flag, Truth, OutOfRange, Outcome, Gives, Traps, Stuck, convert}
+use Rattle.source.specs.Variable.{Variable, LocalArray, Empty, as_static}
 use Rattle.code.specs.declared.instr.NullableVariable.{NullableVariable}
 use Rattle.code.specs.declared.instr.NullableVariable.TheVariants as nullable
 use Rattle.code.specs.Depth.{Listing}

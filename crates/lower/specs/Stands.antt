@@ -5,11 +5,11 @@ use Rattle.base.specs.Bytes.{Identifier, lookup}
 use Rattle.base.specs.Element.{ElementType}
 use Rattle.syntax.specs.Tree as tree
 use Rattle.syntax.specs.Tree.{BitOr, Expr, Stmt, Block, End, Next}
-use Rattle.types.specs.JniFunction.{JniFunction, GetArrayLength}
+use Rattle.jni.specs.JniFunction.{JniFunction, GetArrayLength}
 use Rattle.types.specs.Sorts.{Sort, Jint, Truth, Ref, Global, Array}
-use Rattle.regions.specs.Task.{Task, SetScalar, SetElement, SetNull, MakeArray, Invoke, Print, Branch, EndIf, Loop, EndTurn, Return, ReturnValue, Impossible, Target, Declared, Assigned, Tested, Dropped, ScalarKind, Operand, Given}
-use Rattle.regions.specs.Term as term
-use Rattle.regions.specs.Term.{Term, Done, Read, And, Or, Prefix, Binary, term_of}
+use Rattle.source.specs.Task.{Task, SetScalar, SetElement, SetNull, MakeArray, Invoke, Print, Branch, EndIf, Loop, EndTurn, Return, ReturnValue, Impossible, Target, Declared, Assigned, Tested, Dropped, ScalarKind, Operand, Given}
+use Rattle.source.specs.Term as term
+use Rattle.source.specs.Term.{Term, Done, Read, And, Or, Prefix, Binary, term_of}
 use Rattle.code.specs.declared.instr.Call.{Call}
 use Rattle.code.specs.declared.instr.Callee.{Callee}
 use Rattle.code.specs.declared.instr.Callee.TheVariants as callee

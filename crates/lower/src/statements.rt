@@ -4,7 +4,7 @@ ghost use Rattle.std.specs.Prelude.{◌≡◌, ◌+◌, ◌-◌, ◌<◌, ◌≤
 ghost use Rattle.base.specs.Bytes.{lookup};
 ghost use Rattle.syntax.specs.Views.{element_tree, expr_tree, argument_tree, call_tree, right_side_tree, test_tree, variable_type_tree, form_tree, block_tree};
 ghost use Rattle.types.specs.SortRules.{variable_sort};
-ghost use Rattle.regions.specs.Term.{term_of};
+ghost use Rattle.source.specs.Term.{term_of};
 ghost use Rattle.lower.specs.Layout.{closed, layout_after, block_layout, with_name, new_slot};
 ghost use Rattle.lower.specs.Coding.{operand_code, call_code, right_code, assign_code, write_code, of_slot, return_code, returned_code, test_code, first_code, loop_code, expr_code, stmt_code, block_code};
 ghost use Rattle.lower.specs.Names.{sort_view, slot_view};

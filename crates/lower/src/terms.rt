@@ -6,8 +6,8 @@ ghost use Rattle.base.specs.Bytes.{lookup};
 ghost use Rattle.syntax.specs.Parts.{null_tested};
 ghost use Rattle.syntax.specs.Tree.{Binary, Equal, NotEqual};
 ghost use Rattle.syntax.specs.Views.{constant_tree, prefix_tree, binary_tree, element_tree, expr_tree};
-ghost use Rattle.regions.specs.Term as term;
-ghost use Rattle.regions.specs.Term.{term_of};
+ghost use Rattle.source.specs.Term as term;
+ghost use Rattle.source.specs.Term.{term_of};
 ghost use Rattle.lower.specs.Coding.{nullable_of, element_of, element_code, null_code, of_slot, constant_code, prefix_code, operator_code, is_signed, skip_code, logical_code, term_code, expr_code};
 ghost use Rattle.lower.specs.Names.{sort_view};
 

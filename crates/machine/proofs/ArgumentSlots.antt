@@ -8,7 +8,7 @@ use Rattle.base.specs.Element.{JInt}
 use Rattle.world.specs.WorldRules.{is_in_range}
 use Rattle.std.proofs.lemmas.Bool.Decides.{nat_tests}
 use Rattle.world.specs.declared.argument.Argument.{Argument}
-use Rattle.world.specs.Object.{ObjectValue, Number, Refers}
+use Rattle.source.specs.Object.{ObjectValue, Number, Refers}
 use Rattle.world.specs.Views.{argument_view}
 use Rattle.lower.specs.Slots.{argument_reference}
 use Rattle.machine.specs.Entry.{argument_address}

@@ -4,20 +4,22 @@ use Rattle.std.specs.Prelude.{slice_get, slice_set}
 use Rattle.std.specs.Int.{w32, cast_unsigned}
 use Rattle.std.proofs.lemmas.List.{length-map}
 use Rattle.std.proofs.lemmas.List.Sums.{sum_by-append, sum_by-cons}
-use Rattle.heap.specs.Heap.{Block, Space, IsLaidOut, end_of, left_of, values_at, fresh_block, with_block, with_value}
-use Rattle.world.specs.Object.{Object, Number, size, sizes}
+use Rattle.heap.specs.declared.value.Value.{Value}
+use Rattle.heap.specs.declared.value.Value.TheVariants.{Number as Word}
+use Rattle.heap.specs.Heap.{Block, Space, IsLaidOut, IsNumberAt, end_of, left_of, fresh_block, with_block, with_value}
+use Rattle.source.specs.Object.{Object, Number, size, sizes}
 use Rattle.world.specs.Scene.{ArrayScene}
 use Rattle.world.specs.SceneWorld.{array_object}
-use Rattle.regions.specs.Heap.{Heap}
-use Rattle.machine.specs.HeapAgrees.{WordsAgree, AreMade}
+use Rattle.source.specs.Heap.{Heap}
+use Rattle.machine.specs.HeapAgrees.{ValuesAgree, AreMade}
 use Rattle.machine.proofs.HeapLaws.{IsNext}
 use Rattle.machine.proofs.Loaded.{made_more, changed_new, values_new}
 
--- the words of numbers, the first so many; 0 stands for the others
-abbrev pub words_so_far : List ℤ → ℕ → List ℕ
-words_so_far [] i = []
-words_so_far (z ∷ zs) zero = 0 ∷ words_so_far zs zero
-words_so_far (z ∷ zs) (suc i) = cast_unsigned w32 z ∷ words_so_far zs i
+-- cells of which the first have these numbers, and the others 0
+abbrev pub cells_so_far : List ℤ → ℕ → List Value
+cells_so_far [] i = []
+cells_so_far (z ∷ zs) zero = Word 0 ∷ cells_so_far zs zero
+cells_so_far (z ∷ zs) (suc i) = Word (cast_unsigned w32 z) ∷ cells_so_far zs i
 
 -- the first so many numbers are in range
 abbrev pub FitSoFar : List ℤ → ℕ → Type 0
@@ -34,43 +36,43 @@ fit_more [] i z at fits h = tt
 fit_more (y ∷ zs) zero z at fits h = (let same : z ≡ y = cc in subst (FitsSigned w32) same fits, none_fit zs)
 fit_more (y ∷ zs) (suc i) z at fits h = (h.0, fit_more zs i z at fits h.1)
 
-pub length-words : (zs : List ℤ) (i : ℕ) → length (words_so_far zs i) ≡ length zs
-length-words [] i = refl
-length-words (z ∷ zs) zero = ap suc (length-words zs zero)
-length-words (z ∷ zs) (suc i) = ap suc (length-words zs i)
+cells_zero : (zs : List ℤ) → cells_so_far zs 0 ≡ replicate (length zs) (Word 0)
+cells_zero [] = refl
+cells_zero (z ∷ zs) = ap (λ (l : List Value). Word 0 ∷ l) (cells_zero zs)
 
-pub words_zero : (zs : List ℤ) → words_so_far zs 0 ≡ replicate (length zs) 0
-words_zero [] = refl
-words_zero (z ∷ zs) = ap (λ (l : List ℕ). 0 ∷ l) (words_zero zs)
+cells_more : (zs : List ℤ) (i : ℕ) (z : ℤ) → slice_get zs i ≡ Some z → slice_set (cells_so_far zs i) i (Word (cast_unsigned w32 z)) ≡ cells_so_far zs (suc i)
+cells_more [] i z at = absurd (cc)
+cells_more (y ∷ zs) zero z at = let same : z ≡ y = cc in ap (λ (x : ℤ). Word (cast_unsigned w32 x) ∷ cells_so_far zs zero) same
+cells_more (y ∷ zs) (suc i) z at = ap (λ (l : List Value). Word (cast_unsigned w32 y) ∷ l) (cells_more zs i z at)
 
-pub words_more : (zs : List ℤ) (i : ℕ) (z : ℤ) → slice_get zs i ≡ Some z → slice_set (words_so_far zs i) i (cast_unsigned w32 z) ≡ words_so_far zs (suc i)
-words_more [] i z at = absurd (cc)
-words_more (y ∷ zs) zero z at = let same : z ≡ y = cc in ap (λ (x : ℤ). cast_unsigned w32 x ∷ words_so_far zs zero) same
-words_more (y ∷ zs) (suc i) z at = ap (λ (l : List ℕ). cast_unsigned w32 y ∷ l) (words_more zs i z at)
+-- the next cell has a number
+next_cell : (zs : List ℤ) (i : ℕ) → i < length zs → slice_get (cells_so_far zs i) i ≡ Some (Word 0)
+next_cell [] i l = absurd (omega arith)
+next_cell (z ∷ zs) zero l = refl
+next_cell (z ∷ zs) (suc i) l = next_cell zs i (omega arith)
 
-pub words_agree : (s : Space) (zs : List ℤ) (i : ℕ) → length zs ≤ i → FitSoFar zs i → WordsAgree s (words_so_far zs i) (map Number zs)
-words_agree s [] i l h = tt
-words_agree s (z ∷ zs) zero l h = absurd (omega arith)
-words_agree s (z ∷ zs) (suc i) l h = ((h.0, refl), words_agree s zs i (omega arith) h.1)
+cells_agree : (s : Space) (zs : List ℤ) (i : ℕ) → length zs ≤ i → FitSoFar zs i → ValuesAgree s (cells_so_far zs i) (map Number zs)
+cells_agree s [] i l h = tt
+cells_agree s (z ∷ zs) zero l h = absurd (omega arith)
+cells_agree s (z ∷ zs) (suc i) l h = ((h.0, refl), cells_agree s zs i (omega arith) h.1)
 
 -- the block of an array, its first numbers being written
 abbrev pub array_block : Space → (class birth : ℕ) → List ℤ → ℕ → Block
-array_block s class birth zs i = record { address = end_of s; class = class; birth = birth; values = words_so_far zs i; pins = 0 }
+array_block s class birth zs i = record { address = end_of s; class = class; birth = birth; values = cells_so_far zs i; pins = 0 }
 
-pub array_fresh : (s : Space) (class birth : ℕ) (zs : List ℤ) → with_block s (fresh_block (end_of s) class birth (length zs)) ≡ with_block s (array_block s class birth zs 0)
-array_fresh s class birth zs = ap (λ (ws : List ℕ). let b : Block = record { address = end_of s; class = class; birth = birth; values = ws; pins = 0 } in with_block s b) (sym (words_zero zs))
+pub array_fresh : (s : Space) (class birth : ℕ) (zs : List ℤ) → with_block s (fresh_block (end_of s) class birth (length zs) (Word 0)) ≡ with_block s (array_block s class birth zs 0)
+array_fresh s class birth zs = ap (λ (ws : List Value). let b : Block = record { address = end_of s; class = class; birth = birth; values = ws; pins = 0 } in with_block s b) (sym (cells_zero zs))
 
 -- one number more
 pub array_more : (s : Space) (class birth : ℕ) (zs : List ℤ) (i : ℕ) (z : ℤ) → IsLaidOut s → slice_get zs i ≡ Some z
-    → with_value (with_block s (array_block s class birth zs i)) (end_of s) i (cast_unsigned w32 z) ≡ with_block s (array_block s class birth zs (suc i))
+    → with_value (with_block s (array_block s class birth zs i)) (end_of s) i (Word (cast_unsigned w32 z)) ≡ with_block s (array_block s class birth zs (suc i))
 array_more s class birth zs i z laid at =
-    changed_new s (array_block s class birth zs i) (λ b. record b { values = slice_set b.values i (cast_unsigned w32 z) }) laid refl
-    ∙ ap (λ (ws : List ℕ). let b : Block = record { address = end_of s; class = class; birth = birth; values = ws; pins = 0 } in with_block s b) (words_more zs i z at)
+    changed_new s (array_block s class birth zs i) (λ b. record b { values = slice_set b.values i (Word (cast_unsigned w32 z)) }) laid refl
+    ∙ ap (λ (ws : List Value). let b : Block = record { address = end_of s; class = class; birth = birth; values = ws; pins = 0 } in with_block s b) (cells_more zs i z at)
 
-pub array_has_place : (s : Space) (class birth : ℕ) (zs : List ℤ) (i : ℕ) → IsLaidOut s → i < length zs → i < length (values_at (with_block s (array_block s class birth zs i)) (end_of s))
-array_has_place s class birth zs i laid l =
-    let values = ap length (values_new s (array_block s class birth zs i) laid refl) in
-    omega (arith, length-words zs i)
+pub array_has_number : (s : Space) (class birth : ℕ) (zs : List ℤ) (i : ℕ) → IsLaidOut s → i < length zs → IsNumberAt (with_block s (array_block s class birth zs i)) (end_of s) i
+array_has_number s class birth zs i laid l =
+    (0, ap (λ (vs : List Value). slice_get vs i) (values_new s (array_block s class birth zs i) laid refl) ∙ next_cell zs i l)
 
 -- all numbers
 pub array_made : (s : Space) (addresses : List ℕ) (objects : Heap) (class i : ℕ) (zs : List ℤ) → AreMade s addresses objects → 3 + length zs ≤ left_of s → length zs ≤ i → FitSoFar zs i
@@ -78,7 +80,7 @@ pub array_made : (s : Space) (addresses : List ℕ) (objects : Heap) (class i : 
 array_made s addresses objects class i zs h room l fit =
     let o : Object = record { class = class; values = map Number zs } in
     let counted : length addresses ≡ length objects = h.table.counted in
-    let next : IsNext s objects (array_block s class (length addresses + 1) zs i) o = record { after = refl; birth = ap (λ n. n + 1) counted; class = refl; values = words_agree s zs i l fit } in
+    let next : IsNext s objects (array_block s class (length addresses + 1) zs i) o = record { after = refl; birth = ap (λ n. n + 1) counted; class = refl; values = cells_agree s zs i l fit } in
     made_more s addresses objects (array_block s class (length addresses + 1) zs i) o h next (omega (arith, length-map zs (λ (z : ℤ). Number z)))
 
 -- ---- the world's arrays, one after another

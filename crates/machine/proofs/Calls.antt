@@ -6,9 +6,9 @@ use Rattle.base.specs.Bytes.{Identifier}
 use Rattle.base.specs.Element.{ElementType}
 use Rattle.syntax.specs.Tree.{Function, Item, StaticItem, FunctionItem}
 use Rattle.syntax.specs.Views.{unit_tree}
-use Rattle.types.specs.JniFunction.{JniFunction}
+use Rattle.jni.specs.JniFunction.{JniFunction}
 use Rattle.heap.specs.Heap.{Space}
-use Rattle.world.specs.Object.{Reference}
+use Rattle.source.specs.Object.{Reference}
 use Rattle.code.specs.declared.instr.Instr.{Instr}
 use Rattle.code.specs.declared.instr.Instr.TheVariants as instr
 use Rattle.code.specs.declared.instr.Call.{Call}
@@ -17,10 +17,10 @@ use Rattle.code.specs.Effect.{IsPlain, plain_of}
 use Rattle.code.specs.Depth.{Listing, depth_after, depth_at, IsValid, LeadsInside, Leaves}
 use Rattle.code.specs.Running.{RunsAt}
 use Rattle.code.proofs.Runs.{runs_at}
-use Rattle.regions.specs.Arguments.{Actual}
-use Rattle.regions.specs.Effect.{Effect, Becomes, Sets, SetsNull, SetsElement, MakesArray, Prints, Calls, Returns, TrapsAt, NoEffect, effect_of}
-use Rattle.regions.specs.Task.{Task, Target}
-use Rattle.regions.specs.Value.{Value, Trap}
+use Rattle.source.specs.Arguments.{Actual}
+use Rattle.source.specs.Effect.{Effect, Becomes, Sets, SetsNull, SetsElement, MakesArray, Prints, Calls, Returns, TrapsAt, NoEffect, effect_of}
+use Rattle.source.specs.Task.{Task, Target}
+use Rattle.source.specs.Value.{Value, Trap}
 use Rattle.lower.specs.Layout.{Known, with_static}
 use Rattle.lower.specs.Slots.{Visible, Slots, Shows, IsSet, IsMade, IsElementSet}
 use Rattle.lower.specs.Stands.{StandsFor}

@@ -7,11 +7,11 @@ use Rattle.std.proofs.lemmas.Option.{slice_get_past, slice_get_within}
 use Rattle.std.proofs.lemmas.Slice.Eq.{bytes_eq-Decides}
 use Rattle.base.specs.Bytes.{Identifier, ByName, lookup}
 use Rattle.base.specs.Element.{ElementType}
-use Rattle.regions.specs.Sight.{scalar, holds_null, elements_of, in_range, held_reference}
-use Rattle.regions.specs.Thread as source
-use Rattle.regions.specs.Thread.{Shared}
-use Rattle.regions.specs.Value.{Value, Gives, Stuck, outcome_then, convert}
-use Rattle.regions.specs.Variable.{Variable, Scalar, LocalArray, Empty, Variables, assign}
+use Rattle.source.specs.Sight.{scalar, holds_null, elements_of, in_range, held_reference}
+use Rattle.source.specs.Thread as source
+use Rattle.source.specs.Thread.{Shared}
+use Rattle.source.specs.Value.{Value, Gives, Stuck, outcome_then, convert}
+use Rattle.source.specs.Variable.{Variable, Scalar, LocalArray, Empty, Variables, assign}
 use Rattle.lower.specs.Slots.{visible_to, type_of_array, OthersStay, IsSet, IsNulled, IsMade, IsElementSet}
 
 -- ---- lists by name

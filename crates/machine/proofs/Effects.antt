@@ -7,7 +7,7 @@ use Rattle.std.proofs.lemmas.Bool.{ltb-true}
 use Rattle.base.specs.Bytes.{Identifier, lookup}
 use Rattle.base.specs.Element.{ElementType}
 use Rattle.classes.specs.Class.{Classes}
-use Rattle.types.specs.JniFunction.{JniFunction}
+use Rattle.jni.specs.JniFunction.{JniFunction}
 use Rattle.heap.specs.Heap.{Space}
 use Rattle.code.specs.declared.instr.Instr.{Instr}
 use Rattle.code.specs.declared.instr.Instr.TheVariants as instr
@@ -19,15 +19,15 @@ use Rattle.code.specs.declared.instr.Plain.{Plain}
 use Rattle.code.specs.declared.instr.Plain.TheVariants as plain
 use Rattle.code.specs.Effect.{truth_word, plain_of, IsPlain}
 use Rattle.code.specs.Depth.{Listing, depth_after, depth_at, LeadsInside, Leaves, variable_within, within_slots}
-use Rattle.regions.specs.Arguments.{Actual}
-use Rattle.regions.specs.Effect as effects
-use Rattle.regions.specs.Effect.{Effect, Becomes, Sets, SetsNull, SetsElement, MakesArray, Prints, Calls, TrapsAt, effect_of}
-use Rattle.regions.specs.Task.{Task, Target}
-use Rattle.regions.specs.Thread as source
-use Rattle.regions.specs.Thread.{BuffersInUse, Shared, sight_of}
-use Rattle.regions.specs.ThreadStep.{with_tasks, after_effect, set_element}
-use Rattle.regions.specs.Value.{Trap, convert}
-use Rattle.regions.specs.Variable.{Variable, Scalar, LocalArray, assign}
+use Rattle.source.specs.Arguments.{Actual}
+use Rattle.source.specs.Effect as effects
+use Rattle.source.specs.Effect.{Effect, Becomes, Sets, SetsNull, SetsElement, MakesArray, Prints, Calls, TrapsAt, effect_of}
+use Rattle.source.specs.Task.{Task, Target}
+use Rattle.source.specs.Thread as source
+use Rattle.source.specs.Thread.{BuffersInUse, Shared, sight_of}
+use Rattle.source.specs.ThreadStep.{with_tasks, after_effect, set_element}
+use Rattle.source.specs.Value.{Trap, convert}
+use Rattle.source.specs.Variable.{Variable, Scalar, LocalArray, assign}
 use Rattle.lower.specs.Slots as lower
 use Rattle.lower.specs.Slots.{Visible, Slots, visible_to, Shows, IsSet, IsMade, IsElementSet}
 use Rattle.lower.specs.Stands.{StandsFor}

@@ -2,14 +2,14 @@
 use Rattle.std.proofs.Common.{◌≡◌, ℕ, ℤ, Bool, true, false, List, cond, refl}
 use Rattle.base.specs.Bytes.{Identifier}
 use Rattle.syntax.specs.Tree.{Expr, Block, Null}
-use Rattle.types.specs.JniFunction.{JniFunction}
-use Rattle.regions.specs.Arguments.{actuals}
-use Rattle.regions.specs.Effect as effect
-use Rattle.regions.specs.Effect.{Effect, SetsElement, Calls, at_line, goes_on, with_value, print_effect, branch_effect, loop_effect, element_effect, reduce_first, is_ready, call_effect_of, returned_name, return_effect, effect_of}
-use Rattle.regions.specs.Sight.{Sight}
-use Rattle.regions.specs.Task.{Task, SetScalar, SetElement, SetNull, MakeArray, Invoke, Print, Branch, EndIf, Loop, EndTurn, Return, ReturnValue, Impossible, Target, Operand}
-use Rattle.regions.specs.Term.{Term, Done, Named, Read, index_of, reduce}
-use Rattle.regions.specs.Value.{Value, Word, Int, Flag, Truth, Outcome, Gives, Traps, Stuck}
+use Rattle.jni.specs.JniFunction.{JniFunction}
+use Rattle.source.specs.Arguments.{actuals}
+use Rattle.source.specs.Effect as effect
+use Rattle.source.specs.Effect.{Effect, SetsElement, Calls, at_line, goes_on, with_value, print_effect, branch_effect, loop_effect, element_effect, reduce_first, is_ready, call_effect_of, returned_name, return_effect, effect_of}
+use Rattle.source.specs.Sight.{Sight}
+use Rattle.source.specs.Task.{Task, SetScalar, SetElement, SetNull, MakeArray, Invoke, Print, Branch, EndIf, Loop, EndTurn, Return, ReturnValue, Impossible, Target, Operand}
+use Rattle.source.specs.Term.{Term, Done, Named, Read, index_of, reduce}
+use Rattle.source.specs.Value.{Value, Word, Int, Flag, Truth, Outcome, Gives, Traps, Stuck}
 
 -- an element that an effect sets can be seen
 abbrev pub SetsWhatIsThere : Sight → Effect → Type 0

@@ -1,19 +1,22 @@
 -- A heap that gets a further block still stands for the source's heap, which gets a further object.
-use Rattle.std.proofs.Common.{◌≡◌, ℕ, zero, suc, ◌+◌, ◌<◌, ◌≤◌, Bool, true, false, cond, eqb, List, [], ◌∷◌, ◌++◌, length, get_or, Option, Some, None, refl, sym, ap, ◌∙◌, subst, arith, ⊎_elim, ◌⊎◌, inl, inr, length-append, Contains}
+use Rattle.std.proofs.Common.{◌≡◌, ℕ, zero, suc, ◌+◌, ◌<◌, ◌≤◌, Bool, true, false, cond, eqb, List, [], ◌∷◌, ◌++◌, length, get_or, Option, Some, None, refl, sym, ap, ◌∙◌, arith, ⊎_elim, ◌⊎◌, inl, inr, length-append, Contains}
 use Rattle.std.specs.Prelude.{find, slice_get, AllPairs, ◌≢◌}
 use Rattle.std.specs.Option.{option_map, option_or}
 use Rattle.std.proofs.lemmas.Bool.{cases_lt}
 use Rattle.std.proofs.lemmas.Bool.Decides.{eqb_tells}
 use Rattle.std.proofs.lemmas.List.{get_or_push, get_or_append_left}
-use Rattle.std.proofs.lemmas.List.Elements.{Contains-append_cases, Contains-append_left, Contains-push}
+use Rattle.std.proofs.lemmas.List.Elements.{Contains-append_cases}
 use Rattle.std.proofs.lemmas.List.Folds.{find-append}
 use Rattle.std.proofs.lemmas.Option.{slice_get_within}
+use Rattle.heap.specs.declared.value.Value.{Value}
+use Rattle.heap.specs.declared.value.Value.TheVariants.{Number as Word, Null, Block as Address}
 use Rattle.heap.specs.Heap.{Block, Space, block_end, end_from, end_of, LieFrom, IsLaidOut, block_at, name_at, with_block}
 use Rattle.heap.proofs.Layouts.{from_below_end}
-use Rattle.world.specs.Object.{Object, ObjectValue, Number, Refers}
-use Rattle.regions.specs.Heap.{Heap, object_at}
-use Rattle.regions.specs.Reachable.{from_one, IsName}
-use Rattle.machine.specs.HeapAgrees.{ReferenceAgrees, WordAgrees, WordsAgree, BlockAgrees, BlocksAgree, HeapAgrees, IsTable}
+use Rattle.source.specs.Object.{Object, ObjectValue, Number, Refers}
+use Rattle.source.specs.Heap.{Heap, object_at}
+use Rattle.source.specs.Reachable.{from_one, IsName}
+use Rattle.source.proofs.ShownRows.{from_one-contains}
+use Rattle.machine.specs.HeapAgrees.{ReferenceAgrees, ValueAgrees, ValuesAgree, BlockAgrees, BlocksAgree, HeapAgrees, IsTable}
 
 -- ---- the block at an address
 
@@ -58,16 +61,19 @@ reference_kept s b None (Some n) h = h
 reference_kept s b (Some a) None h = h
 reference_kept s b (Some a) (Some n) h = name_kept s b a n h
 
-word_kept : (s : Space) (b : Block) (w : ℕ) (v : ObjectValue) → WordAgrees s w v → WordAgrees (with_block s b) w v
-word_kept s b w (Number z) h = h
-word_kept s b w (Refers None) h = h
-word_kept s b w (Refers (Some n)) h = name_kept s b w n h
+value_kept : (s : Space) (b : Block) (w : Value) (v : ObjectValue) → ValueAgrees s w v → ValueAgrees (with_block s b) w v
+value_kept s b (Word n) (Number z) h = h
+value_kept s b (Word n) (Refers r) h = h
+value_kept s b Null (Number z) h = h
+value_kept s b Null (Refers r) h = reference_kept s b None r h
+value_kept s b (Address a) (Number z) h = h
+value_kept s b (Address a) (Refers r) h = reference_kept s b (Some a) r h
 
-words_kept : (s : Space) (b : Block) (ws : List ℕ) (vs : List ObjectValue) → WordsAgree s ws vs → WordsAgree (with_block s b) ws vs
-words_kept s b [] [] h = h
-words_kept s b [] (v ∷ vs) h = h
-words_kept s b (w ∷ ws) [] h = h
-words_kept s b (w ∷ ws) (v ∷ vs) h = (word_kept s b w v h.0, words_kept s b ws vs h.1)
+values_kept : (s : Space) (b : Block) (ws : List Value) (vs : List ObjectValue) → ValuesAgree s ws vs → ValuesAgree (with_block s b) ws vs
+values_kept s b [] [] h = h
+values_kept s b [] (v ∷ vs) h = h
+values_kept s b (w ∷ ws) [] h = h
+values_kept s b (w ∷ ws) (v ∷ vs) h = (value_kept s b w v h.0, values_kept s b ws vs h.1)
 
 -- an object that is there stays
 get_kept : (xs ys : Heap) (i : ℕ) (o : Object) → slice_get xs i ≡ Some o → slice_get (xs ++ ys) i ≡ Some o
@@ -91,7 +97,7 @@ block_kept s heap more b c h = record {
   object = h.object;
   is = object_kept heap more c.birth h.object h.is;
   class = h.class;
-  values = words_kept s b c.values h.object.values h.values;
+  values = values_kept s b c.values h.object.values h.values;
 }
 
 blocks_kept : (s : Space) (heap more : Heap) (b : Block) (bs : List Block) → BlocksAgree s heap bs → BlocksAgree (with_block s b) (heap ++ more) bs
@@ -137,12 +143,12 @@ pub record IsNext (s : Space) (heap : Heap) (b : Block) (o : Object) : Type 0 wh
   pub after : b.address ≡ end_of s
   pub birth : b.birth ≡ length heap + 1
   pub class : b.class ≡ o.class
-  pub values : WordsAgree s b.values o.values
+  pub values : ValuesAgree s b.values o.values
 
 pub agrees_with_block : (s : Space) (heap : Heap) (Before After : ℕ → Type 0) (b : Block) (o : Object) → HeapAgrees s heap Before → IsLaidOut s → IsNext s heap b o → Needs Before After b.birth → HeapAgrees (with_block s b) (heap ++ o ∷ []) After
 agrees_with_block s heap Before After b o h laid next needs = record {
   blocks = blocks_push (with_block s b) (heap ++ o ∷ []) s.blocks b (blocks_kept s heap (o ∷ []) b s.blocks h.blocks)
-      (record { object = o; is = object_new heap o b.birth next.birth; class = next.class; values = words_kept s b b.values o.values next.values });
+      (record { object = o; is = object_new heap o b.birth next.birth; class = next.class; values = values_kept s b b.values o.values next.values });
   unique = unique_push s heap s.blocks b h.blocks next.birth h.unique;
   there = λ n need. ⊎_elim
       (λ (old : Before n). let t = h.there n old in (t.0, name_kept s b t.0 n t.1))
@@ -193,14 +199,6 @@ from_one-bounds (suc k) n c =
     (λ (old : Contains (from_one k) n). let b = from_one-bounds k n old in (b.0, omega arith))
     (λ (new : Contains (suc k ∷ []) n). let e : n ≡ suc k = only (suc k) n new in (omega arith, omega arith))
     (Contains-append_cases (from_one k) (suc k ∷ []) n c)
-
-pub from_one-contains : (k n : ℕ) → 0 < n → n ≤ k → Contains (from_one k) n
-from_one-contains zero n low high = absurd (omega arith)
-from_one-contains (suc k) n low high =
-    ⊎_elim
-    (λ (l : n < suc k). Contains-append_left (from_one k) (suc k ∷ []) n (from_one-contains k n low (omega arith)))
-    (λ (l : suc k ≤ n). let e : suc k ≡ n = omega arith in subst (λ m. Contains (from_one (suc k)) m) e (Contains-push (from_one k) (suc k)))
-    (cases_lt n (suc k))
 
 -- each name of a heap with one more object is an old name or the new one
 pub IsName-more : (heap : Heap) (o : Object) → Needs (IsName heap) (IsName (heap ++ o ∷ [])) (length heap + 1)

@@ -5,10 +5,10 @@ use Rattle.std.specs.Option.{option_map, option_map_or}
 use Rattle.std.specs.Int.{w32}
 use Rattle.base.specs.Bytes.{Identifier, lookup}
 use Rattle.classes.specs.Class.{Classes, class_kind, is_plain}
-use Rattle.types.specs.JniFunction.{JniFunction, GetArrayLength}
+use Rattle.jni.specs.JniFunction.{JniFunction, GetArrayLength}
 use Rattle.types.specs.Sorts.{Ref}
 use Rattle.heap.specs.Heap.{Block, Space, block_at, class_at, name_at, values_at, IsAddress}
-use Rattle.world.specs.Object.{Object, ObjectValue, Reference}
+use Rattle.source.specs.Object.{Object, Reference}
 use Rattle.code.specs.declared.instr.Instr.{Instr}
 use Rattle.code.specs.declared.instr.Instr.TheVariants as instr
 use Rattle.code.specs.declared.instr.Call.{Call}
@@ -19,15 +19,15 @@ use Rattle.code.specs.declared.instr.ReferenceOperand.TheVariants.{Null, Local}
 use Rattle.code.specs.declared.instr.Target.{Target as Destination}
 use Rattle.code.specs.declared.instr.Target.TheVariants as destination
 use Rattle.code.specs.Depth.{Listing, depth_after, Leaves}
-use Rattle.regions.specs.Arguments.{Actual, ReferenceActual}
-use Rattle.regions.specs.CallStep.{call_step, put, put_assigned, is_zero}
-use Rattle.regions.specs.Effect.{Calls, tasks_after, effect_of}
-use Rattle.regions.specs.Heap.{Heap, object_at, class_of, values_of}
-use Rattle.regions.specs.Task.{Task, Target, ScalarKind, ReferenceKind, FieldKind, BufferKind, Declared, Assigned, Dropped, Tested}
-use Rattle.regions.specs.Thread as source
-use Rattle.regions.specs.Thread.{BuffersInUse, Shared}
-use Rattle.regions.specs.Value.{Value, Int}
-use Rattle.regions.specs.Variable.{Variables, Scalar, assign, as_static}
+use Rattle.source.specs.Arguments.{Actual, ReferenceActual}
+use Rattle.source.specs.CallStep.{call_step, put, put_assigned, is_zero}
+use Rattle.source.specs.Effect.{Calls, tasks_after, effect_of}
+use Rattle.source.specs.Heap.{Heap, object_at, class_of, values_of}
+use Rattle.source.specs.Task.{Task, Target, ScalarKind, ReferenceKind, FieldKind, BufferKind, Declared, Assigned, Dropped, Tested}
+use Rattle.source.specs.Thread as source
+use Rattle.source.specs.Thread.{BuffersInUse, Shared}
+use Rattle.source.specs.Value.{Value, Int}
+use Rattle.source.specs.Variable.{Variables, Scalar, assign, as_static}
 use Rattle.lower.specs.Layout.{Known}
 use Rattle.lower.specs.Slots.{Visible, visible_to, Shows}
 use Rattle.lower.specs.Stands.{StandsFor}
@@ -39,12 +39,13 @@ use Rattle.machine.specs.declared.thread.Event.TheVariants as event
 use Rattle.machine.specs.declared.thread.Activation.{Activation}
 use Rattle.machine.specs.declared.thread.Executed.TheVariants.{Did}
 use Rattle.machine.specs.Agrees.{CallStands, Executes, GoesOn, ReferencesAgree, event_view}
-use Rattle.machine.specs.HeapAgrees.{ReferenceAgrees, WordsAgree, BlockAgrees, BlocksAgree}
+use Rattle.machine.specs.HeapAgrees.{ReferenceAgrees, BlockAgrees, BlocksAgree}
 use Rattle.machine.specs.Invoked.{operand_at, held_in, length_operand, target_slot, HasArrayClass, LengthIs, HasWord, DidCall, Invoked}
 use Rattle.machine.specs.Stops.{trap_view}
 use Rattle.machine.proofs.Calls.{slots_of, Ready, HasMoved, stands_at, depth_behind}
 use Rattle.machine.proofs.Changes.{scalar_of, is_set}
 use Rattle.machine.proofs.Effects.{call_cases}
+use Rattle.machine.proofs.Loaded.{agree_length}
 use Rattle.machine.proofs.LengthCalls.{length_result, length_of_null, length_of_plain, length_of_array}
 
 -- ---- the object at an address
@@ -57,12 +58,6 @@ block_found space heap (c ∷ bs) a b h e = by_test (eqb c.address a) e (λ foun
     by_test : (t : Bool) → cond t (Some c) (find (λ (d : Block). eqb d.address a) bs) ≡ Some b → (find (λ (d : Block). eqb d.address a) bs ≡ Some b → BlockAgrees space heap b) → BlockAgrees space heap b
     by_test true e later = let same : c ≡ b = cc in subst (λ (d : Block). BlockAgrees space heap d) same h.0
     by_test false e later = later e
-
-words_length : (space : Space) (words : List ℕ) (values : List ObjectValue) → WordsAgree space words values → length words ≡ length values
-words_length space [] [] h = refl
-words_length space [] (v ∷ values) h = absurd h
-words_length space (w ∷ words) [] h = absurd h
-words_length space (w ∷ words) (v ∷ values) h = ap suc (words_length space words values h.1)
 
 -- what is known of the object whose block is at an address
 record IsObject (space : Space) (heap : Heap) (a n : ℕ) : Type 0 where
@@ -77,7 +72,7 @@ is_object_by space heap a n (Some b) e h named =
     let object : object_at heap n ≡ Some f.object = ap (object_at heap) (sym birth) ∙ f.is in
     record {
       class = ap (option_map (λ (c : Block). c.class)) e ∙ ap (λ (m : ℕ). Some m) (f.class ∙ sym (ap (λ (o : Option Object). option_map_or (λ (x : Object). x.class) o 0) object));
-      count = ap length (ap (λ (o : Option Block). option_map_or (λ (c : Block). c.values) o []) e) ∙ words_length space b.values f.object.values f.values ∙ sym (ap length (ap (λ (o : Option Object). option_map_or (λ (x : Object). x.values) o []) object));
+      count = ap length (ap (λ (o : Option Block). option_map_or (λ (c : Block). c.values) o []) e) ∙ agree_length space b.values f.object.values f.values ∙ sym (ap length (ap (λ (o : Option Object). option_map_or (λ (x : Object). x.values) o []) object));
     }
 
 is_object : (space : Space) (heap : Heap) (a n : ℕ) → BlocksAgree space heap space.blocks → name_at space a ≡ Some n → IsObject space heap a n

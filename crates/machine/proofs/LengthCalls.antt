@@ -2,19 +2,19 @@
 use Rattle.std.proofs.Common.{◌≡◌, ℕ, pos, Bool, true, false, List, [], ◌∷◌, ◌++◌, length, Some, None, ap, not, ◌∙◌, append-nil}
 use Rattle.base.specs.Bytes.{Identifier}
 use Rattle.classes.specs.Class.{Classes, class_kind, is_plain}
-use Rattle.types.specs.JniFunction.{GetArrayLength}
-use Rattle.world.specs.Object.{Reference}
-use Rattle.regions.specs.Arguments.{Actual, ReferenceActual}
-use Rattle.regions.specs.CallEffects.{CallResult, ScalarResult}
-use Rattle.regions.specs.CallStep.{call_step, after_call, trap_of_call, put, checked, is_zero}
-use Rattle.regions.specs.CallTable.{call_effect}
-use Rattle.regions.specs.Checks.{call_trap, go_together, first_trap}
-use Rattle.regions.specs.Effect.{tasks_after}
-use Rattle.regions.specs.Heap.{Heap, class_of, values_of}
-use Rattle.regions.specs.Task.{Task, Target}
-use Rattle.regions.specs.Thread.{Thread, Shared, BuffersInUse, Trapped, Advances}
-use Rattle.regions.specs.Value.{Int, Trap, ExceptionPending, NullReference, WrongObject, DeletedReference, NoCapacity}
-use Rattle.regions.specs.Variable.{Empty, Live, Deleted}
+use Rattle.jni.specs.JniFunction.{GetArrayLength}
+use Rattle.source.specs.Object.{Reference}
+use Rattle.source.specs.Arguments.{Actual, ReferenceActual}
+use Rattle.source.specs.CallEffects.{CallResult, ScalarResult}
+use Rattle.source.specs.CallStep.{call_step, after_call, trap_of_call, put, checked, is_zero}
+use Rattle.source.specs.CallTable.{call_effect}
+use Rattle.source.specs.Checks.{call_trap, go_together, first_trap}
+use Rattle.source.specs.Effect.{tasks_after}
+use Rattle.source.specs.Heap.{Heap, class_of, values_of}
+use Rattle.source.specs.Task.{Task, Target}
+use Rattle.source.specs.Thread.{Thread, Shared, BuffersInUse, Trapped, Advances}
+use Rattle.source.specs.Value.{Int, Trap, ExceptionPending, NullReference, WrongObject, DeletedReference, NoCapacity}
+use Rattle.source.specs.Variable.{Empty, Live, Deleted}
 
 -- the length of an array as a result
 abbrev pub length_result : Heap → ℕ → CallResult

@@ -7,7 +7,6 @@ pub mod LoadLemmas
 pub mod ThreadLoads
 pub mod Runs
 pub mod Standings
-pub mod ShownRows
 pub mod Reports
 pub mod HeapLaws
 pub mod LoadedObjects

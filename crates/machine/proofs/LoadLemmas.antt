@@ -16,14 +16,14 @@ use Rattle.syntax.specs.Views.{unit_tree, function_tree}
 use Rattle.classes.specs.Class.{Classes, class_named}
 use Rattle.classes.specs.Mangling.{native_class}
 use Rattle.world.specs.CallArguments.{is_argument, are_arguments}
-use Rattle.world.specs.Object.{ObjectValue, Number, Refers}
+use Rattle.source.specs.Object.{ObjectValue, Number, Refers}
 use Rattle.world.specs.Scene.{CallScene, has_call}
 use Rattle.world.specs.SceneWorld.{invocation_of}
 use Rattle.world.specs.Views.{argument_view}
 use Rattle.world.specs.WorldRules.{is_in_range}
 use Rattle.world.proofs.GivenLemmas.{class_within}
-use Rattle.regions.specs.Activation.{class_of_function}
-use Rattle.regions.specs.Load.{call_loads, is_callable, fits_parameter, fit_parameters}
+use Rattle.source.specs.Activation.{class_of_function}
+use Rattle.source.specs.Load.{call_loads, is_callable, fits_parameter, fit_parameters}
 use Rattle.lower.specs.Lowered.{Lowered}
 use Rattle.lower.specs.Slots.{ArgumentFits, ArgumentsFit}
 use Rattle.machine.specs.declared.thread.PendingCall.{PendingCall}

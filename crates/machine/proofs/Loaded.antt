@@ -1,19 +1,21 @@
 -- Objects that are made one after another.
-use Rattle.std.proofs.Common.{◌≡◌, ℕ, suc, ◌+◌, ◌<◌, ◌≤◌, Bool, true, false, cond, eqb, List, [], ◌∷◌, ◌++◌, length, map, replicate, Option, refl, sym, ap, ◌∙◌, subst, arith, ⊎_elim, ◌⊎◌, length-append}
-use Rattle.std.specs.Prelude.{slice_set}
+use Rattle.std.proofs.Common.{◌≡◌, ℕ, suc, ◌+◌, ◌≤◌, Bool, true, false, cond, eqb, List, [], ◌∷◌, ◌++◌, length, map, replicate, Option, refl, sym, ap, ◌∙◌, subst, arith, ⊎_elim, ◌⊎◌, length-append}
 use Rattle.std.specs.Option.{option_map_or}
 use Rattle.std.proofs.lemmas.Bool.Decides.{eqb_tells}
 use Rattle.std.proofs.lemmas.List.{map-append, replicate-append-replicate}
 use Rattle.std.proofs.lemmas.List.Sums.{sum_by-append, sum_by-cons}
 use Rattle.classes.specs.BuiltIns.{class_class, out_of_memory_error}
-use Rattle.heap.specs.Heap.{Block, Space, block_end, end_from, end_of, left_of, LieFrom, IsLaidOut, values_at, fresh_block, with_block, with_changed, with_value}
+use Rattle.heap.specs.declared.value.Value.{Value}
+use Rattle.heap.specs.declared.value.Value.TheVariants.{Null}
+use Rattle.heap.specs.Heap.{Block, Space, block_end, end_from, end_of, left_of, LieFrom, IsLaidOut, values_at, fresh_block, with_block, with_changed}
 use Rattle.heap.proofs.Layouts.{from_below_end, end_from-push, LieFrom-push}
-use Rattle.world.specs.Object.{Object, ObjectValue, size, sizes}
-use Rattle.regions.specs.Heap.{Heap}
-use Rattle.regions.specs.Reachable.{IsName}
-use Rattle.machine.specs.HeapAgrees.{WordsAgree, IsTable, AreMade, null_word}
+use Rattle.source.specs.Object.{Object, ObjectValue, size, sizes}
+use Rattle.source.specs.Heap.{Heap}
+use Rattle.source.specs.Reachable.{IsName}
+use Rattle.machine.specs.HeapAgrees.{ValuesAgree, IsTable, AreMade}
 use Rattle.machine.proofs.HeapLaws.{IsNext, block_new, agrees_with_block, table_push, from_one-bounds, IsName-more}
-use Rattle.machine.proofs.LoadedObjects.{plain_class_object, error_object, made_first}
+use Rattle.machine.proofs.LoadedObjects.{made_first}
+use Rattle.world.proofs.PlainObjects.{plain_class_object, error_object}
 
 -- nothing has been made
 pub none_made : (cells : ℕ) → AreMade (record { cells = cells; blocks = [] }) [] []
@@ -24,8 +26,8 @@ none_made cells = record {
   filled = refl;
 }
 
--- as many words as values
-pub agree_length : (s : Space) (ws : List ℕ) (vs : List ObjectValue) → WordsAgree s ws vs → length ws ≡ length vs
+-- as many cells as values
+pub agree_length : (s : Space) (ws : List Value) (vs : List ObjectValue) → ValuesAgree s ws vs → length ws ≡ length vs
 agree_length s [] [] h = refl
 agree_length s [] (v ∷ vs) h = absurd h
 agree_length s (w ∷ ws) [] h = absurd h
@@ -81,27 +83,19 @@ values_new s b laid after = ap (λ (o : Option Block). option_map_or (λ (b : Bl
 
 -- a further class object
 pub class_made : (s : Space) (addresses : List ℕ) (i : ℕ) → AreMade s addresses (replicate i plain_class_object) → 3 ≤ left_of s
-    → AreMade (with_block s (fresh_block (end_of s) class_class (length addresses + 1) 0)) (addresses ++ end_of s ∷ []) (replicate (i + 1) plain_class_object)
+    → AreMade (with_block s (fresh_block (end_of s) class_class (length addresses + 1) 0 Null)) (addresses ++ end_of s ∷ []) (replicate (i + 1) plain_class_object)
 class_made s addresses i h room =
     let counted : length addresses ≡ length (replicate i plain_class_object) = h.table.counted in
-    let next : IsNext s (replicate i plain_class_object) (fresh_block (end_of s) class_class (length addresses + 1) 0) plain_class_object =
+    let next : IsNext s (replicate i plain_class_object) (fresh_block (end_of s) class_class (length addresses + 1) 0 Null) plain_class_object =
     record { after = refl; birth = ap (λ n. n + 1) counted; class = refl; values = tt } in
-    subst (AreMade (with_block s (fresh_block (end_of s) class_class (length addresses + 1) 0)) (addresses ++ end_of s ∷ [])) (replicate-append-replicate i 1 plain_class_object)
-    (made_more s addresses (replicate i plain_class_object) (fresh_block (end_of s) class_class (length addresses + 1) 0) plain_class_object h next room)
+    subst (AreMade (with_block s (fresh_block (end_of s) class_class (length addresses + 1) 0 Null)) (addresses ++ end_of s ∷ [])) (replicate-append-replicate i 1 plain_class_object)
+    (made_more s addresses (replicate i plain_class_object) (fresh_block (end_of s) class_class (length addresses + 1) 0 Null) plain_class_object h next room)
 
--- the OutOfMemoryError object before its message is written
-pub error_has_value : (s : Space) (birth : ℕ) → IsLaidOut s → 0 < length (values_at (with_block s (fresh_block (end_of s) out_of_memory_error birth 1)) (end_of s))
-error_has_value s birth laid =
-    let values = ap length (values_new s (fresh_block (end_of s) out_of_memory_error birth 1) laid refl) in
-    omega arith
-
--- and after
+-- the OutOfMemoryError object, whose message is NULL
 pub error_made : (s : Space) (addresses : List ℕ) (n : ℕ) → AreMade s addresses (replicate n plain_class_object) → 4 ≤ left_of s
-    → AreMade (with_value (with_block s (fresh_block (end_of s) out_of_memory_error (length addresses + 1) 1)) (end_of s) 0 null_word) (addresses ++ end_of s ∷ []) (made_first n)
+    → AreMade (with_block s (fresh_block (end_of s) out_of_memory_error (length addresses + 1) 1 Null)) (addresses ++ end_of s ∷ []) (made_first n)
 error_made s addresses n h room =
-    let fresh : Block = fresh_block (end_of s) out_of_memory_error (length addresses + 1) 1 in
-    let filled : Block = record fresh { values = null_word ∷ [] } in
+    let fresh : Block = fresh_block (end_of s) out_of_memory_error (length addresses + 1) 1 Null in
     let counted : length addresses ≡ length (replicate n plain_class_object) = h.table.counted in
-    let next : IsNext s (replicate n plain_class_object) filled error_object = record { after = refl; birth = ap (λ n. n + 1) counted; class = refl; values = (refl, tt) } in
-    subst (λ (t : Space). AreMade t (addresses ++ end_of s ∷ []) (made_first n)) (sym (changed_new s fresh (λ b. record b { values = slice_set b.values 0 null_word }) h.laid_out refl))
-    (made_more s addresses (replicate n plain_class_object) filled error_object h next room)
+    let next : IsNext s (replicate n plain_class_object) fresh error_object = record { after = refl; birth = ap (λ n. n + 1) counted; class = refl; values = (tt, tt) } in
+    made_more s addresses (replicate n plain_class_object) fresh error_object h next room

@@ -6,18 +6,19 @@ use Rattle.std.proofs.lemmas.Bool.Decides.{nat_tests}
 use Rattle.std.proofs.lemmas.List.{length-map}
 use Rattle.std.proofs.lemmas.Option.{slice_get-map}
 use Rattle.heap.specs.Heap.{Space}
-use Rattle.world.specs.Object.{Object, sizes}
-use Rattle.world.specs.Report.{object_line}
+use Rattle.source.specs.Object.{Object, sizes}
+use Rattle.report.specs.ReportText.{object_line}
 use Rattle.world.specs.Scene.{ArrayScene, Scene}
 use Rattle.world.specs.SceneWorld.{world_of_scene, array_object}
-use Rattle.world.specs.Shown.{row_lines}
-use Rattle.world.specs.World.{World, loaded_objects, fits_cells}
+use Rattle.report.specs.Shown.{row_lines}
+use Rattle.source.specs.World.{World, loaded_objects, fits_cells}
 use Rattle.machine.specs.HeapAgrees.{AgreesAtLoad}
-use Rattle.machine.specs.Rows.{loaded_rows, object_row, block_row}
+use Rattle.machine.specs.Rows.{block_row}
+use Rattle.source.specs.ReportOf.{loaded_rows, object_row}
 use Rattle.machine.proofs.Arrays.{few_objects}
 use Rattle.machine.proofs.BlockRows.{named, row_is, object_there}
 use Rattle.machine.proofs.RowTexts.{row_at, row_past}
-use Rattle.machine.proofs.ShownRows.{length-loaded}
+use Rattle.source.proofs.ShownRows.{length-loaded}
 
 -- there are few objects in a heap
 pub few_loaded : (w : World) → IsTrue (fits_cells w) → w.cells ≤ 1048576 → 3 * length (loaded_objects w) ≤ 1048576
@@ -47,7 +48,7 @@ row_here scene s addresses place address h at low high =
     let there : slice_get w.objects j ≡ Some o = slice_get-map array_object scene.objects j ∙ ap (option_map array_object) array.1 in
     let block = named s (loaded_objects w) _ address (place + 1) h.agree (h.table.named place address at) in
     let object = object_there w place j o (omega arith) there in
-    let row = row_is s (loaded_objects w) w.classes address (place + 1) o array.0.values block object refl in
+    let row = row_is s (loaded_objects w) w.classes address (place + 1) o block object in
     let name : length w.classes + 2 + j ≡ place + 1 = omega arith in
     let next : suc j ≡ place + 1 - (length w.classes + 1) = omega arith in
     row_at w.classes (length w.classes + 2) w.objects j o there

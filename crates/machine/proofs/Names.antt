@@ -9,7 +9,7 @@ use Rattle.syntax.specs.declared.unit.Static.{Static}
 use Rattle.syntax.specs.declared.unit.Item.TheVariants as item
 use Rattle.syntax.specs.Parts.{functions_of}
 use Rattle.syntax.specs.Views.{unit_tree, function_tree}
-use Rattle.regions.specs.Activation.{function_at}
+use Rattle.source.specs.Activation.{function_at}
 
 -- the items from a place on
 drop_more : (items : List Item) (i : ℕ) (x : Item) → slice_get items i ≡ Some x → drop i items ≡ x ∷ drop (i + 1) items

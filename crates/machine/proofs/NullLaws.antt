@@ -8,19 +8,19 @@ use Rattle.syntax.specs.Parts.{statics_of}
 use Rattle.syntax.specs.Tree.{Static}
 use Rattle.syntax.specs.Views.{unit_tree}
 use Rattle.heap.specs.Heap.{Space}
-use Rattle.world.specs.Object.{Reference}
+use Rattle.source.specs.Object.{Reference}
 use Rattle.code.specs.declared.instr.NullableVariable.{NullableVariable}
 use Rattle.code.specs.declared.instr.NullableVariable.TheVariants as nullable
-use Rattle.regions.specs.CallEffects.{NullResult}
-use Rattle.regions.specs.CallStep.{put, put_assigned}
-use Rattle.regions.specs.Sight.{holds_null, static_is_null, held_reference, scalar}
-use Rattle.regions.specs.Start.{null_static}
-use Rattle.regions.specs.Task.{Task, Target, ScalarKind, ReferenceKind, FieldKind, BufferKind, Declared, Assigned, Tested, Dropped}
-use Rattle.regions.specs.Thread as source
-use Rattle.regions.specs.Thread.{Shared}
-use Rattle.regions.specs.ThreadStep.{with_tasks}
-use Rattle.regions.specs.Value.{Gives, Stuck}
-use Rattle.regions.specs.Variable.{Variable, Scalar, LocalRef, FieldHandle, Elements, LocalArray, NoBuffer, StaticReference, Empty, Variables, Statics, assign}
+use Rattle.source.specs.CallEffects.{NullResult}
+use Rattle.source.specs.CallStep.{put, put_assigned}
+use Rattle.source.specs.Sight.{holds_null, static_is_null, held_reference, scalar}
+use Rattle.source.specs.Start.{null_static}
+use Rattle.source.specs.Task.{Task, Target, ScalarKind, ReferenceKind, FieldKind, BufferKind, Declared, Assigned, Tested, Dropped}
+use Rattle.source.specs.Thread as source
+use Rattle.source.specs.Thread.{Shared}
+use Rattle.source.specs.ThreadStep.{with_tasks}
+use Rattle.source.specs.Value.{Gives, Stuck}
+use Rattle.source.specs.Variable.{Variable, Scalar, LocalRef, FieldHandle, Elements, LocalArray, NoBuffer, StaticReference, Empty, Variables, Statics, assign}
 use Rattle.lower.specs.Slots as lower
 use Rattle.lower.specs.Slots.{Slots, visible_to, IsNulled}
 use Rattle.lower.specs.Stands.{target_name}

@@ -5,26 +5,27 @@ use Rattle.std.specs.List.{list_all, enumerate_from}
 use Rattle.std.specs.Option.{option_map}
 use Rattle.syntax.specs.Views.{unit_tree}
 use Rattle.classes.specs.Class.{Classes}
-use Rattle.world.specs.declared.journal.Entry.{Entry}
-use Rattle.world.specs.declared.report.Printed.{Printed}
-use Rattle.world.specs.declared.report.ThreadStatus.{ThreadStatus}
-use Rattle.world.specs.declared.report.ThreadStatus.TheVariants as held
-use Rattle.world.specs.Journal.{journal_line}
-use Rattle.world.specs.Report.{ThreadStanding, HasTrapped, ShownRow, Report, report_text}
-use Rattle.world.specs.Sink as sink
-use Rattle.world.specs.Sink.{Written}
+use Rattle.source.specs.declared.journal.Entry.{Entry}
+use Rattle.source.specs.declared.printed.Printed.{Printed}
+use Rattle.report.specs.declared.thread_status.ThreadStatus.{ThreadStatus}
+use Rattle.report.specs.declared.thread_status.ThreadStatus.TheVariants as held
+use Rattle.report.specs.JournalText.{journal_line}
+use Rattle.source.specs.Report.{ThreadStanding, HasTrapped, ShownRow, Report}
+use Rattle.report.specs.ReportText.{report_text}
+use Rattle.report.specs.Sink as sink
+use Rattle.report.specs.Sink.{Written}
 use Rattle.world.specs.Scene.{Scene}
 use Rattle.world.specs.SceneWorld.{world_of_scene}
-use Rattle.world.specs.Shown.{report_with}
-use Rattle.world.specs.ThreadStatus.{standing_view}
-use Rattle.regions.specs.ReportOf.{standing_by_ending, standing_of, shown, shown_row, report}
-use Rattle.regions.specs.Run as source_run
-use Rattle.regions.specs.State as state
-use Rattle.regions.specs.State.{State}
-use Rattle.regions.specs.Value.{trap_number}
-use Rattle.regions.specs.Step.{is_waiting, is_blocked, is_unfinished}
-use Rattle.regions.specs.Thread as source
-use Rattle.regions.specs.Thread.{Shared}
+use Rattle.report.specs.Shown.{report_with}
+use Rattle.report.specs.ThreadStatus.{standing_view}
+use Rattle.source.specs.ReportOf.{standing_by_ending, standing_of, shown, shown_row, report}
+use Rattle.report.specs.RunText as run_text
+use Rattle.source.specs.State as state
+use Rattle.source.specs.State.{State}
+use Rattle.source.specs.Value.{trap_number}
+use Rattle.source.specs.Step.{is_waiting, is_blocked, is_unfinished}
+use Rattle.source.specs.Thread as source
+use Rattle.source.specs.Thread.{Shared}
 use Rattle.heap.specs.Heap.{Space}
 use Rattle.lower.specs.Lowered.{Lowered, IsLowered}
 use Rattle.machine.specs.declared.thread.Ending.{Ending}
@@ -35,10 +36,10 @@ use Rattle.machine.specs.Agrees.{ThreadsAgree, ending_view}
 use Rattle.machine.specs.Stops as machine
 use Rattle.machine.specs.Stops.{stop_view, trap_view}
 use Rattle.machine.specs.Run as run
-use Rattle.regions.specs.Run.{JournalHasRoom}
+use Rattle.source.specs.Run.{UnmarkedFit, MarkedAreFair}
 use Rattle.machine.specs.Run.{Run, Corresponds, WritesRun, IsFinished}
-use Rattle.machine.specs.Rows.{loaded_rows}
-use Rattle.machine.proofs.ShownRows.{shown_rows}
+use Rattle.source.specs.ReportOf.{loaded_rows}
+use Rattle.source.proofs.ShownRows.{shown_rows}
 use Rattle.machine.proofs.Standings.{standings}
 use Rattle.machine.proofs.Threads.{unblocked}
 
@@ -139,10 +140,11 @@ writes_run p scene space addresses ts printed stop journal c now view old new re
     ∙ ap (λ (l : List ShownRow). report_text (report_with printed threads l) ++ journal_line entries) o
     ∙ ap (λ (l : List Entry). report_text (report_with printed threads (loaded_rows (world_of_scene scene))) ++ journal_line l) e
     ∙ ap (λ (r : Report). report_text r ++ journal_line journal) (sym (report_is p scene space addresses ts printed stop journal c)) in
-    let written : source_run.Writes (unit_tree p.unit) (world_of_scene scene) journal (report_text (report_with numbers shown rows) ++ journal_line entries) = record { end = c.state; replays = c.replays; same = same } in
+    let written : run_text.Writes (unit_tree p.unit) (world_of_scene scene) journal (report_text (report_with numbers shown rows) ++ journal_line entries) = record { end = c.state; replays = c.replays; same = same } in
     record {
       text = report_text (report_with numbers shown rows) ++ journal_line entries;
-      is = subst (λ (r : Run). source_run.Writes (unit_tree r.unit) (world_of_scene r.world) r.journal (report_text (report_with numbers shown rows) ++ journal_line entries)) view written;
-      has_room = subst (λ (r : Run). JournalHasRoom (unit_tree r.unit) (world_of_scene r.world) r.journal) view c.has_room;
+      is = subst (λ (r : Run). run_text.Writes (unit_tree r.unit) (world_of_scene r.world) r.journal (report_text (report_with numbers shown rows) ++ journal_line entries)) view written;
+      fits = subst (λ (r : Run). UnmarkedFit (unit_tree r.unit) (world_of_scene r.world) r.journal) view c.fits;
+      fair = subst (λ (r : Run). MarkedAreFair (unit_tree r.unit) (world_of_scene r.world) r.journal) view c.fair;
       written = h;
     }

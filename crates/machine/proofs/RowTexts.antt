@@ -2,15 +2,18 @@
 use Rattle.std.proofs.Common.{◌≡◌, ℕ, zero, suc, ◌+◌, List, [], ◌∷◌, ◌++◌, length, map, drop, Some, Result, refl, sym, ap, ◌∙◌, subst, arith, append-nil}
 use Rattle.std.specs.Prelude.{slice_get, codes, flat_map}
 use Rattle.std.specs.List.{enumerate_from}
-use Rattle.std.specs.Int.{w32, cast_signed}
 use Rattle.std.proofs.lemmas.List.Concat.{flat_map-cons}
 use Rattle.classes.specs.Class.{Classes}
-use Rattle.world.specs.Object.{Object}
-use Rattle.world.specs.Report.{ShownValue, ShownNumber, ShownRow, shown_text, text_line, object_line}
-use Rattle.world.specs.Shown.{row_head, row_lines}
-use Rattle.world.specs.Sink.{Written, AppendsText, StopsWithin, Writes}
-use Rattle.world.proofs.Puts.{AppendsText-then, StopsWithin-more, Writes-then, stops}
-use Rattle.machine.specs.Rows.{object_row, shown_numbers}
+use Rattle.heap.specs.declared.value.Value.{Value}
+use Rattle.heap.specs.Heap.{Space}
+use Rattle.source.specs.Object.{Object}
+use Rattle.source.specs.Report.{ShownValue, ShownRow}
+use Rattle.report.specs.ReportText.{shown_text, text_line, object_line}
+use Rattle.report.specs.Shown.{row_head, row_lines}
+use Rattle.report.specs.Sink.{Written, AppendsText, StopsWithin, Writes}
+use Rattle.report.proofs.Puts.{AppendsText-then, StopsWithin-more, Writes-then, stops}
+use Rattle.machine.specs.Rows.{shown_cell, shown_cells}
+use Rattle.source.specs.ReportOf.{object_row}
 
 -- ---- values
 
@@ -18,15 +21,15 @@ use Rattle.machine.specs.Rows.{object_row, shown_numbers}
 abbrev pub values_text : List ShownValue → List ℕ
 values_text values = flat_map (λ (v : ShownValue). codes " " ++ shown_text v) values
 
-drop_more : (ws : List ℕ) (i w : ℕ) → slice_get ws i ≡ Some w → drop i ws ≡ w ∷ drop (i + 1) ws
+drop_more : (ws : List Value) (i : ℕ) (w : Value) → slice_get ws i ≡ Some w → drop i ws ≡ w ∷ drop (i + 1) ws
 drop_more [] i w h = absurd (cc)
-drop_more (x ∷ ws) zero w h = let same : x ≡ w = cc in ap (λ (y : ℕ). y ∷ ws) same
+drop_more (x ∷ ws) zero w h = let same : x ≡ w = cc in ap (λ (y : Value). y ∷ ws) same
 drop_more (x ∷ ws) (suc i) w h = let e : suc i + 1 ≡ suc (i + 1) = omega arith in rw e (drop_more ws i w h)
 
-pub value_at : (ws : List ℕ) (i w : ℕ) → slice_get ws i ≡ Some w → values_text (shown_numbers (drop i ws)) ≡ (codes " " ++ shown_text (ShownNumber (cast_signed w32 w))) ++ values_text (shown_numbers (drop (i + 1) ws))
-value_at ws i w h =
-    ap (λ (l : List ℕ). values_text (shown_numbers l)) (drop_more ws i w h)
-    ∙ flat_map-cons (λ (v : ShownValue). codes " " ++ shown_text v) (ShownNumber (cast_signed w32 w)) (shown_numbers (drop (i + 1) ws))
+pub value_at : (classes : Classes) (s : Space) (ws : List Value) (i : ℕ) (w : Value) → slice_get ws i ≡ Some w → values_text (shown_cells classes s (drop i ws)) ≡ (codes " " ++ shown_text (shown_cell classes s w)) ++ values_text (shown_cells classes s (drop (i + 1) ws))
+value_at classes s ws i w h =
+    ap (λ (l : List Value). values_text (shown_cells classes s l)) (drop_more ws i w h)
+    ∙ flat_map-cons (λ (v : ShownValue). codes " " ++ shown_text v) (shown_cell classes s w) (shown_cells classes s (drop (i + 1) ws))
 
 -- ---- a row
 

@@ -1,5 +1,5 @@
 -- Several words go along with a schedule.
-use Rattle.std.proofs.Common.{◌≡◌, ℕ, zero, suc, ◌+◌, ◌-◌, ◌<◌, ◌≤◌, true, false, List, [], ◌∷◌, ◌++◌, length, take, drop, get_or, replicate, Option, Some, None, refl, sym, ap, ◌∙◌, subst, arith, IsSome, append_assoc, append-nil}
+use Rattle.std.proofs.Common.{◌≡◌, ℕ, zero, suc, ◌+◌, ◌-◌, ◌<◌, ◌≤◌, Bool, true, false, List, [], ◌∷◌, ◌++◌, length, take, drop, get_or, replicate, Option, Some, None, refl, sym, ap, ◌∙◌, subst, arith, IsSome, append_assoc, append-nil}
 use Rattle.std.specs.Prelude.{slice_get, is_none, not, ◌&&◌, flat_map}
 use Rattle.std.specs.Option.{option_and_then}
 use Rattle.std.proofs.lemmas.Bool.{and_left, and_right}
@@ -7,25 +7,25 @@ use Rattle.std.proofs.lemmas.List.{replicate-append-replicate, take-append-drop,
 use Rattle.std.proofs.lemmas.Option.{slice_get_past, slice_get-get_or}
 use Rattle.std.proofs.lemmas.List.Concat.{flat_map-cons}
 use Rattle.std.proofs.lemmas.Grind.{flat_map-append}
-use Rattle.world.specs.declared.schedule.Repetition.{Repetition}
-use Rattle.world.specs.ReadingSchedules.{repeated_words}
+use Rattle.texts.specs.declared.schedule.Repetition.{Repetition}
+use Rattle.texts.specs.ReadingSchedules.{repeated_words}
 use Rattle.syntax.specs.Views.{unit_tree}
 use Rattle.syntax.specs.declared.unit.Item.{Item}
 use Rattle.classes.specs.Class.{Classes}
-use Rattle.world.specs.declared.journal.Entry.{Entry}
-use Rattle.world.specs.declared.schedule.ScheduleWord.{ScheduleWord}
-use Rattle.world.specs.declared.schedule.ScheduleWord.TheVariants.{Turn, Collect}
+use Rattle.source.specs.declared.journal.Entry.{Entry}
+use Rattle.source.specs.declared.schedule.ScheduleWord.{ScheduleWord}
+use Rattle.source.specs.declared.schedule.ScheduleWord.TheVariants.{Turn, Collect}
 use Rattle.world.specs.Scene.{Scene}
 use Rattle.world.specs.SceneWorld.{world_of_scene}
-use Rattle.world.specs.Schedule.{Schedule}
-use Rattle.regions.specs.Run.{replay, replay_from, Follows, Over, Collects, Waits, Steps}
-use Rattle.regions.specs.Start.{start}
-use Rattle.regions.specs.State.{State, Stop, thread_at}
-use Rattle.regions.specs.Step.{can_step, is_live, is_waiting, world_step}
-use Rattle.regions.proofs.RunLaws.{replay_from-append, follows-replay, follows-append}
+use Rattle.source.specs.Schedule.{Schedule}
+use Rattle.source.specs.Run.{replay, replay_from, Follows, Over, Collects, Waits, Steps}
+use Rattle.source.specs.Start.{start}
+use Rattle.source.specs.State.{State, Stop, thread_at}
+use Rattle.source.specs.Step.{can_step, is_live, is_waiting, world_step}
+use Rattle.source.proofs.RunLaws.{replay_from-append, follows-replay, follows-append}
 use Rattle.machine.specs.declared.turn.Turn.{Turn as Answer}
 use Rattle.machine.specs.declared.turn.Turn.TheVariants as turn
-use Rattle.machine.specs.Run.{Run, replay_of, can_turn, HasEnded, TurnHolds, GivesNoStep, GivesStep, entry_of, stepped, RunsAlong, RunsInto}
+use Rattle.machine.specs.Run.{Run, replay_of, can_turn, HasEnded, TurnHolds, GivesNoStep, GivesStep, RunsAlong, RunsInto}
 
 -- the walk from a state of a run along these words
 abbrev pub Walk : Run → State → List Entry → Schedule → State → Type 0
@@ -131,6 +131,10 @@ stopped_waits classes s k h =
     and_left (is_none s.stop && is_live (thread_at s k)) (not (is_waiting classes k s.shared (thread_at s k)))
     (and_left (is_none s.stop) (is_live (thread_at s k)) (none_goes s.stop h))
 
+-- a thread that waits for a monitor can't step
+blocked_waits : (classes : Classes) (s : State) (k : ℕ) → is_waiting classes k s.shared (thread_at s k) ≡ true → can_step classes s k ≡ false
+blocked_waits classes s k h = and_right (is_none s.stop && is_live (thread_at s k)) (not (is_waiting classes k s.shared (thread_at s k))) (ap not h)
+
 -- the step of a journal with one more entry
 step_of : (r new : Run) (e : Entry) (s : State) → new ≡ record r { journal = r.journal ++ e ∷ [] } → replay_of r ≡ Some s → IsSome (replay_of new) → (n : State) × (world_step (unit_tree r.unit) (world_of_scene r.world).classes s e ≡ Some n)
 step_of r new e s is h defined = there (world_step (unit_tree r.unit) (world_of_scene r.world).classes s e) (subst IsSome (ap replay_of is ∙ replay_with r (e ∷ []) s h) defined)
@@ -139,18 +143,19 @@ step_of r new e s is h defined = there (world_step (unit_tree r.unit) (world_of_
     there None d = absurd (let f : false ≡ true = d in cc)
     there (Some n) d = (n, refl)
 
-stepped_once : (r new : Run) (k : ℕ) (s : State) → new ≡ stepped r k → replay_of r ≡ Some s → can_turn r s k ≡ true → IsSome (replay_of new) → RunsAlong r new (Turn k ∷ [])
-stepped_once r new k s is h can defined =
-    let n = step_of r new (entry_of k) s is h defined in
+-- a step, whose allocation was refused or not
+stepped_once : (r new : Run) (k : ℕ) (refused : Bool) (s : State) → new ≡ record r { journal = r.journal ++ record { thread = k; refused = refused } ∷ [] } → replay_of r ≡ Some s → can_turn r s k ≡ true → IsSome (replay_of new) → RunsAlong r new (Turn k ∷ [])
+stepped_once r new k refused s is h can defined =
+    let n = step_of r new (record { thread = k; refused = refused }) s is h defined in
     subst (λ x. RunsAlong r x (Turn k ∷ [])) (sym is) (record {
       same_unit = refl;
       same_world = refl;
-      steps = entry_of k ∷ [];
+      steps = record { thread = k; refused = refused } ∷ [];
       journal = refl;
       before = s;
       replays = h;
       after = n.0;
-      follows = Steps s n.0 n.0 k false [] [] can n.1 (Over n.0);
+      follows = Steps s n.0 n.0 k refused [] [] can n.1 (Over n.0);
     })
 
 -- a turn, but where the journal is full
@@ -159,8 +164,11 @@ turned r new k turn.Stopped h defined full =
     subst (λ x. RunsAlong r x (Turn k ∷ [])) (sym h.0) (no_step r (Turn k) (h.1.0, h.1.1, stopped_waits (world_of_scene r.world).classes h.1.0 k h.1.2))
 turned r new k turn.Ended h defined full =
     subst (λ x. RunsAlong r x (Turn k ∷ [])) (sym h.0) (no_step r (Turn k) (h.1.0, h.1.1, ended_waits (world_of_scene r.world).classes h.1.0 k h.1.2))
+turned r new k (turn.Blocked all) h defined full =
+    subst (λ x. RunsAlong r x (Turn k ∷ [])) (sym h.0) (no_step r (Turn k) (h.1.0, h.1.1, blocked_waits (world_of_scene r.world).classes h.1.0 k h.1.2.waits))
 turned r new k turn.Full h defined full = absurd (full refl)
-turned r new k turn.Stepped h defined full = let could = h.1.1 in stepped_once r new k could.0 h.0 could.1 could.2 defined
+turned r new k turn.Short h defined full = let could = h.1.1 in stepped_once r new k true could.0 h.0 could.1 could.2 defined
+turned r new k turn.Stepped h defined full = let could = h.1.1 in stepped_once r new k false could.0 h.0 could.1 could.2 defined
 
 -- ---- threads that are not there
 

@@ -2,7 +2,7 @@
 use Rattle.std.proofs.Common.{◌≡◌, ℕ, zero, suc, ◌+◌, List, [], ◌∷◌, ◌++◌, length, map, take, Option, Some, refl, ap, ◌∙◌, arith}
 use Rattle.std.specs.Prelude.{slice_get}
 use Rattle.std.specs.List.{enumerate_from}
-use Rattle.world.specs.declared.report.ThreadStatus.{ThreadStatus}
+use Rattle.report.specs.declared.thread_status.ThreadStatus.{ThreadStatus}
 use Rattle.machine.specs.declared.stop.Stop.{Stop}
 use Rattle.machine.specs.declared.thread.Thread.{Thread}
 use Rattle.machine.specs.Stops.{standing_of}

@@ -6,18 +6,18 @@ use Rattle.std.proofs.Math.ListN.{length-set}
 use Rattle.std.proofs.Math.Seq.{drop-length}
 use Rattle.syntax.specs.Views.{unit_tree}
 use Rattle.classes.specs.Class.{Classes}
-use Rattle.world.specs.declared.journal.Entry.{Entry}
-use Rattle.world.specs.declared.report.Printed.{Printed}
+use Rattle.source.specs.declared.journal.Entry.{Entry}
+use Rattle.source.specs.declared.printed.Printed.{Printed}
 use Rattle.world.specs.Scene.{Scene}
 use Rattle.world.specs.SceneWorld.{world_of_scene}
-use Rattle.regions.specs.State.{State, thread_at, set_thread, lent, with_event, advanced}
-use Rattle.regions.specs.Step.{can_step, is_unfinished, world_step}
-use Rattle.regions.specs.Thread as source
-use Rattle.regions.specs.Thread.{BuffersInUse, Shared}
-use Rattle.regions.proofs.RunLaws.{replay_more, has_room-more}
-use Rattle.regions.specs.Run.{HasRoom, made_between}
-use Rattle.regions.specs.Start.{start}
-use Rattle.regions.proofs.StepLaws.{Steps, steps, step-thread}
+use Rattle.source.specs.State.{State, thread_at, set_thread, lent, with_event, advanced}
+use Rattle.source.specs.Step.{can_step, is_unfinished, world_step}
+use Rattle.source.specs.Thread as source
+use Rattle.source.specs.Thread.{BuffersInUse, Shared}
+use Rattle.source.proofs.RunLaws.{replay_more, each-more}
+use Rattle.source.specs.Run.{Fits, FitsUnmarked, IsFairMarked, made_between}
+use Rattle.source.specs.Start.{start}
+use Rattle.source.proofs.StepLaws.{Steps, steps, step-thread}
 use Rattle.heap.specs.Heap.{Space}
 use Rattle.lower.specs.Lowered.{Lowered}
 use Rattle.machine.specs.declared.thread.Ending.TheVariants.{Unfinished, Ended}
@@ -26,7 +26,7 @@ use Rattle.machine.specs.declared.thread.Event.TheVariants as event
 use Rattle.machine.specs.declared.thread.Thread.{Thread}
 use Rattle.machine.specs.declared.stop.Stop.{Stop}
 use Rattle.machine.specs.Stops.{stop_view, stop_after}
-use Rattle.regions.specs.Heap.{Heap}
+use Rattle.source.specs.Heap.{Heap}
 use Rattle.machine.specs.HeapAgrees.{BlocksAgree, IsTable}
 use Rattle.machine.specs.Agrees.{StaticsAgree, ThreadAgrees, ThreadsAgree, Advances, ending_view, event_view}
 use Rattle.machine.specs.Run.{Corresponds, printed_after, entry_of, HasEnded}
@@ -111,7 +111,7 @@ module _ (p : Lowered) (scene : Scene) (space : Space) (addresses : List ℕ) (t
   has_ended goes ended = record { running = running goes; thread = the_thread.source; is = there; ended = ap is_unfinished (the_thread.agrees.ending ∙ ap ending_view ended) }
 
   -- a step that leaves the heap as it was has room
-  makes_nothing : (s next : State) → world_step (unit_tree p.unit) classes s (entry_of k) ≡ Some next → next.shared.heap ≡ s.shared.heap → HasRoom (unit_tree p.unit) (world_of_scene scene) s k false
+  makes_nothing : (s next : State) → world_step (unit_tree p.unit) classes s (entry_of k) ≡ Some next → next.shared.heap ≡ s.shared.heap → Fits (unit_tree p.unit) (world_of_scene scene) s k
   makes_nothing s next step same = λ some. absurd (some (ap (made_between s) step ∙ ap (drop (length s.shared.heap)) same ∙ drop-length s.shared.heap))
 
   -- the machine after the step
@@ -136,8 +136,9 @@ module _ (p : Lowered) (scene : Scene) (space : Space) (addresses : List ℕ) (t
         heap = ap (λ (x : Shared). x.heap) (shared_next c.state k a.next e) ∙ c.heap;
         blocks = c.blocks;
         monitors = ap (λ (x : Shared). x.monitors) (shared_next c.state k a.next e) ∙ c.monitors;
-        has_room = has_room-more (unit_tree p.unit) (world_of_scene scene) (Some (start (unit_tree p.unit) (world_of_scene scene))) journal (entry_of k) c.has_room
-            (λ s there. let same : c.state ≡ s = cc (sym c.replays, there) in subst (λ (x : State). HasRoom (unit_tree p.unit) (world_of_scene scene) x k false) same (makes_nothing c.state next step (ap (λ (x : Shared). x.heap) (shared_next c.state k a.next e))));
+        fits = each-more (unit_tree p.unit) (world_of_scene scene) (λ s e. FitsUnmarked (unit_tree p.unit) (world_of_scene scene) s e.thread e.refused) (Some (start (unit_tree p.unit) (world_of_scene scene))) journal (entry_of k) c.fits
+            (λ s there. let same : c.state ≡ s = cc (sym c.replays, there) in subst (λ (x : State). Fits (unit_tree p.unit) (world_of_scene scene) x k) same (makes_nothing c.state next step (ap (λ (x : Shared). x.heap) (shared_next c.state k a.next e))));
+        fair = each-more (unit_tree p.unit) (world_of_scene scene) (λ s e. IsFairMarked (unit_tree p.unit) (world_of_scene scene) s e.thread e.refused) (Some (start (unit_tree p.unit) (world_of_scene scene))) journal (entry_of k) c.fair (λ s there. tt);
         count = length-set ts i after ∙ c.count;
         few = subst (λ n. n ≤ 8) (sym (length-set ts i after)) c.few;
       }

@@ -3,7 +3,7 @@ use Rattle.std.proofs.Common.{◌≡◌, ℕ, zero, suc, ◌+◌, ◌≤◌, tru
 use Rattle.std.specs.Prelude.{slice_get, flat_map}
 use Rattle.std.specs.Global.{Vec}
 use Rattle.std.specs.List.{list_all}
-use Rattle.world.proofs.WordLaws.{both_true}
+use Rattle.texts.proofs.WordLaws.{both_true}
 use Rattle.std.proofs.lemmas.List.Concat.{flat_map-cons}
 use Rattle.std.proofs.Math.ListN.{drop_of_length-le}
 use Rattle.syntax.specs.Tree.{SourceUnit}
@@ -12,10 +12,10 @@ use Rattle.heap.specs.Heap.{Space}
 use Rattle.world.specs.CallArguments.{are_arguments}
 use Rattle.world.specs.Scene.{CallScene}
 use Rattle.world.specs.SceneWorld.{invocation_of}
-use Rattle.world.specs.World.{Invocation}
-use Rattle.regions.specs.Start.{waiting_thread}
-use Rattle.regions.specs.Thread as source
-use Rattle.regions.specs.Thread.{Shared}
+use Rattle.source.specs.World.{Invocation}
+use Rattle.source.specs.Start.{waiting_thread}
+use Rattle.source.specs.Thread as source
+use Rattle.source.specs.Thread.{Shared}
 use Rattle.lower.specs.Lowered.{Lowered}
 use Rattle.machine.specs.declared.fault.LoadFault.{LoadFault}
 use Rattle.machine.specs.declared.fault.LoadFault.TheVariants.{DoesNotFit, Memory}

@@ -11,25 +11,25 @@ use Rattle.syntax.specs.Views.{unit_tree}
 use Rattle.base.specs.Bytes.{Identifier, lookup}
 use Rattle.classes.specs.Class.{Classes}
 use Rattle.heap.specs.Heap.{Space}
-use Rattle.types.specs.JniFunction.{JniFunction}
+use Rattle.jni.specs.JniFunction.{JniFunction}
 use Rattle.types.specs.Sorts.{Global}
 use Rattle.world.specs.CallArguments.{is_argument}
-use Rattle.world.specs.Object.{ObjectValue, Number, Refers, Reference}
-use Rattle.world.specs.World.{Invocation}
+use Rattle.source.specs.Object.{ObjectValue, Number, Refers, Reference}
+use Rattle.source.specs.World.{Invocation}
 use Rattle.code.specs.declared.instr.Callee.{Callee}
 use Rattle.code.specs.declared.instr.Callee.TheVariants as callee
 use Rattle.code.specs.Depth.{Listing, depth_at}
-use Rattle.regions.specs.Activation.{enter, entered, entered_function, entry_advance, return_step, monitors_after, calls_after}
-use Rattle.regions.specs.Activation as activation
-use Rattle.regions.specs.Arguments.{Actual}
-use Rattle.regions.specs.CallStep.{waits_with}
-use Rattle.regions.specs.Effect.{Calls, Returns, effect_of}
-use Rattle.regions.specs.Start.{null_static, waiting_thread}
-use Rattle.regions.specs.Task.{Task, Target, tasks_of}
-use Rattle.regions.specs.Thread as source
-use Rattle.regions.specs.Thread.{BuffersInUse, Shared, Monitor, sight_of, without_owner}
-use Rattle.regions.specs.Variable.{Empty, Statics}
-use Rattle.regions.specs.ThreadStep.{thread_step, step_within, after_effect, next_effect, waits}
+use Rattle.source.specs.Activation.{enter, entered, entered_function, entry_advance, return_step, monitors_after, calls_after}
+use Rattle.source.specs.Activation as activation
+use Rattle.source.specs.Arguments.{Actual}
+use Rattle.source.specs.CallStep.{waits_with}
+use Rattle.source.specs.Effect.{Calls, Returns, effect_of}
+use Rattle.source.specs.Start.{null_static, waiting_thread}
+use Rattle.source.specs.Task.{Task, Target, tasks_of}
+use Rattle.source.specs.Thread as source
+use Rattle.source.specs.Thread.{BuffersInUse, Shared, Monitor, sight_of, without_owner}
+use Rattle.source.specs.Variable.{Empty, Statics}
+use Rattle.source.specs.ThreadStep.{thread_step, step_within, after_effect, next_effect, waits}
 use Rattle.lower.specs.Layout.{Slot, Known, with_static, entry_layout}
 use Rattle.lower.specs.Slots.{Visible, Slots, visible_to, EntrySlots, HasRoom, AreNull, argument_word, argument_reference}
 use Rattle.lower.specs.Stands.{StandsFor}

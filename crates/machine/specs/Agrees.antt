@@ -7,17 +7,17 @@ use Rattle.syntax.specs.Views.{unit_tree}
 use Rattle.classes.specs.Class.{Classes}
 use Rattle.heap.specs.Heap.{Space}
 use Rattle.world.specs.CallArguments.{is_argument}
-use Rattle.world.specs.Object.{Reference}
+use Rattle.source.specs.Object.{Reference}
 use Rattle.world.specs.Views.{argument_view}
-use Rattle.world.specs.World.{Invocation}
+use Rattle.source.specs.World.{Invocation}
 use Rattle.code.specs.Depth.{Listing, depth_at}
-use Rattle.regions.specs.Activation.{function_at, class_of_function}
-use Rattle.regions.specs.Effect.{Effect, Returns}
-use Rattle.regions.specs.Start.{null_statics}
-use Rattle.regions.specs.Task.{Task}
-use Rattle.regions.specs.Thread as source
-use Rattle.regions.specs.Thread.{BuffersInUse, Shared}
-use Rattle.regions.specs.ThreadStep.{thread_step, after_effect}
+use Rattle.source.specs.Activation.{function_at, class_of_function}
+use Rattle.source.specs.Effect.{Effect, Returns}
+use Rattle.source.specs.Start.{null_statics}
+use Rattle.source.specs.Task.{Task}
+use Rattle.source.specs.Thread as source
+use Rattle.source.specs.Thread.{BuffersInUse, Shared}
+use Rattle.source.specs.ThreadStep.{thread_step, after_effect}
 use Rattle.lower.specs.Layout.{Known}
 use Rattle.lower.specs.Slots.{ArgumentsFit, Visible, visible_to, Shows}
 use Rattle.lower.specs.Stands.{StandsFor}

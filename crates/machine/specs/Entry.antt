@@ -1,7 +1,7 @@
 -- What the slots of a call hold at its entry.
 use Rattle.std.specs.Prelude.{◌≡◌, ℕ, ◌-◌, ◌<◌, ◌≤◌, List, [], ◌∷◌, ◌++◌, length, map, filter_map, replicate, slice_get, Option, Some, None, IsTrue}
 use Rattle.std.specs.List.{list_all}
-use Rattle.world.specs.Object.{ObjectValue, Number, Refers}
+use Rattle.source.specs.Object.{ObjectValue, Number, Refers}
 use Rattle.world.specs.CallArguments.{is_argument}
 use Rattle.world.specs.Views.{argument_view}
 use Rattle.code.specs.Depth.{Listing}

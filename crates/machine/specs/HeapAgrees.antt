@@ -1,15 +1,15 @@
 -- How a heap of blocks stands for a heap of the source. A block's birth number is the name of its object, wherever it lies.
-use Rattle.std.specs.Prelude.{◌≡◌, ℕ, ◌+◌, List, [], ◌∷◌, ◌++◌, length, slice_get, Option, Some, None, FitsSigned}
+use Rattle.std.specs.Prelude.{◌≡◌, ℕ, ◌+◌, List, [], ◌∷◌, length, slice_get, Option, Some, None, FitsSigned}
 use Rattle.std.specs.Int.{w32, cast_unsigned}
-use Rattle.classes.specs.BuiltIns.{out_of_memory_error}
-use Rattle.classes.specs.Class.{Classes}
+use Rattle.heap.specs.declared.value.Value.{Value}
+use Rattle.heap.specs.declared.value.Value.TheVariants.{Number as Word, Null, Block as Address}
 use Rattle.heap.specs.Heap.{Block, Space, IsLaidOut, end_of, name_at, AreNamesUnique}
-use Rattle.world.specs.Object.{Object, ObjectValue, Number, Refers, Reference, sizes}
-use Rattle.world.specs.World.{World, class_objects, fresh_object, loaded_objects}
-use Rattle.regions.specs.Heap.{Heap, object_at}
-use Rattle.regions.specs.Reachable.{IsName}
+use Rattle.source.specs.Object.{Object, ObjectValue, Number, Refers, Reference, sizes}
+use Rattle.source.specs.World.{World, loaded_objects}
+use Rattle.source.specs.Heap.{Heap, object_at}
+use Rattle.source.specs.Reachable.{IsName}
 
--- ---- references and words
+-- ---- references and values
 
 -- an address or none stands for a reference
 abbrev pub ReferenceAgrees : Space → Option ℕ → Reference → Type 0
@@ -18,22 +18,21 @@ ReferenceAgrees space None (Some n) = ⊥
 ReferenceAgrees space (Some a) None = ⊥
 ReferenceAgrees space (Some a) (Some n) = name_at space a ≡ Some n
 
--- the word of NULL, which is no address
-abbrev pub null_word : ℕ
-null_word = 4294967295
+-- what a cell holds stands for a value: a number by its two's complement, NULL for NULL, an address for the object of its block
+abbrev pub ValueAgrees : Space → Value → ObjectValue → Type 0
+ValueAgrees space (Word word) (Number z) = FitsSigned w32 z × (word ≡ cast_unsigned w32 z)
+ValueAgrees space (Word word) (Refers r) = ⊥
+ValueAgrees space Null (Number z) = ⊥
+ValueAgrees space Null (Refers r) = ReferenceAgrees space None r
+ValueAgrees space (Address a) (Number z) = ⊥
+ValueAgrees space (Address a) (Refers r) = ReferenceAgrees space (Some a) r
 
--- a word stands for a value: a number by its two's complement, an object by the address of its block
-abbrev pub WordAgrees : Space → ℕ → ObjectValue → Type 0
-WordAgrees space word (Number z) = FitsSigned w32 z × (word ≡ cast_unsigned w32 z)
-WordAgrees space word (Refers None) = word ≡ null_word
-WordAgrees space word (Refers (Some n)) = name_at space word ≡ Some n
-
--- word by word
-abbrev pub WordsAgree : Space → List ℕ → List ObjectValue → Type 0
-WordsAgree space [] [] = Unit {0}
-WordsAgree space [] (v ∷ values) = ⊥
-WordsAgree space (word ∷ words) [] = ⊥
-WordsAgree space (word ∷ words) (v ∷ values) = WordAgrees space word v × WordsAgree space words values
+-- value by value
+abbrev pub ValuesAgree : Space → List Value → List ObjectValue → Type 0
+ValuesAgree space [] [] = Unit {0}
+ValuesAgree space [] (v ∷ values) = ⊥
+ValuesAgree space (held ∷ rest) [] = ⊥
+ValuesAgree space (held ∷ rest) (v ∷ values) = ValueAgrees space held v × ValuesAgree space rest values
 
 -- ---- blocks
 
@@ -42,7 +41,7 @@ pub record BlockAgrees (space : Space) (heap : Heap) (b : Block) : Type 0 where
   pub object : Object
   pub is : object_at heap b.birth ≡ Some object
   pub class : b.class ≡ object.class
-  pub values : WordsAgree space b.values object.values
+  pub values : ValuesAgree space b.values object.values
 
 -- block by block
 abbrev pub BlocksAgree : Space → Heap → List Block → Type 0
@@ -73,10 +72,6 @@ pub record AreMade (space : Space) (addresses : List ℕ) (objects : Heap) : Typ
   pub table : IsTable space addresses (length objects)
   pub laid_out : IsLaidOut space
   pub filled : end_of space ≡ sizes objects
-
--- the objects that are made before the world's
-abbrev pub made_before : Classes → Heap
-made_before classes = class_objects classes ++ fresh_object classes out_of_memory_error ∷ []
 
 -- The heap stands for the objects that were made at load, each at its address in the table.
 pub record AgreesAtLoad (space : Space) (addresses : List ℕ) (w : World) : Type 0 where

@@ -5,9 +5,9 @@ use Rattle.syntax.specs.declared.unit.Function.{Function as FunctionInMemory}
 use Rattle.syntax.specs.Tree.{SourceUnit}
 use Rattle.syntax.specs.Views.{unit_tree, function_tree}
 use Rattle.classes.specs.Class.{Classes}
-use Rattle.world.specs.World.{Invocation, World}
-use Rattle.regions.specs.Activation.{function_at}
-use Rattle.regions.specs.Load.{call_loads, first_load_fault}
+use Rattle.source.specs.World.{Invocation, World}
+use Rattle.source.specs.Activation.{function_at}
+use Rattle.source.specs.Load.{call_loads, first_load_fault}
 use Rattle.lower.specs.Lowered.{Lowered}
 use Rattle.machine.specs.declared.fault.LoadFault.{LoadFault}
 use Rattle.machine.specs.declared.fault.LoadFault.TheVariants.{DoesNotFit, Memory}

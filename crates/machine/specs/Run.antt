@@ -5,21 +5,21 @@ use Rattle.std.specs.List.{list_all, enumerate_from}
 use Rattle.syntax.specs.declared.unit.Item.{Item}
 use Rattle.classes.specs.Class.{Classes}
 use Rattle.syntax.specs.Views.{unit_tree}
-use Rattle.world.specs.declared.journal.Entry.{Entry}
-use Rattle.world.specs.declared.report.Printed.{Printed}
-use Rattle.world.specs.declared.schedule.ScheduleWord.{ScheduleWord}
-use Rattle.world.specs.declared.schedule.ScheduleWord.TheVariants.{Turn, Collect}
+use Rattle.source.specs.declared.journal.Entry.{Entry}
+use Rattle.source.specs.declared.printed.Printed.{Printed}
+use Rattle.source.specs.declared.schedule.ScheduleWord.{ScheduleWord}
+use Rattle.source.specs.declared.schedule.ScheduleWord.TheVariants.{Turn, Collect}
 use Rattle.world.specs.Scene.{Scene}
 use Rattle.world.specs.SceneWorld.{world_of_scene}
-use Rattle.world.specs.Schedule.{Schedule}
-use Rattle.world.specs.Sink as sink
-use Rattle.world.specs.Sink.{Written}
-use Rattle.world.specs.World.{loaded_objects}
-use Rattle.regions.specs.Run as source
-use Rattle.regions.specs.Run.{replay, Follows, JournalHasRoom}
-use Rattle.regions.specs.State.{State, thread_at}
-use Rattle.regions.specs.Step.{can_step, is_blocked, is_unfinished}
-use Rattle.regions.specs.Thread.{Thread as SourceThread}
+use Rattle.source.specs.Schedule.{Schedule}
+use Rattle.report.specs.Sink as sink
+use Rattle.report.specs.Sink.{Written}
+use Rattle.source.specs.World.{loaded_objects}
+use Rattle.report.specs.RunText as run_text
+use Rattle.source.specs.Run.{replay, Follows, UnmarkedFit, MarkedAreFair}
+use Rattle.source.specs.State.{State, thread_at}
+use Rattle.source.specs.Step.{can_step, is_blocked, is_unfinished}
+use Rattle.source.specs.Thread.{Thread as SourceThread}
 use Rattle.heap.specs.Heap.{Space}
 use Rattle.lower.specs.Lowered.{Lowered, IsLowered}
 use Rattle.machine.specs.declared.thread.Thread.{Thread}
@@ -63,8 +63,9 @@ pub record Corresponds (p : Lowered) (scene : Scene) (space : Space) (addresses 
   pub heap : state.shared.heap ≡ loaded_objects (world_of_scene scene)
   pub blocks : AgreesAtLoad space addresses (world_of_scene scene)
   pub monitors : state.shared.monitors ≡ []
-  -- no step was refused an allocation, and those that made objects had room
-  pub has_room : JournalHasRoom (unit_tree p.unit) (world_of_scene scene) journal
+  -- the steps that made objects had room, and no step was refused an allocation that had
+  pub fits : UnmarkedFit (unit_tree p.unit) (world_of_scene scene) journal
+  pub fair : MarkedAreFair (unit_tree p.unit) (world_of_scene scene) journal
   pub count : length threads ≡ length scene.threads
   pub few : length threads ≤ 8
 
@@ -91,13 +92,32 @@ pub record HasEnded (s : State) (k : ℕ) : Type 0 where
   pub is : thread_at s k ≡ Some thread
   pub ended : is_unfinished thread.ending ≡ false
 
+-- a trap has stopped the machine, or each thread has ended or waits for a monitor
+abbrev pub is_finished : Classes → State → Bool
+is_finished classes s =
+    is_some s.stop || list_all (λ (t : ℕ × SourceThread). not (is_unfinished t.1.ending) || is_blocked classes s t.0) (enumerate_from 1 s.threads)
+
+-- no trap has stopped the machine, and thread k waits for a monitor; whether each thread that hasn't ended waits
+pub record IsWaiting (classes : Classes) (s : State) (k : ℕ) (all : Bool) : Type 0 where
+  pub running : s.stop ≡ None
+  pub waits : is_blocked classes s k ≡ true
+  pub others : all ≡ is_finished classes s
+
 -- a step of thread k
 abbrev pub entry_of : ℕ → Entry
 entry_of k = record { thread = k; refused = false }
 
+-- a step of thread k whose allocation was refused
+abbrev pub refused_entry_of : ℕ → Entry
+refused_entry_of k = record { thread = k; refused = true }
+
 -- the run with a step of thread k more
 abbrev pub stepped : Run → ℕ → Run
 stepped r k = record r { journal = r.journal ++ entry_of k ∷ [] }
+
+-- the run with a step of thread k more whose allocation was refused
+abbrev pub refused : Run → ℕ → Run
+refused r k = record r { journal = r.journal ++ refused_entry_of k ∷ [] }
 
 -- thread k can step, and the journal has room for the step
 abbrev pub CouldStep : Run → ℕ → Type 0
@@ -107,7 +127,9 @@ CouldStep r k = (length r.journal < 1000000) × InState r (λ s. can_turn r s k 
 abbrev pub TurnHolds : Run → ℕ → Run → Answer → Type 0
 TurnHolds old k new turn.Stopped = (new ≡ old) × InState old (λ s. IsSome s.stop)
 TurnHolds old k new turn.Ended = (new ≡ old) × InState old (λ s. HasEnded s k)
+TurnHolds old k new (turn.Blocked all) = (new ≡ old) × InState old (λ s. IsWaiting (world_of_scene old.world).classes s k all)
 TurnHolds old k new turn.Full = (new ≡ old) × (1000000 ≤ length old.journal) × InState old (λ s. can_turn old s k ≡ true)
+TurnHolds old k new turn.Short = (new ≡ refused old k) × CouldStep old k
 TurnHolds old k new turn.Stepped = (new ≡ stepped old k) × CouldStep old k
 
 -- the numbers printed so far
@@ -153,11 +175,6 @@ abbrev pub has_ended : Ending → Bool
 has_ended Unfinished = false
 has_ended Ended = true
 
--- a trap has stopped the machine, or each thread has ended or waits for a monitor
-abbrev pub is_finished : Classes → State → Bool
-is_finished classes s =
-    is_some s.stop || list_all (λ (t : ℕ × SourceThread). not (is_unfinished t.1.ending) || is_blocked classes s t.0) (enumerate_from 1 s.threads)
-
 -- the trap that stopped the run, as it is held in memory
 abbrev pub StoppedBy : Run → Option Stop → Type 0
 StoppedBy r stop = InState r (λ s. s.stop ≡ option_map stop_view stop)
@@ -171,6 +188,7 @@ IsFinished r answer = InState r (λ s. answer ≡ is_finished (world_of_scene r.
 -- what a run writes in all was written, or a beginning of it
 pub record WritesRun {T E : Type 0} (r : Run) (old new : Written) (result : Result T E) : Type 0 where
   pub text : List ℕ
-  pub is : source.Writes (unit_tree r.unit) (world_of_scene r.world) r.journal text
-  pub has_room : JournalHasRoom (unit_tree r.unit) (world_of_scene r.world) r.journal
+  pub is : run_text.Writes (unit_tree r.unit) (world_of_scene r.world) r.journal text
+  pub fits : UnmarkedFit (unit_tree r.unit) (world_of_scene r.world) r.journal
+  pub fair : MarkedAreFair (unit_tree r.unit) (world_of_scene r.world) r.journal
   pub written : sink.Writes old new result text

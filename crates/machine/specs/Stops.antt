@@ -1,9 +1,9 @@
 -- Why and where the machine has stopped, as it is held in memory.
 use Rattle.std.specs.Prelude.{ℕ, ◌==◌, if◌then◌else◌, Option, Some, None}
-use Rattle.world.specs.declared.report.ThreadStatus.{ThreadStatus}
-use Rattle.world.specs.declared.report.ThreadStatus.TheVariants as standing
-use Rattle.regions.specs.State as state
-use Rattle.regions.specs.Value as source
+use Rattle.report.specs.declared.thread_status.ThreadStatus.{ThreadStatus}
+use Rattle.report.specs.declared.thread_status.ThreadStatus.TheVariants as standing
+use Rattle.source.specs.State as state
+use Rattle.source.specs.Value as source
 use Rattle.machine.specs.declared.stop.Trap.{Trap}
 use Rattle.machine.specs.declared.stop.Trap.TheVariants.{DivisionByZero, ShiftTooFar, OutOfRange, NullReference, ExceptionPending, WrongObject, DeletedReference, NoCapacity, Fatal}
 use Rattle.machine.specs.declared.stop.Stop.{Stop}

@@ -11,11 +11,11 @@ ghost use Rattle.world.specs.CallArguments.{are_arguments};
 ghost use Rattle.world.specs.Scene.{has_call};
 ghost use Rattle.world.specs.SceneWorld.{world_of_scene, invocation_of};
 ghost use Rattle.world.specs.Views.{argument_view};
-ghost use Rattle.world.specs.World.{loaded_objects};
-ghost use Rattle.regions.specs.Activation.{function_at};
-ghost use Rattle.regions.specs.Load.{fits_parameter, fit_parameters};
-ghost use Rattle.regions.specs.Start.{waiting_thread};
-ghost use Rattle.regions.specs.Thread.{Shared};
+ghost use Rattle.source.specs.World.{loaded_objects};
+ghost use Rattle.source.specs.Activation.{function_at};
+ghost use Rattle.source.specs.Load.{fits_parameter, fit_parameters};
+ghost use Rattle.source.specs.Start.{waiting_thread};
+ghost use Rattle.source.specs.Thread.{Shared};
 ghost use Rattle.machine.specs.Agrees.{ThreadAgrees, ThreadsAgree};
 ghost use Rattle.machine.specs.Loading.{IsNumberOf, IsCallOf, IsFirstOf, refused_calls};
 

@@ -4,18 +4,16 @@ ghost use Rattle.std.specs.Prelude.{◌≡◌, ◌+◌, ◌<◌, ◌≤◌, [], 
 ghost use Rattle.heap.specs.Heap.{IsLaidOut, left_of, end_of, fresh_block, with_block};
 ghost use Rattle.world.specs.SceneWorld.{world_of_scene};
 ghost use Rattle.world.specs.Views.{element_view};
-ghost use Rattle.world.specs.World.{loaded_objects};
+ghost use Rattle.source.specs.World.{loaded_objects};
 ghost use Rattle.classes.specs.BuiltIns.{number_array};
-ghost use Rattle.world.specs.Object.{Number};
-ghost use Rattle.regions.specs.Heap.{Heap as Objects};
-ghost use Rattle.machine.specs.HeapAgrees.{AreMade, made_before};
+ghost use Rattle.source.specs.Object.{Number};
+ghost use Rattle.source.specs.Heap.{Heap as Objects};
+ghost use Rattle.machine.specs.HeapAgrees.{AreMade};
+ghost use Rattle.source.specs.World.{made_before};
 
-use heap::{Addr, Heap, MOST_CELLS};
+use heap::{Addr, Heap, MOST_CELLS, Value};
 use std::alloc::{AllocError, Global};
 use world::{Element, World};
-
-/// The word of NULL, which is no address.
-pub const NULL: u32 = 4_294_967_295;
 
 /// The class of class objects, java/lang/Class, by its number.
 const CLASS: u32 = 2;
@@ -33,10 +31,9 @@ pub fn load_heap(alloc: Global, world: &World) -> Result<(Heap, Vec<Addr>), Allo
     let mut heap = Heap::new(alloc, world.heap())?;
     let mut loaded = Vec::new(alloc);
     for _class in 0..world.class_count() {
-        make(&mut heap, &mut loaded, CLASS, 0)?;
+        make(&mut heap, &mut loaded, CLASS, 0, Value::Null)?;
     }
-    let error = make(&mut heap, &mut loaded, OUT_OF_MEMORY_ERROR, 1)?;
-    heap.set(error, 0, NULL);
+    make(&mut heap, &mut loaded, OUT_OF_MEMORY_ERROR, 1, Value::Null)?;
     make_arrays(&mut heap, &mut loaded, world)?;
     Ok((heap, loaded))
 }
@@ -67,16 +64,22 @@ fn array_class(element: Element) -> u32
     }
 }
 
-/// Makes the next object, whose values are 0.
-fn make(heap: &mut Heap, loaded: &mut Vec<Addr>, class: u32, len: usize) -> Result<Addr, AllocError>
+/// Makes the next object, whose values are all the same.
+fn make(
+    heap: &mut Heap,
+    loaded: &mut Vec<Addr>,
+    class: u32,
+    len: usize,
+    fill: Value,
+) -> Result<Addr, AllocError>
     requires room { 3 + len ≤ left_of heap.old }
     requires few { length loaded.old.items < MOST_CELLS }
     ensures address { IfOk result (λ addr. addr ≡ end_of heap.old) }
-    ensures heap { OnOk result (heap.new ≡ with_block heap.old (fresh_block (end_of heap.old) class (length loaded.old.items + 1) len)) }
+    ensures heap { OnOk result (heap.new ≡ with_block heap.old (fresh_block (end_of heap.old) class (length loaded.old.items + 1) len fill)) }
     ensures loaded { OnOk result (loaded.new.items ≡ loaded.old.items ++ end_of heap.old ∷ []) }
 {
     let birth = loaded.len() as u32 + 1;
-    let addr = heap.alloc(class, birth, len).unwrap();
+    let addr = heap.alloc(class, birth, len, fill).unwrap();
     loaded.push(addr)?;
     Ok(addr)
 }
@@ -95,10 +98,10 @@ fn make_array(
         → OnOk result (AreMade heap.new loaded.new.items (objects ++ record { class = class; values = map Number numbers.now } ∷ [])) }
     ensures cells { OnOk result (heap.new.cells ≡ heap.old.cells) }
 {
-    let addr = make(heap, loaded, class, numbers.len())?;
+    let addr = make(heap, loaded, class, numbers.len(), Value::Number(0))?;
     for place in 0..numbers.len() {
         let number = numbers.get(place).copied().unwrap();
-        heap.set(addr, place, number.cast_unsigned());
+        heap.set_number(addr, place, number.cast_unsigned());
     }
     Ok(())
 }

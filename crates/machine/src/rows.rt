@@ -1,15 +1,18 @@
 //! The rows of a report.
 
-ghost use Rattle.std.specs.Prelude.{◌≡◌, ℕ, codes, ◌++◌, flat_map};
+ghost use Rattle.std.specs.Prelude.{◌≡◌, ℕ, Some, codes, ◌++◌, flat_map};
 ghost use Rattle.classes.specs.Class.{Classes};
 ghost use Rattle.heap.specs.Heap.{IsAddress, values_at};
-ghost use Rattle.world.specs.Report.{object_line, shown_text};
+ghost use Rattle.source.specs.Object.{Refers};
+ghost use Rattle.report.specs.ReportText.{object_line, shown_text};
 ghost use Rattle.world.specs.SceneWorld.{world_of_scene};
-ghost use Rattle.world.specs.Sink.{CanFail, Writes};
-ghost use Rattle.world.specs.World.{loaded_objects};
-ghost use Rattle.machine.specs.Rows.{block_row, shown_numbers};
+ghost use Rattle.report.specs.Shown.{shown_view};
+ghost use Rattle.report.specs.Sink.{CanFail, Writes};
+ghost use Rattle.source.specs.World.{loaded_objects};
+ghost use Rattle.source.specs.ReportOf.{shown_value};
+ghost use Rattle.machine.specs.Rows.{block_row, shown_cell, shown_cells, IsThere, AreThere};
 
-use heap::{Addr, Heap};
+use heap::{Addr, Heap, Value};
 use std::marker::Model;
 use world::{Rows, Shown, Sink, SinkFailed, World, put_row_end, put_row_head, put_value};
 
@@ -36,7 +39,7 @@ impl<'a> Model for LoadedRows<'a> {
 
 impl<'a> Rows for LoadedRows<'a> {
     ghost use Rattle.world.specs.SceneWorld.{world_of_scene};
-    ghost use Rattle.machine.specs.Rows.{loaded_rows};
+    ghost use Rattle.source.specs.ReportOf.{loaded_rows};
 
     ghost rows = { λ r. loaded_rows (world_of_scene r) };
 
@@ -52,7 +55,7 @@ impl<'a> Rows for LoadedRows<'a> {
     }
 }
 
-/// Puts the row of an object whose values are numbers.
+/// Puts the row of an object.
 fn put_row<S: Sink>(
     sink: &mut S,
     world: &World,
@@ -62,23 +65,53 @@ fn put_row<S: Sink>(
 ) -> Result<(), SinkFailed>
     requires can_fail { CanFail (S.written sink.old) }
     requires address { IsAddress heap.now addr }
+    requires there { AreThere heap.now (values_at heap.now addr) }
     ensures { Writes (S.written sink.old) (S.written sink.new) result (object_line (block_row (world_of_scene world.now).classes heap.now name addr)) }
 {
     let class = world.class_name(heap.class_of(addr) as usize);
     put_row_head(sink, name, class)?;
-    put_numbers(sink, heap, addr)?;
+    put_values(sink, world, heap, addr)?;
     put_row_end(sink)
 }
 
-/// Puts the values of an object, which are numbers.
-fn put_numbers<S: Sink>(sink: &mut S, heap: &Heap, addr: Addr) -> Result<(), SinkFailed>
+/// Puts the values of an object.
+fn put_values<S: Sink>(
+    sink: &mut S,
+    world: &World,
+    heap: &Heap,
+    addr: Addr,
+) -> Result<(), SinkFailed>
     requires can_fail { CanFail (S.written sink.old) }
     requires address { IsAddress heap.now addr }
-    ensures { Writes (S.written sink.old) (S.written sink.new) result (flat_map (λ v. codes " " ++ shown_text v) (shown_numbers (values_at heap.now addr))) }
+    requires there { AreThere heap.now (values_at heap.now addr) }
+    ensures { Writes (S.written sink.old) (S.written sink.new) result (flat_map (λ v. codes " " ++ shown_text v) (shown_cells (world_of_scene world.now).classes heap.now (values_at heap.now addr))) }
 {
     for place in 0..heap.len_of(addr) {
-        let number = heap.get(addr, place).cast_signed();
-        put_value(sink, Shown::Number(number))?;
+        let value = heap.get(addr, place);
+        put_value(sink, shown(world, heap, &value))?;
     }
     Ok(())
+}
+
+/// A value as a report shows it.
+fn shown<'a>(world: &'a World, heap: &Heap, value: &Value) -> Shown<'a>
+    requires { IsThere heap.now value.now }
+    ensures { shown_view result ≡ shown_cell (world_of_scene world.now).classes heap.now value.now }
+{
+    match value {
+        Value::Number(number) => Shown::Number(number.cast_signed()),
+        Value::Null => Shown::Null,
+        Value::Block(addr) => shown_object(world, heap.birth_of(*addr)),
+    }
+}
+
+/// An object of this name as a report shows it: a class object by the name of its class.
+fn shown_object<'a>(world: &'a World, name: u32) -> Shown<'a>
+    ensures { shown_view result ≡ shown_value (world_of_scene world.now).classes (Refers (Some name)) }
+{
+    if name as usize <= world.class_count() {
+        Shown::Class(world.class_name(name as usize))
+    } else {
+        Shown::Object(name)
+    }
 }

@@ -1,7 +1,7 @@
 //! Traps, and where one stopped the machine.
 
 ghost use Rattle.std.specs.Prelude.{◌≡◌};
-ghost use Rattle.regions.specs.Value.{trap_number};
+ghost use Rattle.source.specs.Value.{trap_number};
 ghost use Rattle.lower.specs.Does.{trap_of};
 ghost use Rattle.machine.specs.Stops.{trap_view};
 

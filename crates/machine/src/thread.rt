@@ -2,9 +2,9 @@
 
 ghost use Rattle.std.specs.Prelude.{◌≡◌, ℕ, ◌<◌, Some, None, [], ◌∷◌, List, length, IfOk, OnOk, OnErr};
 ghost use Rattle.std.specs.VecDeque.{deque_len};
-ghost use Rattle.regions.specs.Effect.{effect_of};
-ghost use Rattle.regions.specs.Task.{Task};
-ghost use Rattle.regions.specs.Thread.{BuffersInUse, Shared, Thread as SourceThread, sight_of};
+ghost use Rattle.source.specs.Effect.{effect_of};
+ghost use Rattle.source.specs.Task.{Task};
+ghost use Rattle.source.specs.Thread.{BuffersInUse, Shared, Thread as SourceThread, sight_of};
 ghost use Rattle.world.specs.SceneWorld.{world_of_scene};
 ghost use Rattle.lower.specs.Lowered.{IsLowered};
 ghost use Rattle.lower.specs.Slots.{Visible, visible_to};

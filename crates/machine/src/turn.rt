@@ -7,8 +7,12 @@ pub enum Turn {
     Stopped,
     /// The thread has ended.
     Ended,
+    /// The thread waits for a monitor that another thread owns; whether each thread that hasn't ended waits.
+    Blocked(bool),
     /// The journal has no room for another entry.
     Full,
+    /// A step was taken whose allocation was refused: its entry is marked.
+    Short,
     /// A step was taken.
     Stepped,
 }

@@ -1,17 +1,12 @@
 -- A unit without fault is accepted, and the fault found is its first.
-use Rattle.std.proofs.Common.{◌≡◌, ℕ, suc, Bool, true, false, not, ◌&&◌, inl, inr, List, [], ◌∷◌, Option, Some, None, Result, Ok, Err, refl, sym, ap, ap₂, ◌∙◌, subst, is_some, arith}
-use Rattle.std.specs.Prelude.{Contains, IsTrue}
-use Rattle.std.specs.List.{list_all, AllByRecursion}
+use Rattle.std.proofs.Common.{◌≡◌, ℕ, suc, Bool, true, false, ◌&&◌, inl, inr, List, [], ◌∷◌, Option, Some, None, Result, Ok, Err, refl, sym, ap, ap₂, ◌∙◌, subst, arith}
+use Rattle.std.specs.Prelude.{Contains}
+use Rattle.std.specs.List.{AllByRecursion}
 use Rattle.std.specs.Option.{option_or}
-use Rattle.base.specs.Options.{some_passes}
-use Rattle.syntax.specs.Parts.{functions_of, statements_of, own_call}
-use Rattle.syntax.specs.Tree.{Call, Block, End, Next, Function, Item, StaticItem, FunctionItem}
-use Rattle.types.specs.JniFunction.{JniFunction}
-use Rattle.types.specs.Prototype.{function_named}
-use Rattle.types.specs.BuiltCalls.{is_built_function, is_built_call, calls_unbuilt}
+use Rattle.syntax.specs.Parts.{functions_of}
+use Rattle.syntax.specs.Tree.{Block, End, Next, Function, Item, StaticItem, FunctionItem}
 use Rattle.regions.specs.declared.fault.CheckFault.{CheckFault}
 use Rattle.regions.specs.declared.fault.CheckFault.TheVariants.{Memory, Broken}
-use Rattle.regions.specs.StateEffects.{calls_known, items_known}
 use Rattle.regions.specs.Findings.{Finds, Refuses, IfBroken, rule_of, fault_of, end_line_of, fault_at_end, function_fault, items_fault, first_fault}
 use Rattle.regions.specs.FirstFaults.{FirstInFunction, FirstInFunctions}
 use Rattle.regions.specs.RegionRules.{RegionRule, NoReturn}
@@ -132,29 +127,7 @@ first_broken_in (f ∷ functions) rule l b =
       | inr later ↦ let further = first_broken_in functions rule l later.1 in (further.0, (suc (further.1).0, omega (arith, (further.1).1), (further.1).2), further.2)
     ]
 
--- ---- calls
-
-all_more : {A : Type 0} (p q : A → Bool) → ((x : A) → p x ≡ true → q x ≡ true) → (xs : List A) → list_all p xs ≡ true → list_all q xs ≡ true
-all_more p q h [] k = refl
-all_more p q h (x ∷ xs) k = let both = both_hold (p x) (list_all p xs) k in and_true (q x) (list_all q xs) (h x both.0) (all_more p q h xs both.1)
-
-known_function : (o : Option JniFunction) → not (not (some_passes is_built_function o)) ≡ true → not (not (is_some o)) ≡ true
-known_function None h = h
-known_function (Some f) h = refl
-
-known_call : (o : Option Call) → not (some_passes (λ c. not (is_built_call c)) o) ≡ true → not (some_passes (λ c. not (is_some (function_named c.function))) o) ≡ true
-known_call None h = refl
-known_call (Some c) h = known_function (function_named c.function) h
-
--- what is built is known
-pub built-known : (items : List Item) → list_all (λ f. list_all (λ s. not (calls_unbuilt s)) (statements_of f.body)) (functions_of (record { items = items })) ≡ true → IsTrue (items_known items)
-built-known [] h = refl
-built-known (StaticItem s ∷ items) h = built-known items h
-built-known (FunctionItem f ∷ items) h =
-    let both = both_hold (list_all (λ s. not (calls_unbuilt s)) (statements_of f.body)) (list_all (λ g. list_all (λ s. not (calls_unbuilt s)) (statements_of g.body)) (functions_of (record { items = items }))) h in
-    and_true (list_all calls_known (statements_of f.body)) (items_known items)
-    (all_more (λ s. not (calls_unbuilt s)) calls_known (λ s j. known_call (own_call s) j) (statements_of f.body) both.0)
-    (built-known items both.1)
+-- ---- items
 
 -- the faults of items are those of their functions
 pub items-fault : (items : List Item) → items_fault items ≡ first_fault (functions_of (record { items = items }))

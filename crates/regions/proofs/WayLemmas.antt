@@ -1,20 +1,16 @@
 -- The walk over the ways in memory is that of the definitions.
-use Rattle.std.proofs.Common.{◌≡◌, ℕ, zero, suc, ◌+◌, ◌<◌, ◌≤◌, true, false, not, List, [], ◌∷◌, ◌++◌, length, get_or, drop, Some, None, Result, Ok, Err, refl, sym, ap, ap₂, ◌∙◌, subst, arith, add-one, drop-cons}
-use Rattle.std.specs.Prelude.{IsTrue}
-use Rattle.std.specs.List.{list_all}
-use Rattle.std.proofs.lemmas.List.Folds.{list_all-append}
+use Rattle.std.proofs.Common.{◌≡◌, ℕ, zero, suc, ◌+◌, ◌<◌, ◌≤◌, true, false, not, List, [], ◌∷◌, length, get_or, drop, Some, None, Result, Ok, Err, refl, sym, ap, ap₂, ◌∙◌, subst, arith, add-one, drop-cons}
 use Rattle.syntax.specs.declared.stmt.Form.{Form as FormInMemory}
 use Rattle.syntax.specs.declared.stmt.Form.TheVariants as form
 use Rattle.syntax.specs.declared.stmt.Stmt.{Stmt as StmtInMemory}
 use Rattle.syntax.specs.declared.stmt.Block.{Block as BlockInMemory, out-Block}
-use Rattle.syntax.specs.Parts.{statements_of, statements_within, line_of}
+use Rattle.syntax.specs.Parts.{line_of}
 use Rattle.syntax.specs.Tree.{Stmt, If, IfElse, While, Return, ReturnValue, Block, End, Next}
 use Rattle.syntax.specs.Views.{form_tree, stmt_tree, statements_tree, block_tree}
 use Rattle.syntax.proofs.Blocks.{block_is}
 use Rattle.regions.specs.declared.fault.CheckFault.{CheckFault}
 use Rattle.regions.specs.declared.fault.CheckFault.TheVariants.{Memory, Broken}
 use Rattle.regions.specs.declared.walk.Way.{Way as WayInMemory}
-use Rattle.regions.specs.StateEffects.{calls_known}
 use Rattle.regions.specs.Findings.{fault_of, end_line_of}
 use Rattle.regions.specs.FirstFaults.{first_broken}
 use Rattle.regions.specs.RegionRules.{RegionRule, HeldBuffer, NoReturn}
@@ -24,7 +20,6 @@ use Rattle.regions.specs.Walks.{holds_other, Stops, Goes, go_on, inner_way}
 use Rattle.regions.specs.Ways.{Fault, way_if, own_way, way_after, returned_before, join_ways, turn_way, way_of, way_of_block}
 use Rattle.syntax.specs.declared.unit.Item.{Item as ItemInMemory}
 use Rattle.regions.proofs.StateLemmas.{own_is}
-use Rattle.regions.proofs.UnitLemmas.{both_hold}
 
 -- ---- answers along equations
 
@@ -49,27 +44,6 @@ way_is before (Return line) = refl
 way_is before (ReturnValue line e) = refl
 way_is before s = refl
 
-pub own_known : (s : Stmt) → IsTrue (list_all calls_known (statements_within s)) → IsTrue (calls_known s)
-own_known (If line test then') h = (both_hold (calls_known (If line test then')) _ h).0
-own_known (IfElse line test then' else') h = (both_hold (calls_known (IfElse line test then' else')) _ h).0
-own_known (While line test body) h = (both_hold (calls_known (While line test body)) _ h).0
-own_known s h = (both_hold (calls_known s) true h).0
-
--- what a statement calls is not on its line
-pub known_anywhere : (f : FormInMemory) (line other : ℕ) → IsTrue (calls_known (form_tree line f)) → IsTrue (calls_known (form_tree other f))
-known_anywhere (form.Return None) line other h = h
-known_anywhere (form.Return (Some e)) line other h = h
-known_anywhere f line other h = h
-
-pub first_known : (s : Stmt) (rest : Block) → IsTrue (list_all calls_known (statements_of (Next s rest))) → IsTrue (list_all calls_known (statements_within s))
-first_known s rest h = (both_hold (list_all calls_known (statements_within s)) (list_all calls_known (statements_of rest)) (sym (list_all-append calls_known (statements_within s) (statements_of rest)) ∙ h)).0
-
-pub rest_known : (s : Stmt) (rest : Block) → IsTrue (list_all calls_known (statements_of (Next s rest))) → IsTrue (list_all calls_known (statements_of rest))
-rest_known s rest h = (both_hold (list_all calls_known (statements_within s)) (list_all calls_known (statements_of rest)) (sym (list_all-append calls_known (statements_within s) (statements_of rest)) ∙ h)).1
-
-pub two_known : (b d : Block) → IsTrue (list_all calls_known (statements_of b ++ statements_of d)) → IsTrue (list_all calls_known (statements_of b)) × IsTrue (list_all calls_known (statements_of d))
-two_known b d h = both_hold (list_all calls_known (statements_of b)) (list_all calls_known (statements_of d)) (sym (list_all-append calls_known (statements_of b) (statements_of d)) ∙ h)
-
 -- the statement's own fault, and the way after it where it has none
 pub stmt_fault : (r : Result WayInMemory CheckFault) (before : RegionState) (s : StmtInMemory) (rule : RegionRule) → Some rule ≡ first_broken before (stmt_tree s) → Goes r (Err (s.line, rule)) → Goes r (way_of before (stmt_tree s))
 stmt_fault r before s rule h k =
@@ -87,10 +61,6 @@ stmt_next items i s h e = rw add-one (drop-cons items i s h ∙ ap (λ x. x ∷ 
 pub go_rest : (outer : RegionState) (w : Way) (items : List StmtInMemory) (i : ℕ) (s : StmtInMemory) (end_line : ℕ) → i < length items → s ≡ get_or items i s
     → go_on outer w (statements_tree (drop i items) end_line) ≡ go_on outer w (Next (stmt_tree s) (statements_tree (drop (i + 1) items) end_line))
 go_rest outer w items i s end_line h e = ap (λ rest. go_on outer w (statements_tree rest end_line)) (stmt_next items i s h e)
-
-pub known_next : (items : List StmtInMemory) (i : ℕ) (s : StmtInMemory) (end_line : ℕ) → i < length items → s ≡ get_or items i s
-    → IsTrue (list_all calls_known (statements_of (statements_tree (drop i items) end_line))) → IsTrue (list_all calls_known (statements_of (Next (stmt_tree s) (statements_tree (drop (i + 1) items) end_line))))
-known_next items i s end_line h e k = subst (λ rest. IsTrue (list_all calls_known (statements_of (statements_tree rest end_line)))) (stmt_next items i s h e) k
 
 -- one statement more
 pub go_step : (outer before : RegionState) (w : Way) (s : Stmt) (rest : Block) → way_of before s ≡ Ok w → go_on outer (On before) (Next s rest) ≡ go_on outer w rest

@@ -4,9 +4,9 @@ use Rattle.std.specs.Option.{option_map}
 use Rattle.std.specs.Borrow.{Bor}
 use Rattle.base.specs.Bytes.{Identifier}
 use Rattle.syntax.specs.Tree.{BinaryOp, Equal, NotEqual, Variable, Binary, Expr}
-use Rattle.types.specs.JniFunction.{Access}
+use Rattle.jni.specs.JniFunction.{Access}
 use Rattle.types.specs.Sorts.{is_null}
-use Rattle.types.specs.declared.access.Access.{Access as AccessInMemory}
+use Rattle.jni.specs.declared.access.Access.{Access as AccessInMemory}
 use Rattle.regions.specs.declared.changes.Change.{Change}
 use Rattle.regions.specs.declared.changes.Change.TheVariants as change
 use Rattle.regions.specs.declared.changes.NullTest.{NullTest}
@@ -14,7 +14,7 @@ use Rattle.regions.specs.declared.changes.NullTest.TheVariants as tested
 use Rattle.regions.specs.RegionStates.{VariableState, RegionState, with_changed, made_free, killed, killed_from}
 use Rattle.regions.specs.Regions.{made_usable}
 use Rattle.regions.specs.Judgements.{set_from}
-use Rattle.types.specs.Table.{access_value}
+use Rattle.jni.specs.Table.{access_value}
 
 -- a Get in memory
 abbrev pub get_value : AccessInMemory × Option (Bor (List ℕ)) → Access × Option Identifier

@@ -1,26 +1,16 @@
 //! What a call does to buffers, references and frames.
 
-ghost use Rattle.std.specs.Prelude.{◌≡◌, ℕ, [], ◌∷◌, map, Some, IsTrue};
-ghost use Rattle.std.specs.Option.{option_map, is_some};
-ghost use Rattle.syntax.specs.Parts.{own_call};
-ghost use Rattle.syntax.specs.Views.{argument_tree, call_tree, form_tree};
-ghost use Rattle.types.specs.Prototype.{function_named};
+ghost use Rattle.std.specs.Prelude.{◌≡◌, ℕ, [], ◌∷◌, map, Some};
+ghost use Rattle.std.specs.Option.{option_map};
+ghost use Rattle.syntax.specs.Views.{argument_tree, form_tree};
 ghost use Rattle.regions.specs.RegionStates.{argument_name, first_name, has_commit, function_called};
-ghost use Rattle.types.specs.Table.{access_value};
-ghost use Rattle.regions.specs.StateEffects.{Releases, state_effect, effect_value, call_state_effect, made_value, release_value, calls_known, got, released, deleted, popped, is_forbidden, named_effect, row_value};
+ghost use Rattle.jni.specs.StateEffect.{Releases};
+ghost use Rattle.jni.specs.Table.{access_value, function_value};
+ghost use Rattle.regions.specs.StateEffects.{call_state_effect, made_value, release_value, got, released, deleted, popped, is_forbidden};
 
-use syntax::{Argument, Constant, ElementType, Expr, Form};
-use types::{Access, own_call};
-
-/// The calls that the rules know apart.
-#[derive(Clone, Copy)]
-pub(crate) enum StateEffect {
-    Gets(Access),
-    Releases(Access),
-    Deletes,
-    Pops,
-    Other,
-}
+use jni::{Access, JniFunction, StateEffect, function_named};
+use syntax::{Argument, Constant, Expr, Form};
+use types::own_call;
 
 /// A call: what it does, and its arguments.
 #[derive(Clone, Copy)]
@@ -38,95 +28,25 @@ pub(crate) struct Release<'a> {
     pub commits: bool,
 }
 
-/// A function's name, and what the function does.
-type Row = (&'static [u8], StateEffect);
-
-const EFFECTS: [Row; 16] = [
-    (b"DeleteLocalRef", StateEffect::Deletes),
-    (b"PopLocalFrame", StateEffect::Pops),
-    (
-        b"GetIntArrayElements",
-        StateEffect::Gets(Access::ElementsCopy(ElementType::Jint)),
-    ),
-    (
-        b"GetShortArrayElements",
-        StateEffect::Gets(Access::ElementsCopy(ElementType::Jshort)),
-    ),
-    (
-        b"GetByteArrayElements",
-        StateEffect::Gets(Access::ElementsCopy(ElementType::Jbyte)),
-    ),
-    (
-        b"GetCharArrayElements",
-        StateEffect::Gets(Access::ElementsCopy(ElementType::Jchar)),
-    ),
-    (
-        b"GetPrimitiveArrayCritical",
-        StateEffect::Gets(Access::ArrayView),
-    ),
-    (b"GetStringChars", StateEffect::Gets(Access::CharsCopy)),
-    (b"GetStringCritical", StateEffect::Gets(Access::CharsView)),
-    (
-        b"ReleaseIntArrayElements",
-        StateEffect::Releases(Access::ElementsCopy(ElementType::Jint)),
-    ),
-    (
-        b"ReleaseShortArrayElements",
-        StateEffect::Releases(Access::ElementsCopy(ElementType::Jshort)),
-    ),
-    (
-        b"ReleaseByteArrayElements",
-        StateEffect::Releases(Access::ElementsCopy(ElementType::Jbyte)),
-    ),
-    (
-        b"ReleaseCharArrayElements",
-        StateEffect::Releases(Access::ElementsCopy(ElementType::Jchar)),
-    ),
-    (
-        b"ReleasePrimitiveArrayCritical",
-        StateEffect::Releases(Access::ArrayView),
-    ),
-    (
-        b"ReleaseStringChars",
-        StateEffect::Releases(Access::CharsCopy),
-    ),
-    (
-        b"ReleaseStringCritical",
-        StateEffect::Releases(Access::CharsView),
-    ),
-];
-
-/// The effect of the first line for a name.
-fn named_in(mut rows: &[Row], name: &[u8]) -> StateEffect
-    ensures { effect_value result ≡ named_effect (map row_value rows.entry.now) name.now }
+/// A call of a function that is known.
+fn made(function: Option<JniFunction>, arguments: &[Argument]) -> Option<MadeCall<'_>>
+    ensures { option_map made_value result ≡ option_map call_state_effect (option_map (λ f. (f, map argument_tree arguments.now)) (option_map function_value function)) }
 {
-    while let [row, rest @ ..] = rows {
-        if row.0 == name {
-            return row.1;
-        }
-        rows = rest;
+    match function {
+        Some(f) => Some(MadeCall {
+            effect: f.prototype().effect,
+            arguments,
+        }),
+        None => None,
     }
-    StateEffect::Other
-}
-
-/// The effect of a function that there is.
-fn effect_named(name: &[u8]) -> StateEffect
-    requires { IsTrue (is_some (function_named name.now)) }
-    ensures { option_map state_effect (function_named name.now) ≡ Some (effect_value result) }
-{
-    named_in(&EFFECTS, name)
 }
 
 /// What a statement calls.
 pub(crate) fn called(form: &Form) -> Option<MadeCall<'_>>
-    requires { (line : ℕ) → IsTrue (calls_known (form_tree line form.now)) }
     ensures { (line : ℕ) → option_map made_value result ≡ option_map call_state_effect (function_called (form_tree line form.now)) }
 {
     match own_call(form) {
-        Some(call) => Some(MadeCall {
-            effect: effect_named(call.function.as_bytes()),
-            arguments: &call.arguments,
-        }),
+        Some(call) => made(function_named(call.function.as_bytes()), &call.arguments),
         None => None,
     }
 }

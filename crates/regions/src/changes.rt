@@ -7,15 +7,15 @@ ghost use Rattle.types.specs.Sorts.{is_null};
 ghost use Rattle.regions.specs.Regions.{made_usable, where_true, where_false};
 ghost use Rattle.regions.specs.RegionStates.{BufferIn, with_each, with_new, with_some_changed, after_pop, after_release, made_free, killed, killed_from, buffer_from, state_after};
 ghost use Rattle.regions.specs.StatesInMemory.{variable_state, named_value, state_value};
-ghost use Rattle.regions.specs.StateEffects.{made_value, release_value, calls_known};
+ghost use Rattle.regions.specs.StateEffects.{made_value, release_value};
 ghost use Rattle.regions.specs.Judgements.{set_from, effected, settled};
 ghost use Rattle.regions.specs.Changes.{get_value, change_value, changed_named, variable_of, tested_by, null_test_of, test_value, taught_true, taught_false};
 
 use crate::calls::{MadeCall, Release, called, deleted, got, popped, released};
 use crate::states::{StaticState, Variable, VariableState, is_same};
+use jni::Access;
 use std::alloc::AllocError;
 use syntax::{BinaryOp, Constant, Expr, Form, Test, VariableType};
-use types::Access;
 
 /// A change of what is known.
 #[derive(Clone, Copy)]
@@ -264,7 +264,6 @@ fn settle<'a>(
 
 /// The state after a statement without blocks.
 pub(crate) fn pass<'a>(state: &mut StaticState<'a>, form: &'a Form) -> Result<(), AllocError>
-    requires { (line : ℕ) → IsTrue (calls_known (form_tree line form.now)) }
     ensures { OnOk result ((line : ℕ) → state_value state.new ≡ state_after (state_value state.old) (form_tree line form.now)) }
 {
     let call = called(form);

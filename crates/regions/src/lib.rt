@@ -1,4 +1,4 @@
-//! The rules on ways through a function, and what a program does.
+//! The rules on ways through a function: which uses of buffers, references and frames are accepted.
 #![tactic(auto)]
 
 mod calls;
@@ -10,9 +10,7 @@ mod rules;
 mod states;
 mod walk;
 
-ghost use Rattle.regions.specs.AccountLaws.{OthersStay, StepsMay};
 ghost use Rattle.regions.specs.FirstFaults.{AcceptedBreaksNothing, AcceptedOrBroken, AcceptedOrFirst, FirstIsBroken, NotBoth, OneFirst, OneFirstOfUnit};
-ghost use Rattle.regions.specs.Reachable.{ReachableIsComputed};
 
 pub use checked::{Checked, check};
 pub use fault::{CheckFault, RegionFault, RegionRule};
@@ -50,19 +48,4 @@ pub fn one_first_of_unit()
 /// A unit's first fault is of a rule that is broken at its line.
 pub fn first_is_broken()
     ensures { FirstIsBroken }
-{}
-
-/// The computed list is the set of the reachable objects.
-pub fn reachable_is_computed()
-    ensures { ReachableIsComputed }
-{}
-
-/// An entry of one thread, marked or not, changes no other thread's part in a journal.
-pub fn others_stay()
-    ensures { OthersStay }
-{}
-
-/// An entry is of a thread that can step: no trap has stopped the machine, and it has neither ended nor waits.
-pub fn steps_may()
-    ensures { StepsMay }
 {}

@@ -9,7 +9,7 @@ ghost use Rattle.regions.specs.FirstFaults.{first_broken};
 ghost use Rattle.regions.specs.RegionRules.{CallWhileCritical, ReturnWithBuffer, HeldBuffer, UntestedBuffer, WrongBuffer, ReturnInFrame, PopLastFrame, DeadReference, ArrayInUse, WrongLevel, is_return, is_put_jint, is_level, is_mismatched};
 ghost use Rattle.regions.specs.RegionStates.{state_of};
 ghost use Rattle.regions.specs.StatesInMemory.{variable_state, state_value, asks, held_in};
-ghost use Rattle.regions.specs.StateEffects.{made_value, release_value, calls_known, got};
+ghost use Rattle.regions.specs.StateEffects.{made_value, release_value, got};
 ghost use Rattle.regions.specs.Findings.{rule_of};
 ghost use Rattle.regions.specs.Judgements.{judged, first_judged, is_wrong_release, is_other_level, frames_after, has_young_array, pops_array, gets_elsewhere};
 
@@ -322,7 +322,6 @@ pub(crate) fn first_judged(
 
 /// The rule of least number that a statement breaks by itself.
 pub(crate) fn first_broken(state: &StaticState, form: &Form) -> Option<RegionRule>
-    requires { (line : ℕ) → IsTrue (calls_known (form_tree line form.now)) }
     ensures { (line : ℕ) → option_map rule_of result ≡ first_broken (state_value state.now) (form_tree line form.now) }
 {
     first_judged(state, form, called(form))

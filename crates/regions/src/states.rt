@@ -3,14 +3,14 @@
 ghost use Rattle.std.specs.Prelude.{◌≡◌, bytes_eq, Some, IfOk};
 ghost use Rattle.std.specs.Option.{option_map};
 ghost use Rattle.base.specs.Options.{some_passes};
-ghost use Rattle.types.specs.JniFunction.{is_critical};
-ghost use Rattle.types.specs.Table.{access_value};
+ghost use Rattle.jni.specs.JniFunction.{is_critical};
+ghost use Rattle.jni.specs.Table.{access_value};
 ghost use Rattle.regions.specs.RegionStates.{state_of};
 ghost use Rattle.regions.specs.RegionRules.{holds_buffer, is_level};
 ghost use Rattle.regions.specs.StatesInMemory.{variable_state, state_value, condition_holds, asks, held_in, holds_critical, holds_of};
 
+use jni::Access;
 use std::alloc::{AllocError, Global};
-use types::Access;
 
 /// What is known of a reference or a buffer. A buffer that is not free has an access, and the variable of its array or
 /// string.

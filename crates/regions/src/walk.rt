@@ -12,7 +12,6 @@ ghost use Rattle.regions.specs.Regions.{On, left, has_variable, where_true, wher
 ghost use Rattle.regions.specs.SameStates.{same_variable, same_named, same_state};
 ghost use Rattle.regions.specs.Ways.{join_ways, turn_way, way_of, way_of_block};
 ghost use Rattle.regions.specs.StatesInMemory.{variable_state, variables_value, state_value};
-ghost use Rattle.regions.specs.StateEffects.{calls_known, item_known, items_known};
 ghost use Rattle.regions.specs.Findings.{rule_of, Finds, function_fault, item_fault, items_fault};
 ghost use Rattle.regions.specs.Walks.{holds_other, way_value, Goes, inner_way};
 
@@ -216,7 +215,6 @@ fn state_false<'a>(
 
 /// The way after a statement without blocks.
 fn pass_way<'a>(mut before: StaticState<'a>, form: &'a Form) -> Result<Way<'a>, CheckFault>
-    requires { (line : ℕ) → IsTrue (calls_known (form_tree line form.now)) }
     ensures { (line : ℕ) → Goes result (Ok (On (state_after (state_value before.entry) (form_tree line form.now)))) }
 {
     pass(&mut before, form)?;
@@ -231,7 +229,6 @@ fn then_way<'a>(
     test: &'a Test,
     then: &'a Block,
 ) -> Result<Way<'a>, CheckFault>
-    requires { IsTrue (list_all calls_known (statements_of (block_tree then.now))) }
     ensures { Goes result (way_of_block (state_value before.now) (where_true (state_value before.now) (test_tree test.now)) (block_tree then.now)) }
 {
     let inside = state_true(alloc, before, test)?;
@@ -246,7 +243,6 @@ fn else_way<'a>(
     test: &'a Test,
     otherwise: &'a Block,
 ) -> Result<Way<'a>, CheckFault>
-    requires { IsTrue (list_all calls_known (statements_of (block_tree otherwise.now))) }
     ensures { Goes result (way_of_block (state_value before.now) (where_false (state_value before.now) (test_tree test.now)) (block_tree otherwise.now)) }
 {
     let inside = state_false(alloc, before, test)?;
@@ -262,7 +258,6 @@ fn if_way<'a>(
     test: &'a Test,
     then: &'a Block,
 ) -> Result<Way<'a>, CheckFault>
-    requires { IsTrue (list_all calls_known (statements_of (block_tree then.now))) }
     ensures { Goes result (join_ways line (way_of_block (state_value before.entry) (where_true (state_value before.entry) (test_tree test.now)) (block_tree then.now)) (Ok (On (where_false (state_value before.entry) (test_tree test.now))))) }
 {
     let way = then_way(alloc, &before, test, then)?;
@@ -279,7 +274,6 @@ fn while_way<'a>(
     line: usize,
     body: &'a Block,
 ) -> Result<Way<'a>, CheckFault>
-    requires { IsTrue (list_all calls_known (statements_of (block_tree body.now))) }
     ensures { Goes result (turn_way line (state_value before.entry) (way_of_block (state_value before.entry) (state_value before.entry) (block_tree body.now))) }
 {
     let inside = copy(alloc, &before)?;
@@ -295,7 +289,6 @@ fn inner_way<'a>(
     line: usize,
     form: &'a Form,
 ) -> Result<Way<'a>, CheckFault>
-    requires { IsTrue (list_all calls_known (statements_within (form_tree line form.now))) }
     ensures { Goes result (inner_way (state_value before.entry) (form_tree line form.now)) }
 {
     match form {
@@ -326,7 +319,6 @@ fn stmt_way<'a>(
     before: StaticState<'a>,
     stmt: &'a Stmt,
 ) -> Result<Way<'a>, CheckFault>
-    requires { IsTrue (list_all calls_known (statements_within (stmt_tree stmt.now))) }
     ensures { Goes result (way_of (state_value before.entry) (stmt_tree stmt.now)) }
 {
     match first_broken(&before, &stmt.form) {
@@ -343,7 +335,6 @@ fn block_way<'a>(
     before: StaticState<'a>,
     block: &'a Block,
 ) -> Result<Way<'a>, CheckFault>
-    requires { IsTrue (list_all calls_known (statements_of (block_tree block.now))) }
     ensures { Goes result (way_of_block (state_value outer.now) (state_value before.entry) (block_tree block.now)) }
 {
     let mut way = Way::On(before);
@@ -385,7 +376,6 @@ fn entry_state<'a>(alloc: Global, f: &'a Function) -> Result<StaticState<'a>, Al
 
 /// The ways through a function.
 fn check_function(alloc: Global, f: &Function) -> Result<(), CheckFault>
-    requires { IsTrue (list_all calls_known (statements_of (block_tree f.now.body))) }
     ensures { Finds result (function_fault (function_tree f.now)) }
 {
     let outer = entry_state(alloc, f)?;
@@ -401,7 +391,6 @@ fn check_function(alloc: Global, f: &Function) -> Result<(), CheckFault>
 
 /// The ways through an item.
 fn check_item(alloc: Global, item: &Item) -> Result<(), CheckFault>
-    requires { IsTrue (item_known (item_tree item.now)) }
     ensures { Finds result (item_fault (item_tree item.now)) }
 {
     match item {
@@ -413,7 +402,6 @@ fn check_item(alloc: Global, item: &Item) -> Result<(), CheckFault>
 /// The ways through the functions of a unit.
 #[tactic(auto, using(crate::proofs::UnitLemmas::finds_rules))]
 pub(crate) fn check_items(alloc: Global, items: &[Item]) -> Result<(), CheckFault>
-    requires { IsTrue (items_known (map item_tree items.now)) }
     ensures { Finds result (items_fault (map item_tree items.now)) }
 {
     for item in items {

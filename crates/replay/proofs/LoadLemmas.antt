@@ -7,9 +7,9 @@ use Rattle.syntax.specs.Tree.{SourceUnit}
 use Rattle.classes.specs.Class.{Classes}
 use Rattle.world.specs.Scene.{CallScene}
 use Rattle.world.specs.SceneWorld.{invocation_of}
-use Rattle.world.specs.World.{Invocation}
-use Rattle.regions.specs.Load.{call_loads}
-use Rattle.regions.specs.Start.{waiting_thread}
+use Rattle.source.specs.World.{Invocation}
+use Rattle.source.specs.Load.{call_loads}
+use Rattle.source.specs.Start.{waiting_thread}
 use Rattle.replay.specs.declared.thread.Thread.{Thread as ThreadInMemory}
 use Rattle.replay.specs.Loading.{refused_calls, first_line, IsWaiting, AreWaiting}
 use Rattle.replay.specs.States.{ThreadsStand}

@@ -9,15 +9,17 @@ use Rattle.std.proofs.lemmas.Bool.Decides.{nat_tests}
 use Rattle.base.specs.Bytes.{Identifier}
 use Rattle.classes.specs.BuiltIns.{number_array}
 use Rattle.classes.specs.Class.{class_name}
-use Rattle.world.specs.Object.{Object, size, sizes}
-use Rattle.world.specs.Report.{ShownNumber, ShownRow, ShownValue, shown_text, text_line, object_line}
+use Rattle.source.specs.Object.{Object, size, sizes}
+use Rattle.source.specs.Report.{ShownNumber, ShownRow, ShownValue}
+use Rattle.report.specs.ReportText.{shown_text, text_line, object_line}
 use Rattle.world.specs.Scene.{ArrayScene, Scene}
 use Rattle.world.specs.SceneWorld.{array_object, world_of_scene}
-use Rattle.world.specs.Shown.{row_head}
-use Rattle.world.specs.World.{World, loaded_objects, fits_cells}
-use Rattle.world.proofs.Puts.{flat_map-at, flat_map-past}
+use Rattle.report.specs.Shown.{row_head}
+use Rattle.source.specs.World.{World, loaded_objects, fits_cells}
+use Rattle.report.proofs.Puts.{flat_map-at, flat_map-past}
 use Rattle.replay.specs.Rows.{number_text, number_row, array_row, rows_of}
-use Rattle.tasks.proofs.LoadedObjects.{loaded_is, plain_class_object, error_object}
+use Rattle.tasks.proofs.LoadedObjects.{loaded_is}
+use Rattle.world.proofs.PlainObjects.{plain_class_object, error_object}
 
 numbers_are : (values : List ℤ) → flat_map (λ (v : ShownValue). codes " " ++ shown_text v) (map ShownNumber values) ≡ flat_map number_text values
 numbers_are [] = refl

@@ -4,17 +4,20 @@ use Rattle.std.specs.Prelude.{slice_get, is_some}
 use Rattle.std.specs.Option.{option_and_then, option_map}
 use Rattle.std.proofs.lemmas.List.{take-append-drop, length-take-le, take_all}
 use Rattle.syntax.specs.Tree.{SourceUnit}
-use Rattle.world.specs.declared.journal.Entry.{Entry}
-use Rattle.world.specs.Journal.{Journal, journal_line}
-use Rattle.world.specs.Report.{Report, report_text}
-use Rattle.world.specs.Sink.{Written}
-use Rattle.world.specs.Shown.{report_with}
-use Rattle.world.specs.World.{World}
-use Rattle.regions.specs.Load.{first_load_fault}
-use Rattle.regions.specs.Run.{Writes, replay, replay_from}
-use Rattle.regions.specs.Start.{start}
-use Rattle.regions.specs.State.{State}
-use Rattle.regions.proofs.RunLaws.{replay_from-append, replay_more}
+use Rattle.source.specs.declared.journal.Entry.{Entry}
+use Rattle.source.specs.Journal.{Journal}
+use Rattle.report.specs.JournalText.{journal_line}
+use Rattle.source.specs.Report.{Report}
+use Rattle.report.specs.ReportText.{report_text}
+use Rattle.report.specs.Sink.{Written}
+use Rattle.report.specs.Shown.{report_with}
+use Rattle.source.specs.World.{World}
+use Rattle.source.specs.Load.{first_load_fault}
+use Rattle.source.specs.Run.{replay, replay_from}
+use Rattle.report.specs.RunText.{Writes}
+use Rattle.source.specs.Start.{start}
+use Rattle.source.specs.State.{State}
+use Rattle.source.proofs.RunLaws.{replay_from-append, replay_more}
 use Rattle.replay.specs.declared.fault.ReplayFault.{ReplayFault}
 use Rattle.replay.specs.declared.fault.ReplayFault.TheVariants.{DoesNotFit, Impossible, Memory, Writer}
 use Rattle.replay.specs.declared.state.State.{State as StateInMemory}

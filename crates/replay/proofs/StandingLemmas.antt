@@ -3,7 +3,7 @@ use Rattle.std.proofs.Common.{◌≡◌, ℕ, ◌+◌, ◌<◌, ◌≤◌, List,
 use Rattle.std.specs.List.{enumerate_from}
 use Rattle.std.proofs.lemmas.List.{at_drop_more, drop_all}
 use Rattle.std.proofs.lemmas.List.FromFn.{length-enumerate_from, get_or-enumerate_from}
-use Rattle.world.specs.declared.report.ThreadStatus.{ThreadStatus}
+use Rattle.report.specs.declared.thread_status.ThreadStatus.{ThreadStatus}
 use Rattle.replay.specs.declared.thread.Thread.{Thread}
 use Rattle.replay.specs.declared.state.Stop.{Stop}
 use Rattle.replay.specs.States.{standing_of}

@@ -6,23 +6,23 @@ use Rattle.std.specs.Borrow.{Bor}
 use Rattle.std.specs.Option.{option_map, is_some}
 use Rattle.syntax.specs.Tree.{SourceUnit}
 use Rattle.classes.specs.Class.{Classes}
-use Rattle.world.specs.declared.journal.Entry.{Entry}
-use Rattle.world.specs.declared.report.Printed.{Printed}
-use Rattle.world.specs.Report.{ThreadStanding, HasTrapped}
-use Rattle.world.specs.Shown.{report_with}
-use Rattle.world.specs.ThreadStatus.{standing_view}
+use Rattle.source.specs.declared.journal.Entry.{Entry}
+use Rattle.source.specs.declared.printed.Printed.{Printed}
+use Rattle.source.specs.Report.{ThreadStanding, HasTrapped}
+use Rattle.report.specs.Shown.{report_with}
+use Rattle.report.specs.ThreadStatus.{standing_view}
 use Rattle.world.specs.Scene.{Scene}
 use Rattle.world.specs.SceneWorld.{world_of_scene}
-use Rattle.world.specs.World.{World, loaded_objects}
-use Rattle.regions.specs.Value.{trap_number}
-use Rattle.world.specs.declared.report.ThreadStatus.TheVariants as standing
-use Rattle.regions.specs.ReportOf.{report, shown, shown_row}
-use Rattle.regions.specs.ReportOf as language
-use Rattle.regions.specs.State.{State, thread_at, set_thread, lent, with_event, advanced}
-use Rattle.regions.specs.Step.{world_step, can_step, step_of, is_blocked, is_live, is_unfinished, is_waiting}
-use Rattle.regions.specs.Thread.{Thread, Shared, Unfinished, Quiet, PrintedNumber, Trapped, Advance}
-use Rattle.regions.specs.ThreadStep.{thread_step}
-use Rattle.regions.proofs.StepLaws.{Steps, steps, step-thread}
+use Rattle.source.specs.World.{World, loaded_objects}
+use Rattle.source.specs.Value.{trap_number}
+use Rattle.report.specs.declared.thread_status.ThreadStatus.TheVariants as standing
+use Rattle.source.specs.ReportOf.{report, shown, shown_row}
+use Rattle.source.specs.ReportOf as language
+use Rattle.source.specs.State.{State, thread_at, set_thread, lent, with_event, advanced}
+use Rattle.source.specs.Step.{world_step, can_step, step_of, is_blocked, is_live, is_unfinished, is_waiting}
+use Rattle.source.specs.Thread.{Thread, Shared, Unfinished, Quiet, PrintedNumber, Trapped, Advance}
+use Rattle.source.specs.ThreadStep.{thread_step}
+use Rattle.source.proofs.StepLaws.{Steps, steps, step-thread}
 use Rattle.replay.specs.declared.state.State.{State as StateInMemory}
 use Rattle.replay.specs.declared.thread.Thread.{Thread as ThreadInMemory}
 use Rattle.replay.specs.declared.thread.Step.{Step}

@@ -2,28 +2,28 @@
 use Rattle.std.proofs.Common.{◌≡◌, ℕ, true, false, List, [], ◌∷◌, Option, Some, None, refl, sym, ap, ◌∙◌, map, length, ◌==◌, IsTrue}
 use Rattle.std.specs.List.{list_all}
 use Rattle.std.specs.Option.{option_map}
-use Rattle.world.specs.World.{Invocation, World}
-use Rattle.regions.specs.Load.{call_loads}
+use Rattle.source.specs.World.{Invocation, World}
+use Rattle.source.specs.Load.{call_loads}
 use Rattle.std.proofs.Common.{subst, arith, ne_eqb}
 use Rattle.std.proofs.lemmas.Bool.{and_parts}
 use Rattle.std.specs.Borrow.{Bor}
 use Rattle.syntax.specs.Tree.{Function, SourceUnit}
-use Rattle.regions.specs.Start.{null_statics}
-use Rattle.regions.specs.Task.{tasks_of}
+use Rattle.source.specs.Start.{null_statics}
+use Rattle.source.specs.Task.{tasks_of}
 use Rattle.classes.specs.Class.{Classes}
 use Rattle.world.specs.Scene.{CallScene}
 use Rattle.world.specs.SceneWorld.{invocation_of}
-use Rattle.regions.specs.Thread.{Thread, Shared, BuffersInUse, Event, Quiet, PrintedNumber, Trapped, Advances as AdvancesTo, NoAdvance, Unfinished, Ended}
-use Rattle.regions.specs.Activation.{return_step, enter, entered, entry_advance, entered_function, class_of_function, function_at}
-use Rattle.regions.specs.ThreadStep.{thread_step, step_within}
+use Rattle.source.specs.Thread.{Thread, Shared, BuffersInUse, Event, Quiet, PrintedNumber, Trapped, Advances as AdvancesTo, NoAdvance, Unfinished, Ended}
+use Rattle.source.specs.Activation.{return_step, enter, entered, entry_advance, entered_function, class_of_function, function_at}
+use Rattle.source.specs.ThreadStep.{thread_step, step_within}
 use Rattle.tasks.specs.declared.activation.Activation.{Activation}
 use Rattle.replay.specs.declared.thread.Thread.{Thread as ThreadInMemory}
 use Rattle.tasks.specs.declared.outcome.Outcome.TheVariants as outcome
 use Rattle.tasks.specs.Activations.{tasks_left, thread_in, advance_by, Advances}
 use Rattle.tasks.specs.Steps.{Sees}
 use Rattle.terms.specs.Views.{variables_view, trap_view}
-use Rattle.regions.specs.Activation.{parameter_variables}
-use Rattle.regions.specs.Variable.{LocalRef}
+use Rattle.source.specs.Activation.{parameter_variables}
+use Rattle.source.specs.Variable.{LocalRef}
 use Rattle.std.specs.Prelude.{zip}
 use Rattle.tasks.specs.declared.outcome.Outcome.{Outcome}
 use Rattle.replay.specs.Threads.{ThreadStands, VariablesIn, FramesIn, IsAsLoaded, Leaves, StepIs, step_of, tasks_in, ending_in}

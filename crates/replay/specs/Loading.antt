@@ -3,8 +3,8 @@ use Rattle.std.specs.Prelude.{◌≡◌, ℕ, false, not, List, [], ◌∷◌, f
 use Rattle.syntax.specs.Tree.{SourceUnit}
 use Rattle.classes.specs.Class.{Classes}
 use Rattle.world.specs.Scene.{CallScene}
-use Rattle.world.specs.World.{Invocation}
-use Rattle.regions.specs.Load.{call_loads}
+use Rattle.source.specs.World.{Invocation}
+use Rattle.source.specs.Load.{call_loads}
 use Rattle.replay.specs.declared.thread.Thread.{Thread as ThreadInMemory}
 
 -- the calls that don't fit

@@ -2,14 +2,15 @@
 use Rattle.std.specs.Prelude.{◌≡◌, ℕ, ◌+◌, List, ◌∷◌, ◌++◌, length, Option, Some, None, IsSome}
 use Rattle.std.specs.Option.{option_map}
 use Rattle.syntax.specs.Tree.{SourceUnit}
-use Rattle.world.specs.declared.journal.Entry.{Entry}
-use Rattle.world.specs.Journal.{Journal}
-use Rattle.world.specs.Sink.{Written, AppendsText, StopsWithin}
-use Rattle.world.specs.World.{World}
-use Rattle.regions.specs.Load.{first_load_fault}
-use Rattle.regions.specs.Run.{Writes, replay}
-use Rattle.regions.specs.State.{State}
-use Rattle.regions.specs.Step.{world_step}
+use Rattle.source.specs.declared.journal.Entry.{Entry}
+use Rattle.source.specs.Journal.{Journal}
+use Rattle.report.specs.Sink.{Written, AppendsText, StopsWithin}
+use Rattle.source.specs.World.{World}
+use Rattle.source.specs.Load.{first_load_fault}
+use Rattle.source.specs.Run.{replay}
+use Rattle.report.specs.RunText.{Writes}
+use Rattle.source.specs.State.{State}
+use Rattle.source.specs.Step.{world_step}
 use Rattle.replay.specs.declared.fault.ReplayFault.{ReplayFault}
 use Rattle.replay.specs.declared.fault.ReplayFault.TheVariants.{DoesNotFit, Impossible, Memory, Writer}
 use Rattle.replay.specs.declared.state.State.{State as StateInMemory}

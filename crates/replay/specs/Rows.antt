@@ -5,10 +5,10 @@ use Rattle.std.specs.List.{enumerate_from}
 use Rattle.base.specs.Bytes.{Identifier}
 use Rattle.classes.specs.BuiltIns.{number_array}
 use Rattle.classes.specs.Class.{Classes, class_name}
-use Rattle.world.specs.Report.{ShownNumber, ShownRow}
+use Rattle.source.specs.Report.{ShownNumber, ShownRow}
 use Rattle.world.specs.Scene.{ArrayScene, Scene}
 use Rattle.world.specs.SceneWorld.{world_of_scene}
-use Rattle.world.specs.Shown.{row_lines}
+use Rattle.report.specs.Shown.{row_lines}
 
 -- a number of a row, after a space
 abbrev pub number_text : ℤ → List ℕ

@@ -4,17 +4,17 @@ use Rattle.std.specs.List.{enumerate_from}
 use Rattle.std.specs.Option.{option_map}
 use Rattle.syntax.specs.Tree.{SourceUnit}
 use Rattle.classes.specs.Class.{Classes}
-use Rattle.world.specs.declared.journal.Entry.{Entry}
-use Rattle.world.specs.declared.report.Printed.{Printed}
-use Rattle.world.specs.declared.report.ThreadStatus.{ThreadStatus}
-use Rattle.world.specs.declared.report.ThreadStatus.TheVariants as standing
+use Rattle.source.specs.declared.journal.Entry.{Entry}
+use Rattle.source.specs.declared.printed.Printed.{Printed}
+use Rattle.report.specs.declared.thread_status.ThreadStatus.{ThreadStatus}
+use Rattle.report.specs.declared.thread_status.ThreadStatus.TheVariants as standing
 use Rattle.world.specs.SceneWorld.{world_of_scene}
-use Rattle.world.specs.World.{World}
-use Rattle.regions.specs.Thread.{Thread}
-use Rattle.regions.specs.Start.{start}
-use Rattle.regions.specs.State.{State, Stop}
-use Rattle.regions.specs.Step.{world_step}
-use Rattle.regions.specs.Value.{trap_number}
+use Rattle.source.specs.World.{World}
+use Rattle.source.specs.Thread.{Thread}
+use Rattle.source.specs.Start.{start}
+use Rattle.source.specs.State.{State, Stop}
+use Rattle.source.specs.Step.{world_step}
+use Rattle.source.specs.Value.{trap_number}
 use Rattle.replay.specs.declared.thread.Thread.{Thread as ThreadInMemory}
 use Rattle.replay.specs.declared.thread.Step.{Step}
 use Rattle.replay.specs.declared.thread.Step.TheVariants as step

@@ -3,16 +3,16 @@ use Rattle.std.specs.Prelude.{◌≡◌, ℕ, Bool, true, false, List, [], map, 
 use Rattle.std.specs.List.{list_all}
 use Rattle.syntax.specs.Tree.{SourceUnit}
 use Rattle.classes.specs.Class.{Classes}
-use Rattle.world.specs.Object.{ObjectValue, Number, Refers}
+use Rattle.source.specs.Object.{ObjectValue, Number, Refers}
 use Rattle.world.specs.SceneWorld.{invocation_of}
-use Rattle.world.specs.World.{World, loaded_objects}
-use Rattle.regions.specs.Load.{call_loads}
-use Rattle.regions.specs.Start.{null_statics}
-use Rattle.regions.specs.Task.{Task}
-use Rattle.regions.specs.Thread.{Frame, Ending, Unfinished, Ended, Thread, Shared, BuffersInUse, Event, Quiet, PrintedNumber, Trapped, Advance, Advances, NoAdvance}
-use Rattle.regions.specs.ThreadStep.{thread_step}
-use Rattle.regions.specs.Value.{Int}
-use Rattle.regions.specs.Variable.{Variable, Scalar, LocalRef, Variables}
+use Rattle.source.specs.World.{World, loaded_objects}
+use Rattle.source.specs.Load.{call_loads}
+use Rattle.source.specs.Start.{null_statics}
+use Rattle.source.specs.Task.{Task}
+use Rattle.source.specs.Thread.{Frame, Ending, Unfinished, Ended, Thread, Shared, BuffersInUse, Event, Quiet, PrintedNumber, Trapped, Advance, Advances, NoAdvance}
+use Rattle.source.specs.ThreadStep.{thread_step}
+use Rattle.source.specs.Value.{Int}
+use Rattle.source.specs.Variable.{Variable, Scalar, LocalRef, Variables}
 use Rattle.tasks.specs.declared.activation.Activation.{Activation}
 use Rattle.tasks.specs.declared.outcome.Outcome.{Outcome}
 use Rattle.tasks.specs.declared.outcome.Outcome.TheVariants as outcome

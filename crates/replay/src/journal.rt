@@ -5,7 +5,7 @@ ghost use Rattle.syntax.specs.Limits.{IsTree};
 ghost use Rattle.syntax.specs.Views.{unit_tree};
 ghost use Rattle.types.specs.BuiltCalls.{calls_are_built};
 ghost use Rattle.world.specs.SceneWorld.{world_of_scene};
-ghost use Rattle.world.specs.Sink.{CanFail};
+ghost use Rattle.report.specs.Sink.{CanFail};
 ghost use Rattle.replay.specs.Replays.{Replayed, IsRefused, WritesRun, IsStoppedBy, IsReplayable, IsFromOutside, EndsBy};
 
 use crate::fault::ReplayFault;

@@ -3,9 +3,9 @@
 ghost use Rattle.std.specs.Prelude.{◌≡◌};
 ghost use Rattle.std.specs.List.{flat_map};
 ghost use Rattle.classes.specs.BuiltIns.{number_array};
-ghost use Rattle.world.specs.Report.{object_line};
-ghost use Rattle.world.specs.Shown.{name_view};
-ghost use Rattle.world.specs.Sink.{CanFail, Writes};
+ghost use Rattle.report.specs.ReportText.{object_line};
+ghost use Rattle.report.specs.Shown.{name_view};
+ghost use Rattle.report.specs.Sink.{CanFail, Writes};
 ghost use Rattle.world.specs.Views.{element_view};
 ghost use Rattle.replay.specs.Rows.{number_text, number_row, rows_text};
 

@@ -7,8 +7,8 @@ ghost use Rattle.syntax.specs.Views.{function_tree, parameter_tree, unit_tree};
 ghost use Rattle.types.specs.BuiltCalls.{calls_are_built};
 ghost use Rattle.world.specs.SceneWorld.{world_of_scene};
 ghost use Rattle.world.specs.Views.{argument_view};
-ghost use Rattle.regions.specs.Activation.{function_at, parameter_variables, class_of_function};
-ghost use Rattle.regions.specs.Variable.{LocalRef};
+ghost use Rattle.source.specs.Activation.{function_at, parameter_variables, class_of_function};
+ghost use Rattle.source.specs.Variable.{LocalRef};
 ghost use Rattle.replay.specs.Threads.{argument_content, TakesStep, WorkInRange, step_of};
 ghost use Rattle.terms.specs.Views.{content_view, variables_view};
 

@@ -7,14 +7,14 @@ use Rattle.syntax.specs.declared.stmt.Block.{Block}
 use Rattle.syntax.specs.declared.stmt.Stmt.{Stmt}
 use Rattle.syntax.specs.Tree.{SourceUnit}
 use Rattle.syntax.specs.Views.{expr_tree, block_tree}
-use Rattle.world.specs.World.{World}
-use Rattle.regions.specs.Start.{null_statics}
-use Rattle.regions.specs.Task.{Task, Loop}
-use Rattle.regions.specs.Term as tree
-use Rattle.regions.specs.Term.{term_of}
-use Rattle.regions.specs.Thread.{Thread, Shared, BuffersInUse, Event, Quiet, PrintedNumber, Trapped, Advance, NoAdvance}
-use Rattle.regions.specs.Thread as thread
-use Rattle.regions.specs.ThreadStep.{step_within, with_tasks}
+use Rattle.source.specs.World.{World}
+use Rattle.source.specs.Start.{null_statics}
+use Rattle.source.specs.Task.{Task, Loop}
+use Rattle.source.specs.Term as tree
+use Rattle.source.specs.Term.{term_of}
+use Rattle.source.specs.Thread.{Thread, Shared, BuffersInUse, Event, Quiet, PrintedNumber, Trapped, Advance, NoAdvance}
+use Rattle.source.specs.Thread as thread
+use Rattle.source.specs.ThreadStep.{step_within, with_tasks}
 use Rattle.tasks.specs.declared.activation.Activation.{Activation}
 use Rattle.tasks.specs.declared.activation.Outer.{Outer}
 use Rattle.tasks.specs.declared.outcome.End.{End}

@@ -11,24 +11,25 @@ use Rattle.syntax.specs.Tree as tree
 use Rattle.syntax.specs.Parts.{statics_of}
 use Rattle.syntax.specs.Tree.{Expr, Argument, Call, SourceUnit}
 use Rattle.classes.specs.Class.{class_kind, is_plain}
-use Rattle.types.specs.BuiltCalls.{is_built_function, is_built_call}
-use Rattle.types.specs.JniFunction.{JniFunction, GetArrayLength}
-use Rattle.types.specs.Prototype.{function_named}
-use Rattle.world.specs.World.{World, loaded_objects}
-use Rattle.regions.specs.Arguments.{Actual, ReferenceActual, TextActual, VariableActual, reference_argument}
-use Rattle.regions.specs.CallEffects.{ScalarResult}
-use Rattle.regions.specs.CallStep.{call_step, put}
-use Rattle.regions.specs.Checks.{call_trap, go_together}
-use Rattle.regions.specs.CallTable.{call_effect}
-use Rattle.regions.specs.Effect.{effect_of}
-use Rattle.regions.specs.Heap.{Heap, class_of, values_of}
-use Rattle.regions.specs.Sight.{Sight, seen}
-use Rattle.regions.specs.Start.{null_statics}
-use Rattle.regions.specs.Task.{Task, invocation, call_task}
-use Rattle.regions.specs.Thread.{Thread, Shared, BuffersInUse, Event, Trapped, Advance, Advances, sight_of}
-use Rattle.regions.specs.ThreadStep.{after_effect, with_tasks}
-use Rattle.regions.specs.Value.{Int, NullReference, WrongObject}
-use Rattle.regions.specs.Variable.{Variables, StaticReference, Empty, Live}
+use Rattle.jni.specs.BuiltFunctions.{is_built_function}
+use Rattle.types.specs.BuiltCalls.{is_built_call}
+use Rattle.jni.specs.JniFunction.{JniFunction, GetArrayLength}
+use Rattle.jni.specs.Prototype.{function_named}
+use Rattle.source.specs.World.{World, loaded_objects}
+use Rattle.source.specs.Arguments.{Actual, ReferenceActual, TextActual, VariableActual, reference_argument}
+use Rattle.source.specs.CallEffects.{ScalarResult}
+use Rattle.source.specs.CallStep.{call_step, put}
+use Rattle.source.specs.Checks.{call_trap, go_together}
+use Rattle.source.specs.CallTable.{call_effect}
+use Rattle.source.specs.Effect.{effect_of}
+use Rattle.source.specs.Heap.{Heap, class_of, values_of}
+use Rattle.source.specs.Sight.{Sight, seen}
+use Rattle.source.specs.Start.{null_statics}
+use Rattle.source.specs.Task.{Task, invocation, call_task}
+use Rattle.source.specs.Thread.{Thread, Shared, BuffersInUse, Event, Trapped, Advance, Advances, sight_of}
+use Rattle.source.specs.ThreadStep.{after_effect, with_tasks}
+use Rattle.source.specs.Value.{Int, NullReference, WrongObject}
+use Rattle.source.specs.Variable.{Variables, StaticReference, Empty, Live}
 use Rattle.tasks.specs.Objects.{array_length, reference_of}
 use Rattle.terms.specs.declared.trap.Trap.TheVariants as trap
 use Rattle.tasks.specs.declared.task.Task.{Task as TaskInMemory}

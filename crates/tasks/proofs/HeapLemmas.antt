@@ -8,15 +8,17 @@ use Rattle.base.specs.Bytes.{Identifier}
 use Rattle.base.specs.Element.{ElementType, JInt, JShort, JByte, JChar}
 use Rattle.classes.specs.BuiltIns.{built_ins, number_array, class_class, out_of_memory_error}
 use Rattle.classes.specs.Class.{Classes, class_kind, is_plain}
-use Rattle.world.specs.Object.{Object, Number, sizes}
+use Rattle.source.specs.Object.{Object, Number, sizes}
 use Rattle.world.specs.Scene.{ArrayScene, Scene, array_size}
 use Rattle.world.specs.SceneWorld.{array_object, classes_named, world_of_scene}
-use Rattle.world.specs.World.{World, loaded_objects, fits_cells}
+use Rattle.source.specs.World.{World, loaded_objects, fits_cells}
 use Rattle.world.proofs.ArrayLines.{array_sizes}
 use Rattle.world.proofs.ClassTables.{loaded_size}
-use Rattle.regions.specs.Heap.{Heap, object_at}
+use Rattle.source.specs.Heap.{Heap, object_at}
 use Rattle.tasks.specs.Objects.{array_length}
-use Rattle.tasks.proofs.LoadedObjects.{classes_count, classes_grown, loaded_is, made_first, plain_class_object, error_object}
+use Rattle.tasks.proofs.LoadedObjects.{loaded_is, made_first}
+use Rattle.world.proofs.ClassTables.{classes_length, classes_grown}
+use Rattle.world.proofs.PlainObjects.{plain_class_object, error_object}
 
 below : (i k : ℕ) → i ≤ k → (i < k) ⊎ (i ≡ k)
 below zero zero low = inr refl
@@ -117,7 +119,7 @@ module _ (scene : Scene) where
   loaded = loaded_is scene.classes w refl
 
   pub before_is : (names : List Identifier) → names ≡ scene.classes → 42 + 2 * length names + 1 ≡ length w.classes + 1
-  before_is names is = let same : length names ≡ length scene.classes = ap (λ (l : List Identifier). length l) is in omega (arith, classes_count scene.classes, same)
+  before_is names is = let same : length names ≡ length scene.classes = ap (λ (l : List Identifier). length l) is in omega (arith, classes_length scene.classes, same)
 
   pub no_length : (n before : ℕ) → before ≡ length w.classes + 1 → n ≤ before → array_length w.classes (loaded_objects w) n ≡ None
   no_length n before is low =

@@ -8,14 +8,14 @@ use Rattle.base.specs.Bytes.{Identifier, lookup}
 use Rattle.syntax.specs.Views.{element_tree}
 use Rattle.syntax.specs.Parts.{statics_of}
 use Rattle.syntax.specs.Tree.{Static, SourceUnit}
-use Rattle.regions.specs.CallEffects.{CallResult}
-use Rattle.regions.specs.CallStep.{blank, filled, static_result, put_assigned, put}
-use Rattle.regions.specs.Start.{null_static, null_statics}
-use Rattle.regions.specs.Task.{VariableKind, Declared, Assigned}
-use Rattle.regions.specs.Thread.{Thread, Shared, Quiet, Advances, NoAdvance}
-use Rattle.regions.specs.ThreadStep.{set_variable, set_element}
-use Rattle.regions.specs.Value.{convert}
-use Rattle.regions.specs.Variable.{Variable, LocalArray, Variables, StaticReference, Empty, Statics, assign}
+use Rattle.source.specs.CallEffects.{CallResult}
+use Rattle.source.specs.CallStep.{blank, filled, static_result, put_assigned, put}
+use Rattle.source.specs.Start.{null_static, null_statics}
+use Rattle.source.specs.Task.{VariableKind, Declared, Assigned}
+use Rattle.source.specs.Thread.{Thread, Shared, Quiet, Advances, NoAdvance}
+use Rattle.source.specs.ThreadStep.{set_variable, set_element}
+use Rattle.source.specs.Value.{convert}
+use Rattle.source.specs.Variable.{Variable, LocalArray, Variables, StaticReference, Empty, Statics, assign}
 use Rattle.tasks.specs.declared.outcome.Outcome.TheVariants as outcome
 use Rattle.tasks.specs.declared.put.Given.{Given}
 use Rattle.tasks.specs.declared.put.Given.TheVariants as given

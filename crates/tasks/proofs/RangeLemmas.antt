@@ -16,8 +16,8 @@ use Rattle.syntax.specs.Parts.{functions_of, statements_of, statements_within}
 use Rattle.syntax.specs.Views.{stmt_tree, block_tree, statements_tree, function_tree, unit_tree}
 use Rattle.syntax.proofs.Blocks.{block_is}
 use Rattle.types.specs.BuiltCalls.{calls_are_built}
-use Rattle.regions.specs.Activation.{function_at}
-use Rattle.regions.specs.Task.{Task, task_of, tasks_of}
+use Rattle.source.specs.Activation.{function_at}
+use Rattle.source.specs.Task.{Task, task_of, tasks_of}
 use Rattle.tasks.specs.Tasks.{tasks_of_statements, has_numbers_in_range, calls_built, BlockInRange, InsideInRange, StatementsInRange}
 
 -- the tasks of statements, by their tree

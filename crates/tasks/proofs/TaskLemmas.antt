@@ -10,17 +10,17 @@ use Rattle.syntax.specs.declared.stmt.Stmt.{Stmt as StmtInMemory}
 use Rattle.syntax.specs.Tree.{Block}
 use Rattle.syntax.specs.Views.{constant_tree, expr_tree, block_tree}
 use Rattle.syntax.proofs.Blocks.{block_is}
-use Rattle.world.specs.World.{World}
-use Rattle.regions.specs.Effect.{Effect, Becomes, Sets, SetsElement, at_line, goes_on, with_value, print_effect, branch_effect, loop_effect, element_effect, returned_name, return_effect, effect_of}
-use Rattle.regions.specs.Heap.{Heap}
-use Rattle.regions.specs.Sight.{Sight, seen, elements_of, in_range}
-use Rattle.regions.specs.Task.{Task, SetScalar, SetElement, Print, Branch, Loop, ReturnValue, tasks_of}
-use Rattle.regions.specs.Term as tree
-use Rattle.regions.specs.Term.{index_of, reduce}
-use Rattle.regions.specs.Thread.{Thread, Shared, BuffersInUse, sight_of, Trapped, Advances}
-use Rattle.regions.specs.ThreadStep.{after_effect, with_tasks}
-use Rattle.regions.specs.Value.{Value, Outcome as Outcomes, Gives, Traps, Stuck, outcome_then, outcome_map}
-use Rattle.regions.specs.Variable.{Variables, Statics}
+use Rattle.source.specs.World.{World}
+use Rattle.source.specs.Effect.{Effect, Becomes, Sets, SetsElement, at_line, goes_on, with_value, print_effect, branch_effect, loop_effect, element_effect, returned_name, return_effect, effect_of}
+use Rattle.source.specs.Heap.{Heap}
+use Rattle.source.specs.Sight.{Sight, seen, elements_of, in_range}
+use Rattle.source.specs.Task.{Task, SetScalar, SetElement, Print, Branch, Loop, ReturnValue, tasks_of}
+use Rattle.source.specs.Term as tree
+use Rattle.source.specs.Term.{index_of, reduce}
+use Rattle.source.specs.Thread.{Thread, Shared, BuffersInUse, sight_of, Trapped, Advances}
+use Rattle.source.specs.ThreadStep.{after_effect, with_tasks}
+use Rattle.source.specs.Value.{Value, Outcome as Outcomes, Gives, Traps, Stuck, outcome_then, outcome_map}
+use Rattle.source.specs.Variable.{Variables, Statics}
 use Rattle.tasks.specs.declared.outcome.Outcome.{Outcome}
 use Rattle.tasks.specs.declared.outcome.Outcome.TheVariants as outcome
 use Rattle.terms.specs.declared.reduction.Reduction.{Reduction}

@@ -3,13 +3,13 @@ use Rattle.std.specs.Prelude.{◌≡◌, ℕ, false, List, [], ◌∷◌, ◌++�
 use Rattle.std.specs.Borrow.{Bor}
 use Rattle.syntax.specs.declared.stmt.Stmt.{Stmt as StmtInMemory}
 use Rattle.syntax.specs.Tree.{SourceUnit}
-use Rattle.world.specs.World.{World}
-use Rattle.regions.specs.Activation.{return_step}
-use Rattle.regions.specs.Start.{null_statics}
-use Rattle.regions.specs.Task.{Task}
-use Rattle.regions.specs.Thread.{Thread, Shared, BuffersInUse, Quiet, PrintedNumber, Trapped, Advance, NoAdvance}
-use Rattle.regions.specs.Thread as thread
-use Rattle.regions.specs.ThreadStep.{step_within}
+use Rattle.source.specs.World.{World}
+use Rattle.source.specs.Activation.{return_step}
+use Rattle.source.specs.Start.{null_statics}
+use Rattle.source.specs.Task.{Task}
+use Rattle.source.specs.Thread.{Thread, Shared, BuffersInUse, Quiet, PrintedNumber, Trapped, Advance, NoAdvance}
+use Rattle.source.specs.Thread as thread
+use Rattle.source.specs.ThreadStep.{step_within}
 use Rattle.tasks.specs.declared.activation.Activation.{Activation}
 use Rattle.tasks.specs.declared.activation.Outer.{Outer}
 use Rattle.tasks.specs.declared.outcome.Outcome.{Outcome}

@@ -3,9 +3,9 @@ use Rattle.std.specs.Prelude.{ℕ, length, if◌then◌else◌, Option, Some, No
 use Rattle.base.specs.Bytes.{lookup}
 use Rattle.syntax.specs.Tree.{Expr, Variable}
 use Rattle.classes.specs.Class.{Classes, class_kind, is_plain}
-use Rattle.regions.specs.Heap.{Heap, class_of, values_of}
-use Rattle.regions.specs.Sight.{held_reference}
-use Rattle.regions.specs.Variable.{StaticReference, Empty, Variables}
+use Rattle.source.specs.Heap.{Heap, class_of, values_of}
+use Rattle.source.specs.Sight.{held_reference}
+use Rattle.source.specs.Variable.{StaticReference, Empty, Variables}
 
 -- the number of elements of an object, if it is an array
 abbrev pub array_length : Classes → Heap → ℕ → Option ℕ

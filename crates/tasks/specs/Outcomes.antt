@@ -2,13 +2,13 @@
 use Rattle.std.specs.Prelude.{◌≡◌, true, false, Bool, pos, List, length, replicate}
 use Rattle.base.specs.Bytes.{lookup}
 use Rattle.syntax.specs.Views.{element_tree}
-use Rattle.regions.specs.CallEffects.{CallResult, NullResult, ScalarResult}
-use Rattle.regions.specs.CallStep.{put}
-use Rattle.regions.specs.Task.{VariableKind, ScalarKind, ReferenceKind, FieldKind, BufferKind, Target, Declared, Assigned, Dropped}
-use Rattle.regions.specs.Thread.{Thread, Shared, Quiet, Advance, Advances, NoAdvance}
-use Rattle.regions.specs.ThreadStep.{set_variable, set_element}
-use Rattle.regions.specs.Value.{Int}
-use Rattle.regions.specs.Variable.{Scalar, LocalArray, Statics}
+use Rattle.source.specs.CallEffects.{CallResult, NullResult, ScalarResult}
+use Rattle.source.specs.CallStep.{put}
+use Rattle.source.specs.Task.{VariableKind, ScalarKind, ReferenceKind, FieldKind, BufferKind, Target, Declared, Assigned, Dropped}
+use Rattle.source.specs.Thread.{Thread, Shared, Quiet, Advance, Advances, NoAdvance}
+use Rattle.source.specs.ThreadStep.{set_variable, set_element}
+use Rattle.source.specs.Value.{Int}
+use Rattle.source.specs.Variable.{Scalar, LocalArray, Statics}
 use Rattle.tasks.specs.declared.outcome.Outcome.{Outcome}
 use Rattle.tasks.specs.declared.outcome.Outcome.TheVariants as outcome
 use Rattle.tasks.specs.declared.outcome.Target.{Target as TargetInMemory}

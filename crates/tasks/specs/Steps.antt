@@ -4,15 +4,15 @@ use Rattle.syntax.specs.declared.call.Argument.{Argument as ArgumentInMemory}
 use Rattle.syntax.specs.declared.call.Argument.TheVariants as argument
 use Rattle.syntax.specs.Tree.{Expr}
 use Rattle.syntax.specs.Views.{expr_tree, element_tree}
-use Rattle.world.specs.World.{World, loaded_objects}
-use Rattle.regions.specs.Activation.{return_step}
-use Rattle.regions.specs.Effect.{Effect, Becomes, Sets, SetsNull, SetsElement, MakesArray, Prints, Returns, TrapsAt, NoEffect, effect_of}
-use Rattle.regions.specs.Heap.{Heap}
-use Rattle.regions.specs.Sight.{seen}
-use Rattle.regions.specs.Task.{Task}
-use Rattle.regions.specs.Thread.{Thread, Shared, BuffersInUse, Quiet, PrintedNumber, Trapped, Advance, Advances, NoAdvance, sight_of}
-use Rattle.regions.specs.ThreadStep.{after_effect, with_tasks}
-use Rattle.regions.specs.Variable.{Variables, Statics}
+use Rattle.source.specs.World.{World, loaded_objects}
+use Rattle.source.specs.Activation.{return_step}
+use Rattle.source.specs.Effect.{Effect, Becomes, Sets, SetsNull, SetsElement, MakesArray, Prints, Returns, TrapsAt, NoEffect, effect_of}
+use Rattle.source.specs.Heap.{Heap}
+use Rattle.source.specs.Sight.{seen}
+use Rattle.source.specs.Task.{Task}
+use Rattle.source.specs.Thread.{Thread, Shared, BuffersInUse, Quiet, PrintedNumber, Trapped, Advance, Advances, NoAdvance, sight_of}
+use Rattle.source.specs.ThreadStep.{after_effect, with_tasks}
+use Rattle.source.specs.Variable.{Variables, Statics}
 use Rattle.tasks.specs.declared.outcome.Outcome.{Outcome}
 use Rattle.tasks.specs.declared.outcome.Outcome.TheVariants as outcome
 use Rattle.tasks.specs.declared.outcome.Target.{Target as TargetInMemory}

@@ -11,7 +11,7 @@ use Rattle.syntax.specs.Parts.{statements_of, own_expressions, right_side_expres
 use Rattle.syntax.specs.Tree.{Expr, RightSide, Test, Stmt, If, IfElse, While, Block, End}
 use Rattle.syntax.specs.Views.{expr_tree, element_tree, stmt_tree, call_tree, block_tree}
 use Rattle.types.specs.BuiltCalls.{is_built_call, calls_unbuilt}
-use Rattle.regions.specs.Task.{Task, SetScalar, SetElement, SetNull, MakeArray, Print, Branch, EndIf, Loop, EndTurn, Return, ReturnValue, call_task, task_of}
+use Rattle.source.specs.Task.{Task, SetScalar, SetElement, SetNull, MakeArray, Print, Branch, EndIf, Loop, EndTurn, Return, ReturnValue, call_task, task_of}
 use Rattle.tasks.specs.declared.outcome.End.{End as EndInMemory}
 use Rattle.tasks.specs.declared.outcome.End.TheVariants as end
 use Rattle.tasks.specs.declared.outcome.Outcome.{Outcome}

@@ -4,7 +4,7 @@ ghost use Rattle.std.specs.Prelude.{◌≡◌, IfOk, None, []};
 ghost use Rattle.syntax.specs.Tree.{SourceUnit};
 ghost use Rattle.syntax.specs.Views.{unit_tree};
 ghost use Rattle.world.specs.SceneWorld.{world_of_scene};
-ghost use Rattle.world.specs.World.{World as WorldOfTree};
+ghost use Rattle.source.specs.World.{World as WorldOfTree};
 ghost use Rattle.tasks.specs.Activations.{tasks_left, IsInRange, AreSet, Advances};
 
 use crate::outcome::{End, Outcome};

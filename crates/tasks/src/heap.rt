@@ -2,7 +2,7 @@
 
 ghost use Rattle.std.specs.Prelude.{◌≡◌, ◌≤◌, ◌+◌, IfSome, length};
 ghost use Rattle.world.specs.SceneWorld.{world_of_scene};
-ghost use Rattle.world.specs.World.{loaded_objects};
+ghost use Rattle.source.specs.World.{loaded_objects};
 ghost use Rattle.tasks.specs.Objects.{array_length};
 
 use world::World;

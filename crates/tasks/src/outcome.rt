@@ -2,7 +2,7 @@
 
 ghost use Rattle.std.specs.Prelude.{◌≡◌};
 ghost use Rattle.syntax.specs.Views.{variable_type_tree};
-ghost use Rattle.regions.specs.Task.{kind_of};
+ghost use Rattle.source.specs.Task.{kind_of};
 ghost use Rattle.tasks.specs.Outcomes.{kind_view};
 
 use syntax::{Block, ElementType, Expr, Name, Stmt, VariableType};

@@ -2,9 +2,9 @@
 
 ghost use Rattle.std.specs.Prelude.{◌≡◌, IfOk};
 ghost use Rattle.syntax.specs.Views.{unit_tree};
-ghost use Rattle.regions.specs.CallStep.{blank, filled, put};
-ghost use Rattle.regions.specs.Start.{null_statics};
-ghost use Rattle.regions.specs.Variable.{Statics, assign};
+ghost use Rattle.source.specs.CallStep.{blank, filled, put};
+ghost use Rattle.source.specs.Start.{null_statics};
+ghost use Rattle.source.specs.Variable.{Statics, assign};
 ghost use Rattle.tasks.specs.declared.outcome.Outcome.TheVariants as outcome;
 ghost use Rattle.tasks.specs.Outcomes.{kind_view, target_view, given_view, variable_step, LeavesVariables, LeavesIf};
 ghost use Rattle.terms.specs.Views.{content_view, variables_view};

@@ -3,9 +3,9 @@
 ghost use Rattle.std.specs.Prelude.{◌≡◌, IfOk, ℕ};
 ghost use Rattle.syntax.specs.Views.{expr_tree, block_tree, unit_tree};
 ghost use Rattle.world.specs.SceneWorld.{world_of_scene};
-ghost use Rattle.regions.specs.Start.{null_statics};
-ghost use Rattle.regions.specs.Task.{tasks_of};
-ghost use Rattle.regions.specs.Variable.{Statics};
+ghost use Rattle.source.specs.Start.{null_statics};
+ghost use Rattle.source.specs.Task.{tasks_of};
+ghost use Rattle.source.specs.Variable.{Statics};
 ghost use Rattle.tasks.specs.declared.task.Task.TheVariants as task;
 ghost use Rattle.terms.specs.declared.term.Term.TheVariants as term;
 ghost use Rattle.tasks.specs.Steps.{HasEffect, Does, reduced};

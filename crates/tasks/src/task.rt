@@ -2,8 +2,8 @@
 
 ghost use Rattle.std.specs.Prelude.{◌≡◌, IfOk};
 ghost use Rattle.syntax.specs.Views.{stmt_tree, expr_tree, right_side_tree, test_tree, block_tree};
-ghost use Rattle.regions.specs.Task.{Declared, Loop, Print, ReturnValue, SetElement, set_task, right_side_task, if_task, task_of};
-ghost use Rattle.regions.specs.Term.{term_of};
+ghost use Rattle.source.specs.Task.{Declared, Loop, Print, ReturnValue, SetElement, set_task, right_side_task, if_task, task_of};
+ghost use Rattle.source.specs.Term.{term_of};
 ghost use Rattle.tasks.specs.Outcomes.{kind_view, target_view};
 ghost use Rattle.tasks.specs.Tasks.{task_view, else_tree, ExprInRange, RightSideInRange, TestInRange, BlockInRange, ElseInRange, StatementInRange, TaskInRange};
 

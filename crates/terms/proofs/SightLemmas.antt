@@ -5,10 +5,10 @@ use Rattle.std.specs.Str.{bytes_eq}
 use Rattle.base.specs.Bytes.{Identifier, lookup}
 use Rattle.syntax.specs.Parts.{statics_of}
 use Rattle.syntax.specs.Tree.{Static, SourceUnit}
-use Rattle.regions.specs.Sight.{static_is_null, held_reference, holds_null}
-use Rattle.regions.specs.Start.{null_static, null_statics}
-use Rattle.regions.specs.Value.{Truth, Outcome, Gives, Traps, Stuck, outcome_map}
-use Rattle.regions.specs.Variable.{Variable, Scalar, LocalRef, FieldHandle, Elements, LocalArray, StaticReference, Empty, Variables}
+use Rattle.source.specs.Sight.{static_is_null, held_reference, holds_null}
+use Rattle.source.specs.Start.{null_static, null_statics}
+use Rattle.source.specs.Value.{Truth, Outcome, Gives, Traps, Stuck, outcome_map}
+use Rattle.source.specs.Variable.{Variable, Scalar, LocalRef, FieldHandle, Elements, LocalArray, StaticReference, Empty, Variables}
 use Rattle.terms.specs.Views.{negated}
 
 -- each static is NULL

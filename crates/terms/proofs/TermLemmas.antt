@@ -10,11 +10,11 @@ use Rattle.syntax.specs.declared.expr.Expr.TheVariants as expr
 use Rattle.syntax.specs.Parts.{null_tested}
 use Rattle.syntax.specs.Tree.{Expr, Variable, Binary}
 use Rattle.syntax.specs.Views.{expr_tree, binary_tree}
-use Rattle.regions.specs.Heap.{Heap}
-use Rattle.regions.specs.Sight.{seen}
-use Rattle.regions.specs.Term as tree
-use Rattle.regions.specs.Term.{Reduction, binary_term, with_part, done, reduce}
-use Rattle.regions.specs.Variable.{Variables, Statics}
+use Rattle.source.specs.Heap.{Heap}
+use Rattle.source.specs.Sight.{seen}
+use Rattle.source.specs.Term as tree
+use Rattle.source.specs.Term.{Reduction, binary_term, with_part, done, reduce}
+use Rattle.source.specs.Variable.{Variables, Statics}
 use Rattle.terms.specs.declared.reduction.Reduction.{Reduction as ReductionInMemory}
 use Rattle.terms.specs.declared.term.Term.{Term}
 use Rattle.terms.specs.declared.value.Evaluated.{Evaluated}

@@ -8,7 +8,7 @@ use Rattle.std.proofs.lemmas.Bool.Decides.{nat_tests}
 use Rattle.std.proofs.lemmas.Option.{slice_get_read}
 use Rattle.std.proofs.lemmas.Slice.Eq.{bytes_eq-Decides}
 use Rattle.base.specs.Bytes.{Identifier, lookup}
-use Rattle.regions.specs.Variable.{Variable as Content, Variables, assign}
+use Rattle.source.specs.Variable.{Variable as Content, Variables, assign}
 use Rattle.terms.specs.Views.{content_view, variable_view, variables_view}
 use Rattle.terms.specs.declared.variable.Variable.{Variable}
 

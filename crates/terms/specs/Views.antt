@@ -4,11 +4,11 @@ use Rattle.base.specs.Bytes.{Identifier}
 use Rattle.syntax.specs.Tree.{BinaryOp}
 use Rattle.syntax.specs.Views.{constant_tree, element_tree, prefix_tree, binary_tree}
 use Rattle.syntax.specs.Limits.{number_limit}
-use Rattle.regions.specs.Heap.{Heap}
-use Rattle.regions.specs.Sight.{seen, in_range}
-use Rattle.regions.specs.Term.{Term, Done, Number, Named, Read, Element, IsNull, Prefix, And, Or, Binary, Reduction, binary_term, done, reduce}
-use Rattle.regions.specs.Value.{Value, Word, Int, Flag, Truth, Trap, DivisionByZero, ShiftTooFar, OutOfRange, NullReference, WrongObject, Outcome, Gives, Traps, Stuck, outcome_then, outcome_map, convert}
-use Rattle.regions.specs.Variable.{Variable, Scalar, LocalRef, FieldHandle, Elements, LocalArray, NoBuffer, Variables, Statics}
+use Rattle.source.specs.Heap.{Heap}
+use Rattle.source.specs.Sight.{seen, in_range}
+use Rattle.source.specs.Term.{Term, Done, Number, Named, Read, Element, IsNull, Prefix, And, Or, Binary, Reduction, binary_term, done, reduce}
+use Rattle.source.specs.Value.{Value, Word, Int, Flag, Truth, Trap, DivisionByZero, ShiftTooFar, OutOfRange, NullReference, WrongObject, Outcome, Gives, Traps, Stuck, outcome_then, outcome_map, convert}
+use Rattle.source.specs.Variable.{Variable, Scalar, LocalRef, FieldHandle, Elements, LocalArray, NoBuffer, Variables, Statics}
 use Rattle.terms.specs.declared.reduction.Reduction.{Reduction as ReductionInMemory}
 use Rattle.terms.specs.declared.reduction.Reduction.TheVariants as reduction
 use Rattle.terms.specs.declared.sight.Indexed.{Indexed}

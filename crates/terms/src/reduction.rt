@@ -2,10 +2,10 @@
 
 ghost use Rattle.std.specs.Prelude.{◌≡◌};
 ghost use Rattle.syntax.specs.Views.{unit_tree};
-ghost use Rattle.regions.specs.Heap.{Heap};
-ghost use Rattle.regions.specs.Sight.{seen};
-ghost use Rattle.regions.specs.Start.{null_statics};
-ghost use Rattle.regions.specs.Term.{Term as TermOfTree, and_then, or_else, done, reduce};
+ghost use Rattle.source.specs.Heap.{Heap};
+ghost use Rattle.source.specs.Sight.{seen};
+ghost use Rattle.source.specs.Start.{null_statics};
+ghost use Rattle.source.specs.Term.{Term as TermOfTree, and_then, or_else, done, reduce};
 ghost use Rattle.terms.specs.Views.{value_view, evaluated_view, term_view, variables_view, NumbersInRange, decided, right_side, IsLeaf, HasValues, IsReplaced, Reduces};
 
 use crate::sight::{element_in, null_value, number_in};

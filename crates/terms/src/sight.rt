@@ -4,12 +4,12 @@ ghost use Rattle.std.specs.Prelude.{◌≡◌, is_some};
 ghost use Rattle.std.specs.Option.{option_map};
 ghost use Rattle.base.specs.Bytes.{lookup};
 ghost use Rattle.syntax.specs.Views.{unit_tree};
-ghost use Rattle.regions.specs.Heap.{Heap};
-ghost use Rattle.regions.specs.Sight.{scalar, seen, elements_of, variable_is_null, holds_null};
-ghost use Rattle.regions.specs.Start.{null_statics};
-ghost use Rattle.regions.specs.Term.{IsNull, done, index_of, element_value, reduce};
-ghost use Rattle.regions.specs.Value.{outcome_map, Truth};
-ghost use Rattle.regions.specs.Variable.{Statics};
+ghost use Rattle.source.specs.Heap.{Heap};
+ghost use Rattle.source.specs.Sight.{scalar, seen, elements_of, variable_is_null, holds_null};
+ghost use Rattle.source.specs.Start.{null_statics};
+ghost use Rattle.source.specs.Term.{IsNull, done, index_of, element_value, reduce};
+ghost use Rattle.source.specs.Value.{outcome_map, Truth};
+ghost use Rattle.source.specs.Variable.{Statics};
 ghost use Rattle.terms.specs.Views.{value_view, evaluated_view, indexed_view, content_view, variables_view, if_there, negated, place_in};
 
 use crate::trap::Trap;

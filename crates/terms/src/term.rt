@@ -5,7 +5,7 @@ ghost use Rattle.syntax.specs.Limits.{numbers_in_range};
 ghost use Rattle.syntax.specs.Parts.{null_tested};
 ghost use Rattle.syntax.specs.Tree.{Binary};
 ghost use Rattle.syntax.specs.Views.{expr_tree, binary_tree};
-ghost use Rattle.regions.specs.Term.{term_of, binary_term};
+ghost use Rattle.source.specs.Term.{term_of, binary_term};
 ghost use Rattle.terms.specs.Views.{term_view, NumbersInRange, ComparesNull};
 
 use crate::value::Value;

@@ -1,7 +1,7 @@
 //! Traps.
 
 ghost use Rattle.std.specs.Prelude.{◌≡◌};
-ghost use Rattle.regions.specs.Value.{trap_number};
+ghost use Rattle.source.specs.Value.{trap_number};
 ghost use Rattle.terms.specs.Views.{trap_view};
 
 /// Why a run stops (JNI Specification, chapter 2, "Reporting Programming Errors"; ISO/IEC 9899:1999, 6.5.5 to 6.5.7).

@@ -3,8 +3,8 @@
 ghost use Rattle.std.specs.Prelude.{◌≡◌, ◌<◌};
 ghost use Rattle.syntax.specs.Limits.{number_limit};
 ghost use Rattle.syntax.specs.Views.{constant_tree, element_tree, prefix_tree, binary_tree};
-ghost use Rattle.regions.specs.Term.{literal, constant};
-ghost use Rattle.regions.specs.Value.{Word, Truth, Gives, convert, prefix_value, binary_value};
+ghost use Rattle.source.specs.Term.{literal, constant};
+ghost use Rattle.source.specs.Value.{Word, Truth, Gives, convert, prefix_value, binary_value};
 ghost use Rattle.terms.specs.Views.{value_view, evaluated_view};
 
 use crate::trap::Trap;

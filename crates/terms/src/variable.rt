@@ -5,8 +5,8 @@ ghost use Rattle.std.specs.Option.{option_map};
 ghost use Rattle.std.specs.Str.{bytes_eq};
 ghost use Rattle.base.specs.Bytes.{lookup};
 ghost use Rattle.syntax.specs.Views.{element_tree};
-ghost use Rattle.regions.specs.Value.{convert};
-ghost use Rattle.regions.specs.Variable.{assign};
+ghost use Rattle.source.specs.Value.{convert};
+ghost use Rattle.source.specs.Variable.{assign};
 ghost use Rattle.terms.specs.Views.{content_view, written, variables_view};
 
 use crate::value::{Value, convert};

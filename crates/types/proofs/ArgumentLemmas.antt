@@ -2,7 +2,7 @@
 use Rattle.std.proofs.Common.{◌≡◌, true, List, [], ◌∷◌, refl, sym, map, length, ◌<◌, arith}
 use Rattle.syntax.specs.declared.call.Argument.{Argument}
 use Rattle.syntax.specs.Views.{argument_tree}
-use Rattle.types.specs.Prototype.{ParameterKind}
+use Rattle.jni.specs.Prototype.{ParameterKind}
 use Rattle.types.specs.Sorts.{Scope, arguments_fit}
 use Rattle.types.specs.SortRules.{modes_fit}
 

@@ -4,9 +4,9 @@ pub mod SortLemmas
 pub mod UseLemmas
 pub mod StatementLemmas
 pub mod ArgumentLemmas
+mod CalledLemmas
 pub mod PlaceLemmas
 pub mod BlockLemmas
 pub mod ItemLemmas
 pub mod UnitLemmas
 pub mod FormedLemmas
-mod TableLemmas

@@ -1,19 +1,14 @@
--- Which functions of the JNI can be called today, and what is refused for it.
-use Rattle.std.specs.Prelude.{◌≡◌, ◌⊎◌, ℕ, Bool, true, false, not, ◌||◌, List, Option, map, filter, flat_map, slice_get, Contains, IsTrue}
+-- Which calls can be made today, and what is refused for it.
+use Rattle.std.specs.Prelude.{◌≡◌, ◌⊎◌, ℕ, Bool, false, not, ◌||◌, List, Option, map, filter, flat_map, slice_get, Contains, IsTrue}
 use Rattle.std.specs.List.{list_all}
 use Rattle.base.specs.Options.{some_passes}
 use Rattle.syntax.specs.Tree.{Call, Stmt, SourceUnit}
 use Rattle.syntax.specs.Parts.{functions_of, statements_of, own_call}
-use Rattle.types.specs.JniFunction.{JniFunction, GetArrayLength}
-use Rattle.types.specs.Prototype.{function_named}
+use Rattle.jni.specs.Prototype.{function_named}
+use Rattle.jni.specs.BuiltFunctions.{is_built_function}
 use Rattle.types.specs.SortRules.{Place, Form, StatementForm, SortRule, UnknownFunction, sort_rules, breaks, places, BreaksSortRule}
 
--- the functions that can be called
-abbrev pub is_built_function : JniFunction → Bool
-is_built_function GetArrayLength = true
-is_built_function f = false
-
--- a call of such a function
+-- a call of a function that can be called
 abbrev pub is_built_call : Call → Bool
 is_built_call c = some_passes is_built_function (function_named c.function)
 

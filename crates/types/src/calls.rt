@@ -5,20 +5,20 @@ ghost use Rattle.std.specs.List.{list_any, list_all};
 ghost use Rattle.std.specs.Option.{option_map, is_none};
 ghost use Rattle.syntax.specs.Parts.{call_expressions};
 ghost use Rattle.syntax.specs.Views.{expr_tree, argument_tree, call_tree};
-ghost use Rattle.types.specs.Prototype.{function_named};
+ghost use Rattle.base.specs.Options.{some_passes};
+ghost use Rattle.jni.specs.BuiltFunctions.{is_built_function};
 ghost use Rattle.types.specs.Sorts.{is_unknown, is_null, is_reference, name_sort, value_fits, address_fits, text_fits, argument_fits, arguments_fit, call_arguments_fit};
-ghost use Rattle.types.specs.SortRules.{is_formed, is_mode, modes_fit, has_wrong_count, has_wrong_mode, result_fits, is_droppable, call_fits, may_be_dropped, may_be_tested};
-ghost use Rattle.types.specs.BuiltCalls.{is_built_call};
-ghost use Rattle.types.specs.Table.{parameter_value, result_value};
+ghost use Rattle.types.specs.SortRules.{is_formed, is_mode, modes_fit, has_wrong_count, has_wrong_mode, result_fits, is_droppable, is_push, call_fits, may_be_dropped, may_be_tested};
+ghost use Rattle.jni.specs.Table.{function_value, parameter_value, result_value};
 ghost use Rattle.types.specs.Faults.{scope_of, sort_value};
 ghost use Rattle.types.specs.Uses.{argument_uses, call_uses};
 
 use crate::expressions::{has_unknown, is_formed, is_null, name_sort, sort_of};
-use crate::prototype::{ParameterKind, ResultKind, prototype_named};
 use crate::scope::{Known, is_unknown, sort_in};
 use crate::sort::{
     Sort, is_array_of, is_buffer_for, is_field, is_flag, is_global, is_jint, is_ref,
 };
+use jni::{JniFunction, ParameterKind, ResultKind};
 use syntax::{Argument, Call, Constant, Expr, Name};
 
 /// Whether an expression is NULL or the bare name of a reference.
@@ -123,43 +123,47 @@ fn modes_fit(kinds: &[ParameterKind], arguments: &[Argument]) -> bool
     }
 }
 
-/// Whether a call's arguments fit, as far as its function is known.
-pub(crate) fn call_arguments_fit(known: &[Known], call: &Call) -> bool
-    ensures { result ≡ call_arguments_fit (scope_of known.now) (call_tree call.now) (function_named call.now.function) }
+/// Whether a call's arguments fit its function, as far as that is known.
+pub(crate) fn call_arguments_fit(
+    known: &[Known],
+    function: Option<JniFunction>,
+    call: &Call,
+) -> bool
+    ensures { result ≡ call_arguments_fit (scope_of known.now) (call_tree call.now) (option_map function_value function) }
 {
-    match prototype_named(call.function.as_bytes()) {
+    match function {
         None => true,
-        Some(prototype) => arguments_fit(known, prototype.parameters, &call.arguments),
+        Some(f) => arguments_fit(known, f.prototype().parameters, &call.arguments),
     }
 }
 
-/// Whether a call is of a function that can be called today.
-pub(crate) fn is_built(call: &Call) -> bool
-    ensures { result ≡ is_built_call (call_tree call.now) }
+/// Whether a function is known, and can be called today.
+pub(crate) fn is_built(function: Option<JniFunction>) -> bool
+    ensures { result ≡ some_passes is_built_function (option_map function_value function) }
 {
-    match prototype_named(call.function.as_bytes()) {
+    match function {
         None => false,
-        Some(prototype) => prototype.built,
+        Some(f) => f.prototype().built,
     }
 }
 
-/// Whether a call has a wrong number of arguments.
-pub(crate) fn has_wrong_count(call: &Call) -> bool
-    ensures { result ≡ has_wrong_count (call_tree call.now) (function_named call.now.function) }
+/// Whether a call has another number of arguments than its function has parameters, as far as that is known.
+pub(crate) fn has_wrong_count(function: Option<JniFunction>, call: &Call) -> bool
+    ensures { result ≡ has_wrong_count (call_tree call.now) (option_map function_value function) }
 {
-    match prototype_named(call.function.as_bytes()) {
+    match function {
         None => false,
-        Some(prototype) => call.arguments.len() != prototype.parameters.len(),
+        Some(f) => call.arguments.len() != f.prototype().parameters.len(),
     }
 }
 
-/// Whether a call has a mode that is none.
-pub(crate) fn has_wrong_mode(call: &Call) -> bool
-    ensures { result ≡ has_wrong_mode (call_tree call.now) (function_named call.now.function) }
+/// Whether a call has a mode that is none, as far as its function is known.
+pub(crate) fn has_wrong_mode(function: Option<JniFunction>, call: &Call) -> bool
+    ensures { result ≡ has_wrong_mode (call_tree call.now) (option_map function_value function) }
 {
-    match prototype_named(call.function.as_bytes()) {
+    match function {
         None => false,
-        Some(prototype) => !modes_fit(prototype.parameters, &call.arguments),
+        Some(f) => !modes_fit(f.prototype().parameters, &call.arguments),
     }
 }
 
@@ -169,7 +173,7 @@ fn result_fits(sort: Option<Sort>, kind: ResultKind) -> bool
 {
     match kind {
         ResultKind::GivesNothing => false,
-        ResultKind::GivesInt | ResultKind::GivesFrameStatus => is_jint(sort),
+        ResultKind::GivesInt => is_jint(sort),
         ResultKind::GivesFlag => is_flag(sort),
         ResultKind::NewLocal => is_ref(sort),
         ResultKind::NewGlobal => is_global(sort),
@@ -178,40 +182,47 @@ fn result_fits(sort: Option<Sort>, kind: ResultKind) -> bool
     }
 }
 
-/// Whether a variable of a sort may be set to a call, as far as its function is known.
-pub(crate) fn call_fits(sort: Option<Sort>, call: &Call) -> bool
-    ensures { result ≡ call_fits (option_map sort_value sort) (function_named call.now.function) }
+/// Whether a result may be dropped.
+fn is_droppable(kind: ResultKind) -> bool
+    ensures { result ≡ is_droppable (result_value kind) }
 {
-    match prototype_named(call.function.as_bytes()) {
+    !matches!(kind, ResultKind::NewGlobal | ResultKind::GivesBuffer(_))
+}
+
+/// Whether a function is `PushLocalFrame`, whose number a test for 0 alone may take.
+fn is_push(function: JniFunction) -> bool
+    ensures { result ≡ is_push (function_value function) }
+{
+    matches!(function, JniFunction::PushLocalFrame)
+}
+
+/// Whether a variable of a sort may be set to a call of a function, as far as that is known.
+pub(crate) fn call_fits(sort: Option<Sort>, function: Option<JniFunction>) -> bool
+    ensures { result ≡ call_fits (option_map sort_value sort) (option_map function_value function) }
+{
+    match function {
         None => true,
-        Some(prototype) => match prototype.result {
-            ResultKind::GivesFrameStatus => false,
-            kind => result_fits(sort, kind),
-        },
+        Some(f) => !is_push(f) && result_fits(sort, f.prototype().result),
     }
 }
 
-/// Whether a call may stand as a statement, as far as its function is known.
-pub(crate) fn may_be_dropped(call: &Call) -> bool
-    ensures { result ≡ may_be_dropped (function_named call.now.function) }
+/// Whether a call of a function may stand as a statement, as far as that is known.
+pub(crate) fn may_be_dropped(function: Option<JniFunction>) -> bool
+    ensures { result ≡ may_be_dropped (option_map function_value function) }
 {
-    match prototype_named(call.function.as_bytes()) {
+    match function {
         None => true,
-        Some(prototype) => match prototype.result {
-            ResultKind::GivesFrameStatus | ResultKind::NewGlobal | ResultKind::GivesBuffer(_) =>
-                false,
-            _ => true,
-        },
+        Some(f) => !is_push(f) && is_droppable(f.prototype().result),
     }
 }
 
-/// Whether a call may be tested for 0, as far as its function is known.
-pub(crate) fn may_be_tested(call: &Call) -> bool
-    ensures { result ≡ may_be_tested (function_named call.now.function) }
+/// Whether a call of a function may be tested for 0, as far as that is known.
+pub(crate) fn may_be_tested(function: Option<JniFunction>) -> bool
+    ensures { result ≡ may_be_tested (option_map function_value function) }
 {
-    match prototype_named(call.function.as_bytes()) {
+    match function {
         None => true,
-        Some(prototype) => matches!(prototype.result, ResultKind::GivesFrameStatus),
+        Some(f) => is_push(f),
     }
 }
 

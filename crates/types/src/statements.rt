@@ -4,13 +4,15 @@ ghost use Rattle.std.specs.Prelude.{◌≡◌, ℕ, [], ◌∷◌, not, ◌&&◌
 ghost use Rattle.std.specs.List.{list_all};
 ghost use Rattle.std.specs.Option.{option_map};
 ghost use Rattle.base.specs.Options.{some_passes};
-ghost use Rattle.syntax.specs.Parts.{own_call, assigned_name, call_expressions};
+ghost use Rattle.syntax.specs.Parts.{own_call, call_of_right_side, assigned_name, call_expressions};
 ghost use Rattle.syntax.specs.Tree.{Void};
 ghost use Rattle.syntax.specs.Views.{expr_tree, right_side_tree, test_tree, call_tree, form_tree, stmt_tree, result_tree};
 ghost use Rattle.jni.specs.Prototype.{function_named};
+ghost use Rattle.jni.specs.Table.{function_value};
 ghost use Rattle.types.specs.Sorts.{sort_in, is_unknown, sort_of, has_elements, is_index, is_jint, call_arguments_fit};
 ghost use Rattle.types.specs.SortRules.{is_formed, value_sets, right_side_sets, buffer_begins, test_fits, return_fits, statement_fits, copies_reference, sort_rules, UnknownName, DeclaredTwice, SortMisfit, UnknownFunction, ArgumentCount, ReferenceCopied, BadMode, ReadOnlyWrite, breaks_sort_rule};
 ghost use Rattle.types.specs.BuiltCalls.{calls_unbuilt, refused_at};
+ghost use Rattle.types.specs.Called.{function_in, call_of_test};
 ghost use Rattle.types.specs.Faults.{scope_of, sort_value, Finds, statement_place, refused_of};
 ghost use Rattle.types.specs.Uses.{right_uses, test_uses, uses};
 
@@ -25,6 +27,7 @@ use crate::sort::{
     Sort, has_elements, is_flag, is_index, is_jint, is_read_only, is_ref, is_truth, is_word,
     variable_sort,
 };
+use jni::{JniFunction, function_named};
 use syntax::{Call, ElementType, Expr, Form, Name, ResultType, RightSide, Stmt, Test};
 
 /// The call that a statement makes.
@@ -40,6 +43,16 @@ pub fn own_call(form: &Form) -> Option<&Call>
         Form::If(Test::Call(c), _) => Some(c),
         Form::IfElse(Test::Call(c), _, _) => Some(c),
         _ => None,
+    }
+}
+
+/// The function that a statement calls, if it is known.
+fn function_called(form: &Form) -> Option<JniFunction>
+    ensures { (line : ℕ) → option_map function_value result ≡ function_in (own_call (form_tree line form.now)) }
+{
+    match own_call(form) {
+        Some(call) => function_named(call.function.as_bytes()),
+        None => None,
     }
 }
 
@@ -155,32 +168,40 @@ fn value_sets(known: &[Known], sort: Option<Sort>, e: &Expr) -> bool
 }
 
 /// Whether a variable of a sort may be set to a right side.
-fn right_side_sets(known: &[Known], sort: Option<Sort>, right: &RightSide) -> bool
+fn right_side_sets(
+    known: &[Known],
+    sort: Option<Sort>,
+    right: &RightSide,
+    function: Option<JniFunction>,
+) -> bool
+    requires { option_map function_value function ≡ function_in (call_of_right_side (Some (right_side_tree right.now))) }
     ensures { result ≡ right_side_sets (scope_of known.now) (option_map sort_value sort) (right_side_tree right.now) }
 {
     match right {
         RightSide::Expr(e) => value_sets(known, sort, e),
-        RightSide::Call(c) => call_fits(sort, c),
+        RightSide::Call(_) => call_fits(sort, function),
     }
 }
 
 /// Whether a buffer may begin as a right side.
-fn buffer_begins(known: &[Known], sort: Sort, right: &RightSide) -> bool
-    ensures { result ≡ buffer_begins (scope_of known.now) (sort_value sort) (right_side_tree right.now) }
+fn buffer_begins(sort: Sort, right: &RightSide, function: Option<JniFunction>) -> bool
+    requires { option_map function_value function ≡ function_in (call_of_right_side (Some (right_side_tree right.now))) }
+    ensures { result ≡ buffer_begins [] (sort_value sort) (right_side_tree right.now) }
 {
     match right {
         RightSide::Expr(e) => is_null(e),
-        RightSide::Call(c) => call_fits(Some(sort), c),
+        RightSide::Call(_) => call_fits(Some(sort), function),
     }
 }
 
 /// Whether an `if` may test this.
-fn test_fits(known: &[Known], test: &Test) -> bool
+fn test_fits(known: &[Known], test: &Test, function: Option<JniFunction>) -> bool
+    requires { option_map function_value function ≡ function_in (call_of_test (test_tree test.now)) }
     ensures { result ≡ test_fits (scope_of known.now) (test_tree test.now) }
 {
     match test {
         Test::Expr(e) => is_truth(sort_of(known, e)),
-        Test::Call(c) => may_be_tested(c),
+        Test::Call(_) => may_be_tested(function),
     }
 }
 
@@ -205,22 +226,28 @@ fn element_fits(known: &[Known], name: &Name, index: &Expr, value: &Expr) -> boo
 }
 
 /// Whether the parts of a statement fit one another, its call's arguments aside.
-fn statement_fits(known: &[Known], returns: ResultType, form: &Form) -> bool
+fn statement_fits(
+    known: &[Known],
+    returns: ResultType,
+    form: &Form,
+    function: Option<JniFunction>,
+) -> bool
+    requires { (line : ℕ) → option_map function_value function ≡ function_in (own_call (form_tree line form.now)) }
     ensures { (line : ℕ) → result ≡ statement_fits (scope_of known.now) (result_tree returns) (form_tree line form.now) }
 {
     match form {
-        Form::Declare(t, _, r) => right_side_sets(known, Some(variable_sort(*t)), r),
-        Form::DeclareBuffer(t, _, r) => buffer_begins(known, Sort::Buffer(*t, true), r),
+        Form::Declare(t, _, r) => { right_side_sets(known, Some(variable_sort(*t)), r, function) }
+        Form::DeclareBuffer(t, _, r) => buffer_begins(Sort::Buffer(*t, true), r, function),
         Form::DeclareChars(_, r) => {
-            buffer_begins(known, Sort::Buffer(ElementType::Jchar, false), r)
+            buffer_begins(Sort::Buffer(ElementType::Jchar, false), r, function)
         }
         Form::DeclareArray(..) => true,
-        Form::Assign(x, r) => right_side_sets(known, sort_in(known, x), r),
+        Form::Assign(x, r) => right_side_sets(known, sort_in(known, x), r, function),
         Form::AssignElement(x, i, e) => element_fits(known, x, i, e),
-        Form::Perform(c) => may_be_dropped(c),
+        Form::Perform(_) => may_be_dropped(function),
         Form::PutJint(e) => is_jint(sort_of(known, e)),
-        Form::If(test, _) => test_fits(known, test),
-        Form::IfElse(test, _, _) => test_fits(known, test),
+        Form::If(test, _) => test_fits(known, test, function),
+        Form::IfElse(test, _, _) => test_fits(known, test, function),
         Form::While(e, _) => is_truth(sort_of(known, e)),
         Form::Return(None) => matches!(returns, ResultType::Void),
         Form::Return(Some(e)) => return_fits(known, returns, e),
@@ -228,49 +255,54 @@ fn statement_fits(known: &[Known], returns: ResultType, form: &Form) -> bool
 }
 
 /// Whether the arguments of a statement's call do not fit, or one of them is neither bare nor has a sort.
-fn call_misfits(known: &[Known], form: &Form) -> bool
+fn call_misfits(known: &[Known], form: &Form, function: Option<JniFunction>) -> bool
+    requires { (line : ℕ) → option_map function_value function ≡ function_in (own_call (form_tree line form.now)) }
     ensures { (line : ℕ) → result ≡ some_passes (λ c. not (list_all (is_formed (scope_of known.now)) (call_expressions c)) || not (call_arguments_fit (scope_of known.now) c (function_named c.function))) (own_call (form_tree line form.now)) }
 {
     match own_call(form) {
-        Some(call) => !call_formed(known, call) || !call_arguments_fit(known, call),
+        Some(call) => !call_formed(known, call) || !call_arguments_fit(known, function, call),
         None => false,
     }
 }
 
 /// Whether a statement does not fit. Where it fits, each of its expressions beside a call's arguments is bare or has a sort.
-fn misfits(known: &[Known], returns: ResultType, form: &Form) -> bool
+fn misfits(known: &[Known], returns: ResultType, form: &Form, function: Option<JniFunction>) -> bool
+    requires { (line : ℕ) → option_map function_value function ≡ function_in (own_call (form_tree line form.now)) }
     ensures { (line : ℕ) → result ≡ breaks_sort_rule SortMisfit (scope_of known.now) [] (result_tree returns) (form_tree line form.now) }
 {
-    !statement_fits(known, returns, form) || call_misfits(known, form)
+    !statement_fits(known, returns, form, function) || call_misfits(known, form, function)
 }
 
 /// Whether a statement calls a function that is not known, or can't be called today.
 #[tactic(auto, using(crate::proofs::StatementLemmas::unknown_calls))]
-fn calls_unknown(form: &Form) -> bool
+fn calls_unknown(form: &Form, function: Option<JniFunction>) -> bool
+    requires { (line : ℕ) → option_map function_value function ≡ function_in (own_call (form_tree line form.now)) }
     ensures { (line : ℕ) → result ≡ (breaks_sort_rule UnknownFunction [] [] Void (form_tree line form.now) || calls_unbuilt (form_tree line form.now)) }
 {
     match own_call(form) {
-        Some(call) => !is_built(call),
+        Some(_) => !is_built(function),
         None => false,
     }
 }
 
 /// Whether a statement's call has a wrong number of arguments.
-fn miscounts(form: &Form) -> bool
+fn miscounts(form: &Form, function: Option<JniFunction>) -> bool
+    requires { (line : ℕ) → option_map function_value function ≡ function_in (own_call (form_tree line form.now)) }
     ensures { (line : ℕ) → result ≡ breaks_sort_rule ArgumentCount [] [] Void (form_tree line form.now) }
 {
     match own_call(form) {
-        Some(call) => has_wrong_count(call),
+        Some(call) => has_wrong_count(function, call),
         None => false,
     }
 }
 
 /// Whether a statement's call has a mode that is none.
-fn has_bad_mode(form: &Form) -> bool
+fn has_bad_mode(form: &Form, function: Option<JniFunction>) -> bool
+    requires { (line : ℕ) → option_map function_value function ≡ function_in (own_call (form_tree line form.now)) }
     ensures { (line : ℕ) → result ≡ breaks_sort_rule BadMode [] [] Void (form_tree line form.now) }
 {
     match own_call(form) {
-        Some(call) => has_wrong_mode(call),
+        Some(call) => has_wrong_mode(function, call),
         None => false,
     }
 }
@@ -323,8 +355,10 @@ fn check_uses(
     taken: &[Name],
     returns: ResultType,
     form: &Form,
+    function: Option<JniFunction>,
     line: usize,
 ) -> Result<(), TypeFault>
+    requires { (line : ℕ) → option_map function_value function ≡ function_in (own_call (form_tree line form.now)) }
     ensures { Finds result (refused_of (result_tree returns) (scope_of known.now) taken.now (form_tree line form.now) line (ReferenceCopied ∷ BadMode ∷ ReadOnlyWrite ∷ [])) }
 {
     refuse_if(
@@ -332,7 +366,7 @@ fn check_uses(
         SortRule::ReferenceCopied,
         line,
     )?;
-    refuse_if(has_bad_mode(form), SortRule::BadMode, line)?;
+    refuse_if(has_bad_mode(form, function), SortRule::BadMode, line)?;
     refuse_if(writes_read_only(known, form), SortRule::ReadOnlyWrite, line)?;
     Ok(())
 }
@@ -344,13 +378,19 @@ fn check_call(
     taken: &[Name],
     returns: ResultType,
     form: &Form,
+    function: Option<JniFunction>,
     line: usize,
 ) -> Result<(), TypeFault>
+    requires { (line : ℕ) → option_map function_value function ≡ function_in (own_call (form_tree line form.now)) }
     ensures { Finds result (refused_of (result_tree returns) (scope_of known.now) taken.now (form_tree line form.now) line (UnknownFunction ∷ ArgumentCount ∷ ReferenceCopied ∷ BadMode ∷ ReadOnlyWrite ∷ [])) }
 {
-    refuse_if(calls_unknown(form), SortRule::UnknownFunction, line)?;
-    refuse_if(miscounts(form), SortRule::ArgumentCount, line)?;
-    check_uses(known, taken, returns, form, line)
+    refuse_if(
+        calls_unknown(form, function),
+        SortRule::UnknownFunction,
+        line,
+    )?;
+    refuse_if(miscounts(form, function), SortRule::ArgumentCount, line)?;
+    check_uses(known, taken, returns, form, function, line)
 }
 
 /// A statement on this line, without the blocks inside it. All rules are judged, in the order of their numbers.
@@ -364,10 +404,15 @@ fn check_form(
 ) -> Result<(), TypeFault>
     ensures { Finds result (refused_of (result_tree returns) (scope_of known.now) taken.now (form_tree line form.now) line sort_rules) }
 {
+    let function = function_called(form);
     refuse_if(names_unknown(known, form), SortRule::UnknownName, line)?;
     refuse_if(declares_taken(taken, form), SortRule::DeclaredTwice, line)?;
-    refuse_if(misfits(known, returns, form), SortRule::SortMisfit, line)?;
-    check_call(known, taken, returns, form, line)
+    refuse_if(
+        misfits(known, returns, form, function),
+        SortRule::SortMisfit,
+        line,
+    )?;
+    check_call(known, taken, returns, form, function, line)
 }
 
 /// A statement of a function with this result, where these names are known and these are taken.

@@ -5,13 +5,13 @@ use Rattle.syntax.specs.Tree.{SourceUnit}
 use Rattle.classes.specs.Additions.{with_class}
 use Rattle.classes.specs.BuiltIns.{built_ins}
 use Rattle.classes.specs.Class.{Plain}
-use Rattle.world.specs.Object.{ObjectValue, Refers}
-use Rattle.world.specs.World.{World, fits_cells}
-use Rattle.regions.specs.Load.{Loads, first_load_fault, load_faults}
-use Rattle.regions.specs.Reachable.{live_size}
-use Rattle.regions.specs.Run.{account, replay, wanted}
-use Rattle.regions.specs.State.{State}
-use Rattle.regions.specs.Thread.{Ended, Unfinished}
+use Rattle.source.specs.Object.{ObjectValue, Refers}
+use Rattle.source.specs.World.{World, fits_cells}
+use Rattle.source.specs.Load.{Loads, first_load_fault, load_faults}
+use Rattle.source.specs.Reachable.{live_size}
+use Rattle.source.specs.Run.{account, replay, wanted}
+use Rattle.source.specs.State.{State}
+use Rattle.source.specs.Thread.{Ended, Unfinished}
 use Rattle.worked.proofs.Arguments.{the_length_of_an_array}
 use Rattle.worked.proofs.Computed.{opened}
 use Rattle.worked.proofs.Programs.{unit_of, entries}

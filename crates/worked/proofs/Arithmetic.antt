@@ -1,8 +1,8 @@
 -- The cases of texts/arithmetic.cases, as examples/worked_equations writes them.
 use Rattle.std.specs.Prelude.{◌∷◌, true, false, [], Some, None, codes, refl}
 use Rattle.syntax.specs.Tree.{Add, Binary, IntResult, Multiply, Number, Paren, Prefix, PutJint, Return, ReturnValue, SourceUnit, Subtract, ToInt, Void}
-use Rattle.world.specs.declared.schedule.ScheduleWord.TheVariants.{Turn}
-use Rattle.world.specs.World.{World}
+use Rattle.source.specs.declared.schedule.ScheduleWord.TheVariants.{Turn}
+use Rattle.source.specs.World.{World}
 use Rattle.world.specs.WorldLines.{ClassLine, ThreadLine, Lines}
 use Rattle.world.specs.WorldMeaning.{world_of}
 use Rattle.world.specs.WorldRules.{IsWorldText}

@@ -2,8 +2,8 @@
 use Rattle.std.specs.Prelude.{◌∷◌, pos, false, [], Some, None, codes, refl}
 use Rattle.base.specs.Element.{JInt}
 use Rattle.syntax.specs.Tree.{Add, AssignElement, Binary, Declare, DeclareArray, DeclareBuffer, Element, FromCall, FromExpr, If, JIntArray, JIntVariable, Named, NotEqual, Null, Number, Perform, Prefix, PutJint, ReferenceVariable, Return, SourceUnit, TestExpr, ToInt, ToWord, UInt32, Value, Variable, Void}
-use Rattle.world.specs.declared.schedule.ScheduleWord.TheVariants.{Turn, Collect}
-use Rattle.world.specs.World.{World}
+use Rattle.source.specs.declared.schedule.ScheduleWord.TheVariants.{Turn, Collect}
+use Rattle.source.specs.World.{World}
 use Rattle.world.specs.WorldLines.{NumberValue, NamedObject, ClassLine, ArrayLine, ThreadLine, Lines}
 use Rattle.world.specs.WorldMeaning.{world_of}
 use Rattle.world.specs.WorldRules.{IsWorldText}

@@ -1,8 +1,8 @@
 -- The cases of texts/classes.cases, as examples/worked_equations writes them.
 use Rattle.std.specs.Prelude.{◌∷◌, false, [], Some, None, codes, refl}
 use Rattle.syntax.specs.Tree.{Binary, Declare, Equal, FromCall, If, JBoolean, JClass, JObject, Named, Null, Number, Prefix, PutJint, ReferenceVariable, Return, SourceUnit, TestExpr, Text, ToInt, Value, Variable, Void}
-use Rattle.world.specs.declared.schedule.ScheduleWord.TheVariants.{Turn}
-use Rattle.world.specs.World.{World}
+use Rattle.source.specs.declared.schedule.ScheduleWord.TheVariants.{Turn}
+use Rattle.source.specs.World.{World}
 use Rattle.world.specs.WorldLines.{NamedObject, NamedClass, ClassLine, ObjectLine, ThreadLine, Lines}
 use Rattle.world.specs.WorldMeaning.{world_of}
 use Rattle.world.specs.WorldRules.{IsWorldText}

@@ -11,36 +11,40 @@ use Rattle.syntax.specs.Tree.{SourceUnit}
 use Rattle.classes.specs.BuiltIns.{built_ins}
 use Rattle.classes.specs.Class.{Classes}
 use Rattle.classes.specs.Mangling.{unmangle}
-use Rattle.types.specs.Prototype.{function_named}
+use Rattle.jni.specs.Prototype.{function_named}
 use Rattle.types.specs.SortRules.{SortRule, sort_rule_number, IsSorted}
-use Rattle.world.specs.declared.journal.Entry.{Entry}
-use Rattle.world.specs.declared.schedule.ScheduleWord.{ScheduleWord}
-use Rattle.world.specs.declared.schedule.ScheduleWord.TheVariants.{Turn, Collect}
-use Rattle.world.specs.Journal.{Journal, IsJournalText, entry_text, journal_line}
-use Rattle.world.specs.Object.{Object, sizes}
+use Rattle.source.specs.declared.journal.Entry.{Entry}
+use Rattle.source.specs.declared.schedule.ScheduleWord.{ScheduleWord}
+use Rattle.source.specs.declared.schedule.ScheduleWord.TheVariants.{Turn, Collect}
+use Rattle.source.specs.Journal.{Journal}
+use Rattle.texts.specs.JournalMeaning.{IsJournalText}
+use Rattle.report.specs.JournalText.{entry_text, journal_line}
+use Rattle.source.specs.Object.{Object, sizes}
 use Rattle.world.specs.ReadingValues.{value_named}
-use Rattle.world.specs.ReadingWords.{lines_words, allowed_words}
+use Rattle.texts.specs.ReadingWords.{lines_words, allowed_words}
 use Rattle.world.specs.ReadingWorlds.{lines_scene, line_scene, heap_scene, class_scene, array_scene, thread_scene, finished_scene}
-use Rattle.world.specs.Report.{report_text}
-use Rattle.world.specs.Schedule.{Schedule, IsScheduleText, schedule_word, words_meant, is_turn, is_count}
-use Rattle.world.specs.Words.{words_of, is_thread}
-use Rattle.world.specs.World.{World}
+use Rattle.report.specs.ReportText.{report_text}
+use Rattle.source.specs.Schedule.{Schedule}
+use Rattle.texts.specs.ScheduleText.{IsScheduleText, schedule_word, words_meant, is_turn, is_count}
+use Rattle.texts.specs.Words.{words_of, is_thread}
+use Rattle.source.specs.World.{World}
 use Rattle.world.specs.WorldLines.{WorldLine, Lines, line_text, spaced, text_lines}
 use Rattle.world.specs.WorldMeaning.{world_of}
 use Rattle.world.specs.WorldRules.{IsWorldText, IsNumberedLine, broken_after, is_thread_line}
 use Rattle.world.proofs.WrittenValues.{same_bytes}
-use Rattle.regions.specs.CallTable.{call_effect}
-use Rattle.regions.specs.Checks.{go_together, call_trap}
+use Rattle.source.specs.CallTable.{call_effect}
+use Rattle.source.specs.Checks.{go_together, call_trap}
 use Rattle.regions.specs.Findings.{first_fault}
-use Rattle.regions.specs.Load.{first_load_fault}
-use Rattle.regions.specs.Reachable.{live_size}
+use Rattle.source.specs.Load.{first_load_fault}
+use Rattle.source.specs.Reachable.{live_size}
 use Rattle.regions.specs.RegionRules.{RegionRule, region_rule_number}
-use Rattle.regions.specs.ReportOf.{report}
-use Rattle.regions.specs.Run.{Follows, Over, Collects, Waits, Steps, HasRoom, HasRoomFrom, Writes, made_between, made, wanted, replay}
-use Rattle.regions.specs.Start.{start}
-use Rattle.regions.specs.State.{State, thread_at, views}
-use Rattle.regions.specs.Step.{world_step, can_step, step_of}
-use Rattle.regions.proofs.RunLaws.{follows-replay}
+use Rattle.source.specs.ReportOf.{report}
+use Rattle.source.specs.Run.{Follows, Over, Collects, Waits, Steps, IsFair, Fits, FitsUnmarked, IsFairMarked, EachFrom, made_between, made, wanted, replay}
+use Rattle.report.specs.RunText.{Writes}
+use Rattle.source.specs.Start.{start}
+use Rattle.source.specs.State.{State, thread_at, views}
+use Rattle.source.specs.Step.{world_step, can_step, step_of}
+use Rattle.source.proofs.RunLaws.{follows-replay}
 use Rattle.regions.proofs.UnitLemmas.{accepted-all, faulty-all}
 use Rattle.worked.specs.Claims.{first_sort_fault, IsAccepted, IsRefused, by_sorts, by_regions, Beginning, IsWorkedRun, IsWorkedReplay, IsStoppedReplay, IsUnloaded}
 use Rattle.worked.proofs.Programs.{entry}
@@ -203,12 +207,13 @@ with_none (e ∷ journal) = ap (λ j. e ∷ j) (with_none journal)
 turned_twice : (journal : Journal) → onto (onto journal []) [] ≡ journal
 turned_twice journal = onto-onto journal [] [] ∙ with_none journal
 
--- what a run adds to the latest entries is a journal that follows the schedule, and each of its entries has room
+-- what a run adds to the latest entries is a journal that follows the schedule, and each of its entries has room, or is fairly refused
 pub record Lawful (unit : SourceUnit) (w : World) (s : State) (words : Schedule) (latest : Journal) (end : State) (whole : Journal) : Type 0 where
   pub journal : Journal
   pub adds : whole ≡ onto journal latest
   pub follows : Follows unit w s journal words end
-  pub room : HasRoomFrom unit w (Some s) journal
+  pub fits : EachFrom unit w (λ s e. FitsUnmarked unit w s e.thread e.refused) (Some s) journal
+  pub fair : EachFrom unit w (λ s e. IsFairMarked unit w s e.thread e.refused) (Some s) journal
 
 module _ (unit : SourceUnit) (w : World) where
   -- ---- room
@@ -233,17 +238,21 @@ module _ (unit : SourceUnit) (w : World) where
   has_room s k true next = refusal_is_fair s k (is_some_view (views s))
   has_room s k false next = allocation_fits s (made_between s (Some next))
 
-  refused-room : (s : State) (k : ℕ) (names : List ℕ) → views s ≡ names → IsTrue (refusal_is_fair s k (is_some_view names)) → HasRoom unit w s k true
+  refused-room : (s : State) (k : ℕ) (names : List ℕ) → views s ≡ names → IsTrue (refusal_is_fair s k (is_some_view names)) → IsFair unit w s k
   refused-room s k [] e h = inl (ltb-true _ _ h)
   refused-room s k (n ∷ names) e h = inr (λ none. absurd cc)
 
-  fits-room : (s : State) (k : ℕ) (objects : List Object) → made unit w s k ≡ objects → IsTrue (allocation_fits s objects) → HasRoom unit w s k false
+  fits-room : (s : State) (k : ℕ) (objects : List Object) → made unit w s k ≡ objects → IsTrue (allocation_fits s objects) → Fits unit w s k
   fits-room s k [] e h = λ some. absurd (some e)
   fits-room s k (o ∷ objects) e h = λ some. subst (λ xs. live_size w s + sizes xs ≤ w.cells) (sym e) (leb-true _ _ h)
 
-  step-room : (s next : State) (k : ℕ) (refused : Bool) → world_step unit w.classes s (entry k refused) ≡ Some next → IsTrue (has_room s k refused next) → HasRoom unit w s k refused
-  step-room s next k true e h = refused-room s k (views s) refl h
-  step-room s next k false e h = fits-room s k (made_between s (Some next)) (ap (made_between s) e) h
+  step-fits : (s next : State) (k : ℕ) (refused : Bool) → world_step unit w.classes s (entry k refused) ≡ Some next → IsTrue (has_room s k refused next) → FitsUnmarked unit w s k refused
+  step-fits s next k true e h = tt
+  step-fits s next k false e h = fits-room s k (made_between s (Some next)) (ap (made_between s) e) h
+
+  step-fair : (s next : State) (k : ℕ) (refused : Bool) → IsTrue (has_room s k refused next) → IsFairMarked unit w s k refused
+  step-fair s next k true h = refused-room s k (views s) refl h
+  step-fair s next k false h = tt
 
   -- ---- the run by a schedule
 
@@ -276,12 +285,12 @@ module _ (unit : SourceUnit) (w : World) where
 
   collects : (s : State) (words : Schedule) (latest : Journal) (r : Option (State × Journal)) → IsLawful s words latest r → IsLawful s (Collect ∷ words) latest r
   collects s words latest None h = tt
-  collects s words latest (Some (end, whole)) h = record { journal = h.journal; adds = h.adds; follows = Collects s end h.journal words h.follows; room = h.room }
+  collects s words latest (Some (end, whole)) h = record { journal = h.journal; adds = h.adds; follows = Collects s end h.journal words h.follows; fits = h.fits; fair = h.fair }
 
   waits : (s : State) (k : ℕ) (words : Schedule) (latest : Journal) (r : Option (State × Journal)) (can : Bool) → can_step w.classes s k ≡ can → IsLawful s words latest r → IsLawful s (Turn k ∷ words) latest (after_waiting r can)
   waits s k words latest r true e h = tt
   waits s k words latest None false e h = tt
-  waits s k words latest (Some (end, whole)) false e h = record { journal = h.journal; adds = h.adds; follows = Waits s end k h.journal words e h.follows; room = h.room }
+  waits s k words latest (Some (end, whole)) false e h = record { journal = h.journal; adds = h.adds; follows = Waits s end k h.journal words e h.follows; fits = h.fits; fair = h.fair }
 
   goes_on : (s next : State) (k : ℕ) (refused : Bool) (words : Schedule) (latest : Journal) (r : Option (State × Journal)) → world_step unit w.classes s (entry k refused) ≡ Some next → IsTrue (has_room s k refused next) → IsLawful next words (entry k refused ∷ latest) r → IsLawful s (Turn k ∷ words) latest r
   goes_on s next k refused words latest None e is h = tt
@@ -290,7 +299,8 @@ module _ (unit : SourceUnit) (w : World) where
         journal = entry k refused ∷ h.journal;
         adds = h.adds;
         follows = Steps s next end k refused h.journal words (can-step unit w.classes s next (entry k refused) e) e h.follows;
-        room = (step-room s next k refused e is, subst (λ o. HasRoomFrom unit w o h.journal) (sym e) h.room);
+        fits = (step-fits s next k refused e is, subst (λ o. EachFrom unit w (λ s e. FitsUnmarked unit w s e.thread e.refused) o h.journal) (sym e) h.fits);
+        fair = (step-fair s next k refused is, subst (λ o. EachFrom unit w (λ s e. IsFairMarked unit w s e.thread e.refused) o h.journal) (sym e) h.fair);
       }
 
   steps : (s next : State) (k : ℕ) (words : Schedule) (go : State → List Bool → Journal → Option (State × Journal)) (marks : List Bool) (latest : Journal) (room : Bool) → world_step unit w.classes s (entry k (first_mark marks)) ≡ Some next → has_room s k (first_mark marks) next ≡ room → IsLawful next words (entry k (first_mark marks) ∷ latest) (go next (later_marks marks) (entry k (first_mark marks) ∷ latest)) → IsLawful s (Turn k ∷ words) latest (after_step go next (later_marks marks) (entry k (first_mark marks) ∷ latest) room)
@@ -303,7 +313,7 @@ module _ (unit : SourceUnit) (w : World) where
       steps s next k words go marks latest (has_room s k (first_mark marks) next) e refl (further next (later_marks marks) (entry k (first_mark marks) ∷ latest))
 
   run-lawful : (words : Schedule) (s : State) (marks : List Bool) (latest : Journal) → IsLawful s words latest (run words s marks latest)
-  run-lawful [] s marks latest = record { journal = []; adds = refl; follows = Over s; room = tt }
+  run-lawful [] s marks latest = record { journal = []; adds = refl; follows = Over s; fits = tt; fair = tt }
   run-lawful (Collect ∷ words) s marks latest = collects s words latest (run words s marks latest) (run-lawful words s marks latest)
   run-lawful (Turn k ∷ words) s marks latest =
       turns s k words (λ next rest j. run words next rest j) marks latest (world_step unit w.classes s (entry k (first_mark marks))) refl (λ next rest j. run-lawful words next rest j)
@@ -328,7 +338,8 @@ module _ (unit : SourceUnit) (w : World) where
         of_schedule = of_schedule;
         journal = lawful.journal;
         follows = (end, lawful.follows);
-        has_room = lawful.room;
+        fits = lawful.fits;
+        fair = lawful.fair;
         writes = record {
           end = end;
           replays = follows-replay unit w lawful.follows;

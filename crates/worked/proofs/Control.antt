@@ -2,8 +2,8 @@
 use Rattle.std.specs.Prelude.{◌∷◌, true, false, [], Some, None, codes, refl}
 use Rattle.base.specs.Element.{JByte}
 use Rattle.syntax.specs.Tree.{Add, Assign, AssignElement, Binary, Declare, DeclareArray, Divide, Element, Equal, FromExpr, If, Less, LogicalAnd, Number, Prefix, PutJint, Return, SourceUnit, TestExpr, ToInt, UInt32, Variable, Void, While}
-use Rattle.world.specs.declared.schedule.ScheduleWord.TheVariants.{Turn}
-use Rattle.world.specs.World.{World}
+use Rattle.source.specs.declared.schedule.ScheduleWord.TheVariants.{Turn}
+use Rattle.source.specs.World.{World}
 use Rattle.world.specs.WorldLines.{ClassLine, ThreadLine, Lines}
 use Rattle.world.specs.WorldMeaning.{world_of}
 use Rattle.world.specs.WorldRules.{IsWorldText}

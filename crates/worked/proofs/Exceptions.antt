@@ -1,8 +1,8 @@
 -- The cases of texts/exceptions.cases, as examples/worked_equations writes them.
 use Rattle.std.specs.Prelude.{◌∷◌, [], Some, None, codes, refl}
 use Rattle.syntax.specs.Tree.{Binary, Declare, FromCall, If, JClass, JIntVariable, Named, NotEqual, Null, ReferenceVariable, Return, SourceUnit, TestExpr, Text, Variable, Void}
-use Rattle.world.specs.declared.schedule.ScheduleWord.TheVariants.{Turn}
-use Rattle.world.specs.World.{World}
+use Rattle.source.specs.declared.schedule.ScheduleWord.TheVariants.{Turn}
+use Rattle.source.specs.World.{World}
 use Rattle.world.specs.WorldLines.{ClassLine, ThreadLine, Lines}
 use Rattle.world.specs.WorldMeaning.{world_of}
 use Rattle.world.specs.WorldRules.{IsWorldText}

@@ -1,8 +1,8 @@
 -- The cases of texts/fields_found.cases, as examples/worked_equations writes them.
 use Rattle.std.specs.Prelude.{◌∷◌, pos, false, [], Some, None, codes, refl}
 use Rattle.syntax.specs.Tree.{Declare, FromCall, JClass, JFieldId, JObject, Number, Perform, PutJint, ReferenceVariable, Return, SourceUnit, Text, Value, Void}
-use Rattle.world.specs.declared.schedule.ScheduleWord.TheVariants.{Turn, Collect}
-use Rattle.world.specs.World.{World}
+use Rattle.source.specs.declared.schedule.ScheduleWord.TheVariants.{Turn, Collect}
+use Rattle.source.specs.World.{World}
 use Rattle.world.specs.WorldLines.{NumberValue, NamedObject, ClassLine, FieldLine, ObjectLine, ThreadLine, Lines}
 use Rattle.world.specs.WorldMeaning.{world_of}
 use Rattle.world.specs.WorldRules.{IsWorldText}

@@ -1,8 +1,8 @@
 -- The cases of texts/frames.cases, as examples/worked_equations writes them.
 use Rattle.std.specs.Prelude.{◌∷◌, true, false, [], Some, None, codes, refl}
 use Rattle.syntax.specs.Tree.{Add, Assign, Binary, Declare, FromCall, FromExpr, If, JIntArray, JIntVariable, JObject, Less, Named, Null, Number, PutJint, ReferenceVariable, Return, SourceUnit, TestCall, UInt32, Value, Variable, Void, While}
-use Rattle.world.specs.declared.schedule.ScheduleWord.TheVariants.{Turn, Collect}
-use Rattle.world.specs.World.{World}
+use Rattle.source.specs.declared.schedule.ScheduleWord.TheVariants.{Turn, Collect}
+use Rattle.source.specs.World.{World}
 use Rattle.world.specs.WorldLines.{ClassLine, ThreadLine, Lines}
 use Rattle.world.specs.WorldMeaning.{world_of}
 use Rattle.world.specs.WorldRules.{IsWorldText}

@@ -1,8 +1,8 @@
 -- The cases of texts/globals.cases, as examples/worked_equations writes them.
 use Rattle.std.specs.Prelude.{◌∷◌, true, [], Some, None, codes, refl}
 use Rattle.syntax.specs.Tree.{Assign, Declare, FromCall, JIntVariable, JObject, Number, Perform, Prefix, ReferenceVariable, Return, SourceUnit, ToInt, Value, Void}
-use Rattle.world.specs.declared.schedule.ScheduleWord.TheVariants.{Turn}
-use Rattle.world.specs.World.{World}
+use Rattle.source.specs.declared.schedule.ScheduleWord.TheVariants.{Turn}
+use Rattle.source.specs.World.{World}
 use Rattle.world.specs.WorldLines.{NamedObject, ClassLine, ObjectLine, ThreadLine, Lines}
 use Rattle.world.specs.WorldMeaning.{world_of}
 use Rattle.world.specs.WorldRules.{IsWorldText}

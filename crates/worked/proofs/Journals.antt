@@ -1,7 +1,7 @@
 -- The cases of texts/journals.cases, as examples/worked_equations writes them.
 use Rattle.std.specs.Prelude.{◌∷◌, ◌++◌, true, false, [], None, codes, refl}
 use Rattle.syntax.specs.Tree.{IntResult, Number, ReturnValue, SourceUnit}
-use Rattle.world.specs.World.{World}
+use Rattle.source.specs.World.{World}
 use Rattle.world.specs.WorldLines.{ClassLine, ThreadLine, Lines}
 use Rattle.world.specs.WorldMeaning.{world_of}
 use Rattle.world.specs.WorldRules.{IsWorldText}

@@ -5,11 +5,11 @@ use Rattle.syntax.specs.Tree.{SourceUnit}
 use Rattle.classes.specs.Additions.{with_class}
 use Rattle.classes.specs.BuiltIns.{built_ins}
 use Rattle.classes.specs.Class.{Plain}
-use Rattle.world.specs.Object.{ObjectValue, Refers}
-use Rattle.world.specs.World.{World}
-use Rattle.world.specs.declared.report.Printed.{Printed}
-use Rattle.regions.specs.Run.{replay}
-use Rattle.regions.specs.State.{State}
+use Rattle.source.specs.Object.{ObjectValue, Refers}
+use Rattle.source.specs.World.{World}
+use Rattle.source.specs.declared.printed.Printed.{Printed}
+use Rattle.source.specs.Run.{replay}
+use Rattle.source.specs.State.{State}
 use Rattle.worked.proofs.Computed.{opened}
 use Rattle.worked.proofs.Programs.{entries}
 use Rattle.worked.proofs.Trees.{enters, copies, copies_too_many, views_64, capacities_1024}

@@ -1,8 +1,8 @@
 -- The cases of texts/memory.cases, as examples/worked_equations writes them.
 use Rattle.std.specs.Prelude.{◌∷◌, ◌++◌, true, false, [], Some, None, codes, refl, replicate}
 use Rattle.syntax.specs.Tree.{Binary, Declare, Equal, FromCall, If, JBoolean, JClass, JIntArray, JIntVariable, JThrowable, Named, Null, Number, Perform, Prefix, PutJint, ReferenceVariable, Return, SourceUnit, TestExpr, Text, ToInt, Value, Variable, Void}
-use Rattle.world.specs.declared.schedule.ScheduleWord.TheVariants.{Turn}
-use Rattle.world.specs.World.{World}
+use Rattle.source.specs.declared.schedule.ScheduleWord.TheVariants.{Turn}
+use Rattle.source.specs.World.{World}
 use Rattle.world.specs.WorldLines.{ClassLine, ThreadLine, Lines}
 use Rattle.world.specs.WorldMeaning.{world_of}
 use Rattle.world.specs.WorldRules.{IsWorldText}

@@ -1,8 +1,8 @@
 -- The cases of texts/monitors_shared.cases, as examples/worked_equations writes them.
 use Rattle.std.specs.Prelude.{◌∷◌, pos, true, [], Some, None, codes, refl}
 use Rattle.syntax.specs.Tree.{Binary, Declare, Divide, FromCall, FromExpr, JClass, JIntVariable, JObject, Number, Perform, Prefix, PutJint, ReferenceVariable, Return, SourceUnit, Text, ToWord, UInt32, Variable, Void}
-use Rattle.world.specs.declared.schedule.ScheduleWord.TheVariants.{Turn}
-use Rattle.world.specs.World.{World}
+use Rattle.source.specs.declared.schedule.ScheduleWord.TheVariants.{Turn}
+use Rattle.source.specs.World.{World}
 use Rattle.world.specs.WorldLines.{NumberValue, NullValue, NamedObject, ClassLine, ObjectLine, ThreadLine, CallLine, Lines}
 use Rattle.world.specs.WorldMeaning.{world_of}
 use Rattle.world.specs.WorldRules.{IsWorldText}

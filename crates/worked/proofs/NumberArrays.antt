@@ -2,8 +2,8 @@
 use Rattle.std.specs.Prelude.{◌∷◌, pos, false, [], Some, None, codes, refl}
 use Rattle.base.specs.Element.{JInt, JShort, JByte, JChar}
 use Rattle.syntax.specs.Tree.{Abort, AddressOf, Assign, AssignElement, Binary, Commit, Declare, DeclareArray, DeclareBuffer, Element, False, FromCall, FromExpr, If, JBoolean, JByteArray, JCharArray, JIntArray, JIntVariable, JShortArray, Named, NotEqual, Null, Number, Perform, Prefix, PutJint, ReferenceVariable, Return, SourceUnit, TestExpr, ToInt, True, Value, Variable, Void}
-use Rattle.world.specs.declared.schedule.ScheduleWord.TheVariants.{Turn}
-use Rattle.world.specs.World.{World}
+use Rattle.source.specs.declared.schedule.ScheduleWord.TheVariants.{Turn}
+use Rattle.source.specs.World.{World}
 use Rattle.world.specs.WorldLines.{NumberValue, NamedObject, ClassLine, ArrayLine, ThreadLine, Lines}
 use Rattle.world.specs.WorldMeaning.{world_of}
 use Rattle.world.specs.WorldRules.{IsWorldText}

@@ -2,8 +2,8 @@
 use Rattle.std.specs.Prelude.{◌∷◌, pos, true, false, [], Some, None, codes, refl}
 use Rattle.base.specs.Element.{JInt}
 use Rattle.syntax.specs.Tree.{Binary, Complement, Declare, Equal, FromCall, If, JBoolean, JClass, JIntArray, JIntVariable, JObject, JObjectArray, Named, Null, Number, Perform, Prefix, PutJint, ReferenceVariable, Return, SourceUnit, TestExpr, Text, ToInt, Value, Variable, Void}
-use Rattle.world.specs.declared.schedule.ScheduleWord.TheVariants.{Turn}
-use Rattle.world.specs.World.{World}
+use Rattle.source.specs.declared.schedule.ScheduleWord.TheVariants.{Turn}
+use Rattle.source.specs.World.{World}
 use Rattle.world.specs.WorldLines.{NumberValue, NullValue, NamedObject, ClassLine, ObjectLine, ObjectsLine, ArrayLine, ThreadLine, Lines}
 use Rattle.world.specs.WorldMeaning.{world_of}
 use Rattle.world.specs.WorldRules.{IsWorldText}

@@ -2,8 +2,8 @@
 use Rattle.std.specs.Prelude.{ℕ, Bool, false, List, [], ◌∷◌, codes, replicate}
 use Rattle.base.specs.Bytes.{Identifier}
 use Rattle.syntax.specs.Tree.{Argument, Call, Variable, Stmt, Block, End, Next, ReferenceType, ResultType, Parameter, IntParameter, ReferenceParameter, Item, StaticItem, FunctionItem, SourceUnit}
-use Rattle.world.specs.declared.journal.Entry.{Entry}
-use Rattle.world.specs.Journal.{Journal}
+use Rattle.source.specs.declared.journal.Entry.{Entry}
+use Rattle.source.specs.Journal.{Journal}
 
 -- ---- programs
 

@@ -1,8 +1,8 @@
 -- The cases of texts/references.cases, as examples/worked_equations writes them.
 use Rattle.std.specs.Prelude.{◌∷◌, true, false, [], Some, None, codes, refl}
 use Rattle.syntax.specs.Tree.{Assign, Binary, Complement, Declare, Equal, FromCall, FromExpr, If, IfElse, JBoolean, JClass, JObject, JThrowable, Named, NotEqual, Null, Number, Perform, Prefix, PutJint, ReferenceResult, ReferenceVariable, Return, ReturnValue, SourceUnit, TestCall, TestExpr, Text, ToInt, Value, Variable, Void}
-use Rattle.world.specs.declared.schedule.ScheduleWord.TheVariants.{Turn}
-use Rattle.world.specs.World.{World}
+use Rattle.source.specs.declared.schedule.ScheduleWord.TheVariants.{Turn}
+use Rattle.source.specs.World.{World}
 use Rattle.world.specs.WorldLines.{ClassLine, ThreadLine, CallLine, Lines}
 use Rattle.world.specs.WorldMeaning.{world_of}
 use Rattle.world.specs.WorldRules.{IsWorldText}

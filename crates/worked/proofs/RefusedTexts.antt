@@ -1,7 +1,7 @@
 -- The cases of texts/refused_texts.cases, as examples/worked_equations writes them.
 use Rattle.std.specs.Prelude.{◌≡◌, Err, codes, refl}
-use Rattle.world.specs.declared.fault.Rule.TheVariants.{Form, Name, Limit}
-use Rattle.world.specs.ReadingSchedules.{schedule_of}
+use Rattle.texts.specs.declared.fault.Rule.TheVariants.{Form, Name, Limit}
+use Rattle.texts.specs.ReadingSchedules.{schedule_of}
 use Rattle.world.specs.ReadingWorlds.{scene_of_text}
 use Rattle.worked.proofs.Computed.{read}
 

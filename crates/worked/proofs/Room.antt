@@ -2,10 +2,10 @@
 use Rattle.std.specs.Prelude.{◌≡◌, ◌∷◌, ◌++◌, pos, true, false, [], Some, None, Err, codes, refl, replicate}
 use Rattle.base.specs.Element.{JInt}
 use Rattle.syntax.specs.Tree.{Declare, FromCall, IntResult, JIntArray, Number, Perform, ReferenceVariable, Return, ReturnValue, SourceUnit, Value, Void}
-use Rattle.world.specs.declared.fault.Rule.TheVariants.{Heap}
-use Rattle.world.specs.declared.schedule.ScheduleWord.TheVariants.{Turn}
+use Rattle.texts.specs.declared.fault.Rule.TheVariants.{Heap}
+use Rattle.source.specs.declared.schedule.ScheduleWord.TheVariants.{Turn}
 use Rattle.world.specs.ReadingWorlds.{scene_of_text}
-use Rattle.world.specs.World.{World}
+use Rattle.source.specs.World.{World}
 use Rattle.world.specs.WorldLines.{NumberValue, ClassLine, ArrayLine, ThreadLine, Lines}
 use Rattle.world.specs.WorldMeaning.{world_of}
 use Rattle.world.specs.WorldRules.{IsWorldText}

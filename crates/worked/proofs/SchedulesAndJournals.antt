@@ -2,10 +2,10 @@
 use Rattle.std.specs.Prelude.{◌≡◌, true, false, [], ◌∷◌, Some, None, codes, refl}
 use Rattle.std.proofs.Common.{arith}
 use Rattle.std.specs.Fmt.{digits}
-use Rattle.world.specs.declared.schedule.ScheduleWord.TheVariants.{Turn, Collect}
-use Rattle.world.specs.Journal.{IsJournalText}
-use Rattle.world.specs.Schedule.{schedule_word, IsScheduleText}
-use Rattle.world.specs.Words.{words_of}
+use Rattle.source.specs.declared.schedule.ScheduleWord.TheVariants.{Turn, Collect}
+use Rattle.texts.specs.JournalMeaning.{IsJournalText}
+use Rattle.texts.specs.ScheduleText.{schedule_word, IsScheduleText}
+use Rattle.texts.specs.Words.{words_of}
 
 words : words_of (codes " 1*2  c\n3 ") ≡ codes "1*2" ∷ codes "c" ∷ codes "3" ∷ []
 unfolding digits

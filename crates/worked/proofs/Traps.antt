@@ -2,8 +2,8 @@
 use Rattle.std.specs.Prelude.{◌∷◌, pos, negsuc, true, [], Some, None, codes, refl}
 use Rattle.base.specs.Element.{JInt}
 use Rattle.syntax.specs.Tree.{Binary, Complement, Declare, DeclareArray, Divide, Element, FromCall, FromExpr, JBoolean, JClass, JObject, Number, Paren, Perform, Prefix, PutJint, ReferenceVariable, Remainder, Return, ShiftLeft, ShiftRight, SourceUnit, Text, ToInt, ToWord, UInt32, Variable, Void}
-use Rattle.world.specs.declared.schedule.ScheduleWord.TheVariants.{Turn}
-use Rattle.world.specs.World.{World}
+use Rattle.source.specs.declared.schedule.ScheduleWord.TheVariants.{Turn}
+use Rattle.source.specs.World.{World}
 use Rattle.world.specs.WorldLines.{NumberValue, NullValue, NamedObject, ClassLine, ArrayLine, ThreadLine, Lines}
 use Rattle.world.specs.WorldMeaning.{world_of}
 use Rattle.world.specs.WorldRules.{IsWorldText}

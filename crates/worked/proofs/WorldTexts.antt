@@ -10,8 +10,9 @@ use Rattle.classes.specs.Mangling.{unmangle}
 use Rattle.classes.specs.Additions.{NameTaken, BadSuperclass, BadSignature}
 use Rattle.world.specs.WorldLines.{ClassLine, FieldLine, ObjectLine, ArrayLine, StringLine, ThreadLine, CallLine, NumberValue, NullValue, NamedObject, NamedClass, Lines}
 use Rattle.world.specs.WorldMeaning.{world_of, cells_of}
-use Rattle.world.specs.WorldRules.{IsWorldText, broken_after, OfClass, LineForm, WrongName, OutOfLimit, HeapFull}
-use Rattle.regions.specs.Load.{Loads}
+use Rattle.world.specs.WorldRules.{IsWorldText, broken_after}
+use Rattle.texts.specs.LineRules.{OfClass, LineForm, WrongName, OutOfLimit, HeapFull}
+use Rattle.source.specs.Load.{Loads}
 use Rattle.worked.proofs.Arguments.{a_thread_that_has_not_begun}
 
 abbrev small_lines : Lines

@@ -3,18 +3,21 @@ use Rattle.std.specs.Prelude.{◌≡◌, ℕ, ◌+◌, List, ◌∷◌, ◌++◌
 use Rattle.syntax.specs.Limits.{IsTree}
 use Rattle.syntax.specs.Tree.{SourceUnit}
 use Rattle.types.specs.SortRules.{SortRule, sort_rule_number, IsSorted, broken}
-use Rattle.world.specs.declared.journal.Entry.{Entry}
-use Rattle.world.specs.Journal.{Journal, IsJournalText}
-use Rattle.world.specs.Schedule.{Schedule, IsScheduleText}
-use Rattle.world.specs.World.{World}
+use Rattle.source.specs.declared.journal.Entry.{Entry}
+use Rattle.source.specs.Journal.{Journal}
+use Rattle.texts.specs.JournalMeaning.{IsJournalText}
+use Rattle.source.specs.Schedule.{Schedule}
+use Rattle.texts.specs.ScheduleText.{IsScheduleText}
+use Rattle.source.specs.World.{World}
 use Rattle.world.specs.WorldRules.{IsWorldText}
 use Rattle.regions.specs.FirstFaults.{IsFirstRegionFault}
-use Rattle.regions.specs.Load.{first_load_fault}
+use Rattle.source.specs.Load.{first_load_fault}
 use Rattle.regions.specs.RegionRules.{RegionRule, region_rule_number}
 use Rattle.regions.specs.Regions.{HasRegions}
-use Rattle.regions.specs.Run.{Writes, JournalFollows, JournalHasRoom, replay}
-use Rattle.regions.specs.State.{State}
-use Rattle.regions.specs.Step.{world_step}
+use Rattle.source.specs.Run.{JournalFollows, UnmarkedFit, MarkedAreFair, replay}
+use Rattle.report.specs.RunText.{Writes}
+use Rattle.source.specs.State.{State}
+use Rattle.source.specs.Step.{world_step}
 
 -- ---- checks
 
@@ -49,7 +52,8 @@ pub record IsWorkedRun (unit : SourceUnit) (world schedule text : List ℕ) : Ty
   pub of_schedule : IsScheduleText (length beginning.w.threads) schedule words
   pub journal : Journal
   pub follows : JournalFollows unit beginning.w journal words
-  pub has_room : JournalHasRoom unit beginning.w journal
+  pub fits : UnmarkedFit unit beginning.w journal
+  pub fair : MarkedAreFair unit beginning.w journal
   pub writes : Writes unit beginning.w journal text
 
 -- the text is what a replay of the journal writes

@@ -1,12 +1,12 @@
 -- What holds of all runs.
 use Rattle.std.specs.Prelude.{◌↔◌, [], ◌∷◌}
 use Rattle.syntax.specs.Tree.{SourceUnit}
-use Rattle.world.specs.declared.schedule.ScheduleWord.TheVariants.{Turn, Collect}
-use Rattle.world.specs.Journal.{Journal}
-use Rattle.world.specs.Schedule.{Schedule}
-use Rattle.world.specs.World.{World}
-use Rattle.regions.specs.Run.{Follows}
-use Rattle.regions.specs.State.{State}
+use Rattle.source.specs.declared.schedule.ScheduleWord.TheVariants.{Turn, Collect}
+use Rattle.source.specs.Journal.{Journal}
+use Rattle.source.specs.Schedule.{Schedule}
+use Rattle.source.specs.World.{World}
+use Rattle.source.specs.Run.{Follows}
+use Rattle.source.specs.State.{State}
 
 -- the turns of a schedule
 abbrev pub without_collections : Schedule → Schedule

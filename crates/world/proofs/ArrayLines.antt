@@ -8,10 +8,10 @@ use Rattle.std.proofs.lemmas.List.Sums.{fold-append, sum_by-cons}
 use Rattle.base.specs.Bytes.{Identifier, ByName}
 use Rattle.classes.specs.Class.{Classes}
 use Rattle.classes.specs.BuiltIns.{number_array}
-use Rattle.world.specs.Object.{ObjectValue, Number, Object, size, sizes}
+use Rattle.source.specs.Object.{ObjectValue, Number, Object, size, sizes}
 use Rattle.world.specs.Scene.{ArrayScene, array_size, cells_used}
 use Rattle.world.specs.SceneWorld.{classes_named, array_object}
-use Rattle.world.specs.World.{Invocation}
+use Rattle.source.specs.World.{Invocation}
 use Rattle.world.specs.WorldLines.{WorldValue, NumberValue, WorldLine, ArrayLine, ThreadLine, Lines}
 use Rattle.world.specs.WorldMeaning.{table_with, table_of, object_defined, objects_defined, value_of, object_of, threads_with, threads_of, invocation_of_line, world_of, cells_of}
 use Rattle.world.proofs.ClassTables.{loaded_size}

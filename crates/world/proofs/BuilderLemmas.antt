@@ -1,11 +1,11 @@
 -- Lines of a world that are read one after the other.
 use Rattle.std.proofs.Common.{◌≡◌, ℕ, suc, ◌+◌, ◌<◌, Bool, List, [], ◌∷◌, length, map, Result, Ok, refl, sym, ap, ◌∙◌, arith}
 use Rattle.std.specs.Global.{Vec}
-use Rattle.world.specs.declared.fault.TextFault.{TextFault}
-use Rattle.world.specs.declared.fault.ReadError.{ReadError}
-use Rattle.world.specs.declared.fault.ReadError.TheVariants as errors
+use Rattle.texts.specs.declared.fault.TextFault.{TextFault}
+use Rattle.texts.specs.declared.fault.ReadError.{ReadError}
+use Rattle.texts.specs.declared.fault.ReadError.TheVariants as errors
 use Rattle.world.specs.Scene.{CallScene, Scene}
-use Rattle.world.specs.Reading.{◌>>=◌, Fails}
+use Rattle.texts.specs.Reading.{◌>>=◌, Fails}
 use Rattle.world.specs.ReadingWorlds.{least_rule, line_scene, finished_scene, lines_scene}
 
 pub count_items : (cs : List (Vec ℕ)) → length (map (λ c. c.items) cs) ≡ length cs

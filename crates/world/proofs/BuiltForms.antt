@@ -6,12 +6,12 @@ use Rattle.std.proofs.lemmas.List.{length-append}
 use Rattle.base.specs.Bytes.{Identifier}
 use Rattle.base.specs.Element.{ElementType}
 use Rattle.world.specs.BuiltLines.{is_built_line}
-use Rattle.world.specs.World.{Invocation}
+use Rattle.source.specs.World.{Invocation}
 use Rattle.world.specs.WorldLines.{WorldValue, WorldLine, ClassLine, FieldLine, StaticLine, ObjectLine, ObjectsLine, ArrayLine, StringLine, ThreadLine, CallLine, Lines, line_text, IsBareString, IsLineText}
 use Rattle.world.specs.WorldMeaning.{threads_with, invocation_of_line}
 use Rattle.world.specs.WorldRules.{part_of, broken_after}
 use Rattle.world.proofs.MeantRules.{kept_line, behind_one, each_keeps}
-use Rattle.world.proofs.WordLaws.{both_true}
+use Rattle.texts.proofs.WordLaws.{both_true}
 
 -- a form that is read
 pub data Built (line : WorldLine) : Type 0 where

@@ -13,10 +13,10 @@ use Rattle.classes.specs.Class.{Field, Class, Classes, class_at, class_named}
 use Rattle.classes.specs.BuiltIns.{built_ins, object_array_class, out_of_memory_error, has_own_making}
 use Rattle.classes.specs.Additions.{BadSuperclass, class_breaks, new_class}
 use Rattle.classes.specs.Fields.{FieldId}
-use Rattle.world.specs.Object.{size, sizes}
+use Rattle.source.specs.Object.{size, sizes}
 use Rattle.world.specs.SceneWorld.{with_named_class, classes_named}
-use Rattle.world.specs.World.{World, initial, class_object, fresh_object, class_objects, loaded_objects}
-use Rattle.world.proofs.WordLaws.{both_true}
+use Rattle.source.specs.World.{World, initial, class_object, fresh_object, class_objects, loaded_objects}
+use Rattle.texts.proofs.WordLaws.{both_true}
 
 -- ---- how the table grows
 
@@ -35,7 +35,7 @@ pub classes_length : (names : List Identifier) → length (classes_named names) 
 classes_length names = omega (arith, length-fold names built_ins, built_ins_length)
 
 -- the classes after the first ones
-grown : (names : List Identifier) (T : Classes) → (X : Classes) × (fold with_named_class T names ≡ T ++ X)
+pub grown : (names : List Identifier) (T : Classes) → (X : Classes) × (fold with_named_class T names ≡ T ++ X)
 grown [] T = ([], sym (append-nil T))
 grown (n ∷ names) T =
     let further = grown names (with_named_class T n) in (
@@ -43,21 +43,25 @@ grown (n ∷ names) T =
       further.1 ∙ append_assoc T (new_class n (Some 1) ∷ object_array_class (length T + 1, new_class n (Some 1)) ∷ []) further.0,
     )
 
+-- the built-in classes come first
+pub classes_grown : (names : List Identifier) → (X : Classes) × (classes_named names ≡ built_ins ++ X)
+classes_grown names = grown names built_ins
+
 -- ---- statics
 
-abbrev is_empty : List Field → Bool
+abbrev pub is_empty : List Field → Bool
 is_empty [] = true
 is_empty (f ∷ fs) = false
 
 -- a class declares no static
-abbrev no_statics : Class → Bool
+abbrev pub no_statics : Class → Bool
 no_statics c = is_empty c.statics
 
-built_ins_statics : list_all no_statics built_ins ≡ true
+pub built_ins_statics : list_all no_statics built_ins ≡ true
 unfolding built_ins
 built_ins_statics = refl
 
-fold_statics : (names : List Identifier) (T : Classes) → list_all no_statics T ≡ true → list_all no_statics (fold with_named_class T names) ≡ true
+pub fold_statics : (names : List Identifier) (T : Classes) → list_all no_statics T ≡ true → list_all no_statics (fold with_named_class T names) ≡ true
 fold_statics [] T h = h
 fold_statics (n ∷ names) T h =
     fold_statics names (with_named_class T n) (list_all-append no_statics T (new_class n (Some 1) ∷ object_array_class (length T + 1, new_class n (Some 1)) ∷ []) ∙ and_from (list_all no_statics T) true h refl)
@@ -71,7 +75,7 @@ statics_get [] i h = refl
 statics_get (c ∷ T) zero h = empty c.statics ((both_true (no_statics c) (list_all no_statics T) h).0)
 statics_get (c ∷ T) (suc i) h = statics_get T i ((both_true (no_statics c) (list_all no_statics T) h).1)
 
-statics_at : (T : Classes) (c : ℕ) → list_all no_statics T ≡ true → option_map_or (λ (d : Class). d.statics) (class_at T c) [] ≡ []
+pub statics_at : (T : Classes) (c : ℕ) → list_all no_statics T ≡ true → option_map_or (λ (d : Class). d.statics) (class_at T c) [] ≡ []
 statics_at T zero h = refl
 statics_at T (suc i) h = statics_get T i h
 

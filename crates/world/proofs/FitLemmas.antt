@@ -4,10 +4,10 @@ use Rattle.std.specs.Prelude.{IsTrue}
 use Rattle.std.specs.Global.{Vec}
 use Rattle.std.proofs.lemmas.Bool.Decides.{nat_tests}
 use Rattle.std.proofs.lemmas.List.{length-map}
-use Rattle.world.specs.Object.{sizes}
+use Rattle.source.specs.Object.{sizes}
 use Rattle.world.specs.Scene.{ArrayScene, CallScene, Scene, cells_used}
 use Rattle.world.specs.SceneWorld.{world_of_scene}
-use Rattle.world.specs.World.{loaded_objects, fits_cells}
+use Rattle.source.specs.World.{loaded_objects, fits_cells}
 use Rattle.world.proofs.ArrayLines.{array_sizes}
 use Rattle.world.proofs.ClassTables.{loaded_size}
 

@@ -18,8 +18,8 @@ use Rattle.classes.specs.Mangling.{is_simple_name, is_class_name}
 use Rattle.world.specs.SceneWorld.{with_named_class, classes_named}
 use Rattle.world.proofs.LineForms.{is_free}
 use Rattle.world.proofs.NameLemmas.{found, position-found, is_named}
-use Rattle.world.proofs.PartLemmas.{some_part}
-use Rattle.world.proofs.WordLaws.{both_true}
+use Rattle.texts.proofs.PartLemmas.{some_part}
+use Rattle.texts.proofs.WordLaws.{both_true}
 use Rattle.world.proofs.WrittenValues.{same_bytes}
 
 -- ---- digits and names

@@ -13,21 +13,21 @@ use Rattle.base.specs.Bytes.{Identifier}
 use Rattle.base.specs.Element.{JInt}
 use Rattle.classes.specs.Class.{Class, Classes, class_named}
 use Rattle.world.specs.CallArguments.{objects_made, is_argument, are_arguments}
-use Rattle.world.specs.Object.{ObjectValue, Refers}
+use Rattle.source.specs.Object.{ObjectValue, Refers}
 use Rattle.world.specs.declared.builder.WorldBuilder.{WorldBuilder}
-use Rattle.world.specs.declared.fault.Rule.{Rule}
+use Rattle.texts.specs.declared.fault.Rule.{Rule}
 use Rattle.world.specs.ReadingWorlds.{scene_of, place_of, object_at, is_there, argument_of, thread_rule}
 use Rattle.world.specs.Scene.{ArrayScene, CallScene, Scene}
 use Rattle.classes.specs.BuiltIns.{out_of_memory_error}
 use Rattle.world.specs.SceneWorld.{classes_named, world_of_scene, array_object}
-use Rattle.world.specs.World.{World, class_object, class_objects, fresh_object, loaded_objects}
+use Rattle.source.specs.World.{World, class_object, class_objects, fresh_object, loaded_objects}
 use Rattle.world.specs.WorldLines.{WorldValue, NumberValue, NullValue, NamedObject, NamedClass}
 use Rattle.world.specs.WorldRules.{value_in_range}
 use Rattle.world.proofs.ClassTables.{classes_length}
 use Rattle.world.proofs.FitLemmas.{scene_in}
 use Rattle.world.proofs.KeptArrays.{least_kept}
 use Rattle.world.proofs.NameLemmas.{place_below}
-use Rattle.world.proofs.WordLaws.{both_true}
+use Rattle.texts.proofs.WordLaws.{both_true}
 
 -- a number from 1 on
 is_one : (n made : ℕ) → 0 < n → n ≤ made → is_argument made (Refers (Some n)) ≡ true

@@ -13,10 +13,10 @@ use Rattle.base.specs.Element.{ElementType, JInt}
 use Rattle.classes.specs.Class.{NumberField, Classes, class_named}
 use Rattle.classes.specs.BuiltIns.{number_array}
 use Rattle.classes.specs.Mangling.{is_simple_name}
-use Rattle.world.specs.Object.{ObjectValue, Refers, Reference}
+use Rattle.source.specs.Object.{ObjectValue, Refers, Reference}
 use Rattle.world.specs.ReadingWorlds.{least_rule, place_of, is_there, object_at, argument_of}
 use Rattle.world.specs.Scene.{ArrayScene, Scene, cells_used}
-use Rattle.world.specs.World.{Invocation}
+use Rattle.source.specs.World.{Invocation}
 use Rattle.world.specs.WorldLines.{WorldValue, NumberValue, NullValue, NamedObject, NamedClass, WorldLine, ThreadLine, Lines}
 use Rattle.world.specs.WorldMeaning.{table_of, objects_defined, class_of_object, object_number, value_of, threads_of, invocation_of_line, cells_of}
 use Rattle.world.specs.WorldRules.{part_of, is_formed_value, is_line_word, is_known_value, each_holds, value_in_range, each_in_range, broken_by_line}

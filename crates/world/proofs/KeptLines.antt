@@ -12,14 +12,15 @@ use Rattle.classes.specs.Class.{Classes, class_named}
 use Rattle.classes.specs.BuiltIns.{built_ins}
 use Rattle.classes.specs.Additions.{NameTaken, BadSuperclass, BadSignature, TooMany, class_breaks}
 use Rattle.classes.specs.Mangling.{is_class_name}
-use Rattle.world.specs.declared.fault.Rule.{Rule}
+use Rattle.texts.specs.declared.fault.Rule.{Rule}
 use Rattle.world.specs.ReadingWorlds.{least_class_rule}
 use Rattle.world.specs.SceneWorld.{with_named_class, classes_named}
-use Rattle.world.specs.World.{Invocation}
+use Rattle.source.specs.World.{Invocation}
 use Rattle.world.specs.WorldLines.{WorldLine, ClassLine, Lines}
-use Rattle.world.specs.Object.{sizes}
+use Rattle.source.specs.Object.{sizes}
 use Rattle.world.specs.WorldMeaning.{table_with, table_of, object_defined, objects_defined, object_of, threads_with, threads_of, world_of, cells_of}
-use Rattle.world.specs.WorldRules.{part_of, is_in_order, OfClass, LineForm, WrongName, OutOfLimit, HeapFull, line_breaks, broken_by_line}
+use Rattle.world.specs.WorldRules.{part_of, is_in_order, line_breaks, broken_by_line}
+use Rattle.texts.specs.LineRules.{OfClass, LineForm, WrongName, OutOfLimit, HeapFull}
 use Rattle.world.proofs.ClassTables.{classes_length, loaded_size, superclass_holds}
 
 -- ---- class lines

@@ -10,18 +10,18 @@ use Rattle.std.proofs.lemmas.List.Splits.{join_with_byte-slice_split}
 use Rattle.base.specs.Bytes.{Identifier, is_some_byte}
 use Rattle.base.specs.Element.{ElementType, JInt}
 use Rattle.classes.specs.Mangling.{is_simple_name}
-use Rattle.world.specs.declared.fault.Rule.{Rule}
-use Rattle.world.specs.declared.fault.Rule.TheVariants.{Form}
-use Rattle.world.specs.Natural.{natural_of}
-use Rattle.world.specs.Split.{parts_of}
-use Rattle.world.specs.Reading.{refused}
+use Rattle.texts.specs.declared.fault.Rule.{Rule}
+use Rattle.texts.specs.declared.fault.Rule.TheVariants.{Form}
+use Rattle.texts.specs.Numbers.{natural_of}
+use Rattle.texts.specs.Split.{parts_of}
+use Rattle.texts.specs.Reading.{refused}
 use Rattle.world.specs.ReadingValues.{object_named, values_named, element_named}
 use Rattle.world.specs.ReadingWorlds.{below_zero, heap_of, heap_rule, class_rule, place_of, is_number, array_rule, is_there, thread_rule, ruled, with_cells, number_of, argument_of, heap_scene, class_scene, array_scene, thread_scene, array_words_scene, pair_scene, words_scene, line_scene}
 use Rattle.world.specs.Scene.{ArrayScene, Scene, cells_used}
 use Rattle.world.specs.WorldLines.{WorldValue, NumberValue, NullValue, NamedObject, NamedClass, ClassLine, ArrayLine, ThreadLine, spaced, at_name, value_text, element_letter, line_text}
 use Rattle.world.specs.WorldRules.{is_line_word, is_formed_value, value_in_range}
-use Rattle.world.proofs.ScheduleLaws.{decimal-natural_of}
-use Rattle.world.proofs.WordLaws.{both_true}
+use Rattle.texts.proofs.ScheduleLaws.{decimal-natural_of}
+use Rattle.texts.proofs.WordLaws.{both_true}
 use Rattle.world.proofs.KeptLines.{passes, either_false, not_false}
 use Rattle.world.proofs.KeptArrays.{least_kept}
 use Rattle.world.proofs.WrittenValues.{same_bytes, object_written, values_written, values_in_jint, element_written}

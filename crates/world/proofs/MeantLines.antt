@@ -10,8 +10,8 @@ use Rattle.base.specs.Bytes.{Identifier, is_some_byte}
 use Rattle.base.specs.Element.{ElementType, JInt}
 use Rattle.classes.specs.Class.{class_named}
 use Rattle.classes.specs.Mangling.{is_simple_name, is_class_name}
-use Rattle.world.specs.Natural.{natural_of}
-use Rattle.world.specs.Split.{parts_of}
+use Rattle.texts.specs.Numbers.{natural_of}
+use Rattle.texts.specs.Split.{parts_of}
 use Rattle.world.specs.ReadingValues.{values_named, element_named}
 use Rattle.world.specs.ReadingWorlds.{below_zero, heap_of, heap_rule, class_rule, array_rule, is_there, thread_rule, ruled, with_cells, number_of, argument_of, heap_scene, class_scene, array_scene, thread_scene, words_scene, line_scene}
 use Rattle.world.specs.Scene.{ArrayScene, Scene}
@@ -21,9 +21,9 @@ use Rattle.world.specs.WorldRules.{is_line_word, is_formed_value, value_in_range
 use Rattle.world.proofs.FreeWords.{class_name_free, simple_name_free, decimal_free}
 use Rattle.world.proofs.KeptLines.{class_asked}
 use Rattle.world.proofs.LineForms.{is_free, Taken, TookHeap, TookClass, TookArray, TookThread}
-use Rattle.world.proofs.MeantSchedules.{natural_of-decimal}
+use Rattle.texts.proofs.MeantSchedules.{natural_of-decimal}
 use Rattle.world.proofs.ReadValues.{object_read, values_read, values_free, element_read, element_free}
-use Rattle.world.proofs.WordLaws.{both_true}
+use Rattle.texts.proofs.WordLaws.{both_true}
 use Rattle.world.proofs.WorldLaws.{array_asked, thread_asked}
 use Rattle.world.proofs.WrittenValues.{values_in_jint}
 

@@ -18,12 +18,13 @@ use Rattle.world.specs.Scene.{ArrayScene, array_size, cells_used}
 use Rattle.world.specs.SceneWorld.{classes_named}
 use Rattle.world.specs.WorldLines.{WorldValue, NumberValue, NullValue, NamedObject, NamedClass, WorldLine, ClassLine, ArrayLine, ThreadLine, Lines}
 use Rattle.world.specs.WorldMeaning.{objects_defined, threads_of, cells_of}
-use Rattle.world.specs.WorldRules.{part_of, is_thread_line, is_call_line, is_in_order, is_line_word, is_formed_value, each_holds, value_in_range, each_in_range, is_known_value, is_name_taken, is_within_limits, WorldRule, OfClass, LineForm, WrongName, OutOfLimit, HeapFull, world_rules, line_breaks, broken_by_line, broken_after}
+use Rattle.world.specs.WorldRules.{part_of, is_thread_line, is_call_line, is_in_order, is_line_word, is_formed_value, each_holds, value_in_range, each_in_range, is_known_value, is_name_taken, is_within_limits, line_breaks, broken_by_line, broken_after}
+use Rattle.texts.specs.LineRules.{LineRule, OfClass, LineForm, WrongName, OutOfLimit, HeapFull, line_rules}
 use Rattle.world.proofs.ArrayLines.{Arrays, arrays, array_line, array_lines, lines_before, objects_before, cells_before}
 use Rattle.world.proofs.ClassTables.{classes_length}
 use Rattle.world.proofs.KeptArrays.{before_threads, known_name, known_values, lines_more}
 use Rattle.world.proofs.KeptLines.{Named, names, class_lines, table_classes, cells_classes, either_false, not_false}
-use Rattle.world.proofs.WordLaws.{both_true}
+use Rattle.texts.proofs.WordLaws.{both_true}
 
 -- ---- a line that keeps the rules
 
@@ -37,14 +38,14 @@ filter_none p x xs h = by_test (p x) refl h
 -- it stands in its order and breaks no rule
 pub record IsKept (cells : ℕ) (earlier : Lines) (line : ℕ × WorldLine) : Type 0 where
   pub ordered : is_in_order earlier line.1 ≡ true
-  pub keeps : (rule : WorldRule) → line_breaks rule cells earlier line ≡ false
+  pub keeps : (rule : LineRule) → line_breaks rule cells earlier line ≡ false
 
 module _ (cells : ℕ) (earlier : Lines) (line : ℕ × WorldLine) where
-  none_broken : filter (λ rule. line_breaks rule cells earlier line) world_rules ≡ [] → (rule : WorldRule) → line_breaks rule cells earlier line ≡ false
+  none_broken : filter (λ rule. line_breaks rule cells earlier line) line_rules ≡ [] → (rule : LineRule) → line_breaks rule cells earlier line ≡ false
   none_broken h rule =
-      let p = λ (rule : WorldRule). line_breaks rule cells earlier line in
-      let to_g : List WorldRule = OutOfLimit ∷ HeapFull ∷ [] in
-      let to_e : List WorldRule = LineForm ∷ WrongName ∷ to_g in
+      let p = λ (rule : LineRule). line_breaks rule cells earlier line in
+      let to_g : List LineRule = OutOfLimit ∷ HeapFull ∷ [] in
+      let to_e : List LineRule = LineForm ∷ WrongName ∷ to_g in
       let a = filter_none p (OfClass NameTaken) (OfClass BadSuperclass ∷ OfClass BadSignature ∷ OfClass TooMany ∷ to_e) h in
       let b = filter_none p (OfClass BadSuperclass) (OfClass BadSignature ∷ OfClass TooMany ∷ to_e) a.1 in
       let c = filter_none p (OfClass BadSignature) (OfClass TooMany ∷ to_e) b.1 in
@@ -55,7 +56,7 @@ module _ (cells : ℕ) (earlier : Lines) (line : ℕ × WorldLine) where
       let i = filter_none p HeapFull [] g.1 in
       by_rule rule a.0 b.0 c.0 d.0 e.0 f.0 g.0 i.0
     where
-      by_rule : (rule : WorldRule) → line_breaks (OfClass NameTaken) cells earlier line ≡ false → line_breaks (OfClass BadSuperclass) cells earlier line ≡ false → line_breaks (OfClass BadSignature) cells earlier line ≡ false
+      by_rule : (rule : LineRule) → line_breaks (OfClass NameTaken) cells earlier line ≡ false → line_breaks (OfClass BadSuperclass) cells earlier line ≡ false → line_breaks (OfClass BadSignature) cells earlier line ≡ false
           → line_breaks (OfClass TooMany) cells earlier line ≡ false → line_breaks LineForm cells earlier line ≡ false → line_breaks WrongName cells earlier line ≡ false → line_breaks OutOfLimit cells earlier line ≡ false
           → line_breaks HeapFull cells earlier line ≡ false → line_breaks rule cells earlier line ≡ false
       by_rule (OfClass NameTaken) a b c d e f g i = a
@@ -70,7 +71,7 @@ module _ (cells : ℕ) (earlier : Lines) (line : ℕ × WorldLine) where
   pub kept_line : broken_by_line cells earlier line ≡ [] → IsKept cells earlier line
   kept_line h = by_order (is_in_order earlier line.1) refl h
     where
-      by_order : (b : Bool) → is_in_order earlier line.1 ≡ b → cond b (filter (λ rule. line_breaks rule cells earlier line) world_rules) (LineForm ∷ []) ≡ [] → IsKept cells earlier line
+      by_order : (b : Bool) → is_in_order earlier line.1 ≡ b → cond b (filter (λ rule. line_breaks rule cells earlier line) line_rules) (LineForm ∷ []) ≡ [] → IsKept cells earlier line
       by_order true e k = record { ordered = e; keeps = none_broken k }
       by_order false e k = absurd (cc)
 

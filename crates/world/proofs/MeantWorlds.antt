@@ -9,15 +9,15 @@ use Rattle.std.proofs.lemmas.List.Folds.{list_all-append}
 use Rattle.base.specs.Bytes.{Identifier}
 use Rattle.base.specs.Element.{ElementType}
 use Rattle.classes.specs.Mangling.{is_class_name}
-use Rattle.world.specs.declared.fault.Rule.TheVariants.{Form}
+use Rattle.texts.specs.declared.fault.Rule.TheVariants.{Form}
 use Rattle.world.specs.BuiltLines.{is_built_line}
-use Rattle.world.specs.Split.{parts_of}
-use Rattle.world.specs.Reading.{◌>>=◌, refused}
+use Rattle.texts.specs.Split.{parts_of}
+use Rattle.texts.specs.Reading.{◌>>=◌, refused}
 use Rattle.world.specs.ReadingWorlds.{number_of, line_scene, finished_scene, lines_scene}
 use Rattle.world.specs.Scene.{ArrayScene, Scene}
 use Rattle.world.specs.SceneWorld.{world_of_scene}
 use Rattle.world.specs.TextLaws.{world_of_text, IsBuiltWorldText}
-use Rattle.world.specs.World.{World}
+use Rattle.source.specs.World.{World}
 use Rattle.world.specs.WorldLines.{WorldValue, NumberValue, WorldLine, ClassLine, ArrayLine, ThreadLine, Lines, spaced, line_text}
 use Rattle.world.specs.WorldMeaning.{threads_with, threads_of, invocation_of_line, world_of}
 use Rattle.world.specs.WorldRules.{is_thread_line, broken_by_line, broken_after, IsNumberedLine}
@@ -28,8 +28,8 @@ use Rattle.world.proofs.KeptLines.{Named, names, class_lines}
 use Rattle.world.proofs.LineForms.{TookHeap, TookClass, TookArray, TookThread}
 use Rattle.world.proofs.MeantLines.{taken_is_read}
 use Rattle.world.proofs.MeantRules.{class_is_asked, array_numbers, array_is_asked, thread_is_asked, each_keeps}
-use Rattle.world.proofs.PartLemmas.{slice_split-split_at}
-use Rattle.world.proofs.WordLaws.{both_true}
+use Rattle.texts.proofs.PartLemmas.{slice_split-split_at}
+use Rattle.texts.proofs.WordLaws.{both_true}
 use Rattle.world.proofs.WorldLaws.{written, whole_scene, nothing, names-append, lines-append, scene_world}
 
 -- ---- the lines after the thread

@@ -12,20 +12,21 @@ use Rattle.base.specs.Options.{some_passes}
 use Rattle.classes.specs.Class.{FieldType, NumberField, ReferenceField, Class, Classes, class_named}
 use Rattle.classes.specs.BuiltIns.{built_ins}
 use Rattle.classes.specs.Mangling.{is_simple_name}
-use Rattle.world.specs.Natural.{natural_of}
-use Rattle.world.specs.Split.{parts_of}
+use Rattle.texts.specs.Numbers.{natural_of}
+use Rattle.texts.specs.Split.{parts_of}
 use Rattle.world.specs.ReadingValues.{values_named, element_named}
 use Rattle.world.specs.WorldLines.{WorldValue, NumberValue, NullValue, NamedObject, NamedClass, WorldLine, ClassLine, FieldLine, StaticLine, ObjectLine, ObjectsLine, ArrayLine, StringLine, ThreadLine, CallLine, Lines, spaced, at_name, value_text, element_letter, IsLineText}
 use Rattle.world.specs.WorldMeaning.{class_number, superclass_number, field_of, table_with, table_of, values_of_line, world_of}
-use Rattle.world.specs.WorldRules.{is_formed_value, is_well_formed, is_class_allowed, is_name_taken, is_known_value, holds_value, each_holds, types_of_line, value_in_range, each_in_range, is_within_limits, LineForm, WrongName, OutOfLimit, broken_by_line, broken_after, IsNumberedLine, MeansOneWorld}
+use Rattle.world.specs.WorldRules.{is_formed_value, is_well_formed, is_class_allowed, is_name_taken, is_known_value, holds_value, each_holds, types_of_line, value_in_range, each_in_range, is_within_limits, broken_by_line, broken_after, IsNumberedLine, MeansOneWorld}
+use Rattle.texts.specs.LineRules.{LineForm, WrongName, OutOfLimit}
 use Rattle.world.proofs.FreeWords.{class_name_free, simple_name_free, decimal_free, no_space, built_ins_free, added_free, class_free}
 use Rattle.world.proofs.KeptLines.{either_false, not_false}
 use Rattle.world.proofs.LineForms.{is_free}
 use Rattle.world.proofs.MeantLines.{first_part, pair_are, more_are}
 use Rattle.world.proofs.MeantRules.{kept_line, each_keeps}
-use Rattle.world.proofs.MeantSchedules.{natural_of-decimal}
+use Rattle.texts.proofs.MeantSchedules.{natural_of-decimal}
 use Rattle.world.proofs.ReadValues.{values_read, number_free, element_read, element_free}
-use Rattle.world.proofs.WordLaws.{both_true}
+use Rattle.texts.proofs.WordLaws.{both_true}
 use Rattle.world.proofs.WrittenValues.{values_in_jint}
 
 -- ---- what the parts of a line say

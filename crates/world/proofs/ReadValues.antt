@@ -13,18 +13,18 @@ use Rattle.std.proofs.lemmas.Str.Parse.{numerals_by_value, tells_all_ascii_digit
 use Rattle.base.specs.Bytes.{Identifier}
 use Rattle.base.specs.Element.{ElementType, JInt, JShort, JByte, JChar}
 use Rattle.classes.specs.Mangling.{is_simple_name, is_class_name}
-use Rattle.world.specs.Natural.{natural_of}
+use Rattle.texts.specs.Numbers.{natural_of}
 use Rattle.world.specs.ReadingValues.{object_named, value_named, values_named, element_named}
-use Rattle.world.specs.ReadingWords.{with_word}
+use Rattle.texts.specs.ReadingWords.{with_word}
 use Rattle.world.specs.ReadingWorlds.{is_there}
 use Rattle.world.specs.Scene.{Scene}
 use Rattle.world.specs.WorldLines.{WorldValue, NumberValue, NullValue, NamedObject, NamedClass, at_name, value_text, element_letter}
 use Rattle.world.specs.WorldRules.{is_formed_value, is_in_range, value_in_range}
 use Rattle.world.proofs.FreeWords.{decimal_free, simple_name_free, known_class_free}
 use Rattle.world.proofs.LineForms.{is_free}
-use Rattle.world.proofs.MeantSchedules.{natural_of-decimal}
-use Rattle.world.proofs.ScheduleLaws.{decimal-natural_of}
-use Rattle.world.proofs.WordLaws.{both_true}
+use Rattle.texts.proofs.MeantSchedules.{natural_of-decimal}
+use Rattle.texts.proofs.ScheduleLaws.{decimal-natural_of}
+use Rattle.texts.proofs.WordLaws.{both_true}
 
 -- ---- numbers
 

@@ -4,9 +4,9 @@ use Rattle.std.specs.List.{list_all}
 use Rattle.std.proofs.lemmas.List.{map-append, take_more}
 use Rattle.std.proofs.lemmas.List.Folds.{list_all-map, list_all_at}
 use Rattle.world.specs.ReadingValues.{value_named, values_named}
-use Rattle.world.specs.ReadingWords.{with_word}
+use Rattle.texts.specs.ReadingWords.{with_word}
 use Rattle.world.specs.WorldLines.{WorldValue}
-use Rattle.world.proofs.WordLemmas.{after, after_one}
+use Rattle.texts.proofs.WordLemmas.{after, after_one}
 
 module _ (left rest : List (List ℕ)) (word : List ℕ) (front : List WorldValue) (all : Option (List WorldValue)) (first_is : left ≡ word ∷ rest) (so_far : after front (values_named left) ≡ all) where
   begins : after front (with_word (value_named word) (values_named rest)) ≡ all

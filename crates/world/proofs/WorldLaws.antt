@@ -11,22 +11,23 @@ use Rattle.base.specs.Bytes.{Identifier, is_some_byte}
 use Rattle.base.specs.Element.{ElementType, JInt}
 use Rattle.classes.specs.Class.{Classes, class_named}
 use Rattle.classes.specs.Mangling.{is_class_name, is_simple_name}
-use Rattle.world.specs.declared.fault.Rule.TheVariants.{Form, Limit}
-use Rattle.world.specs.declared.fault.ReadError.{ReadError}
+use Rattle.texts.specs.declared.fault.Rule.TheVariants.{Form, Limit}
+use Rattle.texts.specs.declared.fault.ReadError.{ReadError}
 use Rattle.world.specs.BuiltLines.{is_built_line, are_built}
-use Rattle.world.specs.Object.{ObjectValue, Object}
-use Rattle.world.specs.Split.{parts_of}
-use Rattle.world.specs.Reading.{refused, Gives}
+use Rattle.source.specs.Object.{ObjectValue, Object}
+use Rattle.texts.specs.Split.{parts_of}
+use Rattle.texts.specs.Reading.{refused, Gives}
 use Rattle.world.specs.ReadingWorlds.{class_rule, place_of, is_number, array_rule, is_there, thread_rule, argument_of, line_scene, finished_scene, lines_scene, scene_of_text}
 use Rattle.world.specs.Scene.{ArrayScene, Scene, array_size, cells_used}
 use Rattle.world.specs.SceneWorld.{classes_named, array_object, world_of_scene}
 use Rattle.world.specs.TextLaws.{world_of_text, IsBuiltWorldText}
-use Rattle.world.specs.World.{Invocation, World}
+use Rattle.source.specs.World.{Invocation, World}
 use Rattle.world.specs.WorldLines.{WorldValue, NumberValue, WorldLine, ClassLine, ArrayLine, ThreadLine, Lines, spaced, line_text}
 use Rattle.world.specs.WorldMeaning.{table_of, object_of, threads_of, world_of}
-use Rattle.world.specs.WorldRules.{is_thread_line, is_line_word, is_formed_value, value_in_range, WorldRule, broken_by_line, broken_after, IsNumberedLine, IsWorldText}
-use Rattle.world.proofs.PartLemmas.{slice_split-split_at}
-use Rattle.world.proofs.WordLaws.{and_then_ok, both_true}
+use Rattle.world.specs.WorldRules.{is_thread_line, is_line_word, is_formed_value, value_in_range, broken_by_line, broken_after, IsNumberedLine, IsWorldText}
+use Rattle.texts.specs.LineRules.{LineRule}
+use Rattle.texts.proofs.PartLemmas.{slice_split-split_at}
+use Rattle.texts.proofs.WordLaws.{and_then_ok, both_true}
 use Rattle.world.proofs.KeptLines.{Named, names, class_lines, class_asked, class_keeps}
 use Rattle.world.proofs.ArrayLines.{Arrays, arrays, array_line, array_lines, lines_before, all_lines, table_all, made_all, threads_all}
 use Rattle.world.proofs.KeptArrays.{before_threads, values_mean, least_kept, lines_more, array_keeps, thread_keeps}
@@ -124,7 +125,7 @@ lines-append (c ∷ cs) ds = ap (λ (ls : Lines). (c.0, ClassLine c.1 None) ∷ 
 -- one line more that keeps the rules
 keeps_after : (cells : ℕ) (earlier rest : Lines) (line : ℕ × WorldLine) → broken_by_line cells earlier line ≡ [] → broken_after cells (earlier ++ line ∷ []) rest ≡ [] → broken_after cells earlier (line ∷ rest) ≡ []
 keeps_after cells earlier rest line a b =
-    ap (λ (rs : List WorldRule). map (λ rule. (line.0, rule)) rs ++ broken_after cells (earlier ++ line ∷ []) rest) a ∙ b
+    ap (λ (rs : List LineRule). map (λ rule. (line.0, rule)) rs ++ broken_after cells (earlier ++ line ∷ []) rest) a ∙ b
 
 -- a line in front of the rest
 one_more : (cells : ℕ) (L : Lines) (number : ℕ) (c : ℕ) (ds : List ℕ) (lines : List (List ℕ)) (final : Scene) (line : WorldLine) → c ∷ ds ≡ line_text line → broken_by_line cells L (number, line) ≡ []

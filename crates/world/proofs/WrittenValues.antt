@@ -12,12 +12,13 @@ use Rattle.std.proofs.lemmas.Slice.Eq.{bytes_eq-Decides}
 use Rattle.base.specs.Bytes.{Identifier}
 use Rattle.base.specs.Element.{ElementType, JInt, JShort, JByte, JChar}
 use Rattle.classes.specs.Mangling.{is_simple_name}
-use Rattle.world.specs.Natural.{natural_of}
-use Rattle.world.specs.ReadingValues.{negated, number_named, object_named, plain_value, value_named, values_named, element_named}
+use Rattle.texts.specs.Numbers.{natural_of}
+use Rattle.texts.specs.Numbers.{negated, number_named}
+use Rattle.world.specs.ReadingValues.{object_named, plain_value, value_named, values_named, element_named}
 use Rattle.world.specs.WorldLines.{WorldValue, NumberValue, NullValue, NamedObject, NamedClass, at_name, value_text, element_letter}
 use Rattle.world.specs.WorldRules.{is_formed_value, is_in_range, value_in_range}
-use Rattle.world.proofs.ScheduleLaws.{guarded, some_with, decimal-natural_of}
-use Rattle.world.proofs.WordLaws.{both_true}
+use Rattle.texts.proofs.ScheduleLaws.{guarded, some_with, decimal-natural_of}
+use Rattle.texts.proofs.WordLaws.{both_true}
 
 pub same_bytes : (a b : List ℕ) → bytes_eq a b ≡ true → a ≡ b
 same_bytes a b h = (bytes_eq-Decides a b).0 h

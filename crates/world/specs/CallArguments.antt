@@ -2,7 +2,7 @@
 use Rattle.std.specs.Prelude.{ℕ, ◌+◌, ◌*◌, Bool, true, ◌&&◌, nat_lt, nat_le, Some, None}
 use Rattle.std.specs.List.{list_all}
 use Rattle.base.specs.Element.{JInt}
-use Rattle.world.specs.Object.{ObjectValue, Number, Refers}
+use Rattle.source.specs.Object.{ObjectValue, Number, Refers}
 use Rattle.world.specs.Scene.{CallScene}
 use Rattle.world.specs.WorldRules.{is_in_range}
 

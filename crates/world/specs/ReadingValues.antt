@@ -1,27 +1,12 @@
 -- How the values of a world's lines are read.
-use Rattle.std.specs.Prelude.{ℕ, ◌-◌, ◌^◌, ℤ, pos, negsuc, List, [], ◌∷◌, take, drop, min, codes, ◌==◌, ◌&&◌, Option, Some, None, bytes_eq, if◌then◌else◌}
+use Rattle.std.specs.Prelude.{ℕ, List, [], ◌∷◌, take, drop, codes, ◌==◌, ◌&&◌, Option, Some, None, bytes_eq, if◌then◌else◌}
 use Rattle.std.specs.Option.{option_map}
 use Rattle.base.specs.Bytes.{Identifier}
 use Rattle.base.specs.Element.{ElementType, JInt, JShort, JByte, JChar}
 use Rattle.classes.specs.Mangling.{is_simple_name}
-use Rattle.world.specs.Natural.{natural_of}
-use Rattle.world.specs.ReadingWords.{with_word}
+use Rattle.texts.specs.Numbers.{number_named}
+use Rattle.texts.specs.ReadingWords.{with_word}
 use Rattle.world.specs.WorldLines.{WorldValue, NumberValue, NullValue, NamedObject, NamedClass}
-
--- ---- numbers
-
--- a number below 0, where it isn't 0
-abbrev pub negated : Option ℕ → Option ℤ
-negated None = None
-negated (Some n) = if n == 0 then None else Some (negsuc (min (n - 1) (2 ^ 63 - 1)))
-
--- the number that the bytes spell; one that passes 64 bits is as far out of all ranges as the last
-abbrev pub number_named : List ℕ → Option ℤ
-number_named [] = None
-number_named (sign ∷ digits) =
-    if sign == 45 then negated (natural_of digits) else option_map (λ n. pos (min n (2 ^ 63 - 1))) (natural_of (sign ∷ digits))
-
--- ---- values
 
 -- the name of an object, `@x`
 abbrev pub object_named : List ℕ → Option Identifier

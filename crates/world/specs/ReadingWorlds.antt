@@ -7,17 +7,17 @@ use Rattle.base.specs.Bytes.{Identifier}
 use Rattle.base.specs.Element.{ElementType, JInt}
 use Rattle.classes.specs.Class.{class_named}
 use Rattle.classes.specs.Mangling.{is_class_name}
-use Rattle.world.specs.declared.fault.TextFault.{TextFault}
-use Rattle.world.specs.declared.fault.ReadError.{ReadError}
-use Rattle.world.specs.declared.fault.Rule.{Rule}
-use Rattle.world.specs.declared.fault.Rule.TheVariants.{NameTaken, Classes, Form, Name, Limit, Heap}
+use Rattle.texts.specs.declared.fault.TextFault.{TextFault}
+use Rattle.texts.specs.declared.fault.ReadError.{ReadError}
+use Rattle.texts.specs.declared.fault.Rule.{Rule}
+use Rattle.texts.specs.declared.fault.Rule.TheVariants.{NameTaken, Classes, Form, Name, Limit, Heap}
 use Rattle.world.specs.declared.builder.WorldBuilder.{WorldBuilder}
 use Rattle.world.specs.Scene.{ArrayScene, Scene, cells_used}
 use Rattle.world.specs.SceneWorld.{classes_named}
-use Rattle.world.specs.Natural.{natural_of}
-use Rattle.world.specs.Object.{ObjectValue, Number, Refers}
-use Rattle.world.specs.Split.{parts_of}
-use Rattle.world.specs.Reading.{◌>>=◌, refused, Fails}
+use Rattle.texts.specs.Numbers.{natural_of}
+use Rattle.source.specs.Object.{ObjectValue, Number, Refers}
+use Rattle.texts.specs.Split.{parts_of}
+use Rattle.texts.specs.Reading.{◌>>=◌, refused, Fails}
 use Rattle.world.specs.ReadingValues.{object_named, values_named, element_named}
 use Rattle.world.specs.WorldLines.{WorldValue, NumberValue, NullValue, NamedObject, NamedClass}
 use Rattle.world.specs.WorldRules.{value_in_range}

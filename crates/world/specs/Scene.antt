@@ -2,7 +2,7 @@
 use Rattle.std.specs.Prelude.{ℕ, ◌+◌, ◌*◌, ℤ, List, [], ◌∷◌, length, sum_by, Bool, true, false}
 use Rattle.base.specs.Bytes.{Identifier}
 use Rattle.base.specs.Element.{ElementType}
-use Rattle.world.specs.Object.{ObjectValue}
+use Rattle.source.specs.Object.{ObjectValue}
 
 -- the name that a world gives an array, what its elements are, and their numbers
 pub record ArrayScene : Type 0 where

@@ -5,8 +5,8 @@ use Rattle.base.specs.Bytes.{Identifier}
 use Rattle.classes.specs.Class.{Classes, array_name}
 use Rattle.classes.specs.BuiltIns.{built_ins, object_class, number_array}
 use Rattle.classes.specs.Additions.{new_class, with_class}
-use Rattle.world.specs.World.{Invocation, World}
-use Rattle.world.specs.Object.{Object, Number}
+use Rattle.source.specs.World.{Invocation, World}
+use Rattle.source.specs.Object.{Object, Number}
 use Rattle.world.specs.Scene.{ArrayScene, CallScene, Scene}
 
 -- the table with one more class below java/lang/Object, and its array class

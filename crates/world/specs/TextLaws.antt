@@ -1,33 +1,12 @@
 -- Laws: what a text means is what is read of it.
-use Rattle.std.specs.Prelude.{◌≡◌, ◌↔◌, ◌≤◌, ℕ, Bool, true, false, List, IsTrue, Result, Ok}
-use Rattle.std.specs.List.{list_all}
-use Rattle.world.specs.declared.schedule.ScheduleWord.{ScheduleWord}
-use Rattle.world.specs.declared.schedule.ScheduleWord.TheVariants.{Turn, Collect}
-use Rattle.world.specs.declared.fault.TextFault.{TextFault}
+use Rattle.std.specs.Prelude.{◌≡◌, ◌↔◌, ℕ, List, IsTrue, Result, Ok}
+use Rattle.texts.specs.declared.fault.TextFault.{TextFault}
 use Rattle.world.specs.BuiltLines.{are_built}
-use Rattle.world.specs.Journal.{Journal, IsJournalText}
-use Rattle.world.specs.Reading.{◌>>=◌}
-use Rattle.world.specs.ReadingJournals.{journal_of}
-use Rattle.world.specs.ReadingSchedules.{schedule_of}
+use Rattle.texts.specs.Reading.{◌>>=◌}
 use Rattle.world.specs.ReadingWorlds.{scene_of_text}
 use Rattle.world.specs.SceneWorld.{world_of_scene}
-use Rattle.world.specs.Schedule.{Schedule, IsScheduleText}
-use Rattle.world.specs.World.{World}
+use Rattle.source.specs.World.{World}
 use Rattle.world.specs.WorldRules.{IsWorldText}
-
--- a turn, and no collection
-abbrev pub is_turn_word : ScheduleWord → Bool
-is_turn_word (Turn thread) = true
-is_turn_word Collect = false
-
--- a schedule of turns is read of exactly the texts that mean it
-abbrev pub SchedulesAreRead : Type 0
-SchedulesAreRead = (threads : ℕ) (text : List ℕ) (schedule : Schedule) → threads ≤ 8 → IsTrue (list_all is_turn_word schedule)
-    → (schedule_of text threads ≡ Ok schedule) ↔ IsScheduleText threads text schedule
-
--- a journal is read of exactly the texts that mean it
-abbrev pub JournalsAreRead : Type 0
-JournalsAreRead = (threads : ℕ) (text : List ℕ) (journal : Journal) → threads ≤ 8 → (journal_of text threads ≡ Ok journal) ↔ IsJournalText threads text journal
 
 -- the world that is read of a text
 abbrev pub world_of_text : List ℕ → Result World TextFault

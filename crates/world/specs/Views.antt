@@ -6,7 +6,7 @@ use Rattle.world.specs.declared.argument.Argument.{Argument}
 use Rattle.world.specs.declared.argument.Argument.TheVariants as arguments
 use Rattle.world.specs.declared.value.Value.{Value}
 use Rattle.world.specs.declared.value.Value.TheVariants as values
-use Rattle.world.specs.Object.{ObjectValue, Number, Refers}
+use Rattle.source.specs.Object.{ObjectValue, Number, Refers}
 use Rattle.world.specs.WorldLines.{WorldValue, NumberValue, NullValue, NamedObject, NamedClass}
 
 -- an element type

@@ -1,38 +1,25 @@
-//! The texts of a run: worlds, schedules and journals are read, reports and journals are written.
+//! Worlds, as texts and in memory: the heap's size, the classes, the objects, and what each thread calls. What else is read and written of a run, it passes on.
 #![tactic(auto)]
 
 mod argument;
 mod array;
 mod builder;
-mod fault;
-mod journal;
 mod names;
-mod natural;
 mod objects;
-mod report;
-mod rows;
-mod schedule;
-mod sink;
-mod split;
-mod std_sink;
-mod text;
 mod value;
-mod words;
 mod world;
 mod world_text;
-mod writing;
 
 pub use argument::Argument;
 pub use array::{Array, Element};
-pub use fault::{ReadError, Rule, TextFault};
-pub use journal::{Entry, entries_are_read_again, journals_are_read, read_journal};
-pub use names::ClassName;
-pub use report::{Printed, ThreadStatus};
-pub use rows::{NoRows, Rows, Shown, put_row_end, put_row_head, put_value};
-pub use schedule::{Repetition, Schedule, ScheduleWord, read_schedule, schedules_are_read};
-pub use sink::{Sink, SinkFailed, put_all, put_pieces};
-pub use std_sink::StdSink;
-pub use words::MOST_WORDS;
+pub use report::{
+    ClassName, NoRows, Rows, Shown, Sink, SinkFailed, StdSink, ThreadStatus, put_all, put_pieces,
+    put_row_end, put_row_head, put_value, write_journal, write_report, write_run,
+};
+pub use source::{Entry, Printed, ScheduleWord};
+pub use texts::{
+    MOST_WORDS, ReadError, Repetition, Rule, Schedule, TextFault, entries_are_read_again,
+    journals_are_read, read_journal, read_schedule, schedules_are_read,
+};
 pub use world::{Call, World};
 pub use world_text::{read_world, texts_mean_one_world, worlds_are_read};
-pub use writing::{write_journal, write_report, write_run};

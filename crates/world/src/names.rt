@@ -8,9 +8,10 @@ ghost use Rattle.classes.specs.BuiltIns.{built_ins};
 ghost use Rattle.classes.specs.Class.{class_named, class_name, class_kind, is_plain, array_name};
 ghost use Rattle.classes.specs.Mangling.{is_simple_name, is_class_name};
 ghost use Rattle.world.specs.SceneWorld.{is_of, classes_named};
-ghost use Rattle.world.specs.Shown.{name_view};
+ghost use Rattle.report.specs.Shown.{name_view};
 
-use crate::split::Split;
+use report::ClassName;
+use texts::Split;
 
 /// The names of the built-in classes, in the order of their numbers.
 const BUILT_INS: [&[u8]; 42] = [
@@ -57,14 +58,6 @@ const BUILT_INS: [&[u8]; 42] = [
     b"[Ljava/lang/NegativeArraySizeException;",
     b"[Ljava/lang/IllegalMonitorStateException;",
 ];
-
-/// The name of a class.
-#[derive(Clone, Copy, Debug, PartialEq, Eq)]
-pub enum ClassName<'a> {
-    Plain(&'a [u8]),
-    /// That of the class of arrays with elements of the class of this name.
-    Array(&'a [u8]),
-}
 
 fn is_letter(byte: u8) -> bool
     ensures { result ≡ is_letter byte }

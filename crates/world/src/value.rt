@@ -2,15 +2,14 @@
 
 ghost use Rattle.std.specs.Prelude.{◌≡◌, IfOk, map};
 ghost use Rattle.std.specs.Option.{option_map};
-ghost use Rattle.world.specs.Split.{parts_left};
+ghost use Rattle.texts.specs.Split.{parts_left};
 ghost use Rattle.world.specs.ReadingValues.{object_named, plain_value, value_named, values_named, element_named};
 ghost use Rattle.world.specs.Views.{element_view, value_view};
 
 use crate::array::Element;
 use crate::names::is_simple_name;
-use crate::natural::integer;
-use crate::split::Split;
 use std::alloc::{AllocError, Global};
+use texts::{Split, integer};
 
 /// A value.
 #[derive(Clone, Copy)]

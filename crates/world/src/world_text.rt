@@ -9,21 +9,19 @@ ghost use Rattle.classes.specs.Class.{class_named};
 ghost use Rattle.world.specs.SceneWorld.{classes_named, world_of_scene};
 ghost use Rattle.world.specs.WorldRules.{is_in_range, value_in_range, IsWorldText, MeansOneWorld};
 ghost use Rattle.world.specs.Views.{element_view, value_view, argument_view};
-ghost use Rattle.world.specs.Reading.{Gives};
-ghost use Rattle.world.specs.Split.{parts_left};
+ghost use Rattle.texts.specs.Reading.{Gives};
+ghost use Rattle.texts.specs.Split.{parts_left};
 ghost use Rattle.world.specs.ReadingWorlds.{OnScene, heap_of, scene_of, heap_rule, least_class_rule, class_rule, least_rule, place_of, is_number, array_rule, is_there, thread_rule, number_of, object_at, argument_of, heap_scene, class_scene, array_scene, thread_scene, array_words_scene, pair_scene, line_scene, finished_scene, scene_of_text};
 
 use crate::argument::Argument;
 use crate::array::{Array, Element};
 use crate::builder::WorldBuilder;
-use crate::fault::{ReadError, Rule, TextFault};
 use crate::names::{class_number, is_class_name, is_taken};
-use crate::natural::natural;
 use crate::objects::Objects;
-use crate::split::Split;
 use crate::value::{Value, object_name, read_element, read_values};
 use crate::world::{Call, World};
 use std::alloc::{AllocError, Global};
+use texts::{ReadError, Rule, Split, TextFault, natural};
 
 /// The number of a heap's cells, or 0 for a negative number.
 fn cells_of(bytes: &[u8]) -> Option<u64>

@@ -1,6 +1,6 @@
 use denote.Exit.{no}
 use denote.Param.Send.{param_send, arg_send, shr_send}
-use Rattle.world.proofs.schedule.Schedule.TheSendSync as schedule
+use Rattle.texts.proofs.schedule.Schedule.TheSendSync as schedule
 use Rattle.two_threads.proofs.Crosses.{shared_desk_sync, closure_send}
 use Rattle.two_threads.proofs.joined.Goals as goal
 

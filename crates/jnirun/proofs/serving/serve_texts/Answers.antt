@@ -1,4 +1,3 @@
-use Rattle.std.proofs.Common.{refl}
 use Rattle.jnirun.specs.Serve.{is_done, lacks_memory, loses_text}
 use Rattle.jnirun.proofs.serving.serve_texts.Goals as goal
 

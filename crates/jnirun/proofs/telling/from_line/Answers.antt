@@ -1,4 +1,4 @@
-use Rattle.std.proofs.Common.{◌∙◌, ◌-◌, sym, rules, arith}
+use Rattle.std.proofs.Common.{◌∙◌, ◌-◌, rules, arith}
 use Rattle.jnirun.proofs.TellingLemmas.{line_first, line_end, line_feed, line_other}
 use Rattle.jnirun.proofs.telling.from_line.Goals as goal
 

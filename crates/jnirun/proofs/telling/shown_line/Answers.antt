@@ -1,4 +1,4 @@
-use Rattle.std.proofs.Common.{◌-◌, length, rules, arith}
+use Rattle.std.proofs.Common.{◌-◌, length, rules}
 use Rattle.jnirun.proofs.TellingLemmas.{shown_none, shown_end, shown_feed, shown_whole, shown_push}
 use Rattle.jnirun.specs.Telling.{shown_line}
 use Rattle.jnirun.proofs.telling.shown_line.Goals as goal

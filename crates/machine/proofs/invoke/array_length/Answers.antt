@@ -3,6 +3,7 @@ use Rattle.std.specs.Prelude.{find, Ok}
 use Rattle.std.specs.Option.{option_map_or}
 use Rattle.std.proofs.Math.Facts.{Fits-of_lt}
 use Rattle.std.proofs.lemmas.Bool.Decides.{eqb_tells}
+use Rattle.heap.specs.declared.value.Value.{Value}
 use Rattle.heap.specs.Heap.{Block, Space, block_end, LieFrom, IsLaidOut, values_at}
 use Rattle.heap.proofs.Layouts.{begins_within}
 use Rattle.classes.specs.Class.{class_kind, is_plain}
@@ -11,7 +12,7 @@ use Rattle.machine.specs.Invoked.{LengthIs}
 use Rattle.machine.proofs.invoke.array_length.Goals as goal
 
 -- the values of a block
-values_of : List Block → ℕ → List ℕ
+values_of : List Block → ℕ → List Value
 values_of bs a = option_map_or (λ (b : Block). b.values) (find (λ (b : Block). eqb b.address a) bs) []
 
 -- a block's values are in the heap's cells

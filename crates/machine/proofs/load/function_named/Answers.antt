@@ -5,7 +5,7 @@ use Rattle.syntax.specs.declared.unit.Item.{Item}
 use Rattle.syntax.specs.declared.unit.Item.TheVariants as item
 use Rattle.syntax.specs.Parts.{functions_of}
 use Rattle.syntax.specs.Views.{unit_tree, function_tree}
-use Rattle.regions.specs.Activation.{function_at}
+use Rattle.source.specs.Activation.{function_at}
 use Rattle.machine.proofs.Names.{functions_before, functions_get, functions_more, functions_same, named_here, named_later, named_past, item_there, same_name}
 use Rattle.machine.proofs.load.function_named.Goals.{in-Static, in-Function+else-eq}
 use Rattle.machine.proofs.load.function_named.Goals as goal

@@ -1,6 +1,6 @@
 use Rattle.std.proofs.Common.{◌≡◌, ◌≤◌, drop}
 use Rattle.syntax.specs.Views.{unit_tree}
-use Rattle.regions.specs.Activation.{function_at}
+use Rattle.source.specs.Activation.{function_at}
 use Rattle.machine.proofs.Names.{functions_before}
 use Rattle.machine.proofs.load.function_named.Given as goal
 

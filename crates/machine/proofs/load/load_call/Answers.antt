@@ -5,12 +5,12 @@ use Rattle.syntax.specs.declared.unit.Parameter.{Parameter as ParameterInMemory}
 use Rattle.syntax.specs.Views.{function_tree, parameter_tree}
 use Rattle.classes.specs.Class.{class_named}
 use Rattle.classes.specs.Mangling.{native_class}
-use Rattle.world.specs.Object.{ObjectValue}
+use Rattle.source.specs.Object.{ObjectValue}
 use Rattle.world.specs.SceneWorld.{world_of_scene, classes_named}
 use Rattle.world.specs.Views.{argument_view}
-use Rattle.world.specs.World.{loaded_objects}
+use Rattle.source.specs.World.{loaded_objects}
 use Rattle.world.proofs.GivenLemmas.{made_length}
-use Rattle.regions.specs.Load.{fit_parameters}
+use Rattle.source.specs.Load.{fit_parameters}
 use Rattle.lower.specs.Lowered.{Lowered}
 use Rattle.machine.specs.Loading.{IsNumberOf}
 use Rattle.machine.proofs.LoadLemmas.{call_found, no_fit}

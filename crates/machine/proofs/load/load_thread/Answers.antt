@@ -2,7 +2,7 @@ use Rattle.std.proofs.Common.{refl, length}
 use Rattle.std.specs.Prelude.{map}
 use Rattle.std.proofs.lemmas.Option.{slice_get_read}
 use Rattle.world.specs.SceneWorld.{world_of_scene, invocation_of}
-use Rattle.world.specs.World.{loaded_objects}
+use Rattle.source.specs.World.{loaded_objects}
 use Rattle.machine.proofs.LoadLemmas.{all_agree, some_call, given_at}
 use Rattle.machine.proofs.Threads.{before_agrees}
 use Rattle.machine.proofs.load.load_thread.Goals as goal

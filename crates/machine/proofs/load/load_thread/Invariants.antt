@@ -1,7 +1,7 @@
 use Rattle.std.proofs.Common.{◌≡◌, drop, length, map}
 use Rattle.syntax.specs.Views.{unit_tree}
 use Rattle.world.specs.SceneWorld.{world_of_scene, invocation_of}
-use Rattle.world.specs.World.{loaded_objects}
+use Rattle.source.specs.World.{loaded_objects}
 use Rattle.machine.specs.Loading.{refused_calls}
 use Rattle.machine.proofs.LoadLemmas.{AgreeSoFar}
 use Rattle.machine.proofs.load.load_thread.Given as goal

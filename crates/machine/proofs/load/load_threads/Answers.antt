@@ -6,8 +6,8 @@ use Rattle.syntax.specs.Views.{unit_tree}
 use Rattle.world.specs.Scene.{CallScene}
 use Rattle.world.specs.CallArguments.{are_arguments}
 use Rattle.world.specs.SceneWorld.{world_of_scene, classes_named, invocation_of}
-use Rattle.world.specs.World.{Invocation, loaded_objects}
-use Rattle.regions.specs.Start.{waiting_thread}
+use Rattle.source.specs.World.{Invocation, loaded_objects}
+use Rattle.source.specs.Start.{waiting_thread}
 use Rattle.machine.specs.Agrees.{ThreadsAgree}
 use Rattle.machine.specs.Loading.{IsFirstOf, refused_calls}
 use Rattle.machine.proofs.ThreadLoads.{called_is, all_agree, refused_at, none_refused, given_at}

@@ -2,8 +2,8 @@ use Rattle.std.proofs.Common.{◌≡◌, drop, length}
 use Rattle.syntax.specs.Views.{unit_tree}
 use Rattle.heap.specs.Heap.{Space}
 use Rattle.world.specs.SceneWorld.{world_of_scene}
-use Rattle.world.specs.World.{loaded_objects}
-use Rattle.regions.specs.Thread.{Shared}
+use Rattle.source.specs.World.{loaded_objects}
+use Rattle.source.specs.Thread.{Shared}
 use Rattle.machine.proofs.ThreadLoads.{AgreeSoFar, refused_of}
 use Rattle.machine.proofs.load.load_threads.Given as goal
 

@@ -1,6 +1,6 @@
 use Rattle.std.proofs.Common.{◌≡◌, ℕ, suc, ◌+◌, ◌<◌, List, ◌∷◌, [], ◌++◌, length, take, refl, sym, ap, ◌∙◌, arith, length-take}
 use Rattle.std.proofs.lemmas.Option.{slice_get_read}
-use Rattle.world.specs.declared.report.ThreadStatus.{ThreadStatus}
+use Rattle.report.specs.declared.thread_status.ThreadStatus.{ThreadStatus}
 use Rattle.machine.specs.Stops.{standing_of}
 use Rattle.machine.proofs.Standings.{standings, length-standings, standings-more}
 use Rattle.machine.proofs.machine.standings_of.Goals as goal

@@ -1,6 +1,6 @@
 use Rattle.std.proofs.Common.{◌≡◌, replicate}
 use Rattle.machine.specs.HeapAgrees.{AreMade}
-use Rattle.machine.proofs.LoadedObjects.{plain_class_object}
+use Rattle.world.proofs.PlainObjects.{plain_class_object}
 use Rattle.machine.proofs.objects.load_heap.Given as goal
 
 abbrev pub invariant-loop-class : goal.invariant-loop-class

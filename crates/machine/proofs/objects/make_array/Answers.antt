@@ -4,8 +4,9 @@ use Rattle.std.proofs.lemmas.Option.{slice_get_read}
 use Rattle.std.specs.Option.{option_copied}
 use Rattle.std.specs.Int.{w32, cast_unsigned}
 use Rattle.std.proofs.Math.Facts.{to_z-of_z}
+use Rattle.heap.specs.declared.value.Value.TheVariants.{Number as Word}
 use Rattle.heap.specs.Heap.{Space, end_of, with_block, with_value}
-use Rattle.machine.proofs.Arrays.{array_block, FitSoFar, none_fit, fit_more, array_fresh, array_more, array_has_place, array_made}
+use Rattle.machine.proofs.Arrays.{array_block, FitSoFar, none_fit, fit_more, array_fresh, array_more, array_has_number, array_made}
 use Rattle.machine.proofs.objects.make_array.Goals as goal
 
 pub loop-place-init : goal.loop-place-init
@@ -14,9 +15,9 @@ loop-place-init c = record {
   fit = none_fit c.args.numbers.now;
 }
 
-pub set-requires : goal.set-requires
-set-requires c =
-    rw (c.loop-place.invariant.heap, c.in_ok-addr.ensures.address) (array_has_place c.args.heap.now c.args.class (length c.args.loaded.now.items + 1) c.args.numbers.now c.loop-place.place c.requires.laid_out c.loop-place-test.true)
+pub set_number-requires : goal.set_number-requires
+set_number-requires c =
+    rw (c.loop-place.invariant.heap, c.in_ok-addr.ensures.address) (array_has_number c.args.heap.now c.args.class (length c.args.loaded.now.items + 1) c.args.numbers.now c.loop-place.place c.requires.laid_out c.loop-place-test.true)
 
 -- what was read is at its place
 is_read : (o : Option (Bor ℤ)) (zs : List ℤ) (i : ℕ) (z : ℤ) → IfSome o (λ x. x.now ≡ get_or zs i x.now) → option_copied o ≡ Some z → z ≡ get_or zs i z
@@ -34,14 +35,14 @@ loop-place-preserved c =
     let at : slice_get zs i ≡ Some z = slice_get_read zs (length zs) i z refl c.loop-place-test.true (is_read c.get.result zs i z c.get.ensures.lookup.1 (sym c.copied.ensures ∙ c.unwrap-number.ensures)) in
     let word : c.cast_unsigned.result ≡ cast_unsigned w32 z = c.cast_unsigned.ensures ∙ ap (cast_unsigned w32) (to_z-of_z {w = w32} fits) in
     let e : suc i ≡ i + 1 = omega arith in
-    let written : c.set.new.self ≡ with_block s (array_block s c.args.class birth zs (suc i)) =
-    c.set.ensures
-    ∙ ap (λ (t : Space). with_value t c.in_ok-addr.addr i c.cast_unsigned.result) c.loop-place.invariant.heap
-    ∙ ap (λ (a : ℕ). with_value (with_block s (array_block s c.args.class birth zs i)) a i c.cast_unsigned.result) c.in_ok-addr.ensures.address
-    ∙ ap (λ (w : ℕ). with_value (with_block s (array_block s c.args.class birth zs i)) (end_of s) i w) word
+    let written : c.set_number.new.self ≡ with_block s (array_block s c.args.class birth zs (suc i)) =
+    c.set_number.ensures
+    ∙ ap (λ (t : Space). with_value t c.in_ok-addr.addr i (Word c.cast_unsigned.result)) c.loop-place.invariant.heap
+    ∙ ap (λ (a : ℕ). with_value (with_block s (array_block s c.args.class birth zs i)) a i (Word c.cast_unsigned.result)) c.in_ok-addr.ensures.address
+    ∙ ap (λ (w : ℕ). with_value (with_block s (array_block s c.args.class birth zs i)) (end_of s) i (Word w)) word
     ∙ array_more s c.args.class birth zs i z c.requires.laid_out at in
     record {
-      heap = subst (λ k. c.set.new.self ≡ with_block s (array_block s c.args.class birth zs k)) e written;
+      heap = subst (λ k. c.set_number.new.self ≡ with_block s (array_block s c.args.class birth zs k)) e written;
       fit = subst (FitSoFar zs) e (fit_more zs i z at fits c.loop-place.invariant.fit);
     }
 

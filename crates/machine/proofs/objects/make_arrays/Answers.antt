@@ -2,13 +2,15 @@ use Rattle.std.proofs.Common.{◌≡◌, ℕ, ℤ, suc, ◌+◌, List, [], ◌�
 use Rattle.std.proofs.lemmas.List.{take_all}
 use Rattle.std.proofs.lemmas.Option.{slice_get_read}
 use Rattle.classes.specs.BuiltIns.{number_array}
-use Rattle.world.specs.Object.{Object, Number, sizes}
+use Rattle.source.specs.Object.{Object, Number, sizes}
 use Rattle.world.specs.Scene.{ArrayScene}
 use Rattle.world.specs.SceneWorld.{world_of_scene, array_object}
-use Rattle.world.specs.World.{loaded_objects}
-use Rattle.machine.specs.HeapAgrees.{AreMade, made_before}
+use Rattle.source.specs.World.{loaded_objects}
+use Rattle.machine.specs.HeapAgrees.{AreMade}
+use Rattle.source.specs.World.{made_before}
 use Rattle.machine.proofs.Arrays.{made_so_far, so_far-more, room_for, few_for}
-use Rattle.machine.proofs.LoadedObjects.{fits_all, loaded_is}
+use Rattle.machine.proofs.LoadedObjects.{fits_all}
+use Rattle.source.proofs.ShownRows.{loaded_is}
 use Rattle.machine.proofs.objects.make_arrays.Goals as goal
 
 pub make_array-requires-clause-room : goal.make_array-requires-clause-room

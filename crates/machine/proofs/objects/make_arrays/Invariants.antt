@@ -1,6 +1,7 @@
 use Rattle.std.proofs.Common.{◌≡◌}
 use Rattle.world.specs.SceneWorld.{world_of_scene}
-use Rattle.machine.specs.HeapAgrees.{AreMade, made_before}
+use Rattle.machine.specs.HeapAgrees.{AreMade}
+use Rattle.source.specs.World.{made_before}
 use Rattle.machine.proofs.Arrays.{made_so_far}
 use Rattle.machine.proofs.objects.make_arrays.Given as goal
 

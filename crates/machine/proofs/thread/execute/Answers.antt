@@ -15,9 +15,9 @@ use Rattle.code.specs.declared.instr.ReferenceOperand.{ReferenceOperand}
 use Rattle.code.specs.declared.instr.Plain.TheVariants as plain
 use Rattle.code.specs.Effect.{truth_word, plain_of}
 use Rattle.code.specs.Depth.{Listing}
-use Rattle.regions.specs.Effect.{effect_of}
-use Rattle.regions.specs.Task.{Task}
-use Rattle.regions.specs.Thread.{sight_of}
+use Rattle.source.specs.Effect.{effect_of}
+use Rattle.source.specs.Task.{Task}
+use Rattle.source.specs.Thread.{sight_of}
 use Rattle.world.specs.SceneWorld.{world_of_scene}
 use Rattle.lower.specs.Slots.{Visible, visible_to}
 use Rattle.lower.specs.Does.{IsReturn}

@@ -1,22 +1,15 @@
-use Rattle.std.proofs.Common.{◌+◌, List, drop, sym, ap, subst, ◌∙◌, rules}
-use Rattle.std.specs.Prelude.{IsTrue}
-use Rattle.std.specs.List.{list_all}
+use Rattle.std.proofs.Common.{◌+◌, List, drop, sym, ap, ◌∙◌}
 use Rattle.syntax.specs.declared.stmt.Stmt.{Stmt as StmtInMemory}
 use Rattle.syntax.specs.declared.stmt.Block.{out-Block}
-use Rattle.syntax.specs.declared.stmt.Form.{Form as FormInMemory}
-use Rattle.syntax.specs.declared.stmt.Form.{the_lemmas}
-use Rattle.syntax.specs.Parts.{statements_of, statements_within}
 use Rattle.syntax.specs.Tree.{Block, Next}
-use Rattle.syntax.specs.Views.{form_tree, stmt_tree, block_tree, statements_tree}
+use Rattle.syntax.specs.Views.{stmt_tree, statements_tree}
 use Rattle.syntax.proofs.Blocks.{block_is}
 use Rattle.regions.specs.declared.walk.Way.{Way as WayInMemory}
-use Rattle.regions.specs.StateEffects.{calls_known}
 use Rattle.regions.specs.Findings.{rule_of}
 use Rattle.regions.specs.StatesInMemory.{state_value}
 use Rattle.regions.specs.Walks.{way_value, go_on}
 use Rattle.regions.specs.Ways.{way_of_block}
-use Rattle.regions.proofs.UnitLemmas.{both_hold}
-use Rattle.regions.proofs.WayLemmas.{Goes-along, own_known, known_anywhere, first_known, rest_known, two_known, stmt_fault, go_rest, known_next, go_step, after_line}
+use Rattle.regions.proofs.WayLemmas.{Goes-along, stmt_fault, go_rest, go_step, after_line}
 use Rattle.regions.proofs.walk.+walk.Goals as goal
 
 -- ---- the loop over a block's statements
@@ -24,18 +17,7 @@ use Rattle.regions.proofs.walk.+walk.Goals as goal
 pub block_way-loop-stmt-init : goal.block_way-loop-stmt-init
 block_way-loop-stmt-init t c =
     let block = block_is c.args.block.now ∙ ap (λ (items : List StmtInMemory). statements_tree items (out-Block c.args.block.now).end_line) (sym c.deref-stmt-items.ensures.value) in
-    record {
-      goes = ap (λ (b : Block). way_of_block (state_value c.args.outer.now) (state_value c.args.before) b) block;
-      known = subst (λ (b : Block). IsTrue (list_all calls_known (statements_of b))) block c.requires;
-    }
-
-pub block_way-stmt_way-requires : goal.block_way-stmt_way-requires
-block_way-stmt_way-requires t c =
-    let items = c.deref-stmt-items.result.now in
-    let i = c.loop-stmt.stmt-index in
-    let s = c.stmt-item.result in
-    let end_line = (out-Block c.args.block.now).end_line in
-    (search (rules, the_lemmas), first_known (stmt_tree s) (statements_tree (drop (i + 1) items) end_line) (known_next items i s end_line c.loop-stmt-test.true c.stmt-item.is c.loop-stmt.invariant.known))
+    ap (λ (b : Block). way_of_block (state_value c.args.outer.now) (state_value c.args.before) b) block
 
 pub block_way-returns-in-Returned : goal.block_way-returns-in-Returned
 block_way-returns-in-Returned t c =
@@ -46,7 +28,7 @@ block_way-returns-in-Returned t c =
     let end_line = (out-Block c.args.block.now).end_line in
     let rest = statements_tree (drop (i + 1) items) end_line in
     Goes-along c.refuse.result _ _
-    (c.loop-stmt.invariant.goes
+    (c.loop-stmt.invariant
     ∙ go_rest outer (way_value c.loop-stmt.way) items i s end_line c.loop-stmt-test.true c.stmt-item.is
     ∙ ap (λ (w : WayInMemory). go_on outer (way_value w) (Next (stmt_tree s) rest)) c.in-Returned.is
     ∙ after_line outer s rest)
@@ -60,29 +42,12 @@ block_way-loop-stmt-preserved t c =
     let s = c.stmt-item.result in
     let end_line = (out-Block c.args.block.now).end_line in
     let rest = statements_tree (drop (i + 1) items) end_line in
-    record {
-      goes =
-          c.loop-stmt.invariant.goes
-          ∙ go_rest outer (way_value c.loop-stmt.way) items i s end_line c.loop-stmt-test.true c.stmt-item.is
-          ∙ ap (λ (w : WayInMemory). go_on outer (way_value w) (Next (stmt_tree s) rest)) c.in-On.is
-          ∙ go_step outer (state_value c.in-On.state) (way_value c.in_ok-way-in-On.way) (stmt_tree s) rest c.in_ok-way-in-On.ensures;
-      known = rest_known (stmt_tree s) rest (known_next items i s end_line c.loop-stmt-test.true c.stmt-item.is c.loop-stmt.invariant.known);
-    }
+    c.loop-stmt.invariant
+    ∙ go_rest outer (way_value c.loop-stmt.way) items i s end_line c.loop-stmt-test.true c.stmt-item.is
+    ∙ ap (λ (w : WayInMemory). go_on outer (way_value w) (Next (stmt_tree s) rest)) c.in-On.is
+    ∙ go_step outer (state_value c.in-On.state) (way_value c.in_ok-way-in-On.way) (stmt_tree s) rest c.in_ok-way-in-On.ensures
 
 -- ---- statements
-
-pub inner_way-then_way-requires : goal.inner_way-then_way-requires
-inner_way-then_way-requires t c =
-    let h = subst (λ (f : FormInMemory). IsTrue (list_all calls_known (statements_within (form_tree c.args.line f)))) c.in-IfElse.is c.requires in
-    (search (rules, the_lemmas), (two_known (block_tree c.in-IfElse.b) (block_tree c.in-IfElse.d) (both_hold _ _ h).1).0)
-
-pub inner_way-else_way-requires : goal.inner_way-else_way-requires
-inner_way-else_way-requires t c =
-    let h = subst (λ (f : FormInMemory). IsTrue (list_all calls_known (statements_within (form_tree c.args.line f)))) c.in-IfElse.is c.requires in
-    (search (rules, the_lemmas), (two_known (block_tree c.in-IfElse.b) (block_tree c.in-IfElse.d) (both_hold _ _ h).1).1)
-
-pub stmt_way-first_broken-requires : goal.stmt_way-first_broken-requires
-stmt_way-first_broken-requires t c = λ line. known_anywhere c.args.stmt.now.form c.args.stmt.now.line line (own_known (stmt_tree c.args.stmt.now) c.requires)
 
 pub stmt_way-returns-in-Some : goal.stmt_way-returns-in-Some
 stmt_way-returns-in-Some t c = stmt_fault c.refuse.result (state_value c.args.before) c.args.stmt.now (rule_of c.in-Some.rule) (c.in-Some.ensures c.args.stmt.now.line) c.refuse.ensures

@@ -1,12 +1,9 @@
-use Rattle.std.proofs.Common.{◌+◌, List, Option, drop, map, sym, ap, subst, ◌∙◌}
+use Rattle.std.proofs.Common.{◌+◌, List, Option, drop, map, sym, ap, ◌∙◌}
 use Rattle.std.specs.Option.{option_or}
-use Rattle.std.specs.Prelude.{IsTrue}
 use Rattle.syntax.specs.declared.unit.Item.{Item as ItemInMemory}
 use Rattle.syntax.specs.Views.{item_tree}
-use Rattle.regions.specs.StateEffects.{item_known, items_known}
 use Rattle.regions.specs.Findings.{items_fault}
 use Rattle.regions.specs.Ways.{Fault}
-use Rattle.regions.proofs.UnitLemmas.{both_hold}
 use Rattle.regions.proofs.WayLemmas.{item_next}
 use Rattle.regions.proofs.walk.check_items.Goals as goal
 
@@ -17,9 +14,5 @@ loop-item-preserved c =
     let item = c.item-item.result in
     let next = item_next items i item c.loop-item-test.true c.item-item.is in
     let rest = map item_tree (drop (i + 1) items) in
-    record {
-      found =
-          sym (ap (λ (xs : List ItemInMemory). items_fault (map item_tree xs)) next ∙ ap (λ (o : Option Fault). option_or o (items_fault rest)) c.in_ok-check_item.ensures)
-          ∙ c.loop-item.invariant.found;
-      known = (both_hold (item_known (item_tree item)) (items_known rest) (subst (λ (xs : List ItemInMemory). IsTrue (items_known (map item_tree xs))) next c.loop-item.invariant.known)).1;
-    }
+    sym (ap (λ (xs : List ItemInMemory). items_fault (map item_tree xs)) next ∙ ap (λ (o : Option Fault). option_or o (items_fault rest)) c.in_ok-check_item.ensures)
+    ∙ c.loop-item.invariant

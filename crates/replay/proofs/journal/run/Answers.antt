@@ -1,7 +1,7 @@
 use Rattle.std.proofs.Common.{get_or, false, subst}
 use Rattle.std.proofs.lemmas.Option.{slice_get-get_or}
 use Rattle.syntax.specs.Views.{unit_tree}
-use Rattle.world.specs.declared.journal.Entry.{Entry}
+use Rattle.source.specs.declared.journal.Entry.{Entry}
 use Rattle.world.specs.SceneWorld.{world_of_scene}
 use Rattle.replay.specs.States.{TakesEntry}
 use Rattle.replay.proofs.RunLemmas.{stops, goes_on}

@@ -1,7 +1,7 @@
 use Rattle.std.proofs.Common.{pos, rules, get_or}
 use Rattle.std.proofs.lemmas.Result.{err_from_is_err_and}
-use Rattle.world.specs.Sink.{AppendsText, StopsWithin}
-use Rattle.world.proofs.Puts.{goes_on, stops, flat_map-at}
+use Rattle.report.specs.Sink.{AppendsText, StopsWithin}
+use Rattle.report.proofs.Puts.{goes_on, stops, flat_map-at}
 use Rattle.replay.specs.Rows.{number_text}
 use Rattle.replay.proofs.rows.put_numbers.Goals as goal
 

@@ -1,6 +1,6 @@
 use Rattle.std.proofs.Common.{drop}
 use Rattle.std.specs.List.{flat_map}
-use Rattle.world.proofs.Puts.{PutSoFar}
+use Rattle.report.proofs.Puts.{PutSoFar}
 use Rattle.replay.specs.Rows.{number_text}
 use Rattle.replay.proofs.rows.put_numbers.Given as goal
 

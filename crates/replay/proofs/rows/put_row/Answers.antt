@@ -1,9 +1,9 @@
 use Rattle.std.proofs.Common.{◌++◌, []}
 use Rattle.std.specs.List.{flat_map}
 use Rattle.std.proofs.lemmas.Result.{err_from_is_err_and}
-use Rattle.world.specs.Report.{text_line}
-use Rattle.world.specs.Shown.{name_view, row_head}
-use Rattle.world.proofs.Puts.{AppendsText-then, Writes-then, StopsWithin-more, StopsWithin-then}
+use Rattle.report.specs.ReportText.{text_line}
+use Rattle.report.specs.Shown.{name_view, row_head}
+use Rattle.report.proofs.Puts.{AppendsText-then, Writes-then, StopsWithin-more, StopsWithin-then}
 use Rattle.replay.specs.Rows.{number_text}
 use Rattle.replay.proofs.RowLemmas.{row_is}
 use Rattle.replay.proofs.rows.put_row.Goals as goal

@@ -4,8 +4,8 @@ use Rattle.classes.specs.BuiltIns.{number_array}
 use Rattle.classes.specs.Class.{class_name}
 use Rattle.world.specs.Scene.{ArrayScene}
 use Rattle.world.specs.SceneWorld.{world_of_scene}
-use Rattle.world.specs.Shown.{name_view}
-use Rattle.world.proofs.Puts.{goes_on, stops, is_all}
+use Rattle.report.specs.Shown.{name_view}
+use Rattle.report.proofs.Puts.{goes_on, stops, is_all}
 use Rattle.replay.proofs.RowLemmas.{row_at, rows_past, name_low}
 use Rattle.replay.proofs.rows.put_rows.Goals as goal
 

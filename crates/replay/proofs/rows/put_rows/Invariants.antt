@@ -1,8 +1,8 @@
 use Rattle.std.proofs.Common.{◌≡◌, ◌+◌, drop, length}
 use Rattle.std.specs.List.{flat_map}
-use Rattle.world.specs.Report.{object_line}
+use Rattle.report.specs.ReportText.{object_line}
 use Rattle.world.specs.SceneWorld.{world_of_scene}
-use Rattle.world.proofs.Puts.{PutSoFar}
+use Rattle.report.proofs.Puts.{PutSoFar}
 use Rattle.replay.specs.Rows.{rows_of, rows_text}
 use Rattle.replay.proofs.rows.put_rows.Given as goal
 

@@ -1,10 +1,10 @@
 use Rattle.std.proofs.Common.{◌≡◌, ℕ, ◌-◌, ◌≤◌, length, get_or, Some, refl, sym, ap, ◌∙◌, subst, arith}
 use Rattle.std.specs.Prelude.{Vec as RawVec, slice_get, vec_len}
 use Rattle.std.specs.Global.{Vec}
-use Rattle.world.specs.World.{World}
+use Rattle.source.specs.World.{World}
 use Rattle.std.proofs.lemmas.Option.{slice_get_read}
 use Rattle.syntax.specs.Views.{unit_tree}
-use Rattle.regions.specs.State.{thread_at}
+use Rattle.source.specs.State.{thread_at}
 use Rattle.replay.specs.declared.thread.Thread.{Thread}
 use Rattle.replay.specs.States.{AreInRange}
 use Rattle.replay.specs.Threads.{TakesStep}

@@ -1,9 +1,9 @@
 use Rattle.std.proofs.Common.{◌∷◌, ◌++◌, List, [], ap, sym, ◌∙◌, append-nil, None, Some, zip, rules}
 use Rattle.syntax.specs.Views.{unit_tree, function_tree}
-use Rattle.world.specs.Object.{ObjectValue}
+use Rattle.source.specs.Object.{ObjectValue}
 use Rattle.world.specs.SceneWorld.{world_of_scene}
-use Rattle.regions.specs.Activation.{parameter_variables}
-use Rattle.regions.specs.Variable.{LocalRef}
+use Rattle.source.specs.Activation.{parameter_variables}
+use Rattle.source.specs.Variable.{LocalRef}
 use Rattle.tasks.specs.declared.activation.Activation.{Activation}
 use Rattle.tasks.specs.declared.activation.Outer.{Outer}
 use Rattle.tasks.specs.Activations.{tasks_around}

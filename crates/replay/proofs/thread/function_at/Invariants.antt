@@ -1,6 +1,6 @@
 use Rattle.std.proofs.Common.{◌≡◌, drop}
 use Rattle.syntax.specs.Views.{unit_tree}
-use Rattle.regions.specs.Activation.{function_at}
+use Rattle.source.specs.Activation.{function_at}
 use Rattle.replay.proofs.thread.function_at.Given as goal
 
 abbrev pub invariant-loop-item : goal.invariant-loop-item

@@ -1,7 +1,7 @@
 use Rattle.std.proofs.Common.{Bool, List, subst}
 use Rattle.syntax.specs.Views.{unit_tree}
 use Rattle.world.specs.SceneWorld.{world_of_scene}
-use Rattle.regions.specs.Start.{null_statics}
+use Rattle.source.specs.Start.{null_statics}
 use Rattle.terms.specs.declared.variable.Variable.{Variable}
 use Rattle.tasks.specs.Outcomes.{variable_step, LeavesIf}
 use Rattle.tasks.specs.Steps.{Does}

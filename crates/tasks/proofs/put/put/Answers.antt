@@ -1,7 +1,7 @@
 use Rattle.std.proofs.Common.{None, ap, ◌∙◌, rules}
 use Rattle.syntax.specs.Views.{unit_tree}
-use Rattle.regions.specs.Start.{null_statics}
-use Rattle.regions.specs.Variable.{Variable, FieldHandle, assign}
+use Rattle.source.specs.Start.{null_statics}
+use Rattle.source.specs.Variable.{Variable, FieldHandle, assign}
 use Rattle.tasks.specs.Outcomes.{given_view}
 use Rattle.terms.specs.Views.{content_view, variables_view}
 use Rattle.tasks.proofs.PutLemmas.{content_set, assigned_leaves, static_leaves}

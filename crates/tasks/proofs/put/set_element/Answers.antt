@@ -1,5 +1,5 @@
 use Rattle.std.proofs.Common.{None, rules}
-use Rattle.regions.specs.Variable.{FieldHandle}
+use Rattle.source.specs.Variable.{FieldHandle}
 use Rattle.terms.specs.Views.{content_view}
 use Rattle.tasks.proofs.PutLemmas.{content_set, element_leaves, element_missing}
 use Rattle.terms.proofs.VariableLemmas.{variable_at, variable_found, variable_missing}

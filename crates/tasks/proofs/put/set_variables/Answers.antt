@@ -1,6 +1,6 @@
 use Rattle.std.proofs.Common.{rules}
 use Rattle.syntax.specs.Views.{unit_tree}
-use Rattle.regions.specs.Start.{null_statics}
+use Rattle.source.specs.Start.{null_statics}
 use Rattle.tasks.proofs.put.set_variables.Goals as goal
 
 pub returns-in-SetsElement : goal.returns-in-SetsElement

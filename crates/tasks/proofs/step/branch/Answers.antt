@@ -1,7 +1,7 @@
 use Rattle.std.proofs.Common.{◌≡◌, true}
 use Rattle.syntax.specs.Views.{block_tree, unit_tree}
-use Rattle.regions.specs.Start.{null_statics}
-use Rattle.regions.specs.Task.{EndIf}
+use Rattle.source.specs.Start.{null_statics}
+use Rattle.source.specs.Task.{EndIf}
 use Rattle.terms.specs.declared.term.Term.TheVariants as term
 use Rattle.terms.specs.declared.value.Value.TheVariants as value
 use Rattle.terms.specs.Views.{variables_view}

@@ -1,5 +1,5 @@
 use Rattle.syntax.specs.Views.{unit_tree}
-use Rattle.regions.specs.Start.{null_statics}
+use Rattle.source.specs.Start.{null_statics}
 use Rattle.terms.specs.Views.{variables_view}
 use Rattle.tasks.proofs.TaskLemmas.{set_reduces}
 use Rattle.tasks.proofs.step.set.Goals as goal

@@ -1,7 +1,7 @@
 use Rattle.std.proofs.Common.{sym, subst, rules}
 use Rattle.syntax.specs.Views.{unit_tree}
 use Rattle.world.specs.SceneWorld.{world_of_scene}
-use Rattle.regions.specs.Start.{null_statics}
+use Rattle.source.specs.Start.{null_statics}
 use Rattle.tasks.specs.declared.task.Task.{Task}
 use Rattle.tasks.specs.declared.task.Task.TheVariants as task
 use Rattle.tasks.specs.Steps.{Does}

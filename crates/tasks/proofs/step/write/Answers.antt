@@ -1,5 +1,5 @@
 use Rattle.std.proofs.Common.{refl, ap, ◌∙◌, rules}
-use Rattle.regions.specs.Effect.{SetsElement, at_line}
+use Rattle.source.specs.Effect.{SetsElement, at_line}
 use Rattle.terms.specs.declared.sight.Indexed.{Indexed}
 use Rattle.terms.specs.Views.{indexed_view, variables_view}
 use Rattle.tasks.proofs.TaskLemmas.{written_at}

@@ -1,7 +1,7 @@
 use Rattle.std.proofs.Common.{Option, ap, sym, ◌∙◌}
 use Rattle.syntax.specs.Views.{unit_tree}
-use Rattle.regions.specs.Start.{null_statics}
-use Rattle.regions.specs.Value.{Gives}
+use Rattle.source.specs.Start.{null_statics}
+use Rattle.source.specs.Value.{Gives}
 use Rattle.terms.specs.declared.value.Evaluated.{Evaluated}
 use Rattle.terms.specs.Views.{term_view, variables_view, decided, right_side}
 use Rattle.terms.proofs.TermLemmas.{replaced}

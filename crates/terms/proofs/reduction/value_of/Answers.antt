@@ -1,9 +1,9 @@
 use Rattle.std.proofs.Common.{◌≡◌, ap, sym, ◌∙◌, rules}
 use Rattle.syntax.specs.Views.{unit_tree}
-use Rattle.regions.specs.Sight.{seen}
-use Rattle.regions.specs.Start.{null_statics}
-use Rattle.regions.specs.Term as tree
-use Rattle.regions.specs.Term.{done}
+use Rattle.source.specs.Sight.{seen}
+use Rattle.source.specs.Start.{null_statics}
+use Rattle.source.specs.Term as tree
+use Rattle.source.specs.Term.{done}
 use Rattle.terms.specs.declared.term.Term.{Term}
 use Rattle.terms.specs.Views.{value_view, term_view, variables_view}
 use Rattle.terms.proofs.reduction.value_of.Goals as goal

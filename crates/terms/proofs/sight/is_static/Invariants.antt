@@ -1,7 +1,7 @@
 use Rattle.std.proofs.Common.{◌≡◌, drop}
 use Rattle.base.specs.Bytes.{lookup}
 use Rattle.syntax.specs.Views.{unit_tree}
-use Rattle.regions.specs.Start.{null_statics}
+use Rattle.source.specs.Start.{null_statics}
 use Rattle.terms.proofs.sight.is_static.Given as goal
 
 abbrev pub invariant-loop-item : goal.invariant-loop-item

@@ -2,8 +2,8 @@ use Rattle.std.proofs.Common.{◌∙◌, ap}
 use Rattle.std.specs.Prelude.{◌==◌}
 use Rattle.std.specs.List.{list_all}
 use Rattle.classes.specs.Mangling.{is_simple_name}
-use Rattle.world.specs.Split.{parts_left}
-use Rattle.world.proofs.PartLemmas.{slice_split-split_at}
+use Rattle.texts.specs.Split.{parts_left}
+use Rattle.texts.proofs.PartLemmas.{slice_split-split_at}
 use Rattle.world.proofs.names.is_class_name.Goals as goal
 
 pub loop-part-init : goal.loop-part-init

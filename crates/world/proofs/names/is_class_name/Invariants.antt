@@ -1,7 +1,7 @@
 use Rattle.std.proofs.Common.{◌≡◌}
 use Rattle.std.specs.List.{list_all}
 use Rattle.classes.specs.Mangling.{is_simple_name, is_class_name}
-use Rattle.world.specs.Split.{parts_left}
+use Rattle.texts.specs.Split.{parts_left}
 use Rattle.world.proofs.names.is_class_name.Given as goal
 
 abbrev pub invariant-loop-part : goal.invariant-loop-part

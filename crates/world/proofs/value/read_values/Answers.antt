@@ -1,10 +1,10 @@
 use Rattle.std.proofs.Common.{map, ap, ◌∙◌}
 use Rattle.std.proofs.lemmas.List.{map-append}
-use Rattle.world.specs.Split.{parts_left}
+use Rattle.texts.specs.Split.{parts_left}
 use Rattle.world.specs.ReadingValues.{values_named}
 use Rattle.world.specs.Views.{value_view}
 use Rattle.world.proofs.ValueLemmas.{takes, fails, ends}
-use Rattle.world.proofs.WordLemmas.{after, after-nil}
+use Rattle.texts.proofs.WordLemmas.{after, after-nil}
 use Rattle.world.proofs.value.read_values.Goals as goal
 
 pub loop-word-init : goal.loop-word-init

@@ -1,8 +1,8 @@
 use Rattle.std.proofs.Common.{◌≡◌, map}
-use Rattle.world.specs.Split.{parts_left}
+use Rattle.texts.specs.Split.{parts_left}
 use Rattle.world.specs.ReadingValues.{values_named}
 use Rattle.world.specs.Views.{value_view}
-use Rattle.world.proofs.WordLemmas.{after}
+use Rattle.texts.proofs.WordLemmas.{after}
 use Rattle.world.proofs.value.read_values.Given as goal
 
 -- the values so far and those of the words that are left are all of them

@@ -1,9 +1,9 @@
 use Rattle.std.proofs.Common.{◌+◌, length, arith, ap, subst}
 use Rattle.std.proofs.lemmas.Result.{err_from_is_err_and}
-use Rattle.world.specs.Split.{parts_left}
-use Rattle.world.specs.Reading.{Gives}
+use Rattle.texts.specs.Split.{parts_left}
+use Rattle.texts.specs.Reading.{Gives}
 use Rattle.world.specs.ReadingWorlds.{scene_of, scene_of_text}
-use Rattle.world.proofs.WordLemmas.{nonempty, empty}
+use Rattle.texts.proofs.WordLemmas.{nonempty, empty}
 use Rattle.world.proofs.BuilderLemmas.{skips, takes, stops, ends}
 use Rattle.world.proofs.WorldLaws.{world_means}
 use Rattle.world.proofs.world_text.read_world.Goals as goal

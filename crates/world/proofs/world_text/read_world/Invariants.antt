@@ -1,5 +1,5 @@
 use Rattle.std.proofs.Common.{◌≡◌, ◌+◌, length}
-use Rattle.world.specs.Split.{parts_of, parts_left}
+use Rattle.texts.specs.Split.{parts_of, parts_left}
 use Rattle.world.specs.ReadingWorlds.{scene_of, lines_scene, scene_of_text}
 use Rattle.world.proofs.world_text.read_world.Given as goal
 

@@ -1,7 +1,7 @@
 use Rattle.std.proofs.Common.{◌≡◌, ℕ, subst, length, refl, sym, ap, ◌∙◌, arith}
 use Rattle.syntax.specs.Views.{unit_tree}
 use Rattle.world.specs.SceneWorld.{world_of_scene}
-use Rattle.regions.specs.Start.{start}
+use Rattle.source.specs.Start.{start}
 use Rattle.machine.specs.Agrees.{ThreadsAgree}
 use Rattle.machine.proofs.ThreadLoads.{agree_length, waiting_length, items_length}
 use Rattle.machine.proofs.machine.Machine.load.Goals as goal
@@ -24,7 +24,8 @@ invariant_of-result c =
       heap = refl;
       blocks = record { agree = c.in_ok-heap.ensures.made.agree; table = c.in_ok-heap.ensures.made.table };
       monitors = refl;
-      has_room = rw c.new-in-Ok.ensures.items tt;
+      fits = rw c.new-in-Ok.ensures.items tt;
+      fair = rw c.new-in-Ok.ensures.items tt;
       count = count;
       few = omega (arith, count, long, c.threads.ensures.few);
     }

@@ -1,5 +1,5 @@
 use Rattle.std.proofs.Common.{◌-◌, ◌∷◌, [], sym, subst, replicate, arith, IsSome, refl}
-use Rattle.world.specs.Schedule.{Schedule}
+use Rattle.source.specs.Schedule.{Schedule}
 use Rattle.machine.specs.Run.{Run, RunsAlong, RunsInto, GivesStep, replay_of}
 use Rattle.machine.proofs.Runs.{none_yet, along_both, begun, replicate_more, replicate_rest}
 use Rattle.machine.proofs.machine.Machine.repeat.Goals as goal

@@ -2,7 +2,7 @@ use Rattle.std.proofs.Common.{◌≡◌, ℕ, suc, ◌-◌, ◌<◌, ◌≤◌, 
 use Rattle.std.specs.Prelude.{slice_get, is_some, Result, Ok, Err, OnErr}
 use Rattle.std.proofs.lemmas.Option.{slice_get_read}
 use denote.Enum.Bare.{sameb}
-use Rattle.world.specs.declared.journal.Entry.{Entry}
+use Rattle.source.specs.declared.journal.Entry.{Entry}
 use Rattle.machine.specs.declared.thread.Ending.{Ending}
 use Rattle.machine.specs.declared.thread.Ending.TheVariants.{Unfinished, Ended}
 use Rattle.machine.specs.contracts.thread.Ending.{the_type}

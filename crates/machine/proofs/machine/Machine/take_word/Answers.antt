@@ -1,5 +1,5 @@
 use Rattle.std.proofs.Common.{◌∷◌, [], sym, subst}
-use Rattle.world.specs.declared.schedule.ScheduleWord.{ScheduleWord}
+use Rattle.source.specs.declared.schedule.ScheduleWord.{ScheduleWord}
 use Rattle.machine.specs.Run.{RunsAlong}
 use Rattle.machine.proofs.Runs.{word_without_step, turned}
 use Rattle.machine.proofs.machine.Machine.take_word.Goals as goal

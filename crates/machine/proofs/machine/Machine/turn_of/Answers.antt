@@ -1,5 +1,5 @@
 use Rattle.std.proofs.Common.{◌≡◌, ◌<◌, Some, length, sym, subst, arith}
-use Rattle.world.specs.declared.schedule.ScheduleWord.{ScheduleWord}
+use Rattle.source.specs.declared.schedule.ScheduleWord.{ScheduleWord}
 use Rattle.machine.specs.Run.{Run, GivesNoStep, replay_of}
 use Rattle.machine.proofs.Runs.{missing_waits}
 use Rattle.machine.proofs.ThreadLoads.{agree_length}

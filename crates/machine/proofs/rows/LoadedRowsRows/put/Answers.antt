@@ -2,14 +2,15 @@ use Rattle.std.proofs.Common.{◌≡◌, ◌+◌, ◌-◌, [], ◌++◌, length,
 use Rattle.std.specs.Prelude.{slice_index_or}
 use Rattle.std.proofs.lemmas.Option.{slice_get-get_or}
 use Rattle.std.proofs.lemmas.Result.{err_from_is_err_and}
-use Rattle.world.specs.Report.{object_line}
+use Rattle.report.specs.ReportText.{object_line}
 use Rattle.world.specs.Scene.{Scene}
 use Rattle.world.specs.SceneWorld.{world_of_scene}
-use Rattle.world.specs.Shown.{row_lines}
-use Rattle.world.specs.World.{loaded_objects}
-use Rattle.world.proofs.Puts.{PutSoFar, starts, goes_on, stops, is_all}
-use Rattle.machine.specs.Rows.{loaded_rows, block_row}
-use Rattle.machine.proofs.BlockRows.{is_address}
+use Rattle.report.specs.Shown.{row_lines}
+use Rattle.source.specs.World.{loaded_objects}
+use Rattle.report.proofs.Puts.{PutSoFar, starts, goes_on, stops, is_all}
+use Rattle.machine.specs.Rows.{block_row}
+use Rattle.source.specs.ReportOf.{loaded_rows}
+use Rattle.machine.proofs.BlockRows.{is_address, named, row_there}
 use Rattle.machine.proofs.LoadedRows.{few_loaded, table_length, row_here, rows_end}
 use Rattle.machine.proofs.rows.LoadedRowsRows.put.Goals as goal
 
@@ -46,6 +47,14 @@ put_row-requires-clause-address g c =
     let place = c.loop-place.place in
     let at = slice_get-get_or c.self.inside.loaded.now place c.index-self-place.result c.loop-place-test.true in
     is_address c.self.inside.heap.now (slice_index_or c.self.inside.loaded.now place c.index-self-place.result) (place + 1) (c.self.invariant.table.named place (slice_index_or c.self.inside.loaded.now place c.index-self-place.result) at)
+
+pub put_row-requires-clause-there : goal.put_row-requires-clause-there
+put_row-requires-clause-there g c =
+    let place = c.loop-place.place in
+    let address = slice_index_or c.self.inside.loaded.now place c.index-self-place.result in
+    let at = slice_get-get_or c.self.inside.loaded.now place c.index-self-place.result c.loop-place-test.true in
+    let heap = loaded_objects (world_of_scene c.self.inside.world.now) in
+    row_there c.self.inside.heap.now heap address (place + 1) (named c.self.inside.heap.now heap _ address (place + 1) c.self.invariant.agree (c.self.invariant.table.named place address at))
 
 -- the row that is put, and those after it
 pub returns-in_err-put_row : goal.returns-in_err-put_row

@@ -1,8 +1,8 @@
 use Rattle.std.proofs.Common.{◌-◌, ◌+◌, length, drop}
 use Rattle.world.specs.SceneWorld.{world_of_scene}
-use Rattle.world.specs.Shown.{row_lines}
-use Rattle.world.proofs.Puts.{PutSoFar}
-use Rattle.machine.specs.Rows.{loaded_rows}
+use Rattle.report.specs.Shown.{row_lines}
+use Rattle.report.proofs.Puts.{PutSoFar}
+use Rattle.source.specs.ReportOf.{loaded_rows}
 use Rattle.machine.proofs.rows.LoadedRowsRows.put.Given as goal
 
 abbrev pub invariant-loop-place : goal.invariant-loop-place

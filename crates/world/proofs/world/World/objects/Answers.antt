@@ -2,7 +2,7 @@ use Rattle.std.proofs.Common.{subst}
 use Rattle.std.specs.Prelude.{IsTrue}
 use Rattle.world.specs.Scene.{Scene}
 use Rattle.world.specs.SceneWorld.{world_of_scene}
-use Rattle.world.specs.World.{fits_cells}
+use Rattle.source.specs.World.{fits_cells}
 use Rattle.world.proofs.FitLemmas.{fits}
 use Rattle.world.proofs.world.World.objects.Goals as goal
 

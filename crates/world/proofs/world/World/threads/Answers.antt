@@ -4,7 +4,7 @@ use Rattle.std.specs.List.{list_all}
 use Rattle.world.specs.CallArguments.{are_arguments}
 use Rattle.world.specs.Scene.{Scene}
 use Rattle.world.specs.SceneWorld.{world_of_scene}
-use Rattle.world.specs.World.{loaded_objects}
+use Rattle.source.specs.World.{loaded_objects}
 use Rattle.world.proofs.GivenLemmas.{threads_given}
 use Rattle.world.proofs.world.World.threads.Goals as goal
 

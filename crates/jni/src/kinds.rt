@@ -1,0 +1,90 @@
+//! What the table says of a function.
+
+use crate::access::Access;
+use syntax::ElementType;
+
+/// What an argument after `env` is.
+#[derive(Clone, Copy)]
+pub enum ParameterKind {
+    /// A reference that may be NULL.
+    Nullable,
+    /// A reference that may not be NULL, as are the next four.
+    NonNull,
+    /// A class object.
+    ClassObject,
+    /// An array of objects.
+    ObjectArray,
+    /// A string.
+    StringObject,
+    /// An array of numbers.
+    NumberArray(ElementType),
+    /// A local reference that is meant itself; it may be NULL.
+    LocalVariable,
+    /// A static that is meant itself; it may be NULL.
+    StaticVariable,
+    /// A field ID.
+    FieldID,
+    /// A `jint` or a `jsize`.
+    IntNumber,
+    /// A text in modified UTF-8.
+    TextBytes,
+    /// A local array.
+    ArrayVariable(ElementType),
+    /// A buffer that is released.
+    BufferVariable(Access),
+    /// 0, `JNI_COMMIT` or `JNI_ABORT`.
+    Mode,
+    /// Where to tell whether a buffer is a copy, or NULL.
+    IsCopy,
+}
+
+/// What a call gives.
+#[derive(Clone, Copy)]
+pub enum ResultKind {
+    /// A local reference in the thread's current frame.
+    NewLocal,
+    /// A global reference.
+    NewGlobal,
+    /// A `jboolean`.
+    GivesFlag,
+    /// A number.
+    GivesInt,
+    /// A field ID.
+    GivesField,
+    /// Nothing.
+    GivesNothing,
+    /// A buffer that has to be released.
+    GivesBuffer(Access),
+}
+
+/// What a call does to buffers, references and frames.
+#[derive(Clone, Copy)]
+pub enum StateEffect {
+    /// It gets a buffer.
+    Gets(Access),
+    /// It releases one.
+    Releases(Access),
+    /// It deletes a local reference.
+    Deletes,
+    /// It pops a frame.
+    Pops,
+    /// None of these.
+    Other,
+}
+
+/// All that the table says of a function.
+#[derive(Clone, Copy)]
+pub struct Prototype {
+    /// The function's name.
+    pub name: &'static [u8],
+    /// The parameters after `env`.
+    pub parameters: &'static [ParameterKind],
+    /// What a call gives.
+    pub result: ResultKind,
+    /// What a call does to buffers, references and frames.
+    pub effect: StateEffect,
+    /// Whether it may be called while an exception is pending.
+    pub pending: bool,
+    /// Whether it can be called today.
+    pub built: bool,
+}

@@ -1,0 +1,12 @@
+//! The functions of the JNI: which there are, what each takes and gives, and what the rules ask of it.
+#![tactic(auto)]
+
+mod access;
+mod function;
+mod kinds;
+mod table;
+
+pub use access::{Access, is_same_element};
+pub use function::JniFunction;
+pub use kinds::{ParameterKind, Prototype, ResultKind, StateEffect};
+pub use table::function_named;

@@ -1,0 +1,58 @@
+-- The parts of a report's text.
+use Rattle.std.proofs.Common.{◌≡◌, ℕ, ◌+◌, ◌<◌, ◌≤◌, List, [], ◌++◌, length, get_or, drop, map, Result, Ok, Err, refl, sym, ap, ◌∙◌, append-nil, arith}
+use Rattle.std.specs.Prelude.{OnOk, OnErr}
+use Rattle.std.specs.List.{flat_map, enumerate_from}
+use Rattle.std.specs.Io.KnownBytes.{Keeps}
+use Rattle.std.proofs.KnownBytes.{Appends-kept}
+use Rattle.std.proofs.lemmas.List.{get_or-map, length-map}
+use Rattle.std.proofs.lemmas.List.FromFn.{length-enumerate_from, get_or-enumerate_from}
+use Rattle.source.specs.declared.printed.Printed.{Printed}
+use Rattle.report.specs.declared.thread_status.ThreadStatus.{ThreadStatus}
+use Rattle.source.specs.Report.{ShownRow}
+use Rattle.report.specs.ReportText.{thread_line, printed_line, report_text}
+use Rattle.report.specs.Shown.{row_lines, report_with}
+use Rattle.report.specs.ThreadStatus.{standing_view}
+use Rattle.report.specs.Sink.{Written, AppendsText, Writes}
+use Rattle.report.proofs.Puts.{flat_map-at, flat_map-past}
+
+-- threads with their numbers
+abbrev pub numbered : List ThreadStatus → List (ℕ × Rattle.source.specs.Report.ThreadStanding)
+numbered xs = enumerate_from 1 (map standing_view xs)
+
+pub length-numbered : (xs : List ThreadStatus) → length (numbered xs) ≡ length xs
+length-numbered xs = length-enumerate_from 1 (map standing_view xs) ∙ length-map xs standing_view
+
+-- the line of a thread, and those after it
+pub standings_at : (xs : List ThreadStatus) (i n : ℕ) (d : ThreadStatus) → i < length xs → n ≡ i
+    → flat_map thread_line (drop i (numbered xs)) ≡ thread_line (n + 1, standing_view (get_or xs i d)) ++ flat_map thread_line (drop (i + 1) (numbered xs))
+standings_at xs i n d h e =
+    let long : i < length (map standing_view xs) = omega (arith, h, length-map xs standing_view) in
+    let long_too : i < length (numbered xs) = omega (arith, h, length-numbered xs) in
+    let item : get_or (numbered xs) i (1, standing_view d) ≡ (n + 1, standing_view (get_or xs i d)) =
+    get_or-enumerate_from 1 (map standing_view xs) i (1, standing_view d) long
+    ∙ ap (λ v. (1 + i, v)) (get_or-map standing_view xs i d (standing_view d) h)
+    ∙ ap (λ k. (k, standing_view (get_or xs i d))) (omega (arith, e)) in
+    flat_map-at thread_line (numbered xs) i (1, standing_view d) long_too
+    ∙ ap (λ v. thread_line v ++ flat_map thread_line (drop (i + 1) (numbered xs))) item
+
+-- no thread is left
+pub standings_past : (xs : List ThreadStatus) (i : ℕ) → length xs ≤ i → flat_map thread_line (drop i (numbered xs)) ≡ []
+standings_past xs i h = flat_map-past thread_line (numbered xs) i (omega (arith, h, length-numbered xs))
+
+-- a report is what was printed, the threads and the rows
+pub report_text-with : (printed : List Printed) (standings : List ThreadStatus) (rows : List ShownRow)
+    → report_text (report_with printed standings rows) ≡ (flat_map printed_line printed ++ flat_map thread_line (numbered standings)) ++ row_lines rows
+unfolding report_text
+report_text-with printed standings rows = refl
+
+-- a flush after the whole text
+pub Writes-flushed : {T E : Type 0} (a b c : Written) (r : Result T E) (text : List ℕ) → AppendsText a b text → Keeps b.bytes c.bytes
+    → OnOk r (c.failures ≡ b.failures) → OnErr r (c.failures ≡ b.failures + 1) → Writes a c r text
+Writes-flushed a b c (Ok v) text p k s f = record { bytes = Appends-kept a.bytes b.bytes c.bytes text p.bytes k; failures = s ∙ p.failures }
+Writes-flushed a b c (Err e) text p k s f = record {
+  part = text;
+  rest = [];
+  whole = sym (append-nil text);
+  bytes = Appends-kept a.bytes b.bytes c.bytes text p.bytes k;
+  failures = f ∙ ap (λ (n : ℕ). n + 1) p.failures;
+}

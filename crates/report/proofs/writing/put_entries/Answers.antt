@@ -1,0 +1,55 @@
+use Rattle.std.proofs.Common.{◌≡◌, ℕ, ◌+◌, ◌<◌, ◌≤◌, List, [], ◌++◌, length, get_or, drop, Result, Ok, Err, refl, sym, ap, subst, ◌∙◌, append_assoc}
+use Rattle.std.specs.Prelude.{codes}
+use Rattle.std.proofs.lemmas.Result.{err_from_is_err_and}
+use Rattle.source.specs.declared.journal.Entry.{Entry}
+use Rattle.report.specs.JournalText.{entry_text}
+use Rattle.report.specs.JournalText.{spelled_entries}
+use Rattle.report.specs.Sink.{Written, AppendsText, Writes}
+use Rattle.report.proofs.Puts.{PutSoFar, goes_on, is_all, stops, flat_map-at, flat_map-past}
+use Rattle.report.proofs.writing.put_entries.Goals as goal
+use Rattle.report.proofs.writing.put_entries.Goals.{then-remaining_capacity-lt5+in_ok-put_all, else-remaining_capacity-lt5}
+
+-- one entry more was gathered
+gathers : (old now : Written) (entries : List Entry) (i : ℕ) (d : Entry) (text next : List ℕ) → i < length entries → PutSoFar old now (spelled_entries entries) (text ++ spelled_entries (drop i entries))
+    → next ≡ text ++ (codes " " ++ entry_text (get_or entries i d)) → PutSoFar old now (spelled_entries entries) (next ++ spelled_entries (drop (i + 1) entries))
+gathers old now entries i d text next h s e =
+    let word : List ℕ = codes " " ++ entry_text (get_or entries i d) in
+    let rest : List ℕ = spelled_entries (drop (i + 1) entries) in
+    let at : spelled_entries (drop i entries) ≡ word ++ rest = flat_map-at (λ x. codes " " ++ entry_text x) entries i d h in
+    subst (PutSoFar old now (spelled_entries entries)) (ap (λ (r : List ℕ). text ++ r) at ∙ sym (append_assoc text word rest) ∙ ap (λ (t : List ℕ). t ++ rest) (sym e)) s
+
+-- what was gathered was put
+put_on : (old now next : Written) (all text rest empty : List ℕ) → PutSoFar old now all (text ++ rest) → AppendsText now next text → empty ≡ [] → PutSoFar old next all (empty ++ rest)
+put_on old now next all text rest empty s p e =
+    subst (PutSoFar old next all) (ap (λ (t : List ℕ). t ++ rest) (sym e)) (goes_on old now next all (text ++ rest) text rest s refl p)
+
+-- what was gathered last is put
+puts_last : {T E : Type 0} (old now next : Written) (r : Result T E) (entries : List Entry) (i : ℕ) (text : List ℕ) → length entries ≤ i → PutSoFar old now (spelled_entries entries) (text ++ spelled_entries (drop i entries))
+    → Writes now next r text → Writes old next r (spelled_entries entries)
+puts_last old now next (Ok x) entries i text h s p =
+    is_all old next (spelled_entries entries) (spelled_entries (drop i entries)) (goes_on old now next (spelled_entries entries) (text ++ spelled_entries (drop i entries)) text (spelled_entries (drop i entries)) s refl p)
+    (flat_map-past (λ x. codes " " ++ entry_text x) entries i h)
+puts_last old now next (Err x) entries i text h s p =
+    stops old now next (spelled_entries entries) (text ++ spelled_entries (drop i entries)) text (spelled_entries (drop i entries)) s refl p
+
+pub returns-in_err-put_all : goal.returns-in_err-put_all
+returns-in_err-put_all g c =
+    let p = err_from_is_err_and c.from_residual.result c.from_residual.ensures.1 in
+    rw p.1 (stops _ _ _ _ _ c.loop-entry.text.items (spelled_entries (drop c.loop-entry.entry-index c.args.entries.now)) c.loop-entry.invariant refl (rw c.as_slice.ensures.value at c.in_err-put_all.ensures))
+
+pub loop-entry-preserved : goal.loop-entry-preserved
+loop-entry-preserved g c =
+    let w = g.S.Sink.written in
+    let rest : List ℕ = spelled_entries (drop c.loop-entry.entry-index c.args.entries.now) in
+    let so_far : PutSoFar (w c.args.sink.now) (w c.if-remaining_capacity-lt5.sink) (spelled_entries c.args.entries.now) (c.if-remaining_capacity-lt5.text.items ++ rest) =
+    elim c.if-remaining_capacity-lt5.branch [
+      | then-remaining_capacity-lt5+in_ok-put_all v ↦
+          rw (v.sink-is, v.text-is) (put_on (w c.args.sink.now) (w c.loop-entry.sink) (w v.put_all.new.sink) (spelled_entries c.args.entries.now) c.loop-entry.text.items rest v.clear.new.self.items
+          c.loop-entry.invariant (rw v.as_slice.ensures.value at v.in_ok-put_all.ensures) v.clear.ensures)
+      | else-remaining_capacity-lt5 v ↦ rw (v.sink-is, v.text-is) c.loop-entry.invariant
+    ] in
+    gathers (w c.args.sink.now) (w c.if-remaining_capacity-lt5.sink) c.args.entries.now c.loop-entry.entry-index _ c.if-remaining_capacity-lt5.text.items c.push_entry.new.text.items c.loop-entry-test.true so_far c.push_entry.ensures
+
+pub returns : goal.returns
+returns g c =
+    puts_last _ _ _ c.put_all-2.result c.args.entries.now c.loop-entry.entry-index c.loop-entry.text.items c.loop-entry-test.false c.loop-entry.invariant (rw c.as_slice-2.ensures.value at c.put_all-2.ensures)

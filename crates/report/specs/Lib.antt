@@ -1,0 +1,6 @@
+pub mod Sink
+pub mod ReportText
+pub mod JournalText
+pub mod RunText
+pub mod ThreadStatus
+pub mod Shown

@@ -1,0 +1,17 @@
+-- How threads stand, as they are held in memory.
+use Rattle.std.specs.Prelude.{List, [], map}
+use Rattle.source.specs.declared.printed.Printed.{Printed}
+use Rattle.report.specs.declared.thread_status.ThreadStatus.{ThreadStatus}
+use Rattle.report.specs.declared.thread_status.ThreadStatus.TheVariants.{Trapped, Ended, Blocked, Running}
+use Rattle.source.specs.Report.{ThreadStanding, HasTrapped, HasEnded, IsBlocked, IsRunning, Report}
+
+-- what a standing in memory says
+abbrev pub standing_view : ThreadStatus → ThreadStanding
+standing_view (Trapped number line) = HasTrapped number line
+standing_view Ended = HasEnded
+standing_view Blocked = IsBlocked
+standing_view Running = IsRunning
+
+-- the report of these numbers and threads, and no objects
+abbrev pub report_without_objects : List Printed → List ThreadStatus → Report
+report_without_objects printed standings = record { printed = printed; standings = map standing_view standings; objects = [] }

@@ -1,0 +1,101 @@
+//! What a run printed, and how its threads stand.
+
+ghost use Rattle.std.specs.Prelude.{◌≡◌, ℕ, List, [], ◌∷◌, ◌++◌, codes, map};
+ghost use Rattle.std.specs.List.{flat_map, enumerate_from};
+ghost use Rattle.report.specs.Sink.{CanFail, Writes};
+ghost use Rattle.report.specs.ReportText.{thread_line};
+ghost use Rattle.report.specs.ThreadStatus.{standing_view};
+
+use crate::sink::{Sink, SinkFailed, put_pieces};
+use crate::text::Text;
+use itoa::Buffer;
+use source::Printed;
+
+/// How a thread stands when the run is over.
+#[derive(Clone, Copy, Debug, PartialEq, Eq)]
+pub enum ThreadStatus {
+    /// Its step was a trap, of this number, in a statement of this line.
+    Trapped(u8, usize),
+    /// It has taken all its steps.
+    Ended,
+    /// It waits for a monitor.
+    Blocked,
+    /// It has steps left.
+    Running,
+}
+
+impl Default for ThreadStatus {
+    fn default() -> ThreadStatus {
+        ThreadStatus::Running
+    }
+}
+
+impl Text for Printed {
+    ghost use Rattle.report.specs.ReportText.{printed_line};
+
+    ghost text = { printed_line };
+
+    fn put<S: Sink>(&self, sink: &mut S) -> Result<(), SinkFailed> {
+        let mut thread = Buffer::new();
+        let mut number = Buffer::new();
+        let thread = thread.format(self.thread);
+        let number = number.format(self.number);
+        put_pieces(
+            sink,
+            &[b"T", thread.as_bytes(), b" ", number.as_bytes(), b"\n"],
+        )
+    }
+}
+
+/// Puts the line of a thread.
+fn put_standing<S: Sink>(
+    sink: &mut S,
+    thread: usize,
+    standing: ThreadStatus,
+) -> Result<(), SinkFailed>
+    requires { CanFail (S.written sink.old) }
+    ensures { Writes (S.written sink.old) (S.written sink.new) result (thread_line (thread, standing_view standing)) }
+{
+    let mut name = Buffer::new();
+    let name = name.format(thread);
+    match standing {
+        ThreadStatus::Ended => put_pieces(sink, &[b"T", name.as_bytes(), b" ended\n"]),
+        ThreadStatus::Blocked => put_pieces(sink, &[b"T", name.as_bytes(), b" blocked\n"]),
+        ThreadStatus::Running => put_pieces(sink, &[b"T", name.as_bytes(), b" running\n"]),
+        ThreadStatus::Trapped(trap, line) => {
+            let mut number = Buffer::new();
+            let mut place = Buffer::new();
+            let number = number.format(trap);
+            let place = place.format(line);
+            put_pieces(
+                sink,
+                &[
+                    b"T",
+                    name.as_bytes(),
+                    b" trap ",
+                    number.as_bytes(),
+                    b" line ",
+                    place.as_bytes(),
+                    b"\n",
+                ],
+            )
+        }
+    }
+}
+
+/// Puts the lines of the threads, the first of which is T1.
+pub(crate) fn put_standings<S: Sink>(
+    sink: &mut S,
+    standings: &[ThreadStatus],
+) -> Result<(), SinkFailed>
+    requires { CanFail (S.written sink.old) }
+    ensures { Writes (S.written sink.old) (S.written sink.new) result
+        (flat_map thread_line (enumerate_from 1 (map standing_view standings.now))) }
+{
+    let mut thread = 0;
+    for standing in standings {
+        thread += 1;
+        put_standing(sink, thread, *standing)?;
+    }
+    Ok(())
+}

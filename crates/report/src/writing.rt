@@ -1,0 +1,110 @@
+//! Reports and journals as text.
+
+ghost use Rattle.std.specs.Prelude.{◌≡◌, ◌+◌, ◌≤◌, ◌++◌, OnOk, codes, decimal};
+ghost use Rattle.arrayvec.specs.ArrayVec.{array_vec_len};
+ghost use Rattle.report.specs.Sink.{CanFail, Writes};
+ghost use Rattle.report.specs.ReportText.{report_text};
+ghost use Rattle.report.specs.Shown.{report_with};
+ghost use Rattle.report.specs.JournalText.{entry_text, journal_line};
+ghost use Rattle.report.specs.JournalText.{spelled_entries};
+
+use crate::thread_status::{ThreadStatus, put_standings};
+use crate::rows::Rows;
+use crate::sink::{Sink, SinkFailed, put_all};
+use crate::text::put_each;
+use arrayvec::ArrayVec;
+use itoa::Buffer;
+use source::{Entry, Printed};
+
+/// Appends a number in decimal.
+#[tactic(auto, using(std::proofs::lemmas::Fmt::decimal_digit))]
+fn push_number(text: &mut ArrayVec<u8, 4096>, number: u8)
+    requires { array_vec_len text.old + 3 ≤ 4096 }
+    ensures items { text.new.items ≡ text.old.items ++ decimal number }
+    ensures short { array_vec_len text.new ≤ array_vec_len text.old + 3 }
+{
+    if number < 10 {
+        text.push(b'0' + number);
+        return;
+    }
+    let mut digits = Buffer::new();
+    let digits = digits.format(number);
+    match text.try_extend_from_slice(digits.as_bytes()) {
+        Ok(()) => {}
+        Err(_) => unreachable!(),
+    }
+}
+
+/// Appends the word of an entry, after a space.
+fn push_entry(text: &mut ArrayVec<u8, 4096>, entry: Entry)
+    requires { array_vec_len text.old + 5 ≤ 4096 }
+    ensures { text.new.items ≡ text.old.items ++ (codes " " ++ entry_text entry) }
+{
+    text.push(b' ');
+    push_number(text, entry.thread);
+    if entry.refused {
+        text.push(b'!');
+    }
+}
+
+/// Puts the words of the entries, each after a space. They are gathered, and put 4,096 bytes or a few fewer at a time.
+fn put_entries<S: Sink>(sink: &mut S, entries: &[Entry]) -> Result<(), SinkFailed>
+    requires { CanFail (S.written sink.old) }
+    ensures { Writes (S.written sink.old) (S.written sink.new) result (spelled_entries entries.now) }
+{
+    let mut text = ArrayVec::<u8, 4096>::new();
+    for entry in entries {
+        if text.remaining_capacity() < 5 {
+            put_all(sink, text.as_slice())?;
+            text.clear();
+        }
+        push_entry(&mut text, *entry);
+    }
+    put_all(sink, text.as_slice())
+}
+
+/// Writes what was printed, how the threads stand, and the rows.
+pub fn write_report<S: Sink, R: Rows>(
+    sink: &mut S,
+    printed: &[Printed],
+    standings: &[ThreadStatus],
+    rows: &R,
+) -> Result<(), SinkFailed>
+    requires { CanFail (S.written sink.old) }
+    ensures { Writes (S.written sink.old) (S.written sink.new) result
+        (report_text (report_with printed.now standings.now (R.rows rows.now))) }
+{
+    put_each(sink, printed)?;
+    put_standings(sink, standings)?;
+    rows.put(sink)
+}
+
+/// Writes the line of the journal.
+pub fn write_journal<S: Sink>(sink: &mut S, entries: &[Entry]) -> Result<(), SinkFailed>
+    requires { CanFail (S.written sink.old) }
+    ensures { Writes (S.written sink.old) (S.written sink.new) result (journal_line entries.now) }
+{
+    put_all(sink, b"journal")?;
+    put_entries(sink, entries)?;
+    put_all(sink, b"\n")
+}
+
+/// Writes the report of these numbers, threads and rows, and then the line of the journal, and flushes the sink.
+///
+/// On `Ok` every byte has gone on to the sink's writer. It allocates nothing.
+pub fn write_run<S: Sink, R: Rows>(
+    sink: &mut S,
+    printed: &[Printed],
+    standings: &[ThreadStatus],
+    rows: &R,
+    entries: &[Entry],
+) -> Result<(), SinkFailed>
+    requires { CanFail (S.written sink.old) }
+    ensures text { Writes (S.written sink.old) (S.written sink.new) result
+        (report_text (report_with printed.now standings.now (R.rows rows.now)) ++ journal_line entries.now) }
+    ensures none_waits { OnOk result ((S.written sink.new).waiting ≡ 0) }
+{
+    write_report(sink, printed, standings, rows)?;
+    write_journal(sink, entries)?;
+    sink.flush()
+}

@@ -1,0 +1,37 @@
+-- Trusted: what a program does. A reader holds these against the JNI Specification and C99.
+
+-- objects, and what a run begins with
+pub mod Object
+pub mod World
+pub mod Schedule
+pub mod Journal
+-- values, the heap and variables
+pub mod Value
+pub mod Heap
+pub mod Variable
+-- what can be seen, and expressions
+pub mod Sight
+pub mod Term
+-- statements, and the effect of each
+pub mod Task
+pub mod Arguments
+pub mod Effect
+-- threads, and calls of the JNI
+pub mod Thread
+pub mod Checks
+pub mod CallEffects
+pub mod CallTable
+pub mod CallStep
+-- a step of a thread, and of a run
+pub mod Activation
+pub mod ThreadStep
+pub mod State
+pub mod Step
+-- whole runs
+pub mod Start
+pub mod Load
+pub mod Reachable
+pub mod Report
+pub mod ReportOf
+pub mod Run
+pub mod AccountLaws

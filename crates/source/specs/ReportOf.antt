@@ -1,0 +1,58 @@
+-- The report of a state.
+use Rattle.std.specs.Prelude.{ℕ, ◌+◌, ◌==◌, nat_le, nat_lt, Bool, true, false, if◌then◌else◌, List, length, filter, map, Option, Some, None}
+use Rattle.std.specs.List.{enumerate_from}
+use Rattle.classes.specs.Class.{Classes, class_name}
+use Rattle.source.specs.Object.{ObjectValue, Number, Refers, Object}
+use Rattle.source.specs.Report.{ThreadStanding, HasTrapped, HasEnded, IsUncaught, IsBlocked, IsRunning, ShownValue, ShownNumber, ShownNull, ShownClass, ShownObject, ShownRow, Report}
+use Rattle.source.specs.World.{World}
+use Rattle.source.specs.Heap.{Heap, class_of, values_of}
+use Rattle.source.specs.Reachable.{reachable}
+use Rattle.source.specs.State.{Stop, State}
+use Rattle.source.specs.Step.{is_blocked}
+use Rattle.source.specs.Thread.{Ending, Unfinished, Ended, Uncaught, Thread}
+use Rattle.source.specs.Value.{trap_number}
+
+-- how a thread stands that didn't trap
+abbrev pub standing_by_ending : Classes → (blocked : Bool) → Ending → ThreadStanding
+standing_by_ending classes blocked Ended = HasEnded
+standing_by_ending classes blocked (Uncaught c) = IsUncaught (class_name classes c)
+standing_by_ending classes true Unfinished = IsBlocked
+standing_by_ending classes false Unfinished = IsRunning
+
+-- the same of thread k; only the one that stopped the machine trapped
+abbrev pub standing_of : Classes → State → ℕ → Thread → Option Stop → ThreadStanding
+standing_of classes s k t None = standing_by_ending classes (is_blocked classes s k) t.ending
+standing_of classes s k t (Some stop) =
+    if stop.thread == k then HasTrapped (trap_number stop.trap) stop.line else standing_by_ending classes (is_blocked classes s k) t.ending
+
+-- a value; a class object is shown by its class
+abbrev pub shown_value : Classes → ObjectValue → ShownValue
+shown_value classes (Number z) = ShownNumber z
+shown_value classes (Refers None) = ShownNull
+shown_value classes (Refers (Some n)) = if nat_le n (length classes) then ShownClass (class_name classes n) else ShownObject n
+
+-- an object
+abbrev pub shown_row : Classes → Heap → ℕ → ShownRow
+shown_row classes heap n = record { name = n; class = class_name classes (class_of heap n); values = map (shown_value classes) (values_of heap n) }
+
+-- the reachable objects but the class objects and the OutOfMemoryError object
+abbrev pub shown : World → State → List ℕ
+shown w s = filter (λ n. nat_lt (length w.classes + 1) n) (reachable w s)
+
+-- what was printed, how the threads stand, and the reachable objects by rising names
+unfoldable pub report : World → State → Report
+report w s = record {
+  printed = s.printed;
+  standings = map (λ (t : ℕ × Thread). standing_of w.classes s t.0 t.1 s.stop) (enumerate_from 1 s.threads);
+  objects = map (shown_row w.classes s.shared.heap) (shown w s);
+}
+
+-- ---- where the heap is as it was made at load
+
+-- the row of an object
+abbrev pub object_row : Classes → ℕ × Object → ShownRow
+object_row classes (name, o) = record { name = name; class = class_name classes o.class; values = map (shown_value classes) o.values }
+
+-- the rows of the world's objects, which are made after the class objects and the OutOfMemoryError object
+abbrev pub loaded_rows : World → List ShownRow
+loaded_rows w = map (object_row w.classes) (enumerate_from (length w.classes + 2) w.objects)

@@ -1,0 +1,82 @@
+-- The journal that is read is the one that the text means.
+use Rattle.std.proofs.Common.{◌≡◌, ℕ, ◌+◌, ◌-◌, ◌≤◌, Bool, true, false, cond, List, [], ◌∷◌, ◌++◌, map, Some, Result, Ok, Err, refl, sym, ap, ◌∙◌, subst, arith}
+use Rattle.std.specs.Prelude.{filter, ◌==◌, ◌&&◌, nat_le, IfOk}
+use Rattle.std.specs.Global.{Vec}
+use Rattle.std.specs.List.{list_all}
+use Rattle.std.proofs.lemmas.Bool.{and_from}
+use Rattle.std.proofs.lemmas.Bool.Decides.{nat_tests}
+use Rattle.std.proofs.lemmas.Fmt.{decimal_digit}
+use Rattle.base.specs.Bytes.{is_some_byte}
+use Rattle.source.specs.declared.journal.Entry.{Entry}
+use Rattle.source.specs.Journal.{Journal}
+use Rattle.report.specs.JournalText.{entry_text}
+use Rattle.texts.specs.JournalMeaning.{IsJournalText}
+use Rattle.texts.specs.Split.{parts_of}
+use Rattle.texts.specs.ReadingJournals.{entry_named, entry_of, journal_of}
+use Rattle.texts.specs.Reading.{Gives}
+use Rattle.texts.specs.ReadingWords.{formed_words}
+use Rattle.texts.specs.declared.fault.ReadError.{ReadError}
+use Rattle.texts.specs.Words.{is_thread}
+use Rattle.texts.proofs.JournalLemmas.{counted}
+use Rattle.texts.proofs.ScheduleLaws.{guarded, guarded_option, some_with}
+use Rattle.texts.proofs.WordLaws.{words_of-parts, all_parts, both_true, are_words}
+
+-- ---- one word
+
+pub record IsEntry (bytes : List ℕ) (e : Entry) : Type 0 where
+  pub spelled : bytes ≡ entry_text e
+  pub low : 1 ≤ e.thread
+
+-- the mark of a refused allocation
+abbrev mark : Bool → List ℕ
+mark refused = cond refused (33 ∷ []) []
+
+entry_read : (name : ℕ) (refused : Bool) (e : Entry) → entry_named name refused ≡ Some e → IsEntry (name ∷ mark refused) e
+entry_read name refused e h =
+    let g = guarded (nat_le 49 name && nat_le name 56) (record { thread = name - 48; refused = refused }) e h in
+    let t = both_true (nat_le 49 name) (nat_le name 56) g.0 in
+    let low : 49 ≤ name = grind (arith, nat_tests, t.0) in
+    let high : name ≤ 56 = grind (arith, nat_tests, t.1) in
+    let digit : 48 + (name - 48) ≡ name = omega (arith, low) in
+    subst (IsEntry (name ∷ mark refused)) g.1 (record { spelled = ap (λ (ds : List ℕ). ds ++ mark refused) (sym (decimal_digit (name - 48) (omega (arith, high)) ∙ ap (λ n. n ∷ []) digit)); low = omega (arith, low) })
+
+word_read : (bytes : List ℕ) (e : Entry) → entry_of bytes ≡ Some e → IsEntry bytes e
+word_read [] e h = absurd (cc)
+word_read (name ∷ []) e h = entry_read name false e h
+word_read (name ∷ sign ∷ []) e h =
+    let g = guarded_option (sign == 33) (entry_named name true) e h in
+    let is : sign ≡ 33 = grind (arith, nat_tests, g.0) in
+    subst (λ s. IsEntry (name ∷ s ∷ []) e) (sym is) (entry_read name true e g.1)
+word_read (name ∷ sign ∷ more ∷ bytes) e h = absurd (cc)
+
+-- ---- all words
+
+pub record AreEntriesOf (parts : List (List ℕ)) (es : Journal) : Type 0 where
+  pub spelled : filter is_some_byte parts ≡ map entry_text es
+  pub known : (threads : ℕ) → list_all (λ (e : Entry). nat_le e.thread threads) es ≡ true → list_all (λ (e : Entry). is_thread threads e.thread) es ≡ true
+
+entries_read : (parts : List (List ℕ)) (es : Journal) → formed_words entry_of parts ≡ Some es → AreEntriesOf parts es
+entries_read [] es h = let none : [] ≡ es = cc in subst (AreEntriesOf []) none (record { spelled = refl; known = λ threads k. refl })
+entries_read ([] ∷ parts) es h = let a = entries_read parts es h in record { spelled = a.spelled; known = a.known }
+entries_read ((c ∷ cs) ∷ parts) es h =
+    let w = some_with (entry_of (c ∷ cs)) (formed_words entry_of parts) es h in
+    let first = word_read (c ∷ cs) w.0 w.2 in
+    let a = entries_read parts w.1 w.3 in
+    subst (AreEntriesOf ((c ∷ cs) ∷ parts)) (sym w.4) (record {
+      spelled = ap (λ (b : List ℕ). b ∷ filter is_some_byte parts) first.spelled ∙ ap (λ (bs : List (List ℕ)). entry_text w.0 ∷ bs) a.spelled;
+      known = λ threads k.
+          let both = both_true (nat_le w.0.thread threads) (list_all (λ (e : Entry). nat_le e.thread threads) w.1) k in
+          let one : nat_le 1 w.0.thread ≡ true = grind (arith, nat_tests, first.low) in
+          and_from (is_thread threads w.0.thread) (list_all (λ (e : Entry). is_thread threads e.thread) w.1) (and_from (nat_le 1 w.0.thread) (nat_le w.0.thread threads) one both.0) (a.known threads both.1);
+    })
+
+-- what is read is meant
+pub journal_is_meant : (threads : ℕ) (text : List ℕ) (journal : Journal) → journal_of text threads ≡ Ok journal → IsJournalText threads text journal
+journal_is_meant threads text journal h =
+    let ws = are_words entry_of (λ e. nat_le e.thread threads) (λ e. 1) 1 0 (parts_of 10 text) journal (omega arith) h in
+    let es = entries_read (all_parts text) journal ws.formed in
+    record { spelled = words_of-parts text ∙ es.spelled; threads_known = es.known threads ws.all_known; few = omega (arith, counted journal, ws.few) }
+
+pub journal_means : (threads : ℕ) (text : List ℕ) (r : Result (Vec Entry) ReadError) → Gives (λ (v : Vec Entry). v.items) r (journal_of text threads) → IfOk r (λ (v : Vec Entry). IsJournalText threads text v.items)
+journal_means threads text (Ok v) h = journal_is_meant threads text v.items h
+journal_means threads text (Err e) h = tt

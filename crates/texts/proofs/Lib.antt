@@ -1,0 +1,9 @@
+pub mod PartLemmas
+pub mod WordLemmas
+pub mod LineLemmas
+pub mod JournalLemmas
+pub mod WordLaws
+pub mod ScheduleLaws
+pub mod JournalLaws
+pub mod MeantSchedules
+pub mod MeantJournals

@@ -1,0 +1,12 @@
+pub mod Words
+pub mod ScheduleText
+pub mod JournalMeaning
+pub mod LineRules
+pub mod Rule
+pub mod Reading
+pub mod Split
+pub mod Numbers
+pub mod ReadingWords
+pub mod ReadingSchedules
+pub mod ReadingJournals
+pub mod ReadingLaws

@@ -1,0 +1,69 @@
+//! Why a text is refused.
+
+ghost use Rattle.std.specs.Prelude.{◌≡◌};
+ghost use Rattle.texts.specs.declared.fault.ReadError.TheVariants.{Memory};
+
+use std::alloc::{AllocError, AllocFailed};
+use thiserror::Error;
+
+/// A rule that a line breaks.
+#[derive(Clone, Copy, Debug, PartialEq, Eq)]
+pub enum Rule {
+    /// A class of this name is there already.
+    NameTaken = 61,
+    /// There are 256 classes already.
+    Classes = 64,
+    /// A line or a word has no form that the text may have.
+    Form = 81,
+    /// A name is not known.
+    Name = 82,
+    /// A number, or how many there are of something, is out of its range.
+    Limit = 83,
+    /// The heap is too small for the objects that are made at the start.
+    Heap = 84,
+}
+
+impl Rule {
+    ghost use Rattle.texts.specs.Rule.{rule_number};
+
+    /// The number under which the rule is reported.
+    pub fn number(self) -> u8
+        ensures { result ≡ rule_number self }
+    {
+        self as u8
+    }
+}
+
+/// A text is refused: the first line that breaks a rule, and the rule of the least number there.
+#[derive(Clone, Copy, Debug, PartialEq, Eq, Error)]
+#[error("fault {} line {line}", .rule.number())]
+pub struct TextFault {
+    pub rule: Rule,
+    /// The line, counted from 1.
+    pub line: usize,
+}
+
+/// A text is not read.
+#[derive(Clone, Copy, Debug, PartialEq, Eq, Error)]
+pub enum ReadError {
+    #[error("out of memory")]
+    Memory,
+    #[error(transparent)]
+    Fault(TextFault),
+}
+
+impl From<AllocError> for ReadError {
+    ghost from_gives = { λ _ e. e ≡ Memory };
+
+    fn from(_e: AllocError) -> ReadError {
+        ReadError::Memory
+    }
+}
+
+impl<T: Drop> From<AllocFailed<T>> for ReadError {
+    ghost from_gives = { λ _ e. e ≡ Memory };
+
+    fn from(_e: AllocFailed<T>) -> ReadError {
+        ReadError::Memory
+    }
+}

@@ -1,0 +1,16 @@
+//! Texts that are read: their lines, words and numbers, and the faults of these; schedules and journals.
+#![tactic(auto)]
+
+mod fault;
+mod journal;
+mod numbers;
+mod schedule;
+mod split;
+mod words;
+
+pub use fault::{ReadError, Rule, TextFault};
+pub use journal::{entries_are_read_again, journals_are_read, read_journal};
+pub use numbers::{integer, natural};
+pub use schedule::{Repetition, Schedule, read_schedule, schedules_are_read};
+pub use split::Split;
+pub use words::MOST_WORDS;
