@@ -1,10 +1,10 @@
 -- Words and kinds as values.
-use Rattle.std.proofs.Common.{◌≡◌, ℕ, zero, suc, ◌<◌, List, [], ◌∷◌, length, get_or, replicate, set, refl, sym, ap, ◌∙◌, subst, arith, ⊎_elim}
-use Rattle.std.proofs.lemmas.Bool.{cases_eq}
-use Rattle.std.proofs.lemmas.List.{get_or-set_same, get_or-set_other, get_or_read, length-set}
+use Rattle.std.proofs.Common.{◌≡◌, ℕ, zero, suc, ◌<◌, ◌≤◌, List, [], ◌∷◌, length, get_or, replicate, set, refl, sym, ap, ◌∙◌, subst, arith, ⊎_elim}
+use Rattle.std.proofs.lemmas.Bool.{cases_eq, cases_lt}
+use Rattle.std.proofs.lemmas.List.{get_or-set_same, get_or-set_other, get_or_past, get_or_read, length-set}
 use Rattle.heap.specs.declared.value.Value.{Value}
 use Rattle.heap.specs.declared.value.Value.TheVariants.{Number, Null, Block as Reference}
-use Rattle.heap.specs.Values.{IsNumber, word_of, kind_of, value_of, values_in, AreCells, cell_in, word_in}
+use Rattle.heap.specs.Values.{IsNumber, word_of, kind_of, value_of, values_in, AreCells, AreFilled, cell_in, word_in}
 
 -- ---- one value
 
@@ -139,3 +139,51 @@ number_set ks ws i w h room number =
       };
       seen = values_in-set_word ks ws i w ∙ ap (λ (x : Value). set (values_in ks ws) i x) (value_of-number (get_or ks i 0) w (get_or ws i 0) there);
     }
+
+-- what words and kinds are after a fill, place by place
+pub record IsFilled (xs ys : List ℕ) (from end x : ℕ) : Type 0 where
+  pub len : length ys ≡ length xs
+  pub below : (i : ℕ) → i < from → get_or ys i 0 ≡ get_or xs i 0
+  pub inside : (i : ℕ) → from ≤ i → i < end → get_or ys i 0 ≡ x
+  pub above : (i : ℕ) → end ≤ i → get_or ys i 0 ≡ get_or xs i 0
+
+-- a place is below, inside or above
+either : {P : Type 0} → (from end i : ℕ) → (i < from → P) → (from ≤ i → i < end → P) → (end ≤ i → P) → P
+either {P = P} from end i below inside above =
+    ⊎_elim below (λ (l : from ≤ i). ⊎_elim (λ (u : i < end). inside l u) above (cases_lt i (end))) (cases_lt i from)
+
+fill_cells : (ks ws ls vs : List ℕ) (from end : ℕ) (v : Value) → AreCells ks ws → IsFilled ks ls from end (kind_of v) → IsFilled ws vs from end (word_of v) → AreCells ls vs
+fill_cells ks ws ls vs from end v h kinds words = record {
+  counted = kinds.len ∙ h.counted ∙ sym words.len;
+  nulls = λ i e. either from end i
+      (λ l. words.below i l ∙ h.nulls i (sym (kinds.below i l) ∙ e))
+      (λ l u. words.inside i l u ∙ null_word v (sym (kinds.inside i l u) ∙ e))
+      (λ u. words.above i u ∙ h.nulls i (sym (kinds.above i u) ∙ e));
+}
+
+-- a cell whose kind and word are as they were holds what it held
+same_cell : (ks ws ls vs : List ℕ) (i : ℕ) → AreCells ks ws → AreCells ls vs → length vs ≡ length ws → get_or ls i 0 ≡ get_or ks i 0 → get_or vs i 0 ≡ get_or ws i 0 → cell_in (values_in ls vs) i ≡ cell_in (values_in ks ws) i
+same_cell ks ws ls vs i h k len kind word =
+    let one = length-values_in ks ws h.counted in
+    let two = length-values_in ls vs k.counted in
+    ⊎_elim
+    (λ (l : i < length ws). cell_in-values_in ls vs i k.counted (omega arith) ∙ ap (λ n. value_of n (get_or vs i 0)) kind ∙ ap (value_of (get_or ks i 0)) word ∙ sym (cell_in-values_in ks ws i h.counted l))
+    (λ (l : length ws ≤ i). get_or_past (values_in ls vs) i Null (omega arith) ∙ sym (get_or_past (values_in ks ws) i Null (omega arith)))
+    (cases_lt i (length ws))
+
+pub values_filled : (ks ws ls vs : List ℕ) (values : List Value) (from end : ℕ) (v : Value) → AreCells ks ws → values_in ks ws ≡ values → end ≤ length values → IsFilled ks ls from end (kind_of v) → IsFilled ws vs from end (word_of v) → AreCells ls vs × AreFilled values (values_in ls vs) from end v
+values_filled ks ws ls vs values from end v h seen room kinds words =
+    let k = fill_cells ks ws ls vs from end v h kinds words in
+    let one = length-values_in ks ws h.counted in
+    let two = length-values_in ls vs k.counted in
+    let len : length vs ≡ length ws = words.len in
+    let count : length (values_in ks ws) ≡ length values = ap length seen in
+    let held = λ (i : ℕ). ap (λ (xs : List Value). cell_in xs i) seen in (
+      k,
+      record {
+        len = omega arith;
+        below = λ i l. same_cell ks ws ls vs i h k len (kinds.below i l) (words.below i l) ∙ held i;
+        inside = λ i l u. cell_in-values_in ls vs i k.counted (omega arith) ∙ ap (λ n. value_of n (get_or vs i 0)) (kinds.inside i l u) ∙ ap (value_of (kind_of v)) (words.inside i l u) ∙ value_of-parts v;
+        above = λ i u. same_cell ks ws ls vs i h k len (kinds.above i u) (words.above i u) ∙ held i;
+      },
+    )

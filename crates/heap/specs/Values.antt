@@ -1,5 +1,5 @@
 -- How cells hold values: a word, and a kind beside it.
-use Rattle.std.specs.Prelude.{◌≡◌, ℕ, zero, suc, List, [], ◌∷◌, length, slice_index, slice_index_or}
+use Rattle.std.specs.Prelude.{◌≡◌, ℕ, zero, suc, ◌<◌, ◌≤◌, List, [], ◌∷◌, length, slice_index, slice_index_or}
 use Rattle.heap.specs.declared.value.Value.{Value}
 use Rattle.heap.specs.declared.value.Value.TheVariants.{Number, Null, Block as Reference}
 
@@ -45,3 +45,10 @@ cell_in cells i = slice_index_or cells i Null
 -- the word in a cell
 abbrev pub word_in : List Value → ℕ → ℕ
 word_in cells i = word_of (cell_in cells i)
+
+-- the cells from one to before another have this value now, and the others what they had
+pub record AreFilled (before after : List Value) (from end : ℕ) (v : Value) : Type 0 where
+  pub len : length after ≡ length before
+  pub below : (i : ℕ) → i < from → cell_in after i ≡ cell_in before i
+  pub inside : (i : ℕ) → from ≤ i → i < end → cell_in after i ≡ v
+  pub above : (i : ℕ) → end ≤ i → cell_in after i ≡ cell_in before i

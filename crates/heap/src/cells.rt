@@ -1,8 +1,8 @@
 //! Cells with values.
 
-ghost use Rattle.std.specs.Prelude.{◌≡◌, ◌<◌, Some, length, replicate, slice_get, slice_set, IfOk};
+ghost use Rattle.std.specs.Prelude.{◌≡◌, ℕ, ◌<◌, ◌≤◌, length, replicate, slice_index, slice_set, IfOk};
 ghost use Rattle.heap.specs.declared.value.Value.TheVariants.{Number};
-ghost use Rattle.heap.specs.Values.{IsNumber, cell_in, word_in, kind_of, word_of};
+ghost use Rattle.heap.specs.Values.{AreFilled, IsNumber, cell_in, word_in, kind_of, word_of};
 
 use crate::addr::Addr;
 use crate::value::Value;
@@ -88,6 +88,15 @@ impl Cells {
         self.kinds[place] = kind(&value);
     }
 
+    /// Writes a value to each cell from one to before another.
+    pub fn fill(&mut self, from: usize, end: usize, value: &Value)
+        requires { (from ≤ end) × (end ≤ length self.old) }
+        ensures { AreFilled self.old self.new from end value.now }
+    {
+        fill_words(&mut self.words, from, end, word(value));
+        fill_kinds(&mut self.kinds, from, end, kind(value));
+    }
+
     /// Writes a number over another.
     pub fn set_number(&mut self, place: usize, number: u32)
         requires place { place < length self.old }
@@ -96,6 +105,28 @@ impl Cells {
     {
         self.words[place] = number;
     }
+}
+
+/// Writes a word to each place from one to before another.
+fn fill_words(words: &mut [u32], from: usize, end: usize, word: u32)
+    requires { (from ≤ end) × (end ≤ length words.old) }
+    ensures len { length words.new ≡ length words.old }
+    ensures below { (i : ℕ) → i < from → slice_index words.new i ≡ slice_index words.old i }
+    ensures inside { (i : ℕ) → from ≤ i → i < end → slice_index words.new i ≡ word }
+    ensures above { (i : ℕ) → end ≤ i → slice_index words.new i ≡ slice_index words.old i }
+{
+    words[from..end].fill(word);
+}
+
+/// Writes a kind to each place from one to before another.
+fn fill_kinds(kinds: &mut [u8], from: usize, end: usize, kind: u8)
+    requires { (from ≤ end) × (end ≤ length kinds.old) }
+    ensures len { length kinds.new ≡ length kinds.old }
+    ensures below { (i : ℕ) → i < from → slice_index kinds.new i ≡ slice_index kinds.old i }
+    ensures inside { (i : ℕ) → from ≤ i → i < end → slice_index kinds.new i ≡ kind }
+    ensures above { (i : ℕ) → end ≤ i → slice_index kinds.new i ≡ slice_index kinds.old i }
+{
+    kinds[from..end].fill(kind);
 }
 
 /// The word that is written for a value.

@@ -4,7 +4,7 @@ ghost use Rattle.std.specs.Prelude.{◌≡◌, ℕ, ◌+◌, ◌-◌, ◌<◌, �
 ghost use Rattle.heap.specs.declared.value.Value.TheVariants.{Number};
 ghost use Rattle.heap.specs.Heap.{IsAddress, IsNumberAt, IsLaidOut, block_at, class_at, name_at, values_at, pins_at, addresses, left_of, end_of, fresh_block, with_block, with_value, with_pins};
 ghost use Rattle.heap.specs.Cells.{cells_from};
-ghost use Rattle.heap.specs.Values.{word_in};
+ghost use Rattle.heap.specs.Values.{cell_in, word_in};
 
 use crate::addr::Addr;
 use crate::cells::Cells;
@@ -213,7 +213,7 @@ fn write_block(cells: &mut Cells, address: usize, class: u32, birth: u32, len: u
     requires room { address + 3 + len ≤ length cells.old }
     requires limit { length cells.old ≤ MOST_CELLS }
     ensures count { length cells.new ≡ length cells.old }
-    ensures below { take address cells.new ≡ take address cells.old }
+    ensures below { (i : ℕ) → i < address → cell_in cells.new i ≡ cell_in cells.old i }
     ensures class { word_in cells.new address ≡ class }
     ensures birth { word_in cells.new (address + 1) ≡ birth }
     ensures length { word_in cells.new (address + 2) ≡ len }
@@ -222,7 +222,6 @@ fn write_block(cells: &mut Cells, address: usize, class: u32, birth: u32, len: u
     cells.set(address, Value::Number(class));
     cells.set(address + 1, Value::Number(birth));
     cells.set(address + 2, Value::Number(len as u32));
-    for place in 0..len {
-        cells.set(address + HEADER + place, *fill);
-    }
+    let values = address + HEADER;
+    cells.fill(values, values + len, fill);
 }
