@@ -7,10 +7,10 @@ ghost use Rattle.expressions.specs.Steps.{ReadCall, ReadSetting, made_of};
 ghost use Rattle.lexemes.specs.Lexemes.{views, expect};
 ghost use Rattle.expressions.specs.Reading.{interface_at, value_at, argument_at, arguments_at, call_at, starts_call, right_at, setting_at, test_at};
 
-use lexemes::Cursor;
 use crate::expressions::{expression, right_expression};
-use lexemes::ParseFault;
-use lexemes::{Fixed, expect, name_at, number_at, rest_of, starts_with, text_at};
+use lexemes::{
+    Cursor, Fixed, ParseFault, expect, name_at, number_at, rest_of, starts_with, text_at,
+};
 use scan::{Mark, Word};
 use std::alloc::Global;
 use syntax::{Argument, Call, Name, RightSide, Test};
@@ -106,11 +106,7 @@ fn called<'t>(
 
 /// A call.
 #[tactic(auto, unfolding(crate::specs::Reading::call_at))]
-pub fn call(
-    alloc: Global,
-    room: u32,
-    lexemes: Cursor<'_>,
-) -> Result<(Call, Cursor<'_>), ParseFault>
+pub fn call(alloc: Global, room: u32, lexemes: Cursor<'_>) -> Result<(Call, Cursor<'_>), ParseFault>
     requires { room ≤ 32 }
     ensures { Gives (λ x. (call_tree x.0, views x.1)) result (call_at room (views lexemes.entry)) }
 {
@@ -186,11 +182,7 @@ pub fn setting(
 
 /// An expression, or a call that is tested for 0.
 #[tactic(auto, unfolding(crate::specs::Reading::test_at))]
-pub fn test(
-    alloc: Global,
-    room: u32,
-    lexemes: Cursor<'_>,
-) -> Result<(Test, Cursor<'_>), ParseFault>
+pub fn test(alloc: Global, room: u32, lexemes: Cursor<'_>) -> Result<(Test, Cursor<'_>), ParseFault>
     requires { room ≤ 32 }
     ensures { Gives (λ x. (test_tree x.0, views x.1)) result (test_at room (views lexemes.entry)) }
 {

@@ -11,11 +11,9 @@ ghost use Rattle.lexemes.specs.Lexemes.{views, expect};
 ghost use Rattle.expressions.specs.Reading.{ReadExpr, operator_at, binary_of_mark, primary_at, starts_element, starts_inside, index_at, operand_at, expr_at, right_expr_at, under_prefix, after_paren, in_parens, element_by, deeper};
 ghost use Rattle.lexemes.specs.Reading.{constant_of_word};
 
-use lexemes::Cursor;
-use lexemes::{Fault, ParseFault};
 use lexemes::{
-    Fixed, Shape, expect, fault_at, mark_at, name_at, rest_of, shape_at, starts_name, starts_with,
-    unexpected,
+    Cursor, Fault, Fixed, ParseFault, Shape, expect, fault_at, mark_at, name_at, rest_of, shape_at,
+    starts_name, starts_with, unexpected,
 };
 use scan::{Mark, Word};
 use std::alloc::{AllocError, Global};
@@ -281,11 +279,7 @@ fn element(alloc: Global, room: u32, lexemes: Cursor<'_>) -> Result<ReadExpr<'_>
 /// An index in its brackets, which counts one.
 #[cycle(expressions)]
 #[tactic(auto, using(crate::proofs::Climbing::deeps), unfolding(crate::specs::Reading::index_by))]
-pub fn index(
-    alloc: Global,
-    room: u32,
-    lexemes: Cursor<'_>,
-) -> Result<ReadExpr<'_>, ParseFault>
+pub fn index(alloc: Global, room: u32, lexemes: Cursor<'_>) -> Result<ReadExpr<'_>, ParseFault>
     requires { room ≤ 32 }
     ensures low { IfOk result (λ x. x.1 < room) }
     ensures gives { Gives (λ x. (expr_tree x.0, x.1, views x.2)) result (index_at room (views lexemes.entry)) }

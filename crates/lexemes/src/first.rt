@@ -28,10 +28,7 @@ pub enum Fixed {
 pub enum Shape {
     Fixed(Fixed),
     Name,
-    Number {
-        unsigned: bool,
-        value: u32,
-    },
+    Number { unsigned: bool, value: u32 },
     Text,
     /// There is no lexeme after the end.
     Nothing,
@@ -283,11 +280,7 @@ pub fn text_at(rest: Cursor<'_>) -> Option<&[u8]>
 
 /// A number without `u`, from the least to the most, and what stands after it.
 #[tactic(auto, unfolding(crate::specs::Reading::number_at))]
-pub fn number_at(
-    least: u32,
-    most: u32,
-    rest: Cursor<'_>,
-) -> Result<(u32, Cursor<'_>), ParseFault>
+pub fn number_at(least: u32, most: u32, rest: Cursor<'_>) -> Result<(u32, Cursor<'_>), ParseFault>
     ensures { Gives (λ x. (x.0, views x.1)) result (number_at least most (views rest.entry)) }
 {
     match shape_at(rest) {

@@ -7,10 +7,10 @@ ghost use Rattle.lexemes.specs.Lexemes.{views};
 ghost use Rattle.parse.specs.Reading.{zeros_at, array_at, is_array, after_element, after_variable, after_const, declared_at, starts_declaration};
 
 use expressions::setting;
-use lexemes::Cursor;
-use lexemes::ParseFault;
-use lexemes::{Fixed, expect, line_at, name_at, number_at, rest_of, starts_with};
-use lexemes::{element_type, variable_type};
+use lexemes::{
+    Cursor, Fixed, ParseFault, element_type, expect, line_at, name_at, number_at, rest_of,
+    starts_with, variable_type,
+};
 use scan::{Mark, Word};
 use std::alloc::Global;
 use syntax::{ElementType, Form, Name, Stmt, VariableType};

@@ -9,14 +9,12 @@ ghost use Rattle.lexemes.specs.Lexemes.{views, lexemes};
 ghost use Rattle.parse.specs.Spelling.{SpellsUnit};
 ghost use Rattle.parse.specs.Reading.{head_at, body_at, signature_at, function_at, static_at, item_at, items_at, unit_at};
 
-use lexemes::{Cursor, Source};
-use lexemes::{Fault, ParseFault};
-use lexemes::{
-    Fixed, expect, fault_at, line_at, name_at, rest_of, start, starts_with, unexpected,
-};
 use crate::parameters::{NAMES, parameters};
 use crate::statements::block;
-use lexemes::{reference_type, result_type};
+use lexemes::{
+    Cursor, Fault, Fixed, ParseFault, Source, expect, fault_at, line_at, name_at, reference_type,
+    rest_of, result_type, start, starts_with, unexpected,
+};
 use scan::{Mark, Token, Word, one_spelling};
 use std::alloc::Global;
 use syntax::{Block, Function, Item, Name, ResultType, Static, Unit};

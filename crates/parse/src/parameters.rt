@@ -6,10 +6,10 @@ ghost use Rattle.lexemes.specs.Results.{Gives};
 ghost use Rattle.lexemes.specs.Lexemes.{views};
 ghost use Rattle.parse.specs.Reading.{parameter_at, parameters_at};
 
-use lexemes::Cursor;
-use lexemes::{Fault, ParseFault};
-use lexemes::{Fixed, fault_at, name_at, rest_of, starts_with, unexpected};
-use lexemes::parameter_type;
+use lexemes::{
+    Cursor, Fault, Fixed, ParseFault, fault_at, name_at, parameter_type, rest_of, starts_with,
+    unexpected,
+};
 use scan::Mark;
 use std::alloc::Global;
 use syntax::{Name, Parameter};

@@ -7,11 +7,8 @@ ghost use Rattle.parse.specs.Steps.{element_set_at};
 ghost use Rattle.lexemes.specs.Lexemes.{views};
 ghost use Rattle.parse.specs.Reading.{put_at, return_at, perform_at, set_element_at, set_at, plain_at};
 
-use expressions::{call, setting};
-use lexemes::Cursor;
-use expressions::{closed, expression, index, starts_element};
-use lexemes::ParseFault;
-use lexemes::{Fixed, expect, line_at, name_at, rest_of, starts_with};
+use expressions::{call, closed, expression, index, setting, starts_element};
+use lexemes::{Cursor, Fixed, ParseFault, expect, line_at, name_at, rest_of, starts_with};
 use scan::{Mark, Word};
 use std::alloc::Global;
 use syntax::{Expr, Form, Name, Stmt};

@@ -6,13 +6,12 @@ ghost use Rattle.lexemes.specs.Results.{Gives};
 ghost use Rattle.lexemes.specs.Lexemes.{views};
 ghost use Rattle.parse.specs.Reading.{simple_at, inner, if_test_at, if_by, else_by, while_test_at, while_by, is_return, statement_at, block_at};
 
-use expressions::test;
-use lexemes::Cursor;
 use crate::declarations::{declared, starts_declaration};
-use expressions::{closed, expression};
-use lexemes::{Fault, ParseFault};
-use lexemes::{Fixed, expect, fault_at, line_at, rest_of, starts_with, unexpected};
 use crate::plain::plain;
+use expressions::{closed, expression, test};
+use lexemes::{
+    Cursor, Fault, Fixed, ParseFault, expect, fault_at, line_at, rest_of, starts_with, unexpected,
+};
 use scan::{Mark, Word};
 use std::alloc::Global;
 use syntax::{Block, Expr, Form, Stmt, Test};
