@@ -9,9 +9,9 @@ use clap::Error;
 use clap::error::ErrorKind;
 use explanations::Explanation;
 use jnirun::{COMMAND_LINE, DONE, Files, fail, say, serve};
+use report::Sink;
 use std::alloc::Global;
 use std::convert::AsStr;
-use report::Sink;
 
 const NO_EXPLANATION: &[u8] =
     b"error: there is no fault or trap of this number: explain N, or explain trap N\n";

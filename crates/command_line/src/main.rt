@@ -8,8 +8,8 @@ mod words;
 use crate::answering::answer;
 use crate::words::parse;
 use jnirun::{COMMAND_LINE, FileSystem, fail};
-use std::process::ExitCode;
 use report::StdSink;
+use std::process::ExitCode;
 
 fn main(rt: HostRuntime) -> ExitCode {
     let mut out = StdSink::new(rt.stdout());

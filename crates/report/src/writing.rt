@@ -8,10 +8,10 @@ ghost use Rattle.report.specs.Shown.{report_with};
 ghost use Rattle.report.specs.JournalText.{entry_text, journal_line};
 ghost use Rattle.report.specs.JournalText.{spelled_entries};
 
-use crate::thread_status::{ThreadStatus, put_standings};
 use crate::rows::Rows;
 use crate::sink::{Sink, SinkFailed, put_all};
 use crate::text::put_each;
+use crate::thread_status::{ThreadStatus, put_standings};
 use arrayvec::ArrayVec;
 use itoa::Buffer;
 use source::{Entry, Printed};
