@@ -1,0 +1,14 @@
+-- What holds of each table of classes in memory.
+use Rattle.std.specs.Prelude.{◌≡◌, true}
+use Rattle.std.specs.List.{list_any}
+use Rattle.std.specs.Str.{bytes_eq}
+use Rattle.base.specs.Bytes.{Identifier}
+use Rattle.classes.specs.Class.{Class, Classes, array_name}
+
+-- a class has the name
+abbrev pub HasName : Classes → Identifier → Type 0
+HasName classes name = list_any (λ (c : Class). bytes_eq c.name name) classes ≡ true
+
+-- where there is the class of arrays of objects of a class, there is that class
+abbrev pub ArraysHaveElements : Classes → Type 0
+ArraysHaveElements classes = (name : Identifier) → HasName classes (array_name name) → HasName classes name

@@ -1,0 +1,62 @@
+//! The classes of a table as its map holds them.
+
+ghost use Rattle.std.specs.Prelude.{◌≡◌, ◌+◌, ◌<◌, ◌≤◌, ◌++◌, ◌∷◌, [], Some, None, IfOk};
+ghost use Rattle.indexmap.specs.IndexMap.{spare};
+ghost use Rattle.classes.specs.Additions.{new_class};
+ghost use Rattle.classes.specs.BuiltIns.{array_class};
+ghost use Rattle.classes.specs.Class.{class_named, array_name};
+ghost use Rattle.classes.specs.Views.{class_view, classes_view, kind_view};
+
+use crate::built_ins::OBJECT;
+use crate::class::{ClassKind, Entry};
+use indexmap::IndexMap;
+use std::alloc::{AllocError, Global};
+
+/// Classes by name, in the order of their declarations.
+pub(crate) type Entries = IndexMap<Vec<u8>, Entry>;
+
+impl Entry {
+    /// A plain class without fields.
+    pub(crate) fn without_fields(alloc: Global, superclass: usize) -> Entry
+        ensures { (name : _) → class_view (name, result) ≡ new_class name.items (Some superclass) }
+    {
+        Entry {
+            superclass: Some(superclass),
+            kind: ClassKind::Plain,
+            fields: Vec::new(alloc),
+            statics: Vec::new(alloc),
+        }
+    }
+
+    /// A class of arrays.
+    pub(crate) fn of_arrays(alloc: Global, kind: ClassKind) -> Entry
+        ensures { (name : _) → class_view (name, result) ≡ array_class name.items (kind_view kind) }
+    {
+        Entry {
+            superclass: Some(OBJECT),
+            kind,
+            fields: Vec::new(alloc),
+            statics: Vec::new(alloc),
+        }
+    }
+}
+
+/// The name of the class of arrays whose elements are of the class of this name.
+pub(crate) fn array_name(alloc: Global, element: &[u8]) -> Result<Vec<u8>, AllocError>
+    ensures { IfOk result (λ name. name.items ≡ array_name element.now) }
+{
+    let mut name = Vec::from_slice(alloc, b"[L")?;
+    name.extend_from_slice(element)?;
+    name.push(b';')?;
+    Ok(name)
+}
+
+/// Puts a class after the others.
+pub(crate) fn put(classes: &mut Entries, name: Vec<u8>, entry: Entry)
+    requires new { class_named (classes_view classes.old.entries) name.items ≡ None }
+    requires room { 0 < spare classes.old }
+    ensures entries { classes_view classes.new.entries ≡ classes_view classes.old.entries ++ class_view (name, entry) ∷ [] }
+    ensures room { spare classes.old ≤ spare classes.new + 1 }
+{
+    let _ = classes.insert(name, entry).unwrap();
+}
