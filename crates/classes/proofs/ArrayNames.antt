@@ -19,7 +19,7 @@ use Rattle.classes.proofs.MangledNames.{array_name-no_class}
 pub same_name : (a b : Identifier) → bytes_eq a b ≡ true → a ≡ b
 same_name a b h = (bytes_eq-Decides a b).0 h
 
-is_same : (a b : Identifier) → a ≡ b → bytes_eq a b ≡ true
+pub is_same : (a b : Identifier) → a ≡ b → bytes_eq a b ≡ true
 is_same a b e = (bytes_eq-Decides a b).1 e
 
 -- the name of a class is told by that of its arrays
@@ -31,6 +31,10 @@ element_name a b e =
 pub cases : {P : Type 0} (a b : Bool) → (a || b) ≡ true → (a ≡ true → P) → (b ≡ true → P) → P
 cases true b h f g = f refl
 cases false b h f g = g h
+
+or_true : (a b : Bool) → b ≡ true → (a || b) ≡ true
+or_true true b e = refl
+or_true false b e = e
 
 -- a class name is no array's
 pub no_array : (name element : Identifier) → is_class_name name ≡ true → bytes_eq name (array_name element) ≡ true → ⊥
@@ -52,17 +56,16 @@ element-there n [] name h = h
 element-there n (c ∷ P) name h =
     cases (bytes_eq (array_name c.name) (array_name name)) (has_name (map object_array_class (enumerate_from (n + 1) P)) (array_name name)) h
     (λ q. ap (λ b. b || has_name P name) (is_same c.name name (element_name c.name name (same_name (array_name c.name) (array_name name) q))))
-    (λ q. later (bytes_eq c.name name) (has_name P name) (element-there (n + 1) P name q))
-  where
-    later : (a b : Bool) → b ≡ true → (a || b) ≡ true
-    later true b e = refl
-    later false b e = e
+    (λ q. or_true (bytes_eq c.name name) (has_name P name) (element-there (n + 1) P name q))
 
 pub either-append : (T U : Classes) (name : Identifier) → has_name (T ++ U) name ≡ (has_name T name || has_name U name)
 either-append T U name = list_any-append (λ (c : Class). bytes_eq c.name name) T U
 
-first_of_both : (T U : Classes) (name : Identifier) → has_name T name ≡ true → has_name (T ++ U) name ≡ true
+pub first_of_both : (T U : Classes) (name : Identifier) → has_name T name ≡ true → has_name (T ++ U) name ≡ true
 first_of_both T U name h = either-append T U name ∙ ap (λ b. b || has_name U name) h
+
+pub second_of_both : (T U : Classes) (name : Identifier) → has_name U name ≡ true → has_name (T ++ U) name ≡ true
+second_of_both T U name h = either-append T U name ∙ or_true (has_name T name) (has_name U name) h
 
 pub listed-elements : (list : List BuiltIn) → list_all (λ b. is_class_name b.name.now) list ≡ true → ArraysHaveElements (listed_classes list)
 listed-elements list all name h =

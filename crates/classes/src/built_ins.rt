@@ -27,6 +27,9 @@ pub struct BuiltInField {
 /// The number of `java/lang/Object`.
 pub const OBJECT: usize = 1;
 
+/// The number of `java/lang/Class`.
+pub const CLASS: usize = 2;
+
 /// The number of `java/lang/String`.
 pub const STRING: usize = 3;
 

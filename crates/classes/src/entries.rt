@@ -1,8 +1,8 @@
 //! The classes of a table as its map holds them.
 
-ghost use Rattle.std.specs.Prelude.{◌≡◌, ◌+◌, ◌<◌, ◌≤◌, ◌++◌, ◌∷◌, [], Some, None, IfOk};
+ghost use Rattle.std.specs.Prelude.{◌≡◌, ◌+◌, ◌<◌, ◌≤◌, ◌++◌, ◌∷◌, [], Some, None, IfOk, is_ok, if◌then◌else◌};
 ghost use Rattle.indexmap.specs.IndexMap.{spare};
-ghost use Rattle.classes.specs.Additions.{new_class};
+ghost use Rattle.classes.specs.Additions.{new_class, with_class};
 ghost use Rattle.classes.specs.BuiltIns.{array_class};
 ghost use Rattle.classes.specs.Class.{class_named, array_name};
 ghost use Rattle.classes.specs.Views.{class_view, classes_view, kind_view};
@@ -59,4 +59,28 @@ pub(crate) fn put(classes: &mut Entries, name: Vec<u8>, entry: Entry)
     ensures room { spare classes.old ≤ spare classes.new + 1 }
 {
     let _ = classes.insert(name, entry).unwrap();
+}
+
+/// Puts a plain class and the class of its arrays after the others. After a refusal there are the classes that there were.
+pub(crate) fn put_class(
+    classes: &mut Entries,
+    name: &[u8],
+    superclass: usize,
+) -> Result<(), AllocError>
+    requires new { class_named (classes_view classes.old.entries) name.now ≡ None }
+    requires new_arrays { class_named (classes_view classes.old.entries) (array_name name.now) ≡ None }
+    ensures { classes_view classes.new.entries ≡ (if is_ok result then with_class (classes_view classes.old.entries) (new_class name.now (Some superclass)) else classes_view classes.old.entries) }
+{
+    let alloc = *classes.allocator();
+    classes.reserve(2)?;
+    let array = array_name(alloc, name)?;
+    let name = Vec::from_slice(alloc, name)?;
+    let class = classes.len() + 1;
+    put(classes, name, Entry::without_fields(alloc, superclass));
+    put(
+        classes,
+        array,
+        Entry::of_arrays(alloc, ClassKind::ArrayOfObjects(class)),
+    );
+    Ok(())
 }

@@ -16,7 +16,7 @@ use std::marker::Model;
 /// The classes, each at its number, which is its place counted from 1. A class is found by its name or its number in constant time.
 #[derive(Drop)]
 pub struct ClassTable {
-    classes: Entries,
+    pub(crate) classes: Entries,
 }
 
 impl Model for ClassTable {
