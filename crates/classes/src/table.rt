@@ -72,7 +72,7 @@ impl ClassTable {
     }
 
     /// The class of a number: its name, and what else is kept of it.
-    fn entry(&self, class: usize) -> Option<(&Vec<u8>, &Entry)>
+    pub(crate) fn entry(&self, class: usize) -> Option<(&Vec<u8>, &Entry)>
         ensures { option_map (λ p. class_view (p.0.now, p.1.now)) result ≡ class_at self.now class }
     {
         if class == 0 {
