@@ -1,14 +1,15 @@
 //! The classes of a table as its map holds them.
 
 ghost use Rattle.std.specs.Prelude.{◌≡◌, ◌+◌, ◌<◌, ◌≤◌, ◌++◌, ◌∷◌, [], Some, None, IfOk, is_ok, if◌then◌else◌};
-ghost use Rattle.indexmap.specs.IndexMap.{spare};
+ghost use Rattle.indexmap.specs.IndexMap.{spare, index_map_len};
 ghost use Rattle.classes.specs.Additions.{new_class, with_class};
 ghost use Rattle.classes.specs.BuiltIns.{array_class};
 ghost use Rattle.classes.specs.Class.{class_named, array_name};
-ghost use Rattle.classes.specs.Views.{class_view, classes_view, kind_view};
+ghost use Rattle.classes.specs.FieldViews.{with_declared};
+ghost use Rattle.classes.specs.Views.{class_view, classes_view, field_view, kind_view};
 
 use crate::built_ins::OBJECT;
-use crate::class::{ClassKind, Entry};
+use crate::class::{ClassKind, Entry, Field};
 use indexmap::IndexMap;
 use std::alloc::{AllocError, Global};
 
@@ -82,5 +83,19 @@ pub(crate) fn put_class(
         array,
         Entry::of_arrays(alloc, ClassKind::ArrayOfObjects(class)),
     );
+    Ok(())
+}
+
+/// Puts a field, or a static, after the others of the class at this place. After a refusal the classes are what they were.
+pub(crate) fn put_field(classes: &mut Entries, place: usize, field: Field, is_static: bool) -> Result<(), AllocError>
+    requires { place < index_map_len classes.old }
+    ensures { classes_view classes.new.entries ≡ (if is_ok result then with_declared (classes_view classes.old.entries) (Some (place + 1)) (field_view field) is_static else classes_view classes.old.entries) }
+{
+    let entry = &mut classes[place];
+    if is_static {
+        entry.statics.push(field)?;
+    } else {
+        entry.fields.push(field)?;
+    }
     Ok(())
 }
