@@ -1,14 +1,19 @@
 -- A table with the class of one place changed.
-use Rattle.std.proofs.Common.{◌≡◌, ℕ, zero, suc, ◌+◌, ◌<◌, Bool, true, false, cond, List, [], ◌∷◌, ◌++◌, map, Option, Some, None, slice_get, refl, sym, ap, ◌∙◌, arith}
-use Rattle.std.specs.Prelude.{◌==◌, Result, Ok, Err, is_ok, IsErr, if◌then◌else◌}
+use Rattle.std.proofs.Common.{◌≡◌, ℕ, zero, suc, ◌+◌, ◌<◌, Bool, true, false, cond, List, [], ◌∷◌, ◌++◌, map, Option, Some, slice_get, refl, sym, ap, ◌∙◌, arith}
+use Rattle.std.specs.Prelude.{◌==◌, ◌||◌, unwrap_or, Result, Ok, Err, is_ok, IsErr, if◌then◌else◌}
 use Rattle.std.specs.List.{enumerate_from}
 use Rattle.std.specs.Map.{values_of}
 use Rattle.std.specs.Global.{Vec}
 use Rattle.std.proofs.lemmas.Bool.Decides.{nat_tests}
 use Rattle.indexmap.specs.IndexMap.{set_value_at}
 use Rattle.classes.specs.declared.class.Entry.{Entry}
-use Rattle.classes.specs.Class.{Class, Classes}
+use Rattle.classes.specs.Class.{Field, Class, Classes, array_name}
 use Rattle.classes.specs.Additions.{with_changed_class}
+use Rattle.std.specs.Str.{bytes_eq}
+use Rattle.base.specs.Bytes.{Identifier}
+use Rattle.classes.specs.FieldViews.{with_declared}
+use Rattle.classes.specs.Tables.{ArraysHaveElements}
+use Rattle.classes.proofs.DistinctNames.{has_name}
 use Rattle.classes.specs.Views.{class_view, classes_view}
 
 module _ (change : Class → Class) where
@@ -52,3 +57,21 @@ unchanged (x ∷ es) (suc i) e new h is = ap (λ T. class_view x ∷ T) (unchang
 pub refused : {A E : Type 0} (r : Result A E) (more kept : Classes) → IsErr r → kept ≡ (if is_ok r then more else kept)
 refused (Ok x) more kept h = absurd (cc)
 refused (Err e) more kept h = refl
+
+-- the names stay as they are
+names-kept : (change : Class → Class) → ((d : Class) → (change d).name ≡ d.name) → (c n : ℕ) (T : Classes) (name : Identifier) → has_name (from change c n T) name ≡ has_name T name
+names-kept change same c n [] name = refl
+names-kept change same c n (d ∷ T) name = step (n == c) (names-kept change same c (n + 1) T name)
+  where
+    step : (b : Bool) → has_name (from change c (n + 1) T) name ≡ has_name T name → (bytes_eq (cond b (change d) d).name name || has_name (from change c (n + 1) T) name) ≡ (bytes_eq d.name name || has_name T name)
+    step true e = λ i. bytes_eq (same d i) name || e i
+    step false e = λ i. bytes_eq d.name name || e i
+
+-- where there is a class of arrays there is that of the elements, also with a field more
+pub declared-elements : (T : Classes) (c : Option ℕ) (field : Field) (is_static : Bool) → ArraysHaveElements T → ArraysHaveElements (with_declared T c field is_static)
+declared-elements T c field true elements name h =
+    let change : Class → Class = λ d. record d { statics = d.statics ++ field ∷ [] } in
+    names-kept change (λ d. refl) (unwrap_or c 0) 1 T name ∙ elements name (sym (names-kept change (λ d. refl) (unwrap_or c 0) 1 T (array_name name)) ∙ h)
+declared-elements T c field false elements name h =
+    let change : Class → Class = λ d. record d { fields = d.fields ++ field ∷ [] } in
+    names-kept change (λ d. refl) (unwrap_or c 0) 1 T name ∙ elements name (sym (names-kept change (λ d. refl) (unwrap_or c 0) 1 T (array_name name)) ∙ h)

@@ -87,7 +87,12 @@ pub(crate) fn put_class(
 }
 
 /// Puts a field, or a static, after the others of the class at this place. After a refusal the classes are what they were.
-pub(crate) fn put_field(classes: &mut Entries, place: usize, field: Field, is_static: bool) -> Result<(), AllocError>
+pub(crate) fn put_field(
+    classes: &mut Entries,
+    place: usize,
+    field: Field,
+    is_static: bool,
+) -> Result<(), AllocError>
     requires { place < index_map_len classes.old }
     ensures { classes_view classes.new.entries ≡ (if is_ok result then with_declared (classes_view classes.old.entries) (Some (place + 1)) (field_view field) is_static else classes_view classes.old.entries) }
 {

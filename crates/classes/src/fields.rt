@@ -2,8 +2,9 @@
 
 ghost use Rattle.std.specs.Prelude.{◌≡◌, ◌&&◌, ◌++◌, ◌∷◌, [], map, find, codes, true};
 ghost use Rattle.std.specs.Option.{option_map};
+ghost use Rattle.std.specs.List.{enumerate_from};
 ghost use Rattle.std.specs.Str.{bytes_eq};
-ghost use Rattle.classes.specs.Class.{NumberField};
+ghost use Rattle.classes.specs.Class.{NumberField, ReferenceField};
 ghost use Rattle.classes.specs.FieldViews.{field_id_view, declared_as, find_as};
 ghost use Rattle.classes.specs.Fields.{signature, type_of_signature, own_statics};
 ghost use Rattle.classes.specs.Views.{element_view, field_view, field_type_view};
@@ -69,7 +70,7 @@ impl ClassTable {
     }
 
     /// The fields, or the statics, that a class declares itself.
-    fn declared(&self, class: usize, is_static: bool) -> &[Field]
+    pub(crate) fn declared(&self, class: usize, is_static: bool) -> &[Field]
         ensures { map field_view result.now ≡ declared_as self.now class is_static }
     {
         match self.entry(class) {
@@ -125,5 +126,31 @@ impl ClassTable {
             }
         }
         None
+    }
+
+    /// The type of references that has this signature. The cost goes by the number of classes.
+    fn reference_type(&self, text: &[u8]) -> Option<FieldType>
+        ensures { option_map field_type_view result ≡ find (λ type. bytes_eq (signature self.now type) text.now) (map (λ c. ReferenceField c.0) (enumerate_from 1 self.now)) }
+    {
+        for place in 0..self.len() {
+            let reference = FieldType::Reference(place + 1);
+            if self.has_signature(reference, text) {
+                return Some(reference);
+            }
+        }
+        None
+    }
+
+    /// The type of fields that have this signature.
+    pub fn field_type(&self, text: &[u8]) -> Option<FieldType>
+        ensures { option_map field_type_view result ≡ type_of_signature self.now text.now }
+    {
+        match text {
+            b"I" => Some(FieldType::Number(ElementType::Int)),
+            b"S" => Some(FieldType::Number(ElementType::Short)),
+            b"B" => Some(FieldType::Number(ElementType::Byte)),
+            b"C" => Some(FieldType::Number(ElementType::Char)),
+            _ => self.reference_type(text),
+        }
     }
 }
