@@ -17,7 +17,7 @@ use Rattle.classes.proofs.DistinctNames.{has_name}
 use Rattle.classes.specs.Views.{class_view, classes_view}
 
 module _ (change : Class → Class) where
-  abbrev from : ℕ → ℕ → Classes → Classes
+  abbrev pub from : ℕ → ℕ → Classes → Classes
   from c n T = map (λ (d : ℕ × Class). cond (d.0 == c) (change d.1) d.1) (enumerate_from n T)
 
   past : (c n : ℕ) (T : Classes) → c < n → from c n T ≡ T

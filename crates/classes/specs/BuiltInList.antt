@@ -1,5 +1,5 @@
 -- The classes of a table that begins with a list of plain classes.
-use Rattle.std.specs.Prelude.{ℕ, Bool, true, not, ◌&&◌, List, [], ◌∷◌, ◌++◌, map}
+use Rattle.std.specs.Prelude.{ℕ, Bool, true, not, ◌&&◌, List, [], ◌∷◌, ◌++◌, map, length, nat_lt}
 use Rattle.std.specs.List.{list_any, list_all, enumerate_from}
 use Rattle.std.specs.Str.{bytes_eq}
 use Rattle.std.specs.Borrow.{Bor}
@@ -9,6 +9,7 @@ use Rattle.classes.specs.declared.built_ins.BuiltInField.{BuiltInField}
 use Rattle.classes.specs.Class.{Field, Plain, ArrayOfNumbers, Class, Classes}
 use Rattle.classes.specs.BuiltIns.{array_class, number_array_classes, object_array_class}
 use Rattle.classes.specs.Mangling.{is_class_name}
+use Rattle.classes.specs.Tables.{has_few_fields}
 use Rattle.classes.specs.Views.{element_view, field_type_view}
 
 abbrev pub listed_field : BuiltInField → Field
@@ -34,6 +35,10 @@ abbrev pub names_differ : Classes → Bool
 names_differ [] = true
 names_differ (c ∷ classes) = not (list_any (λ (d : Class). bytes_eq d.name c.name) classes) && names_differ classes
 
--- a list of which a table can be made: it has names of classes, and each name once
+-- a list of which a table can be made: it has names of classes and each name once, and no more classes and fields than there may be
 abbrev pub is_class_list : List BuiltIn → Bool
-is_class_list list = list_all (λ b. is_class_name b.name.now) list && names_differ (listed_classes list)
+is_class_list list =
+    list_all (λ b. is_class_name b.name.now) list
+    && names_differ (listed_classes list)
+    && nat_lt (length (listed_classes list)) 257
+    && list_all has_few_fields (listed_classes list)

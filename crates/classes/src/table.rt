@@ -27,11 +27,11 @@ impl Model for ClassTable {
     ghost Value = { Classes };
 
     ghost use Rattle.classes.specs.Views.{classes_view};
-    ghost use Rattle.classes.specs.Tables.{ArraysHaveElements};
+    ghost use Rattle.classes.specs.Tables.{IsTable};
 
     ghost view = { λ t. classes_view t.classes.entries };
 
-    ghost invariant = { λ t. ArraysHaveElements (classes_view t.classes.entries) };
+    ghost invariant = { λ t. IsTable (classes_view t.classes.entries) };
 }
 
 impl ClassTable {

@@ -1,0 +1,123 @@
+-- Tables stay tables when a class or a field is added.
+use Rattle.std.proofs.Common.{◌≡◌, ℕ, zero, suc, ◌+◌, ◌<◌, ◌≤◌, Bool, true, false, cond, List, [], ◌∷◌, ◌++◌, length, Option, Some, None, slice_get, nat_lt, refl, ap, ◌∙◌, arith, length-append}
+use Rattle.std.specs.Prelude.{◌==◌, ◌&&◌}
+use Rattle.std.specs.Option.{option_map, option_map_or}
+use Rattle.std.specs.List.{list_all}
+use Rattle.std.proofs.lemmas.Bool.Decides.{nat_tests}
+use Rattle.std.proofs.lemmas.List.Folds.{list_all-append}
+use Rattle.base.specs.Bytes.{Identifier}
+use Rattle.classes.specs.declared.built_ins.BuiltIn.{BuiltIn}
+use Rattle.classes.specs.Class.{Field, Class, Classes, class_at}
+use Rattle.classes.specs.BuiltIns.{object_array_class}
+use Rattle.classes.specs.BuiltInList.{names_differ, listed_classes, is_class_list}
+use Rattle.classes.specs.Additions.{NameTaken, BadSuperclass, BadSignature, TooMany, class_breaks, field_breaks, declared_fields, new_class, with_class}
+use Rattle.classes.specs.FieldViews.{with_declared}
+use Rattle.classes.specs.Mangling.{is_class_name}
+use Rattle.classes.specs.Refusals.{first_broken}
+use Rattle.classes.specs.Tables.{has_few_fields, IsTable}
+use Rattle.classes.proofs.AddedClasses.{added-elements}
+use Rattle.classes.proofs.ArrayNames.{listed-elements}
+use Rattle.classes.proofs.ChangedClasses.{from, declared-elements}
+use Rattle.classes.proofs.DistinctNames.{both}
+
+-- ---- no rule is broken
+
+record AreFalse (a b c d : Bool) : Type 0 where
+  first : a ≡ false
+  second : b ≡ false
+  third : c ≡ false
+  fourth : d ≡ false
+
+chain : (a b c d : Bool) → cond a (Some NameTaken) (cond b (Some BadSuperclass) (cond c (Some BadSignature) (cond d (Some TooMany) None))) ≡ None → AreFalse a b c d
+chain true b c d h = absurd (cc)
+chain false true c d h = absurd (cc)
+chain false false true d h = absurd (cc)
+chain false false false true h = absurd (cc)
+chain false false false false h = record { first = refl; second = refl; third = refl; fourth = refl }
+
+few_classes : (T : Classes) (name superclass : Identifier) → first_broken (λ rule. class_breaks rule T name superclass) ≡ None → length T + 2 ≤ 256
+few_classes T name superclass h =
+    let q = (chain (class_breaks NameTaken T name superclass) (class_breaks BadSuperclass T name superclass) false (class_breaks TooMany T name superclass) h).fourth in
+    grind (arith, nat_tests)
+
+few_declared : (T : Classes) (c : Option ℕ) (name : Identifier) (text : List ℕ) → first_broken (λ rule. field_breaks rule T c name text) ≡ None → length (declared_fields T c) + 1 ≤ 64
+few_declared T c name text h =
+    let q = (chain (field_breaks NameTaken T c name text) false (field_breaks BadSignature T c name text) (field_breaks TooMany T c name text) h).fourth in
+    grind (arith, nat_tests)
+
+-- ---- the tables of lists
+
+pub listed-table : (list : List BuiltIn) → is_class_list list ≡ true → IsTable (listed_classes list)
+listed-table list h =
+    let p = both _ (list_all has_few_fields (listed_classes list)) h in
+    let q = both _ (nat_lt (length (listed_classes list)) 257) p.0 in
+    let r = both (list_all (λ b. is_class_name b.name.now) list) _ q.0 in
+    record { elements = listed-elements list r.0; few = (let t = q.1 in grind (arith, nat_tests)); few_fields = p.1 }
+
+pub all-differ : (list : List BuiltIn) → is_class_list list ≡ true → names_differ (listed_classes list) ≡ true
+all-differ list h =
+    let p = both _ (list_all has_few_fields (listed_classes list)) h in
+    let q = both _ (nat_lt (length (listed_classes list)) 257) p.0 in
+    (both (list_all (λ b. is_class_name b.name.now) list) (names_differ (listed_classes list)) q.0).1
+
+-- ---- a class more
+
+pub added-table : (T : Classes) (name superclass : Identifier) (s : ℕ) → is_class_name name ≡ true → first_broken (λ rule. class_breaks rule T name superclass) ≡ None → IsTable T → IsTable (with_class T (new_class name (Some s)))
+added-table T name superclass s is h t =
+    let new = new_class name (Some s) in
+    let two = new ∷ object_array_class (length T + 1, new) ∷ [] in
+    record {
+      elements = added-elements T name s is t.elements;
+      few = omega (arith, few_classes T name superclass h, length-append T two);
+      few_fields = list_all-append has_few_fields T two ∙ ap (λ b. b && list_all has_few_fields two) t.few_fields;
+    }
+
+-- ---- a field more
+
+module _ (change : Class → Class) where
+  same_count : (c n : ℕ) (T : Classes) → length (from change c n T) ≡ length T
+  same_count c n [] = refl
+  same_count c n (d ∷ T) = ap suc (same_count c (n + 1) T)
+
+  few_kept : (c n : ℕ) (T : Classes) → ((i : ℕ) (d : Class) → slice_get T i ≡ Some d → n + i ≡ c → has_few_fields d ≡ true → has_few_fields (change d) ≡ true) → list_all has_few_fields T ≡ true → list_all has_few_fields (from change c n T) ≡ true
+  few_kept c n [] own h = refl
+  few_kept c n (d ∷ T) own h =
+      let p = both (has_few_fields d) (list_all has_few_fields T) h in
+      step (n == c) refl p.0 (few_kept c (n + 1) T (λ i e at place. own (suc i) e at (omega (arith, place))) p.1) (own zero d refl)
+    where
+      step : (b : Bool) → (n == c) ≡ b → has_few_fields d ≡ true → list_all has_few_fields (from change c (n + 1) T) ≡ true → (n + 0 ≡ c → has_few_fields d ≡ true → has_few_fields (change d) ≡ true)
+          → (has_few_fields (cond b (change d) d) && list_all has_few_fields (from change c (n + 1) T)) ≡ true
+      step true e few rest mine = let is : n + 0 ≡ c = grind (arith, nat_tests) in ap (λ b. b && list_all has_few_fields (from change c (n + 1) T)) (mine is few) ∙ rest
+      step false e few rest mine = ap (λ b. b && list_all has_few_fields (from change c (n + 1) T)) few ∙ rest
+
+pub declared-table : (T : Classes) (c : ℕ) (field : Field) (name : Identifier) (text : List ℕ) (is_static : Bool) → 0 < c → first_broken (λ rule. field_breaks rule T (Some c) name text) ≡ None → IsTable T → IsTable (with_declared T (Some c) field is_static)
+declared-table T c field name text true low h t =
+    let change : Class → Class = λ d. record d { statics = d.statics ++ field ∷ [] } in
+    record {
+      elements = declared-elements T (Some c) field true t.elements;
+      few = omega (arith, t.few, same_count change c 1 T);
+      few_fields = few_kept change c 1 T (λ i d at place few. few) t.few_fields;
+    }
+declared-table T c field name text false low h t =
+    let change : Class → Class = λ d. record d { fields = d.fields ++ field ∷ [] } in
+    record {
+      elements = declared-elements T (Some c) field false t.elements;
+      few = omega (arith, t.few, same_count change c 1 T);
+      few_fields = few_kept change c 1 T (λ i d at place few. one_more i d at place) t.few_fields;
+    }
+  where
+    here : (i : ℕ) (d : Class) → slice_get T i ≡ Some d → 1 + i ≡ c → class_at T c ≡ Some d
+    here i d at place = let e : c ≡ suc i = omega (arith, place) in ap (class_at T) e ∙ at
+
+    one_more : (i : ℕ) (d : Class) → slice_get T i ≡ Some d → 1 + i ≡ c → nat_lt (length (d.fields ++ field ∷ [])) 65 ≡ true
+    one_more i d at place =
+        let own = ap (λ (o : Option Class). length (option_map_or (λ (x : Class). x.fields ++ x.statics) o [])) (here i d at place) in
+        let few = few_declared T (Some c) name text h in
+        let some = length-append d.fields d.statics in
+        let more = length-append d.fields (field ∷ []) in
+        grind (arith, nat_tests)
+
+-- numbers count from 1
+pub named-low : (o : Option ℕ) (c : ℕ) → option_map (λ i. i + 1) o ≡ Some c → 0 < c
+named-low None c h = absurd (cc)
+named-low (Some i) c h = let e : i + 1 ≡ c = cc in omega arith
