@@ -13,6 +13,7 @@ use crate::class::{ElementType, Field, FieldType};
 use crate::table::ClassTable;
 
 /// A field or static, with the number of the class that declares it.
+#[derive(Clone, Copy)]
 pub struct FieldId<'t> {
     pub class: usize,
     pub is_static: bool,

@@ -25,7 +25,15 @@ fn built_in_classes(rt: HostRuntime) -> Result<(), Fail> {
 #[test]
 fn assignable_classes(rt: HostRuntime) -> Result<(), Fail> {
     let table = ClassTable::of_built_ins(rt.alloc())?;
-    let pairs = [(15, 4), (38, 27), (20, 1), (15, 15), (4, 15), (27, 38), (20, 21)];
+    let pairs = [
+        (15, 4),
+        (38, 27),
+        (20, 1),
+        (15, 15),
+        (4, 15),
+        (27, 38),
+        (20, 21),
+    ];
     let answers = pairs.map(|(class, other)| table.assignable(class, other));
     assert!(rt; answers == [true, true, true, true, false, false, false]);
     Ok(())
@@ -72,6 +80,28 @@ fn added_fields(rt: HostRuntime) -> Result<(), Fail> {
         found.class == 4
             && found.field.field_type == FieldType::Reference(3)
             && table.own_statics(43).len() == 1
+    );
+    Ok(())
+}
+
+// The superclass's fields come first.
+#[test]
+fn a_layout(rt: HostRuntime) -> Result<(), Fail> {
+    let mut table = ClassTable::of_built_ins(rt.alloc())?;
+    let _ = table.add_class(b"A", b"java/lang/Error")?;
+    table.add_field(b"A", b"count", b"S", false)?;
+    let Some(inherited) = table.layout_field(43, 0) else {
+        return Err(Fail::new("the inherited field"));
+    };
+    let Some(own) = table.layout_field(43, 1) else {
+        return Err(Fail::new("the field of its own"));
+    };
+    assert!(rt;
+        table.layout_len(43) == 2
+            && inherited.class == 4
+            && own.class == 43
+            && own.field.field_type == FieldType::Number(ElementType::Short)
+            && table.layout_field(43, 2).is_none()
     );
     Ok(())
 }
