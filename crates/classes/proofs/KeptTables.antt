@@ -1,17 +1,20 @@
 -- Tables stay tables when a class or a field is added.
-use Rattle.std.proofs.Common.{◌≡◌, ℕ, zero, suc, ◌+◌, ◌<◌, ◌≤◌, Bool, true, false, cond, List, [], ◌∷◌, ◌++◌, length, Option, Some, None, slice_get, nat_lt, refl, ap, ◌∙◌, arith, length-append}
+use Rattle.std.proofs.Common.{not, unwrap_or, ◌≡◌, ℕ, zero, suc, ◌+◌, ◌<◌, ◌≤◌, Bool, true, false, cond, List, [], ◌∷◌, ◌++◌, length, Option, Some, None, slice_get, nat_lt, refl, sym, ap, ◌∙◌, arith, length-append}
 use Rattle.std.specs.Prelude.{◌==◌, ◌&&◌}
 use Rattle.std.specs.Option.{option_map, option_map_or}
-use Rattle.std.specs.List.{list_all}
+use Rattle.std.specs.List.{list_all, prefix_len}
 use Rattle.std.proofs.lemmas.Bool.Decides.{nat_tests}
 use Rattle.std.proofs.lemmas.List.Folds.{list_all-append}
 use Rattle.base.specs.Bytes.{Identifier}
 use Rattle.classes.specs.declared.built_ins.BuiltIn.{BuiltIn}
-use Rattle.classes.specs.Class.{Field, Class, Classes, class_at}
-use Rattle.classes.specs.BuiltIns.{object_array_class}
+use Rattle.classes.specs.Class.{Field, Class, Classes, class_at, class_named}
+use Rattle.classes.specs.BuiltIns.{object_array_class, has_own_making}
 use Rattle.classes.specs.BuiltInList.{names_differ, listed_classes, is_class_list}
 use Rattle.classes.specs.Additions.{NameTaken, BadSuperclass, BadSignature, TooMany, class_breaks, field_breaks, declared_fields, new_class, with_class}
 use Rattle.classes.specs.FieldViews.{with_declared}
+use Rattle.classes.specs.Grown.{IsGrown, WithClass, WithField, WithStatic}
+use Rattle.base.specs.Options.{some_passes}
+use Rattle.std.specs.Str.{bytes_eq}
 use Rattle.classes.specs.Mangling.{is_class_name}
 use Rattle.classes.specs.Refusals.{first_broken}
 use Rattle.classes.specs.Tables.{has_few_fields, IsTable}
@@ -121,3 +124,29 @@ declared-table T c field name text false low h t =
 pub named-low : (o : Option ℕ) (c : ℕ) → option_map (λ i. i + 1) o ≡ Some c → 0 < c
 named-low None c h = absurd (cc)
 named-low (Some i) c h = let e : i + 1 ≡ c = cc in omega arith
+
+-- ---- tables that grew from the built-in classes
+
+named-high : (T : Classes) (name : Identifier) (c : ℕ) → class_named T name ≡ Some c → c ≤ length T
+named-high T name c h = by_test (nat_lt n (length T)) refl h
+  where
+    n : ℕ
+    n = prefix_len (λ (d : Class). not (bytes_eq d.name name)) T
+
+    by_test : (b : Bool) → nat_lt n (length T) ≡ b → option_map (λ i. i + 1) (cond b (Some n) None) ≡ Some c → c ≤ length T
+    by_test true e q = let is : n + 1 ≡ c = cc in let below : n < length T = grind (arith, nat_tests) in omega arith
+    by_test false e q = absurd (cc)
+
+pub grown-added : (T : Classes) (name superclass : Identifier) (s : ℕ) → first_broken (λ rule. class_breaks rule T name superclass) ≡ None → class_named T superclass ≡ Some s → IsGrown T → IsGrown (with_class T (new_class name (Some s)))
+grown-added T name superclass s h is g =
+    let q = (chain (class_breaks NameTaken T name superclass) (class_breaks BadSuperclass T name superclass) false (class_breaks TooMany T name superclass) h).second in
+    let open_class : not (not (has_own_making T s)) ≡ false = sym (ap (λ o. not (some_passes (λ c. not (has_own_making T c)) o)) is) ∙ q in
+    WithClass T name s g (named-low _ s is) (named-high T superclass s is) (twice (has_own_making T s) open_class)
+  where
+    twice : (b : Bool) → not (not b) ≡ false → b ≡ false
+    twice true e = absurd (cc)
+    twice false e = refl
+
+pub grown-declared : (T : Classes) (c : Option ℕ) (field : Field) (is_static : Bool) → IsGrown T → IsGrown (with_declared T c field is_static)
+grown-declared T c field true g = WithStatic T (unwrap_or c 0) field g
+grown-declared T c field false g = WithField T (unwrap_or c 0) field g

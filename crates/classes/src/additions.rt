@@ -9,6 +9,7 @@ ghost use Rattle.std.specs.Str.{bytes_eq};
 ghost use Rattle.classes.specs.FieldViews.{with_declared, declared_field, AnswersField};
 ghost use Rattle.classes.specs.Fields.{type_of_signature};
 ghost use Rattle.classes.specs.Views.{field_view, field_type_view};
+ghost use Rattle.classes.specs.Grown.{IsGrown};
 ghost use Rattle.classes.specs.Mangling.{is_class_name};
 ghost use Rattle.classes.specs.Refusals.{rule_view, first_broken, Answers};
 
@@ -58,6 +59,7 @@ impl ClassTable {
     pub fn add_class(&mut self, name: &[u8], superclass: &[u8]) -> Result<usize, ClassError>
         requires { IsTrue (is_class_name name.now) }
         ensures answer { Answers (first_broken (λ rule. class_breaks rule self.old name.now superclass.now)) (λ class. class ≡ length self.old + 1) result }
+        ensures grown { IsGrown self.old → IsGrown self.new }
         ensures table { self.new ≡ (if is_ok result then with_class self.old (new_class name.now (class_named self.old superclass.now)) else self.old) }
     {
         let above = self.superclass_for(name, superclass)?;
@@ -115,6 +117,7 @@ impl ClassTable {
         is_static: bool,
     ) -> Result<(), FieldError>
         ensures answer { AnswersField (first_broken (λ rule. field_breaks rule self.old (class_named self.old class_name.now) name.now signature.now)) (class_named self.old class_name.now) result }
+        ensures grown { IsGrown self.old → IsGrown self.new }
         ensures table { self.new ≡ (if is_ok result then with_declared self.old (class_named self.old class_name.now) (declared_field self.old name.now signature.now) is_static else self.old) }
     {
         let class = self.find(class_name);
