@@ -52,13 +52,16 @@ module _ (T : Classes) (name : Identifier) (new : class_named T name ≡ None) (
   none : has_name T name ≡ false
   none = sym (named name T) ∙ ap is_some new
 
-  -- where a class is new, so is that of its arrays
-  pub new-array : class_named T (array_name name) ≡ None
-  new-array = unnamed T (array_name name) (by_name (has_name T (array_name name)) refl)
+  pub no-array : has_name T (array_name name) ≡ false
+  no-array = by_name (has_name T (array_name name)) refl
     where
       by_name : (b : Bool) → has_name T (array_name name) ≡ b → b ≡ false
       by_name true e = let there : has_name T name ≡ true = elements name e in let not_there = none in absurd (cc)
       by_name false e = refl
+
+  -- where a class is new, so is that of its arrays
+  pub new-array : class_named T (array_name name) ≡ None
+  new-array = unnamed T (array_name name) no-array
 
 -- a class that may be added has a new name
 pub not_taken : (o : Option ℕ) (rest : Option ClassRule) → cond (is_some o) (Some NameTaken) rest ≡ None → o ≡ None

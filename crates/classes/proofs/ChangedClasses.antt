@@ -59,7 +59,7 @@ refused (Ok x) more kept h = absurd (cc)
 refused (Err e) more kept h = refl
 
 -- the names stay as they are
-names-kept : (change : Class → Class) → ((d : Class) → (change d).name ≡ d.name) → (c n : ℕ) (T : Classes) (name : Identifier) → has_name (from change c n T) name ≡ has_name T name
+pub names-kept : (change : Class → Class) → ((d : Class) → (change d).name ≡ d.name) → (c n : ℕ) (T : Classes) (name : Identifier) → has_name (from change c n T) name ≡ has_name T name
 names-kept change same c n [] name = refl
 names-kept change same c n (d ∷ T) name = step (n == c) (names-kept change same c (n + 1) T name)
   where

@@ -9,7 +9,8 @@ use Rattle.std.proofs.lemmas.Bool.Decides.{nat_tests}
 use Rattle.base.specs.Bytes.{Identifier}
 use Rattle.classes.specs.Class.{ClassKind, Class, Classes, class_named}
 use Rattle.classes.specs.BuiltIns.{array_class, object_array_class}
-use Rattle.classes.specs.BuiltInList.{array_classes, names_differ}
+use Rattle.classes.specs.BuiltInList.{array_classes}
+use Rattle.classes.specs.Tables.{names_differ}
 use Rattle.classes.proofs.Places.{same_bytes}
 
 abbrev pub has_name : Classes → Identifier → Bool
@@ -118,3 +119,15 @@ all-arrays n zero [] h = refl
 all-arrays n (suc i) [] h = refl
 all-arrays n zero (x ∷ P) h = absurd (omega arith)
 all-arrays n (suc i) (x ∷ P) h = ap (λ l. object_array_class (n, x) ∷ l) (all-arrays (n + 1) i P (omega (arith, h)))
+
+-- a class with another name at the end
+pub differ-more : (T : Classes) (c : Class) → names_differ T ≡ true → has_name T c.name ≡ false → names_differ (T ++ c ∷ []) ≡ true
+differ-more [] c h new = refl
+differ-more (d ∷ T) c h new =
+    let p = both (not (has_name T d.name)) (names_differ T) h in
+    let q = neither (bytes_eq d.name c.name) (has_name T c.name) new in
+    (λ i. not (absent T (was_false (has_name T d.name) p.0) i) && names_differ (T ++ c ∷ [])) ∙ differ-more T c p.1 q.1
+  where
+    absent : (U : Classes) → has_name U d.name ≡ false → has_name (U ++ c ∷ []) d.name ≡ false
+    absent [] e = ap (λ b. b || false) (same_bytes c.name d.name ∙ (neither (bytes_eq d.name c.name) (has_name T c.name) new).0)
+    absent (u ∷ U) e = let r = neither (bytes_eq u.name d.name) (has_name U d.name) e in (λ i. r.0 i || has_name (U ++ c ∷ []) d.name) ∙ absent U r.1

@@ -9,7 +9,7 @@ use Rattle.classes.specs.declared.built_ins.BuiltInField.{BuiltInField}
 use Rattle.classes.specs.Class.{Field, Plain, ArrayOfNumbers, Class, Classes}
 use Rattle.classes.specs.BuiltIns.{array_class, number_array_classes, object_array_class}
 use Rattle.classes.specs.Mangling.{is_class_name}
-use Rattle.classes.specs.Tables.{has_few_fields}
+use Rattle.classes.specs.Tables.{names_differ, has_few_fields}
 use Rattle.classes.specs.Views.{element_view, field_type_view}
 
 abbrev pub listed_field : BuiltInField → Field
@@ -29,11 +29,6 @@ array_classes plain = map object_array_class (enumerate_from 1 plain)
 -- the classes of the list, the classes of arrays of numbers, and then those of arrays of each of the list
 abbrev pub listed_classes : List BuiltIn → Classes
 listed_classes list = map listed_class list ++ number_array_classes ++ array_classes (map listed_class list)
-
--- no two have one name
-abbrev pub names_differ : Classes → Bool
-names_differ [] = true
-names_differ (c ∷ classes) = not (list_any (λ (d : Class). bytes_eq d.name c.name) classes) && names_differ classes
 
 -- a list of which a table can be made: it has names of classes and each name once, and no more classes and fields than there may be
 abbrev pub is_class_list : List BuiltIn → Bool

@@ -2,7 +2,8 @@
 
 ghost use Rattle.std.specs.Prelude.{◌≡◌, ◌++◌, ◌∷◌, [], map, None, true, IfOk, OnOk, IsTrue};
 ghost use Rattle.classes.specs.BuiltIns.{array_class};
-ghost use Rattle.classes.specs.BuiltInList.{listed_field, listed_class, listed_number_array, array_classes, listed_classes, names_differ, is_class_list};
+ghost use Rattle.classes.specs.BuiltInList.{listed_field, listed_class, listed_number_array, array_classes, listed_classes, is_class_list};
+ghost use Rattle.classes.specs.Tables.{names_differ};
 ghost use Rattle.classes.specs.Class.{class_named};
 ghost use Rattle.classes.specs.Views.{field_view, kind_view, classes_view};
 

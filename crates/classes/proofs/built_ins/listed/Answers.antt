@@ -1,6 +1,7 @@
 use Rattle.std.proofs.Common.{◌++◌, ◌∙◌, ap, map}
 use Rattle.classes.specs.BuiltIns.{number_array_classes}
-use Rattle.classes.specs.BuiltInList.{listed_class, array_classes, names_differ}
+use Rattle.classes.specs.BuiltInList.{listed_class, array_classes}
+use Rattle.classes.specs.Tables.{names_differ}
 use Rattle.classes.specs.Views.{classes_view}
 use Rattle.classes.proofs.DistinctNames.{differ-front}
 use Rattle.classes.proofs.KeptTables.{all-differ}
