@@ -24,7 +24,7 @@ shorter : (x : ℕ) (xs : List ℕ) (t : Bool) → (t && bytes_eq [] (xs ++ x �
 shorter x [] t = and_false t
 shorter x (y ∷ xs) t = and_false t
 
-same_last : (xs ys : List ℕ) (a b : ℕ) → bytes_eq (xs ++ a ∷ []) (ys ++ b ∷ []) ≡ (bytes_eq xs ys && (b == a))
+pub same_last : (xs ys : List ℕ) (a b : ℕ) → bytes_eq (xs ++ a ∷ []) (ys ++ b ∷ []) ≡ (bytes_eq xs ys && (b == a))
 same_last [] [] a b = let e : (a == b) ≡ (b == a) = grind (arith, nat_tests) in and_true (a == b) ∙ e
 same_last [] (y ∷ ys) a b = shorter b ys (a == y)
 same_last (x ∷ xs) [] a b = longer a xs b (x == b)
@@ -33,3 +33,7 @@ same_last (x ∷ xs) (y ∷ ys) a b = ap (λ t. (x == y) && t) (same_last xs ys 
 -- the last byte and what stands before it
 pub ended : (name bytes front : List ℕ) (last : ℕ) → bytes ≡ front ++ last ∷ [] → bytes_eq (name ++ 59 ∷ []) bytes ≡ (bytes_eq name front && (last == 59))
 ended name bytes front last e = ap (bytes_eq (name ++ 59 ∷ [])) e ∙ same_last name front 59 last
+
+-- bytes that end otherwise
+pub not_ended : (name bytes front : List ℕ) (last : ℕ) → bytes ≡ front ++ last ∷ [] → (last == 59) ≡ false → bytes_eq (name ++ 59 ∷ []) bytes ≡ false
+not_ended name bytes front last e other = ended name bytes front last e ∙ ap (λ t. bytes_eq name front && t) other ∙ and_false (bytes_eq name front)

@@ -1,7 +1,6 @@
 -- The classes of a table that begins with a list of plain classes.
-use Rattle.std.specs.Prelude.{ℕ, Bool, true, not, ◌&&◌, List, [], ◌∷◌, ◌++◌, map, length, nat_lt}
-use Rattle.std.specs.List.{list_any, list_all, enumerate_from}
-use Rattle.std.specs.Str.{bytes_eq}
+use Rattle.std.specs.Prelude.{ℕ, Bool, ◌&&◌, List, [], ◌++◌, map, length, nat_lt}
+use Rattle.std.specs.List.{list_all, enumerate_from}
 use Rattle.std.specs.Borrow.{Bor}
 use Rattle.classes.specs.declared.class.ElementType.{ElementType}
 use Rattle.classes.specs.declared.built_ins.BuiltIn.{BuiltIn}

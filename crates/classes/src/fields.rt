@@ -1,10 +1,11 @@
 //! The fields of classes, and how they are found.
 
-ghost use Rattle.std.specs.Prelude.{◌≡◌, ◌&&◌, ◌++◌, ◌∷◌, [], map, find, codes, true};
+ghost use Rattle.std.specs.Prelude.{◌≡◌, ◌&&◌, ◌++◌, ◌∷◌, [], map, find, codes, true, false, not, MatchOption};
 ghost use Rattle.std.specs.Option.{option_map};
 ghost use Rattle.std.specs.List.{enumerate_from};
 ghost use Rattle.std.specs.Str.{bytes_eq};
-ghost use Rattle.classes.specs.Class.{NumberField, ReferenceField};
+ghost use Rattle.base.specs.Options.{option_filter};
+ghost use Rattle.classes.specs.Class.{NumberField, ReferenceField, class_named, class_kind, is_plain};
 ghost use Rattle.classes.specs.FieldViews.{field_id_view, declared_as, find_as};
 ghost use Rattle.classes.specs.Fields.{signature, type_of_signature, own_statics};
 ghost use Rattle.classes.specs.Views.{element_view, field_view, field_type_view};
@@ -37,6 +38,36 @@ fn is_reference_to(name: &[u8], text: &[u8]) -> bool
     match text {
         [b'L', rest @ ..] => is_ended_name(name, rest),
         _ => false,
+    }
+}
+
+/// What stands before a last semicolon.
+fn ended_name(bytes: &[u8]) -> Option<&[u8]>
+    ensures { MatchOption result ((name : _) → bytes_eq (name ++ 59 ∷ []) bytes.now ≡ false) (λ name. bytes.now ≡ name.now ++ 59 ∷ []) }
+{
+    match bytes.split_last() {
+        Some((last, name)) => { if *last == b';' { Some(name) } else { None } }
+        None => None,
+    }
+}
+
+/// The name between `L` and a last semicolon.
+fn referred_name(text: &[u8]) -> Option<&[u8]>
+    ensures { MatchOption result ((name : _) → bytes_eq (76 ∷ (name ++ 59 ∷ [])) text.now ≡ false) (λ name. text.now ≡ 76 ∷ (name.now ++ 59 ∷ [])) }
+{
+    match text {
+        [b'L', rest @ ..] => ended_name(rest),
+        _ => None,
+    }
+}
+
+/// The type of references to objects of the class.
+fn reference_to(class: Option<usize>) -> Option<FieldType>
+    ensures { option_map field_type_view result ≡ option_map ReferenceField class }
+{
+    match class {
+        Some(class) => Some(FieldType::Reference(class)),
+        None => None,
     }
 }
 
@@ -129,17 +160,35 @@ impl ClassTable {
         None
     }
 
-    /// The type of references that has this signature. The cost goes by the number of classes.
+    /// The type of references that has this signature: of a class by the name between `L` and the semicolon, and of a class of arrays by its name.
     fn reference_type(&self, text: &[u8]) -> Option<FieldType>
         ensures { option_map field_type_view result ≡ find (λ type. bytes_eq (signature self.now type) text.now) (map (λ c. ReferenceField c.0) (enumerate_from 1 self.now)) }
     {
-        for place in 0..self.len() {
-            let reference = FieldType::Reference(place + 1);
-            if self.has_signature(reference, text) {
-                return Some(reference);
-            }
+        let _ = &self.classes;
+        match referred_name(text) {
+            Some(name) => reference_to(self.plain_class(name)),
+            None => reference_to(self.array_class(text)),
         }
-        None
+    }
+
+    /// The class of this name, where it is no class of arrays.
+    fn plain_class(&self, name: &[u8]) -> Option<usize>
+        ensures { result ≡ option_filter (λ c. is_plain (class_kind self.now c)) (class_named self.now name.now) }
+    {
+        match self.find(name) {
+            Some(class) if !self.is_array(class) => Some(class),
+            _ => None,
+        }
+    }
+
+    /// The class of arrays of this name.
+    fn array_class(&self, name: &[u8]) -> Option<usize>
+        ensures { result ≡ option_filter (λ c. not (is_plain (class_kind self.now c))) (class_named self.now name.now) }
+    {
+        match self.find(name) {
+            Some(class) if self.is_array(class) => Some(class),
+            _ => None,
+        }
     }
 
     /// The type of fields that have this signature.

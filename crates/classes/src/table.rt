@@ -1,6 +1,6 @@
 //! Class tables: which classes there are, by number and by name.
 
-ghost use Rattle.std.specs.Prelude.{◌≡◌, ◌<◌, ◌^◌, length, not, IfOk, IsTrue};
+ghost use Rattle.std.specs.Prelude.{◌≡◌, ◌≤◌, length, not, IfOk, IsTrue};
 ghost use Rattle.std.specs.Option.{option_map};
 ghost use Rattle.classes.specs.BuiltIns.{built_ins};
 ghost use Rattle.classes.specs.BuiltInList.{listed_classes, is_class_list};
@@ -54,7 +54,7 @@ impl ClassTable {
     /// The number of classes.
     pub fn len(&self) -> usize
         ensures len { result ≡ length self.now }
-        ensures small { result < 2 ^ 63 }
+        ensures few { result ≤ 256 }
     {
         self.classes.len()
     }
