@@ -1,11 +1,11 @@
 //! Classes and fields that are added to a table.
 
 ghost use Rattle.std.specs.Prelude.{◌≡◌, ◌+◌, Some, None, length, nat_lt, map, is_ok, if◌then◌else◌, IsTrue, MatchResult};
+ghost use Rattle.std.specs.List.{list_any};
+ghost use Rattle.std.specs.Str.{bytes_eq};
 ghost use Rattle.classes.specs.Additions.{class_breaks, field_breaks, declared_fields, new_class, with_class};
 ghost use Rattle.classes.specs.BuiltIns.{has_own_making};
 ghost use Rattle.classes.specs.Class.{class_named};
-ghost use Rattle.std.specs.List.{list_any};
-ghost use Rattle.std.specs.Str.{bytes_eq};
 ghost use Rattle.classes.specs.FieldViews.{with_declared, declared_field, AnswersField};
 ghost use Rattle.classes.specs.Fields.{type_of_signature};
 ghost use Rattle.classes.specs.Views.{field_view, field_type_view};
