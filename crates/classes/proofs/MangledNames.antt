@@ -4,6 +4,7 @@ use Rattle.std.proofs.lemmas.Bool.Decides.{nat_tests}
 use Rattle.std.proofs.lemmas.Grind.{flat_map-append}
 use Rattle.std.specs.List.{list_all}
 use Rattle.base.specs.Bytes.{is_letter, is_name_part, with_first, split_at}
+use Rattle.classes.specs.Class.{array_name}
 use Rattle.classes.specs.Mangling.{is_simple_name, is_class_name, escaped_byte, mangle, unmangle}
 use Rattle.classes.specs.MangledNames.{is_word, reads_name, reads_underscore, reads_first, reads_after, reads_mangled}
 use Rattle.classes.proofs.Mangled.{inverse}
@@ -265,3 +266,7 @@ same_truth false false f g = refl
 -- a name reads as a mangled one exactly where a class and a method have it
 pub reads-some : (name : List ℕ) → reads_mangled name ≡ is_some (unmangle name)
 reads-some name = same_truth (reads_mangled name) (is_some (unmangle name)) (read-some name) (some-read name)
+
+-- a class of arrays has no class name
+pub array_name-no_class : (element : List ℕ) → is_class_name (array_name element) ≡ false
+array_name-no_class element = sym (begins (array_name element))

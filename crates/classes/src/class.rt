@@ -1,0 +1,48 @@
+//! What a class is made of.
+
+/// The type of the numbers of an array or a field (JNI Specification, chapter 3, "Primitive Types").
+#[derive(Clone, Copy, Debug, PartialEq, Eq)]
+pub enum ElementType {
+    /// `jint`
+    Int,
+    /// `jshort`
+    Short,
+    /// `jbyte`
+    Byte,
+    /// `jchar`
+    Char,
+}
+
+/// What the objects of a class are made of.
+#[derive(Clone, Copy, Debug, PartialEq, Eq)]
+pub enum ClassKind {
+    /// Fields, or what a function of its own makes.
+    Plain,
+    ArrayOfNumbers(ElementType),
+    /// An array of references to objects of the class of this number.
+    ArrayOfObjects(usize),
+}
+
+/// What a field holds.
+#[derive(Clone, Copy, Debug, PartialEq, Eq)]
+pub enum FieldType {
+    Number(ElementType),
+    /// A reference to objects of the class of this number.
+    Reference(usize),
+}
+
+/// A field or static of a class.
+#[derive(Drop)]
+pub struct Field {
+    pub name: Vec<u8>,
+    pub field_type: FieldType,
+}
+
+/// A class but for its name.
+#[derive(Drop)]
+pub(crate) struct Entry {
+    pub(crate) superclass: Option<usize>,
+    pub(crate) kind: ClassKind,
+    pub(crate) fields: Vec<Field>,
+    pub(crate) statics: Vec<Field>,
+}
