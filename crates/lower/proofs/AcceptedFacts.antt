@@ -12,8 +12,8 @@ use Rattle.types.specs.BuiltCalls.{calls_unbuilt, calls_are_built}
 use Rattle.code.specs.declared.instr.Instr.TheVariants as instr
 use Rattle.regions.specs.RegionStates.{RegionState, state_at_entry}
 use Rattle.regions.specs.Regions.{Returned, AcceptedFunction, HasRegions}
-use Rattle.lower.specs.Layout.{Slot, Known, with_static, parameter_slot, parameter_slots, numbers_after, references_after, entry_layout}
-use Rattle.lower.specs.Coding.{block_code, function_code}
+use Rattle.code_generator.specs.Layout.{Slot, Known, with_static, parameter_slot, parameter_slots, numbers_after, references_after, entry_layout}
+use Rattle.code_generator.specs.Coding.{block_code, function_code}
 use Rattle.lower.specs.Fits.{AreStatics, FunctionFits}
 use Rattle.lower.specs.Length.{function_steps}
 use Rattle.lower.specs.Stands.{block_returns}

@@ -21,8 +21,8 @@ use Rattle.source.specs.Task.{Task, SetScalar, SetElement, SetNull, MakeArray, I
 use Rattle.source.specs.Term as term
 use Rattle.source.specs.Term.{Term, Done, Read, term_of}
 use Rattle.source.specs.Value.{Value, Word, Int, Flag, Truth, Gives}
-use Rattle.lower.specs.Layout.{Known, Layout}
-use Rattle.lower.specs.Coding.{element_of, term_code, ways_code, turn_code, block_code}
+use Rattle.code_generator.specs.Layout.{Known, Layout}
+use Rattle.code_generator.specs.Coding.{element_of, term_code, ways_code, turn_code, block_code}
 use Rattle.lower.specs.Slots.{word_of, Visible, Slots, Shows}
 use Rattle.lower.specs.Fits.{IsIndexSort, TermHasSort}
 use Rattle.lower.specs.Stands.{held, HasAt, AreAmong, NumberStands, SetElementStands, BlockStands, LoopStands, TasksStand, StandsFor, ReferenceReturned, task_returns}

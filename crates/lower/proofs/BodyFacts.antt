@@ -13,7 +13,7 @@ use Rattle.types.specs.SortRules.{variable_sort, with_declared, places_within, p
 use Rattle.regions.specs.RegionStates.{RegionState, state_of}
 use Rattle.regions.specs.RegionRules.{is_free}
 use Rattle.regions.specs.Regions.{where_true, where_false, Way, On, Returned, IsEnd, Keeps, KeepsBlock}
-use Rattle.lower.specs.Layout.{Slot, Known, Layout, new_slot, closed, layout_after, block_layout}
+use Rattle.code_generator.specs.Layout.{Slot, Known, Layout, new_slot, closed, layout_after, block_layout}
 use Rattle.lower.specs.Fits.{StmtFits, BlockFits}
 use Rattle.lower.proofs.SlotLaws.{first_or_after}
 use Rattle.lower.proofs.SortFacts.{scope_of, HasNoTruth}

@@ -21,7 +21,7 @@ use Rattle.types.specs.SortRules.{variable_sort, has_name}
 use Rattle.regions.specs.RegionRules.{breaks_region_rule, is_free, Obeys, RegionRule, CallWhileCritical, ReturnWithBuffer, HeldBuffer, UntestedBuffer, WrongBuffer, ReturnInFrame, PopLastFrame, DeadReference, ArrayInUse, WrongLevel, is_mismatched}
 use Rattle.regions.specs.RegionStates.{Free, BufferState, VariableState, ReferenceAt, BufferIn, RegionState, FunctionCall, call_of, function_called, made_free, with_changed, after_call, release_of, get_of, buffer_from, buffer_set_to, set_to, with_set, state_after, state_of}
 use Rattle.regions.specs.Regions.{made_usable, where_true, where_false, has_variable, left, Way, On, Returned, Join, Keeps, KeepsBlock}
-use Rattle.lower.specs.Layout.{Slot, Known, Layout, new_slot, layout_after}
+use Rattle.code_generator.specs.Layout.{Slot, Known, Layout, new_slot, layout_after}
 use Rattle.lower.proofs.PlaceFacts.{or_left, or_right, and_left, and_right, not_false, not_true}
 use Rattle.lower.proofs.SortFacts.{IsNoBuffer, ElementsFit}
 

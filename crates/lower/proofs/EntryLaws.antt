@@ -14,7 +14,7 @@ use Rattle.source.specs.Thread.{Shared, Thread}
 use Rattle.source.specs.Value.{Int}
 use Rattle.source.specs.Variable.{Variable, Scalar, LocalRef, StaticReference}
 use Rattle.code.specs.Depth.{Listing}
-use Rattle.lower.specs.Layout.{Slot, Known, parameter_slot, parameter_slots, numbers_after, references_after, numbers_of, references_of, entry_names, entry_layout}
+use Rattle.code_generator.specs.Layout.{Slot, Known, parameter_slot, parameter_slots, numbers_after, references_after, numbers_of, references_of, entry_names, entry_layout}
 use Rattle.lower.specs.Slots.{visible_to, Slots, ShowsSlot, Shows, ArgumentFits, ArgumentsFit, argument_word, argument_reference, EntrySlots, AreNull}
 use Rattle.lower.specs.Fits.{AreStatics}
 use Rattle.lower.proofs.CodePlaces.{get-append_seam}

@@ -4,7 +4,7 @@ use Rattle.base.specs.Bytes.{Identifier, lookup}
 use Rattle.syntax.specs.Tree.{ParameterType, IntParameter, ReferenceParameter, Parameter, Function, Static}
 use Rattle.types.specs.Sorts.{Sort, Jint, Ref, Global}
 use Rattle.code.specs.declared.slots.SlotCounts.{SlotCounts}
-use Rattle.lower.specs.Layout.{Slot, Known, with_static, parameter_slot, parameter_slots, numbers_after, references_after, numbers_of, references_of, entry_names, entry_layout}
+use Rattle.code_generator.specs.Layout.{Slot, Known, with_static, parameter_slot, parameter_slots, numbers_after, references_after, numbers_of, references_of, entry_names, entry_layout}
 use Rattle.lower.specs.Fits.{IndexWithin, AreApart, IsOwn, IsLaidOut, AreStatics}
 use Rattle.lower.proofs.SlotLaws.{first_or_after}
 use Rattle.lower.proofs.EntryLaws.{in_both}

@@ -8,8 +8,8 @@ use Rattle.code.specs.declared.instr.Instr.TheVariants as instr
 use Rattle.code.specs.Depth.{Listing, IsValid}
 use Rattle.code.proofs.Pieces.{piece_moves, piece_jumps}
 use Rattle.source.specs.Task.{tasks_of}
-use Rattle.lower.specs.Layout.{Known, entry_layout, block_layout, function_slots}
-use Rattle.lower.specs.Coding.{block_code, function_code}
+use Rattle.code_generator.specs.Layout.{Known, entry_layout, block_layout, function_slots}
+use Rattle.code_generator.specs.Coding.{block_code, function_code}
 use Rattle.lower.specs.Length.{function_steps, step_limit}
 use Rattle.lower.specs.Slots.{ArgumentsFit, HasRoom}
 use Rattle.lower.specs.Fits.{HasRoomFor, AreStatics, FunctionFits}

@@ -9,7 +9,7 @@ use Rattle.syntax.specs.declared.unit.Item.{Item as ItemInMemory}
 use Rattle.syntax.specs.Tree.{Function, Item, StaticItem, FunctionItem, Static}
 use Rattle.syntax.specs.Views.{item_tree}
 use Rattle.code.specs.Depth.{Listing}
-use Rattle.lower.specs.Layout.{Known, with_static}
+use Rattle.code_generator.specs.Layout.{Known, with_static}
 use Rattle.lower.specs.Length.{function_steps, step_limit, is_long}
 use Rattle.lower.specs.Lowered.{IsCodeOf, AreCodesOf}
 use Rattle.lower.proofs.AcceptedFacts.{AllFit}

@@ -12,8 +12,6 @@ pub mod EntryLayouts
 pub mod Validity
 pub mod Within
 pub mod Functions
-pub mod KnownNames
-pub mod Jumps
 pub mod RegionFacts
 pub mod SortFacts
 pub mod PlaceFacts

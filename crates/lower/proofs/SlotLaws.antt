@@ -17,8 +17,8 @@ use Rattle.code.specs.declared.instr.NullableVariable.TheVariants as nullable
 use Rattle.code.specs.Depth.{Listing}
 use Rattle.code.specs.Effect.{cleared}
 use Rattle.code.proofs.Arrays.{cleared_element, cleared_before, cleared_after}
-use Rattle.lower.specs.Layout.{Slot, Known}
-use Rattle.lower.specs.Coding.{nullable_of}
+use Rattle.code_generator.specs.Layout.{Slot, Known}
+use Rattle.code_generator.specs.Coding.{nullable_of}
 use Rattle.lower.specs.Slots.{word_of, ValueHasSort, IsNumberSort, Visible, IsAsBefore, OthersStay, IsSet, IsNulled, IsMade, IsElementSet, Slots, ShowsNumber, ShowsElement, ShowsSlot, Shows, with_null}
 use Rattle.lower.specs.Fits.{IsPlaceOf, IsOwn, IndexWithin}
 use Rattle.lower.specs.Stands.{AreAmong, IsSlotOf}

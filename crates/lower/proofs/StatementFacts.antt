@@ -15,7 +15,7 @@ use Rattle.types.specs.SortRules.{call_fits, may_be_tested, value_sets, right_si
 use Rattle.source.specs.Term as term
 use Rattle.source.specs.Term.{Term, Read, term_of}
 use Rattle.regions.specs.RegionStates.{RegionState}
-use Rattle.lower.specs.Layout.{Slot, Known}
+use Rattle.code_generator.specs.Layout.{Slot, Known}
 use Rattle.lower.specs.Fits.{IsArray, IsIndexSort, NumberFits, ReferenceFits, ArgumentsFit, CallFits, ValueFits, RightFits, TestFits, ReturnFits}
 use Rattle.lower.proofs.SortFacts.{scope_of, slot_of_name, HasNoTruth, IsNoBuffer, IsFine, elements, indexed, index_is_value, number_fits}
 use Rattle.lower.proofs.PlaceFacts.{and_left, and_right, not_false}

@@ -29,8 +29,8 @@ use Rattle.source.specs.Sight.{Sight}
 use Rattle.source.specs.Task.{Task, SetScalar, SetNull, MakeArray, Invoke, Print, Target, Declared, Assigned, Dropped, ScalarKind, ReferenceKind, FieldKind, BufferKind, Operand}
 use Rattle.source.specs.Term.{Term, Done, reduce}
 use Rattle.source.specs.Value.{Value, Word, Int, Flag, Truth, Gives}
-use Rattle.lower.specs.Layout.{Slot, Known}
-use Rattle.lower.specs.Coding.{nullable_of, term_code}
+use Rattle.code_generator.specs.Layout.{Slot, Known}
+use Rattle.code_generator.specs.Coding.{nullable_of, term_code}
 use Rattle.lower.specs.Slots.{word_of, IsNumberSort, Visible, Slots, ShowsSlot, Shows}
 use Rattle.lower.specs.Fits.{TermHasSort}
 use Rattle.lower.specs.Stands.{held, IsBegun, HasAt, IsUnderWay, CalleeStands, GoesTo, TargetStands, InvokeStands, TasksStand, StandsFor, task_returns}

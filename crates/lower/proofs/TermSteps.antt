@@ -30,8 +30,8 @@ use Rattle.code.specs.Effect.{plain_of, truth_word, operate}
 use Rattle.source.specs.Value.{Value, Word, Int, Flag, Truth, Gives, Traps, outcome_map, convert}
 use Rattle.source.specs.Term as term
 use Rattle.source.specs.Term.{Term, Done, Read, IsNull, Prefix, And, Or, Binary, Reduction, done, with_part, reduce}
-use Rattle.lower.specs.Layout.{Slot, Known}
-use Rattle.lower.specs.Coding.{nullable_of, test_of, null_code, element_code, of_slot, load_code, prefix_code, operator_code, is_signed, skip_code, term_code}
+use Rattle.code_generator.specs.Layout.{Slot, Known}
+use Rattle.code_generator.specs.Coding.{nullable_of, test_of, null_code, element_code, of_slot, load_code, prefix_code, operator_code, is_signed, skip_code, term_code}
 use Rattle.lower.specs.Slots.{word_of, ValueHasSort, IsNumberSort, Visible, Slots, ShowsNumber, ShowsArray, ShowsSlot, holds_null}
 use Rattle.lower.specs.Fits.{IsIndexSort, IsNullable, OperatorFits, TermHasSort, IsUntouched}
 use Rattle.lower.specs.Stands.{held, IsBegun}

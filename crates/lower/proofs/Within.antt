@@ -16,8 +16,8 @@ use Rattle.code.specs.declared.slots.SlotCounts.{SlotCounts}
 use Rattle.code.specs.Depth.{operand_within, within_slots}
 use Rattle.source.specs.Term as term
 use Rattle.source.specs.Term.{Term, Done, Read, IsNull, Prefix, And, Or, Binary, term_of}
-use Rattle.lower.specs.Layout.{Slot, Known, Layout, next_index, slots_after, new_slot, closed, layout_after, block_layout}
-use Rattle.lower.specs.Coding.{nullable_of, test_of, null_code, element_code, write_code, of_slot, load_code, prefix_code, operator_code, is_signed, skip_code, term_code, expr_code, operand_of, operand_code, call_code, value_code, right_code, assign_code, returned_code, return_code, test_code, ways_code, turn_code, if_code, stmt_code, block_code}
+use Rattle.code_generator.specs.Layout.{Slot, Known, Layout, next_index, slots_after, new_slot, closed, layout_after, block_layout}
+use Rattle.code_generator.specs.Coding.{nullable_of, test_of, null_code, element_code, write_code, of_slot, load_code, prefix_code, operator_code, is_signed, skip_code, term_code, expr_code, operand_of, operand_code, call_code, value_code, right_code, assign_code, returned_code, return_code, test_code, ways_code, turn_code, if_code, stmt_code, block_code}
 use Rattle.lower.specs.Fits.{IsNullable, TermHasSort, NumberFits, IndexWithin, IsLaidOut, HasRoomFor, ReferenceFits, ArgumentsFit, ValueFits, RightFits, TestFits, ReturnFits, StmtFits, BlockFits}
 use Rattle.lower.specs.Slots.{IsNumberSort}
 use Rattle.lower.proofs.Bodies.{value_is}

@@ -28,7 +28,7 @@ use Rattle.code.specs.declared.instr.PlainTrap.{PlainTrap}
 use Rattle.code.specs.declared.instr.PlainTrap.TheVariants as trap
 use Rattle.code.specs.Depth.{Listing}
 use Rattle.code.specs.Effect.{truth_word, plain_of}
-use Rattle.lower.specs.Layout.{Known}
+use Rattle.code_generator.specs.Layout.{Known}
 use Rattle.lower.specs.Slots.{word_of, Visible, Slots, Shows, IsSet, IsNulled, IsMade, IsElementSet, holds_null, with_null}
 use Rattle.lower.specs.Stands.{target_name, StandsFor}
 

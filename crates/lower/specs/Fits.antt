@@ -11,7 +11,7 @@ use Rattle.types.specs.SortRules.{variable_sort}
 use Rattle.code.specs.declared.slots.SlotCounts.{SlotCounts}
 use Rattle.source.specs.Term as term
 use Rattle.source.specs.Term.{Term, Done, Read, And, Or, IsNull, Prefix, Binary, term_of}
-use Rattle.lower.specs.Layout.{Slot, Known, Layout, width, closed, layout_after, block_layout, entry_layout}
+use Rattle.code_generator.specs.Layout.{Slot, Known, Layout, width, closed, layout_after, block_layout, entry_layout}
 use Rattle.lower.specs.Slots.{ValueHasSort, IsNumberSort}
 
 -- ---- terms

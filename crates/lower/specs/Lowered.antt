@@ -10,7 +10,7 @@ use Rattle.source.specs.Effect.{effect_of}
 use Rattle.source.specs.Task.{Task, tasks_of}
 use Rattle.source.specs.Thread.{Shared, Thread}
 use Rattle.code.specs.Depth.{Listing, IsValid}
-use Rattle.lower.specs.Layout.{Known, with_static, entry_layout}
+use Rattle.code_generator.specs.Layout.{Known, with_static, entry_layout}
 use Rattle.lower.specs.Length.{function_steps, step_limit}
 use Rattle.lower.specs.Slots.{Visible, visible_to, Slots, Shows, ArgumentsFit, EntrySlots, HasRoom, AreNull}
 use Rattle.lower.specs.Stands.{StandsFor}

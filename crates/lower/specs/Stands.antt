@@ -22,8 +22,8 @@ use Rattle.code.specs.declared.instr.Instr.{Instr}
 use Rattle.code.specs.declared.instr.Instr.TheVariants as instr
 use Rattle.code.specs.declared.slots.SlotCounts.{SlotCounts}
 use Rattle.code.specs.Depth.{Listing}
-use Rattle.lower.specs.Layout.{Slot, Known, Layout, block_layout}
-use Rattle.lower.specs.Coding.{nullable_of, element_of, term_code, expr_code, ways_code, turn_code, block_code}
+use Rattle.code_generator.specs.Layout.{Slot, Known, Layout, block_layout}
+use Rattle.code_generator.specs.Coding.{nullable_of, element_of, term_code, expr_code, ways_code, turn_code, block_code}
 use Rattle.lower.specs.Fits.{IsArray, IsIndexSort, TermHasSort, IsUntouched, NumberFits, IndexWithin, IsPlaceOf, IsOwn, IsLaidOut, HasRoomFor, BlockFits}
 use Rattle.lower.specs.Slots.{word_of, IsNumberSort}
 

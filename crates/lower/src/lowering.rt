@@ -2,21 +2,19 @@
 
 ghost use Rattle.std.specs.Prelude.{◌≡◌, ◌+◌, ◌<◌, [], length, Err, IfOk, OnOk, IsTrue};
 ghost use Rattle.syntax.specs.Views.{static_tree, function_tree, unit_tree};
-ghost use Rattle.lower.specs.Layout.{with_static};
-ghost use Rattle.lower.specs.Coding.{function_code};
+ghost use Rattle.code_generator.specs.Layout.{with_static};
+ghost use Rattle.code_generator.specs.Coding.{function_code};
 ghost use Rattle.lower.specs.Fits.{AreStatics, FunctionFits};
 ghost use Rattle.lower.specs.Stands.{block_returns};
 ghost use Rattle.lower.specs.Length.{function_steps, step_limit, IsTooLong};
 ghost use Rattle.lower.specs.Lowered.{IsCodeOf};
-ghost use Rattle.lower.specs.Names.{known_behind};
+ghost use Rattle.code_generator.specs.Names.{known_behind};
 
-use crate::emitting::{counted, emit};
 use crate::fault::LowerFault;
-use crate::names::{Known, Names, Slot, Sort, with_spare};
 use crate::program::Program;
-use crate::statements::emit_block;
 use code::code::Code;
 use code::instr::Instr;
+use code_generator::{Known, Names, Slot, Sort, counted, emit, emit_block, with_spare};
 use regions::Checked;
 use std::alloc::{AllocError, Global};
 use syntax::{Function, Item, Static};

@@ -21,7 +21,7 @@ use Rattle.source.specs.Arguments.{Actual}
 use Rattle.source.specs.Effect.{Effect, Becomes, Sets, SetsNull, SetsElement, MakesArray, Prints, Calls, Returns, TrapsAt, NoEffect, effect_of}
 use Rattle.source.specs.Task.{Task, Target}
 use Rattle.source.specs.Value.{Value, Trap}
-use Rattle.lower.specs.Layout.{Known, with_static}
+use Rattle.code_generator.specs.Layout.{Known, with_static}
 use Rattle.lower.specs.Slots.{Visible, Slots, Shows, IsSet, IsMade, IsElementSet}
 use Rattle.lower.specs.Stands.{StandsFor}
 use Rattle.lower.specs.Does.{DoesEffect, GoesOn, Writes, StoresNull, PrintsTop, CallsFunction, LeavesCall, Stops, Works, IsReturn}

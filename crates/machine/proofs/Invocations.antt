@@ -28,7 +28,7 @@ use Rattle.source.specs.Thread as source
 use Rattle.source.specs.Thread.{BuffersInUse, Shared}
 use Rattle.source.specs.Value.{Value, Int}
 use Rattle.source.specs.Variable.{Variables, Scalar, assign, as_static}
-use Rattle.lower.specs.Layout.{Known}
+use Rattle.code_generator.specs.Layout.{Known}
 use Rattle.lower.specs.Slots.{Visible, visible_to, Shows}
 use Rattle.lower.specs.Stands.{StandsFor}
 use Rattle.lower.specs.Does.{CallsFunction, IsCallee, IsOperand, TakesResult}

@@ -25,7 +25,7 @@ use Rattle.lower.specs.Slots as lower
 use Rattle.lower.specs.Slots.{Slots, visible_to, IsNulled}
 use Rattle.lower.specs.Stands.{target_name}
 use Rattle.lower.specs.Does.{CanBeNull}
-use Rattle.lower.specs.Layout.{Known}
+use Rattle.code_generator.specs.Layout.{Known}
 use Rattle.lower.specs.Lowered.{Lowered}
 use Rattle.code.specs.Depth.{Listing}
 use Rattle.machine.specs.Agrees.{ReferencesAgree, StaticsAgree}

@@ -30,7 +30,7 @@ use Rattle.source.specs.Thread as source
 use Rattle.source.specs.Thread.{BuffersInUse, Shared, Monitor, sight_of, without_owner}
 use Rattle.source.specs.Variable.{Empty, Statics}
 use Rattle.source.specs.ThreadStep.{thread_step, step_within, after_effect, next_effect, waits}
-use Rattle.lower.specs.Layout.{Slot, Known, with_static, entry_layout}
+use Rattle.code_generator.specs.Layout.{Slot, Known, with_static, entry_layout}
 use Rattle.lower.specs.Slots.{Visible, Slots, visible_to, EntrySlots, HasRoom, AreNull, argument_word, argument_reference}
 use Rattle.lower.specs.Stands.{StandsFor}
 use Rattle.lower.specs.Does.{IsCallee}

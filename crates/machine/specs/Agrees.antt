@@ -18,7 +18,7 @@ use Rattle.source.specs.Task.{Task}
 use Rattle.source.specs.Thread as source
 use Rattle.source.specs.Thread.{BuffersInUse, Shared}
 use Rattle.source.specs.ThreadStep.{thread_step, after_effect}
-use Rattle.lower.specs.Layout.{Known}
+use Rattle.code_generator.specs.Layout.{Known}
 use Rattle.lower.specs.Slots.{ArgumentsFit, Visible, visible_to, Shows}
 use Rattle.lower.specs.Stands.{StandsFor}
 use Rattle.lower.specs.Lowered.{Lowered}

@@ -1,7 +1,7 @@
 use Rattle.std.proofs.Common.{ℕ, [], ◌∷◌, ◌∙◌, ap, arith}
 use Rattle.types.specs.Sorts.{Global}
-use Rattle.lower.specs.Names.{known_behind}
-use Rattle.lower.proofs.KnownNames.{known_behind-append, known_behind-length}
+use Rattle.code_generator.specs.Names.{known_behind}
+use Rattle.code_generator.proofs.KnownNames.{known_behind-append, known_behind-length}
 use Rattle.lower.proofs.lowering.declare_static.Goals as goal
 
 pub returns : goal.returns

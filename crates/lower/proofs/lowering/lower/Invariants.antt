@@ -1,6 +1,6 @@
 use Rattle.std.proofs.Common.{[], drop, map}
 use Rattle.syntax.specs.Views.{item_tree}
-use Rattle.lower.specs.Names.{known_behind}
+use Rattle.code_generator.specs.Names.{known_behind}
 use Rattle.lower.proofs.ItemSteps.{AreLeft}
 use Rattle.lower.proofs.lowering.lower.Given as goal
 

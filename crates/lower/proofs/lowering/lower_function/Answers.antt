@@ -5,11 +5,11 @@ use Rattle.code.specs.declared.instr.Instr.{Instr}
 use Rattle.code.specs.declared.instr.Instr.TheVariants as instr
 use Rattle.code.specs.declared.slots.SlotCounts.{SlotCounts}
 use Rattle.code.specs.Depth.{Listing, IsValid}
-use Rattle.lower.specs.Layout.{Known, Layout, closed, entry_layout, block_layout}
-use Rattle.lower.specs.Coding.{block_code, function_code}
+use Rattle.code_generator.specs.Layout.{Known, Layout, closed, entry_layout, block_layout}
+use Rattle.code_generator.specs.Coding.{block_code, function_code}
 use Rattle.lower.specs.Length.{function_steps, step_limit}
 use Rattle.lower.specs.Lowered.{IsCodeOf}
-use Rattle.lower.specs.Names.{known_behind}
+use Rattle.code_generator.specs.Names.{known_behind}
 use Rattle.lower.proofs.Functions.{listing_of, function_valid, is_code_of}
 use Rattle.lower.proofs.lowering.lower_function.Goals as goal
 

@@ -1,0 +1,101 @@
+use Rattle.std.proofs.Common.{◌≡◌, ℕ, ◌+◌, ◌-◌, List, [], ◌∷◌, ◌++◌, length, Result, Ok, Err, OnOk, ◌∙◌, sym, ap, ap₂, refl, arith, length-append}
+use Rattle.std.specs.Prelude.{slice_set, vec_len}
+use Rattle.std.proofs.lemmas.List.{append-nil}
+use Rattle.syntax.specs.declared.stmt.Stmt.{Stmt as StmtInMemory}
+use Rattle.syntax.specs.declared.stmt.Block.{out-Block}
+use Rattle.syntax.specs.Views.{form_tree, block_tree, statements_tree}
+use Rattle.syntax.proofs.Blocks.{block_is}
+use Rattle.code.specs.declared.instr.Instr.{Instr}
+use Rattle.code.specs.declared.instr.Instr.TheVariants as instr
+use Rattle.code_generator.specs.Layout.{block_layout}
+use Rattle.code_generator.specs.Coding.{first_code, ways_code, loop_code, stmt_code, block_code}
+use Rattle.code_generator.proofs.Jumps.{first_made, ways_made, loop_made}
+use Rattle.code_generator.proofs.statements.+statements.Goals as goal
+
+on_ok : {A E : Type 0} (r : Result A E) (P Q : Type 0) → (P → Q) → OnOk r P → OnOk r Q
+on_ok (Ok x) P Q f h = f h
+on_ok (Err e) P Q f h = h
+
+-- what three calls append, and the jumps at the end
+first_whole : (old a b c new test then' : List Instr) (jump : ℕ) → a ≡ old ++ test → b ≡ a ++ instr.JumpIfFalse 0 ∷ [] → c ≡ b ++ then' → jump ≡ length a → new ≡ slice_set (c ++ instr.Jump 0 ∷ []) jump (instr.JumpIfFalse (length c - jump)) → new ≡ old ++ first_code test then'
+first_whole old a b c new test then' jump ea eb ec ej en =
+    let size : length c - jump ≡ length then' + 1 = omega (arith, ej, ap length ec, ap length eb, length-append b then', length-append a (instr.JumpIfFalse 0 ∷ [])) in
+    let place : jump ≡ length (old ++ test) = ej ∙ ap length ea in
+    let appended : c ≡ ((old ++ test) ++ instr.JumpIfFalse 0 ∷ []) ++ then' = ec ∙ rw (eb, ea) refl in
+    en ∙ ap (λ l. slice_set (l ++ instr.Jump 0 ∷ []) jump (instr.JumpIfFalse (length c - jump))) appended ∙ first_made old test then' jump (length c - jump) place size
+
+pub emit_first-returns-clause-code : goal.emit_first-returns-clause-code
+emit_first-returns-clause-code t c =
+    let whole = c.emit_block.new.code in
+    on_ok c.close_first.result _ _
+    (λ (e : c.close_first.new.code.items ≡ slice_set (whole.items ++ instr.Jump 0 ∷ []) c.len-jump.result (instr.JumpIfFalse (vec_len whole - c.len-jump.result))).
+    first_whole c.args.code.now.items _ _ whole.items _ _ _ c.len-jump.result c.in_ok-emit_test.ensures c.in_ok-emit.ensures c.in_ok-emit_block.ensures.code (omega (arith, c.len-jump.ensures))
+    (e ∙ ap (λ n. slice_set (whole.items ++ instr.Jump 0 ∷ []) c.len-jump.result (instr.JumpIfFalse (n - c.len-jump.result))) whole.ok.0))
+    c.close_first.ensures.code
+
+-- what the test, the jump and the body append, and the jumps at the end
+loop_whole : (old a b c new test body : List Instr) (start jump : ℕ) → a ≡ old ++ test → b ≡ a ++ instr.JumpIfFalse 0 ∷ [] → c ≡ b ++ body → start ≡ length old → jump ≡ length a
+    → new ≡ slice_set (c ++ instr.JumpBack (length c - start) ∷ []) jump (instr.JumpIfFalse (length c - jump)) → new ≡ old ++ loop_code test body
+loop_whole old a b c new test body start jump ea eb ec es ej en =
+    let first = ap length ea ∙ length-append old test in
+    let all = ap length ec ∙ length-append b body in
+    let more = ap length eb ∙ length-append a (instr.JumpIfFalse 0 ∷ []) in
+    let appended : c ≡ ((old ++ test) ++ instr.JumpIfFalse 0 ∷ []) ++ body = ec ∙ rw (eb, ea) refl in
+    let far : length c - jump ≡ length body + 1 = omega (arith, ej, all, more) in
+    let turn : length c - start ≡ length test + 1 + length body = omega (arith, es, all, more, first) in
+    let place : jump ≡ length (old ++ test) = ej ∙ ap length ea in
+    en ∙ ap (λ l. slice_set (l ++ instr.JumpBack (length c - start) ∷ []) jump (instr.JumpIfFalse (length c - jump))) appended ∙ loop_made old test body jump (length c - jump) (length c - start) place far turn
+
+pub emit_loop-returns-clause-code : goal.emit_loop-returns-clause-code
+emit_loop-returns-clause-code t c =
+    let whole = c.emit_block.new.code in
+    let start = c.len-start.result in
+    let jump = c.len-jump.result in
+    on_ok c.close_turn.result _ _
+    (λ (e : c.close_turn.new.code.items ≡ slice_set (whole.items ++ instr.JumpBack (vec_len whole - start) ∷ []) jump (instr.JumpIfFalse (vec_len whole - jump))).
+    loop_whole c.args.code.now.items _ _ whole.items _ _ _ start jump c.in_ok-emit_expr.ensures c.in_ok-emit.ensures c.in_ok-emit_block.ensures.code (omega (arith, c.len-start.ensures)) (omega (arith, c.len-jump.ensures))
+    (e ∙ ap (λ n. slice_set (whole.items ++ instr.JumpBack (n - start) ∷ []) jump (instr.JumpIfFalse (n - jump))) whole.ok.0))
+    c.close_turn.ensures
+
+-- both ways of an `if`, of which the jump at the end of the first is set at the end
+ways_whole : (old a b new test then' else' : List Instr) (end n : ℕ) → a ≡ old ++ first_code test then' → b ≡ a ++ else' → end + 1 ≡ length a → n ≡ length b → new ≡ slice_set (b ++ instr.Jump 0 ∷ []) end (instr.Jump (n - end)) → new ≡ old ++ (test ++ ways_code then' (else' ++ instr.Jump 0 ∷ []))
+ways_whole old a b new test then' else' end n ea eb at size en =
+    let place : end + 1 ≡ length (old ++ first_code test then') = at ∙ ap length ea in
+    let far : n - end ≡ length else' + 1 = omega (arith, at, size, ap length eb, length-append a else') in
+    en ∙ rw (eb, ea) (ways_made old test then' else' end (n - end) place far)
+
+way_whole : (old a new test then' : List Instr) (end n : ℕ) → a ≡ old ++ first_code test then' → end + 1 ≡ length a → n ≡ length a → new ≡ slice_set (a ++ instr.Jump 0 ∷ []) end (instr.Jump (n - end)) → new ≡ old ++ (test ++ ways_code then' (instr.Jump 0 ∷ []))
+way_whole old a new test then' end n ea at size en = ways_whole old a a new test then' [] end n ea (sym (append-nil a)) at size en
+
+pub emit_form-returns-in_ok-end-in-If-clause-code : goal.emit_form-returns-in_ok-end-in-If-clause-code
+emit_form-returns-in_ok-end-in-If-clause-code t c =
+    let first = c.emit_first.new.code in
+    on_ok c.emit_end.result _ _
+    (λ (e : c.emit_end.new.code.items ≡ slice_set (first.items ++ instr.Jump 0 ∷ []) c.in_ok-end-in-If.end (instr.Jump (vec_len first - c.in_ok-end-in-If.end))).
+    way_whole c.args.code.now.items first.items _ _ _ c.in_ok-end-in-If.end (vec_len first) c.in_ok-end-in-If.ensures.code (c.in_ok-end-in-If.ensures.end ∙ first.ok.0) first.ok.0 e
+    ∙ ap (λ f. c.args.code.now.items ++ stmt_code c.args.names.now (form_tree c.args.line f)) (sym c.in-If.is))
+    c.emit_end.ensures
+
+pub emit_form-returns-in_ok-emit_block-in-IfElse-clause-code : goal.emit_form-returns-in_ok-emit_block-in-IfElse-clause-code
+emit_form-returns-in_ok-emit_block-in-IfElse-clause-code t c =
+    let first = c.emit_first-in-IfElse.new.code in
+    let second = c.emit_block.new.code in
+    let end = c.in_ok-end-in-IfElse.end in
+    let names = c.in_ok-end-in-IfElse.ensures.names in
+    on_ok c.emit_end-in-IfElse.result _ _
+    (λ (e : c.emit_end-in-IfElse.new.code.items ≡ slice_set (second.items ++ instr.Jump 0 ∷ []) end (instr.Jump (vec_len second - end))).
+    ways_whole c.args.code.now.items first.items second.items _ _ _ _ end (vec_len second) c.in_ok-end-in-IfElse.ensures.code
+    (c.in_ok-emit_block-in-IfElse.ensures.code ∙ ap (λ l. first.items ++ block_code l (block_tree c.in-IfElse.second)) names) (c.in_ok-end-in-IfElse.ensures.end ∙ first.ok.0) second.ok.0 e
+    ∙ ap (λ f. c.args.code.now.items ++ stmt_code c.args.names.now (form_tree c.args.line f)) (sym c.in-IfElse.is))
+    c.emit_end-in-IfElse.ensures
+
+-- ---- the loop over a block's statements
+
+pub emit_block-loop-stmt-init : goal.emit_block-loop-stmt-init
+emit_block-loop-stmt-init t c =
+    let block = block_is c.args.block.now ∙ ap (λ (items : List StmtInMemory). statements_tree items (out-Block c.args.block.now).end_line) (sym c.deref-stmt-items.ensures.value) in
+    let names = sym c.in_ok-inner.ensures in
+    record {
+      code = ap₂ (λ l b. c.args.code.now.items ++ block_code l b) names block;
+      layout = ap₂ block_layout names block;
+    }

@@ -1,0 +1,255 @@
+-- Which instructions the parts of a program become. What no accepted program has becomes nothing, and no place of a code
+-- stands for it (Stands).
+use Rattle.std.specs.Prelude.{ℕ, ◌+◌, Bool, true, false, not, List, [], ◌∷◌, ◌++◌, length, Option, Some, None}
+use Rattle.std.specs.Option.{option_map}
+use Rattle.base.specs.Bytes.{lookup}
+use Rattle.base.specs.Element.{ElementType, JInt, JShort, JByte, JChar}
+use Rattle.syntax.specs.Tree as tree
+use Rattle.syntax.specs.Tree.{Constant, PrefixOp, LogicalNot, Complement, ToWord, ToInt, BinaryOp, LogicalOr, LogicalAnd, BitOr, BitXor, BitAnd, Equal, NotEqual, Less, LessEqual, Greater, GreaterEqual, ShiftLeft, ShiftRight, Add, Subtract, Multiply, Divide, Remainder, Expr, Argument, RightSide, FromExpr, FromCall, Test, TestExpr, TestCall, Stmt, Block, End, Next, Function}
+use Rattle.types.specs.Sorts.{Sort, Ref, Global, FieldId, Buffer, Array, is_jint}
+use Rattle.types.specs.SortRules.{variable_sort}
+use Rattle.code.specs.declared.instr.Callee.TheVariants as callee
+use Rattle.code.specs.declared.instr.ElementType.{ElementType as ElementOfCode}
+use Rattle.code.specs.declared.instr.ElementType.TheVariants as element
+use Rattle.code.specs.declared.instr.Operator.TheVariants as operator
+use Rattle.code.specs.declared.instr.TrappingOperator.TheVariants as trapping
+use Rattle.code.specs.declared.instr.NullableVariable.{NullableVariable}
+use Rattle.code.specs.declared.instr.NullableVariable.TheVariants as nullable
+use Rattle.code.specs.declared.instr.ReferenceOperand.{ReferenceOperand}
+use Rattle.code.specs.declared.instr.ReferenceOperand.TheVariants.{Null, Local}
+use Rattle.code.specs.declared.instr.Target.TheVariants.{Number}
+use Rattle.code.specs.declared.instr.Instr.{Instr}
+use Rattle.code.specs.declared.instr.Instr.TheVariants.{Push, Load, Store, Convert, Operate, OperateOrTrap, JumpIfFalseOrPop, JumpIfTrueOrPop, JumpIfFalse, Jump, JumpBack, LoadElement, StoreElement, ClearArray, TestNull, StoreNull, PutJint, Call, Return, ReturnJint, ReturnReference}
+use Rattle.code.specs.declared.instr.Instr.TheVariants as instr
+use Rattle.source.specs.Term as term
+use Rattle.source.specs.Term.{Term, Done, Read, And, Or, IsNull, Prefix, Binary, term_of}
+use Rattle.source.specs.Value.{Int}
+use Rattle.code_generator.specs.Layout.{Slot, Known, Layout, new_slot, entry_layout, closed, layout_after, block_layout}
+
+-- ---- variables
+
+-- a variable that can be NULL
+abbrev pub nullable_of : Sort → ℕ → Option NullableVariable
+nullable_of Ref i = Some (nullable.Local i)
+nullable_of Global i = Some (nullable.Static i)
+nullable_of FieldId i = Some (nullable.FieldId i)
+nullable_of (Buffer t writable) i = Some (nullable.Buffer i)
+nullable_of s i = None
+
+-- the test whether it is NULL, or isn't
+abbrev pub test_of : Bool → Option NullableVariable → List Instr
+test_of equal (Some v) = TestNull v equal ∷ []
+test_of equal None = []
+
+-- the same of a name
+abbrev pub null_code : Bool → Option Slot → List Instr
+null_code equal (Some s) = test_of equal (nullable_of s.sort s.index)
+null_code equal None = []
+
+-- NULL goes there
+abbrev pub store_of : Option NullableVariable → List Instr
+store_of (Some v) = StoreNull v ∷ []
+store_of None = []
+
+-- the element type of an instruction
+abbrev pub element_of : ElementType → ElementOfCode
+element_of JInt = element.Int
+element_of JShort = element.Short
+element_of JByte = element.Byte
+element_of JChar = element.Char
+
+-- an element of an array with its first slot here
+abbrev pub element_code : (line : ℕ) → Sort → ℕ → List Instr
+element_code line (Array t size) i = LoadElement (record { start = i; len = size }) line ∷ []
+element_code line s i = []
+
+-- such an element is written
+abbrev pub write_code : (line : ℕ) → Sort → ℕ → List Instr
+write_code line (Array t size) i = StoreElement (element_of t) (record { start = i; len = size }) line ∷ []
+write_code line s i = []
+
+-- a part that needs the slot of a name
+abbrev pub of_slot : (Sort → ℕ → List Instr) → Option Slot → List Instr
+of_slot code (Some s) = code s.sort s.index
+of_slot code None = []
+
+-- the value of a name
+abbrev pub load_code : Sort → ℕ → List Instr
+load_code s i = Load i ∷ []
+
+-- ---- expressions
+
+-- a named constant
+abbrev pub constant_code : Constant → List Instr
+constant_code tree.True = Push 1 ∷ []
+constant_code tree.False = Push 0 ∷ []
+constant_code c = []
+
+-- a prefix operator after its operand
+abbrev pub prefix_code : PrefixOp → Instr
+prefix_code LogicalNot = instr.Not
+prefix_code Complement = instr.Complement
+prefix_code ToWord = Convert
+prefix_code ToInt = Convert
+
+-- An operator after its operands, which are `jint`s where it says so. `&&` and `||` have instructions of their own,
+-- between their operands.
+abbrev pub operator_code : (line : ℕ) (signed : Bool) → BinaryOp → Instr
+operator_code line signed LogicalOr = Operate operator.Or
+operator_code line signed LogicalAnd = Operate operator.And
+operator_code line signed BitOr = Operate operator.Or
+operator_code line signed BitXor = Operate operator.Xor
+operator_code line signed BitAnd = Operate operator.And
+operator_code line signed Equal = Operate operator.Equal
+operator_code line signed NotEqual = Operate operator.NotEqual
+operator_code line false Less = Operate operator.Less
+operator_code line false LessEqual = Operate operator.LessEqual
+operator_code line false Greater = Operate operator.Greater
+operator_code line false GreaterEqual = Operate operator.GreaterEqual
+operator_code line true Less = Operate operator.SignedLess
+operator_code line true LessEqual = Operate operator.SignedLessEqual
+operator_code line true Greater = Operate operator.SignedGreater
+operator_code line true GreaterEqual = Operate operator.SignedGreaterEqual
+operator_code line signed ShiftLeft = OperateOrTrap trapping.ShiftLeft line
+operator_code line signed ShiftRight = OperateOrTrap trapping.ShiftRight line
+operator_code line signed Add = Operate operator.Add
+operator_code line signed Subtract = Operate operator.Subtract
+operator_code line signed Multiply = Operate operator.Multiply
+operator_code line signed Divide = OperateOrTrap trapping.Divide line
+operator_code line signed Remainder = OperateOrTrap trapping.Remainder line
+
+-- whether an operand is a `jint`
+abbrev pub is_signed : Known → Term → Bool
+is_signed known (Done (Int z)) = true
+is_signed known (term.Number n unsigned) = not unsigned
+is_signed known (Read x) = is_jint (option_map (λ s. s.sort) (lookup x known))
+is_signed known (term.Element x t) = true
+is_signed known (Prefix ToInt t) = true
+is_signed known t = false
+
+-- the jump over the right side of `&&`, or else of `||`
+abbrev pub skip_code : (and' : Bool) → ℕ → Instr
+skip_code true n = JumpIfFalseOrPop n
+skip_code false n = JumpIfTrueOrPop n
+
+-- `&&` or `||` with the code of its sides
+abbrev pub logical_code : (and' : Bool) → (left right : List Instr) → List Instr
+logical_code and' left right = left ++ skip_code and' (length right) ∷ right
+
+-- the instructions of the parts of an expression that have no value yet, in a statement on this line
+abbrev pub term_code : Known → (line : ℕ) → Term → List Instr
+term_code known line (Done v) = []
+term_code known line (term.Number n unsigned) = Push n ∷ []
+term_code known line (term.Named c) = constant_code c
+term_code known line (Read x) = of_slot load_code (lookup x known)
+term_code known line (term.Element x t) = term_code known line t ++ of_slot (element_code line) (lookup x known)
+term_code known line (IsNull equal x) = null_code equal (lookup x known)
+term_code known line (Prefix op t) = term_code known line t ++ prefix_code op ∷ []
+term_code known line (And a b) = logical_code true (term_code known line a) (term_code known line b)
+term_code known line (Or a b) = logical_code false (term_code known line a) (term_code known line b)
+term_code known line (Binary op a b) = term_code known line a ++ (term_code known line b ++ operator_code line (is_signed known a) op ∷ [])
+
+-- an expression; its parentheses need no instruction
+abbrev pub expr_code : Known → (line : ℕ) → Expr → List Instr
+expr_code known line e = term_code known line (term_of e)
+
+-- ---- calls
+
+-- a local reference; a static holds nothing but NULL yet
+abbrev pub local_or_null : Sort → ℕ → ReferenceOperand
+local_or_null Ref i = Local i
+local_or_null s i = Null
+
+-- where the reference of a name is
+abbrev pub operand_of : Option Slot → ReferenceOperand
+operand_of None = Null
+operand_of (Some s) = local_or_null s.sort s.index
+
+-- where a reference argument is found
+abbrev pub operand_code : Known → Expr → ReferenceOperand
+operand_code known (tree.Variable x) = operand_of (lookup x known)
+operand_code known e = Null
+
+-- a call with these arguments, whose result goes into a number slot; all are of GetArrayLength today
+abbrev pub call_code : Known → (line slot : ℕ) → List Argument → List Instr
+call_code known line slot (tree.Value e ∷ []) = Call (record { line = line; target = Number slot; function = callee.GetArrayLength (operand_code known e) }) ∷ []
+call_code known line slot arguments = []
+
+-- ---- statements
+
+-- a value for a variable
+abbrev pub value_code : Known → (line : ℕ) → Slot → Expr → List Instr
+value_code known line s (tree.Named tree.Null) = store_of (nullable_of s.sort s.index)
+value_code known line s e = expr_code known line e ++ Store s.index ∷ []
+
+-- a right side
+abbrev pub right_code : Known → (line : ℕ) → Slot → RightSide → List Instr
+right_code known line s (FromExpr e) = value_code known line s e
+right_code known line s (FromCall c) = call_code known line s.index c.arguments
+
+-- a right side for a name that is known
+abbrev pub assign_code : Known → (line : ℕ) → Option Slot → RightSide → List Instr
+assign_code known line (Some s) r = right_code known line s r
+assign_code known line None r = []
+
+-- a name is returned, a number or a reference
+abbrev pub returned_code : Sort → ℕ → List Instr
+returned_code Ref i = ReturnReference (Local i) ∷ []
+returned_code s i = Load i ∷ ReturnJint ∷ []
+
+-- a value is returned
+abbrev pub return_code : Known → (line : ℕ) → Term → List Instr
+return_code known line (term.Named tree.Null) = ReturnReference Null ∷ []
+return_code known line (Read x) = of_slot returned_code (lookup x known)
+return_code known line t = term_code known line t ++ ReturnJint ∷ []
+
+-- the two ways of an `if` after its test, of which each ends by a jump
+abbrev pub ways_code : (then' else' : List Instr) → List Instr
+ways_code then' else' = JumpIfFalse (length then' + 1) ∷ (then' ++ Jump (length else') ∷ else')
+
+-- an `if` up to the end of its first way, where it isn't known how far the jump there leads
+abbrev pub first_code : (test then' : List Instr) → List Instr
+first_code test then' = test ++ JumpIfFalse (length then' + 1) ∷ (then' ++ Jump 0 ∷ [])
+
+-- a turn of a loop after its test, and the way back
+abbrev pub turn_code : (test body : List Instr) → List Instr
+turn_code test body = JumpIfFalse (length body + 1) ∷ (body ++ JumpBack (length test + 1 + length body) ∷ [])
+
+-- a loop with the code of its test and its body
+abbrev pub loop_code : (test body : List Instr) → List Instr
+loop_code test body = test ++ turn_code test body
+
+-- a test
+abbrev pub test_code : Known → (line : ℕ) → Test → List Instr
+test_code known line (TestExpr e) = expr_code known line e
+test_code known line (TestCall c) = []
+
+-- an `if` with the code of its ways
+abbrev pub if_code : Known → (line : ℕ) → Test → (then' else' : List Instr) → List Instr
+if_code known line test then' else' = test_code known line test ++ ways_code then' (else' ++ Jump 0 ∷ [])
+
+abbrev mutual
+  -- a statement
+  pub stmt_code : Layout → Stmt → List Instr
+  stmt_code l (tree.Declare line t x r) = right_code l.known line (new_slot (variable_sort t) l) r
+  stmt_code l (tree.DeclareBuffer line t x r) = right_code l.known line (new_slot (Buffer t true) l) r
+  stmt_code l (tree.DeclareChars line x r) = right_code l.known line (new_slot (Buffer JChar false) l) r
+  stmt_code l (tree.DeclareArray line t x size) = ClearArray (record { start = l.slots.numbers; len = size }) ∷ []
+  stmt_code l (tree.Assign line x r) = assign_code l.known line (lookup x l.known) r
+  stmt_code l (tree.AssignElement line x i e) = expr_code l.known line i ++ (expr_code l.known line e ++ of_slot (write_code line) (lookup x l.known))
+  stmt_code l (tree.Perform line c) = call_code l.known line l.slots.numbers c.arguments
+  stmt_code l (tree.PutJint line e) = expr_code l.known line e ++ PutJint ∷ []
+  stmt_code l (tree.If line test then') = if_code l.known line test (block_code l then') []
+  stmt_code l (tree.IfElse line test then' else') = if_code l.known line test (block_code l then') (block_code (closed l (block_layout l then')) else')
+  stmt_code l (tree.While line test body) = loop_code (expr_code l.known line test) (block_code l body)
+  stmt_code l (tree.Return line) = Return ∷ []
+  stmt_code l (tree.ReturnValue line e) = return_code l.known line (term_of e)
+
+  -- the statements of a block
+  pub block_code : Layout → Block → List Instr
+  block_code l (End line) = []
+  block_code l (Next s rest) = stmt_code l s ++ block_code (layout_after l s) rest
+
+-- A function, after these statics. The last instruction is for jumps to the end of the body.
+abbrev pub function_code : (statics : Known) → Function → List Instr
+function_code statics f = block_code (entry_layout statics f) f.body ++ Return ∷ []

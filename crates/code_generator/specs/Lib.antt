@@ -1,0 +1,3 @@
+pub mod Layout
+pub mod Coding
+pub mod Names

@@ -1,0 +1,11 @@
+//! From the statements of checked functions to instructions, each name in its slot.
+#![tactic(auto)]
+
+mod emitting;
+mod names;
+mod statements;
+mod terms;
+
+pub use emitting::{counted, emit};
+pub use names::{Known, Names, Slot, Sort, with_spare};
+pub use statements::emit_block;

@@ -1,0 +1,419 @@
+//! The code of statements and blocks.
+
+ghost use Rattle.std.specs.Prelude.{◌≡◌, ◌+◌, ◌-◌, ◌<◌, ◌≤◌, [], ◌∷◌, ◌++◌, slice_set, vec_len, map, IfOk, OnOk};
+ghost use Rattle.base.specs.Bytes.{lookup};
+ghost use Rattle.syntax.specs.Views.{element_tree, expr_tree, argument_tree, call_tree, right_side_tree, test_tree, variable_type_tree, form_tree, block_tree};
+ghost use Rattle.types.specs.SortRules.{variable_sort};
+ghost use Rattle.source.specs.Term.{term_of};
+ghost use Rattle.code_generator.specs.Layout.{closed, layout_after, block_layout, with_name, new_slot};
+ghost use Rattle.code_generator.specs.Coding.{operand_code, call_code, right_code, assign_code, write_code, of_slot, return_code, returned_code, test_code, first_code, loop_code, expr_code, stmt_code, block_code};
+ghost use Rattle.code_generator.specs.Names.{sort_view, slot_view};
+
+use crate::emitting::{counted, emit, replace};
+use crate::names::{Names, Slot, Sort};
+use crate::terms::{element_type, emit_expr, nullable};
+use code::instr;
+use code::instr::{BoxedCall, Callee, Instr, LocalArray, ReferenceOperand, Target};
+use std::alloc::{AllocError, Global};
+use syntax::{
+    Argument, Block, Call, Constant, ElementType, Expr, Form, Name, RightSide, Test, VariableType,
+};
+
+/// A statement on this line, with the names that are known after it.
+#[cycle(statements)]
+pub fn emit_form<'a>(
+    alloc: Global,
+    code: &mut Vec<Instr>,
+    names: &mut Names<'a>,
+    line: u32,
+    form: &'a Form,
+) -> Result<(), AllocError>
+    ensures code { OnOk result (code.new.items ≡ code.old.items ++ stmt_code names.old (form_tree line form.now)) }
+    ensures names { OnOk result (names.new ≡ layout_after names.old (form_tree line form.now)) }
+{
+    match form {
+        Form::Declare(kind, name, right) => {
+            emit_declaration(code, names, line, name, variable_sort(*kind), right)
+        }
+        Form::DeclareBuffer(element, name, right) => {
+            emit_declaration(code, names, line, name, Sort::Buffer(*element, true), right)
+        }
+        Form::DeclareChars(name, right) => {
+            let sort = Sort::Buffer(ElementType::Jchar, false);
+            emit_declaration(code, names, line, name, sort, right)
+        }
+        Form::DeclareArray(element, name, size) => {
+            emit_array(code, names, name, *element, *size)
+        }
+        Form::Assign(name, right) => emit_assignment(code, names, line, name, right),
+        Form::AssignElement(name, index, value) => {
+            emit_element_set(code, names, line, name, index, value)
+        }
+        Form::Perform(call) => emit_dropped(code, names, line, call),
+        Form::PutJint(number) => emit_print(code, names, line, number),
+        Form::If(test, first) => {
+            let end = emit_first(alloc, code, names, line, test, first)?;
+            emit_end(code, end)
+        }
+        Form::IfElse(test, first, second) => {
+            let end = emit_first(alloc, code, names, line, test, first)?;
+            emit_block(alloc, code, names, second)?;
+            emit_end(code, end)
+        }
+        Form::While(test, body) => emit_loop(alloc, code, names, line, body, test),
+        Form::Return(None) => emit(code, Instr::Return),
+        Form::Return(Some(value)) => emit_return(code, names, line, value),
+    }
+}
+
+/// The statements of a block, whose names are forgotten after it.
+#[cycle(statements)]
+pub fn emit_block<'a>(
+    alloc: Global,
+    code: &mut Vec<Instr>,
+    names: &mut Names<'a>,
+    block: &'a Block,
+) -> Result<(), AllocError>
+    ensures code { OnOk result (code.new.items ≡ code.old.items ++ block_code names.old (block_tree block.now)) }
+    ensures names { OnOk result (names.new ≡ closed names.old (block_layout names.old (block_tree block.now))) }
+{
+    let mut inner = names.inside(alloc)?;
+    for stmt in &block.statements {
+        emit_form(alloc, code, &mut inner, counted(stmt.line)?, &stmt.form)?;
+    }
+    names.close(&inner);
+    Ok(())
+}
+
+/// An `if` up to the end of its first way. It answers the place of the jump there, which is not known yet.
+#[cycle(statements)]
+fn emit_first<'a>(
+    alloc: Global,
+    code: &mut Vec<Instr>,
+    names: &mut Names<'a>,
+    line: u32,
+    test: &Test,
+    first: &'a Block,
+) -> Result<usize, AllocError>
+    ensures end { IfOk result (λ end. end + 1 ≡ vec_len code.new) }
+    ensures code { OnOk result (code.new.items ≡ code.old.items ++ first_code (test_code names.old.known line (test_tree test.now)) (block_code names.old (block_tree first.now))) }
+    ensures names { OnOk result (names.new ≡ closed names.old (block_layout names.old (block_tree first.now))) }
+{
+    emit_test(code, names, line, test)?;
+    let jump = code.len();
+    emit(code, Instr::JumpIfFalse(0))?;
+    emit_block(alloc, code, names, first)?;
+    close_first(code, jump)
+}
+
+/// The end of an `if`'s first way: a jump, and how far that after the test leads. It answers the place of the former, which is
+/// not known yet.
+fn close_first(code: &mut Vec<Instr>, jump: usize) -> Result<usize, AllocError>
+    requires { jump < vec_len code.old }
+    ensures end { IfOk result (λ end. end + 1 ≡ vec_len code.new) }
+    ensures code { OnOk result (code.new.items ≡ slice_set (code.old.items ++ Instr.Jump 0 ∷ []) jump (Instr.JumpIfFalse (vec_len code.old - jump))) }
+{
+    let end = code.len();
+    let skipped = counted(end - jump)?;
+    emit(code, Instr::Jump(0))?;
+    replace(code, jump, Instr::JumpIfFalse(skipped));
+    Ok(end)
+}
+
+/// The end of an `if`: the jump after its second way, and how far that after its first one leads.
+fn emit_end(code: &mut Vec<Instr>, end: usize) -> Result<(), AllocError>
+    requires { end < vec_len code.old }
+    ensures { OnOk result (code.new.items ≡ slice_set (code.old.items ++ Instr.Jump 0 ∷ []) end (Instr.Jump (vec_len code.old - end))) }
+{
+    let skipped = counted(code.len() - end)?;
+    emit(code, Instr::Jump(0))?;
+    replace(code, end, Instr::Jump(skipped));
+    Ok(())
+}
+
+/// A loop: its test, its body, and the way back to the test.
+#[cycle(statements)]
+fn emit_loop<'a>(
+    alloc: Global,
+    code: &mut Vec<Instr>,
+    names: &mut Names<'a>,
+    line: u32,
+    body: &'a Block,
+    test: &Expr,
+) -> Result<(), AllocError>
+    ensures code { OnOk result (code.new.items ≡ code.old.items ++ loop_code (expr_code names.old.known line (expr_tree test.now)) (block_code names.old (block_tree body.now))) }
+    ensures names { OnOk result (names.new ≡ closed names.old (block_layout names.old (block_tree body.now))) }
+{
+    let start = code.len();
+    emit_expr(code, names, line, test)?;
+    let jump = code.len();
+    emit(code, Instr::JumpIfFalse(0))?;
+    emit_block(alloc, code, names, body)?;
+    close_turn(code, start, jump)
+}
+
+/// The end of a loop's turn: the jump back to the test, and how far that after the test leads.
+fn close_turn(code: &mut Vec<Instr>, start: usize, jump: usize) -> Result<(), AllocError>
+    requires begun { start ≤ jump }
+    requires inside { jump < vec_len code.old }
+    ensures { OnOk result (code.new.items ≡ slice_set (code.old.items ++ Instr.JumpBack (vec_len code.old - start) ∷ []) jump (Instr.JumpIfFalse (vec_len code.old - jump))) }
+{
+    let end = code.len();
+    let back = counted(end - start)?;
+    let skipped = counted(end - jump)?;
+    emit(code, Instr::JumpBack(back))?;
+    replace(code, jump, Instr::JumpIfFalse(skipped));
+    Ok(())
+}
+
+/// A test; no call is tested yet.
+fn emit_test(
+    code: &mut Vec<Instr>,
+    names: &Names<'_>,
+    line: u32,
+    test: &Test,
+) -> Result<(), AllocError>
+    ensures { OnOk result (code.new.items ≡ code.old.items ++ test_code names.now.known line (test_tree test.now)) }
+{
+    match test {
+        Test::Expr(expr) => emit_expr(code, names, line, expr),
+        Test::Call(_) => Ok(()),
+    }
+}
+
+/// The sort of a declared variable.
+fn variable_sort(kind: VariableType) -> Sort
+    ensures { sort_view result ≡ variable_sort (variable_type_tree kind) }
+{
+    match kind {
+        VariableType::Uint32 => Sort::Word,
+        VariableType::Jint | VariableType::Jsize => Sort::Jint,
+        VariableType::Jboolean => Sort::Flag,
+        VariableType::JfieldId => Sort::FieldId,
+        VariableType::Reference(_) => Sort::Reference,
+    }
+}
+
+/// What a new variable is set to, and its name.
+fn emit_declaration<'a>(
+    code: &mut Vec<Instr>,
+    names: &mut Names<'a>,
+    line: u32,
+    name: &'a Name,
+    sort: Sort,
+    right: &RightSide,
+) -> Result<(), AllocError>
+    ensures code { OnOk result (code.new.items ≡ code.old.items ++ right_code names.old.known line (new_slot (sort_view sort) names.old) (right_side_tree right.now)) }
+    ensures names { OnOk result (names.new ≡ with_name name.now (sort_view sort) names.old) }
+{
+    emit_right(code, names, line, names.new_slot(sort), right)?;
+    names.declare(name, sort)
+}
+
+/// A new array of `len` zeros.
+fn emit_array<'a>(
+    code: &mut Vec<Instr>,
+    names: &mut Names<'a>,
+    name: &'a Name,
+    element: ElementType,
+    len: u32,
+) -> Result<(), AllocError>
+    ensures code { OnOk result (code.new.items ≡ code.old.items ++ Instr.ClearArray (record { start = names.old.slots.numbers; len = len }) ∷ []) }
+    ensures names { OnOk result (names.new ≡ with_name name.now (sort_view (Sort.Array element len)) names.old) }
+{
+    let start = names.slots().numbers;
+    emit(code, Instr::ClearArray(LocalArray { start, len }))?;
+    names.declare(name, Sort::Array(element, len))
+}
+
+/// What a known variable is set to.
+fn emit_assignment(
+    code: &mut Vec<Instr>,
+    names: &Names<'_>,
+    line: u32,
+    name: &Name,
+    right: &RightSide,
+) -> Result<(), AllocError>
+    ensures { OnOk result (code.new.items ≡ code.old.items ++ assign_code names.now.known line (lookup name.now names.now.known) (right_side_tree right.now)) }
+{
+    match names.slot_of(name) {
+        Some(slot) => emit_right(code, names, line, slot, right),
+        None => Ok(()),
+    }
+}
+
+/// A right side, whose value goes into this slot.
+fn emit_right(
+    code: &mut Vec<Instr>,
+    names: &Names<'_>,
+    line: u32,
+    slot: Slot,
+    right: &RightSide,
+) -> Result<(), AllocError>
+    ensures { OnOk result (code.new.items ≡ code.old.items ++ right_code names.now.known line (slot_view slot) (right_side_tree right.now)) }
+{
+    match right {
+        RightSide::Expr(Expr::Named(Constant::Null)) => match nullable(slot) {
+            Some(variable) => emit(code, Instr::StoreNull(variable)),
+            None => Ok(()),
+        },
+        RightSide::Expr(value) => {
+            emit_expr(code, names, line, value)?;
+            emit(code, Instr::Store(slot.index))
+        }
+        RightSide::Call(call) => emit_call(code, names, line, slot.index, &call.arguments),
+    }
+}
+
+/// An index, a value, and the element of a named array that is set to it.
+fn emit_element_set(
+    code: &mut Vec<Instr>,
+    names: &Names<'_>,
+    line: u32,
+    name: &Name,
+    index: &Expr,
+    value: &Expr,
+) -> Result<(), AllocError>
+    ensures { OnOk result (code.new.items ≡ code.old.items ++ (expr_code names.now.known line (expr_tree index.now) ++ (expr_code names.now.known line (expr_tree value.now) ++ of_slot (write_code line) (lookup name.now names.now.known)))) }
+{
+    emit_expr(code, names, line, index)?;
+    emit_expr(code, names, line, value)?;
+    emit_write(code, names, line, name)
+}
+
+/// A call whose result is dropped: it goes into a slot that no name has.
+fn emit_dropped(
+    code: &mut Vec<Instr>,
+    names: &Names<'_>,
+    line: u32,
+    call: &Call,
+) -> Result<(), AllocError>
+    ensures { OnOk result (code.new.items ≡ code.old.items ++ call_code names.now.known line names.now.slots.numbers (call_tree call.now).arguments) }
+{
+    let slot = names.slots().numbers;
+    emit_call(code, names, line, slot, &call.arguments)
+}
+
+/// A number that is printed.
+fn emit_print(
+    code: &mut Vec<Instr>,
+    names: &Names<'_>,
+    line: u32,
+    number: &Expr,
+) -> Result<(), AllocError>
+    ensures { OnOk result (code.new.items ≡ code.old.items ++ (expr_code names.now.known line (expr_tree number.now) ++ Instr.PutJint ∷ [])) }
+{
+    emit_expr(code, names, line, number)?;
+    emit(code, Instr::PutJint)
+}
+
+/// An element of a named array, after its index and its value.
+fn emit_write(
+    code: &mut Vec<Instr>,
+    names: &Names<'_>,
+    line: u32,
+    name: &Name,
+) -> Result<(), AllocError>
+    ensures { OnOk result (code.new.items ≡ code.old.items ++ of_slot (write_code line) (lookup name.now names.now.known)) }
+{
+    match names.slot_of(name) {
+        Some(
+            Slot {
+                sort: Sort::Array(element, len),
+                index,
+            },
+        ) => {
+            let array = LocalArray { start: index, len };
+            emit(
+                code,
+                Instr::StoreElement(element_type(element), array, line),
+            )
+        }
+        _ => Ok(()),
+    }
+}
+
+/// A call of GetArrayLength, which is the only function that is called today. Its result goes into this number slot.
+fn emit_call(
+    code: &mut Vec<Instr>,
+    names: &Names<'_>,
+    line: u32,
+    slot: u32,
+    arguments: &[Argument],
+) -> Result<(), AllocError>
+    ensures { OnOk result (code.new.items ≡ code.old.items ++ call_code names.now.known line slot (map argument_tree arguments.now)) }
+{
+    match arguments {
+        [Argument::Value(reference)] => {
+            let function = Callee::GetArrayLength(operand_of(names, reference));
+            let target = Target::Number(slot);
+            let call = instr::Call {
+                line,
+                target,
+                function,
+            };
+            let boxed = BoxedCall::of(*code.allocator(), call)?;
+            emit(code, Instr::Call(boxed))
+        }
+        _ => Ok(()),
+    }
+}
+
+/// Where a reference argument is found. Nothing but NULL is stored in a static yet.
+fn operand_of(names: &Names<'_>, argument: &Expr) -> ReferenceOperand
+    ensures { result ≡ operand_code names.now.known (expr_tree argument.now) }
+{
+    match argument {
+        Expr::Variable(name) => match names.slot_of(name) {
+            Some(
+                Slot {
+                    sort: Sort::Reference,
+                    index,
+                },
+            ) => ReferenceOperand::Local(index),
+            _ => ReferenceOperand::Null,
+        },
+        _ => ReferenceOperand::Null,
+    }
+}
+
+/// A return of NULL, of a name, or of another number.
+fn emit_return(
+    code: &mut Vec<Instr>,
+    names: &Names<'_>,
+    line: u32,
+    value: &Expr,
+) -> Result<(), AllocError>
+    ensures { OnOk result (code.new.items ≡ code.old.items ++ return_code names.now.known line (term_of (expr_tree value.now))) }
+{
+    match value {
+        Expr::Named(Constant::Null) => {
+            emit(code, Instr::ReturnReference(ReferenceOperand::Null))
+        }
+        Expr::Variable(name) => emit_returned(code, names, name),
+        Expr::Paren(inner) => emit_return(code, names, line, inner),
+        _ => {
+            emit_expr(code, names, line, value)?;
+            emit(code, Instr::ReturnJint)
+        }
+    }
+}
+
+/// A return of a name, a reference or a number.
+fn emit_returned(code: &mut Vec<Instr>, names: &Names<'_>, name: &Name) -> Result<(), AllocError>
+    ensures { OnOk result (code.new.items ≡ code.old.items ++ of_slot returned_code (lookup name.now names.now.known)) }
+{
+    match names.slot_of(name) {
+        Some(
+            Slot {
+                sort: Sort::Reference,
+                index,
+            },
+        ) => emit(code, Instr::ReturnReference(ReferenceOperand::Local(index))),
+        Some(slot) => {
+            emit(code, Instr::Load(slot.index))?;
+            emit(code, Instr::ReturnJint)
+        }
+        None => Ok(()),
+    }
+}
