@@ -1,5 +1,5 @@
 -- Arguments, each with the comma before it.
-use Rattle.std.proofs.Common.{◌≡◌, ℕ, zero, suc, ◌+◌, ◌-◌, ◌<◌, ◌≤◌, true, false, List, [], ◌∷◌, ◌++◌, length, Result, Ok, Err, refl, sym, ap, ◌∙◌, append_assoc, arith, add-one}
+use Rattle.std.proofs.Common.{◌≡◌, ℕ, zero, suc, ◌+◌, ◌<◌, ◌≤◌, true, false, List, [], ◌∷◌, ◌++◌, length, Result, Ok, Err, refl, sym, ap, ◌∙◌, append_assoc, arith, add-one}
 use Rattle.std.proofs.lemmas.List.{append-nil}
 use Rattle.scan.specs.declared.token.Mark.TheVariants as marks
 use Rattle.syntax.specs.Tree.{Argument}

@@ -1,5 +1,5 @@
 -- Which expressions and calls are read: levelled, and no higher than there is room.
-use Rattle.std.proofs.Common.{ℕ, ◌+◌, ◌-◌, ◌≤◌, List, [], ◌∷◌}
+use Rattle.std.proofs.Common.{ℕ, ◌+◌, ◌≤◌, List, [], ◌∷◌}
 use Rattle.syntax.specs.Tree.{Expr, Number, Named, Variable, Element, Prefix, Binary, Paren, Argument, Value, Text, AddressOf, RightSide, FromExpr, FromCall, Test, TestExpr, TestCall}
 use Rattle.syntax.specs.Limits.{operator_level, prefix_level, height}
 

@@ -1,12 +1,11 @@
 -- What is known of an expression's first lexeme by its shape.
-use Rattle.std.proofs.Common.{◌≡◌, ℕ, ◌-◌, Bool, true, false, List, [], ◌∷◌, Option, Some, None, Result, Ok, Err, refl, sym, ap, ◌∙◌}
+use Rattle.std.proofs.Common.{◌≡◌, ℕ, Bool, true, false, List, [], ◌∷◌, Option, Some, None, Result, Ok, Err, refl, sym, ap, ◌∙◌}
 use Rattle.std.specs.Prelude.{is_ok, is_some}
 use Rattle.scan.specs.declared.token.Mark.{Mark}
 use Rattle.syntax.specs.Tree.{BinaryOp, Constant, Number, Variable}
 use Rattle.lexemes.specs.declared.fault.Fault.TheVariants.{NoForm}
 use Rattle.lexemes.specs.declared.fault.ParseFault.{ParseFault}
 use Rattle.lexemes.specs.declared.fault.ParseFault.TheVariants.{Memory, Found}
-use Rattle.lexemes.specs.declared.first.Fixed.{Fixed}
 use Rattle.lexemes.specs.declared.first.Fixed.TheVariants as fixed
 use Rattle.lexemes.specs.declared.first.Shape.{Shape}
 use Rattle.lexemes.specs.declared.first.Shape.TheVariants as shapes

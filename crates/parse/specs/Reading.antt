@@ -1,19 +1,17 @@
 -- Reading statements and units from left to right, with the first fault that is met.
 use Rattle.std.specs.Prelude.{ℕ, zero, suc, ◌+◌, ◌-◌, Bool, true, false, ◌||◌, ◌==◌, List, [], ◌∷◌, length, Option, Some, None, is_some, Result, Ok, Err, if◌then◌else◌}
-use Rattle.scan.specs.declared.token.Mark.{Mark}
 use Rattle.scan.specs.declared.token.Mark.TheVariants as marks
 use Rattle.base.specs.Bytes.{Identifier}
 use Rattle.base.specs.Element.{ElementType, JInt, JShort, JByte, JChar}
-use Rattle.syntax.specs.Tree.{Null, VariableType, JIntVariable, Expr, Test, Stmt, Declare, DeclareBuffer, DeclareChars, DeclareArray, Assign, AssignElement, Perform, PutJint, If, IfElse, While, Return, ReturnValue, Block, End, Next, ResultType, Parameter, Function, Static, Item, StaticItem, FunctionItem, SourceUnit}
+use Rattle.syntax.specs.Tree.{VariableType, JIntVariable, Expr, Test, Stmt, Declare, DeclareBuffer, DeclareChars, DeclareArray, Assign, AssignElement, Perform, PutJint, If, IfElse, While, Return, ReturnValue, Block, End, Next, ResultType, Parameter, Function, Static, Item, StaticItem, FunctionItem, SourceUnit}
 use Rattle.lexemes.specs.declared.fault.Fault.TheVariants.{NoForm, TooHigh, TooMany}
 use Rattle.lexemes.specs.declared.fault.ParseFault.{ParseFault}
-use Rattle.scan.specs.declared.reserved.Word.{Word}
 use Rattle.scan.specs.declared.reserved.Word.TheVariants as words
 use Rattle.lexemes.specs.declared.first.Fixed.TheVariants as fixed
 use Rattle.lexemes.specs.Results.{◌>>=◌}
 use Rattle.lexemes.specs.Lexemes.{Lexed, fault_at, line_at, expect, name_at}
 use Rattle.lexemes.specs.Reading.{starts_with, rest_of, reference_type_at, result_type_at, parameter_type_at, element_type_at, variable_type_at, found, number_at}
-use Rattle.expressions.specs.Reading.{starts_element, deeper, expr_at, index_at, call_at, setting_at, test_at}
+use Rattle.expressions.specs.Reading.{starts_element, expr_at, index_at, call_at, setting_at, test_at}
 
 abbrev pub ReadPlain : Type 0
 ReadPlain = Stmt × List Lexed

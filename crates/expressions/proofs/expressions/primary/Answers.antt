@@ -1,4 +1,3 @@
-use Rattle.std.proofs.Common.{◌∙◌, sym, ap}
 use Rattle.std.proofs.lemmas.Result.{err_from_is_err_and}
 use Rattle.lexemes.specs.Lexemes.{views}
 use Rattle.expressions.proofs.Primaries.{name_read, name_fails}
