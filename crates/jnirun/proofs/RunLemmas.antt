@@ -122,10 +122,10 @@ module _ (program world schedule : List ℕ) (old : Written) where
       (along.after, subst (λ (j : Journal). Follows (unit_tree items) (world_of_scene scene) (start (unit_tree items) (world_of_scene scene)) j words along.after) steps on_world)
 
   -- the unit and the world of a run stay
-  same_parts : (items : List Item) (scene : Scene) (begun ended : Run) (words : Schedule) → IsUnstarted items scene begun → RunsAlong begun ended words → ended ≡ record { unit = items; world = scene; journal = ended.journal }
+  same_parts : (items : List Item) (scene : Scene) (begun ended : Run) (words : Schedule) → IsUnstarted items scene begun → RunsAlong begun ended words → ended ≡ record { unit = items; world = scene; journal = ended.journal; left = ended.left }
   same_parts items scene begun ended words un along =
-      ap (λ (u : List Item). let r : Run = record { unit = u; world = ended.world; journal = ended.journal } in r) (along.same_unit ∙ un.of_unit)
-      ∙ ap (λ (s : Scene). let r : Run = record { unit = items; world = s; journal = ended.journal } in r) (along.same_world ∙ un.on_world)
+      ap (λ (u : List Item). let r : Run = record { unit = u; world = ended.world; journal = ended.journal; left = ended.left } in r) (along.same_unit ∙ un.of_unit)
+      ∙ ap (λ (s : Scene). let r : Run = record { unit = items; world = s; journal = ended.journal; left = ended.left } in r) (along.same_world ∙ un.on_world)
 
   -- the texts' meaning, from what the layers answered
   abbrev pub meaning_of : (items : List Item) (scene : Scene) (words : Schedule) → IsProgram program (unit_tree items) → scene_of_text world ≡ Ok scene → schedule_of schedule (length scene.threads) ≡ Ok words → first_load_fault (unit_tree items) (world_of_scene scene) ≡ None → Meaning program world schedule

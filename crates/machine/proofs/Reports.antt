@@ -26,7 +26,7 @@ use Rattle.source.specs.Value.{trap_number}
 use Rattle.source.specs.Step.{is_waiting, is_blocked, is_unfinished}
 use Rattle.source.specs.Thread as source
 use Rattle.source.specs.Thread.{Shared}
-use Rattle.heap.specs.Heap.{Space}
+use Rattle.heap.specs.Heap.{Space, left_of}
 use Rattle.lower.specs.Lowered.{Lowered, IsLowered}
 use Rattle.machine.specs.declared.thread.Ending.{Ending}
 use Rattle.machine.specs.declared.thread.Ending.TheVariants as ending
@@ -111,7 +111,7 @@ each_ended p classes space made shared s n (t ∷ ts) (x ∷ ss) free h =
     ∙ ap (λ b. (not (is_unfinished x.ending) || is_blocked classes s n) && b) (each_ended p classes space made shared s (n + 1) ts ss free h.1)
 
 pub is_finished : (p : Lowered) (scene : Scene) (space : Space) (addresses : List ℕ) (ts : List Thread) (printed : List Printed) (stop : Option Stop) (journal : List Entry) (c : Corresponds p scene space addresses ts printed stop journal) (now : Run)
-    → ◌≡◌ {A = Run} (record { unit = p.unit; world = scene; journal = journal }) now
+    → ◌≡◌ {A = Run} (record { unit = p.unit; world = scene; journal = journal; left = left_of space }) now
     → (answer : Bool) → answer ≡ (is_some stop || list_all (λ (t : Thread). run.has_ended t.ending) ts) → IsFinished now answer
 is_finished p scene space addresses ts printed stop journal c now view answer h =
     let w = world_of_scene scene in
@@ -127,7 +127,7 @@ is_finished p scene space addresses ts printed stop journal c now view answer h 
 
 -- what is written of these parts is what the run writes
 pub writes_run : {T E : Type 0} (p : Lowered) (scene : Scene) (space : Space) (addresses : List ℕ) (ts : List Thread) (printed : List Printed) (stop : Option Stop) (journal : List Entry) (c : Corresponds p scene space addresses ts printed stop journal) (now : Run)
-    → ◌≡◌ {A = Run} (record { unit = p.unit; world = scene; journal = journal }) now
+    → ◌≡◌ {A = Run} (record { unit = p.unit; world = scene; journal = journal; left = left_of space }) now
     → (old new : Written) (result : Result T E) (numbers : List Printed) (shown : List ThreadStatus) (rows : List ShownRow) (entries : List Entry)
     → numbers ≡ printed → shown ≡ standings stop 1 ts → rows ≡ loaded_rows (world_of_scene scene) → entries ≡ journal
     → sink.Writes old new result (report_text (report_with numbers shown rows) ++ journal_line entries)

@@ -136,17 +136,17 @@ blocked_waits : (classes : Classes) (s : State) (k : ℕ) → is_waiting classes
 blocked_waits classes s k h = and_right (is_none s.stop && is_live (thread_at s k)) (not (is_waiting classes k s.shared (thread_at s k))) (ap not h)
 
 -- the step of a journal with one more entry
-step_of : (r new : Run) (e : Entry) (s : State) → new ≡ record r { journal = r.journal ++ e ∷ [] } → replay_of r ≡ Some s → IsSome (replay_of new) → (n : State) × (world_step (unit_tree r.unit) (world_of_scene r.world).classes s e ≡ Some n)
-step_of r new e s is h defined = there (world_step (unit_tree r.unit) (world_of_scene r.world).classes s e) (subst IsSome (ap replay_of is ∙ replay_with r (e ∷ []) s h) defined)
+step_of : (r new : Run) (e : Entry) (left : ℕ) (s : State) → new ≡ record r { journal = r.journal ++ e ∷ []; left = left } → replay_of r ≡ Some s → IsSome (replay_of new) → (n : State) × (world_step (unit_tree r.unit) (world_of_scene r.world).classes s e ≡ Some n)
+step_of r new e left s is h defined = there (world_step (unit_tree r.unit) (world_of_scene r.world).classes s e) (subst IsSome (ap replay_of is ∙ replay_with r (e ∷ []) s h) defined)
   where
     there : (o : Option State) → IsSome (option_and_then (λ t. replay_from (unit_tree r.unit) (world_of_scene r.world) t []) o) → (n : State) × (o ≡ Some n)
     there None d = absurd (let f : false ≡ true = d in cc)
     there (Some n) d = (n, refl)
 
 -- a step, whose allocation was refused or not
-stepped_once : (r new : Run) (k : ℕ) (refused : Bool) (s : State) → new ≡ record r { journal = r.journal ++ record { thread = k; refused = refused } ∷ [] } → replay_of r ≡ Some s → can_turn r s k ≡ true → IsSome (replay_of new) → RunsAlong r new (Turn k ∷ [])
-stepped_once r new k refused s is h can defined =
-    let n = step_of r new (record { thread = k; refused = refused }) s is h defined in
+stepped_once : (r new : Run) (k : ℕ) (refused : Bool) (left : ℕ) (s : State) → new ≡ record r { journal = r.journal ++ record { thread = k; refused = refused } ∷ []; left = left } → replay_of r ≡ Some s → can_turn r s k ≡ true → IsSome (replay_of new) → RunsAlong r new (Turn k ∷ [])
+stepped_once r new k refused left s is h can defined =
+    let n = step_of r new (record { thread = k; refused = refused }) left s is h defined in
     subst (λ x. RunsAlong r x (Turn k ∷ [])) (sym is) (record {
       same_unit = refl;
       same_world = refl;
@@ -167,8 +167,8 @@ turned r new k turn.Ended h defined full =
 turned r new k (turn.Blocked all) h defined full =
     subst (λ x. RunsAlong r x (Turn k ∷ [])) (sym h.0) (no_step r (Turn k) (h.1.0, h.1.1, blocked_waits (world_of_scene r.world).classes h.1.0 k h.1.2.waits))
 turned r new k turn.Full h defined full = absurd (full refl)
-turned r new k turn.Short h defined full = let could = h.1.1 in stepped_once r new k true could.0 h.0 could.1 could.2 defined
-turned r new k turn.Stepped h defined full = let could = h.1.1 in stepped_once r new k false could.0 h.0 could.1 could.2 defined
+turned r new k turn.Short h defined full = let could = h.1.1 in stepped_once r new k true new.left could.0 h.0 could.1 could.2 defined
+turned r new k turn.Stepped h defined full = let could = h.1.1 in stepped_once r new k false new.left could.0 h.0 could.1 could.2 defined
 
 -- ---- threads that are not there
 

@@ -1,4 +1,4 @@
--- A run, as its program, its world and the steps taken.
+-- A run, as its program, its world, the steps taken and the room that is left.
 use Rattle.std.specs.Prelude.{◌≡◌, ℕ, ◌<◌, ◌≤◌, Bool, true, false, List, [], ◌∷◌, ◌++◌, length, Option, Some, None, Result, IsSome, is_some, not, ◌||◌}
 use Rattle.std.specs.Option.{option_map}
 use Rattle.std.specs.List.{list_all, enumerate_from}
@@ -34,11 +34,12 @@ use Rattle.machine.specs.Agrees.{StaticsAgree, ThreadsAgree}
 use Rattle.machine.specs.HeapAgrees.{AgreesAtLoad}
 use Rattle.machine.specs.Stops.{stop_view}
 
--- a program's items, the world in memory and the steps taken
+-- a program's items, the world in memory, the steps taken, and the cells after the heap's highest block
 pub record Run : Type 0 where
   pub unit : List Item
   pub world : Scene
   pub journal : List Entry
+  pub left : ℕ
 
 -- the state that the journal leads to
 abbrev pub replay_of : Run → Option State
@@ -111,13 +112,13 @@ entry_of k = record { thread = k; refused = false }
 abbrev pub refused_entry_of : ℕ → Entry
 refused_entry_of k = record { thread = k; refused = true }
 
--- the run with a step of thread k more
-abbrev pub stepped : Run → ℕ → Run
-stepped r k = record r { journal = r.journal ++ entry_of k ∷ [] }
+-- the run with a step of thread k more, after which this many cells are left
+abbrev pub stepped : Run → ℕ → (left : ℕ) → Run
+stepped r k left = record r { journal = r.journal ++ entry_of k ∷ []; left = left }
 
--- the run with a step of thread k more whose allocation was refused
-abbrev pub refused : Run → ℕ → Run
-refused r k = record r { journal = r.journal ++ refused_entry_of k ∷ [] }
+-- the run with a step of thread k more whose allocation was refused, after which this many cells are left
+abbrev pub refused : Run → ℕ → (left : ℕ) → Run
+refused r k left = record r { journal = r.journal ++ refused_entry_of k ∷ []; left = left }
 
 -- thread k can step, and the journal has room for the step
 abbrev pub CouldStep : Run → ℕ → Type 0
@@ -129,8 +130,8 @@ TurnHolds old k new turn.Stopped = (new ≡ old) × InState old (λ s. IsSome s.
 TurnHolds old k new turn.Ended = (new ≡ old) × InState old (λ s. HasEnded s k)
 TurnHolds old k new (turn.Blocked all) = (new ≡ old) × InState old (λ s. IsWaiting (world_of_scene old.world).classes s k all)
 TurnHolds old k new turn.Full = (new ≡ old) × (1000000 ≤ length old.journal) × InState old (λ s. can_turn old s k ≡ true)
-TurnHolds old k new turn.Short = (new ≡ refused old k) × CouldStep old k
-TurnHolds old k new turn.Stepped = (new ≡ stepped old k) × CouldStep old k
+TurnHolds old k new turn.Short = (new ≡ refused old k new.left) × CouldStep old k
+TurnHolds old k new turn.Stepped = (new ≡ stepped old k new.left) × CouldStep old k
 
 -- the numbers printed so far
 abbrev pub PrintedBy : Run → List Printed → Type 0

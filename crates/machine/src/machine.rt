@@ -46,13 +46,14 @@ pub struct Machine<'a> {
 impl<'a> Model for Machine<'a> {
     ghost use Rattle.std.specs.Coded.{codes as all_codes};
     ghost use Rattle.syntax.specs.contracts.unit.Item as item;
+    ghost use Rattle.heap.specs.Heap.{left_of};
     ghost use Rattle.machine.specs.Run.{Run, Corresponds};
 
     ghost Value = { Run };
 
     ghost coded = { Prim.hlevel (all_codes, item.the_row.coded) };
 
-    ghost view = { λ m. record { unit = m.program.unit; world = m.world; journal = m.journal.items } };
+    ghost view = { λ m. record { unit = m.program.unit; world = m.world; journal = m.journal.items; left = left_of m.heap } };
 
     ghost invariant = { λ m. Corresponds m.program m.world m.heap m.loaded.items m.threads.items m.printed.items m.stop m.journal.items };
 }
@@ -94,6 +95,13 @@ impl<'a> Machine<'a> {
         // Here the proof takes up the machine's invariant.
         let _ = &self.world;
         &self.journal
+    }
+
+    /// How many cells of the heap are left after its highest block.
+    pub fn left(&self) -> usize
+        ensures { result ≡ self.now.left }
+    {
+        self.heap.left()
     }
 
     /// The numbers printed so far.

@@ -3,6 +3,7 @@ use Rattle.std.specs.Prelude.{slice_get, is_some, Result, Ok, Err, OnErr}
 use Rattle.std.proofs.lemmas.Option.{slice_get_read}
 use denote.Enum.Bare.{sameb}
 use Rattle.source.specs.declared.journal.Entry.{Entry}
+use Rattle.heap.specs.Heap.{left_of}
 use Rattle.machine.specs.declared.thread.Ending.{Ending}
 use Rattle.machine.specs.declared.thread.Ending.TheVariants.{Unfinished, Ended}
 use Rattle.machine.specs.contracts.thread.Ending.{the_type}
@@ -88,9 +89,9 @@ could_step c room live = (subst (λ (r : Run). length r.journal < 1000000) c.sel
 
 -- the thread could step, and with this journal the machine is seen as it was
 err_so : {T E : Type 0} (c : After-eq) (journal : List Entry) (r : Result T E) → journal ≡ c.self.inside.journal.items → length c.self.inside.journal.items < 1000000 → c.index.result.now.ending ≡ Unfinished
-    → OnErr r ((◌≡◌ {A = Run} (record { unit = c.self.inside.program.unit; world = c.self.inside.world; journal = journal }) c.args.self.now) × CouldStep c.args.self.now c.args.k)
+    → OnErr r ((◌≡◌ {A = Run} (record { unit = c.self.inside.program.unit; world = c.self.inside.world; journal = journal; left = left_of c.self.inside.heap }) c.args.self.now) × CouldStep c.args.self.now c.args.k)
 err_so c journal (Ok x) same room live = tt
-err_so c journal (Err e) same room live = (ap (λ (j : List Entry). let r : Run = record { unit = c.self.inside.program.unit; world = c.self.inside.world; journal = j } in r) same ∙ c.self.view_is, could_step c room live)
+err_so c journal (Err e) same room live = (ap (λ (j : List Entry). let r : Run = record { unit = c.self.inside.program.unit; world = c.self.inside.world; journal = j; left = left_of c.self.inside.heap } in r) same ∙ c.self.view_is, could_step c room live)
 
 pub returns-in_err-reserve-clause-err : goal.returns-in_err-reserve-clause-err
 returns-in_err-reserve-clause-err c =
@@ -135,7 +136,7 @@ invariant_of-self-2 c =
 pub returns-clause-turn : goal.returns-clause-turn
 returns-clause-turn c =
     let i = c.self.inside in (
-      subst (λ (r : Run). ◌≡◌ {A = Run} (record { unit = i.program.unit; world = i.world; journal = c.push.new.self.items }) (stepped r c.args.k)) c.self.view_is (ap (λ (j : List Entry). let r : Run = record { unit = i.program.unit; world = i.world; journal = j } in r) (one_more c)),
+      subst (λ (r : Run). ◌≡◌ {A = Run} (record { unit = i.program.unit; world = i.world; journal = c.push.new.self.items; left = left_of i.heap }) (stepped r c.args.k (left_of i.heap))) c.self.view_is (ap (λ (j : List Entry). let r : Run = record { unit = i.program.unit; world = i.world; journal = j; left = left_of i.heap } in r) (one_more c)),
       could_step (goal.at.returns-clause-turn c).After-eq (omega (arith, c.len.ensures, c.if-len-ge-MOST_ENTRIES.false)) (is_live _ c.if-eq.ensures),
     )
 
