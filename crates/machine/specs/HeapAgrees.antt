@@ -77,3 +77,4 @@ pub record AreMade (space : Space) (addresses : List ℕ) (objects : Heap) : Typ
 pub record AgreesAtLoad (space : Space) (addresses : List ℕ) (w : World) : Type 0 where
   pub agree : HeapAgrees space (loaded_objects w) (IsName (loaded_objects w))
   pub table : IsTable space addresses (length (loaded_objects w))
+  pub cells : space.cells ≡ w.cells

@@ -25,6 +25,7 @@ const OUT_OF_MEMORY_ERROR: u32 = 11;
 /// the world's, in this order. After it the address of each, by its name, counted from 1.
 pub fn load_heap(alloc: Global, world: &World) -> Result<(Heap, Vec<Addr>), AllocError>
     ensures made { IfOk result (λ made. AreMade made.0 made.1.items (loaded_objects (world_of_scene world.now))) }
+    ensures cells { IfOk result (λ made. made.0.cells ≡ world.now.heap) }
 {
     // The proof reads off this call that the world's objects fit into its heap.
     let _ = world.objects();
@@ -42,7 +43,8 @@ pub fn load_heap(alloc: Global, world: &World) -> Result<(Heap, Vec<Addr>), Allo
 fn make_arrays(heap: &mut Heap, loaded: &mut Vec<Addr>, world: &World) -> Result<(), AllocError>
     requires first { AreMade heap.old loaded.old.items (made_before (world_of_scene world.now).classes) }
     requires cells { heap.old.cells ≡ world.now.heap }
-    ensures { OnOk result (AreMade heap.new loaded.new.items (loaded_objects (world_of_scene world.now))) }
+    ensures made { OnOk result (AreMade heap.new loaded.new.items (loaded_objects (world_of_scene world.now))) }
+    ensures cells { OnOk result (heap.new.cells ≡ world.now.heap) }
 {
     // The proof reads off this call how many cells the heap has.
     let _ = world.heap();

@@ -56,8 +56,8 @@ loop-array-preserved c =
       cells = c.in_ok-make_array.ensures.cells ∙ c.loop-array.invariant.cells;
     }
 
-pub returns : goal.returns
-returns c =
+pub returns-clause-made : goal.returns-clause-made
+returns-clause-made c =
     let w = world_of_scene c.args.world.now in
     let items = c.objects-array-items.result.now in
     let all : made_so_far (made_before w.classes) items c.loop-array.array-index ≡ loaded_objects w =

@@ -22,7 +22,7 @@ invariant_of-result c =
       same_stop = refl;
       statics = refl;
       heap = refl;
-      blocks = record { agree = c.in_ok-heap.ensures.made.agree; table = c.in_ok-heap.ensures.made.table };
+      blocks = record { agree = c.in_ok-heap.ensures.made.agree; table = c.in_ok-heap.ensures.made.table; cells = c.in_ok-heap.ensures.cells };
       monitors = refl;
       fits = rw c.new-in-Ok.ensures.items tt;
       fair = rw c.new-in-Ok.ensures.items tt;
