@@ -3,7 +3,7 @@ use Rattle.std.proofs.Common.{◌≡◌, ℕ, List, ◌++◌, Ok, is_some, lengt
 use Rattle.syntax.specs.Tree.{SourceUnit}
 use Rattle.parse.specs.Spelling.{SpellsUnit}
 use Rattle.source.specs.Journal.{Journal}
-use Rattle.report.specs.JournalText.{journal_line}
+use Rattle.source.specs.JournalText.{journal_line}
 use Rattle.texts.specs.ReadingJournals.{journal_of}
 use Rattle.report.specs.ReportText.{report_text}
 use Rattle.world.specs.Scene.{Scene}

@@ -9,7 +9,7 @@ use Rattle.source.specs.declared.journal.Entry.{Entry}
 use Rattle.source.specs.declared.printed.Printed.{Printed}
 use Rattle.report.specs.declared.thread_status.ThreadStatus.{ThreadStatus}
 use Rattle.report.specs.declared.thread_status.ThreadStatus.TheVariants as held
-use Rattle.report.specs.JournalText.{journal_line}
+use Rattle.source.specs.JournalText.{journal_line}
 use Rattle.source.specs.Report.{ThreadStanding, HasTrapped, ShownRow, Report}
 use Rattle.report.specs.ReportText.{report_text}
 use Rattle.report.specs.Sink as sink

@@ -6,7 +6,7 @@ use Rattle.std.proofs.lemmas.List.{take-append-drop, length-take-le, take_all}
 use Rattle.syntax.specs.Tree.{SourceUnit}
 use Rattle.source.specs.declared.journal.Entry.{Entry}
 use Rattle.source.specs.Journal.{Journal}
-use Rattle.report.specs.JournalText.{journal_line}
+use Rattle.source.specs.JournalText.{journal_line}
 use Rattle.source.specs.Report.{Report}
 use Rattle.report.specs.ReportText.{report_text}
 use Rattle.report.specs.Sink.{Written}

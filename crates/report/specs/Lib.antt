@@ -1,6 +1,5 @@
 pub mod Sink
 pub mod ReportText
-pub mod JournalText
 pub mod RunText
 pub mod ThreadStatus
 pub mod Shown

@@ -6,7 +6,7 @@ use Rattle.source.specs.ReportOf.{report}
 use Rattle.source.specs.Run.{replay}
 use Rattle.source.specs.State.{State}
 use Rattle.source.specs.World.{World}
-use Rattle.report.specs.JournalText.{journal_line}
+use Rattle.source.specs.JournalText.{journal_line}
 use Rattle.report.specs.ReportText.{report_text}
 
 -- the report of its journal's replay, and the journal

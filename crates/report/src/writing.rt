@@ -5,8 +5,8 @@ ghost use Rattle.arrayvec.specs.ArrayVec.{array_vec_len};
 ghost use Rattle.report.specs.Sink.{CanFail, Writes};
 ghost use Rattle.report.specs.ReportText.{report_text};
 ghost use Rattle.report.specs.Shown.{report_with};
-ghost use Rattle.report.specs.JournalText.{entry_text, journal_line};
-ghost use Rattle.report.specs.JournalText.{spelled_entries};
+ghost use Rattle.source.specs.JournalText.{entry_text, journal_line};
+ghost use Rattle.source.specs.JournalText.{spelled_entries};
 
 use crate::rows::Rows;
 use crate::sink::{Sink, SinkFailed, put_all};

@@ -5,6 +5,7 @@ pub mod Object
 pub mod World
 pub mod Schedule
 pub mod Journal
+pub mod JournalText
 -- values, the heap and variables
 pub mod Value
 pub mod Heap

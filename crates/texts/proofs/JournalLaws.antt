@@ -9,7 +9,7 @@ use Rattle.std.proofs.lemmas.Fmt.{decimal_digit}
 use Rattle.base.specs.Bytes.{is_some_byte}
 use Rattle.source.specs.declared.journal.Entry.{Entry}
 use Rattle.source.specs.Journal.{Journal}
-use Rattle.report.specs.JournalText.{entry_text}
+use Rattle.source.specs.JournalText.{entry_text}
 use Rattle.texts.specs.JournalMeaning.{IsJournalText}
 use Rattle.texts.specs.Split.{parts_of}
 use Rattle.texts.specs.ReadingJournals.{entry_named, entry_of, journal_of}

@@ -9,9 +9,9 @@ use Rattle.source.specs.declared.journal.Entry.{Entry}
 use Rattle.texts.specs.Split.{parts_of}
 use Rattle.texts.specs.Reading.{◌>>=◌}
 use Rattle.texts.specs.ReadingWords.{formed_words, with_word, line_words, lines_words}
-use Rattle.report.specs.JournalText.{entry_text}
+use Rattle.source.specs.JournalText.{entry_text}
 use Rattle.texts.specs.ReadingJournals.{entry_named, entry_of, AreEntries, EntriesAreReadAgain}
-use Rattle.report.specs.JournalText.{spelled_entries}
+use Rattle.source.specs.JournalText.{spelled_entries}
 use Rattle.texts.proofs.WordLemmas.{are_allowed}
 
 mark : Bool → List ℕ

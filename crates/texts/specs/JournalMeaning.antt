@@ -3,7 +3,7 @@ use Rattle.std.specs.Prelude.{◌≡◌, ℕ, ◌≤◌, List, length, map, IsTr
 use Rattle.std.specs.List.{list_all}
 use Rattle.source.specs.declared.journal.Entry.{Entry}
 use Rattle.source.specs.Journal.{Journal}
-use Rattle.report.specs.JournalText.{entry_text}
+use Rattle.source.specs.JournalText.{entry_text}
 use Rattle.texts.specs.Words.{words_of, is_thread}
 
 -- the journal that a text means, for a world of so many threads

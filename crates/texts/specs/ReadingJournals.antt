@@ -1,6 +1,6 @@
 -- How the words of a journal are read.
 use Rattle.std.specs.Prelude.{◌≡◌, ℕ, ◌-◌, ◌≤◌, List, [], ◌∷◌, length, Ok, Bool, true, false, ◌&&◌, Option, Some, None, Result, nat_le, ◌==◌, if◌then◌else◌}
-use Rattle.report.specs.JournalText.{spelled_entries}
+use Rattle.source.specs.JournalText.{spelled_entries}
 use Rattle.source.specs.declared.journal.Entry.{Entry}
 use Rattle.texts.specs.declared.fault.TextFault.{TextFault}
 use Rattle.texts.specs.ReadingWords.{text_words}

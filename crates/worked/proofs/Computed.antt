@@ -18,7 +18,7 @@ use Rattle.source.specs.declared.schedule.ScheduleWord.{ScheduleWord}
 use Rattle.source.specs.declared.schedule.ScheduleWord.TheVariants.{Turn, Collect}
 use Rattle.source.specs.Journal.{Journal}
 use Rattle.texts.specs.JournalMeaning.{IsJournalText}
-use Rattle.report.specs.JournalText.{entry_text, journal_line}
+use Rattle.source.specs.JournalText.{entry_text, journal_line}
 use Rattle.source.specs.Object.{Object, sizes}
 use Rattle.world.specs.ReadingValues.{value_named}
 use Rattle.texts.specs.ReadingWords.{lines_words, allowed_words}

@@ -1,0 +1,77 @@
+-- A table with the class of one place changed.
+use Rattle.std.proofs.Common.{◌≡◌, ℕ, zero, suc, ◌+◌, ◌<◌, Bool, true, false, cond, List, [], ◌∷◌, ◌++◌, map, Option, Some, slice_get, refl, sym, ap, ◌∙◌, arith}
+use Rattle.std.specs.Prelude.{◌==◌, ◌||◌, unwrap_or, Result, Ok, Err, is_ok, IsErr, if◌then◌else◌}
+use Rattle.std.specs.List.{enumerate_from}
+use Rattle.std.specs.Map.{values_of}
+use Rattle.std.specs.Global.{Vec}
+use Rattle.std.proofs.lemmas.Bool.Decides.{nat_tests}
+use Rattle.indexmap.specs.IndexMap.{set_value_at}
+use Rattle.class_table.specs.declared.class.Entry.{Entry}
+use Rattle.classes.specs.Class.{Field, Class, Classes, array_name}
+use Rattle.classes.specs.Additions.{with_changed_class}
+use Rattle.std.specs.Str.{bytes_eq}
+use Rattle.base.specs.Bytes.{Identifier}
+use Rattle.class_table.specs.FieldViews.{with_declared}
+use Rattle.class_table.specs.Tables.{ArraysHaveElements}
+use Rattle.class_table.proofs.DistinctNames.{has_name}
+use Rattle.class_table.specs.Views.{class_view, classes_view}
+
+module _ (change : Class → Class) where
+  abbrev pub from : ℕ → ℕ → Classes → Classes
+  from c n T = map (λ (d : ℕ × Class). cond (d.0 == c) (change d.1) d.1) (enumerate_from n T)
+
+  past : (c n : ℕ) (T : Classes) → c < n → from c n T ≡ T
+  past c n [] h = refl
+  past c n (d ∷ T) h =
+      let no : (n == c) ≡ false = grind (arith, nat_tests) in
+      (λ i. cond (no i) (change d) d ∷ past c (n + 1) T (omega (arith, h)) i)
+
+  at : (n i : ℕ) (es : List (Vec ℕ × Entry)) (e new : Entry) → slice_get (values_of es) i ≡ Some e → ((name : Vec ℕ) → class_view (name, new) ≡ change (class_view (name, e)))
+      → classes_view (set_value_at es i new) ≡ from (n + i) n (classes_view es)
+  at n i [] e new h is = absurd (cc)
+  at n zero (x ∷ es) e new h is =
+      let own : x.1 ≡ e = cc in
+      let yes : (n == n + 0) ≡ true = grind (arith, nat_tests) in
+      ap (λ d. d ∷ classes_view es) (is x.0 ∙ ap (λ v. change (class_view (x.0, v))) (sym own))
+      ∙ (λ k. cond (sym yes k) (change (class_view x)) (class_view x) ∷ sym (past (n + 0) (n + 1) (classes_view es) (omega arith)) k)
+  at n (suc i) (x ∷ es) e new h is =
+      let no : (n == n + suc i) ≡ false = grind (arith, nat_tests) in
+      let further : (n + 1) + i ≡ n + suc i = omega arith in
+      ap (λ T. class_view x ∷ T) (at (n + 1) i es e new h is ∙ ap (λ c. from c (n + 1) (classes_view es)) further)
+      ∙ (λ k. cond (sym no k) (change (class_view x)) (class_view x) ∷ from (n + suc i) (n + 1) (classes_view es))
+
+  -- a class whose entry is changed is changed alike
+  pub changed : (es : List (Vec ℕ × Entry)) (i : ℕ) (e new : Entry) → slice_get (values_of es) i ≡ Some e → ((name : Vec ℕ) → class_view (name, new) ≡ change (class_view (name, e)))
+      → classes_view (set_value_at es i new) ≡ with_changed_class (classes_view es) (i + 1) change
+  changed es i e new h is = let c : 1 + i ≡ i + 1 = omega arith in at 1 i es e new h is ∙ ap (λ c. from c 1 (classes_view es)) c
+
+-- an entry that is written as it was
+pub unchanged : (es : List (Vec ℕ × Entry)) (i : ℕ) (e new : Entry) → slice_get (values_of es) i ≡ Some e → ((name : Vec ℕ) → class_view (name, new) ≡ class_view (name, e)) → classes_view (set_value_at es i new) ≡ classes_view es
+unchanged [] i e new h is = refl
+unchanged (x ∷ es) zero e new h is =
+    let own : x.1 ≡ e = cc in
+    ap (λ d. d ∷ classes_view es) (is x.0 ∙ ap (λ v. class_view (x.0, v)) (sym own))
+unchanged (x ∷ es) (suc i) e new h is = ap (λ T. class_view x ∷ T) (unchanged es i e new h is)
+
+-- what stays as it is after a refusal
+pub refused : {A E : Type 0} (r : Result A E) (more kept : Classes) → IsErr r → kept ≡ (if is_ok r then more else kept)
+refused (Ok x) more kept h = absurd (cc)
+refused (Err e) more kept h = refl
+
+-- the names stay as they are
+pub names-kept : (change : Class → Class) → ((d : Class) → (change d).name ≡ d.name) → (c n : ℕ) (T : Classes) (name : Identifier) → has_name (from change c n T) name ≡ has_name T name
+names-kept change same c n [] name = refl
+names-kept change same c n (d ∷ T) name = step (n == c) (names-kept change same c (n + 1) T name)
+  where
+    step : (b : Bool) → has_name (from change c (n + 1) T) name ≡ has_name T name → (bytes_eq (cond b (change d) d).name name || has_name (from change c (n + 1) T) name) ≡ (bytes_eq d.name name || has_name T name)
+    step true e = λ i. bytes_eq (same d i) name || e i
+    step false e = λ i. bytes_eq d.name name || e i
+
+-- where there is a class of arrays there is that of the elements, also with a field more
+pub declared-elements : (T : Classes) (c : Option ℕ) (field : Field) (is_static : Bool) → ArraysHaveElements T → ArraysHaveElements (with_declared T c field is_static)
+declared-elements T c field true elements name h =
+    let change : Class → Class = λ d. record d { statics = d.statics ++ field ∷ [] } in
+    names-kept change (λ d. refl) (unwrap_or c 0) 1 T name ∙ elements name (sym (names-kept change (λ d. refl) (unwrap_or c 0) 1 T (array_name name)) ∙ h)
+declared-elements T c field false elements name h =
+    let change : Class → Class = λ d. record d { fields = d.fields ++ field ∷ [] } in
+    names-kept change (λ d. refl) (unwrap_or c 0) 1 T name ∙ elements name (sym (names-kept change (λ d. refl) (unwrap_or c 0) 1 T (array_name name)) ∙ h)

@@ -1,0 +1,11 @@
+pub mod Places
+pub mod Ancestry
+pub mod DistinctNames
+pub mod ArrayNames
+pub mod AddedClasses
+pub mod Signatures
+pub mod FoundFields
+pub mod ChangedClasses
+pub mod FieldTypes
+pub mod KeptTables
+pub mod Layouts

@@ -1,0 +1,12 @@
+use Rattle.std.proofs.Common.{◌∙◌, ap}
+use Rattle.indexmap.proofs.CallerLemmas.{insert_entry-new}
+use Rattle.class_table.specs.Views.{classes_view}
+use Rattle.class_table.proofs.Places.{lookup-new, classes_view-more}
+use Rattle.class_table.proofs.entries.put.Goals as goal
+
+pub returns-clause-entries : goal.returns-clause-entries
+returns-clause-entries c =
+    let es = c.args.classes.now.entries in
+    let grown = rw c.unwrap.ensures at c.insert.ensures.entries in
+    ap classes_view (grown ∙ insert_entry-new _ c.args.classes.now c.args.name c.args.entry (lookup-new c.args.name.items es c.requires.new))
+    ∙ classes_view-more es (c.args.name, c.args.entry)

@@ -1,0 +1,39 @@
+-- Fields that were found in a table in memory, and fields that are added to one.
+use Rattle.std.specs.Prelude.{◌≡◌, ℕ, Bool, List, [], Option, None, Some, Result, Ok, Err, unwrap_or, if◌then◌else◌}
+use Rattle.std.specs.Option.{option_map_or}
+use Rattle.base.specs.Bytes.{Identifier}
+use Rattle.base.specs.Element.{JInt}
+use Rattle.class_table.specs.declared.fields.FieldId.{FieldId as IdInMemory}
+use Rattle.class_table.specs.declared.fault.FieldError.{FieldError}
+use Rattle.class_table.specs.declared.fault.FieldError.TheVariants as errors
+use Rattle.classes.specs.Additions.{ClassRule, with_field, with_static}
+use Rattle.classes.specs.Class.{NumberField, Field, Class, Classes, class_at}
+use Rattle.classes.specs.Fields.{FieldId, find_field, find_static, type_of_signature}
+use Rattle.class_table.specs.Refusals.{rule_view}
+use Rattle.class_table.specs.Views.{field_view}
+
+abbrev pub field_id_view : IdInMemory → FieldId
+field_id_view f = record { class = f.class; is_static = f.is_static; field = field_view f.field.now }
+
+-- the fields, or the statics, that a class declares itself
+abbrev pub declared_as : Classes → ℕ → Bool → List Field
+declared_as classes c is_static = option_map_or (λ (d : Class). if is_static then d.statics else d.fields) (class_at classes c) []
+
+-- the field, or the static, of this name and signature
+abbrev pub find_as : Classes → ℕ → Identifier → List ℕ → Bool → Option FieldId
+find_as classes c name text is_static = if is_static then find_static classes c name text else find_field classes c name text
+
+-- a field of this name and signature
+abbrev pub declared_field : Classes → Identifier → List ℕ → Field
+declared_field classes name text = record { name = name; type = unwrap_or (type_of_signature classes text) (NumberField JInt) }
+
+-- the table with one more field, or static, in the class of this number
+abbrev pub with_declared : Classes → Option ℕ → Field → Bool → Classes
+with_declared classes c field is_static = if is_static then with_static classes (unwrap_or c 0) field else with_field classes (unwrap_or c 0) field
+
+-- The answer to a new field: the broken rule, where one is broken, or else that there is no such class, or else that it is there, unless memory ran out.
+abbrev pub AnswersField : Option ClassRule → Option ℕ → Result Unit FieldError → Type 0
+AnswersField broken class (Ok x) = (broken ≡ None) × ((c : ℕ) × (class ≡ Some c))
+AnswersField broken class (Err errors.Memory) = broken ≡ None
+AnswersField broken class (Err errors.NoClass) = (broken ≡ None) × (class ≡ None)
+AnswersField broken class (Err (errors.Refused rule)) = broken ≡ Some (rule_view rule)

@@ -1,0 +1,5 @@
+pub mod Views
+pub mod Tables
+pub mod BuiltInList
+pub mod Refusals
+pub mod FieldViews

@@ -1,0 +1,146 @@
+//! Classes and fields that are added to a table.
+
+ghost use Rattle.std.specs.Prelude.{◌≡◌, ◌+◌, Some, None, length, nat_lt, map, is_ok, if◌then◌else◌, IsTrue, MatchResult};
+ghost use Rattle.std.specs.List.{list_any};
+ghost use Rattle.std.specs.Str.{bytes_eq};
+ghost use Rattle.classes.specs.Additions.{class_breaks, field_breaks, declared_fields, new_class, with_class};
+ghost use Rattle.classes.specs.BuiltIns.{has_own_making};
+ghost use Rattle.classes.specs.Class.{class_named};
+ghost use Rattle.class_table.specs.FieldViews.{with_declared, declared_field, AnswersField};
+ghost use Rattle.classes.specs.Fields.{type_of_signature};
+ghost use Rattle.class_table.specs.Views.{field_view, field_type_view};
+ghost use Rattle.classes.specs.Grown.{IsGrown};
+ghost use Rattle.classes.specs.Mangling.{is_class_name};
+ghost use Rattle.class_table.specs.Refusals.{rule_view, first_broken, Answers};
+
+use crate::built_ins::{CLASS, STRING};
+use crate::class::{Field, FieldType};
+use crate::entries::{put_class, put_field};
+use crate::fault::{ClassError, ClassRule, FieldError};
+use crate::table::ClassTable;
+
+/// The most classes that a table may have.
+const MOST_CLASSES: usize = 256;
+
+/// The most fields and statics that a class may declare.
+const MOST_FIELDS: usize = 64;
+
+impl ClassTable {
+    /// Whether its objects are made by a function of their own: it has no subclasses then.
+    pub fn has_own_making(&self, class: usize) -> bool
+        ensures { result ≡ has_own_making self.now class }
+    {
+        self.is_array(class) || class == STRING || class == CLASS
+    }
+
+    /// The superclass of this name for a new class, or the rule of the least number that the class breaks.
+    fn superclass_for(&self, name: &[u8], superclass: &[u8]) -> Result<usize, ClassRule>
+        ensures { MatchResult result
+            (λ above. (first_broken (λ rule. class_breaks rule self.now name.now superclass.now) ≡ None) × (class_named self.now superclass.now ≡ Some above))
+            (λ rule. first_broken (λ rule. class_breaks rule self.now name.now superclass.now) ≡ Some (rule_view rule)) }
+    {
+        if self.find(name).is_some() {
+            return Err(ClassRule::NameTaken);
+        }
+        match self.find(superclass) {
+            Some(above) if !self.has_own_making(above) => {
+                if self.len() + 2 > MOST_CLASSES {
+                    Err(ClassRule::TooMany)
+                } else {
+                    Ok(above)
+                }
+            }
+            _ => Err(ClassRule::BadSuperclass),
+        }
+    }
+
+    /// Adds a class with its superclass, and after it the class of its arrays. Its number is answered.
+    /// After a refusal the table is what it was.
+    pub fn add_class(&mut self, name: &[u8], superclass: &[u8]) -> Result<usize, ClassError>
+        requires { IsTrue (is_class_name name.now) }
+        ensures answer { Answers (first_broken (λ rule. class_breaks rule self.old name.now superclass.now)) (λ class. class ≡ length self.old + 1) result }
+        ensures grown { IsGrown self.old → IsGrown self.new }
+        ensures table { self.new ≡ (if is_ok result then with_class self.old (new_class name.now (class_named self.old superclass.now)) else self.old) }
+    {
+        let above = self.superclass_for(name, superclass)?;
+        let class = self.classes.len() + 1;
+        put_class(&mut self.classes, name, above)?;
+        Ok(class)
+    }
+
+    /// Whether the class declares a field or static of this name.
+    fn declares(&self, class: Option<usize>, name: &[u8]) -> bool
+        ensures { result ≡ list_any (λ f. bytes_eq f.name name.now) (declared_fields self.now class) }
+    {
+        let class = class.unwrap_or(0);
+        is_declared(self.declared(class, false), name)
+            || is_declared(self.declared(class, true), name)
+    }
+
+    /// Whether the class declares as many fields and statics as it may.
+    fn is_full(&self, class: Option<usize>) -> bool
+        ensures { result ≡ nat_lt 64 (length (declared_fields self.now class) + 1) }
+    {
+        let class = class.unwrap_or(0);
+        let fields = self.declared(class, false).len();
+        let statics = self.declared(class, true).len();
+        fields >= MOST_FIELDS || statics >= MOST_FIELDS - fields
+    }
+
+    /// The type of a new field or static of a class, or the rule of the least number that it breaks.
+    fn type_for(
+        &self,
+        class: Option<usize>,
+        name: &[u8],
+        signature: &[u8],
+    ) -> Result<FieldType, ClassRule>
+        ensures { MatchResult result
+            (λ field_type. (first_broken (λ rule. field_breaks rule self.now class name.now signature.now) ≡ None) × (type_of_signature self.now signature.now ≡ Some (field_type_view field_type)))
+            (λ rule. first_broken (λ rule. field_breaks rule self.now class name.now signature.now) ≡ Some (rule_view rule)) }
+    {
+        if self.declares(class, name) {
+            return Err(ClassRule::NameTaken);
+        }
+        match self.field_type(signature) {
+            None => Err(ClassRule::BadSignature),
+            Some(_) if self.is_full(class) => Err(ClassRule::TooMany),
+            Some(field_type) => Ok(field_type),
+        }
+    }
+
+    /// Adds a field or a static to the class of this name. After a refusal the table is what it was.
+    pub fn add_field(
+        &mut self,
+        class_name: &[u8],
+        name: &[u8],
+        signature: &[u8],
+        is_static: bool,
+    ) -> Result<(), FieldError>
+        ensures answer { AnswersField (first_broken (λ rule. field_breaks rule self.old (class_named self.old class_name.now) name.now signature.now)) (class_named self.old class_name.now) result }
+        ensures grown { IsGrown self.old → IsGrown self.new }
+        ensures table { self.new ≡ (if is_ok result then with_declared self.old (class_named self.old class_name.now) (declared_field self.old name.now signature.now) is_static else self.old) }
+    {
+        let class = self.find(class_name);
+        let field_type = self.type_for(class, name, signature)?;
+        let Some(class) = class else {
+            return Err(FieldError::NoClass);
+        };
+        let alloc = *self.classes.allocator();
+        let name = Vec::from_slice(alloc, name)?;
+        let field = Field { name, field_type };
+        put_field(&mut self.classes, class - 1, field, is_static)?;
+        Ok(())
+    }
+}
+
+/// Whether one of the fields has this name.
+fn is_declared(fields: &[Field], name: &[u8]) -> bool
+    ensures { result ≡ list_any (λ f. bytes_eq f.name name.now) (map field_view fields.now) }
+{
+    for field in fields {
+        if field.name.as_slice() == name {
+            return true;
+        }
+    }
+    false
+}

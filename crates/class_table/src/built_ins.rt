@@ -1,0 +1,276 @@
+//! The built-in classes.
+
+ghost use Rattle.std.specs.Prelude.{◌≡◌, ◌++◌, ◌∷◌, [], map, None, true, IfOk, OnOk, IsTrue};
+ghost use Rattle.classes.specs.BuiltIns.{array_class};
+ghost use Rattle.class_table.specs.BuiltInList.{listed_field, listed_class, listed_number_array, array_classes, listed_classes, is_class_list};
+ghost use Rattle.class_table.specs.Tables.{names_differ};
+ghost use Rattle.classes.specs.Class.{class_named};
+ghost use Rattle.class_table.specs.Views.{field_view, kind_view, classes_view};
+
+use crate::class::{ClassKind, ElementType, Entry, Field, FieldType};
+use crate::entries::{Entries, array_name, put};
+use indexmap::IndexMap;
+use std::alloc::{AllocError, Global};
+
+/// A built-in class, with the number of its superclass and without statics.
+pub struct BuiltIn {
+    pub name: &'static [u8],
+    pub superclass: Option<usize>,
+    pub fields: &'static [BuiltInField],
+}
+
+/// A field of a built-in class.
+pub struct BuiltInField {
+    pub name: &'static [u8],
+    pub field_type: FieldType,
+}
+
+/// The number of `java/lang/Object`.
+pub const OBJECT: usize = 1;
+
+/// The number of `java/lang/Class`.
+pub const CLASS: usize = 2;
+
+/// The number of `java/lang/String`.
+pub const STRING: usize = 3;
+
+/// The number of `java/lang/Throwable`.
+pub const THROWABLE: usize = 4;
+
+/// The number of `java/lang/Error`.
+pub const ERROR: usize = 5;
+
+/// The number of `java/lang/LinkageError`.
+pub const LINKAGE_ERROR: usize = 6;
+
+/// The number of `java/lang/IncompatibleClassChangeError`.
+pub const INCOMPATIBLE_CLASS_CHANGE_ERROR: usize = 7;
+
+/// The number of `java/lang/VirtualMachineError`.
+pub const VIRTUAL_MACHINE_ERROR: usize = 10;
+
+/// The number of `java/lang/Exception`.
+pub const EXCEPTION: usize = 12;
+
+/// The number of `java/lang/RuntimeException`.
+pub const RUNTIME_EXCEPTION: usize = 13;
+
+/// The number of `java/lang/IndexOutOfBoundsException`.
+pub const INDEX_OUT_OF_BOUNDS_EXCEPTION: usize = 14;
+
+/// What is told of a throwable.
+const MESSAGE: BuiltInField = BuiltInField {
+    name: b"message",
+    field_type: FieldType::Reference(STRING),
+};
+
+/// The plain built-in classes, in the order of their numbers.
+pub const BUILT_INS: [BuiltIn; 19] = [
+    BuiltIn {
+        name: b"java/lang/Object",
+        superclass: None,
+        fields: &[],
+    },
+    BuiltIn {
+        name: b"java/lang/Class",
+        superclass: Some(OBJECT),
+        fields: &[],
+    },
+    BuiltIn {
+        name: b"java/lang/String",
+        superclass: Some(OBJECT),
+        fields: &[],
+    },
+    BuiltIn {
+        name: b"java/lang/Throwable",
+        superclass: Some(OBJECT),
+        fields: &[MESSAGE],
+    },
+    BuiltIn {
+        name: b"java/lang/Error",
+        superclass: Some(THROWABLE),
+        fields: &[],
+    },
+    BuiltIn {
+        name: b"java/lang/LinkageError",
+        superclass: Some(ERROR),
+        fields: &[],
+    },
+    BuiltIn {
+        name: b"java/lang/IncompatibleClassChangeError",
+        superclass: Some(LINKAGE_ERROR),
+        fields: &[],
+    },
+    BuiltIn {
+        name: b"java/lang/NoSuchFieldError",
+        superclass: Some(INCOMPATIBLE_CLASS_CHANGE_ERROR),
+        fields: &[],
+    },
+    BuiltIn {
+        name: b"java/lang/NoClassDefFoundError",
+        superclass: Some(LINKAGE_ERROR),
+        fields: &[],
+    },
+    BuiltIn {
+        name: b"java/lang/VirtualMachineError",
+        superclass: Some(ERROR),
+        fields: &[],
+    },
+    BuiltIn {
+        name: b"java/lang/OutOfMemoryError",
+        superclass: Some(VIRTUAL_MACHINE_ERROR),
+        fields: &[],
+    },
+    BuiltIn {
+        name: b"java/lang/Exception",
+        superclass: Some(THROWABLE),
+        fields: &[],
+    },
+    BuiltIn {
+        name: b"java/lang/RuntimeException",
+        superclass: Some(EXCEPTION),
+        fields: &[],
+    },
+    BuiltIn {
+        name: b"java/lang/IndexOutOfBoundsException",
+        superclass: Some(RUNTIME_EXCEPTION),
+        fields: &[],
+    },
+    BuiltIn {
+        name: b"java/lang/ArrayIndexOutOfBoundsException",
+        superclass: Some(INDEX_OUT_OF_BOUNDS_EXCEPTION),
+        fields: &[],
+    },
+    BuiltIn {
+        name: b"java/lang/StringIndexOutOfBoundsException",
+        superclass: Some(INDEX_OUT_OF_BOUNDS_EXCEPTION),
+        fields: &[],
+    },
+    BuiltIn {
+        name: b"java/lang/ArrayStoreException",
+        superclass: Some(RUNTIME_EXCEPTION),
+        fields: &[],
+    },
+    BuiltIn {
+        name: b"java/lang/NegativeArraySizeException",
+        superclass: Some(RUNTIME_EXCEPTION),
+        fields: &[],
+    },
+    BuiltIn {
+        name: b"java/lang/IllegalMonitorStateException",
+        superclass: Some(RUNTIME_EXCEPTION),
+        fields: &[],
+    },
+];
+
+/// The classes of arrays of numbers, which come after the plain built-in classes.
+const NUMBER_ARRAYS: [(&[u8], ElementType); 4] = [
+    (b"[B", ElementType::Byte),
+    (b"[C", ElementType::Char),
+    (b"[S", ElementType::Short),
+    (b"[I", ElementType::Int),
+];
+
+fn copied_fields(alloc: Global, fields: &[BuiltInField]) -> Result<Vec<Field>, AllocError>
+    ensures { IfOk result (λ copies. map field_view copies.items ≡ map listed_field fields.now) }
+{
+    let mut copies = Vec::new(alloc);
+    for field in fields {
+        let name = Vec::from_slice(alloc, field.name)?;
+        let field_type = field.field_type;
+        copies.push(Field { name, field_type })?;
+    }
+    Ok(copies)
+}
+
+/// Puts a built-in class after the others.
+fn put_built_in(alloc: Global, classes: &mut Entries, built_in: &BuiltIn) -> Result<(), AllocError>
+    requires { class_named (classes_view classes.old.entries) built_in.now.name.now ≡ None }
+    ensures { OnOk result (classes_view classes.new.entries ≡ classes_view classes.old.entries ++ listed_class built_in.now ∷ []) }
+{
+    classes.reserve(1)?;
+    let fields = copied_fields(alloc, built_in.fields)?;
+    let name = Vec::from_slice(alloc, built_in.name)?;
+    let entry = Entry {
+        superclass: built_in.superclass,
+        kind: ClassKind::Plain,
+        fields,
+        statics: Vec::new(alloc),
+    };
+    put(classes, name, entry);
+    Ok(())
+}
+
+/// Puts a class of arrays after the others.
+fn put_array(
+    alloc: Global,
+    classes: &mut Entries,
+    name: Vec<u8>,
+    kind: ClassKind,
+) -> Result<(), AllocError>
+    requires { class_named (classes_view classes.old.entries) name.items ≡ None }
+    ensures { OnOk result (classes_view classes.new.entries ≡ classes_view classes.old.entries ++ array_class name.items (kind_view kind) ∷ []) }
+{
+    classes.reserve(1)?;
+    put(classes, name, Entry::of_arrays(alloc, kind));
+    Ok(())
+}
+
+/// Puts these built-in classes after the others.
+fn put_built_ins(
+    alloc: Global,
+    classes: &mut Entries,
+    built_ins: &[BuiltIn],
+) -> Result<(), AllocError>
+    requires { names_differ (classes_view classes.old.entries ++ map listed_class built_ins.now) ≡ true }
+    ensures { OnOk result (classes_view classes.new.entries ≡ classes_view classes.old.entries ++ map listed_class built_ins.now) }
+{
+    for built_in in built_ins {
+        put_built_in(alloc, classes, built_in)?;
+    }
+    Ok(())
+}
+
+/// Puts these classes of arrays of numbers after the others.
+fn put_number_arrays(
+    alloc: Global,
+    classes: &mut Entries,
+    arrays: &[(&[u8], ElementType)],
+) -> Result<(), AllocError>
+    requires { names_differ (classes_view classes.old.entries ++ map listed_number_array arrays.now) ≡ true }
+    ensures { OnOk result (classes_view classes.new.entries ≡ classes_view classes.old.entries ++ map listed_number_array arrays.now) }
+{
+    for array in arrays {
+        let name = Vec::from_slice(alloc, array.0)?;
+        put_array(alloc, classes, name, ClassKind::ArrayOfNumbers(array.1))?;
+    }
+    Ok(())
+}
+
+/// Puts the classes of arrays of these, which are the first classes, after the others.
+fn put_object_arrays(
+    alloc: Global,
+    classes: &mut Entries,
+    built_ins: &[BuiltIn],
+) -> Result<(), AllocError>
+    requires { names_differ (classes_view classes.old.entries ++ array_classes (map listed_class built_ins.now)) ≡ true }
+    ensures { OnOk result (classes_view classes.new.entries ≡ classes_view classes.old.entries ++ array_classes (map listed_class built_ins.now)) }
+{
+    for (place, built_in) in built_ins.iter().enumerate() {
+        let name = array_name(alloc, built_in.name)?;
+        put_array(alloc, classes, name, ClassKind::ArrayOfObjects(place + 1))?;
+    }
+    Ok(())
+}
+
+/// The classes of the list, in order, with the classes of arrays after them.
+pub(crate) fn listed(alloc: Global, built_ins: &[BuiltIn]) -> Result<Entries, AllocError>
+    requires { IsTrue (is_class_list built_ins.now) }
+    ensures { IfOk result (λ classes. classes_view classes.entries ≡ listed_classes built_ins.now) }
+{
+    let mut classes: Entries = IndexMap::new(alloc);
+    put_built_ins(alloc, &mut classes, built_ins)?;
+    put_number_arrays(alloc, &mut classes, &NUMBER_ARRAYS)?;
+    put_object_arrays(alloc, &mut classes, built_ins)?;
+    Ok(classes)
+}

@@ -1,0 +1,11 @@
+//! Class tables in memory: classes by name and by number, their fields, and their layouts.
+#![tactic(auto)]
+
+mod additions;
+pub mod built_ins;
+pub mod class;
+mod entries;
+pub mod fault;
+pub mod fields;
+mod layout;
+pub mod table;
