@@ -1,7 +1,9 @@
 //! The instructions. Sections in brackets are those of ISO/IEC 9899:1999.
 
 ghost use Rattle.std.specs.Prelude.{◌≡◌, IfOk};
+ghost use Rattle.code.specs.Call.{call_view};
 
+use jni::JniFunction;
 use std::alloc::{AllocError, Global};
 use std::marker::Model;
 
@@ -100,47 +102,55 @@ pub enum NullableVariable {
     Buffer(u32),
 }
 
-/// A function of the JNI with its arguments (JNI Specification, chapter 4).
+/// Where a call finds an argument, by its kind. Slots of each kind, and statics, are counted from 0.
 #[derive(Clone, Copy, Debug, PartialEq, Eq)]
-pub enum Callee {
-    /// The number of elements of an array ("GetArrayLength").
-    GetArrayLength(ReferenceOperand),
+pub enum Operand {
+    /// `NULL` for a reference.
+    Null,
+    /// The local reference in this slot.
+    Local(u32),
+    /// The global reference of this static.
+    Static(u32),
 }
 
 /// Where a call's result goes.
 #[derive(Clone, Copy, Debug, PartialEq, Eq)]
 pub enum Target {
+    /// Nowhere.
+    Dropped,
     /// Into this number slot.
     Number(u32),
 }
 
-/// A call of a function of the JNI, in a statement on this line.
-#[derive(Clone, Copy, Debug, PartialEq, Eq)]
+/// A call of a function of the JNI, in a statement on this line (JNI Specification, chapter 4).
+#[derive(Drop)]
 pub struct Call {
     /// Counted from 1; a trap of the call is reported there.
     pub line: u32,
     pub target: Target,
-    pub function: Callee,
+    pub function: JniFunction,
+    /// The arguments after `env`, in order.
+    pub operands: Vec<Operand>,
 }
 
-/// A call in host memory of its own, seen as the call, so that an instruction stays small however many arguments there are.
-#[derive(Drop, Debug)]
+/// A call in host memory of its own, so that an instruction stays small however many arguments there are.
+#[derive(Drop)]
 pub struct BoxedCall {
     call: Box<Call>,
 }
 
 impl Model for BoxedCall {
-    ghost use Rattle.code.specs.declared.instr.Call.{Call};
+    ghost use Rattle.code.specs.Call.{Call, call_view};
 
     ghost Value = { Call };
 
-    ghost view = { λ b. b.call.value };
+    ghost view = { λ b. call_view b.call.value };
 }
 
 impl BoxedCall {
     /// The same call.
     pub fn of(alloc: Global, call: Call) -> Result<BoxedCall, AllocError>
-        ensures { IfOk result (λ boxed. boxed ≡ call) }
+        ensures { IfOk result (λ boxed. boxed ≡ call_view call) }
     {
         Ok(BoxedCall {
             call: Box::new(alloc, call)?,
@@ -149,7 +159,7 @@ impl BoxedCall {
 
     /// The call.
     pub fn call(&self) -> &Call
-        ensures { result.now ≡ self.now }
+        ensures { call_view result.now ≡ self.now }
     {
         &self.call
     }
@@ -158,7 +168,7 @@ impl BoxedCall {
 /// One instruction, which is one step of the source, in at most 16 bytes. Slots of numbers are counted from 0. The line of an
 /// instruction that can trap is its statement's, counted from 1; the trap is reported there. The number of a jump is how many
 /// instructions after it are skipped, or how many places it leads back.
-#[derive(Drop, Debug)]
+#[derive(Drop)]
 pub enum Instr {
     /// Puts a constant onto the stack (6.4.4.1).
     Push(u32),

@@ -2,9 +2,9 @@
 
 ghost use Rattle.std.specs.Prelude.{◌≡◌};
 ghost use Rattle.std.specs.List.{list_all};
-ghost use Rattle.code.specs.Depth.{within_slots, array_within, target_within, callee_within, operand_within, variable_within};
+ghost use Rattle.code.specs.Depth.{within_slots, array_within, target_within, operand_within, reference_within, variable_within};
 
-use crate::instr::{Callee, Instr, LocalArray, NullableVariable, ReferenceOperand, Target};
+use crate::instr::{Instr, LocalArray, NullableVariable, Operand, ReferenceOperand, Target};
 
 /// How many slots of each kind there are for code, and how many statics.
 #[derive(Clone, Copy, Debug, PartialEq, Eq)]
@@ -42,10 +42,9 @@ fn within_slots(instr: &Instr, slots: SlotCounts) -> bool
         }
         Instr::Call(boxed) => {
             let call = boxed.call();
-            target_within(call.target, slots.numbers)
-                && callee_within(call.function, slots.references)
+            target_within(call.target, slots) && are_within(call.operands.as_slice(), slots)
         }
-        Instr::ReturnReference(operand) => operand_within(*operand, slots.references),
+        Instr::ReturnReference(operand) => reference_within(*operand, slots.references),
         _ => true,
     }
 }
@@ -67,24 +66,33 @@ fn variable_within(variable: NullableVariable, slots: SlotCounts) -> bool
     }
 }
 
-fn target_within(target: Target, numbers: u32) -> bool
-    ensures { result ≡ target_within numbers target }
+fn target_within(target: Target, slots: SlotCounts) -> bool
+    ensures { result ≡ target_within slots target }
 {
     match target {
-        Target::Number(slot) => slot < numbers,
+        Target::Dropped => true,
+        Target::Number(slot) => slot < slots.numbers,
     }
 }
 
-fn callee_within(function: Callee, references: u32) -> bool
-    ensures { result ≡ callee_within references function }
+fn are_within(operands: &[Operand], slots: SlotCounts) -> bool
+    ensures { result ≡ list_all (operand_within slots) operands.now }
 {
-    match function {
-        Callee::GetArrayLength(operand) => operand_within(operand, references),
+    operands.iter().all(|operand| operand_within(*operand, slots))
+}
+
+fn operand_within(operand: Operand, slots: SlotCounts) -> bool
+    ensures { result ≡ operand_within slots operand }
+{
+    match operand {
+        Operand::Null => true,
+        Operand::Local(slot) => slot < slots.references,
+        Operand::Static(index) => index < slots.statics,
     }
 }
 
-fn operand_within(operand: ReferenceOperand, references: u32) -> bool
-    ensures { result ≡ operand_within references operand }
+fn reference_within(operand: ReferenceOperand, references: u32) -> bool
+    ensures { result ≡ reference_within references operand }
 {
     match operand {
         ReferenceOperand::Null => true,

@@ -1,6 +1,6 @@
 -- Which instructions the parts of a program become. What no accepted program has becomes nothing, and no place of a code
 -- stands for it (Stands).
-use Rattle.std.specs.Prelude.{ℕ, ◌+◌, Bool, true, false, not, List, [], ◌∷◌, ◌++◌, length, Option, Some, None}
+use Rattle.std.specs.Prelude.{ℕ, ◌+◌, Bool, true, false, not, List, [], ◌∷◌, ◌++◌, length, map, Option, Some, None}
 use Rattle.std.specs.Option.{option_map}
 use Rattle.base.specs.Bytes.{lookup}
 use Rattle.base.specs.Element.{ElementType, JInt, JShort, JByte, JChar}
@@ -8,16 +8,19 @@ use Rattle.syntax.specs.Tree as tree
 use Rattle.syntax.specs.Tree.{Constant, PrefixOp, LogicalNot, Complement, ToWord, ToInt, BinaryOp, LogicalOr, LogicalAnd, BitOr, BitXor, BitAnd, Equal, NotEqual, Less, LessEqual, Greater, GreaterEqual, ShiftLeft, ShiftRight, Add, Subtract, Multiply, Divide, Remainder, Expr, Argument, RightSide, FromExpr, FromCall, Test, TestExpr, TestCall, Stmt, Block, End, Next, Function}
 use Rattle.types.specs.Sorts.{Sort, Ref, Global, FieldId, Buffer, Array, is_jint}
 use Rattle.types.specs.SortRules.{variable_sort}
-use Rattle.code.specs.declared.instr.Callee.TheVariants as callee
+use Rattle.jni.specs.JniFunction.{JniFunction}
+use Rattle.jni.specs.Prototype.{function_named}
+use Rattle.code.specs.declared.instr.Operand.{Operand}
+use Rattle.code.specs.declared.instr.Operand.TheVariants as operand
 use Rattle.code.specs.declared.instr.ElementType.{ElementType as ElementOfCode}
 use Rattle.code.specs.declared.instr.ElementType.TheVariants as element
 use Rattle.code.specs.declared.instr.Operator.TheVariants as operator
 use Rattle.code.specs.declared.instr.TrappingOperator.TheVariants as trapping
 use Rattle.code.specs.declared.instr.NullableVariable.{NullableVariable}
 use Rattle.code.specs.declared.instr.NullableVariable.TheVariants as nullable
-use Rattle.code.specs.declared.instr.ReferenceOperand.{ReferenceOperand}
 use Rattle.code.specs.declared.instr.ReferenceOperand.TheVariants.{Null, Local}
-use Rattle.code.specs.declared.instr.Target.TheVariants.{Number}
+use Rattle.code.specs.declared.instr.Target.{Target}
+use Rattle.code.specs.declared.instr.Target.TheVariants.{Dropped, Number}
 use Rattle.code.specs.declared.instr.Instr.{Instr}
 use Rattle.code.specs.declared.instr.Instr.TheVariants.{Push, Load, Store, Convert, Operate, OperateOrTrap, JumpIfFalseOrPop, JumpIfTrueOrPop, JumpIfFalse, Jump, JumpBack, LoadElement, StoreElement, ClearArray, TestNull, StoreNull, PutJint, Call, Return, ReturnJint, ReturnReference}
 use Rattle.code.specs.declared.instr.Instr.TheVariants as instr
@@ -155,25 +158,30 @@ expr_code known line e = term_code known line (term_of e)
 
 -- ---- calls
 
--- a local reference; a static holds nothing but NULL yet
-abbrev pub local_or_null : Sort → ℕ → ReferenceOperand
-local_or_null Ref i = Local i
-local_or_null s i = Null
+-- a local reference or a static
+abbrev pub reference_operand : Sort → ℕ → Operand
+reference_operand Ref i = operand.Local i
+reference_operand Global i = operand.Static i
+reference_operand s i = operand.Null
 
 -- where the reference of a name is
-abbrev pub operand_of : Option Slot → ReferenceOperand
-operand_of None = Null
-operand_of (Some s) = local_or_null s.sort s.index
+abbrev pub operand_of : Option Slot → Operand
+operand_of None = operand.Null
+operand_of (Some s) = reference_operand s.sort s.index
 
--- where a reference argument is found
-abbrev pub operand_code : Known → Expr → ReferenceOperand
-operand_code known (tree.Variable x) = operand_of (lookup x known)
-operand_code known e = Null
+-- where an argument is found; all are references today
+abbrev pub operand_code : Known → Argument → Operand
+operand_code known (tree.Value (tree.Variable x)) = operand_of (lookup x known)
+operand_code known a = operand.Null
 
--- a call with these arguments, whose result goes into a number slot; all are of GetArrayLength today
-abbrev pub call_code : Known → (line slot : ℕ) → List Argument → List Instr
-call_code known line slot (tree.Value e ∷ []) = Call (record { line = line; target = Number slot; function = callee.GetArrayLength (operand_code known e) }) ∷ []
-call_code known line slot arguments = []
+-- a call of a function, whose result goes there
+abbrev pub call_code : Known → (line : ℕ) → Target → JniFunction → List Argument → List Instr
+call_code known line target f arguments = Call (record { line = line; target = target; function = f; operands = map (operand_code known) arguments }) ∷ []
+
+-- the same, if the function is known
+abbrev pub named_call_code : Known → (line : ℕ) → Target → Option JniFunction → List Argument → List Instr
+named_call_code known line target None arguments = []
+named_call_code known line target (Some f) arguments = call_code known line target f arguments
 
 -- ---- statements
 
@@ -185,7 +193,7 @@ value_code known line s e = expr_code known line e ++ Store s.index ∷ []
 -- a right side
 abbrev pub right_code : Known → (line : ℕ) → Slot → RightSide → List Instr
 right_code known line s (FromExpr e) = value_code known line s e
-right_code known line s (FromCall c) = call_code known line s.index c.arguments
+right_code known line s (FromCall c) = named_call_code known line (Number s.index) (function_named c.function) c.arguments
 
 -- a right side for a name that is known
 abbrev pub assign_code : Known → (line : ℕ) → Option Slot → RightSide → List Instr
@@ -237,7 +245,7 @@ abbrev mutual
   stmt_code l (tree.DeclareArray line t x size) = ClearArray (record { start = l.slots.numbers; len = size }) ∷ []
   stmt_code l (tree.Assign line x r) = assign_code l.known line (lookup x l.known) r
   stmt_code l (tree.AssignElement line x i e) = expr_code l.known line i ++ (expr_code l.known line e ++ of_slot (write_code line) (lookup x l.known))
-  stmt_code l (tree.Perform line c) = call_code l.known line l.slots.numbers c.arguments
+  stmt_code l (tree.Perform line c) = named_call_code l.known line Dropped (function_named c.function) c.arguments
   stmt_code l (tree.PutJint line e) = expr_code l.known line e ++ PutJint ∷ []
   stmt_code l (tree.If line test then') = if_code l.known line test (block_code l then') []
   stmt_code l (tree.IfElse line test then' else') = if_code l.known line test (block_code l then') (block_code (closed l (block_layout l then')) else')

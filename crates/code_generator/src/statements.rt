@@ -3,17 +3,19 @@
 ghost use Rattle.std.specs.Prelude.{◌≡◌, ◌+◌, ◌-◌, ◌<◌, ◌≤◌, [], ◌∷◌, ◌++◌, slice_set, vec_len, map, IfOk, OnOk};
 ghost use Rattle.base.specs.Bytes.{lookup};
 ghost use Rattle.syntax.specs.Views.{element_tree, expr_tree, argument_tree, call_tree, right_side_tree, test_tree, variable_type_tree, form_tree, block_tree};
+ghost use Rattle.jni.specs.Prototype.{function_named};
 ghost use Rattle.types.specs.SortRules.{variable_sort};
 ghost use Rattle.source.specs.Term.{term_of};
 ghost use Rattle.code_generator.specs.Layout.{closed, layout_after, block_layout, with_name, new_slot};
-ghost use Rattle.code_generator.specs.Coding.{operand_code, call_code, right_code, assign_code, write_code, of_slot, return_code, returned_code, test_code, first_code, loop_code, expr_code, stmt_code, block_code};
+ghost use Rattle.code_generator.specs.Coding.{operand_code, reference_operand, named_call_code, right_code, assign_code, write_code, of_slot, return_code, returned_code, test_code, first_code, loop_code, expr_code, stmt_code, block_code};
 ghost use Rattle.code_generator.specs.Names.{sort_view, slot_view};
 
 use crate::emitting::{counted, emit, replace};
 use crate::names::{Names, Slot, Sort};
 use crate::terms::{element_type, emit_expr, nullable};
 use code::instr;
-use code::instr::{BoxedCall, Callee, Instr, LocalArray, ReferenceOperand, Target};
+use code::instr::{BoxedCall, Instr, LocalArray, Operand, ReferenceOperand, Target};
+use jni::function_named;
 use std::alloc::{AllocError, Global};
 use syntax::{
     Argument, Block, Call, Constant, ElementType, Expr, Form, Name, RightSide, Test, VariableType,
@@ -49,7 +51,7 @@ pub fn emit_form<'a>(
         Form::AssignElement(name, index, value) => {
             emit_element_set(code, names, line, name, index, value)
         }
-        Form::Perform(call) => emit_dropped(code, names, line, call),
+        Form::Perform(call) => emit_call(code, names, line, Target::Dropped, call),
         Form::PutJint(number) => emit_print(code, names, line, number),
         Form::If(test, first) => {
             let end = emit_first(alloc, code, names, line, test, first)?;
@@ -261,7 +263,7 @@ fn emit_right(
             emit_expr(code, names, line, value)?;
             emit(code, Instr::Store(slot.index))
         }
-        RightSide::Call(call) => emit_call(code, names, line, slot.index, &call.arguments),
+        RightSide::Call(call) => emit_call(code, names, line, Target::Number(slot.index), call),
     }
 }
 
@@ -279,19 +281,6 @@ fn emit_element_set(
     emit_expr(code, names, line, index)?;
     emit_expr(code, names, line, value)?;
     emit_write(code, names, line, name)
-}
-
-/// A call whose result is dropped: it goes into a slot that no name has.
-fn emit_dropped(
-    code: &mut Vec<Instr>,
-    names: &Names<'_>,
-    line: u32,
-    call: &Call,
-) -> Result<(), AllocError>
-    ensures { OnOk result (code.new.items ≡ code.old.items ++ call_code names.now.known line names.now.slots.numbers (call_tree call.now).arguments) }
-{
-    let slot = names.slots().numbers;
-    emit_call(code, names, line, slot, &call.arguments)
 }
 
 /// A number that is printed.
@@ -333,47 +322,66 @@ fn emit_write(
     }
 }
 
-/// A call of GetArrayLength, which is the only function that is called today. Its result goes into this number slot.
+/// A call, whose result goes there; none of a function that isn't known.
 fn emit_call(
     code: &mut Vec<Instr>,
     names: &Names<'_>,
     line: u32,
-    slot: u32,
-    arguments: &[Argument],
+    target: Target,
+    call: &Call,
 ) -> Result<(), AllocError>
-    ensures { OnOk result (code.new.items ≡ code.old.items ++ call_code names.now.known line slot (map argument_tree arguments.now)) }
+    ensures { OnOk result (code.new.items ≡ code.old.items ++ named_call_code names.now.known line target (function_named (call_tree call.now).function) (call_tree call.now).arguments) }
 {
-    match arguments {
-        [Argument::Value(reference)] => {
-            let function = Callee::GetArrayLength(operand_of(names, reference));
-            let target = Target::Number(slot);
-            let call = instr::Call {
-                line,
-                target,
-                function,
-            };
-            let boxed = BoxedCall::of(*code.allocator(), call)?;
-            emit(code, Instr::Call(boxed))
-        }
-        _ => Ok(()),
+    let Some(function) = function_named(call.function.as_bytes()) else {
+        return Ok(());
+    };
+    let alloc = *code.allocator();
+    let operands = operands(alloc, names, &call.arguments)?;
+    let call = instr::Call {
+        line,
+        target,
+        function,
+        operands,
+    };
+    emit(code, Instr::Call(BoxedCall::of(alloc, call)?))
+}
+
+/// Where the arguments of a call are found.
+fn operands(
+    alloc: Global,
+    names: &Names<'_>,
+    arguments: &[Argument],
+) -> Result<Vec<Operand>, AllocError>
+    ensures { IfOk result (λ v. v.items ≡ map (operand_code names.now.known) (map argument_tree arguments.now)) }
+{
+    let mut operands = Vec::with_capacity(alloc, arguments.len())?;
+    for argument in arguments {
+        operands.push(operand_of(names, argument))?;
+    }
+    Ok(operands)
+}
+
+/// Where an argument is found.
+fn operand_of(names: &Names<'_>, argument: &Argument) -> Operand
+    ensures { result ≡ operand_code names.now.known (argument_tree argument.now) }
+{
+    match argument {
+        Argument::Value(Expr::Variable(name)) => match names.slot_of(name) {
+            Some(Slot { sort, index }) => reference_operand(sort, index),
+            None => Operand::Null,
+        },
+        _ => Operand::Null,
     }
 }
 
-/// Where a reference argument is found. Nothing but NULL is stored in a static yet.
-fn operand_of(names: &Names<'_>, argument: &Expr) -> ReferenceOperand
-    ensures { result ≡ operand_code names.now.known (expr_tree argument.now) }
+/// A local reference or a static.
+fn reference_operand(sort: Sort, index: u32) -> Operand
+    ensures { result ≡ reference_operand (sort_view sort) index }
 {
-    match argument {
-        Expr::Variable(name) => match names.slot_of(name) {
-            Some(
-                Slot {
-                    sort: Sort::Reference,
-                    index,
-                },
-            ) => ReferenceOperand::Local(index),
-            _ => ReferenceOperand::Null,
-        },
-        _ => ReferenceOperand::Null,
+    match sort {
+        Sort::Reference => Operand::Local(index),
+        Sort::Static => Operand::Static(index),
+        _ => Operand::Null,
     }
 }
 

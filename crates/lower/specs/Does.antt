@@ -1,23 +1,23 @@
 -- What the instruction at a place does.
-use Rattle.std.specs.Prelude.{◌≡◌, ℕ, ℤ, ◌+◌, ◌-◌, ◌<◌, ◌≤◌, Bool, List, [], ◌∷◌, ◌++◌, length, slice_get, slice_set, Some, FitsSigned}
+use Rattle.std.specs.Prelude.{◌≡◌, ℕ, ℤ, ◌+◌, ◌-◌, ◌<◌, ◌≤◌, Bool, true, List, [], ◌∷◌, ◌++◌, length, slice_get, slice_set, Some, FitsSigned}
 use Rattle.std.specs.Bool.{beq}
+use Rattle.std.specs.List.{AllZip}
 use Rattle.std.specs.Int.{w32, cast_signed}
 use Rattle.base.specs.Bytes.{Identifier, lookup}
 use Rattle.base.specs.Element.{ElementType}
-use Rattle.jni.specs.JniFunction.{JniFunction, GetArrayLength}
-use Rattle.types.specs.Sorts.{Ref}
+use Rattle.jni.specs.JniFunction.{JniFunction}
+use Rattle.jni.specs.BuiltFunctions.{is_built_function}
+use Rattle.types.specs.Sorts.{Ref, Global}
 use Rattle.source.specs.Arguments.{Actual, ReferenceActual}
 use Rattle.source.specs.Effect.{Effect, Becomes, Sets, SetsNull, SetsElement, MakesArray, Prints, Calls, Returns, TrapsAt, NoEffect}
 use Rattle.source.specs.Task.{Task, Target, Declared, Assigned, Dropped, ScalarKind}
 use Rattle.source.specs.Value.{Value, Trap, Int, Gives}
 use Rattle.source.specs.Value as value
 use Rattle.source.specs.Variable.{Empty}
-use Rattle.code.specs.declared.instr.Call.{Call}
-use Rattle.code.specs.declared.instr.Callee.{Callee}
-use Rattle.code.specs.declared.instr.Callee.TheVariants as callee
+use Rattle.code.specs.Call.{Call}
+use Rattle.code.specs.declared.instr.Operand.{Operand as Where}
+use Rattle.code.specs.declared.instr.Operand.TheVariants as operand
 use Rattle.code.specs.declared.instr.NullableVariable.{NullableVariable}
-use Rattle.code.specs.declared.instr.ReferenceOperand.{ReferenceOperand}
-use Rattle.code.specs.declared.instr.ReferenceOperand.TheVariants.{Null, Local}
 use Rattle.code.specs.declared.instr.Target.{Target as Destination}
 use Rattle.code.specs.declared.instr.Target.TheVariants as destination
 use Rattle.code.specs.declared.instr.Instr.{Instr}
@@ -108,15 +108,13 @@ module _ (code : Listing) (known : Known) (place : ℕ) (stack : List ℕ) (slot
     pub is : cast_signed w32 word ≡ number
     pub stands : StandsFor code known (place + 1) [] tasks
 
-  -- a reference argument is NULL, or the one in the slot of a known name
-  abbrev pub IsOperand : ReferenceOperand → Actual → Type 0
-  IsOperand Null actual = (x : Identifier) × (actual ≡ ReferenceActual x Empty)
-  IsOperand (Local i) actual =
+  -- an argument is NULL, or the reference in the slot, or of the static, of a known name
+  abbrev pub IsOperand : Where → Actual → Type 0
+  IsOperand operand.Null actual = (x : Identifier) × (actual ≡ ReferenceActual x Empty)
+  IsOperand (operand.Local i) actual =
       (x : Identifier) × (actual ≡ ReferenceActual x (visible.sight.reference x)) × (lookup x known ≡ Some (record { sort = Ref; index = i }))
-
-  -- the instruction has this function and these arguments
-  abbrev pub IsCallee : Callee → JniFunction → List Actual → Type 0
-  IsCallee (callee.GetArrayLength operand) f args = (stack ≡ []) × (f ≡ GetArrayLength) × ((a : Actual) × (args ≡ a ∷ []) × IsOperand operand a)
+  IsOperand (operand.Static i) actual =
+      (x : Identifier) × (actual ≡ ReferenceActual x (visible.sight.reference x)) × (lookup x known ≡ Some (record { sort = Global; index = i }))
 
   -- A `jint` that the call gives goes into a slot: then the slots show the variable with it, and the next place stands for
   -- these tasks.
@@ -126,12 +124,6 @@ module _ (code : Listing) (known : Known) (place : ℕ) (stack : List ℕ) (slot
     pub shows : (z : ℤ) (new : Visible) → FitsSigned w32 z → IsSet visible x (Int z) new → Shows code names new (record slots { numbers = slice_set slots.numbers i (word_of (Int z)) })
     pub stands : StandsFor code names (place + 1) [] tasks
 
-  -- it goes into a slot that shows nothing
-  pub record DropsNumber (i : ℕ) (tasks : List Task) : Type 0 where
-    pub within : i < length slots.numbers
-    pub shows : (word : ℕ) → Shows code known visible (record slots { numbers = slice_set slots.numbers i word })
-    pub stands : StandsFor code known (place + 1) [] tasks
-
   -- a variable is a number
   abbrev pub IsNumber : Identifier → Type 0
   IsNumber x = (v : Value) × (visible.sight.number x ≡ Gives v)
@@ -140,7 +132,7 @@ module _ (code : Listing) (known : Known) (place : ℕ) (stack : List ℕ) (slot
   abbrev pub TakesResult : Destination → Target → List Task → Type 0
   TakesResult (destination.Number i) (Declared ScalarKind x) tasks = TakesNumber i x tasks
   TakesResult (destination.Number i) (Assigned x) tasks = TakesNumber i x tasks × IsNumber x
-  TakesResult (destination.Number i) Dropped tasks = DropsNumber i tasks
+  TakesResult destination.Dropped Dropped tasks = StandsFor code known (place + 1) [] tasks
   TakesResult goes target tasks = ⊥
 
   -- it calls this function with these arguments
@@ -148,7 +140,10 @@ module _ (code : Listing) (known : Known) (place : ℕ) (stack : List ℕ) (slot
     pub call : Call
     pub at : slice_get code.instrs place ≡ Some (instr.Call call)
     pub same_line : call.line ≡ line
-    pub function : IsCallee call.function f args
+    pub same_function : call.function ≡ f
+    pub built : is_built_function f ≡ true
+    pub empty : stack ≡ []
+    pub given : AllZip IsOperand call.operands args
     pub goes : TakesResult call.target target tasks
 
   -- it leaves the function

@@ -1,11 +1,13 @@
 -- What lowering knows of the statements of an accepted function.
 use Rattle.std.specs.Prelude.{◌≡◌, ◌≢◌, ℕ, ◌+◌, ◌^◌, ◌<◌, ◌≤◌, ◌⊎◌, max, true, false, List, [], ◌∷◌, length, Some, None}
+use Rattle.std.specs.List.{AllZip}
 use Rattle.base.specs.Bytes.{Identifier, lookup}
 use Rattle.base.specs.Element.{ElementType, JChar}
 use Rattle.syntax.specs.Tree as tree
 use Rattle.syntax.specs.Tree.{LogicalNot, Complement, ToWord, ToInt, Expr, Argument, Call, RightSide, FromExpr, FromCall, Test, TestExpr, TestCall, Stmt, Block, End, Next, Function}
-use Rattle.jni.specs.JniFunction.{GetArrayLength}
-use Rattle.jni.specs.Prototype.{function_named}
+use Rattle.jni.specs.JniFunction.{JniFunction}
+use Rattle.jni.specs.BuiltFunctions.{is_built_function}
+use Rattle.jni.specs.Prototype.{ParameterKind, Nullable, NonNull, ClassObject, ObjectArray, StringObject, NumberArray, LocalVariable, StaticVariable, function_named, prototype}
 use Rattle.types.specs.Sorts.{Sort, Word, Jint, Flag, Truth, Ref, Global, FieldId, Buffer, Array, OperatorGroup, Logic, Equality, Order, OnWords, group}
 use Rattle.types.specs.SortRules.{variable_sort}
 use Rattle.code.specs.declared.slots.SlotCounts.{SlotCounts}
@@ -139,14 +141,29 @@ ReferenceFits known (tree.Named tree.Null) = Unit {0}
 ReferenceFits known (tree.Variable x) = (s : Slot) × (lookup x known ≡ Some s) × ((s.sort ≡ Ref) ⊎ (s.sort ≡ Global))
 ReferenceFits known e = ⊥
 
--- one reference alone
-abbrev pub ArgumentsFit : Known → List Argument → Type 0
-ArgumentsFit known (tree.Value e ∷ []) = ReferenceFits known e
-ArgumentsFit known arguments = ⊥
+-- a parameter that is a reference
+abbrev pub IsReferenceKind : ParameterKind → Type 0
+IsReferenceKind Nullable = Unit {0}
+IsReferenceKind NonNull = Unit {0}
+IsReferenceKind ClassObject = Unit {0}
+IsReferenceKind ObjectArray = Unit {0}
+IsReferenceKind StringObject = Unit {0}
+IsReferenceKind (NumberArray t) = Unit {0}
+IsReferenceKind LocalVariable = Unit {0}
+IsReferenceKind StaticVariable = Unit {0}
+IsReferenceKind p = ⊥
 
--- a call of GetArrayLength
-abbrev pub CallFits : Known → Call → Type 0
-CallFits known c = (function_named c.function ≡ Some GetArrayLength) × ArgumentsFit known c.arguments
+-- an argument for a parameter; all are references today
+abbrev pub ArgumentFits : Known → ParameterKind → Argument → Type 0
+ArgumentFits known p (tree.Value e) = IsReferenceKind p × ReferenceFits known e
+ArgumentFits known p a = ⊥
+
+-- a call of a function that is built, with an argument for each parameter
+pub record CallFits (known : Known) (c : Call) : Type 0 where
+  pub function : JniFunction
+  pub named : function_named c.function ≡ Some function
+  pub built : is_built_function function ≡ true
+  pub arguments : AllZip (ArgumentFits known) (prototype function).parameters c.arguments
 
 -- a value for a variable of this sort
 abbrev pub ValueFits : Known → Sort → Expr → Type 0

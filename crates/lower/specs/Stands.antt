@@ -1,20 +1,21 @@
 -- Which tasks a place of the code stands for.
-use Rattle.std.specs.Prelude.{◌≡◌, ℕ, ◌+◌, ◌-◌, ◌<◌, ◌≤◌, ◌⊎◌, Bool, true, false, ◌&&◌, ◌||◌, List, [], ◌∷◌, ◌++◌, length, slice_get, Option, Some, None, IsTrue}
-use Rattle.std.specs.List.{list_any}
+use Rattle.std.specs.Prelude.{◌≡◌, ℕ, ◌+◌, ◌-◌, ◌<◌, ◌≤◌, ◌⊎◌, Bool, true, false, ◌&&◌, ◌||◌, List, [], ◌∷◌, ◌++◌, length, slice_get, zip, Option, Some, None, IsTrue}
+use Rattle.std.specs.List.{list_any, AllZip}
 use Rattle.base.specs.Bytes.{Identifier, lookup}
 use Rattle.base.specs.Element.{ElementType}
 use Rattle.syntax.specs.Tree as tree
 use Rattle.syntax.specs.Tree.{BitOr, Expr, Stmt, Block, End, Next}
-use Rattle.jni.specs.JniFunction.{JniFunction, GetArrayLength}
+use Rattle.jni.specs.JniFunction.{JniFunction}
+use Rattle.jni.specs.BuiltFunctions.{is_built_function}
+use Rattle.jni.specs.Prototype.{ParameterKind, prototype}
 use Rattle.types.specs.Sorts.{Sort, Jint, Truth, Ref, Global, Array}
 use Rattle.source.specs.Task.{Task, SetScalar, SetElement, SetNull, MakeArray, Invoke, Print, Branch, EndIf, Loop, EndTurn, Return, ReturnValue, Impossible, Target, Declared, Assigned, Tested, Dropped, ScalarKind, Operand, Given}
 use Rattle.source.specs.Term as term
 use Rattle.source.specs.Term.{Term, Done, Read, And, Or, Prefix, Binary, term_of}
-use Rattle.code.specs.declared.instr.Call.{Call}
-use Rattle.code.specs.declared.instr.Callee.{Callee}
-use Rattle.code.specs.declared.instr.Callee.TheVariants as callee
+use Rattle.code.specs.Call.{Call}
+use Rattle.code.specs.declared.instr.Operand.{Operand as Where}
+use Rattle.code.specs.declared.instr.Operand.TheVariants as operand
 use Rattle.code.specs.declared.instr.NullableVariable.{NullableVariable}
-use Rattle.code.specs.declared.instr.ReferenceOperand.{ReferenceOperand}
 use Rattle.code.specs.declared.instr.ReferenceOperand.TheVariants.{Null, Local}
 use Rattle.code.specs.declared.instr.Target.{Target as Destination}
 use Rattle.code.specs.declared.instr.Target.TheVariants as destination
@@ -24,7 +25,7 @@ use Rattle.code.specs.declared.slots.SlotCounts.{SlotCounts}
 use Rattle.code.specs.Depth.{Listing}
 use Rattle.code_generator.specs.Layout.{Slot, Known, Layout, block_layout}
 use Rattle.code_generator.specs.Coding.{nullable_of, element_of, term_code, expr_code, ways_code, turn_code, block_code}
-use Rattle.lower.specs.Fits.{IsArray, IsIndexSort, TermHasSort, IsUntouched, NumberFits, IndexWithin, IsPlaceOf, IsOwn, IsLaidOut, HasRoomFor, BlockFits}
+use Rattle.lower.specs.Fits.{IsReferenceKind, IsArray, IsIndexSort, TermHasSort, IsUntouched, NumberFits, IndexWithin, IsPlaceOf, IsOwn, IsLaidOut, HasRoomFor, BlockFits}
 use Rattle.lower.specs.Slots.{word_of, IsNumberSort}
 
 -- ---- terms
@@ -143,38 +144,29 @@ pub record MakeArrayStands (code : Listing) (known : Known) (place : ℕ) (stack
 
 -- ---- calls
 
--- a reference argument that is NULL, as a static is yet
-abbrev pub IsNullOperand : Known → List Operand → Type 0
-IsNullOperand known operands =
-    (operands ≡ Given (tree.Value (tree.Named tree.Null)) ∷ [])
-    ⊎ ((x : Identifier) × (i : ℕ) × (operands ≡ Given (tree.Value (tree.Variable x)) ∷ []) × (lookup x known ≡ Some (record { sort = Global; index = i })))
+-- an argument that is a reference, which is looked up in the call's own step
+pub record ReferenceStands (p : ParameterKind) (given : Operand) (e : Expr) : Type 0 where
+  pub kind : IsReferenceKind p
+  pub is : given ≡ Given (tree.Value e)
 
--- a reference argument, and where the instruction finds it
-abbrev pub OperandStands : Known → ReferenceOperand → List Operand → Type 0
-OperandStands known Null operands = IsNullOperand known operands
-OperandStands known (Local i) operands =
-    (x : Identifier) × (operands ≡ Given (tree.Value (tree.Variable x)) ∷ []) × (lookup x known ≡ Some (record { sort = Ref; index = i }))
-
--- the function of a call with its arguments, as an instruction has it
-abbrev pub CalleeStands : Known → (stack : List ℕ) → Callee → JniFunction → List Operand → Type 0
-CalleeStands known stack (callee.GetArrayLength operand) f operands = (stack ≡ []) × (f ≡ GetArrayLength) × OperandStands known operand operands
+-- where the instruction finds an argument, for a parameter of this kind
+abbrev pub OperandStands : Known → Where → ParameterKind × Operand → Type 0
+OperandStands known operand.Null (p, given) = ReferenceStands p given (tree.Named tree.Null)
+OperandStands known (operand.Local i) (p, given) =
+    (x : Identifier) × ReferenceStands p given (tree.Variable x) × (lookup x known ≡ Some (record { sort = Ref; index = i }))
+OperandStands known (operand.Static i) (p, given) =
+    (x : Identifier) × ReferenceStands p given (tree.Variable x) × (lookup x known ≡ Some (record { sort = Global; index = i }))
 
 -- a variable takes a call's result, and then this comes
 pub record ResultStands (code : Listing) (known : Known) (after : After) (place i : ℕ) (x : Identifier) : Type 0 where
   pub own : IsSlotOf code known x (record { sort = Jint; index = i })
   pub further : ComesAfter after place ((x, record { sort = Jint; index = i }) ∷ known)
 
--- a slot that no known name has takes a result that is dropped
-pub record DroppedStands (code : Listing) (known : Known) (after : After) (place i : ℕ) : Type 0 where
-  pub within : i < code.slots.numbers
-  pub free : (x : Identifier) (s : Slot) → lookup x known ≡ Some s → IsPlaceOf s i → ⊥
-  pub further : after place known
-
 -- where a call's result goes, as an instruction has it, and then what comes
 abbrev pub TargetStands : Listing → Known → After → (place : ℕ) → Destination → Target → Type 0
 TargetStands code known after place (destination.Number i) (Declared ScalarKind x) = ResultStands code known after place i x
 TargetStands code known after place (destination.Number i) (Assigned x) = ResultStands code known after place i x × (lookup x known ≡ Some (record { sort = Jint; index = i }))
-TargetStands code known after place (destination.Number i) Dropped = DroppedStands code known after place i
+TargetStands code known after place destination.Dropped Dropped = after place known
 TargetStands code known after place goes target = ⊥
 
 -- a call's instruction stands at the place, and then what comes
@@ -182,7 +174,10 @@ pub record InvokeStands (code : Listing) (known : Known) (place : ℕ) (stack : 
   pub call : Call
   pub at : slice_get code.instrs place ≡ Some (instr.Call call)
   pub same_line : call.line ≡ line
-  pub function : CalleeStands known stack call.function f operands
+  pub same_function : call.function ≡ f
+  pub built : is_built_function f ≡ true
+  pub empty : stack ≡ []
+  pub operands_stand : AllZip (OperandStands known) call.operands (zip (prototype f).parameters operands)
   pub goes : TargetStands code known after (place + 1) call.target target
 
 -- ---- blocks
