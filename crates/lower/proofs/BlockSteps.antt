@@ -383,7 +383,7 @@ module _ (code : Listing) (known : Known) (place : ℕ) (stack : List ℕ) (slot
   steps (SetElement line x i e) rest h = element_step line x i e rest h
   steps (SetNull target) rest h = null_step code known place stack slots visible shows target rest h
   steps (MakeArray t x size) rest h = made_step code known place stack slots visible shows t x size rest h
-  steps (Invoke line target f operands) rest h = call_step code known place stack slots visible shows line target f operands rest h.stand h.returns h.stand.call.function refl h.stand.function
+  steps (Invoke line target f operands) rest h = call_step code known place stack slots visible shows line target f operands rest h.stand h.returns
   steps (Print line t) rest h = put_step code known place stack slots visible shows line t rest h
   steps (Branch line t then' else') rest h = branch_step line t then' else' rest h
   steps EndIf rest h = end_step rest h

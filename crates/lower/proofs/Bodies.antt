@@ -1,33 +1,34 @@
 -- The code of a block stands for its statements, wherever it stands.
-use Rattle.std.proofs.Common.{◌≡◌, ℕ, ◌+◌, ◌⊎◌, inl, inr, true, false, List, [], ◌∷◌, ◌++◌, length, Option, Some, refl, sym, ap, ◌∙◌, subst, arith, length-append}
+use Rattle.std.specs.Prelude.{zip}
+use Rattle.std.specs.List.{AllZip}
+use Rattle.std.proofs.Common.{◌≡◌, ℕ, ◌+◌, ◌⊎◌, inl, inr, true, false, List, [], ◌∷◌, ◌++◌, length, Option, Some, refl, sym, ap, ◌∙◌, subst, arith, length-append, map, ◌≤◌}
 use Rattle.base.specs.Bytes.{Identifier, lookup}
 use Rattle.base.specs.Element.{JChar}
 use Rattle.syntax.specs.Tree as tree
-use Rattle.syntax.specs.Tree.{Expr, Argument, RightSide, FromExpr, FromCall, Test, TestExpr, TestCall, Stmt, Block, End, Next, VariableType, BitOr}
-use Rattle.jni.specs.JniFunction.{GetArrayLength}
+use Rattle.syntax.specs.Tree.{Expr, Argument, RightSide, FromExpr, FromCall, Test, TestExpr, TestCall, Stmt, Block, End, Next, VariableType, BitOr, Call}
+use Rattle.jni.specs.Prototype.{ParameterKind, IntNumber, function_named, prototype}
 use Rattle.jni.specs.Prototype.{function_named}
 use Rattle.types.specs.Sorts.{Sort, Jint, Ref, Global, FieldId, Buffer, Array}
 use Rattle.types.specs.Sorts as sort
 use Rattle.types.specs.SortRules.{variable_sort}
-use Rattle.code.specs.declared.instr.Callee.TheVariants as callee
+use Rattle.code.specs.declared.instr.Target.{Target as Destination}
 use Rattle.code.specs.declared.instr.NullableVariable.{NullableVariable}
 use Rattle.code.specs.declared.instr.NullableVariable.TheVariants as nullable
-use Rattle.code.specs.declared.instr.ReferenceOperand.TheVariants.{Null, Local}
 use Rattle.code.specs.declared.instr.Target.TheVariants as destination
 use Rattle.code.specs.declared.instr.Instr.TheVariants as instr
 use Rattle.code.specs.Depth.{Listing}
 use Rattle.source.specs.Term as term
 use Rattle.source.specs.Term.{Term, Done, Read, Binary, term_of}
-use Rattle.source.specs.Task.{Task, SetScalar, Branch, ReturnValue, Target, Declared, Assigned, Dropped, ScalarKind, BufferKind, kind_of, set_task, invocation, call_task, right_side_task, if_task, task_of, tasks_of}
+use Rattle.source.specs.Task.{Task, SetScalar, Branch, ReturnValue, Target, Declared, Assigned, Dropped, ScalarKind, BufferKind, kind_of, set_task, invocation, call_task, right_side_task, if_task, task_of, tasks_of, operand, Given}
 use Rattle.code_generator.specs.Layout.{Slot, Known, Layout, new_slot, closed, layout_after, block_layout}
-use Rattle.code_generator.specs.Coding.{nullable_of, store_of, element_of, write_code, of_slot, operand_of, term_code, expr_code, call_code, value_code, right_code, assign_code, returned_code, return_code, ways_code, turn_code, loop_code, if_code, stmt_code, block_code}
+use Rattle.code_generator.specs.Coding.{nullable_of, store_of, element_of, write_code, of_slot, operand_of, term_code, expr_code, call_code, value_code, right_code, assign_code, returned_code, return_code, ways_code, turn_code, loop_code, if_code, stmt_code, block_code, named_call_code, operand_code}
 use Rattle.lower.specs.Slots.{IsNumberSort}
-use Rattle.lower.specs.Fits.{IsUntouched, NumberFits, IndexWithin, IsLaidOut, HasRoomFor, ReferenceFits, ArgumentsFit, ValueFits, RightFits, TestFits, ReturnFits, StmtFits, BlockFits}
-use Rattle.lower.specs.Stands.{held, IsBegun, IsUnderWay, HasAt, AreAmong, IsSlotOf, GoesTo, TargetStands, target_name, BlockStands, TasksStand}
+use Rattle.lower.specs.Fits.{IsUntouched, NumberFits, IndexWithin, IsLaidOut, HasRoomFor, IsReferenceKind, ArgumentFits, ValueFits, RightFits, TestFits, ReturnFits, StmtFits, BlockFits, CallFits}
+use Rattle.lower.specs.Stands.{held, IsBegun, IsUnderWay, HasAt, AreAmong, IsSlotOf, GoesTo, TargetStands, target_name, BlockStands, TasksStand, OperandStands}
 use Rattle.lower.proofs.SlotLaws.{known_among, all_among}
 use Rattle.lower.proofs.CodePlaces.{has_front, has_back}
 use Rattle.lower.proofs.TermSteps.{untouched_held, untouched_begun}
-use Rattle.lower.proofs.Layouts.{block_grows, room_before, room_at_least, index_more, laid_more, free_slot, declared_slot, variable_size, laid_after, known_after_stmt}
+use Rattle.lower.proofs.Layouts.{block_grows, room_before, room_at_least, index_more, laid_more, declared_slot, variable_size, laid_after, known_after_stmt}
 
 -- ---- expressions
 
@@ -95,48 +96,61 @@ module _ (code : Listing) (known : Known) (line place : ℕ) (tail : List Task) 
   value_set target x (Buffer t w) i e names fits name goes at own among further = null_set target x (record { sort = Buffer t w; index = i }) e (nullable.Buffer i) names fits refl name goes at own among further
   value_set target x (Array t n) i e names fits name goes at own among further = absurd fits
 
-  -- the call's instruction stands at the place, and what comes after it
-  reference_stands : (target : Target) (function : Identifier) (slot : ℕ) (e : Expr) → function_named function ≡ Some GetArrayLength → ReferenceFits known e → HasAt code.instrs place (call_code known line slot (tree.Value e ∷ []))
-      → TargetStands code known (λ p names. TasksStand code names p [] tail) (place + 1) (destination.Number slot) target → TasksStand code known place [] (call_task line target (record { function = function; arguments = tree.Value e ∷ [] }) ∷ tail)
-  reference_stands target function slot (tree.Named tree.Null) built fits at goes =
-      subst (λ o. TasksStand code known place [] (invocation line target (record { function = function; arguments = tree.Value (tree.Named tree.Null) ∷ [] }) o ∷ tail)) (sym built) (record {
-        call = record { line = line; target = destination.Number slot; function = callee.GetArrayLength Null };
-        at = at.0;
-        same_line = refl;
-        function = (refl, refl, inl refl);
-        goes = goes;
-      })
-  reference_stands target function slot (tree.Variable x) built (s, found, inl e) at goes =
+  -- an argument is found where the instruction says
+  reference_found : (p : ParameterKind) (x : Identifier) (s : Slot) → IsReferenceKind p → lookup x known ≡ Some s → ((s.sort ≡ Ref) ⊎ (s.sort ≡ Global)) → OperandStands known (operand_of (lookup x known)) (p, Given (tree.Value (tree.Variable x)))
+  reference_found p x s kind found (inl e) =
       let there : lookup x known ≡ Some (record { sort = Ref; index = s.index }) = found ∙ ap (λ (r : Sort). Some (record { sort = r; index = s.index })) e in
-      let operand : operand_of (lookup x known) ≡ Local s.index = ap operand_of there in
-      subst (λ o. TasksStand code known place [] (invocation line target (record { function = function; arguments = tree.Value (tree.Variable x) ∷ [] }) o ∷ tail)) (sym built) (record {
-        call = record { line = line; target = destination.Number slot; function = callee.GetArrayLength (Local s.index) };
-        at = at.0 ∙ ap (λ (r : _). Some (instr.Call (record { line = line; target = destination.Number slot; function = callee.GetArrayLength r }))) operand;
-        same_line = refl;
-        function = (refl, refl, (x, refl, there));
-        goes = goes;
-      })
-  reference_stands target function slot (tree.Variable x) built (s, found, inr e) at goes =
+      subst (λ o. OperandStands known (operand_of o) (p, Given (tree.Value (tree.Variable x)))) (sym there) (x, record { kind = kind; is = refl }, there)
+  reference_found p x s kind found (inr e) =
       let there : lookup x known ≡ Some (record { sort = Global; index = s.index }) = found ∙ ap (λ (r : Sort). Some (record { sort = r; index = s.index })) e in
-      let operand : operand_of (lookup x known) ≡ Null = ap operand_of there in
-      subst (λ o. TasksStand code known place [] (invocation line target (record { function = function; arguments = tree.Value (tree.Variable x) ∷ [] }) o ∷ tail)) (sym built) (record {
-        call = record { line = line; target = destination.Number slot; function = callee.GetArrayLength Null };
-        at = at.0 ∙ ap (λ (r : _). Some (instr.Call (record { line = line; target = destination.Number slot; function = callee.GetArrayLength r }))) operand;
+      subst (λ o. OperandStands known (operand_of o) (p, Given (tree.Value (tree.Variable x)))) (sym there) (x, record { kind = kind; is = refl }, there)
+
+  -- which is no number
+  given : (p : ParameterKind) (a : Argument) → ArgumentFits known p a → operand (p, a) ≡ Given a
+  given IntNumber (tree.Value e) h = absurd h.0
+  given IntNumber a h = refl
+  given p a h = refl
+
+  argument_found : (p : ParameterKind) (a : Argument) → ArgumentFits known p a → OperandStands known (operand_code known a) (p, Given a)
+  argument_found p (tree.Value (tree.Named tree.Null)) h = record { kind = h.0; is = refl }
+  argument_found p (tree.Value (tree.Variable x)) h = reference_found p x h.1.0 h.0 h.1.1 h.1.2
+  argument_found p (tree.Value e) h = absurd h.1
+  argument_found p a h = absurd h
+
+  arguments_found : (parameters : List ParameterKind) (arguments : List Argument) → AllZip (ArgumentFits known) parameters arguments
+      → AllZip (OperandStands known) (map (operand_code known) arguments) (zip parameters (map operand (zip parameters arguments)))
+  arguments_found [] [] h = tt
+  arguments_found [] (a ∷ arguments) h = absurd h
+  arguments_found (p ∷ parameters) [] h = absurd h
+  arguments_found (p ∷ parameters) (a ∷ arguments) h =
+      (subst (λ o. OperandStands known (operand_code known a) (p, o)) (sym (given p a h.0)) (argument_found p a h.0), arguments_found parameters arguments h.1)
+
+  -- no more arguments than parameters are worked out
+  few_operands : (parameters : List ParameterKind) (arguments : List Argument) → length (map operand (zip parameters arguments)) ≤ length parameters
+  few_operands [] arguments = omega arith
+  few_operands (p ∷ parameters) [] = omega arith
+  few_operands (p ∷ parameters) (a ∷ arguments) = let few = few_operands parameters arguments in omega (arith, few)
+
+  -- the call's instruction stands at the place, and what comes after it
+  call_stands : (target : Target) (goes : Destination) (c : Call) → CallFits known c → HasAt code.instrs place (named_call_code known line goes (function_named c.function) c.arguments)
+      → TargetStands code known (λ p names. TasksStand code names p [] tail) (place + 1) goes target → TasksStand code known place [] (call_task line target c ∷ tail)
+  call_stands target goes c fits at stands =
+      let here : HasAt code.instrs place (call_code known line goes fits.function c.arguments) = subst (λ o. HasAt code.instrs place (named_call_code known line goes o c.arguments)) fits.named at in
+      subst (λ o. TasksStand code known place [] (invocation line target c o ∷ tail)) (sym fits.named) (record {
+        call = record { line = line; target = goes; function = fits.function; operands = map (operand_code known) c.arguments };
+        at = here.0;
         same_line = refl;
-        function = (refl, refl, inr (x, s.index, refl, there));
-        goes = goes;
+        same_function = refl;
+        built = fits.built;
+        empty = refl;
+        few = few_operands (prototype fits.function).parameters c.arguments;
+        operands_stand = arguments_found (prototype fits.function).parameters c.arguments fits.arguments;
+        goes = stands;
       })
-  reference_stands target function slot e built fits at goes = absurd fits
 
-  call_stands : (target : Target) (function : Identifier) (slot : ℕ) (arguments : List Argument) → function_named function ≡ Some GetArrayLength → ArgumentsFit known arguments → HasAt code.instrs place (call_code known line slot arguments)
-      → TargetStands code known (λ p names. TasksStand code names p [] tail) (place + 1) (destination.Number slot) target → TasksStand code known place [] (call_task line target (record { function = function; arguments = arguments }) ∷ tail)
-  call_stands target function slot (tree.Value e ∷ []) built fits at goes = reference_stands target function slot e built fits at goes
-  call_stands target function slot arguments built fits at goes = absurd fits
-
-  -- how many instructions a call with fitting arguments is
-  call_length : (slot : ℕ) (arguments : List Argument) → ArgumentsFit known arguments → length (call_code known line slot arguments) ≡ 1
-  call_length slot (tree.Value e ∷ []) fits = refl
-  call_length slot arguments fits = absurd fits
+  -- a call is one instruction
+  call_length : (goes : Destination) (c : Call) → CallFits known c → length (named_call_code known line goes (function_named c.function) c.arguments) ≡ 1
+  call_length goes c fits = ap (λ o. length (named_call_code known line goes o c.arguments)) fits.named
 
   result_stands : (target : Target) (x : Identifier) (i : ℕ) (names : Known) → IsResultTarget target x → GoesTo known (record { sort = Jint; index = i }) target → IsSlotOf code known x (record { sort = Jint; index = i }) → AreAmong names ((x, record { sort = Jint; index = i }) ∷ known) → TasksStand code names (place + 1) [] tail
       → TargetStands code known (λ p names. TasksStand code names p [] tail) (place + 1) (destination.Number i) target
@@ -149,8 +163,8 @@ module _ (code : Listing) (known : Known) (line place : ℕ) (tail : List Task) 
   right_stands target x s (FromExpr e) names fits name result goes at own among further = value_set target x s.sort s.index e names fits name goes at own among further
   right_stands target x s (FromCall c) names fits name result goes at own among further =
       let is : s ≡ record { sort = Jint; index = s.index } = ap (λ (k : Sort). record { sort = k; index = s.index }) fits.0 in
-      let size : place + length (call_code known line s.index c.arguments) ≡ place + 1 = omega (arith, call_length s.index c.arguments fits.1.1) in
-      call_stands target c.function s.index c.arguments fits.1.0 fits.1.1 at
+      let size : place + length (named_call_code known line (destination.Number s.index) (function_named c.function) c.arguments) ≡ place + 1 = omega (arith, call_length (destination.Number s.index) c fits.1) in
+      call_stands target (destination.Number s.index) c fits.1 at
       (result_stands target x s.index names (result fits.0) (subst (λ (k : Slot). GoesTo known k target) is goes) (subst (IsSlotOf code known x) is own) (subst (λ (k : Slot). AreAmong names ((x, k) ∷ known)) is among) (subst (λ p. TasksStand code names p [] tail) size further))
 
 -- ---- statements
@@ -314,12 +328,8 @@ stmt_begins code (tree.Assign line x r) l place tail at fits laid room further =
     (subst (λ c. TasksStand code l.known (place + length c) [] tail) (ap (λ (o : Option Slot). assign_code l.known line o r) found) further)
 stmt_begins code (tree.AssignElement line x i e) l place tail at fits laid room further = element_set_stands code line x i e l place tail at fits laid room further
 stmt_begins code (tree.Perform line c) l place tail at fits laid room further =
-    let size : place + length (call_code l.known line l.slots.numbers c.arguments) ≡ place + 1 = omega (arith, call_length code l.known line place tail l.slots.numbers c.arguments fits.1) in
-    call_stands code l.known line place tail Dropped c.function l.slots.numbers c.arguments fits.0 fits.1 at (record {
-      within = room.numbers;
-      free = free_slot l.known l.slots laid;
-      further = subst (λ p. TasksStand code l.known p [] tail) size further;
-    })
+    let size : place + length (named_call_code l.known line destination.Dropped (function_named c.function) c.arguments) ≡ place + 1 = omega (arith, call_length code l.known line place tail destination.Dropped c fits) in
+    call_stands code l.known line place tail Dropped destination.Dropped c fits at (subst (λ p. TasksStand code l.known p [] tail) size further)
 stmt_begins code (tree.PutJint line e) l place tail at fits laid room further =
     let size : place + length (expr_code l.known line e ++ instr.PutJint ∷ []) ≡ place + length (expr_code l.known line e) + 1 = omega (arith, length-append (expr_code l.known line e) (instr.PutJint ∷ [])) in
     ((number_begins l.known (term_of e) Jint fits, at), subst (λ p. TasksStand code l.known p [] tail) size further)

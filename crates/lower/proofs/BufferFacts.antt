@@ -1,4 +1,4 @@
--- While GetArrayLength alone can be called, each buffer is free, and no element of one is read or written.
+-- While no function that gets a buffer can be called, each buffer is free, and no element of one is read or written.
 use Rattle.std.proofs.Common.{◌≡◌, ℕ, Bool, true, false, not, ◌&&◌, ◌||◌, ◌⊎◌, inl, inr, List, [], ◌∷◌, ◌++◌, map, filter, flat_map, Option, Some, None, refl, sym, ap, ◌∙◌, subst, if◌then◌else◌}
 use Rattle.std.specs.List.{list_all, list_any}
 use Rattle.std.specs.Option.{option_to_list}
@@ -12,8 +12,7 @@ use Rattle.base.specs.Options.{some_passes}
 use Rattle.syntax.specs.Parts.{statements_of, statements_within, declared_name, names_declared, own_call, call_of_right_side, own_expressions, names_in, addresses_in, used_names, written_name}
 use Rattle.syntax.specs.Tree as tree
 use Rattle.syntax.specs.Tree.{Expr, Argument, Call, RightSide, Test, TestExpr, TestCall, Stmt, Block, End, Next}
-use Rattle.jni.specs.JniFunction.{JniFunction, GetArrayLength, is_critical}
-use Rattle.jni.specs.Prototype.{function_named}
+use Rattle.jni.specs.JniFunction.{JniFunction, is_critical}
 use Rattle.jni.specs.BuiltFunctions.{is_built_function}
 use Rattle.types.specs.BuiltCalls.{is_built_call, calls_unbuilt}
 use Rattle.types.specs.Sorts.{Buffer, Array}
@@ -22,22 +21,15 @@ use Rattle.regions.specs.RegionRules.{breaks_region_rule, is_free, Obeys, Region
 use Rattle.regions.specs.RegionStates.{Free, BufferState, VariableState, ReferenceAt, BufferIn, RegionState, FunctionCall, call_of, function_called, made_free, with_changed, after_call, release_of, get_of, buffer_from, buffer_set_to, set_to, with_set, state_after, state_of}
 use Rattle.regions.specs.Regions.{made_usable, where_true, where_false, has_variable, left, Way, On, Returned, Join, Keeps, KeepsBlock}
 use Rattle.code_generator.specs.Layout.{Slot, Known, Layout, new_slot, layout_after}
+use Rattle.lower.proofs.BuiltCalls.{built_call, keeps_state, gets_nothing}
 use Rattle.lower.proofs.PlaceFacts.{or_left, or_right, and_left, and_right, not_false, not_true}
 use Rattle.lower.proofs.SortFacts.{IsNoBuffer, ElementsFit}
 
 -- ---- calls
 
-built_is : (o : Option JniFunction) → some_passes is_built_function o ≡ true → o ≡ Some GetArrayLength
-built_is (Some GetArrayLength) h = refl
-built_is o h = absurd (cc)
-
--- a call of the one function that is built
-pub call_is : (c : Call) → is_built_call c ≡ true → function_named c.function ≡ Some GetArrayLength
-call_is c h = built_is (function_named c.function) h
-
--- no call, or one of GetArrayLength
+-- no call, or one of a function that is built
 abbrev IsCalm : Option FunctionCall → Type 0
-IsCalm call = (call ≡ None) ⊎ ((arguments : List Argument) × (call ≡ Some (GetArrayLength, arguments)))
+IsCalm call = (call ≡ None) ⊎ ((f : JniFunction) × (arguments : List Argument) × (is_built_function f ≡ true) × (call ≡ Some (f, arguments)))
 
 -- no call, or one that is built
 abbrev pub IsBuilt : Option Call → Type 0
@@ -45,11 +37,13 @@ IsBuilt call = some_passes (λ c. not (is_built_call c)) call ≡ false
 
 calm : (call : Option Call) → IsBuilt call → IsCalm (call_of call)
 calm None h = inl refl
-calm (Some c) h = inr (c.arguments, ap (elim [ None ↦ None | Some f ↦ Some (f, c.arguments) ]) (call_is c (not_false (is_built_call c) h)))
+calm (Some c) h =
+    let is = built_call c (not_false (is_built_call c) h) in
+    inr (is.function, c.arguments, is.built, ap (elim [ None ↦ None | Some f ↦ Some (f, c.arguments) ]) is.named)
 
 calm_after : (state : RegionState) (call : Option FunctionCall) → IsCalm call → after_call state call ≡ state
 calm_after state call (inl e) = ap (after_call state) e
-calm_after state call (inr e) = ap (after_call state) e.1
+calm_after state call (inr e) = ap (after_call state) e.3 ∙ keeps_state e.0 e.2 state e.1
 
 -- ---- a free buffer stays free
 
@@ -102,7 +96,7 @@ free_from r h = by (call_of (call_of_right_side (Some r))) (calm (call_of_right_
   where
     by : (call : Option FunctionCall) → IsCalm call → buffer_from (get_of call) ≡ Free
     by call (inl e) = ap (λ o. buffer_from (get_of o)) e
-    by call (inr e) = ap (λ o. buffer_from (get_of o)) e.1
+    by call (inr e) = ap (λ o. buffer_from (get_of o)) e.3 ∙ ap buffer_from (gets_nothing e.0 e.2 e.1)
 
 -- the statement declares another name, or none
 abbrev DeclaresOther : Stmt → Identifier → Type 0

@@ -1,22 +1,27 @@
 -- The code of an accepted function has one instruction for each step, and a return at its end.
 use Rattle.std.proofs.Common.{◌≡◌, ℕ, ◌+◌, Bool, true, false, ◌||◌, List, [], ◌∷◌, ◌++◌, length, Option, Some, None, refl, sym, ap, ◌∙◌, subst, arith, length-append}
+use Rattle.std.specs.Prelude.{zip}
+use Rattle.std.specs.List.{AllZip, sum_by}
+use Rattle.std.proofs.lemmas.List.Sums.{sum_by-cons}
 use Rattle.base.specs.Bytes.{Identifier, lookup}
 use Rattle.syntax.specs.Parts.{null_tested, names_declared, statements_of, statements_within}
 use Rattle.syntax.specs.Tree as tree
 use Rattle.syntax.specs.Tree.{ResultType, Void, IntResult, ReferenceResult, LogicalNot, Complement, ToWord, ToInt, BinaryOp, LogicalOr, LogicalAnd, Equal, NotEqual, Expr, Argument, Call, RightSide, FromExpr, FromCall, Test, TestExpr, TestCall, Stmt, Block, End, Next}
 use Rattle.base.specs.Element.{JChar}
-use Rattle.jni.specs.JniFunction.{GetArrayLength}
+use Rattle.jni.specs.Prototype.{ParameterKind, IntNumber, function_named, prototype}
 use Rattle.types.specs.Sorts.{Sort, Jint, Ref, Global, FieldId, Buffer, constant_sort, sort_in, sort_of, is_ref, is_null, name_sort}
 use Rattle.types.specs.Sorts as sort
 use Rattle.types.specs.SortRules.{variable_sort, return_fits, places_within, places_of}
+use Rattle.code.specs.declared.instr.Target.{Target}
+use Rattle.code.specs.declared.instr.Target.TheVariants as destination
 use Rattle.code.specs.declared.instr.Instr.{Instr}
 use Rattle.code.specs.declared.instr.Instr.TheVariants as instr
 use Rattle.source.specs.Term as term
 use Rattle.source.specs.Term.{Term, Done, Read, IsNull, Prefix, And, Or, Binary, binary_term, term_of}
 use Rattle.code_generator.specs.Layout.{Slot, Known, Layout, new_slot, closed, layout_after, block_layout}
-use Rattle.code_generator.specs.Coding.{nullable_of, test_of, store_of, null_code, element_code, write_code, of_slot, load_code, prefix_code, operator_code, is_signed, skip_code, term_code, expr_code, call_code, value_code, right_code, assign_code, returned_code, return_code, test_code, ways_code, if_code, turn_code, loop_code, stmt_code, block_code}
-use Rattle.lower.specs.Fits.{IsNullable, TermHasSort, NumberFits, ArgumentsFit, CallFits, ValueFits, RightFits, TestFits, ReturnFits, StmtFits, BlockFits}
-use Rattle.lower.specs.Length.{binary_steps, expr_steps, arguments_steps, call_steps, value_steps, right_steps, test_steps, return_steps, stmt_steps, block_steps}
+use Rattle.code_generator.specs.Coding.{nullable_of, test_of, store_of, null_code, element_code, write_code, of_slot, load_code, prefix_code, operator_code, is_signed, skip_code, term_code, expr_code, named_call_code, value_code, right_code, assign_code, returned_code, return_code, test_code, ways_code, if_code, turn_code, loop_code, stmt_code, block_code}
+use Rattle.lower.specs.Fits.{IsNullable, TermHasSort, NumberFits, ArgumentFits, CallFits, ValueFits, RightFits, TestFits, ReturnFits, StmtFits, BlockFits}
+use Rattle.lower.specs.Length.{binary_steps, expr_steps, argument_steps, arguments_steps, call_steps, value_steps, right_steps, test_steps, return_steps, stmt_steps, block_steps}
 use Rattle.lower.proofs.SortFacts.{scope_of, slot_of_name}
 use Rattle.lower.proofs.StatementFacts.{jint_is, ref_is}
 use Rattle.lower.proofs.PlaceFacts.{AreKept, own_kept, inside_kept, block_kept, ways_kept}
@@ -105,12 +110,26 @@ expr_length known line e s h = term_length known line (term_of e) s h.sort ∙ s
 
 -- ---- right sides
 
-one_argument : (known : Known) (line i : ℕ) (arguments : List Argument) → ArgumentsFit known arguments → length (call_code known line i arguments) ≡ arguments_steps (Some GetArrayLength) arguments + 1
-one_argument known line i (tree.Value e ∷ []) h = refl
-one_argument known line i arguments h = absurd h
+-- a reference takes no step
+no_steps : (known : Known) (p : ParameterKind) (a : Argument) → ArgumentFits known p a → argument_steps (p, a) ≡ 0
+no_steps known IntNumber (tree.Value e) h = absurd h.0
+no_steps known IntNumber a h = refl
+no_steps known p a h = refl
 
-call_length : (known : Known) (line i : ℕ) (c : Call) → CallFits known c → length (call_code known line i c.arguments) ≡ call_steps c
-call_length known line i c h = one_argument known line i c.arguments h.1 ∙ sym (ap (λ o. arguments_steps o c.arguments + 1) h.0)
+no_argument_steps : (known : Known) (parameters : List ParameterKind) (arguments : List Argument) → AllZip (ArgumentFits known) parameters arguments → sum_by argument_steps (zip parameters arguments) ≡ 0
+no_argument_steps known [] [] h = refl
+no_argument_steps known [] (a ∷ arguments) h = absurd h
+no_argument_steps known (p ∷ parameters) [] h = absurd h
+no_argument_steps known (p ∷ parameters) (a ∷ arguments) h =
+    let one = no_steps known p a h.0 in
+    let others = no_argument_steps known parameters arguments h.1 in
+    omega (arith, one, others, sum_by-cons argument_steps (p, a) (zip parameters arguments))
+
+call_length : (known : Known) (line : ℕ) (target : Target) (c : Call) → CallFits known c → length (named_call_code known line target (function_named c.function) c.arguments) ≡ call_steps c
+call_length known line target c h =
+    ap (λ o. length (named_call_code known line target o c.arguments)) h.named
+    ∙ sym (ap (λ n. n + 1) (no_argument_steps known (prototype h.function).parameters c.arguments h.arguments))
+    ∙ sym (ap (λ o. arguments_steps o c.arguments + 1) h.named)
 
 number_set : (known : Known) (line : ℕ) (slot : Slot) (e : Expr) (s : Sort) → NumberFits known (term_of e) s → length (value_code known line slot e) ≡ value_steps e
 number_set known line slot (tree.Named tree.Null) s h = absurd h.sort
@@ -131,7 +150,7 @@ value_length known line s i e h = absurd h
 
 right_length : (known : Known) (line : ℕ) (s : Slot) (r : RightSide) → RightFits known s.sort r → length (right_code known line s r) ≡ right_steps r
 right_length known line s (FromExpr e) h = value_length known line s.sort s.index e h
-right_length known line s (FromCall c) h = call_length known line s.index c h.1
+right_length known line s (FromCall c) h = call_length known line (destination.Number s.index) c h.1
 
 -- ---- returns
 
@@ -208,7 +227,7 @@ module _ (returns : ResultType) where
     stmt_length (tree.DeclareArray line t x size) l taken fits kept = refl
     stmt_length (tree.Assign line x r) l taken fits kept = ap (λ o. length (assign_code l.known line o r)) fits.1 ∙ right_length l.known line fits.0 r fits.2
     stmt_length (tree.AssignElement line x i e) l taken fits kept = write_length l line x i e fits
-    stmt_length (tree.Perform line c) l taken fits kept = call_length l.known line l.slots.numbers c fits
+    stmt_length (tree.Perform line c) l taken fits kept = call_length l.known line destination.Dropped c fits
     stmt_length (tree.PutJint line e) l taken fits kept = after_one (expr_code l.known line e) instr.PutJint (expr_steps e) (expr_length l.known line e Jint fits)
     stmt_length (tree.If line test then') l taken fits kept =
         let inside = block_length then' l taken fits.1 (inside_kept returns (scope_of l.known) taken (tree.If line test then') kept) in

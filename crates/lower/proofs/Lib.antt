@@ -16,6 +16,7 @@ pub mod RegionFacts
 pub mod SortFacts
 pub mod PlaceFacts
 pub mod NameFacts
+pub mod BuiltCalls
 pub mod BufferFacts
 pub mod StatementFacts
 pub mod BodyFacts

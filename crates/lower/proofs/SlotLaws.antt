@@ -237,16 +237,3 @@ shows_element_set code known old new slots t x size start index z word shows at 
       past = λ k above. set.elements k (λ e. omega (arith, e, above, below)) ∙ array.past k above;
     }))
 
--- ---- a slot that no name has
-
-pub shows_dropped : (code : Listing) (known : Known) (visible : Visible) (slots : Slots) (i word : ℕ) → Shows code known visible slots → ((x : Identifier) (s : Slot) → lookup x known ≡ Some s → IsPlaceOf s i → ⊥)
-    → Shows code known visible (record slots { numbers = slice_set slots.numbers i word })
-shows_dropped code known visible slots i word shows free = record {
-  numbers = length-set slots.numbers i word ∙ shows.numbers;
-  references = shows.references;
-  each = λ x s at.
-      slot_stays visible visible x slots (record slots { numbers = slice_set slots.numbers i word }) (record { number = refl; is_null = refl; element = λ k. refl; reference = refl; array_type = refl }) s.sort s.index
-      (λ k p. get-set_other slots.numbers i k word (λ e. free x s at (subst (IsPlaceOf s) e p)))
-      (λ e. refl)
-      (shows.each x s at);
-}

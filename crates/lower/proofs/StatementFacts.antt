@@ -1,6 +1,6 @@
 -- A statement that is sorted fits.
 use Rattle.std.proofs.Common.{◌≡◌, ℕ, ◌<◌, ◌≤◌, ◌⊎◌, inl, inr, Bool, true, false, not, ◌&&◌, ◌||◌, ◌==◌, List, [], ◌∷◌, map, flat_map, length, nat_le, Option, Some, None, is_some, refl, sym, ap, ◌∙◌, subst, arith, eqb-true, leb-true}
-use Rattle.std.specs.List.{list_all}
+use Rattle.std.specs.List.{list_all, AllZip}
 use Rattle.base.specs.Bytes.{Identifier, lookup}
 use Rattle.base.specs.Element.{ElementType}
 use Rattle.base.specs.Options.{some_passes}
@@ -8,18 +8,18 @@ use Rattle.syntax.specs.Limits.{height, highest, numbers_in_range}
 use Rattle.syntax.specs.Parts.{call_of_right_side, right_side_expressions, test_expressions, names_in}
 use Rattle.syntax.specs.Tree as tree
 use Rattle.syntax.specs.Tree.{ResultType, Void, IntResult, ReferenceResult, Expr, Argument, Call, RightSide, FromExpr, FromCall, Test, TestExpr, TestCall, Stmt}
-use Rattle.jni.specs.JniFunction.{GetArrayLength}
-use Rattle.jni.specs.Prototype.{NonNull, function_named}
-use Rattle.types.specs.Sorts.{Sort, Word, Jint, Flag, Truth, Ref, Global, FieldId, Buffer, Array, sort_in, sort_of, is_word, is_jint, is_flag, is_truth, is_ref, is_index, has_elements, is_null, is_reference, name_sort, arguments_fit, call_arguments_fit}
+use Rattle.jni.specs.Prototype.{ParameterKind, Nullable, NonNull, ClassObject, ObjectArray, StringObject, NumberArray, LocalVariable, StaticVariable, TextBytes, Mode, IsCopy, function_named, prototype}
+use Rattle.types.specs.Sorts.{Sort, Word, Jint, Flag, Truth, Ref, Global, FieldId, Buffer, Array, sort_in, sort_of, is_word, is_jint, is_flag, is_truth, is_index, has_elements, is_null, is_ref, is_reference, name_sort, text_fits, address_fits, argument_fits, arguments_fit, call_arguments_fit}
 use Rattle.types.specs.SortRules.{call_fits, may_be_tested, value_sets, right_side_sets, buffer_begins, test_fits, return_fits, has_wrong_count, copies_reference}
 use Rattle.source.specs.Term as term
 use Rattle.source.specs.Term.{Term, Read, term_of}
 use Rattle.regions.specs.RegionStates.{RegionState}
 use Rattle.code_generator.specs.Layout.{Slot, Known}
-use Rattle.lower.specs.Fits.{IsArray, IsIndexSort, NumberFits, ReferenceFits, ArgumentsFit, CallFits, ValueFits, RightFits, TestFits, ReturnFits}
+use Rattle.lower.specs.Fits.{IsArray, IsIndexSort, NumberFits, IsReferenceKind, ReferenceFits, ArgumentFits, CallFits, ValueFits, RightFits, TestFits, ReturnFits}
 use Rattle.lower.proofs.SortFacts.{scope_of, slot_of_name, HasNoTruth, IsNoBuffer, IsFine, elements, indexed, index_is_value, number_fits}
 use Rattle.lower.proofs.PlaceFacts.{and_left, and_right, not_false}
-use Rattle.lower.proofs.BufferFacts.{IsBuilt, call_is, AreFree, AreNotFree, elements_fit, both_not_free}
+use Rattle.lower.proofs.BuiltCalls.{AreReferences, built_call, takes_references, gives_jint, is_not_tested}
+use Rattle.lower.proofs.BufferFacts.{IsBuilt, AreFree, AreNotFree, elements_fit, both_not_free}
 
 -- ---- sorts by their tests
 
@@ -87,6 +87,25 @@ pub record CallHolds (known : Known) (call : Option Call) : Type 0 where
   pub arguments : some_passes (λ c. not (call_arguments_fit (scope_of known) c (function_named c.function))) call ≡ false
   pub count : some_passes (λ c. has_wrong_count c (function_named c.function)) call ≡ false
 
+or_first : (a b : Bool) → a ≡ true → (a || b) ≡ true
+or_first true b h = refl
+or_first false b h = absurd (cc)
+
+or_second : (a b : Bool) → b ≡ true → (a || b) ≡ true
+or_second true b h = refl
+or_second false b h = h
+
+-- neither text nor address is a reference
+no_text : (p : ParameterKind) → IsReferenceKind p → text_fits p ≡ true → ⊥
+no_text TextBytes kind h = kind
+no_text Mode kind h = kind
+no_text p kind h = cc
+
+no_address : (known : Known) (p : ParameterKind) (x : Identifier) → IsReferenceKind p → address_fits (scope_of known) p x ≡ true → ⊥
+no_address known IsCopy x kind h = kind
+no_address known Mode x kind h = kind
+no_address known p x kind h = cc
+
 module _ (known : Known) where
   reference_fits : (e : Expr) → (is_null e || is_reference (name_sort (scope_of known) e)) ≡ true → ReferenceFits known e
   reference_fits (tree.Named tree.Null) h = tt
@@ -96,22 +115,48 @@ module _ (known : Known) where
       (record { sort = r.0; index = at.0 }, at.1, r.2)
   reference_fits e h = absurd (cc)
 
-  one_argument : (arguments : List Argument) → arguments_fit (scope_of known) (NonNull ∷ []) arguments ≡ true → (length arguments == 1) ≡ true → ArgumentsFit known arguments
-  one_argument [] h k = absurd (let e = eqb-true 0 1 k in omega (arith, e))
-  one_argument (tree.Value e ∷ []) h k = reference_fits e (and_left (is_null e || is_reference (name_sort (scope_of known) e)) true h)
-  one_argument (tree.Text t ∷ []) h k = absurd (cc)
-  one_argument (tree.AddressOf x ∷ []) h k = absurd (cc)
-  one_argument (a ∷ b ∷ rest) h k = absurd (let e = eqb-true (length (a ∷ b ∷ rest)) 1 k in omega (arith, e))
+  value_is_reference : (p : ParameterKind) (e : Expr) → IsReferenceKind p → argument_fits (scope_of known) p (tree.Value e) ≡ true → ReferenceFits known e
+  value_is_reference Nullable e kind h = reference_fits e h
+  value_is_reference NonNull e kind h = reference_fits e h
+  value_is_reference ClassObject e kind h = reference_fits e h
+  value_is_reference ObjectArray e kind h = reference_fits e h
+  value_is_reference StringObject e kind h = reference_fits e h
+  value_is_reference (NumberArray t) e kind h = reference_fits e h
+  value_is_reference LocalVariable e kind h = reference_fits e (or_second (is_null e) _ (or_first (is_ref (name_sort (scope_of known) e)) _ h))
+  value_is_reference StaticVariable e kind h = reference_fits e (or_second (is_null e) _ (or_second (is_ref (name_sort (scope_of known) e)) _ h))
+  value_is_reference p e kind h = absurd kind
+
+  one_fits : (p : ParameterKind) (a : Argument) → IsReferenceKind p → argument_fits (scope_of known) p a ≡ true → ArgumentFits known p a
+  one_fits p (tree.Value e) kind h = (kind, value_is_reference p e kind h)
+  one_fits p (tree.Text t) kind h = absurd (no_text p kind h)
+  one_fits p (tree.AddressOf x) kind h = absurd (no_address known p x kind h)
+
+  all_fit : (parameters : List ParameterKind) (arguments : List Argument) → AreReferences parameters → arguments_fit (scope_of known) parameters arguments ≡ true → length arguments ≡ length parameters → AllZip (ArgumentFits known) parameters arguments
+  all_fit [] [] kinds h count = tt
+  all_fit [] (a ∷ arguments) kinds h count = absurd (omega (arith, count))
+  all_fit (p ∷ parameters) [] kinds h count = absurd (omega (arith, count))
+  all_fit (p ∷ parameters) (a ∷ arguments) kinds h count = (
+    one_fits p a kinds.0 (and_left (argument_fits (scope_of known) p a) (arguments_fit (scope_of known) parameters arguments) h),
+    all_fit parameters arguments kinds.1 (and_right (argument_fits (scope_of known) p a) (arguments_fit (scope_of known) parameters arguments) h) (omega (arith, count)),
+  )
 
   pub call_fits_name : (c : Call) → CallHolds known (Some c) → CallFits known c
   call_fits_name c holds =
-      let name = call_is c (not_false _ holds.built) in
-      let arguments : call_arguments_fit (scope_of known) c (Some GetArrayLength) ≡ true = sym (ap (call_arguments_fit (scope_of known) c) name) ∙ not_false (call_arguments_fit (scope_of known) c (function_named c.function)) holds.arguments in
-      let count : not (length c.arguments == 1) ≡ false = sym (ap (has_wrong_count c) name) ∙ holds.count in
-      (name, one_argument c.arguments arguments (not_false (length c.arguments == 1) count))
+      let is = built_call c (not_false _ holds.built) in
+      let parameters = (prototype is.function).parameters in
+      let arguments : call_arguments_fit (scope_of known) c (Some is.function) ≡ true = sym (ap (call_arguments_fit (scope_of known) c) is.named) ∙ not_false (call_arguments_fit (scope_of known) c (function_named c.function)) holds.arguments in
+      let count : not (length c.arguments == length parameters) ≡ false = sym (ap (has_wrong_count c) is.named) ∙ holds.count in
+      record {
+        function = is.function;
+        named = is.named;
+        built = is.built;
+        arguments = all_fit parameters c.arguments (takes_references is.function is.built) arguments (eqb-true (length c.arguments) (length parameters) (not_false (length c.arguments == length parameters) count));
+      }
 
   call_gives : (o : Option Sort) (c : Call) → CallHolds known (Some c) → call_fits o (function_named c.function) ≡ true → is_jint o ≡ true
-  call_gives o c holds h = sym (ap (call_fits o) (call_is c (not_false _ holds.built))) ∙ h
+  call_gives o c holds h =
+      let is = built_call c (not_false _ holds.built) in
+      gives_jint is.function is.built o (sym (ap (call_fits o) is.named) ∙ h)
 
   same_sort : (a b : Sort) → Some a ≡ Some b → a ≡ b
   same_sort a b e = cc
@@ -175,7 +220,9 @@ module _ (known : Known) where
 
     pub tested_fits : (test : Test) → AreFine known (test_expressions test) → ((c : Call) → test ≡ TestCall c → IsBuilt (Some c)) → test_fits (scope_of known) test ≡ true → TestFits known test
     tested_fits (TestExpr e) fine built h = truth_fits e fine.0 h
-    tested_fits (TestCall c) fine built h = absurd (let e : false ≡ true = sym (ap may_be_tested (call_is c (not_false _ (built c refl)))) ∙ h in cc)
+    tested_fits (TestCall c) fine built h =
+        let is = built_call c (not_false _ (built c refl)) in
+        absurd (let e : false ≡ true = sym (is_not_tested is.function is.built) ∙ sym (ap may_be_tested is.named) ∙ h in cc)
 
     return_number : (t : Term) → NumberFits known t Jint → ReturnFits known t
     return_number (term.Named tree.Null) h = tt

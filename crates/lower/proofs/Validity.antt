@@ -3,11 +3,14 @@ use Rattle.std.proofs.Common.{◌≡◌, ℕ, suc, ◌+◌, ◌<◌, ◌≤◌, 
 use Rattle.std.proofs.lemmas.Bool.{lt-ltb}
 use Rattle.base.specs.Bytes.{Identifier, lookup}
 use Rattle.syntax.specs.Tree as tree
-use Rattle.syntax.specs.Tree.{PrefixOp, LogicalNot, Complement, ToWord, ToInt, BinaryOp, LogicalOr, LogicalAnd, BitOr, BitXor, BitAnd, Equal, NotEqual, Less, LessEqual, Greater, GreaterEqual, ShiftLeft, ShiftRight, Add, Subtract, Multiply, Divide, Remainder, Expr, Argument, RightSide, FromExpr, FromCall, Test, TestExpr, TestCall, Stmt, Block, End, Next}
+use Rattle.syntax.specs.Tree.{PrefixOp, LogicalNot, Complement, ToWord, ToInt, BinaryOp, LogicalOr, LogicalAnd, BitOr, BitXor, BitAnd, Equal, NotEqual, Less, LessEqual, Greater, GreaterEqual, ShiftLeft, ShiftRight, Add, Subtract, Multiply, Divide, Remainder, Expr, Argument, RightSide, FromExpr, FromCall, Test, TestExpr, TestCall, Stmt, Block, End, Next, Call}
 use Rattle.types.specs.Sorts.{Sort, Jint, Ref, Global, FieldId, Buffer, Array}
 use Rattle.types.specs.Sorts as sort
 use Rattle.types.specs.SortRules.{variable_sort}
 use Rattle.base.specs.Element.{JChar}
+use Rattle.code.specs.declared.instr.Target.{Target}
+use Rattle.code.specs.declared.instr.Target.TheVariants as destination
+use Rattle.jni.specs.Prototype.{function_named}
 use Rattle.code.specs.declared.instr.Instr.{Instr}
 use Rattle.code.specs.declared.instr.Instr.TheVariants as instr
 use Rattle.code.specs.Depth.{depth_after}
@@ -15,8 +18,8 @@ use Rattle.code.proofs.Pieces.{IsPiece, piece_none, piece_append, piece_one, pie
 use Rattle.source.specs.Term as term
 use Rattle.source.specs.Term.{Term, Done, Read, IsNull, Prefix, And, Or, Binary, term_of}
 use Rattle.code_generator.specs.Layout.{Slot, Known, Layout, new_slot, closed, layout_after, block_layout}
-use Rattle.code_generator.specs.Coding.{nullable_of, test_of, null_code, element_of, element_code, write_code, of_slot, load_code, prefix_code, operator_code, is_signed, skip_code, term_code, expr_code, call_code, value_code, right_code, assign_code, returned_code, return_code, test_code, ways_code, if_code, stmt_code, block_code}
-use Rattle.lower.specs.Fits.{IsNullable, TermHasSort, IsUntouched, term_height, NumberFits, ArgumentsFit, ValueFits, RightFits, TestFits, ReturnFits, StmtFits, BlockFits}
+use Rattle.code_generator.specs.Coding.{nullable_of, test_of, null_code, element_of, element_code, write_code, of_slot, load_code, prefix_code, operator_code, is_signed, skip_code, term_code, expr_code, named_call_code, value_code, right_code, assign_code, returned_code, return_code, test_code, ways_code, if_code, stmt_code, block_code}
+use Rattle.lower.specs.Fits.{IsNullable, TermHasSort, IsUntouched, term_height, NumberFits, ValueFits, RightFits, TestFits, ReturnFits, StmtFits, BlockFits, CallFits}
 use Rattle.lower.proofs.Bodies.{value_is}
 
 -- ---- instructions
@@ -110,9 +113,8 @@ taken_piece known line t s last h piece = piece_append (term_code known line t) 
 
 -- ---- statements
 
-call_piece : (known : Known) (line i : ℕ) (arguments : List Argument) → ArgumentsFit known arguments → IsPiece (call_code known line i arguments) 0 0
-call_piece known line i (tree.Value e ∷ []) fits = piece_one (instr.Call _) 0 0 refl tt
-call_piece known line i arguments fits = absurd fits
+call_piece : (known : Known) (line : ℕ) (target : Target) (c : Call) → CallFits known c → IsPiece (named_call_code known line target (function_named c.function) c.arguments) 0 0
+call_piece known line target c fits = subst (λ o. IsPiece (named_call_code known line target o c.arguments) 0 0) (sym fits.named) (piece_one (instr.Call _) 0 0 refl tt)
 
 value_piece : (known : Known) (line : ℕ) (kind : Sort) (i : ℕ) (e : Expr) → ValueFits known kind e → IsPiece (value_code known line (record { sort = kind; index = i }) e) 0 0
 value_piece known line sort.Word i e fits = subst (λ c. IsPiece c 0 0) (sym (value_is known line (record { sort = sort.Word; index = i }) e sort.Word fits)) (taken_piece known line (term_of e) sort.Word (instr.Store i) fits (piece_one (instr.Store i) 1 0 refl tt))
@@ -127,7 +129,7 @@ value_piece known line (Array t n) i e fits = absurd fits
 
 right_piece : (known : Known) (line : ℕ) (s : Slot) (r : RightSide) → RightFits known s.sort r → IsPiece (right_code known line s r) 0 0
 right_piece known line s (FromExpr e) fits = value_piece known line s.sort s.index e fits
-right_piece known line s (FromCall c) fits = call_piece known line s.index c.arguments fits.1.1
+right_piece known line s (FromCall c) fits = call_piece known line (destination.Number s.index) c fits.1
 
 return_piece : (known : Known) (line : ℕ) (t : Term) → ReturnFits known t → IsPiece (return_code known line t) 0 0
 return_piece known line (term.Named tree.Null) fits = piece_one (instr.ReturnReference _) 0 0 refl tt
@@ -162,7 +164,7 @@ mutual
   stmt_piece (tree.DeclareArray line t x size) l fits = piece_one (instr.ClearArray _) 0 0 refl tt
   stmt_piece (tree.Assign line x r) l fits = subst (λ (o : Option Slot). IsPiece (assign_code l.known line o r) 0 0) (sym fits.1) (right_piece l.known line fits.0 r fits.2)
   stmt_piece (tree.AssignElement line x i e) l fits = write_piece l line x i e fits
-  stmt_piece (tree.Perform line c) l fits = call_piece l.known line l.slots.numbers c.arguments fits.1
+  stmt_piece (tree.Perform line c) l fits = call_piece l.known line destination.Dropped c fits
   stmt_piece (tree.PutJint line e) l fits = taken_piece l.known line (term_of e) Jint instr.PutJint fits (piece_one instr.PutJint 1 0 refl tt)
   stmt_piece (tree.If line test then') l fits = if_piece l.known line test (block_code l then') [] fits.0 (block_piece then' l fits.1) (piece_none 0)
   stmt_piece (tree.IfElse line test then' else') l fits =

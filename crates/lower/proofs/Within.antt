@@ -1,24 +1,27 @@
 -- Each instruction of a body finds its slots.
-use Rattle.std.proofs.Common.{◌≡◌, ℕ, ◌+◌, ◌<◌, inl, inr, Bool, true, false, List, [], ◌∷◌, ◌++◌, length, Option, Some, refl, sym, ap, ◌∙◌, subst}
-use Rattle.std.specs.List.{list_all}
+use Rattle.std.proofs.Common.{◌≡◌, ℕ, ◌+◌, ◌<◌, inl, inr, Bool, true, false, List, [], ◌∷◌, ◌++◌, length, Option, Some, refl, sym, ap, ◌∙◌, subst, map}
+use Rattle.std.specs.List.{list_all, AllZip}
 use Rattle.std.proofs.lemmas.List.Folds.{list_all-append}
 use Rattle.std.proofs.lemmas.Bool.{lt-ltb, le-leb}
 use Rattle.base.specs.Bytes.{Identifier, lookup}
 use Rattle.syntax.specs.Tree as tree
-use Rattle.syntax.specs.Tree.{BinaryOp, LogicalOr, LogicalAnd, BitOr, BitXor, BitAnd, Equal, NotEqual, Less, LessEqual, Greater, GreaterEqual, ShiftLeft, ShiftRight, Add, Subtract, Multiply, Divide, Remainder, PrefixOp, LogicalNot, Complement, ToWord, ToInt, Expr, Argument, RightSide, FromExpr, FromCall, Test, TestExpr, TestCall, Stmt, Block, End, Next}
+use Rattle.syntax.specs.Tree.{BinaryOp, LogicalOr, LogicalAnd, BitOr, BitXor, BitAnd, Equal, NotEqual, Less, LessEqual, Greater, GreaterEqual, ShiftLeft, ShiftRight, Add, Subtract, Multiply, Divide, Remainder, PrefixOp, LogicalNot, Complement, ToWord, ToInt, Expr, Argument, RightSide, FromExpr, FromCall, Test, TestExpr, TestCall, Stmt, Block, End, Next, Call}
 use Rattle.types.specs.Sorts.{Sort, Jint, Ref, Global, FieldId, Buffer, Array}
 use Rattle.types.specs.Sorts as sort
 use Rattle.types.specs.SortRules.{variable_sort}
 use Rattle.base.specs.Element.{JChar}
+use Rattle.code.specs.declared.instr.Target.{Target}
+use Rattle.code.specs.declared.instr.Target.TheVariants as destination
+use Rattle.jni.specs.Prototype.{ParameterKind, function_named, prototype}
 use Rattle.code.specs.declared.instr.Instr.{Instr}
 use Rattle.code.specs.declared.instr.Instr.TheVariants as instr
 use Rattle.code.specs.declared.slots.SlotCounts.{SlotCounts}
-use Rattle.code.specs.Depth.{operand_within, within_slots}
+use Rattle.code.specs.Depth.{operand_within, within_slots, target_within}
 use Rattle.source.specs.Term as term
 use Rattle.source.specs.Term.{Term, Done, Read, IsNull, Prefix, And, Or, Binary, term_of}
 use Rattle.code_generator.specs.Layout.{Slot, Known, Layout, next_index, slots_after, new_slot, closed, layout_after, block_layout}
-use Rattle.code_generator.specs.Coding.{nullable_of, test_of, null_code, element_code, write_code, of_slot, load_code, prefix_code, operator_code, is_signed, skip_code, term_code, expr_code, operand_of, operand_code, call_code, value_code, right_code, assign_code, returned_code, return_code, test_code, ways_code, turn_code, if_code, stmt_code, block_code}
-use Rattle.lower.specs.Fits.{IsNullable, TermHasSort, NumberFits, IndexWithin, IsLaidOut, HasRoomFor, ReferenceFits, ArgumentsFit, ValueFits, RightFits, TestFits, ReturnFits, StmtFits, BlockFits}
+use Rattle.code_generator.specs.Coding.{nullable_of, test_of, null_code, element_code, write_code, of_slot, load_code, prefix_code, operator_code, is_signed, skip_code, term_code, expr_code, reference_operand, operand_of, operand_code, named_call_code, value_code, right_code, assign_code, returned_code, return_code, test_code, ways_code, turn_code, if_code, stmt_code, block_code}
+use Rattle.lower.specs.Fits.{IsNullable, TermHasSort, NumberFits, IndexWithin, IsLaidOut, HasRoomFor, ArgumentFits, ValueFits, RightFits, TestFits, ReturnFits, StmtFits, BlockFits, CallFits}
 use Rattle.lower.specs.Slots.{IsNumberSort}
 use Rattle.lower.proofs.Bodies.{value_is}
 use Rattle.lower.proofs.Layouts.{SizeFits, index_more, room_before, room_at_least, declared_slot, laid_after, laid_more, variable_size, block_grows, stmt_grows}
@@ -115,25 +118,32 @@ module _ (slots : SlotCounts) where
 
   -- ---- statements
 
-  local_within : (s : Sort) (i : ℕ) → IndexWithin slots s i → operand_within slots.references (operand_of (Some (record { sort = s; index = i }))) ≡ true
-  local_within sort.Word i h = refl
-  local_within Jint i h = refl
-  local_within sort.Flag i h = refl
-  local_within sort.Truth i h = refl
-  local_within Ref i h = lt-ltb i slots.references h
-  local_within Global i h = refl
-  local_within FieldId i h = refl
-  local_within (Buffer t w) i h = refl
-  local_within (Array t n) i h = refl
+  slot_within : (s : Sort) (i : ℕ) → IndexWithin slots s i → operand_within slots (reference_operand s i) ≡ true
+  slot_within sort.Word i h = refl
+  slot_within Jint i h = refl
+  slot_within sort.Flag i h = refl
+  slot_within sort.Truth i h = refl
+  slot_within Ref i h = lt-ltb i slots.references h
+  slot_within Global i h = lt-ltb i slots.statics h
+  slot_within FieldId i h = refl
+  slot_within (Buffer t w) i h = refl
+  slot_within (Array t n) i h = refl
 
-  reference_within : (known : Known) (e : Expr) → AllThere known → ReferenceFits known e → operand_within slots.references (operand_code known e) ≡ true
-  reference_within known (tree.Named tree.Null) all h = refl
-  reference_within known (tree.Variable x) all h = ap (λ (o : Option Slot). operand_within slots.references (operand_of o)) h.1 ∙ local_within h.0.sort h.0.index (all x h.0 h.1)
-  reference_within known e all h = absurd h
+  argument_within : (known : Known) (p : ParameterKind) (a : Argument) → AllThere known → ArgumentFits known p a → operand_within slots (operand_code known a) ≡ true
+  argument_within known p (tree.Value (tree.Named tree.Null)) all h = refl
+  argument_within known p (tree.Value (tree.Variable x)) all h = ap (λ (o : Option Slot). operand_within slots (operand_of o)) h.1.1 ∙ slot_within h.1.0.sort h.1.0.index (all x h.1.0 h.1.1)
+  argument_within known p (tree.Value e) all h = absurd h.1
+  argument_within known p a all h = absurd h
 
-  call_within : (known : Known) (line i : ℕ) (arguments : List Argument) → i < slots.numbers → AllThere known → ArgumentsFit known arguments → AllWithin (call_code known line i arguments)
-  call_within known line i (tree.Value e ∷ []) below all h = rw (lt-ltb i slots.numbers below, reference_within known e all h) refl
-  call_within known line i arguments below all h = absurd h
+  arguments_within : (known : Known) (parameters : List ParameterKind) (arguments : List Argument) → AllThere known → AllZip (ArgumentFits known) parameters arguments → list_all (operand_within slots) (map (operand_code known) arguments) ≡ true
+  arguments_within known [] [] all h = refl
+  arguments_within known [] (a ∷ arguments) all h = absurd h
+  arguments_within known (p ∷ parameters) [] all h = absurd h
+  arguments_within known (p ∷ parameters) (a ∷ arguments) all h = rw (argument_within known p a all h.0, arguments_within known parameters arguments all h.1) refl
+
+  call_within : (known : Known) (line : ℕ) (target : Target) (c : Call) → target_within slots target ≡ true → AllThere known → CallFits known c → AllWithin (named_call_code known line target (function_named c.function) c.arguments)
+  call_within known line target c there all h =
+      subst (λ o. AllWithin (named_call_code known line target o c.arguments)) (sym h.named) (rw (there, arguments_within known (prototype h.function).parameters c.arguments all h.arguments) refl)
 
   value_within : (known : Known) (line : ℕ) (kind : Sort) (i : ℕ) (e : Expr) → AllThere known → IndexWithin slots kind i → ValueFits known kind e → AllWithin (value_code known line (record { sort = kind; index = i }) e)
   value_within known line sort.Word i e all there fits = subst AllWithin (sym (value_is known line (record { sort = sort.Word; index = i }) e sort.Word fits)) (taken_within known line (term_of e) sort.Word (instr.Store i) all fits (lt-ltb i slots.numbers there))
@@ -148,7 +158,7 @@ module _ (slots : SlotCounts) where
 
   right_within : (known : Known) (line : ℕ) (s : Slot) (r : RightSide) → AllThere known → IndexWithin slots s.sort s.index → RightFits known s.sort r → AllWithin (right_code known line s r)
   right_within known line s (FromExpr e) all there fits = value_within known line s.sort s.index e all there fits
-  right_within known line s (FromCall c) all there fits = call_within known line s.index c.arguments (subst (λ (k : Sort). IndexWithin slots k s.index) fits.0 there) all fits.1.1
+  right_within known line s (FromCall c) all there fits = call_within known line (destination.Number s.index) c (lt-ltb s.index slots.numbers (subst (λ (k : Sort). IndexWithin slots k s.index) fits.0 there)) all fits.1
 
   return_within : (known : Known) (line : ℕ) (t : Term) → AllThere known → ReturnFits known t → AllWithin (return_code known line t)
   return_within known line (term.Named tree.Null) all fits = refl
@@ -199,7 +209,7 @@ module _ (slots : SlotCounts) where
         rw (lt-ltb 0 size there.0, le-leb size 1024 there.1, le-leb (l.slots.numbers + size) slots.numbers there.2) refl
     stmt_within (tree.Assign line x r) l fits laid room all = subst (λ (o : Option Slot). AllWithin (assign_code l.known line o r)) (sym fits.1) (right_within l.known line fits.0 r all (all x fits.0 fits.1) fits.2)
     stmt_within (tree.AssignElement line x i e) l fits laid room all = write_within l line x i e all fits
-    stmt_within (tree.Perform line c) l fits laid room all = call_within l.known line l.slots.numbers c.arguments room.numbers all fits.1
+    stmt_within (tree.Perform line c) l fits laid room all = call_within l.known line destination.Dropped c refl all fits
     stmt_within (tree.PutJint line e) l fits laid room all = taken_within l.known line (term_of e) Jint instr.PutJint all fits refl
     stmt_within (tree.If line test then') l fits laid room all = if_within l.known line test (block_code l then') [] all fits.0 (block_within then' l fits.1 laid room) refl
     stmt_within (tree.IfElse line test then' else') l fits laid room all =

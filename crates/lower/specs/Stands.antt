@@ -1,5 +1,5 @@
 -- Which tasks a place of the code stands for.
-use Rattle.std.specs.Prelude.{◌≡◌, ℕ, ◌+◌, ◌-◌, ◌<◌, ◌≤◌, ◌⊎◌, Bool, true, false, ◌&&◌, ◌||◌, List, [], ◌∷◌, ◌++◌, length, slice_get, zip, Option, Some, None, IsTrue}
+use Rattle.std.specs.Prelude.{◌≡◌, ℕ, ◌+◌, ◌-◌, ◌≤◌, ◌⊎◌, Bool, true, false, ◌&&◌, ◌||◌, List, [], ◌∷◌, ◌++◌, length, slice_get, zip, Option, Some, None, IsTrue}
 use Rattle.std.specs.List.{list_any, AllZip}
 use Rattle.base.specs.Bytes.{Identifier, lookup}
 use Rattle.base.specs.Element.{ElementType}
@@ -25,7 +25,7 @@ use Rattle.code.specs.declared.slots.SlotCounts.{SlotCounts}
 use Rattle.code.specs.Depth.{Listing}
 use Rattle.code_generator.specs.Layout.{Slot, Known, Layout, block_layout}
 use Rattle.code_generator.specs.Coding.{nullable_of, element_of, term_code, expr_code, ways_code, turn_code, block_code}
-use Rattle.lower.specs.Fits.{IsReferenceKind, IsArray, IsIndexSort, TermHasSort, IsUntouched, NumberFits, IndexWithin, IsPlaceOf, IsOwn, IsLaidOut, HasRoomFor, BlockFits}
+use Rattle.lower.specs.Fits.{IsReferenceKind, IsArray, IsIndexSort, TermHasSort, IsUntouched, NumberFits, IndexWithin, IsOwn, IsLaidOut, HasRoomFor, BlockFits}
 use Rattle.lower.specs.Slots.{word_of, IsNumberSort}
 
 -- ---- terms
@@ -177,6 +177,7 @@ pub record InvokeStands (code : Listing) (known : Known) (place : ℕ) (stack : 
   pub same_function : call.function ≡ f
   pub built : is_built_function f ≡ true
   pub empty : stack ≡ []
+  pub few : length operands ≤ length (prototype f).parameters
   pub operands_stand : AllZip (OperandStands known) call.operands (zip (prototype f).parameters operands)
   pub goes : TargetStands code known after (place + 1) call.target target
 
