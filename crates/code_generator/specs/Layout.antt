@@ -126,6 +126,6 @@ abbrev mutual
   block_layout l (End line) = l
   block_layout l (Next s rest) = block_layout (layout_after l s) rest
 
--- the slots of a function; the last number slot takes results that are dropped, where no other is free
+-- the slots of a function
 abbrev pub function_slots : (statics : Known) → Function → SlotCounts
-function_slots statics f = let slots = (block_layout (entry_layout statics f) f.body).slots in record slots { numbers = slots.numbers + 1 }
+function_slots statics f = (block_layout (entry_layout statics f) f.body).slots

@@ -7,5 +7,5 @@ mod statements;
 mod terms;
 
 pub use emitting::{counted, emit};
-pub use names::{Known, Names, Slot, Sort, with_spare};
+pub use names::{Known, Names, Slot, Sort};
 pub use statements::emit_block;

@@ -232,12 +232,3 @@ fn slots_after(slots: SlotCounts, sort: Sort) -> Result<SlotCounts, AllocError>
     }
     Ok(after)
 }
-
-/// The slots of a function: one number slot more than its statements take, for results that are dropped.
-pub fn with_spare(slots: SlotCounts) -> Result<SlotCounts, AllocError>
-    ensures { IfOk result (λ s. s ≡ record slots { numbers = slots.numbers + 1 }) }
-{
-    let mut with_spare = slots;
-    with_spare.numbers = one_more(slots.numbers)?;
-    Ok(with_spare)
-}

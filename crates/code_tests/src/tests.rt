@@ -1,11 +1,12 @@
 use code::code::Code;
 use code::instr::{
-    BoxedCall, Call, Callee, ElementType, Instr, LocalArray, NullableVariable, Operator, Plain,
+    BoxedCall, Call, ElementType, Instr, LocalArray, NullableVariable, Operand, Operator, Plain,
     PlainTrap, ReferenceOperand, Target, TrappingOperator,
 };
 use code::plain::plain;
 use code::slots::SlotCounts;
 use code::stack::Stack;
+use jni::JniFunction;
 use std::test::Fail;
 
 const NO_SLOTS: SlotCounts = SlotCounts {
@@ -29,7 +30,8 @@ fn code_keeps_its_instructions(rt: HostRuntime) -> Result<(), Fail> {
         Call {
             line: 3,
             target: Target::Number(0),
-            function: Callee::GetArrayLength(ReferenceOperand::Local(1)),
+            function: JniFunction::GetArrayLength,
+            operands: vec![in rt.alloc(); Operand::Local(1)]?,
         },
     )?;
     let instrs = vec![in rt.alloc();

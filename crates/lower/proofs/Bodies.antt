@@ -1,7 +1,7 @@
 -- The code of a block stands for its statements, wherever it stands.
 use Rattle.std.specs.Prelude.{zip}
 use Rattle.std.specs.List.{AllZip}
-use Rattle.std.proofs.Common.{◌≡◌, ℕ, ◌+◌, ◌⊎◌, inl, inr, true, false, List, [], ◌∷◌, ◌++◌, length, Option, Some, refl, sym, ap, ◌∙◌, subst, arith, length-append, map, ◌≤◌}
+use Rattle.std.proofs.Common.{◌≡◌, ℕ, ◌+◌, ◌⊎◌, inl, inr, true, false, List, [], ◌∷◌, ◌++◌, length, Option, Some, refl, sym, ap, ◌∙◌, subst, arith, length-append, map, suc}
 use Rattle.base.specs.Bytes.{Identifier, lookup}
 use Rattle.base.specs.Element.{JChar}
 use Rattle.syntax.specs.Tree as tree
@@ -125,11 +125,11 @@ module _ (code : Listing) (known : Known) (line place : ℕ) (tail : List Task) 
   arguments_found (p ∷ parameters) (a ∷ arguments) h =
       (subst (λ o. OperandStands known (operand_code known a) (p, o)) (sym (given p a h.0)) (argument_found p a h.0), arguments_found parameters arguments h.1)
 
-  -- no more arguments than parameters are worked out
-  few_operands : (parameters : List ParameterKind) (arguments : List Argument) → length (map operand (zip parameters arguments)) ≤ length parameters
-  few_operands [] arguments = omega arith
-  few_operands (p ∷ parameters) [] = omega arith
-  few_operands (p ∷ parameters) (a ∷ arguments) = let few = few_operands parameters arguments in omega (arith, few)
+  -- there are as many arguments as parameters
+  operand_count : (parameters : List ParameterKind) (arguments : List Argument) → AllZip (ArgumentFits known) parameters arguments → length (map operand (zip parameters arguments)) ≡ length parameters
+  operand_count [] arguments h = refl
+  operand_count (p ∷ parameters) [] h = absurd h
+  operand_count (p ∷ parameters) (a ∷ arguments) h = ap (λ n. suc n) (operand_count parameters arguments h.1)
 
   -- the call's instruction stands at the place, and what comes after it
   call_stands : (target : Target) (goes : Destination) (c : Call) → CallFits known c → HasAt code.instrs place (named_call_code known line goes (function_named c.function) c.arguments)
@@ -143,7 +143,7 @@ module _ (code : Listing) (known : Known) (line place : ℕ) (tail : List Task) 
         same_function = refl;
         built = fits.built;
         empty = refl;
-        few = few_operands (prototype fits.function).parameters c.arguments;
+        count = operand_count (prototype fits.function).parameters c.arguments fits.arguments;
         operands_stand = arguments_found (prototype fits.function).parameters c.arguments fits.arguments;
         goes = stands;
       })

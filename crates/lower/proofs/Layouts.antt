@@ -77,7 +77,7 @@ room_before slots a b h k = record {
 }
 
 pub room_at_least : (slots taken : SlotCounts) → HasRoomFor slots taken → AtLeast taken slots
-room_at_least slots taken h = record { numbers = omega (arith, h.numbers); references = h.references; statics = h.statics; field_ids = h.field_ids; buffers = h.buffers }
+room_at_least slots taken h = record { numbers = h.numbers; references = h.references; statics = h.statics; field_ids = h.field_ids; buffers = h.buffers }
 
 -- ---- slots stay where they are
 
@@ -135,10 +135,6 @@ place_below Global i c k w h = absurd (omega (arith, h.0, h.1))
 place_below FieldId i c k w h = absurd (omega (arith, h.0, h.1))
 place_below (Buffer t wr) i c k w h = absurd (omega (arith, h.0, h.1))
 place_below (Array t n) i c k w h = omega (arith, w.2, h.0, h.1)
-
--- the slot after those that are taken is no known name's
-pub free_slot : (known : Known) (slots : SlotCounts) → IsLaidOut known slots → (x : Identifier) (s : Slot) → lookup x known ≡ Some s → IsPlaceOf s slots.numbers → ⊥
-free_slot known slots laid x s at place = let below : slots.numbers < slots.numbers = place_below s.sort s.index slots slots.numbers (laid.within x s at) place in absurd (omega (arith, below))
 
 new_apart : (s : Sort) (l : Layout) (x : Identifier) (t : Slot) → IsLaidOut l.known l.slots → lookup x l.known ≡ Some t → AreApart t (new_slot s l)
 new_apart s l x t laid at = record {

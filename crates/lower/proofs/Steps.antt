@@ -1,5 +1,5 @@
 -- The instruction at a place does what the first task there does.
-use Rattle.std.proofs.Common.{◌≡◌, ℕ, ◌+◌, ◌<◌, ◌≤◌, ◌⊎◌, inl, inr, Bool, true, List, [], ◌∷◌, ◌++◌, length, Some, refl, sym, ap, ◌∙◌, subst, arith, append_assoc, length-append}
+use Rattle.std.proofs.Common.{◌≡◌, ℕ, ◌+◌, ◌<◌, ◌≤◌, ◌⊎◌, inl, inr, Bool, true, List, [], ◌∷◌, ◌++◌, length, Some, refl, sym, ap, ◌∙◌, subst, arith, append_assoc, length-append, suc}
 use Rattle.std.specs.Prelude.{slice_set, is_none, IsTrue, zip, map}
 use Rattle.std.specs.List.{list_any, AllZip}
 use Rattle.std.specs.Int.{w32, cast_unsigned}
@@ -265,23 +265,30 @@ module _ (code : Listing) (known : Known) (place : ℕ) (stack : List ℕ) (slot
   one_given (operand.Local i) p given h = ap is_given h.1.is
   one_given (operand.Static i) p given h = ap is_given h.1.is
 
-  all_given : (found : List Where) (parameters : List ParameterKind) (operands : List Operand) → length operands ≤ length parameters → AllZip (OperandStands known) found (zip parameters operands) → is_ready operands ≡ true
-  all_given found parameters [] few h = refl
-  all_given found [] (o ∷ operands) few h = absurd (omega (arith, few))
-  all_given [] (p ∷ parameters) (o ∷ operands) few h = absurd h
-  all_given (w ∷ found) (p ∷ parameters) (o ∷ operands) few h = rw (one_given w p o h.0) (all_given found parameters operands (omega (arith, few)) h.1)
+  all_given : (found : List Where) (parameters : List ParameterKind) (operands : List Operand) → length operands ≡ length parameters → AllZip (OperandStands known) found (zip parameters operands) → is_ready operands ≡ true
+  all_given found parameters [] count h = refl
+  all_given found [] (o ∷ operands) count h = absurd (omega (arith, count))
+  all_given [] (p ∷ parameters) (o ∷ operands) count h = absurd h
+  all_given (w ∷ found) (p ∷ parameters) (o ∷ operands) count h = rw (one_given w p o h.0) (all_given found parameters operands (omega (arith, count)) h.1)
+
+  -- there is an argument for each parameter
+  actual_count : (parameters : List ParameterKind) (operands : List Operand) → length operands ≡ length parameters → length (map (look_up visible.sight) (zip parameters operands)) ≡ length parameters
+  actual_count [] operands count = refl
+  actual_count (p ∷ parameters) [] count = absurd (omega (arith, count))
+  actual_count (p ∷ parameters) (o ∷ operands) count = ap (λ n. suc n) (actual_count parameters operands (omega (arith, count)))
 
   -- a call whose references are looked up in its own step
   pub call_step : (line : ℕ) (target : Target) (f : JniFunction) (operands : List Operand) (rest : List Task) → (c : InvokeStands code known place stack (λ p names. TasksStand code names p [] rest) line target f operands) → IsTrue (list_any task_returns (Invoke line target f operands ∷ rest))
       → DoesEffect code known place stack slots visible rest (call_effect_of visible.sight line target f operands)
   call_step line target f operands rest c returns =
-      rw (all_given c.call.operands (prototype f).parameters operands c.few c.operands_stand) (record {
+      rw (all_given c.call.operands (prototype f).parameters operands c.count c.operands_stand) (record {
         call = c.call;
         at = c.at;
         same_line = c.same_line;
         same_function = c.same_function;
         built = c.built;
         empty = c.empty;
+        count = actual_count (prototype f).parameters operands c.count;
         given = are_operands c.call.operands (zip (prototype f).parameters operands) c.operands_stand;
         goes = takes_result line f operands c.call.target target rest c.goes returns;
       })

@@ -7,6 +7,7 @@ use Rattle.base.specs.Bytes.{Identifier, lookup}
 use Rattle.base.specs.Element.{ElementType}
 use Rattle.jni.specs.JniFunction.{JniFunction}
 use Rattle.jni.specs.BuiltFunctions.{is_built_function}
+use Rattle.jni.specs.Prototype.{prototype}
 use Rattle.types.specs.Sorts.{Ref, Global}
 use Rattle.source.specs.Arguments.{Actual, ReferenceActual}
 use Rattle.source.specs.Effect.{Effect, Becomes, Sets, SetsNull, SetsElement, MakesArray, Prints, Calls, Returns, TrapsAt, NoEffect}
@@ -143,6 +144,7 @@ module _ (code : Listing) (known : Known) (place : ℕ) (stack : List ℕ) (slot
     pub same_function : call.function ≡ f
     pub built : is_built_function f ≡ true
     pub empty : stack ≡ []
+    pub count : length args ≡ length (prototype f).parameters
     pub given : AllZip IsOperand call.operands args
     pub goes : TakesResult call.target target tasks
 

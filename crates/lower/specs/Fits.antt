@@ -125,9 +125,9 @@ pub record IsLaidOut (known : Known) (slots : SlotCounts) : Type 0 where
 abbrev pub AreStatics : Known → Type 0
 AreStatics statics = (x : Identifier) (s : Slot) → lookup x statics ≡ Some s → (s.sort ≡ Global) × (s.index < length statics)
 
--- as many of each kind at least; one number slot more is left
+-- as many of each kind at least
 pub record HasRoomFor (slots taken : SlotCounts) : Type 0 where
-  pub numbers : taken.numbers < slots.numbers
+  pub numbers : taken.numbers ≤ slots.numbers
   pub references : taken.references ≤ slots.references
   pub statics : taken.statics ≤ slots.statics
   pub field_ids : taken.field_ids ≤ slots.field_ids

@@ -177,7 +177,7 @@ pub record InvokeStands (code : Listing) (known : Known) (place : ℕ) (stack : 
   pub same_function : call.function ≡ f
   pub built : is_built_function f ≡ true
   pub empty : stack ≡ []
-  pub few : length operands ≤ length (prototype f).parameters
+  pub count : length operands ≡ length (prototype f).parameters
   pub operands_stand : AllZip (OperandStands known) call.operands (zip (prototype f).parameters operands)
   pub goes : TargetStands code known after (place + 1) call.target target
 

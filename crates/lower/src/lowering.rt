@@ -14,7 +14,7 @@ use crate::fault::LowerFault;
 use crate::program::Program;
 use code::code::Code;
 use code::instr::Instr;
-use code_generator::{Known, Names, Slot, Sort, counted, emit, emit_block, with_spare};
+use code_generator::{Known, Names, Slot, Sort, counted, emit, emit_block};
 use regions::Checked;
 use std::alloc::{AllocError, Global};
 use syntax::{Function, Item, Static};
@@ -81,7 +81,7 @@ pub(crate) fn lower_function(
         return Err(LowerFault::TooLong);
     }
     emit(&mut instrs, Instr::Return)?;
-    match Code::of(instrs, with_spare(names.slots())?)? {
+    match Code::of(instrs, names.slots())? {
         Some(code) => Ok(code),
         None => unreachable!(),
     }

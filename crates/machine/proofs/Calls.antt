@@ -11,7 +11,7 @@ use Rattle.heap.specs.Heap.{Space}
 use Rattle.source.specs.Object.{Reference}
 use Rattle.code.specs.declared.instr.Instr.{Instr}
 use Rattle.code.specs.declared.instr.Instr.TheVariants as instr
-use Rattle.code.specs.declared.instr.Call.{Call}
+use Rattle.code.specs.Call.{Call}
 use Rattle.code.specs.declared.instr.Plain.{Plain}
 use Rattle.code.specs.Effect.{IsPlain, plain_of}
 use Rattle.code.specs.Depth.{Listing, depth_after, depth_at, IsValid, LeadsInside, Leaves}

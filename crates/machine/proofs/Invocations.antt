@@ -1,21 +1,22 @@
 -- A call of a function of the JNI does what the source's call does.
-use Rattle.std.proofs.Common.{◌≡◌, ℕ, zero, suc, pos, ◌<◌, ◌^◌, Bool, true, false, cond, eqb, List, [], ◌∷◌, ◌++◌, ◌+◌, length, Option, Some, None, Result, refl, sym, ap, ◌∙◌, subst}
-use Rattle.std.specs.Prelude.{slice_get, slice_set, find, FitsSigned, Ok, Err, IsSome}
+use Rattle.std.specs.List.{AllZip}
+use Rattle.std.proofs.Common.{◌≡◌, ℕ, zero, suc, pos, ◌<◌, ◌^◌, Bool, true, false, cond, eqb, List, [], ◌∷◌, ◌++◌, ◌+◌, length, Option, Some, None, Result, refl, sym, ap, ◌∙◌, subst, arith}
+use Rattle.std.specs.Prelude.{slice_get, find, FitsSigned, Ok, Err, IsSome}
 use Rattle.std.specs.Option.{option_map, option_map_or}
 use Rattle.std.specs.Int.{w32}
 use Rattle.base.specs.Bytes.{Identifier, lookup}
 use Rattle.classes.specs.Class.{Classes, class_kind, is_plain}
 use Rattle.jni.specs.JniFunction.{JniFunction, GetArrayLength}
-use Rattle.types.specs.Sorts.{Ref}
+use Rattle.jni.specs.BuiltFunctions.{is_built_function}
+use Rattle.jni.specs.Prototype.{prototype}
+use Rattle.types.specs.Sorts.{Ref, Global}
 use Rattle.heap.specs.Heap.{Block, Space, block_at, class_at, name_at, values_at, IsAddress}
 use Rattle.source.specs.Object.{Object, Reference}
 use Rattle.code.specs.declared.instr.Instr.{Instr}
 use Rattle.code.specs.declared.instr.Instr.TheVariants as instr
-use Rattle.code.specs.declared.instr.Call.{Call}
-use Rattle.code.specs.declared.instr.Callee.{Callee}
-use Rattle.code.specs.declared.instr.Callee.TheVariants as callee
-use Rattle.code.specs.declared.instr.ReferenceOperand.{ReferenceOperand}
-use Rattle.code.specs.declared.instr.ReferenceOperand.TheVariants.{Null, Local}
+use Rattle.code.specs.Call.{Call}
+use Rattle.code.specs.declared.instr.Operand.{Operand}
+use Rattle.code.specs.declared.instr.Operand.TheVariants.{Null, Local, Static}
 use Rattle.code.specs.declared.instr.Target.{Target as Destination}
 use Rattle.code.specs.declared.instr.Target.TheVariants as destination
 use Rattle.code.specs.Depth.{Listing, depth_after, Leaves}
@@ -31,7 +32,7 @@ use Rattle.source.specs.Variable.{Variables, Scalar, assign, as_static}
 use Rattle.code_generator.specs.Layout.{Known}
 use Rattle.lower.specs.Slots.{Visible, visible_to, Shows}
 use Rattle.lower.specs.Stands.{StandsFor}
-use Rattle.lower.specs.Does.{CallsFunction, IsCallee, IsOperand, TakesResult}
+use Rattle.lower.specs.Does.{CallsFunction, IsOperand, TakesResult}
 use Rattle.lower.specs.Lowered.{Lowered}
 use Rattle.machine.specs.declared.stop.Trap.{Trap}
 use Rattle.machine.specs.declared.thread.Event.{Event}
@@ -40,7 +41,7 @@ use Rattle.machine.specs.declared.thread.Activation.{Activation}
 use Rattle.machine.specs.declared.thread.Executed.TheVariants.{Did}
 use Rattle.machine.specs.Agrees.{CallStands, Executes, GoesOn, ReferencesAgree, event_view}
 use Rattle.machine.specs.HeapAgrees.{ReferenceAgrees, BlockAgrees, BlocksAgree}
-use Rattle.machine.specs.Invoked.{operand_at, held_in, length_operand, target_slot, HasArrayClass, LengthIs, HasWord, DidCall, Invoked}
+use Rattle.machine.specs.Invoked.{operand_at, held_in, first_operand, HasTarget, with_result, HasArrayClass, LengthIs, HasWord, DidCall, Invoked}
 use Rattle.machine.specs.Stops.{trap_view}
 use Rattle.machine.proofs.Calls.{slots_of, Ready, HasMoved, stands_at, depth_behind}
 use Rattle.machine.proofs.Changes.{scalar_of, is_set}
@@ -89,13 +90,13 @@ reference_there space (a ∷ more) (r ∷ rs) zero q h e = let same : r ≡ q = 
 reference_there space (a ∷ more) (r ∷ rs) (suc i) q h e = reference_there space more rs i q h.1 e
 
 -- an operand is what the source's argument is
-record OperandAgrees (space : Space) (addresses : List (Option ℕ)) (operand : ReferenceOperand) (actual : Actual) : Type 0 where
+record OperandAgrees (space : Space) (addresses : List (Option ℕ)) (operand : Operand) (actual : Actual) : Type 0 where
   name : Identifier
   reference : Reference
   is : actual ≡ ReferenceActual name (as_static reference)
   agrees : ReferenceAgrees space (operand_at addresses operand) reference
 
-operand_agrees : (p : Lowered) (space : Space) (call : Activation) (code : Listing) (visible : Visible) (task : Task) (rest : List Task) (r : Ready p space call code visible task rest) (operand : ReferenceOperand) (actual : Actual)
+operand_agrees : (p : Lowered) (space : Space) (call : Activation) (code : Listing) (visible : Visible) (task : Task) (rest : List Task) (r : Ready p space call code visible task rest) (operand : Operand) (actual : Actual)
     → IsOperand code r.known call.place call.stack (slots_of call r.references) visible operand actual → OperandAgrees space call.references.items operand actual
 operand_agrees p space call code visible task rest r Null actual h = record { name = h.0; reference = None; is = h.1; agrees = tt }
 operand_agrees p space call code visible task rest r (Local i) actual h =
@@ -106,6 +107,9 @@ operand_agrees p space call code visible task rest r (Local i) actual h =
       is = h.1 ∙ ap (ReferenceActual h.0) shown.is;
       agrees = reference_there space call.references.items r.references i shown.reference r.agree shown.there;
     }
+operand_agrees p space call code visible task rest r (Static i) actual h =
+    let shown = r.shows.each h.0 (record { sort = Global; index = i }) h.2 in
+    record { name = h.0; reference = None; is = h.1 ∙ ap (ReferenceActual h.0) shown.reference; agrees = tt }
 
 -- where a reference is an address, a block is there
 pub is_address : (space : Space) (o : Option ℕ) (q : Reference) (a : ℕ) → ReferenceAgrees space o q → o ≡ Some a → IsAddress space a
@@ -122,51 +126,78 @@ is_address space (Some b) (Some n) a h e =
 -- ---- the call
 
 module _ (p : Lowered) (space : Space) (call : Activation) (code : Listing) (visible : Visible) (task : Task) (rest : List Task) (r : Ready p space call code visible task rest) where
-  -- what an instruction of GetArrayLength has
-  record IsLength (c : Callee) (f : JniFunction) (args : List Actual) : Type 0 where
+  -- what an instruction that calls GetArrayLength has
+  record IsLength (c : Call) (f : JniFunction) (args : List Actual) : Type 0 where
     is : f ≡ GetArrayLength
     name : Identifier
     reference : Reference
     arguments : args ≡ ReferenceActual name (as_static reference) ∷ []
-    agrees : ReferenceAgrees space (operand_at call.references.items (length_operand c)) reference
+    agrees : ReferenceAgrees space (operand_at call.references.items (first_operand c.operands)) reference
     stack : call.stack ≡ []
 
-  with_operand : (operand : ReferenceOperand) (f : JniFunction) (args : List Actual) (a : Actual) → call.stack ≡ [] → f ≡ GetArrayLength → args ≡ a ∷ [] → OperandAgrees space call.references.items operand a → IsLength (callee.GetArrayLength operand) f args
-  with_operand operand f args a empty is one o =
-      record { is = is; name = o.name; reference = o.reference; arguments = one ∙ ap (λ (x : Actual). x ∷ []) o.is; agrees = o.agrees; stack = empty }
+  built_is : (f : JniFunction) → is_built_function f ≡ true → f ≡ GetArrayLength
+  built_is GetArrayLength h = refl
+  built_is f h = absurd (cc)
 
-  is_length : (c : Callee) (f : JniFunction) (args : List Actual) → IsCallee code r.known call.place call.stack (slots_of call r.references) visible c f args → IsLength c f args
-  is_length (callee.GetArrayLength operand) f args h = with_operand operand f args h.2.0 h.0 h.1 h.2.1 (operand_agrees p space call code visible task rest r operand h.2.0 h.2.2)
+  with_operands : (c : Call) (f : JniFunction) (args : List Actual) (operands : List Operand) → c.operands ≡ operands → call.stack ≡ [] → f ≡ GetArrayLength → length args ≡ 1
+      → AllZip (IsOperand code r.known call.place call.stack (slots_of call r.references) visible) operands args → IsLength c f args
+  with_operands c f [] operands same empty is one given = absurd (omega (arith, one))
+  with_operands c f (a ∷ []) [] same empty is one given = absurd given
+  with_operands c f (a ∷ []) (o ∷ operands) same empty is one given =
+      let agrees = operand_agrees p space call code visible task rest r o a given.0 in
+      record {
+        is = is;
+        name = agrees.name;
+        reference = agrees.reference;
+        arguments = ap (λ (x : Actual). x ∷ []) agrees.is;
+        agrees = subst (λ (more : List Operand). ReferenceAgrees space (operand_at call.references.items (first_operand more)) agrees.reference) (sym same) agrees.agrees;
+        stack = empty;
+      }
+  with_operands c f (a ∷ b ∷ args) operands same empty is one given = absurd (omega (arith, one))
+
+  is_length : (line : ℕ) (target : Target) (f : JniFunction) (args : List Actual) (h : CallsFunction code r.known call.place call.stack (slots_of call r.references) visible line target f args rest) → IsLength h.call f args
+  is_length line target f args h =
+      let is = built_is f h.built in
+      with_operands h.call f args h.call.operands refl h.empty is (h.count ∙ ap (λ (g : JniFunction). length (prototype g).parameters) is) h.given
 
   -- at an instruction that is a call
   module _ (i : Instr) (at : slice_get code.instrs call.place ≡ Some i) (function : Call) (is : i ≡ instr.Call function) where
-    given : (line : ℕ) (target : Target) (f : JniFunction) (args : List Actual) → CallsFunction code r.known call.place call.stack (slots_of call r.references) visible line target f args rest → IsLength function.function f args
+    given : (line : ℕ) (target : Target) (f : JniFunction) (args : List Actual) → CallsFunction code r.known call.place call.stack (slots_of call r.references) visible line target f args rest → IsLength function f args
     given line target f args h =
         let same : h.call ≡ function = let e : instr.Call h.call ≡ instr.Call function = cc (at, h.at, is) in cc in
-        is_length function.function f args (subst (λ (c : Call). IsCallee code r.known call.place call.stack (slots_of call r.references) visible c.function f args) same h.function)
+        subst (λ (c : Call). IsLength c f args) same (is_length line target f args h)
+
+    -- the function is one that can be called
+    pub built_there : is_built_function function.function ≡ true
+    built_there =
+        call_cases p space call code visible task rest r i at function is (λ e. is_built_function function.function ≡ true)
+        (λ line target f args h.
+        let same : h.call ≡ function = let e : instr.Call h.call ≡ instr.Call function = cc (at, h.at, is) in cc in
+        ap (λ (c : Call). is_built_function c.function) (sym same) ∙ ap is_built_function h.same_function ∙ h.built)
 
     -- the operand is the address of a block
-    pub object_there : (a : ℕ) → operand_at call.references.items (length_operand function.function) ≡ Some a → IsAddress space a
+    pub object_there : (a : ℕ) → operand_at call.references.items (first_operand function.operands) ≡ Some a → IsAddress space a
     object_there a e =
         call_cases p space call code visible task rest r i at function is (λ e. IsAddress space a)
-        (λ line target f args h. let l = given line target f args h in is_address space (operand_at call.references.items (length_operand function.function)) l.reference a l.agrees e)
+        (λ line target f args h. let l = given line target f args h in is_address space (operand_at call.references.items (first_operand function.operands)) l.reference a l.agrees e)
 
     -- the slot of the result is there
-    pub slot_there : target_slot function.target < length call.numbers.items
+    pub slot_there : HasTarget call.numbers.items function.target
     slot_there =
-        call_cases p space call code visible task rest r i at function is (λ e. target_slot function.target < length call.numbers.items)
+        call_cases p space call code visible task rest r i at function is (λ e. HasTarget call.numbers.items function.target)
         (λ line target f args h.
         let same : h.call ≡ function = let e : instr.Call h.call ≡ instr.Call function = cc (at, h.at, is) in cc in
         within function.target target (subst (λ (c : Call). TakesResult code r.known call.place call.stack (slots_of call r.references) visible c.target target rest) same h.goes))
       where
-        within : (d : Destination) (target : Target) → TakesResult code r.known call.place call.stack (slots_of call r.references) visible d target rest → target_slot d < length call.numbers.items
+        within : (d : Destination) (target : Target) → TakesResult code r.known call.place call.stack (slots_of call r.references) visible d target rest → HasTarget call.numbers.items d
+        within destination.Dropped target h = tt
         within (destination.Number j) (Declared ScalarKind x) h = h.within
         within (destination.Number j) (Declared ReferenceKind x) h = absurd h
         within (destination.Number j) (Declared FieldKind x) h = absurd h
         within (destination.Number j) (Declared (BufferKind T) x) h = absurd h
         within (destination.Number j) (Assigned x) h = h.0.within
         within (destination.Number j) (Tested a b) h = absurd h
-        within (destination.Number j) Dropped h = h.within
+        within (destination.Number j) Dropped h = absurd h
 
 module _ (p : Lowered) (classes : Classes) (space : Space) (lent : BuffersInUse) (k : ℕ) (shared : Shared) (s : source.Thread) (call : Activation) (code : Listing) (task : Task) (rest : List Task) (r : Ready p space call code (visible_to shared s) task rest) where
   abbrev seen : Visible
@@ -187,24 +218,24 @@ module _ (p : Lowered) (classes : Classes) (space : Space) (lent : BuffersInUse)
     }
 
     -- a length is stored in its slot
-    stores_length : (line : ℕ) (target : Target) (x : Identifier) (n a m j : ℕ) (after : Activation) (e : Event) (variables : Variables) (names : Known) → s.pending ≡ None → call.stack ≡ [] → IsObject space shared.heap a n → HasArrayClass classes space a
-        → m ≡ length (values_at space a) → HasWord call j m after → e ≡ event.Quiet
+    stores_length : (line : ℕ) (target : Target) (x : Identifier) (n a m : ℕ) (d : Destination) (after : Activation) (e : Event) (variables : Variables) (names : Known) → s.pending ≡ None → call.stack ≡ [] → IsObject space shared.heap a n → HasArrayClass classes space a
+        → m ≡ length (values_at space a) → HasWord call d m after → e ≡ event.Quiet
         → put target (length_result shared.heap n) shared (record s { tasks = Some (tasks_after line target (is_zero (length_result shared.heap n)) ++ rest) }) ≡ source.Advances shared (record s { tasks = Some rest; variables = variables }) source.Quiet
         → StandsFor code names (call.place + 1) [] rest
-        → Shows code names (visible_to shared (record s { tasks = Some rest; variables = variables })) (record { numbers = slice_set call.numbers.items j (length (values_of shared.heap n)); references = r.references })
+        → Shows code names (visible_to shared (record s { tasks = Some rest; variables = variables })) (record { numbers = with_result call.numbers.items d (length (values_of shared.heap n)); references = r.references })
         → GoesOn p classes space lent k shared s rest after (Calls line target GetArrayLength (ReferenceActual x (as_static (Some n)) ∷ [])) e
-    stores_length line target x n a m j after e variables names none empty object array long word quiet goes stands shows =
+    stores_length line target x n a m d after e variables names none empty object array long word quiet goes stands shows =
         let size : m ≡ length (values_of shared.heap n) = long ∙ object.count in
         let class : array.0 ≡ class_of shared.heap n = let same : Some array.0 ≡ Some (class_of shared.heap n) = sym array.1 ∙ object.class in cc in
         let kind : is_plain (class_kind classes (class_of shared.heap n)) ≡ false = ap (λ (c : ℕ). is_plain (class_kind classes c)) (sym class) ∙ array.2 in
         let next : source.Thread = record s { tasks = Some rest; variables = variables } in
-        let moved : HasMoved call after (call.place + 1) [] (slice_set call.numbers.items j (length (values_of shared.heap n))) call.references.items =
-        record { function = word.0; place = word.1; stack = word.2 ∙ empty; numbers = word.3 ∙ ap (slice_set call.numbers.items j) size; references = ap (λ v. v.items) word.4 } in
+        let moved : HasMoved call after (call.place + 1) [] (with_result call.numbers.items d (length (values_of shared.heap n))) call.references.items =
+        record { function = word.0; place = word.1; stack = word.2 ∙ empty; numbers = word.3 ∙ ap (with_result call.numbers.items d) size; references = ap (λ v. v.items) word.4 } in
         let deep : depth_after i (length call.stack) ≡ Some 0 = ap (λ (o : Instr). depth_after o (length call.stack)) is ∙ ap (λ (st : List ℕ). Some (length st)) empty in
         record {
           next = next;
           steps = length_of_array classes shared s target x none lent k line rest n kind ∙ goes ∙ ap (λ (v : Event). source.Advances shared next (event_view v)) (sym quiet);
-          work = stands_at p space call code seen task rest r after (call.place + 1) [] (slice_set call.numbers.items j (length (values_of shared.heap n))) call.references.items r.references names (visible_to shared next) rest
+          work = stands_at p space call code seen task rest r after (call.place + 1) [] (with_result call.numbers.items d (length (values_of shared.heap n))) call.references.items r.references names (visible_to shared next) rest
               (depth_behind p space call code seen task rest r i at 0 (λ leaves. subst Leaves is leaves) deep) moved r.agree stands shows;
           calls = refl;
           pending = refl;
@@ -219,31 +250,38 @@ module _ (p : Lowered) (classes : Classes) (space : Space) (lent : BuffersInUse)
     length_goes : (line : ℕ) (target : Target) (x : Identifier) (n a m : ℕ) (after : Activation) (e : Event) (d : Destination) → s.pending ≡ None → call.stack ≡ []
         → TakesResult code r.known call.place call.stack (slots_of call r.references) seen d target rest
         → IsObject space shared.heap a n → HasArrayClass classes space a → m ≡ length (values_at space a) → m < 2 ^ 31
-        → HasWord call (target_slot d) m after → e ≡ event.Quiet
+        → HasWord call d m after → e ≡ event.Quiet
         → GoesOn p classes space lent k shared s rest after (Calls line target GetArrayLength (ReferenceActual x (as_static (Some n)) ∷ [])) e
     length_goes line (Declared ScalarKind y) x n a m after e (destination.Number j) none empty goes object array long small word quiet =
         let v : Value = Int (pos (length (values_of shared.heap n))) in
         let next : source.Thread = record s { tasks = Some rest; variables = assign y (Scalar v) s.variables } in
-        stores_length line (Declared ScalarKind y) x n a m j after e (assign y (Scalar v) s.variables) goes.names none empty object array long word quiet refl goes.stands
+        stores_length line (Declared ScalarKind y) x n a m (destination.Number j) after e (assign y (Scalar v) s.variables) goes.names none empty object array long word quiet refl goes.stands
         (goes.shows (pos (length (values_of shared.heap n))) (visible_to shared next) (length_fits n a m object long small) (is_set shared s next y v refl))
     length_goes line (Assigned y) x n a m after e (destination.Number j) none empty (goes, (old, number)) object array long small word quiet =
         let v : Value = Int (pos (length (values_of shared.heap n))) in
         let next : source.Thread = record s { tasks = Some rest; variables = assign y (Scalar v) s.variables } in
-        stores_length line (Assigned y) x n a m j after e (assign y (Scalar v) s.variables) goes.names none empty object array long word quiet
+        stores_length line (Assigned y) x n a m (destination.Number j) after e (assign y (Scalar v) s.variables) goes.names none empty object array long word quiet
         (ap (put_assigned y (length_result shared.heap n) shared (record s { tasks = Some rest })) (scalar_of (lookup y s.variables) old number)) goes.stands
         (goes.shows (pos (length (values_of shared.heap n))) (visible_to shared next) (length_fits n a m object long small) (is_set shared s next y v refl))
-    length_goes line Dropped x n a m after e (destination.Number j) none empty goes object array long small word quiet =
-        stores_length line Dropped x n a m j after e s.variables r.known none empty object array long word quiet refl goes.stands (goes.shows (length (values_of shared.heap n)))
+    length_goes line Dropped x n a m after e destination.Dropped none empty goes object array long small word quiet =
+        stores_length line Dropped x n a m destination.Dropped after e s.variables r.known none empty object array long word quiet refl goes r.shows
+    length_goes line Dropped x n a m after e (destination.Number j) none empty goes object array long small word quiet = absurd goes
+    length_goes line (Declared ScalarKind y) x n a m after e destination.Dropped none empty goes object array long small word quiet = absurd goes
+    length_goes line (Assigned y) x n a m after e destination.Dropped none empty goes object array long small word quiet = absurd goes
+    length_goes line (Declared ReferenceKind y) x n a m after e destination.Dropped none empty goes object array long small word quiet = absurd goes
     length_goes line (Declared ReferenceKind y) x n a m after e (destination.Number j) none empty goes object array long small word quiet = absurd goes
+    length_goes line (Declared FieldKind y) x n a m after e destination.Dropped none empty goes object array long small word quiet = absurd goes
     length_goes line (Declared FieldKind y) x n a m after e (destination.Number j) none empty goes object array long small word quiet = absurd goes
+    length_goes line (Declared (BufferKind T) y) x n a m after e destination.Dropped none empty goes object array long small word quiet = absurd goes
     length_goes line (Declared (BufferKind T) y) x n a m after e (destination.Number j) none empty goes object array long small word quiet = absurd goes
+    length_goes line (Tested t f) x n a m after e destination.Dropped none empty goes object array long small word quiet = absurd goes
     length_goes line (Tested t f) x n a m after e (destination.Number j) none empty goes object array long small word quiet = absurd goes
 
     -- by what the operand is
     by_operand : (line : ℕ) (target : Target) (x : Identifier) (o : Option ℕ) (q : Reference) (answer : Result ℕ Trap) (after : Activation) (e : Event) → s.tasks ≡ Some (task ∷ rest) → s.pending ≡ None → CallStands p space call seen (task ∷ rest)
         → BlocksAgree space shared.heap space.blocks → call.stack ≡ [] → function.line ≡ line
         → TakesResult code r.known call.place call.stack (slots_of call r.references) seen function.target target rest
-        → ReferenceAgrees space o q → LengthIs classes space o answer → DidCall function.line (target_slot function.target) call after answer e
+        → ReferenceAgrees space o q → LengthIs classes space o answer → DidCall function.line function.target call after answer e
         → GoesOn p classes space lent k shared s rest after (Calls line target GetArrayLength (ReferenceActual x (as_static q) ∷ [])) e
     by_operand line target x None None (Ok m) after e tasks none stands blocks empty same goes agrees length did = absurd length
     by_operand line target x None None (Err t) after e tasks none stands blocks empty same goes agrees length did =
@@ -273,4 +311,4 @@ module _ (p : Lowered) (classes : Classes) (space : Space) (lent : BuffersInUse)
         let lines : function.line ≡ line = ap (λ (c : Call). c.line) (sym same) ∙ h.same_line in
         subst (λ (g : JniFunction). GoesOn p classes space lent k shared s rest after (Calls line target g args) e) (sym l.is)
         (subst (λ (more : List Actual). GoesOn p classes space lent k shared s rest after (Calls line target GetArrayLength more) e) (sym l.arguments)
-        (by_operand line target l.name (operand_at call.references.items (length_operand function.function)) l.reference did.0 after e tasks none stands blocks l.stack lines goes l.agrees did.1 did.2)))
+        (by_operand line target l.name (operand_at call.references.items (first_operand function.operands)) l.reference did.0 after e tasks none stands blocks l.stack lines goes l.agrees did.1.1 did.2)))

@@ -1,28 +1,31 @@
 //! Calls of the functions of the JNI (JNI Specification, chapter 4).
 
-ghost use Rattle.std.specs.Prelude.{◌≡◌, ℕ, ◌<◌, ◌+◌, Some, None, length, slice_get, IfErr};
+ghost use Rattle.std.specs.Prelude.{◌≡◌, true, ℕ, ◌<◌, ◌+◌, Some, None, length, slice_get, IfErr};
+ghost use Rattle.code.specs.Call.{call_view};
+ghost use Rattle.jni.specs.JniFunction.{GetArrayLength};
+ghost use Rattle.jni.specs.BuiltFunctions.{is_built_function};
 ghost use Rattle.heap.specs.Heap.{IsAddress};
 ghost use Rattle.world.specs.SceneWorld.{world_of_scene};
-ghost use Rattle.machine.specs.Invoked.{operand_at, target_slot, LengthIs, Invoked, length_operand};
+ghost use Rattle.machine.specs.Invoked.{operand_at, first_operand, HasTarget, with_result, LengthIs, Invoked};
 
 use crate::stop::Trap;
 use crate::thread::{Activation, Event};
-use code::instr::{Call, Callee, ReferenceOperand, Target};
+use code::instr::{Call, Operand, Target};
 use heap::{Addr, Heap};
+use jni::JniFunction;
 use world::World;
 
 /// The instruction that calls a function.
-pub fn invoke(world: &World, heap: &Heap, call: &mut Activation, function: Call) -> Event
-    requires object { (a : ℕ) → operand_at call.old.references.items (length_operand function.function) ≡ Some a → IsAddress heap.now a }
-    requires slot { target_slot function.target < length call.old.numbers.items }
+pub fn invoke(world: &World, heap: &Heap, call: &mut Activation, function: &Call) -> Event
+    requires object { (a : ℕ) → operand_at call.old.references.items (first_operand (call_view function.now).operands) ≡ Some a → IsAddress heap.now a }
+    requires built { is_built_function (call_view function.now).function ≡ true }
+    requires slot { HasTarget call.old.numbers.items function.now.target }
     requires place { call.old.place + 1 < 18446744073709551616 }
-    ensures { Invoked (world_of_scene world.now).classes heap.now call.old function call.new result }
+    ensures { Invoked (world_of_scene world.now).classes heap.now call.old (call_view function.now) call.new result }
 {
-    let Callee::GetArrayLength(operand) = function.function;
-    match array_length(world, heap, reference_in(&call.references, operand)) {
-        Ok(length) => {
-            let Target::Number(slot) = function.target;
-            call.numbers[slot as usize] = length;
+    match answer(world, heap, &call.references, function) {
+        Ok(word) => {
+            put(&mut call.numbers, function.target, word);
             call.place += 1;
             Event::Quiet
         }
@@ -30,13 +33,51 @@ pub fn invoke(world: &World, heap: &Heap, call: &mut Activation, function: Call)
     }
 }
 
+/// What a function gives.
+fn answer(
+    world: &World,
+    heap: &Heap,
+    references: &[Option<Addr>],
+    function: &Call,
+) -> Result<u32, Trap>
+    requires object { (a : ℕ) → operand_at references.now (first_operand (call_view function.now).operands) ≡ Some a → IsAddress heap.now a }
+    requires built { is_built_function (call_view function.now).function ≡ true }
+    ensures { ((call_view function.now).function ≡ GetArrayLength) × LengthIs (world_of_scene world.now).classes heap.now (operand_at references.now (first_operand (call_view function.now).operands)) result }
+{
+    let first = first_operand(&function.operands);
+    match function.function {
+        JniFunction::GetArrayLength => {
+            array_length(world, heap, reference_in(references, first))
+        }
+        _ => unreachable!(),
+    }
+}
+
+/// The first operand of a call.
+fn first_operand(operands: &[Operand]) -> Operand
+    ensures { result ≡ first_operand operands.now }
+{
+    operands.first().copied().unwrap_or(Operand::Null)
+}
+
+/// Puts a word where a call's result goes.
+fn put(numbers: &mut [u32], target: Target, word: u32)
+    requires { HasTarget numbers.old target }
+    ensures { numbers.new ≡ with_result numbers.old target word }
+{
+    match target {
+        Target::Dropped => {}
+        Target::Number(slot) => numbers[slot as usize] = word,
+    }
+}
+
 /// The reference that a function is given.
-fn reference_in(references: &[Option<Addr>], operand: ReferenceOperand) -> Option<Addr>
+fn reference_in(references: &[Option<Addr>], operand: Operand) -> Option<Addr>
     ensures { result ≡ operand_at references.now operand }
 {
     match operand {
-        ReferenceOperand::Null => None,
-        ReferenceOperand::Local(slot) => references.get(slot as usize).copied().unwrap_or(None),
+        Operand::Null | Operand::Static(_) => None,
+        Operand::Local(slot) => references.get(slot as usize).copied().unwrap_or(None),
     }
 }
 

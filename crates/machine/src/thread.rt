@@ -167,7 +167,7 @@ fn execute(program: &Program<'_>, world: &World, heap: &Heap, call: &mut Activat
             call.place += 1;
             Executed::Did(Event::Printed(word.cast_signed()))
         }
-        Instr::Call(boxed) => Executed::Did(invoke(world, heap, call, *boxed.call())),
+        Instr::Call(boxed) => Executed::Did(invoke(world, heap, call, boxed.call())),
         Instr::Return | Instr::ReturnJint | Instr::ReturnReference(_) => Executed::Returned,
         _ => match plain(instr, &mut call.stack, &mut call.numbers) {
             Plain::Next => {

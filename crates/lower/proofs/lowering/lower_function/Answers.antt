@@ -14,9 +14,9 @@ use Rattle.lower.proofs.Functions.{listing_of, function_valid, is_code_of}
 use Rattle.lower.proofs.lowering.lower_function.Goals as goal
 
 -- what is emitted is the code of the function, with its slots
-listed : (statics : Known) (f : Function) (names after : Layout) (old a b : List Instr) (counts taken : SlotCounts) → names ≡ entry_layout statics f → old ≡ [] → a ≡ old ++ block_code names f.body → b ≡ a ++ instr.Return ∷ []
-    → after ≡ closed names (block_layout names f.body) → counts ≡ after.slots → taken ≡ record counts { numbers = counts.numbers + 1 } → listing_of statics f ≡ record { instrs = b; slots = taken }
-listed statics f names after old a b counts taken en eo ea eb el ec et = rw (et, ec, el, eb, ea, eo, en) refl
+listed : (statics : Known) (f : Function) (names after : Layout) (old a b : List Instr) (counts : SlotCounts) → names ≡ entry_layout statics f → old ≡ [] → a ≡ old ++ block_code names f.body → b ≡ a ++ instr.Return ∷ []
+    → after ≡ closed names (block_layout names f.body) → counts ≡ after.slots → listing_of statics f ≡ record { instrs = b; slots = counts }
+listed statics f names after old a b counts en eo ea eb el ec = rw (ec, el, eb, ea, eo, en) refl
 
 -- code with these parts
 same_listing : (code : Listing) (instrs : List Instr) (slots : SlotCounts) → code.instrs ≡ instrs → code.slots ≡ slots → record { instrs = instrs; slots = slots } ≡ code
@@ -26,7 +26,7 @@ pub unreachable-requires : goal.unreachable-requires
 unreachable-requires c =
     let statics = known_behind c.args.statics.now [] in
     let f = function_tree c.args.function.now in
-    let is = listed statics f _ _ _ _ _ _ _ c.in_ok-names.ensures c.new-instrs.ensures.items c.in_ok-emit_block.ensures.code c.in_ok-emit.ensures c.in_ok-emit_block.ensures.names c.slots.ensures c.in_ok-with_spare.ensures in
+    let is = listed statics f _ _ _ _ _ _ c.in_ok-names.ensures c.new-instrs.ensures.items c.in_ok-emit_block.ensures.code c.in_ok-emit.ensures c.in_ok-emit_block.ensures.names c.slots.ensures in
     (rw c.in-None.is at c.in_ok-code.ensures.refused) (subst IsValid is (function_valid statics f c.requires.statics c.requires.fits))
 
 -- what is emitted before the last instruction has one instruction for each step
@@ -40,7 +40,7 @@ pub returns-clause-ok : goal.returns-clause-ok
 returns-clause-ok c =
     let statics = known_behind c.args.statics.now [] in
     let f = function_tree c.args.function.now in
-    let is = listed statics f _ _ _ _ _ _ _ c.in_ok-names.ensures c.new-instrs.ensures.items c.in_ok-emit_block.ensures.code c.in_ok-emit.ensures c.in_ok-emit_block.ensures.names c.slots.ensures c.in_ok-with_spare.ensures in
+    let is = listed statics f _ _ _ _ _ _ c.in_ok-names.ensures c.new-instrs.ensures.items c.in_ok-emit_block.ensures.code c.in_ok-emit.ensures c.in_ok-emit_block.ensures.names c.slots.ensures in
     let given : listing_of statics f ≡ c.in-Some.code = is ∙ same_listing c.in-Some.code _ _ (rw c.in-Some.is at c.in_ok-code.ensures.instrs) (rw c.in-Some.is at c.in_ok-code.ensures.slots) in
     let steps = steps_emitted statics f _ _ _ c.requires.counted c.in_ok-names.ensures c.new-instrs.ensures.items c.in_ok-emit_block.ensures.code in
     let few : function_steps f ≤ step_limit = omega (arith, c.len.ensures, c.if-len-gt-MOST_STEPS.false, c.emit_block.new.code.ok, steps) in

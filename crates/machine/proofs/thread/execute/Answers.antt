@@ -7,7 +7,7 @@ use Rattle.std.specs.Vec.{with_items}
 use Rattle.std.proofs.Math.Facts.{to_z-of_z}
 use Rattle.std.proofs.lemmas.List.{with_items_is, places}
 use Rattle.heap.specs.Heap.{Space}
-use Rattle.code.specs.declared.instr.Call.{Call}
+use Rattle.code.specs.Call.{Call, call_view}
 use Rattle.code.specs.declared.instr.Instr.{Instr}
 use Rattle.code.specs.declared.instr.Instr.TheVariants as instr
 use Rattle.code.specs.declared.instr.Plain.{Plain}
@@ -29,7 +29,7 @@ use Rattle.machine.specs.Agrees.{CallStands, Executes}
 use Rattle.machine.specs.Variables.{is_null, HasSlot, with_null}
 use Rattle.machine.proofs.Calls.{Ready, ready, here, room, is_there, positive}
 use Rattle.machine.proofs.Effects.{Answer, few_words, slot_there as variable_there, plain_executes, test_executes, store_executes, put_executes, return_executes}
-use Rattle.machine.proofs.Invocations.{object_there, call_executes}
+use Rattle.machine.proofs.Invocations.{built_there, object_there, call_executes}
 use Rattle.machine.proofs.thread.execute.Goals as goal
 use Rattle.machine.proofs.thread.execute.Goals.{After-unwrap-instr}
 
@@ -81,11 +81,17 @@ pop-word-requires c =
     let f = fetched (goal.at.pop-word-requires c).After-unwrap-instr in
     positive (length c.args.call.now.stack) (room _ _ _ f.code s.0 s.1 s.2 (ready_for _ c.args.heap.now _ _ f s.0 s.1 s.2 s.3) instr.PutJint (f.at ∙ ap (λ i. Some i) c.in-PutJint.is))
 
+pub invoke-requires-clause-built : goal.invoke-requires-clause-built
+invoke-requires-clause-built c =
+    let s = c.requires.stands in
+    let f = fetched (goal.at.invoke-requires-clause-built c).After-unwrap-instr in
+    built_there c.args.program.now c.args.heap.now c.args.call.now f.code s.0 s.1 s.2 (ready_for _ c.args.heap.now _ _ f s.0 s.1 s.2 s.3) c.unwrap-instr.result.now f.at (call_view c.call.result.now) (c.in-Call.is ∙ ap (λ (x : Call). instr.Call x) (sym c.call.ensures))
+
 pub invoke-requires-clause-object : goal.invoke-requires-clause-object
 invoke-requires-clause-object c =
     let s = c.requires.stands in
     let f = fetched (goal.at.invoke-requires-clause-object c).After-unwrap-instr in
-    object_there c.args.program.now c.args.heap.now c.args.call.now f.code s.0 s.1 s.2 (ready_for _ c.args.heap.now _ _ f s.0 s.1 s.2 s.3) c.unwrap-instr.result.now f.at c.call.result.now (c.in-Call.is ∙ ap (λ (x : Call). instr.Call x) (sym c.call.ensures))
+    object_there c.args.program.now c.args.heap.now c.args.call.now f.code s.0 s.1 s.2 (ready_for _ c.args.heap.now _ _ f s.0 s.1 s.2 s.3) c.unwrap-instr.result.now f.at (call_view c.call.result.now) (c.in-Call.is ∙ ap (λ (x : Call). instr.Call x) (sym c.call.ensures))
 
 pub returns-in-TestNull : goal.returns-in-TestNull
 returns-in-TestNull c lent k shared s task rest tasks none statics blocks h =
@@ -134,7 +140,7 @@ pub returns-in-Call : goal.returns-in-Call
 returns-in-Call c lent k shared s task rest tasks none statics blocks h =
     let f = fetched (goal.at.returns-in-Call c).After-unwrap-instr in
     let classes = (world_of_scene c.args.world.now).classes in
-    call_executes c.args.program.now classes c.args.heap.now lent k shared s c.args.call.now f.code task rest (ready_for _ c.args.heap.now _ _ f (visible_to shared s) task rest h) c.unwrap-instr.result.now f.at c.call.result.now (c.in-Call.is ∙ ap (λ (x : Call). instr.Call x) (sym c.call.ensures))
+    call_executes c.args.program.now classes c.args.heap.now lent k shared s c.args.call.now f.code task rest (ready_for _ c.args.heap.now _ _ f (visible_to shared s) task rest h) c.unwrap-instr.result.now f.at (call_view c.call.result.now) (c.in-Call.is ∙ ap (λ (x : Call). instr.Call x) (sym c.call.ensures))
     c.invoke.new.call c.invoke.result tasks none h blocks c.invoke.ensures
 
 pub returns-in-Return : goal.returns-in-Return
