@@ -178,7 +178,7 @@ fn truths_decide_jumps(rt: HostRuntime) {
         stack.push(9);
         stack.push(truth);
         let got = plain(&instr, &mut stack, &mut []);
-        assert!(rt; (got, stack.pop()) == (way, top), "{instr:?} {truth}");
+        assert!(rt; (got, stack.pop()) == (way, top), "{way:?} {truth}");
     }
 }
 
