@@ -17,6 +17,7 @@ pub mod Changes
 pub mod Elements
 pub mod NullLaws
 pub mod Effects
+pub mod ObjectsAtAddresses
 pub mod Invocations
 pub mod RowTexts
 pub mod BlockRows

@@ -1,18 +1,33 @@
 -- What an instruction that calls a function of the JNI does.
-use Rattle.std.specs.Prelude.{◌≡◌, ℕ, ◌+◌, ◌<◌, ◌^◌, true, false, List, [], ◌∷◌, length, slice_get, slice_set, Option, Some, None, Result, Ok, Err}
-use Rattle.classes.specs.Class.{Classes, class_kind, is_plain}
-use Rattle.jni.specs.JniFunction.{GetArrayLength}
+use Rattle.std.specs.Prelude.{◌≡◌, ℕ, ◌+◌, ◌<◌, List, [], ◌∷◌, length, slice_get, slice_set, Option, Some, None, Result, Ok, Err, FitsSigned}
+use Rattle.std.specs.Int.{w32}
+use Rattle.std.specs.List.{AllZip}
+use Rattle.base.specs.Bytes.{Identifier}
+use Rattle.classes.specs.Class.{Classes}
+use Rattle.jni.specs.Prototype.{prototype}
 use Rattle.code.specs.Call.{Call}
 use Rattle.code.specs.declared.instr.Operand.{Operand}
 use Rattle.code.specs.declared.instr.Operand.TheVariants.{Null, Local, Static}
 use Rattle.code.specs.declared.instr.Target.{Target}
 use Rattle.code.specs.declared.instr.Target.TheVariants.{Dropped, Number}
-use Rattle.heap.specs.Heap.{Space, class_at, values_at}
+use Rattle.heap.specs.Heap.{Space, IsAddress}
+use Rattle.source.specs.Arguments.{Actual, ReferenceActual}
+use Rattle.source.specs.CallEffects.{ScalarResult, CallEffect, Leaves, Halts}
+use Rattle.source.specs.CallStep.{effect_of_call}
+use Rattle.source.specs.Object.{Reference}
+use Rattle.source.specs.Task as source
+use Rattle.source.specs.Thread.{BuffersInUse, Shared, Thread}
+use Rattle.source.specs.Value.{Int}
+use Rattle.source.specs.Variable.{as_static}
+use Rattle.lower.specs.Slots.{word_of}
 use Rattle.machine.specs.declared.stop.Trap.{Trap}
-use Rattle.machine.specs.declared.stop.Trap.TheVariants.{NullReference, WrongObject}
 use Rattle.machine.specs.declared.thread.Activation.{Activation}
 use Rattle.machine.specs.declared.thread.Event.{Event}
 use Rattle.machine.specs.declared.thread.Event.TheVariants.{Quiet, Trapped}
+use Rattle.machine.specs.HeapAgrees.{ReferenceAgrees, BlocksAgree}
+use Rattle.machine.specs.Stops.{trap_view}
+
+-- ---- arguments
 
 -- what a slot holds; NULL where there is none
 abbrev pub held_in : Option (Option ℕ) → Option ℕ
@@ -25,10 +40,37 @@ operand_at references Null = None
 operand_at references (Local i) = held_in (slice_get references i)
 operand_at references (Static i) = None
 
--- the first operand of a call, and NULL where there is none
-abbrev pub first_operand : List Operand → Operand
-first_operand [] = Null
-first_operand (o ∷ operands) = o
+-- an operand gives what the source's argument is
+pub record IsGiven (space : Space) (references : List (Option ℕ)) (operand : Operand) (actual : Actual) : Type 0 where
+  pub name : Identifier
+  pub reference : Reference
+  pub is : actual ≡ ReferenceActual name (as_static reference)
+  pub agrees : ReferenceAgrees space (operand_at references operand) reference
+
+-- each operand is NULL or the address of a block
+abbrev pub AreAddresses : Space → List (Option ℕ) → List Operand → Type 0
+AreAddresses space references [] = Unit {0}
+AreAddresses space references (o ∷ operands) = ((a : ℕ) → operand_at references o ≡ Some a → IsAddress space a) × AreAddresses space references operands
+
+-- ---- answers
+
+-- a number, with nothing else changed, or the trap that stops the machine
+abbrev pub IsAnswer : Shared → Thread → CallEffect → Result ℕ Trap → Type 0
+IsAnswer s t (Halts trap) (Err u) = trap_view u ≡ trap
+IsAnswer s t (Leaves [] s' t' (ScalarResult (Int z))) (Ok word) = (s' ≡ s) × (t' ≡ t) × (word ≡ word_of (Int z)) × FitsSigned w32 z
+IsAnswer s t effect answer = ⊥
+
+-- The answer is the effect of the source's call, in each state that the heap and the operands stand for.
+abbrev pub Answers : Classes → Space → (references : List (Option ℕ)) → Call → Result ℕ Trap → Type 0
+Answers classes space references function answer =
+    (lent : BuffersInUse) (k line : ℕ) (s : Shared) (t : Thread) (target : source.Target) (args : List Actual) (rest : List source.Task)
+    → t.pending ≡ None
+    → BlocksAgree space s.heap space.blocks
+    → length args ≡ length (prototype function.function).parameters
+    → AllZip (IsGiven space references) function.operands args
+    → IsAnswer s t (effect_of_call classes lent k s t line target function.function args rest) answer
+
+-- ---- results
 
 -- the slot of the result is there
 abbrev pub HasTarget : List ℕ → Target → Type 0
@@ -39,20 +81,6 @@ HasTarget numbers (Number i) = i < length numbers
 abbrev pub with_result : List ℕ → Target → (word : ℕ) → List ℕ
 with_result numbers Dropped word = numbers
 with_result numbers (Number i) word = slice_set numbers i word
-
--- the object at an address has a class that is one of arrays, or isn't
-abbrev pub HasPlainClass : Classes → Space → ℕ → Type 0
-HasPlainClass classes space a = (c : ℕ) × (class_at space a ≡ Some c) × (is_plain (class_kind classes c) ≡ true)
-
-abbrev pub HasArrayClass : Classes → Space → ℕ → Type 0
-HasArrayClass classes space a = (c : ℕ) × (class_at space a ≡ Some c) × (is_plain (class_kind classes c) ≡ false)
-
--- the length of the array at an address, or why there is none
-abbrev pub LengthIs : Classes → Space → Option ℕ → Result ℕ Trap → Type 0
-LengthIs classes space None (Ok n) = ⊥
-LengthIs classes space None (Err trap) = trap ≡ NullReference
-LengthIs classes space (Some a) (Ok n) = HasArrayClass classes space a × (n ≡ length (values_at space a)) × (n < 2 ^ 31)
-LengthIs classes space (Some a) (Err trap) = HasPlainClass classes space a × (trap ≡ WrongObject)
 
 -- the call goes on after the instruction, with a word where it goes
 abbrev pub HasWord : Activation → Target → ℕ → Activation → Type 0
@@ -65,11 +93,7 @@ abbrev pub DidCall : (line : ℕ) → Target → Activation → Activation → R
 DidCall line target call after (Ok n) event = HasWord call target n after × (event ≡ Quiet)
 DidCall line target call after (Err trap) event = (after ≡ call) × (event ≡ Trapped trap line)
 
--- what a function gives, or why it stops the machine
-abbrev pub Gives : Classes → Space → Activation → Call → Result ℕ Trap → Type 0
-Gives classes space call function r = (function.function ≡ GetArrayLength) × LengthIs classes space (operand_at call.references.items (first_operand function.operands)) r
-
 -- the call of a function
 abbrev pub Invoked : Classes → Space → Activation → Call → Activation → Event → Type 0
 Invoked classes space call function after event =
-    (r : Result ℕ Trap) × Gives classes space call function r × DidCall function.line function.target call after r event
+    (answer : Result ℕ Trap) × Answers classes space call.references.items function answer × DidCall function.line function.target call after answer event

@@ -1,5 +1,6 @@
 pub mod HeapAgrees
 pub mod Entry
+pub mod ArrayLengths
 pub mod Invoked
 pub mod Variables
 pub mod Agrees

@@ -2,11 +2,11 @@
 
 ghost use Rattle.std.specs.Prelude.{◌≡◌, true, ℕ, ◌<◌, ◌+◌, Some, None, length, slice_get, IfErr};
 ghost use Rattle.code.specs.Call.{call_view};
-ghost use Rattle.jni.specs.JniFunction.{GetArrayLength};
 ghost use Rattle.jni.specs.BuiltFunctions.{is_built_function};
 ghost use Rattle.heap.specs.Heap.{IsAddress};
 ghost use Rattle.world.specs.SceneWorld.{world_of_scene};
-ghost use Rattle.machine.specs.Invoked.{operand_at, first_operand, HasTarget, with_result, LengthIs, Invoked};
+ghost use Rattle.machine.specs.Invoked.{operand_at, AreAddresses, Answers, HasTarget, with_result, Invoked};
+ghost use Rattle.machine.specs.ArrayLengths.{first_operand, LengthIs};
 
 use crate::stop::Trap;
 use crate::thread::{Activation, Event};
@@ -17,7 +17,7 @@ use world::World;
 
 /// The instruction that calls a function.
 pub fn invoke(world: &World, heap: &Heap, call: &mut Activation, function: &Call) -> Event
-    requires object { (a : ℕ) → operand_at call.old.references.items (first_operand (call_view function.now).operands) ≡ Some a → IsAddress heap.now a }
+    requires objects { AreAddresses heap.now call.old.references.items (call_view function.now).operands }
     requires built { is_built_function (call_view function.now).function ≡ true }
     requires slot { HasTarget call.old.numbers.items function.now.target }
     requires place { call.old.place + 1 < 18446744073709551616 }
@@ -34,15 +34,16 @@ pub fn invoke(world: &World, heap: &Heap, call: &mut Activation, function: &Call
 }
 
 /// What a function gives.
+
 fn answer(
     world: &World,
     heap: &Heap,
     references: &[Option<Addr>],
     function: &Call,
 ) -> Result<u32, Trap>
-    requires object { (a : ℕ) → operand_at references.now (first_operand (call_view function.now).operands) ≡ Some a → IsAddress heap.now a }
+    requires objects { AreAddresses heap.now references.now (call_view function.now).operands }
     requires built { is_built_function (call_view function.now).function ≡ true }
-    ensures { ((call_view function.now).function ≡ GetArrayLength) × LengthIs (world_of_scene world.now).classes heap.now (operand_at references.now (first_operand (call_view function.now).operands)) result }
+    ensures { Answers (world_of_scene world.now).classes heap.now references.now (call_view function.now) result }
 {
     let first = first_operand(&function.operands);
     match function.function {
@@ -63,7 +64,8 @@ fn first_operand(operands: &[Operand]) -> Operand
 /// Puts a word where a call's result goes.
 fn put(numbers: &mut [u32], target: Target, word: u32)
     requires { HasTarget numbers.old target }
-    ensures { numbers.new ≡ with_result numbers.old target word }
+    ensures put { numbers.new ≡ with_result numbers.old target word }
+    ensures kept { length numbers.new ≡ length numbers.old }
 {
     match target {
         Target::Dropped => {}

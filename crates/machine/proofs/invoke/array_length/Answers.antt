@@ -8,7 +8,7 @@ use Rattle.heap.specs.Heap.{Block, Space, block_end, LieFrom, IsLaidOut, values_
 use Rattle.heap.proofs.Layouts.{begins_within}
 use Rattle.classes.specs.Class.{class_kind, is_plain}
 use Rattle.world.specs.SceneWorld.{world_of_scene}
-use Rattle.machine.specs.Invoked.{LengthIs}
+use Rattle.machine.specs.ArrayLengths.{LengthIs}
 use Rattle.machine.proofs.invoke.array_length.Goals as goal
 
 -- the values of a block

@@ -29,7 +29,7 @@ use Rattle.machine.specs.Agrees.{CallStands, Executes}
 use Rattle.machine.specs.Variables.{is_null, HasSlot, with_null}
 use Rattle.machine.proofs.Calls.{Ready, ready, here, room, is_there, positive}
 use Rattle.machine.proofs.Effects.{Answer, few_words, slot_there as variable_there, plain_executes, test_executes, store_executes, put_executes, return_executes}
-use Rattle.machine.proofs.Invocations.{built_there, object_there, call_executes}
+use Rattle.machine.proofs.Invocations.{built_there, objects_there, call_executes}
 use Rattle.machine.proofs.thread.execute.Goals as goal
 use Rattle.machine.proofs.thread.execute.Goals.{After-unwrap-instr}
 
@@ -87,11 +87,11 @@ invoke-requires-clause-built c =
     let f = fetched (goal.at.invoke-requires-clause-built c).After-unwrap-instr in
     built_there c.args.program.now c.args.heap.now c.args.call.now f.code s.0 s.1 s.2 (ready_for _ c.args.heap.now _ _ f s.0 s.1 s.2 s.3) c.unwrap-instr.result.now f.at (call_view c.call.result.now) (c.in-Call.is ∙ ap (λ (x : Call). instr.Call x) (sym c.call.ensures))
 
-pub invoke-requires-clause-object : goal.invoke-requires-clause-object
-invoke-requires-clause-object c =
+pub invoke-requires-clause-objects : goal.invoke-requires-clause-objects
+invoke-requires-clause-objects c =
     let s = c.requires.stands in
-    let f = fetched (goal.at.invoke-requires-clause-object c).After-unwrap-instr in
-    object_there c.args.program.now c.args.heap.now c.args.call.now f.code s.0 s.1 s.2 (ready_for _ c.args.heap.now _ _ f s.0 s.1 s.2 s.3) c.unwrap-instr.result.now f.at (call_view c.call.result.now) (c.in-Call.is ∙ ap (λ (x : Call). instr.Call x) (sym c.call.ensures))
+    let f = fetched (goal.at.invoke-requires-clause-objects c).After-unwrap-instr in
+    objects_there c.args.program.now c.args.heap.now c.args.call.now f.code s.0 s.1 s.2 (ready_for _ c.args.heap.now _ _ f s.0 s.1 s.2 s.3) c.unwrap-instr.result.now f.at (call_view c.call.result.now) (c.in-Call.is ∙ ap (λ (x : Call). instr.Call x) (sym c.call.ensures))
 
 pub returns-in-TestNull : goal.returns-in-TestNull
 returns-in-TestNull c lent k shared s task rest tasks none statics blocks h =
