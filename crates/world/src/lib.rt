@@ -7,8 +7,8 @@ mod world_text;
 
 pub use object::{Object, ObjectValue};
 pub use report::{
-    ClassName, NoRows, Rows, Shown, Sink, SinkFailed, StdSink, ThreadStatus, put_all, put_pieces,
-    put_row_end, put_row_head, put_value, write_journal, write_report, write_run,
+    NoRows, Rows, Shown, Sink, SinkFailed, StdSink, ThreadStatus, put_all, put_pieces, put_row_end,
+    put_row_head, put_value, write_journal, write_report, write_run,
 };
 pub use source::{Entry, Printed, ScheduleWord};
 pub use texts::{
