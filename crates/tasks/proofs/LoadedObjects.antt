@@ -1,27 +1,24 @@
--- The objects that are made at load: their classes and sizes.
-use Rattle.std.proofs.Common.{◌≡◌, ℕ, zero, suc, ◌+◌, ◌-◌, ◌<◌, ◌≤◌, Bool, true, false, cond, List, [], ◌∷◌, ◌++◌, length, map, Option, Some, None, refl, ap, ◌∙◌, arith, length-append, ◌⊎◌, inl, inr}
+-- Which of the objects that are made at load are arrays, and how many values they have.
+use Rattle.std.proofs.Common.{◌≡◌, ℕ, zero, suc, ◌+◌, ◌<◌, ◌≤◌, Bool, true, false, cond, List, [], ◌∷◌, ◌++◌, length, map, Option, Some, refl, ap, ◌∙◌, arith, length-append, ◌⊎◌, inl, inr}
 use Rattle.std.specs.Prelude.{IsTrue, slice_get, ◌==◌}
 use Rattle.std.specs.List.{enumerate_from}
-use Rattle.std.specs.Option.{option_map, option_map_or}
+use Rattle.std.specs.Option.{option_map_or}
 use Rattle.std.proofs.lemmas.Bool.{cases_lt}
-use Rattle.std.proofs.lemmas.Bool.Decides.{nat_tests}
 use Rattle.std.proofs.lemmas.List.{length-map}
 use Rattle.std.proofs.lemmas.List.FromFn.{length-enumerate_from}
 use Rattle.std.proofs.lemmas.List.Sums.{sum_by-append, sum_by-cons}
-use Rattle.class_table.proofs.Layouts.{get-front, get-back}
+use Rattle.class_table.proofs.Layouts.{get-front}
 use Rattle.classes.specs.Additions.{new_class, with_changed_class}
 use Rattle.classes.specs.BuiltIns.{built_ins, class_class, out_of_memory_error, object_array_class}
-use Rattle.classes.specs.Class.{ClassKind, Plain, Class, Classes, class_kind, is_plain}
+use Rattle.classes.specs.Class.{Plain, Class, Classes, class_kind, is_plain}
 use Rattle.classes.specs.Grown.{IsGrown, BuiltIns, WithClass, WithField, WithStatic}
-use Rattle.source.specs.Heap.{Heap, object_at, class_of}
+use Rattle.source.specs.Heap.{class_of, object_at}
 use Rattle.source.specs.Object.{Object, size, sizes}
-use Rattle.source.specs.World.{World, class_object, class_objects, fresh_object, made_before, loaded_objects, fits_cells}
-use Rattle.source.proofs.ShownRows.{loaded_is, length-before}
+use Rattle.source.specs.World.{World, made_before, loaded_objects, fits_cells}
+use Rattle.source.proofs.ShownRows.{loaded_is}
+use Rattle.world.proofs.LoadedWorlds.{loaded_class, loaded_error, loaded_object, loaded_fit}
 
 -- ---- the built-in classes are of the same kind in each table that grew from them
-
-kind_of : Option Class → ClassKind
-kind_of o = option_map_or (λ (d : Class). d.kind) o Plain
 
 kind_kept : (T X : Classes) (c : ℕ) → c ≤ length T → class_kind (T ++ X) c ≡ class_kind T c
 kind_kept T X zero within = refl
@@ -84,54 +81,25 @@ class_is_plain T g = ap is_plain ((begins_alike T g).kinds class_class (omega ar
 pub error_is_plain : (T : Classes) → IsGrown T → is_plain (class_kind T out_of_memory_error) ≡ true
 error_is_plain T g = ap is_plain ((begins_alike T g).kinds out_of_memory_error (omega arith)) ∙ error_kinds
 
--- ---- the objects that are made before the world's
-
-is_class_at : (T : Classes) (n : ℕ) (U : Classes) (i : ℕ) → i < length U → option_map (λ (o : Object). o.class) (slice_get (map (λ (c : ℕ × Class). class_object T c.0) (enumerate_from n U)) i) ≡ Some class_class
-is_class_at T n [] i low = absurd (omega arith)
-is_class_at T n (d ∷ U) zero low = refl
-is_class_at T n (d ∷ U) (suc i) low = is_class_at T (n + 1) U i (omega arith)
-
-length-class_objects : (T : Classes) → length (class_objects T) ≡ length T
-length-class_objects T = length-map (enumerate_from 1 T) (λ (c : ℕ × Class). class_object T c.0) ∙ length-enumerate_from 1 T
-
-class_in : Option ℕ → ℕ
-class_in None = 0
-class_in (Some c) = c
+-- ---- the objects that are made at load
 
 module _ (w : World) (g : IsGrown w.classes) where
-  abbrev others : List Object
-  others = fresh_object w.classes out_of_memory_error ∷ w.objects
-
   abbrev plain_in : Option Object → Bool
   plain_in o = is_plain (class_kind w.classes (option_map_or (λ (x : Object). x.class) o 0))
-
-  plain_class : (o : Option Object) → option_map (λ (x : Object). x.class) o ≡ Some class_class → plain_in o ≡ true
-  plain_class None is = absurd (cc)
-  plain_class (Some x) is = let same : x.class ≡ class_class = cc in ap (λ c. is_plain (class_kind w.classes c)) same ∙ class_is_plain w.classes g
 
   -- no object that is made before the world's is an array
   pub plain_before : (n : ℕ) → n ≤ length w.classes + 1 → is_plain (class_kind w.classes (class_of (loaded_objects w) n)) ≡ true
   plain_before zero low = refl
   plain_before (suc i) low = by_place (cases_lt i (length w.classes))
     where
-      count : length (class_objects w.classes) ≡ length w.classes
-      count = length-class_objects w.classes
-
       by_place : (i < length w.classes) ⊎ (length w.classes ≤ i) → plain_in (slice_get (loaded_objects w) i) ≡ true
-      by_place (inl h) = ap plain_in (get-front (class_objects w.classes) others i (omega (arith, h, count))) ∙ plain_class (slice_get (class_objects w.classes) i) (is_class_at w.classes 1 w.classes i h)
-      by_place (inr h) =
-          let first : i - length (class_objects w.classes) ≡ 0 = omega (arith, h, count, low) in
-          ap plain_in (get-back (class_objects w.classes) others i (omega (arith, h, count)) ∙ ap (slice_get others) first) ∙ error_is_plain w.classes g
+      by_place (inl h) = ap plain_in (loaded_class w i h) ∙ class_is_plain w.classes g
+      by_place (inr h) = let last : i ≡ length w.classes = omega (arith, low, h) in ap plain_in (ap (slice_get (loaded_objects w)) last ∙ loaded_error w) ∙ error_is_plain w.classes g
 
 -- the world's objects come after them
 pub own_object : (w : World) (n i : ℕ) → n ≡ length w.classes + 2 + i → object_at (loaded_objects w) n ≡ slice_get w.objects i
 own_object w zero i is = absurd (omega arith)
-own_object w (suc m) i is =
-    let count = length-before w.classes in
-    let place : m - length (made_before w.classes) ≡ i = omega (arith, is, count) in
-    ap (λ (h : Heap). slice_get h m) (loaded_is w)
-    ∙ get-back (made_before w.classes) w.objects m (omega (arith, is, count))
-    ∙ ap (slice_get w.objects) place
+own_object w (suc m) i is = loaded_object w m i (omega (arith, is))
 
 -- ---- sizes
 
@@ -143,6 +111,5 @@ size_within (x ∷ objects) (suc i) o at = omega (arith, sum_by-cons size x obje
 -- an object of the world has no more values than there are cells
 pub values_fit : (w : World) (i : ℕ) (o : Object) → IsTrue (fits_cells w) → slice_get w.objects i ≡ Some o → length o.values ≤ w.cells
 values_fit w i o fits at =
-    let within : sizes (loaded_objects w) ≤ w.cells = grind (arith, nat_tests, fits) in
     let parts : sizes (loaded_objects w) ≡ sizes (made_before w.classes) + sizes w.objects = ap sizes (loaded_is w) ∙ sum_by-append size (made_before w.classes) w.objects in
-    omega (arith, within, parts, size_within w.objects i o at)
+    omega (arith, loaded_fit w fits, parts, size_within w.objects i o at)
