@@ -2,7 +2,7 @@
 use Rattle.std.specs.Prelude.{◌≡◌, Err, codes, refl}
 use Rattle.texts.specs.declared.fault.Rule.TheVariants.{Form, Name, Limit}
 use Rattle.texts.specs.ReadingSchedules.{schedule_of}
-use Rattle.world.specs.ReadingWorlds.{scene_of_text}
+use Rattle.world.specs.ReadingWorlds.{world_of_text}
 use Rattle.worked.proofs.Computed.{read}
 
 -- a turn of a thread that is not there
@@ -16,7 +16,7 @@ unfolding read
 a_ninth_thread = refl
 
 -- a heap that is too small
-a_heap_that_is_too_small : scene_of_text (codes "heap 511\nclass A\nthread Java_A_f\n") ≡ Err (record { rule = Limit; line = 1 })
+a_heap_that_is_too_small : world_of_text (codes "heap 511\nclass A\nthread Java_A_f\n") ≡ Err (record { rule = Limit; line = 1 })
 unfolding read
 a_heap_that_is_too_small = refl
 
