@@ -1,5 +1,4 @@
 use Rattle.std.proofs.Common.{refl, length}
-use Rattle.std.specs.Prelude.{map}
 use Rattle.std.proofs.lemmas.Option.{slice_get_read}
 use Rattle.source.specs.World.{loaded_objects}
 use Rattle.machine.proofs.LoadLemmas.{all_agree, some_call}

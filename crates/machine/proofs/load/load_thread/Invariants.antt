@@ -1,4 +1,4 @@
-use Rattle.std.proofs.Common.{◌≡◌, drop, length, map}
+use Rattle.std.proofs.Common.{◌≡◌, drop, length}
 use Rattle.syntax.specs.Views.{unit_tree}
 use Rattle.source.specs.World.{loaded_objects}
 use Rattle.machine.specs.Loading.{refused_calls}

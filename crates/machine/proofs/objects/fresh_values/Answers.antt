@@ -1,11 +1,10 @@
-use Rattle.std.proofs.Common.{◌≡◌, ℕ, ◌+◌, List, [], ◌∷◌, ◌++◌, Option, Some, map, take, sym, ap, ◌∙◌}
+use Rattle.std.proofs.Common.{◌≡◌, ℕ, ◌+◌, List, [], ◌∷◌, ◌++◌, Some, map, take, sym, ap, ◌∙◌}
 use Rattle.std.specs.Prelude.{slice_get}
 use Rattle.std.specs.Option.{option_map}
 use Rattle.std.proofs.lemmas.List.{map-append, take_more}
 use Rattle.std.proofs.lemmas.Option.{get_or_from_slice_get, slice_get_within}
 use Rattle.classes.specs.Fields.{FieldId, layout}
 use Rattle.class_table.specs.FieldViews.{field_id_view}
-use Rattle.class_table.specs.declared.fields.FieldId.{FieldId as InMemory}
 use Rattle.source.specs.Object.{ObjectValue}
 use Rattle.source.specs.World.{initial}
 use Rattle.world.specs.Views.{object_value_view}

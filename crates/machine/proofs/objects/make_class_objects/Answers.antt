@@ -7,7 +7,6 @@ use Rattle.class_table.specs.declared.class.Field.{Field}
 use Rattle.classes.specs.BuiltIns.{class_class}
 use Rattle.classes.specs.Class.{Classes}
 use Rattle.classes.specs.Fields.{FieldId, own_statics}
-use Rattle.heap.specs.Heap.{Space}
 use Rattle.source.specs.Heap.{Heap}
 use Rattle.source.specs.Object.{ObjectValue, Object}
 use Rattle.source.specs.World.{initial, class_object, loaded_objects}

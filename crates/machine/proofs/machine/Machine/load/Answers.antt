@@ -1,4 +1,4 @@
-use Rattle.std.proofs.Common.{◌≡◌, ℕ, subst, length, refl, sym, ap, ◌∙◌, arith}
+use Rattle.std.proofs.Common.{◌≡◌, ℕ, subst, length, refl, sym, ◌∙◌, arith}
 use Rattle.syntax.specs.Views.{unit_tree}
 use Rattle.source.specs.Start.{start, waiting_thread}
 use Rattle.std.proofs.lemmas.List.{length-map}
