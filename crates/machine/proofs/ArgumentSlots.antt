@@ -7,9 +7,9 @@ use Rattle.std.proofs.Math.Facts.{to_z-of_z}
 use Rattle.base.specs.Element.{JInt}
 use Rattle.world.specs.WorldRules.{is_in_range}
 use Rattle.std.proofs.lemmas.Bool.Decides.{nat_tests}
-use Rattle.world.specs.declared.argument.Argument.{Argument}
+use Rattle.world.specs.declared.object.ObjectValue.{ObjectValue as Argument}
 use Rattle.source.specs.Object.{ObjectValue, Number, Refers}
-use Rattle.world.specs.Views.{argument_view}
+use Rattle.world.specs.Views.{object_value_view}
 use Rattle.lower.specs.Slots.{argument_reference}
 use Rattle.machine.specs.Entry.{argument_address}
 
@@ -26,16 +26,16 @@ consed None xs ys = refl
 consed (Some y) xs ys = refl
 
 more : {Y : Type 0} (h : ObjectValue → Option Y) (xs : List Argument) (i : ℕ) (x : Argument) → slice_get xs i ≡ Some x
-    → filter_map h (map argument_view (take (suc i) xs)) ≡ filter_map h (map argument_view (take i xs)) ++ filter_map h (argument_view x ∷ [])
+    → filter_map h (map object_value_view (take (suc i) xs)) ≡ filter_map h (map object_value_view (take i xs)) ++ filter_map h (object_value_view x ∷ [])
 more h [] i x e = absurd (cc)
-more h (a ∷ xs) zero x e = let same : a ≡ x = cc in ap (λ (y : Argument). filter_map h (argument_view y ∷ [])) same
-more h (a ∷ xs) (suc i) x e = ap (cons_option (h (argument_view a))) (more h xs i x e) ∙ consed (h (argument_view a)) (filter_map h (map argument_view (take i xs))) (filter_map h (argument_view x ∷ []))
+more h (a ∷ xs) zero x e = let same : a ≡ x = cc in ap (λ (y : Argument). filter_map h (object_value_view y ∷ [])) same
+more h (a ∷ xs) (suc i) x e = ap (cons_option (h (object_value_view a))) (more h xs i x e) ∙ consed (h (object_value_view a)) (filter_map h (map object_value_view (take i xs))) (filter_map h (object_value_view x ∷ []))
 
 pub given_more : {Y : Type 0} (h : ObjectValue → Option Y) (xs : List Argument) (i : ℕ) (x : Argument) → slice_get xs i ≡ Some x
-    → filter_map h (map argument_view (take (i + 1) xs)) ≡ filter_map h (map argument_view (take i xs)) ++ filter_map h (argument_view x ∷ [])
+    → filter_map h (map object_value_view (take (i + 1) xs)) ≡ filter_map h (map object_value_view (take i xs)) ++ filter_map h (object_value_view x ∷ [])
 given_more h xs i x e =
     let next : i + 1 ≡ suc i = omega arith in
-    ap (λ (n : ℕ). filter_map h (map argument_view (take n xs))) next ∙ more h xs i x e
+    ap (λ (n : ℕ). filter_map h (map object_value_view (take n xs))) next ∙ more h xs i x e
 
 -- ---- each argument
 
@@ -48,10 +48,10 @@ second true b h = h
 second false b h = absurd (cc)
 
 -- what holds of each argument holds of the one at a place
-pub given_at : (test : ObjectValue → Bool) (xs : List Argument) (i : ℕ) (x : Argument) → list_all test (map argument_view xs) ≡ true → slice_get xs i ≡ Some x → test (argument_view x) ≡ true
+pub given_at : (test : ObjectValue → Bool) (xs : List Argument) (i : ℕ) (x : Argument) → list_all test (map object_value_view xs) ≡ true → slice_get xs i ≡ Some x → test (object_value_view x) ≡ true
 given_at test [] i x h e = absurd (cc)
-given_at test (a ∷ xs) zero x h e = let same : a ≡ x = cc in subst (λ (y : Argument). test (argument_view y) ≡ true) same (first (test (argument_view a)) (list_all test (map argument_view xs)) h)
-given_at test (a ∷ xs) (suc i) x h e = given_at test xs i x (second (test (argument_view a)) (list_all test (map argument_view xs)) h) e
+given_at test (a ∷ xs) zero x h e = let same : a ≡ x = cc in subst (λ (y : Argument). test (object_value_view y) ≡ true) same (first (test (object_value_view a)) (list_all test (map object_value_view xs)) h)
+given_at test (a ∷ xs) (suc i) x h e = given_at test xs i x (second (test (object_value_view a)) (list_all test (map object_value_view xs)) h) e
 
 -- names are counted from 1
 pub counted_from_1 : (made n : ℕ) → (nat_lt 0 n && nat_le n made) ≡ true → 0 < n

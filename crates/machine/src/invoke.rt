@@ -2,7 +2,6 @@
 
 ghost use Rattle.std.specs.Prelude.{◌≡◌, ℕ, ◌<◌, ◌+◌, Some, None, length, slice_get, IfErr};
 ghost use Rattle.heap.specs.Heap.{IsAddress};
-ghost use Rattle.world.specs.SceneWorld.{world_of_scene};
 ghost use Rattle.machine.specs.Invoked.{operand_at, target_slot, LengthIs, Invoked, length_operand};
 
 use crate::stop::Trap;
@@ -16,7 +15,7 @@ pub fn invoke(world: &World, heap: &Heap, call: &mut Activation, function: Call)
     requires object { (a : ℕ) → operand_at call.old.references.items (length_operand function.function) ≡ Some a → IsAddress heap.now a }
     requires slot { target_slot function.target < length call.old.numbers.items }
     requires place { call.old.place + 1 < 18446744073709551616 }
-    ensures { Invoked (world_of_scene world.now).classes heap.now call.old function call.new result }
+    ensures { Invoked world.now.classes heap.now call.old function call.new result }
 {
     let Callee::GetArrayLength(operand) = function.function;
     match array_length(world, heap, reference_in(&call.references, operand)) {
@@ -43,7 +42,7 @@ fn reference_in(references: &[Option<Addr>], operand: ReferenceOperand) -> Optio
 /// The length of an array ("GetArrayLength").
 fn array_length(world: &World, heap: &Heap, array: Option<Addr>) -> Result<u32, Trap>
     requires { (a : ℕ) → array ≡ Some a → IsAddress heap.now a }
-    ensures { LengthIs (world_of_scene world.now).classes heap.now array result }
+    ensures { LengthIs world.now.classes heap.now array result }
 {
     // The proof reads off these calls that no array has more elements than there are cells.
     let _ = heap.count();
@@ -51,7 +50,7 @@ fn array_length(world: &World, heap: &Heap, array: Option<Addr>) -> Result<u32, 
     let Some(addr) = array else {
         return Err(Trap::NullReference);
     };
-    if !world.is_array_class(heap.class_of(addr) as usize) {
+    if !world.classes().is_array(heap.class_of(addr) as usize) {
         return Err(Trap::WrongObject);
     }
     Ok(heap.len_of(addr) as u32)
