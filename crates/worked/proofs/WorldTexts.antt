@@ -1,6 +1,6 @@
 -- World texts: what they mean, and the rules that they break.
 use Rattle.std.specs.Prelude.{length, replicate}
-use Rattle.std.proofs.Common.{◌≡◌, true, false, [], ◌∷◌, Some, None, codes, refl, inl, inr, arith, pos, negsuc}
+use Rattle.std.proofs.Common.{◌≡◌, true, false, [], ◌∷◌, Some, None, Ok, codes, refl, inl, inr, arith, pos, negsuc}
 use Rattle.std.specs.Fmt.{digits}
 use Rattle.base.specs.Element.{JInt}
 use Rattle.classes.specs.Class.{assignable}
@@ -8,12 +8,14 @@ use Rattle.classes.specs.BuiltIns.{built_ins}
 use Rattle.classes.specs.Fields.{layout, type_of_signature}
 use Rattle.classes.specs.Mangling.{unmangle}
 use Rattle.classes.specs.Additions.{NameTaken, BadSuperclass, BadSignature}
+use Rattle.world.specs.ReadingWorlds.{world_of_text}
 use Rattle.world.specs.WorldLines.{ClassLine, FieldLine, ObjectLine, ArrayLine, StringLine, ThreadLine, CallLine, NumberValue, NullValue, NamedObject, NamedClass, Lines}
 use Rattle.world.specs.WorldMeaning.{world_of, cells_of}
 use Rattle.world.specs.WorldRules.{IsWorldText, broken_after}
 use Rattle.texts.specs.LineRules.{OfClass, LineForm, WrongName, OutOfLimit, HeapFull}
 use Rattle.source.specs.Load.{Loads}
 use Rattle.worked.proofs.Arguments.{a_thread_that_has_not_begun}
+use Rattle.worked.proofs.Computed.{read}
 
 abbrev small_lines : Lines
 small_lines = (2, ClassLine (codes "A") None) ∷ (4, ArrayLine (codes "a") JInt (NumberValue (pos 7) ∷ NumberValue (negsuc 7) ∷ [])) ∷ (5, StringLine (codes "s") []) ∷ (6, StringLine (codes "t") []) ∷ (7, ThreadLine (codes "Java_A_f") (NamedObject (codes "a") ∷ [])) ∷ []
@@ -32,6 +34,11 @@ small_world-text = record {
   threads = refl;
   meant = refl;
 }
+
+-- and what is read of the text is the same world
+small_world-read : world_of_text (codes "heap 512\nclass A\n\narray @a I 7 -8\nstring @s \nstring @t\nthread Java_A_f @a") ≡ Ok (world_of 512 small_lines)
+unfolding read
+small_world-read = refl
 
 small_world-loads : Loads a_thread_that_has_not_begun (world_of 512 small_lines)
 unfolding unmangle built_ins
