@@ -1,3 +1,4 @@
+pub mod Lists
 pub mod ArgumentSlots
 pub mod Calls
 pub mod Threads

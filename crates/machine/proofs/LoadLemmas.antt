@@ -1,5 +1,5 @@
 -- Calls that load, and calls that don't.
-use Rattle.std.proofs.Common.{◌≡◌, ℕ, ℤ, zero, suc, pos, negsuc, ◌+◌, ◌<◌, ◌≤◌, Bool, true, false, List, [], ◌∷◌, ◌++◌, length, drop, map, Option, Some, None, refl, sym, ap, ◌∙◌, subst, arith, append_assoc, append-nil}
+use Rattle.std.proofs.Common.{◌≡◌, ℕ, ℤ, pos, negsuc, ◌+◌, ◌<◌, ◌≤◌, Bool, true, false, List, [], ◌∷◌, ◌++◌, length, drop, map, Option, Some, None, refl, sym, ap, ◌∙◌, subst, arith, append_assoc, append-nil}
 use Rattle.std.specs.Prelude.{slice_get, is_some, ◌&&◌, FitsSigned}
 use Rattle.std.specs.Int.{w32}
 use Rattle.std.specs.List.{list_all}
@@ -28,6 +28,8 @@ use Rattle.lower.specs.Lowered.{Lowered}
 use Rattle.lower.specs.Slots.{ArgumentFits, ArgumentsFit}
 use Rattle.machine.specs.declared.thread.PendingCall.{PendingCall}
 use Rattle.machine.specs.Agrees.{CallAgrees, CallsAgree}
+use Rattle.machine.proofs.Lists.{drop_next}
+use Rattle.texts.proofs.WordLaws.{both_true}
 use Rattle.machine.specs.Loading.{IsNumberOf, IsCallOf, refused_calls}
 
 -- ---- arguments
@@ -42,18 +44,13 @@ argument_fits made IntParameter (Refers r) h k = absurd (cc)
 argument_fits made (ReferenceParameter type) (Number z) h k = absurd (cc)
 argument_fits made (ReferenceParameter type) (Refers r) h k = tt
 
-both : (a b : Bool) → (a && b) ≡ true → (a ≡ true) × (b ≡ true)
-both true true h = (refl, refl)
-both true false h = absurd (cc)
-both false b h = absurd (cc)
-
 arguments_fit : (made : ℕ) (ps : List Parameter) (vs : List ObjectValue) → fit_parameters ps vs ≡ true → list_all (is_argument made) vs ≡ true → ArgumentsFit ps vs
 arguments_fit made [] [] h k = tt
 arguments_fit made [] (v ∷ vs) h k = absurd (cc)
 arguments_fit made (p ∷ ps) [] h k = absurd (cc)
 arguments_fit made (p ∷ ps) (v ∷ vs) h k =
-    let a = both (fits_parameter p.type v) (fit_parameters ps vs) h in
-    let b = both (is_argument made v) (list_all (is_argument made) vs) k in
+    let a = both_true (fits_parameter p.type v) (fit_parameters ps vs) h in
+    let b = both_true (is_argument made v) (list_all (is_argument made) vs) k in
     (argument_fits made p.type v a.0 b.0, arguments_fit made ps vs a.1 b.1)
 
 -- ---- calls
@@ -98,12 +95,6 @@ no_fit p classes call number f n none =
     and_none true = refl
     and_none false = refl
 
--- the calls from a place on
-calls_drop : (calls : List Invocation) (i : ℕ) (x : Invocation) → slice_get calls i ≡ Some x → drop i calls ≡ x ∷ drop (i + 1) calls
-calls_drop [] i x h = absurd (cc)
-calls_drop (y ∷ calls) zero x h = let same : y ≡ x = cc in ap (λ (z : Invocation). z ∷ calls) same
-calls_drop (y ∷ calls) (suc i) x h = let e : suc i + 1 ≡ suc (i + 1) = omega arith in rw e (calls_drop calls i x h)
-
 module _ (unit : SourceUnit) (classes : Classes) where
   next_loads : (x : Invocation) (rest : List Invocation) → call_loads unit classes x ≡ true → refused_calls unit classes (x ∷ rest) ≡ refused_calls unit classes rest
   next_loads x rest h = rw h refl
@@ -112,10 +103,10 @@ module _ (unit : SourceUnit) (classes : Classes) where
   next_refused x rest h = rw h refl
 
   pub loads_at : (calls : List Invocation) (i : ℕ) (x : Invocation) → slice_get calls i ≡ Some x → call_loads unit classes x ≡ true → refused_calls unit classes (drop i calls) ≡ refused_calls unit classes (drop (i + 1) calls)
-  loads_at calls i x h l = ap (refused_calls unit classes) (calls_drop calls i x h) ∙ next_loads x (drop (i + 1) calls) l
+  loads_at calls i x h l = ap (refused_calls unit classes) (drop_next calls i x h) ∙ next_loads x (drop (i + 1) calls) l
 
   pub refused_at : (calls : List Invocation) (i : ℕ) (x : Invocation) → slice_get calls i ≡ Some x → call_loads unit classes x ≡ false → refused_calls unit classes (drop i calls) ≡ x ∷ refused_calls unit classes (drop (i + 1) calls)
-  refused_at calls i x h l = ap (refused_calls unit classes) (calls_drop calls i x h) ∙ next_refused x (drop (i + 1) calls) l
+  refused_at calls i x h l = ap (refused_calls unit classes) (drop_next calls i x h) ∙ next_refused x (drop (i + 1) calls) l
 
 -- the calls so far agree, and so do those that are still to come
 abbrev pub AgreeSoFar : Lowered → Classes → (made : ℕ) → List Invocation → (i : ℕ) → List PendingCall → Type 0
@@ -124,7 +115,7 @@ AgreeSoFar p classes made calls i nexts = (rest : List PendingCall) → CallsAgr
 pub one_more : (p : Lowered) (classes : Classes) (made : ℕ) (calls : List Invocation) (i : ℕ) (x : Invocation) (n : PendingCall) (nexts : List PendingCall) → slice_get calls i ≡ Some x → CallAgrees p classes made n x → AgreeSoFar p classes made calls i nexts → AgreeSoFar p classes made calls (i + 1) (nexts ++ n ∷ [])
 one_more p classes made calls i x n nexts at a so_far rest h =
     subst (λ (l : List PendingCall). CallsAgree p classes made l calls) (sym (append_assoc nexts (n ∷ []) rest))
-    (so_far (n ∷ rest) (subst (λ (cs : List Invocation). CallsAgree p classes made (n ∷ rest) cs) (sym (calls_drop calls i x at)) (a, h)))
+    (so_far (n ∷ rest) (subst (λ (cs : List Invocation). CallsAgree p classes made (n ∷ rest) cs) (sym (drop_next calls i x at)) (a, h)))
 
 pub all_agree : (p : Lowered) (classes : Classes) (made : ℕ) (calls : List Invocation) (i : ℕ) (nexts : List PendingCall) → length calls ≤ i → AgreeSoFar p classes made calls i nexts → CallsAgree p classes made nexts calls
 all_agree p classes made calls i nexts past so_far =

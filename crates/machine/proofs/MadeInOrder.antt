@@ -1,9 +1,9 @@
 -- The objects of a world, of which the first so many have been made.
 use Rattle.std.proofs.Common.{◌≡◌, ℕ, zero, suc, ◌+◌, ◌<◌, ◌≤◌, List, [], ◌∷◌, ◌++◌, length, take, Some, ap, ◌∙◌, arith}
 use Rattle.std.specs.Prelude.{slice_get}
-use Rattle.std.proofs.lemmas.List.{take_more, length-take-le}
+use Rattle.std.proofs.lemmas.List.{length-take-le}
 use Rattle.std.proofs.lemmas.List.Sums.{sum_by-cons}
-use Rattle.std.proofs.lemmas.Option.{get_or_from_slice_get, slice_get_within}
+use Rattle.std.proofs.lemmas.Option.{slice_get_within}
 use Rattle.heap.specs.Heap.{Space, end_of, left_of}
 use Rattle.source.specs.Heap.{Heap}
 use Rattle.source.specs.Object.{Object, size, sizes}
@@ -11,6 +11,7 @@ use Rattle.source.specs.World.{World, loaded_objects}
 use Rattle.world.proofs.LoadedWorlds.{few_objects, loaded_fit}
 use Rattle.world.specs.SoundWorlds.{IsSound}
 use Rattle.machine.specs.HeapAgrees.{AreMade}
+use Rattle.machine.proofs.Lists.{take_next}
 
 size_within : (objects : Heap) (i : ℕ) (o : Object) → slice_get objects i ≡ Some o → sizes (take i objects) + size o ≤ sizes objects
 size_within [] i o h = absurd (cc)
@@ -42,4 +43,4 @@ module _ (w : World) (sound : IsSound w) (s : Space) (addresses : List ℕ) (i :
   counted = made.table.counted ∙ length-take-le i (loaded_objects w) (let l = slice_get_within (loaded_objects w) i o at in omega arith)
 
   pub next : take (i + 1) (loaded_objects w) ≡ take i (loaded_objects w) ++ o ∷ []
-  next = take_more (loaded_objects w) i o (slice_get_within (loaded_objects w) i o at) ∙ ap (λ (x : Object). take i (loaded_objects w) ++ x ∷ []) (get_or_from_slice_get (loaded_objects w) i o o at)
+  next = take_next (loaded_objects w) i o at

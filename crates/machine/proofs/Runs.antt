@@ -24,6 +24,7 @@ use Rattle.source.specs.Step.{can_step, is_live, is_waiting, world_step}
 use Rattle.source.proofs.RunLaws.{replay_from-append, follows-replay, follows-append}
 use Rattle.machine.specs.declared.turn.Turn.{Turn as Answer}
 use Rattle.machine.specs.declared.turn.Turn.TheVariants as turn
+use Rattle.machine.proofs.Lists.{take_next}
 use Rattle.machine.specs.Run.{Run, replay_of, can_turn, HasEnded, TurnHolds, GivesNoStep, GivesStep, RunsAlong, RunsInto}
 
 -- the walk from a state of a run along these words
@@ -193,12 +194,7 @@ abbrev pub words_to : List Repetition → ℕ → Schedule
 words_to reps i = flat_map repeated_words (take i reps)
 
 pub words_more : (reps : List Repetition) (i : ℕ) (x : Repetition) → slice_get reps i ≡ Some x → words_to reps (i + 1) ≡ words_to reps i ++ repeated_words x
-words_more reps i x at = ap (flat_map repeated_words) (take_one reps i x at) ∙ flat_map-append repeated_words (take i reps) (x ∷ []) ∙ ap (λ (w : Schedule). words_to reps i ++ w) (flat_map-cons repeated_words x [] ∙ append-nil (repeated_words x))
-  where
-    take_one : (reps : List Repetition) (i : ℕ) (x : Repetition) → slice_get reps i ≡ Some x → take (i + 1) reps ≡ take i reps ++ x ∷ []
-    take_one [] i x h = absurd (cc)
-    take_one (y ∷ reps) zero x h = let same : y ≡ x = cc in ap (λ (z : Repetition). z ∷ []) same
-    take_one (y ∷ reps) (suc i) x h = let e : suc i + 1 ≡ suc (i + 1) = omega arith in rw e (ap (λ (l : List Repetition). y ∷ l) (take_one reps i x h))
+words_more reps i x at = ap (flat_map repeated_words) (take_next reps i x at) ∙ flat_map-append repeated_words (take i reps) (x ∷ []) ∙ ap (λ (w : Schedule). words_to reps i ++ w) (flat_map-cons repeated_words x [] ∙ append-nil (repeated_words x))
 
 pub words_all : (reps : List Repetition) (i : ℕ) → flat_map repeated_words reps ≡ words_to reps i ++ flat_map repeated_words (drop i reps)
 words_all reps i = ap (flat_map repeated_words) (sym (take-append-drop i reps)) ∙ flat_map-append repeated_words (take i reps) (drop i reps)

@@ -1,5 +1,5 @@
 -- The threads of a world that load, and the first call that doesn't.
-use Rattle.std.proofs.Common.{◌≡◌, ℕ, zero, suc, ◌+◌, ◌≤◌, List, [], ◌∷◌, ◌++◌, length, drop, map, Some, refl, sym, ap, ◌∙◌, subst, arith, append_assoc, append-nil}
+use Rattle.std.proofs.Common.{◌≡◌, ℕ, suc, ◌+◌, ◌≤◌, List, [], ◌∷◌, ◌++◌, length, drop, map, Some, refl, sym, ap, ◌∙◌, subst, append_assoc, append-nil}
 use Rattle.std.specs.Prelude.{slice_get, flat_map}
 use Rattle.std.specs.Global.{Vec}
 use Rattle.std.proofs.lemmas.List.Concat.{flat_map-cons}
@@ -16,17 +16,12 @@ use Rattle.machine.specs.declared.fault.LoadFault.{LoadFault}
 use Rattle.machine.specs.declared.fault.LoadFault.TheVariants.{DoesNotFit, Memory}
 use Rattle.machine.specs.declared.thread.Thread.{Thread}
 use Rattle.machine.specs.Agrees.{ThreadAgrees, ThreadsAgree}
+use Rattle.machine.proofs.Lists.{drop_next}
 use Rattle.machine.specs.Loading.{IsFirstOf, refused_calls}
 
 -- the calls of each thread in memory
 abbrev pub called : List (Vec Invocation) → List (List Invocation)
 called ts = map (λ (t : Vec Invocation). t.items) ts
-
--- the threads from a place on
-threads_drop : (ts : List (Vec Invocation)) (i : ℕ) (x : Vec Invocation) → slice_get ts i ≡ Some x → drop i ts ≡ x ∷ drop (i + 1) ts
-threads_drop [] i x h = absurd (cc)
-threads_drop (y ∷ ts) zero x h = let same : y ≡ x = cc in ap (λ (z : Vec Invocation). z ∷ ts) same
-threads_drop (y ∷ ts) (suc i) x h = let e : suc i + 1 ≡ suc (i + 1) = omega arith in rw e (threads_drop ts i x h)
 
 -- ---- threads that agree
 
@@ -37,7 +32,7 @@ module _ (p : Lowered) (classes : Classes) (space : Space) (made : ℕ) (shared 
   pub one_more : (ts : List (Vec Invocation)) (i : ℕ) (x : Vec Invocation) (t : Thread) (threads : List Thread) → slice_get ts i ≡ Some x → ThreadAgrees p classes space made shared t (waiting_thread x.items) → AgreeSoFar ts i threads → AgreeSoFar ts (i + 1) (threads ++ t ∷ [])
   one_more ts i x t threads at a so_far rest h =
       subst (λ (l : List Thread). ThreadsAgree p classes space made shared l (map waiting_thread (called ts))) (sym (append_assoc threads (t ∷ []) rest))
-      (so_far (t ∷ rest) (subst (λ (us : List (Vec Invocation)). ThreadsAgree p classes space made shared (t ∷ rest) (map waiting_thread (called us))) (sym (threads_drop ts i x at)) (a, h)))
+      (so_far (t ∷ rest) (subst (λ (us : List (Vec Invocation)). ThreadsAgree p classes space made shared (t ∷ rest) (map waiting_thread (called us))) (sym (drop_next ts i x at)) (a, h)))
 
   pub all_agree : (ts : List (Vec Invocation)) (i : ℕ) (threads : List Thread) → length ts ≤ i → AgreeSoFar ts i threads → ThreadsAgree p classes space made shared threads (map waiting_thread (called ts))
   all_agree ts i threads past so_far =
@@ -57,7 +52,7 @@ first a b Memory h = tt
 
 module _ (unit : SourceUnit) (classes : Classes) (ts : List (Vec Invocation)) (i : ℕ) (x : Vec Invocation) (at : slice_get ts i ≡ Some x) where
   here : refused_of unit classes (drop i ts) ≡ refused_calls unit classes x.items ++ refused_of unit classes (drop (i + 1) ts)
-  here = ap (refused_of unit classes) (threads_drop ts i x at) ∙ flat_map-cons (refused_calls unit classes) x.items (called (drop (i + 1) ts))
+  here = ap (refused_of unit classes) (drop_next ts i x at) ∙ flat_map-cons (refused_calls unit classes) x.items (called (drop (i + 1) ts))
 
   pub loads_at : refused_calls unit classes x.items ≡ [] → refused_of unit classes (drop i ts) ≡ refused_of unit classes (drop (i + 1) ts)
   loads_at none = here ∙ ap (λ (l : List Invocation). l ++ refused_of unit classes (drop (i + 1) ts)) none

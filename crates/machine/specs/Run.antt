@@ -9,11 +9,10 @@ use Rattle.source.specs.declared.journal.Entry.{Entry}
 use Rattle.source.specs.declared.printed.Printed.{Printed}
 use Rattle.source.specs.declared.schedule.ScheduleWord.{ScheduleWord}
 use Rattle.source.specs.declared.schedule.ScheduleWord.TheVariants.{Turn, Collect}
-use Rattle.source.specs.World.{World}
 use Rattle.source.specs.Schedule.{Schedule}
 use Rattle.report.specs.Sink as sink
 use Rattle.report.specs.Sink.{Written}
-use Rattle.source.specs.World.{loaded_objects}
+use Rattle.source.specs.World.{World, loaded_objects}
 use Rattle.report.specs.RunText as run_text
 use Rattle.source.specs.Run.{replay, Follows, UnmarkedFit, MarkedAreFair}
 use Rattle.source.specs.State.{State, thread_at}
@@ -33,7 +32,7 @@ use Rattle.machine.specs.Agrees.{StaticsAgree, ThreadsAgree}
 use Rattle.machine.specs.HeapAgrees.{AgreesAtLoad}
 use Rattle.machine.specs.Stops.{stop_view}
 
--- a program's items, the world in memory, the steps taken, and the cells after the heap's highest block
+-- a program's items, the world, the steps taken, and the cells after the heap's highest block
 pub record Run : Type 0 where
   pub unit : List Item
   pub world : World

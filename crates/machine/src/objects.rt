@@ -3,7 +3,6 @@
 ghost use Rattle.std.specs.Prelude.{◌≡◌, ◌+◌, ◌^◌, ◌<◌, ◌≤◌, [], ◌∷◌, ◌++◌, length, map, take, IfOk, OnOk, IsTrue};
 ghost use Rattle.std.specs.List.{list_all};
 ghost use Rattle.class_table.specs.Views.{field_type_view, field_view};
-ghost use Rattle.classes.specs.BuiltIns.{class_class, out_of_memory_error};
 ghost use Rattle.classes.specs.Fields.{layout};
 ghost use Rattle.heap.specs.Heap.{IsLaidOut, left_of};
 ghost use Rattle.machine.specs.HeapAgrees.{AreMade};
@@ -11,7 +10,6 @@ ghost use Rattle.machine.specs.Held.{held_value};
 ghost use Rattle.source.specs.Heap.{Heap as Objects};
 ghost use Rattle.source.specs.World.{initial, loaded_objects};
 ghost use Rattle.world.specs.CallArguments.{is_argument};
-ghost use Rattle.world.specs.SoundWorlds.{IsSound};
 ghost use Rattle.world.specs.Views.{object_value_view};
 
 use class_table::built_ins::{CLASS, OUT_OF_MEMORY_ERROR};

@@ -1,19 +1,19 @@
 use Rattle.std.proofs.Common.{◌≡◌, ℕ, ◌+◌, List, [], ◌∷◌, ◌++◌, Some, map, take, sym, ap, ◌∙◌}
 use Rattle.std.specs.Prelude.{slice_get}
 use Rattle.std.specs.Option.{option_map}
-use Rattle.std.proofs.lemmas.List.{map-append, take_more}
-use Rattle.std.proofs.lemmas.Option.{get_or_from_slice_get, slice_get_within}
+use Rattle.std.proofs.lemmas.List.{map-append}
 use Rattle.classes.specs.Fields.{FieldId, layout}
 use Rattle.class_table.specs.FieldViews.{field_id_view}
 use Rattle.source.specs.Object.{ObjectValue}
 use Rattle.source.specs.World.{initial}
 use Rattle.world.specs.Views.{object_value_view}
+use Rattle.machine.proofs.Lists.{take_next}
 use Rattle.machine.proofs.objects.fresh_values.Goals as goal
 
 -- what the fields hold, with one field more
 value_more : (fields : List FieldId) (i : ℕ) (f : FieldId) → slice_get fields i ≡ Some f → map (λ (g : FieldId). initial g.field.type) (take (i + 1) fields) ≡ map (λ (g : FieldId). initial g.field.type) (take i fields) ++ initial f.field.type ∷ []
 value_more fields i f at =
-    ap (map (λ (g : FieldId). initial g.field.type)) (take_more fields i f (slice_get_within fields i f at) ∙ ap (λ (g : FieldId). take i fields ++ g ∷ []) (get_or_from_slice_get fields i f f at))
+    ap (map (λ (g : FieldId). initial g.field.type)) (take_next fields i f at)
     ∙ map-append (λ (g : FieldId). initial g.field.type) (take i fields) (f ∷ [])
 
 pub loop-place-preserved : goal.loop-place-preserved

@@ -3,9 +3,8 @@ use Rattle.std.specs.Prelude.{slice_index_or}
 use Rattle.std.proofs.lemmas.Option.{slice_get-get_or}
 use Rattle.std.proofs.lemmas.Result.{err_from_is_err_and}
 use Rattle.report.specs.ReportText.{object_line}
-use Rattle.source.specs.World.{World}
 use Rattle.report.specs.Shown.{row_lines}
-use Rattle.source.specs.World.{loaded_objects}
+use Rattle.source.specs.World.{World, loaded_objects}
 use Rattle.report.proofs.Puts.{PutSoFar, starts, goes_on, stops, is_all}
 use Rattle.machine.specs.Rows.{block_row}
 use Rattle.source.specs.ReportOf.{loaded_rows}
