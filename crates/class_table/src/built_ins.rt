@@ -49,6 +49,9 @@ pub const INCOMPATIBLE_CLASS_CHANGE_ERROR: usize = 7;
 /// The number of `java/lang/VirtualMachineError`.
 pub const VIRTUAL_MACHINE_ERROR: usize = 10;
 
+/// The number of `java/lang/OutOfMemoryError`.
+pub const OUT_OF_MEMORY_ERROR: usize = 11;
+
 /// The number of `java/lang/Exception`.
 pub const EXCEPTION: usize = 12;
 

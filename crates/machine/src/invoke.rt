@@ -4,7 +4,6 @@ ghost use Rattle.std.specs.Prelude.{◌≡◌, true, ℕ, ◌<◌, ◌+◌, Some
 ghost use Rattle.code.specs.Call.{call_view};
 ghost use Rattle.jni.specs.BuiltFunctions.{is_built_function};
 ghost use Rattle.heap.specs.Heap.{IsAddress};
-ghost use Rattle.world.specs.SceneWorld.{world_of_scene};
 ghost use Rattle.machine.specs.Invoked.{operand_at, AreAddresses, Answers, HasTarget, with_result, Invoked};
 ghost use Rattle.machine.specs.ArrayLengths.{first_operand, LengthIs};
 
@@ -21,7 +20,7 @@ pub fn invoke(world: &World, heap: &Heap, call: &mut Activation, function: &Call
     requires built { is_built_function (call_view function.now).function ≡ true }
     requires slot { HasTarget call.old.numbers.items function.now.target }
     requires place { call.old.place + 1 < 18446744073709551616 }
-    ensures { Invoked (world_of_scene world.now).classes heap.now call.old (call_view function.now) call.new result }
+    ensures { Invoked world.now.classes heap.now call.old (call_view function.now) call.new result }
 {
     match answer(world, heap, &call.references, function) {
         Ok(word) => {
@@ -34,7 +33,6 @@ pub fn invoke(world: &World, heap: &Heap, call: &mut Activation, function: &Call
 }
 
 /// What a function gives.
-
 fn answer(
     world: &World,
     heap: &Heap,
@@ -43,7 +41,7 @@ fn answer(
 ) -> Result<u32, Trap>
     requires objects { AreAddresses heap.now references.now (call_view function.now).operands }
     requires built { is_built_function (call_view function.now).function ≡ true }
-    ensures { Answers (world_of_scene world.now).classes heap.now references.now (call_view function.now) result }
+    ensures { Answers world.now.classes heap.now references.now (call_view function.now) result }
 {
     let first = first_operand(&function.operands);
     match function.function {
@@ -86,7 +84,7 @@ fn reference_in(references: &[Option<Addr>], operand: Operand) -> Option<Addr>
 /// The length of an array ("GetArrayLength").
 fn array_length(world: &World, heap: &Heap, array: Option<Addr>) -> Result<u32, Trap>
     requires { (a : ℕ) → array ≡ Some a → IsAddress heap.now a }
-    ensures { LengthIs (world_of_scene world.now).classes heap.now array result }
+    ensures { LengthIs world.now.classes heap.now array result }
 {
     // The proof reads off these calls that no array has more elements than there are cells.
     let _ = heap.count();
@@ -94,7 +92,7 @@ fn array_length(world: &World, heap: &Heap, array: Option<Addr>) -> Result<u32, 
     let Some(addr) = array else {
         return Err(Trap::NullReference);
     };
-    if !world.is_array_class(heap.class_of(addr) as usize) {
+    if !world.classes().is_array(heap.class_of(addr) as usize) {
         return Err(Trap::WrongObject);
     }
     Ok(heap.len_of(addr) as u32)

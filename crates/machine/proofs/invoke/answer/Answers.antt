@@ -1,7 +1,6 @@
 use Rattle.std.proofs.Common.{◌≡◌, ℕ, Option, ap, subst, ◌∙◌}
 use Rattle.jni.specs.Table.{function_value}
 use Rattle.code.specs.Call.{call_view}
-use Rattle.world.specs.SceneWorld.{world_of_scene}
 use Rattle.machine.specs.ArrayLengths.{first_operand, LengthIs}
 use Rattle.machine.specs.Invoked.{operand_at}
 use Rattle.machine.proofs.LengthCalls.{array_length_answers}
@@ -9,7 +8,7 @@ use Rattle.machine.proofs.invoke.answer.Goals as goal
 
 pub returns : goal.returns
 returns c =
-    let classes = (world_of_scene c.args.world.now).classes in
+    let classes = c.args.world.now.classes in
     let space = c.args.heap.now in
     let references = c.args.references.now in
     let function = call_view c.args.function.now in
