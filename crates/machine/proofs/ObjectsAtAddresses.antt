@@ -35,4 +35,3 @@ is_object_by space heap a n (Some b) e h named =
 
 pub is_object : (space : Space) (heap : Heap) (a n : ℕ) → BlocksAgree space heap space.blocks → name_at space a ≡ Some n → IsObject space heap a n
 is_object space heap a n h named = is_object_by space heap a n (block_at space a) refl h named
-
