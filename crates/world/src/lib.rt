@@ -1,7 +1,10 @@
 //! Worlds, as texts and in memory: the heap's size, the classes, the objects, and what each thread calls. What else is read and written of a run, it passes on.
 #![tactic(auto)]
 
+mod line;
 mod object;
+mod value;
+mod words;
 mod world;
 mod world_text;
 
