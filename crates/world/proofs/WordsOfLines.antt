@@ -1,9 +1,10 @@
 -- The words of a line: the first, those after it, and the text of a string, which is what is after the first two.
-use Rattle.std.proofs.Common.{◌≡◌, ℕ, ◌+◌, ◌-◌, ◌≤◌, Bool, true, false, cond, List, [], ◌∷◌, ◌++◌, length, map, take, drop, get_or, Option, Some, None, refl, sym, ap, ◌∙◌, arith, Bor}
+use Rattle.std.proofs.Common.{◌≡◌, ℕ, suc, ◌+◌, ◌-◌, ◌≤◌, Bool, true, false, cond, List, [], ◌∷◌, ◌++◌, length, map, take, drop, get_or, Option, Some, None, refl, sym, ap, ◌∙◌, arith, Bor}
 use Rattle.std.specs.Prelude.{bytes_eq, codes}
 use Rattle.std.specs.List.{list_all}
 use Rattle.std.proofs.Math.Seq.{drop-append-add}
-use Rattle.std.proofs.Math.ListN.{drop_of_length-le, take_of_length-le}
+use Rattle.std.proofs.Math.ListN.{drop_of_length-le}
+use Rattle.std.proofs.lemmas.List.{take_all}
 use Rattle.std.proofs.lemmas.List.Folds.{list_all-map}
 use Rattle.std.proofs.lemmas.List.Splits.{join_with_byte-slice_split}
 use Rattle.base.specs.Bytes.{is_some_byte}
@@ -52,7 +53,7 @@ after_first words = take (length words - 1) (drop 1 words)
 
 first_and_rest : (words : Words) (d : Bor (List ℕ)) → 1 ≤ length words → words ≡ get_or words 0 d ∷ after_first words
 first_and_rest [] d some = absurd (omega arith)
-first_and_rest (w ∷ words) d some = ap (λ (ws : Words). w ∷ ws) (sym (take_of_length-le words (omega arith)))
+first_and_rest (w ∷ words) d some = ap (λ (ws : Words). w ∷ ws) (sym (take_all (suc (length words) - 1) words (omega arith)))
 
 module _ (bytes : List ℕ) (words : Words) (d : Bor (List ℕ)) (some : 1 ≤ length words) (are : bytes_of words ≡ parts_of 32 bytes) where
   abbrev first : List ℕ

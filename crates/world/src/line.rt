@@ -92,14 +92,22 @@ fn field_line<'a>(words: &[&'a [u8]], is_static: bool) -> Option<Line<'a>>
                 name: *name,
                 signature: *signature,
             };
-            Some(if is_static { Line::Static(field) } else { Line::Field(field) })
+            Some(if is_static {
+                Line::Static(field)
+            } else {
+                Line::Field(field)
+            })
         }
         _ => None,
     }
 }
 
 /// `@x CLASS VALUE ..`
-fn object_line<'a>(alloc: Global, words: &[&'a [u8]], is_array: bool) -> Result<Option<Line<'a>>, AllocError>
+fn object_line<'a>(
+    alloc: Global,
+    words: &[&'a [u8]],
+    is_array: bool,
+) -> Result<Option<Line<'a>>, AllocError>
     ensures { IfOk result (λ line. option_map line_view line ≡ object_by_words (if is_array then ObjectsLine else WrittenObject) (map (λ w. w.now) words.now)) }
 {
     let [name, class, values @ ..] = words else {
@@ -112,8 +120,16 @@ fn object_line<'a>(alloc: Global, words: &[&'a [u8]], is_array: bool) -> Result<
         return Ok(None);
     };
     let class = *class;
-    let object = ObjectWords { name, class, values };
-    Ok(Some(if is_array { Line::Objects(object) } else { Line::Object(object) }))
+    let object = ObjectWords {
+        name,
+        class,
+        values,
+    };
+    Ok(Some(if is_array {
+        Line::Objects(object)
+    } else {
+        Line::Object(object)
+    }))
 }
 
 /// `@x K VALUE ..`
@@ -132,11 +148,19 @@ fn array_line<'a>(alloc: Global, words: &[&'a [u8]]) -> Result<Option<Line<'a>>,
     let Some(values) = read_values(alloc, values)? else {
         return Ok(None);
     };
-    Ok(Some(Line::Array(ArrayWords { name, element, values })))
+    Ok(Some(Line::Array(ArrayWords {
+        name,
+        element,
+        values,
+    })))
 }
 
 /// `FUNCTION ARGUMENT ..`
-fn call_line<'a>(alloc: Global, words: &[&'a [u8]], is_first: bool) -> Result<Option<Line<'a>>, AllocError>
+fn call_line<'a>(
+    alloc: Global,
+    words: &[&'a [u8]],
+    is_first: bool,
+) -> Result<Option<Line<'a>>, AllocError>
     ensures { IfOk result (λ line. option_map line_view line ≡ call_by_words (if is_first then ThreadLine else FurtherCall) (map (λ w. w.now) words.now)) }
 {
     let [function, arguments @ ..] = words else {
@@ -146,12 +170,23 @@ fn call_line<'a>(alloc: Global, words: &[&'a [u8]], is_first: bool) -> Result<Op
         return Ok(None);
     };
     let function = *function;
-    let call = CallWords { function, arguments };
-    Ok(Some(if is_first { Line::Thread(call) } else { Line::Call(call) }))
+    let call = CallWords {
+        function,
+        arguments,
+    };
+    Ok(Some(if is_first {
+        Line::Thread(call)
+    } else {
+        Line::Call(call)
+    }))
 }
 
 /// A line of this first word, and no string's.
-fn line_of_kind<'a>(alloc: Global, word: &[u8], words: &[&'a [u8]]) -> Result<Option<Line<'a>>, AllocError>
+fn line_of_kind<'a>(
+    alloc: Global,
+    word: &[u8],
+    words: &[&'a [u8]],
+) -> Result<Option<Line<'a>>, AllocError>
     ensures { IfOk result (λ line. option_map line_view line ≡ words_by_kind word.now (map (λ w. w.now) words.now)) }
 {
     if word == b"class".as_slice() {
