@@ -2,6 +2,7 @@
 #![tactic(auto)]
 
 mod line;
+mod names;
 mod object;
 mod value;
 mod words;
