@@ -1,1 +1,2 @@
 pub mod WordsOfLines
+pub mod NamesInMemory

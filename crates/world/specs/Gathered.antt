@@ -1,5 +1,5 @@
 -- What the lines so far say, as the rules on the next line ask for it, and what one more line adds.
-use Rattle.std.specs.Prelude.{◌≡◌, ℕ, ◌+◌, Bool, true, not, ◌&&◌, ◌||◌, ◌==◌, List, [], ◌∷◌, ◌++◌, length, map, position, codes, nat_lt, nat_le, Option, Some, None, Result, Ok, Err, is_some, unwrap_or, bytes_eq, if◌then◌else◌}
+use Rattle.std.specs.Prelude.{◌≡◌, ℕ, ◌+◌, Bool, true, false, not, ◌&&◌, ◌||◌, ◌==◌, List, [], ◌∷◌, ◌++◌, length, map, position, codes, nat_lt, nat_le, Option, Some, None, Result, Ok, Err, is_some, unwrap_or, bytes_eq, if◌then◌else◌}
 use Rattle.std.specs.Option.{option_map, option_to_list}
 use Rattle.std.specs.List.{list_all, list_any}
 use Rattle.base.specs.Bytes.{Identifier, ByName, lookup}

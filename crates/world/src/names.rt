@@ -62,9 +62,9 @@ impl ObjectNames {
         ensures { OnOk result (self.new ≡ self.old ++ (name.now, class) ∷ []) }
     {
         let name = Vec::from_slice(alloc, name)?;
-        match self.classes.insert(name, class) {
-            Ok(_) => Ok(()),
-            Err(_) => Err(AllocError),
+        if self.classes.insert(name, class).is_err() {
+            return Err(AllocError);
         }
+        Ok(())
     }
 }
