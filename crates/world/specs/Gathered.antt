@@ -3,6 +3,7 @@ use Rattle.std.specs.Prelude.{◌≡◌, ℕ, ◌+◌, Bool, true, false, not, �
 use Rattle.std.specs.Option.{option_map, option_to_list}
 use Rattle.std.specs.List.{list_all, list_any}
 use Rattle.base.specs.Bytes.{Identifier, ByName, lookup}
+use Rattle.base.specs.Element.{JInt}
 use Rattle.base.specs.Options.{some_passes}
 use Rattle.classes.specs.Additions.{ClassRule}
 use Rattle.classes.specs.BuiltIns.{class_class}
@@ -13,7 +14,7 @@ use Rattle.source.specs.World.{Invocation}
 use Rattle.texts.specs.LineRules.{LineRule, OfClass, LineForm, WrongName, OutOfLimit, HeapFull}
 use Rattle.world.specs.WorldLines.{WorldValue, NumberValue, NullValue, NamedObject, NamedClass, WorldLine, ClassLine, FieldLine, StaticLine, ObjectLine, ObjectsLine, ArrayLine, StringLine, ThreadLine, CallLine}
 use Rattle.world.specs.WorldMeaning.{table_with, object_defined, values_of_line, with_last}
-use Rattle.world.specs.WorldRules.{part_of, is_call_line, is_formed_value, is_well_formed, is_class_allowed, types_of_line, each_in_range, breaks_class_rule}
+use Rattle.world.specs.WorldRules.{part_of, is_call_line, is_formed_value, is_well_formed, is_class_allowed, types_of_line, value_in_range, each_in_range, breaks_class_rule}
 
 pub record Gathered : Type 0 where
   pub cells : ℕ
@@ -84,6 +85,12 @@ can_hold classes names (ReferenceField c) value = refers_to classes names c valu
 abbrev pub each_can_hold : Classes → ByName ℕ → List FieldType → List WorldValue → Bool
 each_can_hold classes names (t ∷ types) (v ∷ values) = can_hold classes names t v && each_can_hold classes names types values
 each_can_hold classes names types values = true
+
+-- whether a number is in the range of its place's type; an argument is in that of jint
+abbrev pub is_place_in_range : Option FieldType → WorldValue → Bool
+is_place_in_range (Some (NumberField t)) v = value_in_range t v
+is_place_in_range (Some (ReferenceField c)) v = true
+is_place_in_range None v = value_in_range JInt v
 
 -- whether its names are free, allowed and known, and its values are held
 abbrev pub is_named : Classes → ByName ℕ → WorldLine → Bool
