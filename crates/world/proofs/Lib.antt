@@ -1,2 +1,3 @@
 pub mod WordsOfLines
 pub mod NamesInMemory
+pub mod PlacesOfValues

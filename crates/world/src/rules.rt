@@ -191,10 +191,16 @@ fn are_formed(values: &[Value]) -> bool
     values.iter().all(|value| is_formed_value(*value))
 }
 
+fn has_formed_values(line: &Line) -> bool
+    ensures { result ≡ list_all is_formed_value (written_values (line_view line.now)) }
+{
+    are_formed(values_of(line))
+}
+
 fn is_formed(classes: &ClassTable, line: &Line) -> bool
     ensures { result ≡ is_formed classes.now (line_view line.now) }
 {
-    is_well_formed(classes, line) && are_formed(values_of(line))
+    is_well_formed(classes, line) && has_formed_values(line)
 }
 
 // ---- names
@@ -247,6 +253,12 @@ fn are_known(classes: &ClassTable, names: &ObjectNames, values: &[Value]) -> boo
     ensures { result ≡ list_all (λ value. is_known classes.now names.now (value_view value)) values.now }
 {
     values.iter().all(|value| is_known(classes, names, *value))
+}
+
+fn has_known_values(classes: &ClassTable, names: &ObjectNames, line: &Line) -> bool
+    ensures { result ≡ list_all (is_known classes.now names.now) (written_values (line_view line.now)) }
+{
+    are_known(classes, names, values_of(line))
 }
 
 /// Whether references to objects of a class can be this value.
@@ -348,7 +360,7 @@ fn is_named(classes: &ClassTable, names: &ObjectNames, line: &Line) -> bool
 {
     !is_name_taken(names, line)
         && is_class_allowed(classes, line)
-        && are_known(classes, names, values_of(line))
+        && has_known_values(classes, names, line)
         && each_can_hold(classes, names, line)
 }
 
@@ -417,7 +429,8 @@ fn each_in_range(classes: &ClassTable, line: &Line) -> bool
         Line::Array(array) => are_in_range(array.element, &array.values),
         Line::Thread(call) => are_in_range(ElementType::Int, &call.arguments),
         Line::Call(call) => are_in_range(ElementType::Int, &call.arguments),
-        _ => true,
+        Line::Objects(_) => true,
+        Line::Class(..) | Line::Field(_) | Line::Static(_) | Line::String(..) => true,
     }
 }
 
