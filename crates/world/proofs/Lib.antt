@@ -1,0 +1,4 @@
+pub mod Tests
+pub mod KeptLines
+pub mod Places
+pub mod GrownLines
