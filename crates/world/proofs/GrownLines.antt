@@ -99,7 +99,7 @@ no_value (StringLine x text) h = absurd (let no : false ≡ true = h in cc)
 no_value (ThreadLine function arguments) h = absurd (let no : false ≡ true = h in cc)
 no_value (CallLine function arguments) h = absurd (let no : false ≡ true = h in cc)
 
-no_thread : (L : Lines) (threads : List (List Invocation)) (n : ℕ) (line : WorldLine) → nat_le (part_of line) 1 ≡ true → threads_with L threads (n, line) ≡ threads
+pub no_thread : (L : Lines) (threads : List (List Invocation)) (n : ℕ) (line : WorldLine) → nat_le (part_of line) 1 ≡ true → threads_with L threads (n, line) ≡ threads
 no_thread L threads n (ClassLine name superclass) h = refl
 no_thread L threads n (FieldLine class name signature) h = refl
 no_thread L threads n (StaticLine class name signature) h = refl
@@ -230,7 +230,7 @@ module _ (earlier : Lines) (n : ℕ) (line : WorldLine) where
     pub first_lines : part_of line ≡ 0 → are_within 0 earlier ≡ true
     first_lines p = ap (λ part. are_within part earlier) (sym p) ∙ earlier_within earlier line ordered
 
-    first_lines_next : part_of line ≡ 0 → are_within 0 next ≡ true
+    pub first_lines_next : part_of line ≡ 0 → are_within 0 next ≡ true
     first_lines_next p =
         let own : nat_le (part_of line) 0 ≡ true = at_most_so (part_of line) 0 (omega (arith, p)) in
         list_all-append (λ (l : ℕ × WorldLine). nat_le (part_of l.1) 0) earlier ((n, line) ∷ []) ∙ and_from (are_within 0 earlier) (nat_le (part_of line) 0 && true) (first_lines p) (and_from (nat_le (part_of line) 0) true own refl)
