@@ -1,3 +1,12 @@
+pub mod Tests
+pub mod KeptLines
+pub mod Places
+pub mod GrownLines
+pub mod WorldTables
+pub mod GrownClasses
+pub mod FittingObjects
+pub mod Soundness
 pub mod WordsOfLines
 pub mod NamesInMemory
 pub mod PlacesOfValues
+pub mod ValuesInMemory
