@@ -5,7 +5,7 @@ use Rattle.std.specs.List.{list_all, list_any}
 use Rattle.base.specs.Bytes.{Identifier, ByName, lookup}
 use Rattle.base.specs.Element.{JInt}
 use Rattle.base.specs.Options.{some_passes}
-use Rattle.classes.specs.Additions.{ClassRule}
+use Rattle.classes.specs.Additions.{ClassRule, new_class, with_class}
 use Rattle.classes.specs.BuiltIns.{class_class}
 use Rattle.classes.specs.Class.{FieldType, NumberField, ReferenceField, Classes, class_named, assignable}
 use Rattle.class_table.specs.Refusals.{first_broken}
@@ -139,6 +139,11 @@ least_rule g line =
 
 -- ---- one more line
 
+-- the classes with that of the line; a class is below java/lang/Object where no superclass is named
+abbrev pub classes_with : Classes → WorldLine → Classes
+classes_with classes (ClassLine name superclass) = with_class classes (new_class name (class_named classes (unwrap_or superclass (codes "java/lang/Object"))))
+classes_with classes line = table_with classes line
+
 -- the name that an object gets at load
 abbrev pub object_at : Classes → ByName ℕ → Identifier → Option ℕ
 object_at classes names x = option_map (λ i. length classes + 2 + i) (position (λ (o : Identifier × ℕ). bytes_eq o.0 x) names)
@@ -172,7 +177,7 @@ calls_with g number line = g.threads
 abbrev pub with_line : Gathered → ℕ → WorldLine → Gathered
 with_line g number line = record {
   cells = g.cells;
-  classes = table_with g.classes line;
+  classes = classes_with g.classes line;
   names = g.names ++ option_to_list (object_defined g.classes line);
   objects = objects_with g line;
   threads = calls_with g number line;

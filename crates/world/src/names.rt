@@ -1,6 +1,6 @@
 //! The names of the objects that lines have said so far, each with its class.
 
-ghost use Rattle.std.specs.Prelude.{◌≡◌, ◌<◌, ◌++◌, ◌∷◌, [], None, length, position, OnOk};
+ghost use Rattle.std.specs.Prelude.{◌≡◌, ◌<◌, ◌++◌, ◌∷◌, [], None, length, position, OnOk, OnErr};
 ghost use Rattle.std.specs.Str.{bytes_eq};
 ghost use Rattle.base.specs.Bytes.{lookup};
 
@@ -59,7 +59,8 @@ impl ObjectNames {
     /// Puts a name after the others, of which none is the same.
     pub fn push(&mut self, alloc: Global, name: &[u8], class: usize) -> Result<(), AllocError>
         requires { lookup name.now self.old ≡ None }
-        ensures { OnOk result (self.new ≡ self.old ++ (name.now, class) ∷ []) }
+        ensures ok { OnOk result (self.new ≡ self.old ++ (name.now, class) ∷ []) }
+        ensures err { OnErr result (self.new ≡ self.old) }
     {
         let name = Vec::from_slice(alloc, name)?;
         if self.classes.insert(name, class).is_err() {

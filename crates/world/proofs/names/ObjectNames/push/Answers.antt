@@ -5,8 +5,8 @@ use Rattle.world.specs.NameViews.{names_view}
 use Rattle.world.proofs.NamesInMemory.{lookup-view, names_view-more, on_ok}
 use Rattle.world.proofs.names.ObjectNames.push.Goals as goal
 
-pub returns : goal.returns
-returns c =
+pub returns-clause-ok : goal.returns-clause-ok
+returns-clause-ok c =
     let old = c.self.inside.classes in
     let name = c.in_ok-name.ensures.items in
     let is_new : lookup c.in_ok-name.name.items (names_view old.entries) ≡ None = ap (λ n. lookup n (names_view old.entries)) name ∙ ap (lookup c.args.name.now) c.self.view_is ∙ c.requires in
