@@ -6,3 +6,10 @@ pub mod WorldTables
 pub mod GrownClasses
 pub mod FittingObjects
 pub mod Soundness
+pub mod ReadValues
+pub mod WrittenValues
+pub mod LineWords
+pub mod ReadLines
+pub mod WrittenLines
+pub mod HeapLines
+pub mod ReadWorlds

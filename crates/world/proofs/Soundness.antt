@@ -178,9 +178,9 @@ module _ (cells : ℕ) (L : Lines) (n : ℕ) (line : WorldLine) (s : AreSound ce
           ∙ ap (list_all (list_all (are_arguments made))) threads_next
           ∙ by_line (λ threads. list_all (list_all (are_arguments made)) threads ≡ true) s.arguments line
           (λ f vs is.
-              list_all-append (list_all (are_arguments made)) (threads_of L) ((invocation_of_line L n f vs ∷ []) ∷ [])
-              ∙ and_from (list_all (list_all (are_arguments made)) (threads_of L)) _ s.arguments
-              (and_from (are_arguments made (invocation_of_line L n f vs) && true) true (and_from (are_arguments made (invocation_of_line L n f vs)) true (line_given f vs (ap values_of_line is) (ap (types_of_line (table_of L)) is)) refl) refl))
+          list_all-append (list_all (are_arguments made)) (threads_of L) ((invocation_of_line L n f vs ∷ []) ∷ [])
+          ∙ and_from (list_all (list_all (are_arguments made)) (threads_of L)) _ s.arguments
+          (and_from (are_arguments made (invocation_of_line L n f vs) && true) true (and_from (are_arguments made (invocation_of_line L n f vs)) true (line_given f vs (ap values_of_line is) (ap (types_of_line (table_of L)) is)) refl) refl))
           (λ f vs is. all_with_last (are_arguments made) (invocation_of_line L n f vs) (threads_of L) s.arguments (line_given f vs (ap values_of_line is) (ap (types_of_line (table_of L)) is)))
 
   fits_next : cells_of next ≤ cells

@@ -1,10 +1,12 @@
 //! Worlds, as texts and in memory: the heap's size, the classes, the objects, and what each thread calls. What else is read and written of a run, it passes on.
 #![tactic(auto)]
 
+mod laws;
 mod object;
 mod world;
 mod world_text;
 
+pub use laws::{texts_mean_one_world, worlds_are_read};
 pub use object::{Object, ObjectValue};
 pub use report::{
     ClassName, NoRows, Rows, Shown, Sink, SinkFailed, StdSink, ThreadStatus, put_all, put_pieces,
