@@ -2,6 +2,7 @@ pub mod Tests
 pub mod KeptLines
 pub mod Places
 pub mod GrownLines
+pub mod OrderedLines
 pub mod WorldTables
 pub mod GrownClasses
 pub mod FittingObjects
