@@ -2,6 +2,7 @@ pub mod Tests
 pub mod KeptLines
 pub mod Places
 pub mod GrownLines
+pub mod OrderedLines
 pub mod WorldTables
 pub mod GrownClasses
 pub mod FittingObjects
@@ -10,3 +11,10 @@ pub mod WordsOfLines
 pub mod NamesInMemory
 pub mod PlacesOfValues
 pub mod ValuesInMemory
+pub mod ReadValues
+pub mod WrittenValues
+pub mod LineWords
+pub mod ReadLines
+pub mod WrittenLines
+pub mod HeapLines
+pub mod ReadWorlds

@@ -1,5 +1,5 @@
 -- Lines that keep the rules, each after those before it, define a sound world.
-use Rattle.std.proofs.Common.{◌≡◌, ℕ, suc, ◌+◌, ◌<◌, ◌≤◌, Bool, true, List, [], ◌∷◌, ◌++◌, length, map, Option, Some, None, refl, sym, ap, ◌∙◌, subst, arith, append_assoc, append-nil, ◌⊎◌, inl, inr}
+use Rattle.std.proofs.Common.{◌≡◌, ℕ, suc, ◌+◌, ◌<◌, ◌≤◌, Bool, true, List, [], ◌∷◌, ◌++◌, length, map, Option, Some, None, Ok, refl, sym, ap, ◌∙◌, subst, arith, append_assoc, append-nil, ◌⊎◌, inl, inr}
 use Rattle.std.specs.Prelude.{◌&&◌, filter_map}
 use Rattle.std.specs.Option.{option_map, option_to_list}
 use Rattle.std.specs.List.{list_all, cons_option}
@@ -13,6 +13,7 @@ use Rattle.source.specs.Object.{Object, sizes}
 use Rattle.source.specs.Reachable.{loaded_count}
 use Rattle.source.specs.World.{Invocation, class_objects, fresh_object, made_before}
 use Rattle.world.specs.CallArguments.{is_argument, are_arguments}
+use Rattle.world.specs.ReadingWorlds.{lines_read}
 use Rattle.world.specs.SoundWorlds.{IsObjectAfter, AreObjectsAfter, has_call, IsSound}
 use Rattle.world.specs.WorldLines.{WorldValue, WorldLine, ClassLine, FieldLine, StaticLine, ObjectLine, ObjectsLine, ArrayLine, StringLine, ThreadLine, CallLine, Lines}
 use Rattle.world.specs.WorldMeaning.{table_of, object_defined, objects_defined, value_of, values_of_line, object_of, invocation_of_line, with_last, threads_with, threads_of, world_of, cells_of}
@@ -21,6 +22,7 @@ use Rattle.world.proofs.FittingObjects.{made_so_far, made-length, are_given, obj
 use Rattle.world.proofs.GrownClasses.{IsGrownTable, built_ins_grown, line_grows}
 use Rattle.world.proofs.GrownLines.{objects_of, are_known, table_grows, table_stays, first_or_later, before_or_thread, known_grow, objects_grow, threads_grow, no_thread, no_threads, first_lines_next, no_objects_made, thread_no_object}
 use Rattle.world.proofs.KeptLines.{IsKept, all_keep}
+use Rattle.world.proofs.ReadWorlds.{lines_were_read}
 use Rattle.world.proofs.Tests.{both, at_most_so}
 
 -- ---- objects one after another
@@ -178,9 +180,9 @@ module _ (cells : ℕ) (L : Lines) (n : ℕ) (line : WorldLine) (s : AreSound ce
           ∙ ap (list_all (list_all (are_arguments made))) threads_next
           ∙ by_line (λ threads. list_all (list_all (are_arguments made)) threads ≡ true) s.arguments line
           (λ f vs is.
-              list_all-append (list_all (are_arguments made)) (threads_of L) ((invocation_of_line L n f vs ∷ []) ∷ [])
-              ∙ and_from (list_all (list_all (are_arguments made)) (threads_of L)) _ s.arguments
-              (and_from (are_arguments made (invocation_of_line L n f vs) && true) true (and_from (are_arguments made (invocation_of_line L n f vs)) true (line_given f vs (ap values_of_line is) (ap (types_of_line (table_of L)) is)) refl) refl))
+          list_all-append (list_all (are_arguments made)) (threads_of L) ((invocation_of_line L n f vs ∷ []) ∷ [])
+          ∙ and_from (list_all (list_all (are_arguments made)) (threads_of L)) _ s.arguments
+          (and_from (are_arguments made (invocation_of_line L n f vs) && true) true (and_from (are_arguments made (invocation_of_line L n f vs)) true (line_given f vs (ap values_of_line is) (ap (types_of_line (table_of L)) is)) refl) refl))
           (λ f vs is. all_with_last (are_arguments made) (invocation_of_line L n f vs) (threads_of L) s.arguments (line_given f vs (ap values_of_line is) (ap (types_of_line (table_of L)) is)))
 
   fits_next : cells_of next ≤ cells
@@ -225,3 +227,9 @@ sound cells lines low high rules =
       calls = s.calls;
       arguments = s.arguments;
     }
+
+-- the same of lines that were read
+pub read_sound : (cells : ℕ) (numbered : List (ℕ × List ℕ)) (lines : Lines) → 512 ≤ cells → cells ≤ 1048576 → lines_read cells [] numbered ≡ Ok lines → IsSound (world_of cells lines)
+read_sound cells numbered lines low high h =
+    let r = lines_were_read cells [] numbered lines h in
+    sound cells lines low high (ap (broken_after cells []) r.are ∙ r.rules)

@@ -5,6 +5,7 @@ mod additions;
 mod builder;
 mod line;
 mod names;
+mod laws;
 mod object;
 mod rules;
 mod value;
@@ -12,6 +13,7 @@ mod words;
 mod world;
 mod world_text;
 
+pub use laws::{texts_mean_one_world, worlds_are_read};
 pub use object::{Object, ObjectValue};
 pub use report::{
     ClassName, NoRows, Rows, Shown, Sink, SinkFailed, StdSink, ThreadStatus, put_all, put_pieces,
