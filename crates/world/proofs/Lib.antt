@@ -11,6 +11,7 @@ pub mod WordsOfLines
 pub mod NamesInMemory
 pub mod PlacesOfValues
 pub mod ValuesInMemory
+pub mod KeptRules
 pub mod ReadValues
 pub mod WrittenValues
 pub mod LineWords

@@ -1,19 +1,19 @@
 -- What the lines so far say, as the rules on the next line ask for it, and what one more line adds.
-use Rattle.std.specs.Prelude.{◌≡◌, ℕ, ◌+◌, Bool, true, false, not, ◌&&◌, ◌||◌, ◌==◌, List, [], ◌∷◌, ◌++◌, length, map, position, codes, nat_lt, nat_le, Option, Some, None, Result, Ok, Err, is_some, unwrap_or, bytes_eq, if◌then◌else◌}
+use Rattle.std.specs.Prelude.{◌≡◌, ℕ, ◌+◌, Bool, true, false, not, ◌&&◌, ◌||◌, ◌==◌, List, [], ◌∷◌, ◌++◌, length, map, position, pos, codes, nat_lt, nat_le, Option, Some, None, Result, Ok, Err, is_some, unwrap_or, bytes_eq, if◌then◌else◌}
 use Rattle.std.specs.Option.{option_map, option_to_list}
 use Rattle.std.specs.List.{list_all, list_any}
 use Rattle.base.specs.Bytes.{Identifier, ByName, lookup}
 use Rattle.base.specs.Element.{JInt}
 use Rattle.base.specs.Options.{some_passes}
-use Rattle.classes.specs.Additions.{ClassRule, new_class, with_class}
-use Rattle.classes.specs.BuiltIns.{class_class}
-use Rattle.classes.specs.Class.{FieldType, NumberField, ReferenceField, Classes, class_named, assignable}
+use Rattle.classes.specs.Additions.{ClassRule, new_class, with_class, with_field, with_static}
+use Rattle.classes.specs.BuiltIns.{class_class, string_class, number_array}
+use Rattle.classes.specs.Class.{FieldType, NumberField, ReferenceField, Classes, class_named, array_name, assignable}
 use Rattle.class_table.specs.Refusals.{first_broken}
 use Rattle.source.specs.Object.{Reference, ObjectValue, Number, Refers, Object}
 use Rattle.source.specs.World.{Invocation}
 use Rattle.texts.specs.LineRules.{LineRule, OfClass, LineForm, WrongName, OutOfLimit, HeapFull}
 use Rattle.world.specs.WorldLines.{WorldValue, NumberValue, NullValue, NamedObject, NamedClass, WorldLine, ClassLine, FieldLine, StaticLine, ObjectLine, ObjectsLine, ArrayLine, StringLine, ThreadLine, CallLine}
-use Rattle.world.specs.WorldMeaning.{table_with, object_defined, values_of_line, with_last}
+use Rattle.world.specs.WorldMeaning.{class_number, field_of, with_last}
 use Rattle.world.specs.WorldRules.{part_of, is_call_line, is_formed_value, is_well_formed, is_class_allowed, types_of_line, value_in_range, each_in_range, breaks_class_rule}
 
 pub record Gathered : Type 0 where
@@ -139,11 +139,6 @@ least_rule g line =
 
 -- ---- one more line
 
--- the classes with that of the line; a class is below java/lang/Object where no superclass is named
-abbrev pub classes_with : Classes → WorldLine → Classes
-classes_with classes (ClassLine name superclass) = with_class classes (new_class name (class_named classes (unwrap_or superclass (codes "java/lang/Object"))))
-classes_with classes line = table_with classes line
-
 -- the name that an object gets at load
 abbrev pub object_at : Classes → ByName ℕ → Identifier → Option ℕ
 object_at classes names x = option_map (λ i. length classes + 2 + i) (position (λ (o : Identifier × ℕ). bytes_eq o.0 x) names)
@@ -155,32 +150,43 @@ value_at classes names NullValue = Refers None
 value_at classes names (NamedObject x) = Refers (object_at classes names x)
 value_at classes names (NamedClass name) = Refers (class_named classes name)
 
--- an object of this class
-abbrev pub object_with : Classes → ByName ℕ → WorldLine → Identifier × ℕ → Object
-object_with classes names line o = record { class = o.1; values = map (value_at classes names) (values_of_line line) }
-
--- the objects with that of the line
-abbrev pub objects_with : Gathered → WorldLine → List Object
-objects_with g line = g.objects ++ option_to_list (option_map (object_with g.classes g.names line) (object_defined g.classes line))
+-- one more object
+abbrev pub with_object : Gathered → Identifier → (class : ℕ) → List ObjectValue → Gathered
+with_object g x class values = record g {
+  names = g.names ++ (x, class) ∷ [];
+  objects = g.objects ++ (record { class = class; values = values }) ∷ [];
+  used = g.used + (3 + length values);
+  part = 1;
+}
 
 -- a call
 abbrev pub call_with : Gathered → ℕ → Identifier → List WorldValue → Invocation
 call_with g number function arguments = record { line = number; function = function; arguments = map (value_at g.classes g.names) arguments }
 
--- the threads with the line's call
-abbrev pub calls_with : Gathered → ℕ → WorldLine → List (List Invocation)
-calls_with g number (ThreadLine function arguments) = g.threads ++ (call_with g number function arguments ∷ []) ∷ []
-calls_with g number (CallLine function arguments) = with_last (call_with g number function arguments) g.threads
-calls_with g number line = g.threads
+-- one more call of a new thread, or of the last one
+abbrev pub with_threads : Gathered → List (List Invocation) → Gathered
+with_threads g threads = record g { threads = threads; part = 2 }
+
+-- the number of a class of arrays
+abbrev pub array_number : Classes → Identifier → ℕ
+array_number classes element = class_number classes (array_name element)
 
 -- what is there after the line of this number
 abbrev pub with_line : Gathered → ℕ → WorldLine → Gathered
-with_line g number line = record {
-  cells = g.cells;
-  classes = classes_with g.classes line;
-  names = g.names ++ option_to_list (object_defined g.classes line);
-  objects = objects_with g line;
-  threads = calls_with g number line;
-  used = g.used + cells_added line;
-  part = part_of line;
+with_line g number (ClassLine name superclass) = record g {
+  classes = with_class g.classes (new_class name (class_named g.classes (unwrap_or superclass (codes "java/lang/Object"))));
+  used = g.used + 6;
+  part = 0;
 }
+with_line g number (FieldLine class name signature) = record g { classes = with_field g.classes (class_number g.classes class) (field_of g.classes name signature); part = 0 }
+with_line g number (StaticLine class name signature) = record g {
+  classes = with_static g.classes (class_number g.classes class) (field_of g.classes name signature);
+  used = g.used + 1;
+  part = 0;
+}
+with_line g number (ObjectLine x class values) = with_object g x (class_number g.classes class) (map (value_at g.classes g.names) values)
+with_line g number (ObjectsLine x class values) = with_object g x (array_number g.classes class) (map (value_at g.classes g.names) values)
+with_line g number (ArrayLine x t values) = with_object g x (number_array t) (map (value_at g.classes g.names) values)
+with_line g number (StringLine x text) = with_object g x string_class (map (λ b. Number (pos b)) text)
+with_line g number (ThreadLine function arguments) = with_threads g (g.threads ++ (call_with g number function arguments ∷ []) ∷ [])
+with_line g number (CallLine function arguments) = with_threads g (with_last (call_with g number function arguments) g.threads)

@@ -10,7 +10,7 @@ ghost use Rattle.classes.specs.Class.{class_named};
 ghost use Rattle.classes.specs.Mangling.{is_class_name};
 ghost use Rattle.class_table.specs.FieldViews.{with_declared, declared_field};
 ghost use Rattle.source.specs.Object.{Number};
-ghost use Rattle.world.specs.Gathered.{object_at, value_at};
+ghost use Rattle.world.specs.Gathered.{object_at, value_at, with_object};
 ghost use Rattle.world.specs.GatheredViews.{gathered_of};
 ghost use Rattle.world.specs.LineViews.{value_view};
 ghost use Rattle.world.specs.Views.{object_value_view};
@@ -25,7 +25,7 @@ use crate::world::Call;
 use std::alloc::{AllocError, Global};
 
 /// The units of a string.
-fn units(alloc: Global, text: &[u8]) -> Result<Vec<ObjectValue>, AllocError>
+pub fn units(alloc: Global, text: &[u8]) -> Result<Vec<ObjectValue>, AllocError>
     ensures { IfOk result (λ v. map object_value_view v.items ≡ map (λ b. Number (pos b)) text.now) }
 {
     let mut units = Vec::new(alloc);
@@ -160,12 +160,7 @@ impl WorldBuilder {
         requires new { lookup name.now self.old.names ≡ None }
         requires few { length self.old.names < 65536 }
         requires room { self.old.used + (3 + length values.items) ≤ self.old.cells }
-        ensures { OnOk result (gathered_of self.new ≡ record (gathered_of self.old) {
-          names = self.old.names ++ (name.now, class) ∷ [];
-          objects = self.old.objects.items ++ record { class = class; values = map object_value_view values.items } ∷ [];
-          used = self.old.used + (3 + length values.items);
-          part = 1;
-        }) }
+        ensures { OnOk result (gathered_of self.new ≡ with_object (gathered_of self.old) name.now class (map object_value_view values.items)) }
     {
         let added = 3 + values.len();
         self.names.push(alloc, name, class)?;
@@ -173,6 +168,24 @@ impl WorldBuilder {
         self.used += added;
         self.part = 1;
         Ok(())
+    }
+
+    /// One more object, of this class.
+    pub fn put_values(
+        &mut self,
+        alloc: Global,
+        name: &[u8],
+        class: usize,
+        values: &[Value],
+    ) -> Result<(), AllocError>
+        requires new { lookup name.now self.old.names ≡ None }
+        requires few { length self.old.names < 65536 }
+        requires room { self.old.used + (3 + length values.now) ≤ self.old.cells }
+        requires numbers { IsTrue (list_all (value_in_range JInt) (map value_view values.now)) }
+        ensures { OnOk result (gathered_of self.new ≡ with_object (gathered_of self.old) name.now class (map (value_at self.old.classes self.old.names) (map value_view values.now))) }
+    {
+        let values = self.values_at(alloc, values)?;
+        self.put_object(alloc, name, class, values)
     }
 
     /// The first call of one more thread.

@@ -5,6 +5,7 @@ mod additions;
 mod builder;
 mod line;
 mod names;
+mod next_line;
 mod laws;
 mod object;
 mod rules;
