@@ -10,6 +10,10 @@ pub mod WorldCells
 pub mod GrownClasses
 pub mod FittingObjects
 pub mod Soundness
+pub mod WordsOfLines
+pub mod NamesInMemory
+pub mod PlacesOfValues
+pub mod ValuesInMemory
 pub mod ReadValues
 pub mod WrittenValues
 pub mod LineWords

@@ -1,8 +1,15 @@
 //! Worlds, as texts and in memory: the heap's size, the classes, the objects, and what each thread calls. What else is read and written of a run, it passes on.
 #![tactic(auto)]
 
+mod additions;
+mod builder;
+mod line;
+mod names;
 mod laws;
 mod object;
+mod rules;
+mod value;
+mod words;
 mod world;
 mod world_text;
 
