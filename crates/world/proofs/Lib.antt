@@ -3,7 +3,10 @@ pub mod KeptLines
 pub mod Places
 pub mod GrownLines
 pub mod OrderedLines
+pub mod ChangedClasses
 pub mod WorldTables
+pub mod KeptBuiltIns
+pub mod WorldCells
 pub mod GrownClasses
 pub mod FittingObjects
 pub mod Soundness

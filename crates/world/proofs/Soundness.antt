@@ -21,6 +21,7 @@ use Rattle.world.specs.WorldRules.{part_of, is_known_value, value_in_range, type
 use Rattle.world.proofs.FittingObjects.{made_so_far, made-length, are_given, object_fits}
 use Rattle.world.proofs.GrownClasses.{IsGrownTable, built_ins_grown, line_grows}
 use Rattle.world.proofs.GrownLines.{objects_of, are_known, table_grows, table_stays, first_or_later, before_or_thread, known_grow, objects_grow, threads_grow, no_thread, no_threads, first_lines_next, no_objects_made, thread_no_object}
+use Rattle.world.proofs.KeptBuiltIns.{KeepsBuiltIns, built_ins_kept, line_kept}
 use Rattle.world.proofs.KeptLines.{IsKept, all_keep}
 use Rattle.world.proofs.ReadWorlds.{lines_were_read}
 use Rattle.world.proofs.Tests.{both, at_most_so}
@@ -80,6 +81,7 @@ calls_with_last c (calls ∷ next ∷ threads) h =
 -- what holds after lines that keep the rules
 pub record AreSound (cells : ℕ) (L : Lines) : Type 0 where
   pub table : IsGrownTable (table_of L)
+  pub built_ins : KeepsBuiltIns (table_of L)
   pub known : are_known L ≡ true
   pub objects : AreObjectsAfter (table_of L) (made_before (table_of L)) (objects_of L)
   pub few_objects : length (objects_defined L) ≤ 65536
@@ -95,9 +97,10 @@ empty_cells : cells_of [] ≤ 130
 unfolding built_ins
 empty_cells = omega arith
 
-none_sound : (cells : ℕ) → 512 ≤ cells → AreSound cells []
+pub none_sound : (cells : ℕ) → 512 ≤ cells → AreSound cells []
 none_sound cells low = record {
   table = built_ins_grown;
+  built_ins = built_ins_kept;
   known = refl;
   objects = tt;
   few_objects = omega arith;
@@ -194,9 +197,10 @@ module _ (cells : ℕ) (L : Lines) (n : ℕ) (line : WorldLine) (s : AreSound ce
           subst (λ w. sizes w ≤ cells)
           (sym (ap (λ T. class_objects T ++ fresh_object T out_of_memory_error ∷ objects_of next) (same_table p) ∙ ap (λ os. class_objects (table_of L) ++ fresh_object (table_of L) out_of_memory_error ∷ os) (same_objects p))) s.fits
 
-  line_sound : AreSound cells next
+  pub line_sound : AreSound cells next
   line_sound = record {
     table = table_next;
+    built_ins = subst KeepsBuiltIns (sym (table_grows L n line)) (line_kept (table_of L) s.built_ins line k.allowed);
     known = known_grow L n line k.ordered s.known k.known;
     objects = fitting_next;
     few_objects = k.few_objects;

@@ -1,14 +1,15 @@
 -- What holds of the class table of each world: each plain class has its class of arrays, and the built-in classes stay.
-use Rattle.std.proofs.Common.{◌≡◌, ℕ, zero, suc, ◌+◌, ◌<◌, ◌≤◌, Bool, true, false, cond, List, [], ◌∷◌, ◌++◌, length, map, drop, Option, Some, None, refl, sym, ap, ◌∙◌, arith, length-append}
+use Rattle.std.proofs.Common.{◌≡◌, ℕ, zero, suc, ◌+◌, ◌<◌, ◌≤◌, Bool, true, false, cond, List, [], ◌∷◌, ◌++◌, length, drop, Option, Some, None, refl, sym, ap, ◌∙◌, arith, length-append}
 use Rattle.std.specs.Prelude.{not, ◌&&◌, ◌||◌, ◌==◌, is_some, bytes_eq, slice_get}
 use Rattle.std.specs.Option.{option_map, option_map_or}
-use Rattle.std.specs.List.{list_all, enumerate_from}
+use Rattle.std.specs.List.{list_all}
 use Rattle.base.specs.Bytes.{Identifier}
 use Rattle.classes.specs.Additions.{new_class, with_class, with_changed_class}
 use Rattle.classes.specs.BuiltIns.{built_ins, object_array_class}
 use Rattle.classes.specs.Class.{ClassKind, Plain, ArrayOfNumbers, ArrayOfObjects, Class, Classes, class_at, class_named, class_kind, is_plain, array_name}
 use Rattle.classes.specs.Mangling.{is_class_name}
 use Rattle.classes.proofs.MangledNames.{array_name-no_class}
+use Rattle.world.proofs.ChangedClasses.{changed, changed-length}
 use Rattle.world.proofs.Places.{found, position-found, found_below, kept_place, later_place}
 use Rattle.world.proofs.Tests.{both, mapped, same_number, same_bytes, are_same_bytes}
 
@@ -291,22 +292,15 @@ module _ (T : Classes) (name : Identifier) (s : Option ℕ) (t : IsWorldTable T)
 -- ---- one more field or static
 
 module _ (change : Class → Class) (same_name : (d : Class) → (change d).name ≡ d.name) (same_kind : (d : Class) → (change d).kind ≡ d.kind) (number : ℕ) where
-  abbrev changed : ℕ → Classes → Classes
-  changed n ds = map (λ (d : ℕ × Class). cond (d.0 == number) (change d.1) d.1) (enumerate_from n ds)
-
-  changed-length : (n : ℕ) (ds : Classes) → length (changed n ds) ≡ length ds
-  changed-length n [] = refl
-  changed-length n (d ∷ ds) = ap suc (changed-length (n + 1) ds)
-
-  changed-found : (name : Identifier) (n : ℕ) (ds : Classes) → found (is_named name) (changed n ds) ≡ found (is_named name) ds
+  changed-found : (name : Identifier) (n : ℕ) (ds : Classes) → found (is_named name) (changed change number n ds) ≡ found (is_named name) ds
   changed-found name n [] = refl
   changed-found name n (d ∷ ds) = by_test (n == number) (changed-found name (n + 1) ds)
     where
-      by_test : (b : Bool) → found (is_named name) (changed (n + 1) ds) ≡ found (is_named name) ds → found (is_named name) (cond b (change d) d ∷ changed (n + 1) ds) ≡ found (is_named name) (d ∷ ds)
+      by_test : (b : Bool) → found (is_named name) (changed change number (n + 1) ds) ≡ found (is_named name) ds → found (is_named name) (cond b (change d) d ∷ changed change number (n + 1) ds) ≡ found (is_named name) (d ∷ ds)
       by_test true e = λ i. cond (bytes_eq (same_name d i) name) (Some 0) (option_map (λ (j : ℕ). suc j) (e i))
       by_test false e = λ i. cond (bytes_eq d.name name) (Some 0) (option_map (λ (j : ℕ). suc j) (e i))
 
-  changed-kind : (n : ℕ) (ds : Classes) (i : ℕ) → kind_of (slice_get (changed n ds) i) ≡ kind_of (slice_get ds i)
+  changed-kind : (n : ℕ) (ds : Classes) (i : ℕ) → kind_of (slice_get (changed change number n ds) i) ≡ kind_of (slice_get ds i)
   changed-kind n [] i = refl
   changed-kind n (d ∷ ds) zero = by_test (n == number)
     where
@@ -324,7 +318,7 @@ module _ (change : Class → Class) (same_name : (d : Class) → (change d).name
 
   pub changed_table : (T : Classes) → IsWorldTable T → IsWorldTable (with_changed_class T number change)
   changed_table T t = record {
-    long = omega (arith, t.long, changed-length 1 T);
+    long = omega (arith, t.long, changed-length change number 1 T);
     kinds = λ c h. changed_kind T c ∙ t.kinds c h;
     arrays = λ name c h plain.
         let a = t.arrays name c (sym (changed_named T name) ∙ h) (sym (ap is_plain (changed_kind T c)) ∙ plain) in
