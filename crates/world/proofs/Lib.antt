@@ -22,3 +22,4 @@ pub mod ReadLines
 pub mod WrittenLines
 pub mod HeapLines
 pub mod ReadWorlds
+pub mod GatheredLines
