@@ -23,3 +23,4 @@ pub mod WrittenLines
 pub mod HeapLines
 pub mod ReadWorlds
 pub mod GatheredLines
+pub mod GatheredNext
