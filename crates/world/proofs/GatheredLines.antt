@@ -14,7 +14,7 @@ use Rattle.classes.specs.Mangling.{is_simple_name}
 use Rattle.classes.specs.Class.{FieldType, NumberField, ReferenceField, Classes}
 use Rattle.source.specs.World.{Invocation}
 use Rattle.texts.specs.LineRules.{LineRule, OfClass, LineForm, WrongName, OutOfLimit, HeapFull, line_rules}
-use Rattle.world.specs.Gathered.{Gathered, comes_in_order, broken_class_rule, written_values, name_given, is_formed, is_known, refers_to, is_number, can_hold, each_can_hold, is_named, has_place, cells_added, least_broken, least_rule}
+use Rattle.world.specs.Gathered.{Gathered, gather, comes_in_order, broken_class_rule, written_values, name_given, is_formed, is_known, refers_to, is_number, can_hold, each_can_hold, is_named, has_place, cells_added, least_broken, least_rule}
 use Rattle.world.specs.ReadingWorlds.{is_second_thread, rule_broken, least_rule as least_of}
 use Rattle.world.specs.WorldLines.{WorldValue, NumberValue, NullValue, NamedObject, NamedClass, WorldLine, ClassLine, FieldLine, StaticLine, ObjectLine, ObjectsLine, ArrayLine, StringLine, ThreadLine, CallLine, Lines}
 use Rattle.world.specs.WorldMeaning.{table_of, object_defined, objects_defined, class_of_object, values_of_line, invocation_of_line, with_last, threads_with, threads_of, cells_of}
@@ -24,18 +24,6 @@ use Rattle.world.proofs.OrderedLines.{AreOrdered, order_told}
 use Rattle.world.proofs.Soundness.{AreSound}
 use Rattle.world.proofs.Tests.{both, at_most, at_most_so, less, less_so}
 use Rattle.world.proofs.WorldCells.{cells_grow, line_cells}
-
--- what lines say
-abbrev pub gather : (cells part : ℕ) → Lines → Gathered
-gather cells part lines = record {
-  cells = cells;
-  classes = table_of lines;
-  names = objects_defined lines;
-  objects = objects_of lines;
-  threads = threads_of lines;
-  used = cells_of lines;
-  part = part;
-}
 
 -- what is known of lines that keep the rules
 pub record AreGathered (cells part : ℕ) (lines : Lines) : Type 0 where

@@ -12,12 +12,12 @@ use Rattle.classes.specs.Class.{Class, Classes, class_at, class_named, array_nam
 use Rattle.source.specs.Object.{ObjectValue, Number, Object}
 use Rattle.source.specs.World.{Invocation}
 use Rattle.texts.specs.LineRules.{LineRule}
-use Rattle.world.specs.Gathered.{Gathered, value_at, with_object, with_line}
+use Rattle.world.specs.Gathered.{Gathered, gather, value_at, with_object, with_line}
 use Rattle.world.specs.ReadingWorlds.{is_second_thread, rule_broken, least_rule as least_of}
 use Rattle.world.specs.WorldLines.{WorldValue, NumberValue, NullValue, NamedObject, NamedClass, WorldLine, ClassLine, FieldLine, StaticLine, ObjectLine, ObjectsLine, ArrayLine, StringLine, ThreadLine, CallLine, Lines}
 use Rattle.world.specs.WorldMeaning.{class_number, superclass_number, table_with, table_of, object_defined, objects_defined, value_of, object_of, invocation_of_line, with_last, threads_with, threads_of, cells_of}
 use Rattle.world.specs.WorldRules.{part_of, is_thread_line, is_call_line, is_in_order, broken_by_line}
-use Rattle.world.proofs.GatheredLines.{gather, AreGathered}
+use Rattle.world.proofs.GatheredLines.{AreGathered}
 use Rattle.world.proofs.GrownLines.{objects_of, table_grows, defined_grow, objects_grow, threads_grow, no_threads}
 use Rattle.world.proofs.KeptBuiltIns.{KeepsBuiltIns}
 use Rattle.world.proofs.KeptLines.{IsKept, kept_line}

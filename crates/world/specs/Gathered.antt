@@ -1,5 +1,5 @@
 -- What the lines so far say, as the rules on the next line ask for it, and what one more line adds.
-use Rattle.std.specs.Prelude.{◌≡◌, ℕ, ◌+◌, Bool, true, false, not, ◌&&◌, ◌||◌, ◌==◌, List, [], ◌∷◌, ◌++◌, length, map, position, pos, codes, nat_lt, nat_le, Option, Some, None, Result, Ok, Err, is_some, unwrap_or, bytes_eq, if◌then◌else◌}
+use Rattle.std.specs.Prelude.{◌≡◌, ℕ, ◌+◌, Bool, true, false, not, ◌&&◌, ◌||◌, ◌==◌, List, [], ◌∷◌, ◌++◌, length, map, position, pos, codes, nat_lt, nat_le, Option, Some, None, Result, Ok, Err, is_some, filter_map, unwrap_or, bytes_eq, if◌then◌else◌}
 use Rattle.std.specs.Option.{option_map, option_to_list}
 use Rattle.std.specs.List.{list_all, list_any}
 use Rattle.base.specs.Bytes.{Identifier, ByName, lookup}
@@ -11,9 +11,14 @@ use Rattle.classes.specs.Class.{FieldType, NumberField, ReferenceField, Classes,
 use Rattle.class_table.specs.Refusals.{first_broken}
 use Rattle.source.specs.Object.{Reference, ObjectValue, Number, Refers, Object}
 use Rattle.source.specs.World.{Invocation}
+use Rattle.texts.specs.declared.fault.ReadError.{ReadError}
+use Rattle.texts.specs.declared.fault.Rule.TheVariants as held
+use Rattle.texts.specs.declared.fault.TextFault.{TextFault}
+use Rattle.texts.specs.Reading.{refused, Fails}
+use Rattle.world.specs.ReadingWorlds.{ruled}
 use Rattle.texts.specs.LineRules.{LineRule, OfClass, LineForm, WrongName, OutOfLimit, HeapFull}
-use Rattle.world.specs.WorldLines.{WorldValue, NumberValue, NullValue, NamedObject, NamedClass, WorldLine, ClassLine, FieldLine, StaticLine, ObjectLine, ObjectsLine, ArrayLine, StringLine, ThreadLine, CallLine}
-use Rattle.world.specs.WorldMeaning.{class_number, field_of, with_last}
+use Rattle.world.specs.WorldLines.{WorldValue, NumberValue, NullValue, NamedObject, NamedClass, WorldLine, ClassLine, FieldLine, StaticLine, ObjectLine, ObjectsLine, ArrayLine, StringLine, ThreadLine, CallLine, Lines}
+use Rattle.world.specs.WorldMeaning.{class_number, field_of, table_of, objects_defined, object_of, with_last, threads_of, cells_of}
 use Rattle.world.specs.WorldRules.{part_of, is_call_line, is_formed_value, is_well_formed, is_class_allowed, types_of_line, value_in_range, each_in_range, breaks_class_rule}
 
 pub record Gathered : Type 0 where
@@ -27,6 +32,18 @@ pub record Gathered : Type 0 where
   pub used : ℕ
   -- the part of the last line
   pub part : ℕ
+
+-- what these lines say, the last of which is of this part
+abbrev pub gather : (cells part : ℕ) → Lines → Gathered
+gather cells part lines = record {
+  cells = cells;
+  classes = table_of lines;
+  names = objects_defined lines;
+  objects = filter_map (λ (l : ℕ × WorldLine). object_of lines l.1) lines;
+  threads = threads_of lines;
+  used = cells_of lines;
+  part = part;
+}
 
 -- ---- the rules on the next line
 
@@ -190,3 +207,13 @@ with_line g number (ArrayLine x t values) = with_object g x (number_array t) (ma
 with_line g number (StringLine x text) = with_object g x string_class (map (λ b. Number (pos b)) text)
 with_line g number (ThreadLine function arguments) = with_threads g (g.threads ++ (call_with g number function arguments ∷ []) ∷ [])
 with_line g number (CallLine function arguments) = with_threads g (with_last (call_with g number function arguments) g.threads)
+
+-- what is there after the line of this number, or the fault
+unfoldable pub gathered_read : Gathered → ℕ → Option WorldLine → Result Gathered TextFault
+gathered_read g number None = refused held.Form number
+gathered_read g number (Some line) = ruled number (least_rule g line) (with_line g number line)
+
+-- What a call that takes a line leaves, by its answer.
+abbrev pub OnGathered : Result Unit ReadError → Gathered → Result Gathered TextFault → Type 0
+OnGathered (Ok _) new read = read ≡ Ok new
+OnGathered (Err e) new read = Fails e read

@@ -240,7 +240,7 @@ fn string_line<'a>(line: &'a [u8], word: &[u8], words: &[&'a [u8]]) -> Option<Li
 }
 
 /// The words of a line, with one space between.
-fn split_words<'a>(alloc: Global, line: &'a [u8]) -> Result<Vec<&'a [u8]>, AllocError>
+pub fn split_words<'a>(alloc: Global, line: &'a [u8]) -> Result<Vec<&'a [u8]>, AllocError>
     ensures { IfOk result (λ words. map (λ w. w.now) words.items ≡ parts_of 32 line.now) }
 {
     let mut words = Vec::new(alloc);
