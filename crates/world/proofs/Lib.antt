@@ -24,3 +24,4 @@ pub mod HeapLines
 pub mod ReadWorlds
 pub mod GatheredLines
 pub mod GatheredNext
+pub mod ReadingGathered

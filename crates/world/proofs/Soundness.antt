@@ -216,10 +216,9 @@ module _ (cells : ℕ) (L : Lines) (n : ℕ) (line : WorldLine) (s : AreSound ce
 pub lines_sound : (cells : ℕ) (lines : Lines) → 512 ≤ cells → broken_after cells [] lines ≡ [] → AreSound cells lines
 lines_sound cells lines low rules = all_keep cells (AreSound cells) (λ earlier n line s k. line_sound cells earlier n line s k) [] lines (none_sound cells low) rules
 
--- the world is sound
-pub sound : (cells : ℕ) (lines : Lines) → 512 ≤ cells → cells ≤ 1048576 → broken_after cells [] lines ≡ [] → IsSound (world_of cells lines)
-sound cells lines low high rules =
-    let s = lines_sound cells lines low rules in
+-- the world of lines of which this holds is sound
+pub sound_world : (cells : ℕ) (lines : Lines) → cells ≤ 1048576 → AreSound cells lines → IsSound (world_of cells lines)
+sound_world cells lines high s =
     let few : length (objects_of lines) ≤ 65536 = omega (arith, as_many (table_of lines) lines lines, s.few_objects) in
     record {
       grown = s.table.grown;
@@ -231,6 +230,10 @@ sound cells lines low high rules =
       calls = s.calls;
       arguments = s.arguments;
     }
+
+-- the world is sound
+pub sound : (cells : ℕ) (lines : Lines) → 512 ≤ cells → cells ≤ 1048576 → broken_after cells [] lines ≡ [] → IsSound (world_of cells lines)
+sound cells lines low high rules = sound_world cells lines high (lines_sound cells lines low rules)
 
 -- the same of lines that were read
 pub read_sound : (cells : ℕ) (numbered : List (ℕ × List ℕ)) (lines : Lines) → 512 ≤ cells → cells ≤ 1048576 → lines_read cells [] numbered ≡ Ok lines → IsSound (world_of cells lines)

@@ -1,5 +1,5 @@
 -- The words of a line: the first, those after it, and the text of a string, which is what is after the first two.
-use Rattle.std.proofs.Common.{◌≡◌, ℕ, suc, ◌+◌, ◌-◌, ◌≤◌, Bool, true, false, cond, List, [], ◌∷◌, ◌++◌, length, map, take, drop, get_or, Option, Some, None, refl, sym, ap, ◌∙◌, arith, Bor}
+use Rattle.std.proofs.Common.{◌≡◌, ℕ, suc, ◌+◌, ◌-◌, ◌<◌, ◌≤◌, Bool, true, false, cond, List, [], ◌∷◌, ◌++◌, length, map, take, drop, get_or, Option, Some, None, refl, sym, ap, ◌∙◌, arith, Bor}
 use Rattle.std.specs.Prelude.{bytes_eq, codes}
 use Rattle.std.specs.List.{list_all}
 use Rattle.std.proofs.Math.Seq.{drop-append-add}
@@ -10,7 +10,7 @@ use Rattle.std.proofs.lemmas.List.Splits.{join_with_byte-slice_split}
 use Rattle.base.specs.Bytes.{is_some_byte}
 use Rattle.texts.specs.Split.{parts_of}
 use Rattle.world.specs.ReadingValues.{object_named}
-use Rattle.world.specs.ReadingLines.{string_by_words, words_by_kind, line_by_words, line_of}
+use Rattle.world.specs.ReadingLines.{heap_by_words, string_by_words, words_by_kind, line_by_words, line_of}
 use Rattle.world.specs.WorldLines.{WorldLine, StringLine, spaced}
 
 -- ---- the text of a string
@@ -44,6 +44,19 @@ pub string_is : (line word : List ℕ) (words : Words) (d : Bor (List ℕ)) (x t
     → text ≡ drop (length (get_or words 0 d).now + 1) (drop (length word + 1) line) → Some (StringLine x text) ≡ string_by_words (bytes_of words)
 string_is line word [] d x text some e named is = absurd (omega arith)
 string_is line word (w ∷ words) d x text some e named is = string_named line word w.now (bytes_of words) x text e named is
+
+-- ---- the line of the heap has two words
+
+pub few_words : (words : Words) → length words < 2 → None ≡ heap_by_words (bytes_of words)
+few_words [] h = refl
+few_words (w ∷ []) h = refl
+few_words (w ∷ v ∷ words) h = absurd (omega arith)
+
+pub many_words : (words : Words) → 3 ≤ length words → None ≡ heap_by_words (bytes_of words)
+many_words [] h = absurd (omega arith)
+many_words (w ∷ []) h = absurd (omega arith)
+many_words (w ∷ v ∷ []) h = absurd (omega arith)
+many_words (w ∷ v ∷ u ∷ words) h = refl
 
 -- ---- the first word
 

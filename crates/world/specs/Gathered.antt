@@ -10,7 +10,7 @@ use Rattle.classes.specs.BuiltIns.{class_class, string_class, number_array}
 use Rattle.classes.specs.Class.{FieldType, NumberField, ReferenceField, Classes, class_named, array_name, assignable}
 use Rattle.class_table.specs.Refusals.{first_broken}
 use Rattle.source.specs.Object.{Reference, ObjectValue, Number, Refers, Object}
-use Rattle.source.specs.World.{Invocation}
+use Rattle.source.specs.World.{Invocation, World}
 use Rattle.texts.specs.declared.fault.ReadError.{ReadError}
 use Rattle.texts.specs.declared.fault.Rule.TheVariants as held
 use Rattle.texts.specs.declared.fault.TextFault.{TextFault}
@@ -217,3 +217,11 @@ gathered_read g number (Some line) = ruled number (least_rule g line) (with_line
 abbrev pub OnGathered : Result Unit ReadError → Gathered → Result Gathered TextFault → Type 0
 OnGathered (Ok _) new read = read ≡ Ok new
 OnGathered (Err e) new read = Fails e read
+
+-- the world that is gathered
+abbrev pub gathered_world : Gathered → World
+gathered_world g = record { cells = g.cells; classes = g.classes; objects = g.objects; threads = g.threads }
+
+-- the same, where there is a thread; else the last line is told
+abbrev pub finished_read : Gathered → (last : ℕ) → Result World TextFault
+finished_read g last = if length g.threads == 0 then refused held.Limit last else Ok (gathered_world g)

@@ -3,12 +3,13 @@
 ghost use Rattle.std.specs.Prelude.{◌≡◌, ◌∷◌, ◌+◌, ◌<◌, ◌≤◌, ◌^◌, [], IfOk, MatchOption, map, length};
 ghost use Rattle.texts.specs.Reading.{Gives};
 ghost use Rattle.texts.specs.Split.{parts_left};
-ghost use Rattle.world.specs.Gathered.{gather, gathered_read, OnGathered};
+ghost use Rattle.world.specs.Gathered.{gather, gathered_read, gathered_world, finished_read, OnGathered};
 ghost use Rattle.world.specs.GatheredViews.{gathered_of};
 ghost use Rattle.world.specs.LinesLeft.{lines_left};
 ghost use Rattle.world.specs.LineViews.{line_view};
 ghost use Rattle.world.specs.ReadingLines.{cells_named, heap_by_words, heap_of_line, line_of};
 ghost use Rattle.world.specs.ReadingWorlds.{heap_read, ruled, world_of_text};
+ghost use Rattle.world.specs.SoundWorlds.{IsSound};
 ghost use Rattle.world.specs.WorldRules.{IsWorldText};
 
 use crate::builder::WorldBuilder;
@@ -161,7 +162,10 @@ pub fn read_world(alloc: Global, text: &[u8]) -> Result<World, ReadError>
 }
 
 /// The world that the lines make, the last of which had this number.
-fn finished(builder: WorldBuilder, last: usize) -> Result<World, ReadError> {
+fn finished(builder: WorldBuilder, last: usize) -> Result<World, ReadError>
+    requires { IsSound (gathered_world (gathered_of builder)) }
+    ensures { Gives (λ w. w) result (finished_read (gathered_of builder) last) }
+{
     if builder.threads.is_empty() {
         let rule = Rule::Limit;
         return Err(ReadError::Fault(TextFault { rule, line: last }));
