@@ -4,12 +4,14 @@ use Rattle.std.specs.Prelude.{not, ◌&&◌, ◌||◌, ◌==◌, nat_lt, nat_le,
 use Rattle.std.specs.Option.{option_map, option_map_or}
 use Rattle.std.specs.List.{cons_option, list_all, enumerate_from, AllZip}
 use Rattle.std.proofs.lemmas.Bool.{and_from}
+use Rattle.std.proofs.lemmas.Option.{slice_get_within}
 use Rattle.base.specs.Bytes.{Identifier, ByName, lookup, is_from_to}
 use Rattle.base.specs.Options.{some_passes}
 use Rattle.base.specs.Element.{ElementType, JInt, JShort, JByte, JChar}
 use Rattle.classes.specs.BuiltIns.{built_ins, class_class, string_class, out_of_memory_error, number_array}
 use Rattle.classes.specs.Class.{FieldType, NumberField, ReferenceField, ClassKind, Plain, ArrayOfNumbers, ArrayOfObjects, Class, Classes, class_kind, class_named, is_plain, array_name, assignable}
 use Rattle.classes.specs.Mangling.{is_simple_name}
+use Rattle.class_table.proofs.Layouts.{get-front}
 use Rattle.source.proofs.ShownRows.{length-before}
 use Rattle.source.specs.Heap.{class_of, is_instance}
 use Rattle.source.specs.Object.{ObjectValue, Refers, Object}
@@ -24,7 +26,7 @@ use Rattle.world.proofs.GrownLines.{objects_of, is_called}
 use Rattle.world.proofs.KeptLines.{IsKept}
 use Rattle.world.proofs.Places.{found, position-found}
 use Rattle.world.proofs.Tests.{both, neither, not_false, there, at_most, at_most_so, less_so, same_number, bytes_eq-sym}
-use Rattle.world.proofs.WorldTables.{IsWorldTable, named}
+use Rattle.world.proofs.WorldTables.{IsWorldTable, named, get_seam}
 
 -- ---- places
 
@@ -52,27 +54,16 @@ looked_up x ((y, v) ∷ os) c h = by_test (bytes_eq x y) (sym (bytes_eq-sym x y)
           class = p.class;
         }
 
-get_within : {A : Type 0} (xs : List A) (i : ℕ) (x : A) → slice_get xs i ≡ Some x → i < length xs
-get_within [] i x h = absurd (cc)
-get_within (y ∷ ys) zero x h = omega arith
-get_within (y ∷ ys) (suc i) x h = let l = get_within ys i x h in omega (arith, l)
-
 get_mapped : {A B : Type 0} (f : A → B) (xs : List A) (i : ℕ) (y : B) → slice_get (map f xs) i ≡ Some y → (x : A) × (slice_get xs i ≡ Some x) × (f x ≡ y)
 get_mapped f [] i y h = absurd (cc)
 get_mapped f (x ∷ xs) zero y h = (x, refl, cc)
 get_mapped f (x ∷ xs) (suc i) y h = get_mapped f xs i y h
 
 get_front : {A : Type 0} (xs ys : List A) (i : ℕ) (x : A) → slice_get xs i ≡ Some x → slice_get (xs ++ ys) i ≡ Some x
-get_front [] ys i x h = absurd (cc)
-get_front (z ∷ xs) ys zero x h = h
-get_front (z ∷ xs) ys (suc i) x h = get_front xs ys i x h
-
-get_back : {A : Type 0} (xs ys : List A) (i : ℕ) → slice_get (xs ++ ys) (length xs + i) ≡ slice_get ys i
-get_back [] ys i = ap (slice_get ys) (omega arith)
-get_back (x ∷ xs) ys i = let e : length (x ∷ xs) + i ≡ suc (length xs + i) = omega arith in ap (slice_get (x ∷ (xs ++ ys))) e ∙ get_back xs ys i
+get_front xs ys i x h = get-front xs ys i (slice_get_within xs i x h) ∙ h
 
 -- the classes of the objects are those that were said
-same_classes : (L lines : Lines) → map (λ (o : Object). o.class) (filter_map (λ (l : ℕ × WorldLine). object_of L l.1) lines) ≡ map (λ (o : Identifier × ℕ). o.1) (filter_map (λ (l : ℕ × WorldLine). object_defined (table_of L) l.1) lines)
+pub same_classes : (L lines : Lines) → map (λ (o : Object). o.class) (filter_map (λ (l : ℕ × WorldLine). object_of L l.1) lines) ≡ map (λ (o : Identifier × ℕ). o.1) (filter_map (λ (l : ℕ × WorldLine). object_defined (table_of L) l.1) lines)
 same_classes L [] = refl
 same_classes L (l ∷ lines) = by_value (object_defined (table_of L) l.1) (same_classes L lines)
   where
@@ -143,7 +134,7 @@ module _ (L : Lines) where
   class_of_made i c h =
       let o = get_mapped (λ (o : Object). o.class) (objects_of L) i c (ap (λ cs. slice_get cs i) (same_classes L L) ∙ h) in
       let number : length T + 2 + i ≡ suc (length (made_before T) + i) = omega (arith, length-before T) in
-      (get_within (objects_of L) i o.0 o.1, ap (class_of made) number ∙ ap class_in (get_back (made_before T) (objects_of L) i ∙ o.1) ∙ o.2)
+      (slice_get_within (objects_of L) i o.0 o.1, ap (class_of made) number ∙ ap class_in (get_seam (made_before T) (objects_of L) i ∙ o.1) ∙ o.2)
 
   -- what a known value refers to is made, and of the class that was said
   pub record Refers_to (v : WorldValue) (class : ℕ) : Type 0 where

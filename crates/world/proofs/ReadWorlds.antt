@@ -64,7 +64,7 @@ threads_in-append (l ∷ front) more = by_test (is_thread_line l.1) (threads_in-
     by_test true e = omega (arith, e)
     by_test false e = e
 
-length-with_last : (c : Invocation) (threads : List (List Invocation)) → length (with_last c threads) ≡ length threads
+pub length-with_last : (c : Invocation) (threads : List (List Invocation)) → length (with_last c threads) ≡ length threads
 length-with_last c [] = refl
 length-with_last c (calls ∷ []) = refl
 length-with_last c (calls ∷ next ∷ threads) = ap suc (length-with_last c (next ∷ threads))
@@ -91,7 +91,7 @@ all_lines L threads ((n, line) ∷ lines) = all_lines L (threads_with L threads 
 pub threads-counted : (lines : Lines) → length (threads_of lines) ≡ threads_in lines
 threads-counted lines = omega (arith, all_lines lines [] lines)
 
-some_thread : (lines : Lines) → list_any (λ (l : ℕ × WorldLine). is_thread_line l.1) lines ≡ true → 0 < threads_in lines
+pub some_thread : (lines : Lines) → list_any (λ (l : ℕ × WorldLine). is_thread_line l.1) lines ≡ true → 0 < threads_in lines
 some_thread [] h = absurd (cc)
 some_thread (l ∷ lines) h = by_test (is_thread_line l.1) h (some_thread lines)
   where
@@ -99,7 +99,7 @@ some_thread (l ∷ lines) h = by_test (is_thread_line l.1) h (some_thread lines)
     by_test true e further = omega arith
     by_test false e further = further e
 
-no_thread_line : (lines : Lines) → list_any (λ (l : ℕ × WorldLine). is_thread_line l.1) lines ≡ false → threads_in lines ≡ 0
+pub no_thread_line : (lines : Lines) → list_any (λ (l : ℕ × WorldLine). is_thread_line l.1) lines ≡ false → threads_in lines ≡ 0
 no_thread_line [] h = refl
 no_thread_line (l ∷ lines) h =
     let b = neither (is_thread_line l.1) (list_any (λ (k : ℕ × WorldLine). is_thread_line k.1) lines) h in
@@ -107,7 +107,7 @@ no_thread_line (l ∷ lines) h =
 
 -- ---- one line
 
-least_none : (rules : List LineRule) (second : Bool) → least_rule rules second ≡ None → (rules ≡ []) × (second ≡ false)
+pub least_none : (rules : List LineRule) (second : Bool) → least_rule rules second ≡ None → (rules ≡ []) × (second ≡ false)
 least_none [] false h = (refl, refl)
 least_none [] true h = absurd (cc)
 least_none (rule ∷ rules) second h = absurd (cc)
@@ -146,7 +146,7 @@ line_is_taken cells earlier number bytes n line spelled rules first =
 
 -- ---- several lines
 
-one_more : (earlier : Lines) (n : ℕ) (line : WorldLine) → is_second_thread earlier line ≡ false → threads_in earlier ≤ 1 → threads_in (earlier ++ (n, line) ∷ []) ≤ 1
+pub one_more : (earlier : Lines) (n : ℕ) (line : WorldLine) → is_second_thread earlier line ≡ false → threads_in earlier ≤ 1 → threads_in (earlier ++ (n, line) ∷ []) ≤ 1
 one_more earlier n line first few = by_tests (is_thread_line line) (list_any (λ (l : ℕ × WorldLine). is_thread_line l.1) earlier) refl refl first
   where
     by_tests : (a b : Bool) → is_thread_line line ≡ a → list_any (λ (l : ℕ × WorldLine). is_thread_line l.1) earlier ≡ b → (a && b) ≡ false → threads_in (earlier ++ (n, line) ∷ []) ≤ 1

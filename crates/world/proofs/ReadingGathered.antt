@@ -1,25 +1,33 @@
 -- Reading line by line, with what is gathered in the place of the lines before.
 use Rattle.std.proofs.Common.{◌≡◌, ℕ, ◌≤◌, Bool, true, false, cond, List, [], ◌∷◌, ◌++◌, length, Option, Some, None, Result, Ok, Err, refl, sym, ap, ◌∙◌, subst, arith}
-use Rattle.std.specs.Prelude.{not, ◌==◌, IsTrue}
-use Rattle.std.specs.List.{list_any}
+use Rattle.std.specs.Prelude.{not, ◌==◌, filter, IfOk}
+use Rattle.std.specs.List.{list_any, enumerate_from}
+use Rattle.base.specs.Bytes.{is_some_byte}
 use Rattle.classes.specs.BuiltIns.{built_ins}
 use Rattle.source.specs.World.{World}
 use Rattle.texts.specs.LineRules.{LineRule}
-use Rattle.texts.specs.Reading.{◌>>=◌, refused}
+use Rattle.texts.specs.Reading.{◌>>=◌, refused, Gives}
+use Rattle.texts.specs.Split.{parts_of, parts_left}
+use Rattle.texts.specs.declared.split.Split.{Split}
+use Rattle.texts.specs.declared.fault.ReadError.{ReadError}
+use Rattle.texts.proofs.PartLemmas.{slice_split-split_at}
 use Rattle.texts.specs.declared.fault.Rule.{Rule}
 use Rattle.texts.specs.declared.fault.Rule.TheVariants as held
 use Rattle.texts.specs.declared.fault.TextFault.{TextFault}
 use Rattle.texts.specs.Rule.{rule_of}
 use Rattle.world.specs.Gathered.{Gathered, gather, gathered_read, gathered_world, finished_read, least_rule, with_line}
+use Rattle.world.specs.LinesLeft.{lines_left}
+use Rattle.world.specs.declared.world.World.{World as InMemory}
 use Rattle.world.specs.ReadingLines.{heap_of_line, line_of}
 use Rattle.world.specs.ReadingWorlds.{held_rule, rule_broken, ruled, line_read, lines_read, heap_read, last_number, world_read, numbered_read, world_of_text}
 use Rattle.world.specs.SoundWorlds.{IsSound}
 use Rattle.world.specs.WorldLines.{WorldLine, Lines, text_lines}
 use Rattle.world.specs.WorldMeaning.{cells_of}
-use Rattle.world.specs.WorldRules.{part_of, is_thread_line}
+use Rattle.world.specs.WorldRules.{part_of, is_thread_line, IsWorldText}
 use Rattle.world.proofs.GatheredLines.{AreGathered, rule_same}
 use Rattle.world.proofs.GatheredNext.{gathered_next, are_gathered}
 use Rattle.world.proofs.OrderedLines.{none_ordered}
+use Rattle.world.proofs.ReadWorlds.{worlds_read}
 use Rattle.world.proofs.Soundness.{none_sound, sound_world}
 
 -- ---- rules in memory
@@ -162,3 +170,14 @@ sound_end g last rest read r = subst (λ x. IsSound (gathered_world x)) (sym r.i
 pub none_used : 130 ≡ cells_of []
 unfolding built_ins
 none_used = refl
+
+-- ---- the whole text
+
+-- no line of it was read yet
+pub text_left : (lines : Split) (text : List ℕ) → parts_left lines ≡ parts_of 10 text → lines_left 0 lines ≡ text_lines text
+text_left lines text e = ap (λ parts. filter (λ (l : ℕ × List ℕ). is_some_byte l.1) (enumerate_from 1 parts)) (e ∙ slice_split-split_at (λ c. c == 10) text)
+
+-- what is read is what the text means
+pub world_means : (text : List ℕ) (read : Result InMemory ReadError) → Gives (λ w. w) read (world_of_text text) → IfOk read (λ w. IsWorldText text w)
+world_means text (Ok w) h = ((worlds_read text w).0 h).0
+world_means text (Err e) h = tt

@@ -1,11 +1,12 @@
 -- Lines that keep the rules, each after those before it, define a sound world.
-use Rattle.std.proofs.Common.{◌≡◌, ℕ, suc, ◌+◌, ◌<◌, ◌≤◌, Bool, true, List, [], ◌∷◌, ◌++◌, length, map, Option, Some, None, Ok, refl, sym, ap, ◌∙◌, subst, arith, append_assoc, append-nil, ◌⊎◌, inl, inr}
-use Rattle.std.specs.Prelude.{◌&&◌, filter_map}
+use Rattle.std.proofs.Common.{◌≡◌, ℕ, ◌+◌, ◌<◌, ◌≤◌, Bool, true, List, [], ◌∷◌, ◌++◌, length, map, Option, Some, None, Ok, refl, sym, ap, ◌∙◌, subst, arith, append_assoc, append-nil, ◌⊎◌, inl, inr}
+use Rattle.std.specs.Prelude.{◌&&◌}
 use Rattle.std.specs.Option.{option_map, option_to_list}
-use Rattle.std.specs.List.{list_all, cons_option}
+use Rattle.std.specs.List.{list_all}
 use Rattle.std.proofs.lemmas.Bool.{and_from}
 use Rattle.std.proofs.lemmas.List.Folds.{list_all-append}
-use Rattle.base.specs.Bytes.{Identifier, ByName}
+use Rattle.std.proofs.lemmas.List.{length-map}
+use Rattle.base.specs.Bytes.{Identifier}
 use Rattle.base.specs.Element.{JInt}
 use Rattle.classes.specs.BuiltIns.{built_ins, out_of_memory_error}
 use Rattle.classes.specs.Class.{Classes}
@@ -16,9 +17,9 @@ use Rattle.world.specs.CallArguments.{is_argument, are_arguments}
 use Rattle.world.specs.ReadingWorlds.{lines_read}
 use Rattle.world.specs.SoundWorlds.{IsObjectAfter, AreObjectsAfter, has_call, IsSound}
 use Rattle.world.specs.WorldLines.{WorldValue, WorldLine, ClassLine, FieldLine, StaticLine, ObjectLine, ObjectsLine, ArrayLine, StringLine, ThreadLine, CallLine, Lines}
-use Rattle.world.specs.WorldMeaning.{table_of, object_defined, objects_defined, value_of, values_of_line, object_of, invocation_of_line, with_last, threads_with, threads_of, world_of, cells_of}
+use Rattle.world.specs.WorldMeaning.{table_of, objects_defined, value_of, values_of_line, object_of, invocation_of_line, with_last, threads_with, threads_of, world_of, cells_of}
 use Rattle.world.specs.WorldRules.{part_of, is_known_value, value_in_range, types_of_line, each_in_range, broken_after}
-use Rattle.world.proofs.FittingObjects.{made_so_far, made-length, are_given, object_fits}
+use Rattle.world.proofs.FittingObjects.{made_so_far, same_classes, made-length, are_given, object_fits}
 use Rattle.world.proofs.GrownClasses.{IsGrownTable, built_ins_grown, line_grows}
 use Rattle.world.proofs.GrownLines.{objects_of, are_known, table_grows, table_stays, first_or_later, before_or_thread, known_grow, objects_grow, threads_grow, no_thread, no_threads, first_lines_next, no_objects_made, thread_no_object}
 use Rattle.world.proofs.KeptBuiltIns.{KeepsBuiltIns, built_ins_kept, line_kept}
@@ -37,22 +38,9 @@ after_one T made os None h k = subst (AreObjectsAfter T made) (sym (append-nil o
 after_one T made os (Some x) h k = after_more T made os x h (k x refl)
 
 -- as many objects as are defined
-as_many : (T : Classes) (L lines : Lines) → length (filter_map (λ (l : ℕ × WorldLine). object_of L l.1) lines) ≡ length (filter_map (λ (l : ℕ × WorldLine). object_defined (table_of L) l.1) lines)
-as_many T L [] = refl
-as_many T L (l ∷ lines) = by_value (object_defined (table_of L) l.1) (as_many T L lines)
-  where
-    made : Identifier × ℕ → Object
-    made o = record { class = o.1; values = map (value_of L) (values_of_line l.1) }
-
-    rest : List Object
-    rest = filter_map (λ (k : ℕ × WorldLine). object_of L k.1) lines
-
-    others : ByName ℕ
-    others = filter_map (λ (k : ℕ × WorldLine). object_defined (table_of L) k.1) lines
-
-    by_value : (o : Option (Identifier × ℕ)) → length rest ≡ length others → length (cons_option (option_map made o) rest) ≡ length (cons_option o others)
-    by_value None e = e
-    by_value (Some o) e = ap suc e
+as_many : (lines : Lines) → length (objects_of lines) ≡ length (objects_defined lines)
+as_many lines =
+    sym (length-map (objects_of lines) (λ (o : Object). o.class)) ∙ ap length (same_classes lines lines) ∙ length-map (objects_defined lines) (λ (o : Identifier × ℕ). o.1)
 
 -- ---- threads
 
@@ -219,7 +207,7 @@ lines_sound cells lines low rules = all_keep cells (AreSound cells) (λ earlier 
 -- the world of lines of which this holds is sound
 pub sound_world : (cells : ℕ) (lines : Lines) → cells ≤ 1048576 → AreSound cells lines → IsSound (world_of cells lines)
 sound_world cells lines high s =
-    let few : length (objects_of lines) ≤ 65536 = omega (arith, as_many (table_of lines) lines lines, s.few_objects) in
+    let few : length (objects_of lines) ≤ 65536 = omega (arith, as_many lines, s.few_objects) in
     record {
       grown = s.table.grown;
       cells = high;

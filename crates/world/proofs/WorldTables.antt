@@ -8,6 +8,7 @@ use Rattle.classes.specs.Additions.{new_class, with_class, with_changed_class}
 use Rattle.classes.specs.BuiltIns.{built_ins, object_array_class}
 use Rattle.classes.specs.Class.{ClassKind, Plain, ArrayOfNumbers, ArrayOfObjects, Class, Classes, class_at, class_named, class_kind, is_plain, array_name}
 use Rattle.classes.specs.Mangling.{is_class_name}
+use Rattle.class_table.proofs.Layouts.{get-front}
 use Rattle.classes.proofs.MangledNames.{array_name-no_class}
 use Rattle.world.proofs.ChangedClasses.{changed, changed-length}
 use Rattle.world.proofs.Places.{found, position-found, found_below, kept_place, later_place}
@@ -64,18 +65,14 @@ named_later : (T X : Classes) (name : Identifier) → class_named T name ≡ Non
 named_later T X name h =
     named-found (T ++ X) name ∙ ap (option_map (λ i. i + 1)) (later_place (is_named name) T X (not_mapped (λ i. i + 1) (found (is_named name) T) (sym (named-found T name) ∙ h)))
 
-get_front : {A : Type 0} (xs ys : List A) (i : ℕ) → i < length xs → slice_get (xs ++ ys) i ≡ slice_get xs i
-get_front [] ys i h = absurd (omega (arith, h))
-get_front (x ∷ xs) ys zero h = refl
-get_front (x ∷ xs) ys (suc i) h = get_front xs ys i (omega (arith, h))
-
-get_seam : {A : Type 0} (xs ys : List A) (j : ℕ) → slice_get (xs ++ ys) (length xs + j) ≡ slice_get ys j
+-- what is after a list
+pub get_seam : {A : Type 0} (xs ys : List A) (j : ℕ) → slice_get (xs ++ ys) (length xs + j) ≡ slice_get ys j
 get_seam [] ys j = ap (slice_get ys) (omega arith)
 get_seam (x ∷ xs) ys j = let e : length (x ∷ xs) + j ≡ suc (length xs + j) = omega arith in ap (slice_get (x ∷ (xs ++ ys))) e ∙ get_seam xs ys j
 
 pub at_front : (T X : Classes) (c : ℕ) → c ≤ length T → class_at (T ++ X) c ≡ class_at T c
 at_front T X zero h = refl
-at_front T X (suc i) h = get_front T X i (omega (arith, h))
+at_front T X (suc i) h = get-front T X i (omega (arith, h))
 
 abbrev kind_of : Option Class → ClassKind
 kind_of o = option_map_or (λ (d : Class). d.kind) o Plain
