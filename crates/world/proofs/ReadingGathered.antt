@@ -6,10 +6,11 @@ use Rattle.base.specs.Bytes.{is_some_byte}
 use Rattle.classes.specs.BuiltIns.{built_ins}
 use Rattle.source.specs.World.{World}
 use Rattle.texts.specs.LineRules.{LineRule}
-use Rattle.texts.specs.Reading.{◌>>=◌, refused, Gives}
+use Rattle.texts.specs.Reading.{◌>>=◌, refused, Gives, Fails}
 use Rattle.texts.specs.Split.{parts_of, parts_left}
 use Rattle.texts.specs.declared.split.Split.{Split}
 use Rattle.texts.specs.declared.fault.ReadError.{ReadError}
+use Rattle.texts.specs.declared.fault.ReadError.TheVariants as errors
 use Rattle.texts.proofs.PartLemmas.{slice_split-split_at}
 use Rattle.texts.specs.declared.fault.Rule.{Rule}
 use Rattle.texts.specs.declared.fault.Rule.TheVariants as held
@@ -181,3 +182,13 @@ text_left lines text e = ap (λ parts. filter (λ (l : ℕ × List ℕ). is_some
 pub world_means : (text : List ℕ) (read : Result InMemory ReadError) → Gives (λ w. w) read (world_of_text text) → IfOk read (λ w. IsWorldText text w)
 world_means text (Ok w) h = ((worlds_read text w).0 h).0
 world_means text (Err e) h = tt
+
+-- the line of the heap is not read
+pub heap_stops : (number : ℕ) (bytes : List ℕ) (rest : List (ℕ × List ℕ)) (text : List ℕ) (e : ReadError) → text_lines text ≡ (number, bytes) ∷ rest → Fails e (heap_read number (heap_of_line bytes)) → Fails e (world_of_text text)
+heap_stops number bytes rest text errors.Memory first h = tt
+heap_stops number bytes rest text (errors.Fault f) first h = heap_refused number bytes rest text f first h
+
+-- another line is not read
+pub line_stops : (g : Gathered) (last number : ℕ) (bytes : List ℕ) (left rest : List (ℕ × List ℕ)) (read : Result World TextFault) (e : ReadError) → left ≡ (number, bytes) ∷ rest → IsReading g last left read → Fails e (gathered_read g number (line_of bytes)) → Fails e read
+line_stops g last number bytes left rest read errors.Memory first r h = tt
+line_stops g last number bytes left rest read (errors.Fault f) first r h = refuses g last number bytes rest read (subst (λ ls. IsReading g last ls read) first r) f h
