@@ -1,7 +1,7 @@
 -- What the lines so far say, gathered, is all that the rules on the next line ask for.
-use Rattle.std.proofs.Common.{◌≡◌, ℕ, zero, suc, ◌+◌, ◌<◌, ◌≤◌, Bool, true, false, cond, List, [], ◌∷◌, ◌++◌, length, map, Option, Some, None, refl, sym, ap, ◌∙◌, subst, arith, append-nil, length-append, ◌⊎◌, inl, inr}
-use Rattle.std.specs.Prelude.{not, ◌&&◌, ◌||◌, ◌==◌, nat_le, nat_lt, filter, is_some, pos, position}
-use Rattle.std.specs.Option.{option_map, option_to_list}
+use Rattle.std.proofs.Common.{◌≡◌, ℕ, ◌+◌, ◌≤◌, Bool, true, false, cond, List, [], ◌∷◌, ◌++◌, length, map, Option, Some, None, refl, sym, ap, ◌∙◌, arith, append-nil, length-append}
+use Rattle.std.specs.Prelude.{not, ◌&&◌, ◌||◌, ◌==◌, nat_le, nat_lt, filter, is_some, pos}
+use Rattle.std.specs.Option.{option_to_list}
 use Rattle.std.specs.List.{list_all, list_any}
 use Rattle.std.proofs.lemmas.Bool.{and_from}
 use Rattle.std.proofs.lemmas.Bool.Decides.{nat_tests}
@@ -9,20 +9,20 @@ use Rattle.std.proofs.lemmas.List.Folds.{list_all-append}
 use Rattle.base.specs.Bytes.{Identifier, ByName, lookup, is_from_to}
 use Rattle.base.specs.Element.{JInt}
 use Rattle.base.specs.Options.{some_passes}
-use Rattle.classes.specs.Additions.{ClassRule, NameTaken, BadSuperclass, BadSignature, TooMany}
+use Rattle.classes.specs.Additions.{NameTaken, BadSuperclass, BadSignature, TooMany}
 use Rattle.classes.specs.Mangling.{is_simple_name}
 use Rattle.classes.specs.Class.{FieldType, NumberField, ReferenceField, Classes}
 use Rattle.source.specs.World.{Invocation}
 use Rattle.texts.specs.LineRules.{LineRule, OfClass, LineForm, WrongName, OutOfLimit, HeapFull, line_rules}
-use Rattle.world.specs.Gathered.{Gathered, gather, comes_in_order, broken_class_rule, written_values, name_given, is_formed, is_known, refers_to, is_number, can_hold, each_can_hold, is_named, has_place, cells_added, least_broken, least_rule}
+use Rattle.world.specs.Gathered.{Gathered, gather, broken_class_rule, written_values, name_given, is_formed, is_known, can_hold, each_can_hold, is_named, has_place, cells_added, least_broken, least_rule}
 use Rattle.world.specs.ReadingWorlds.{is_second_thread, rule_broken, least_rule as least_of}
 use Rattle.world.specs.WorldLines.{WorldValue, NumberValue, NullValue, NamedObject, NamedClass, WorldLine, ClassLine, FieldLine, StaticLine, ObjectLine, ObjectsLine, ArrayLine, StringLine, ThreadLine, CallLine, Lines}
-use Rattle.world.specs.WorldMeaning.{table_of, object_defined, objects_defined, class_of_object, values_of_line, invocation_of_line, with_last, threads_with, threads_of, cells_of}
-use Rattle.world.specs.WorldRules.{part_of, is_thread_line, is_call_line, is_in_order, is_formed_value, is_well_formed, is_class_allowed, is_name_taken, is_known_value, holds_value, types_of_line, each_holds, value_in_range, each_in_range, is_within_limits, breaks_class_rule, line_breaks, broken_by_line}
-use Rattle.world.proofs.GrownLines.{objects_of, defined_grow, threads_grow, no_thread, before_or_thread, thread_no_object}
+use Rattle.world.specs.WorldMeaning.{table_of, object_defined, objects_defined, values_of_line, invocation_of_line, with_last, threads_with, threads_of, cells_of}
+use Rattle.world.specs.WorldRules.{part_of, is_thread_line, is_in_order, is_formed_value, is_well_formed, is_class_allowed, is_name_taken, is_known_value, holds_value, types_of_line, each_holds, value_in_range, each_in_range, is_within_limits, line_breaks}
+use Rattle.world.proofs.GrownLines.{defined_grow, threads_grow, no_thread}
 use Rattle.world.proofs.OrderedLines.{AreOrdered, order_told}
 use Rattle.world.proofs.Soundness.{AreSound}
-use Rattle.world.proofs.Tests.{both, at_most, at_most_so, less, less_so}
+use Rattle.world.proofs.Tests.{both, at_most, at_most_so, less_so}
 use Rattle.world.proofs.WorldCells.{cells_grow, line_cells}
 
 -- what is known of lines that keep the rules
@@ -288,7 +288,7 @@ module _ (cells part : ℕ) (L : Lines) where
         ∙ ap (λ b. cond (not ranged || not (is_within_limits (L ++ (n, line) ∷ []))) (Some OutOfLimit) (cond b (Some HeapFull) None)) (sym (ap (λ b. b && nat_lt cells (cells_of (L ++ (n, line) ∷ []))) first ∙ above_is_full (cells_added line) (cells_of (L ++ (n, line) ∷ [])) all))
         ∙ ap
         (λ b. cond (not ranged || not (is_within_limits (L ++ (n, line) ∷ []))) (Some OutOfLimit)
-          (cond (nat_lt (part_of line) 2 && nat_lt cells (cells_of (L ++ (n, line) ∷ []))) (Some HeapFull) (cond b (Some OutOfLimit) None)))
+        (cond (nat_lt (part_of line) 2 && nat_lt cells (cells_of (L ++ (n, line) ∷ []))) (Some HeapFull) (cond b (Some OutOfLimit) None)))
         (sym (ap (λ b. b && list_any (λ (l : ℕ × WorldLine). is_thread_line l.1) L) no_thread))
 
     -- a line of a thread adds no cells

@@ -1,6 +1,6 @@
 -- What the lines say with one more that breaks no rule is what was gathered, with that line.
-use Rattle.std.proofs.Common.{◌≡◌, ℕ, suc, ◌+◌, ◌<◌, ◌≤◌, Bool, true, false, cond, List, [], ◌∷◌, ◌++◌, length, map, Option, Some, None, refl, sym, ap, ◌∙◌, arith, append-nil, length-append}
-use Rattle.std.specs.Prelude.{not, ◌&&◌, ◌||◌, ◌==◌, nat_le, codes, pos, unwrap_or, bytes_eq}
+use Rattle.std.proofs.Common.{◌≡◌, ℕ, suc, ◌+◌, ◌≤◌, Bool, true, false, List, [], ◌∷◌, ◌++◌, length, map, Option, Some, None, refl, sym, ap, ◌∙◌, arith, append-nil, length-append}
+use Rattle.std.specs.Prelude.{not, ◌==◌, nat_le, codes, pos, unwrap_or, bytes_eq}
 use Rattle.std.specs.Option.{option_map, option_to_list}
 use Rattle.std.specs.List.{list_any}
 use Rattle.std.proofs.lemmas.List.{length-map}
@@ -9,14 +9,14 @@ use Rattle.base.specs.Options.{some_passes}
 use Rattle.classes.specs.Additions.{BadSuperclass, class_breaks, new_class, with_class}
 use Rattle.classes.specs.BuiltIns.{built_ins, has_own_making, string_class, number_array, root_class}
 use Rattle.classes.specs.Class.{Class, Classes, class_at, class_named, array_name}
-use Rattle.source.specs.Object.{ObjectValue, Number, Object}
+use Rattle.source.specs.Object.{ObjectValue, Number}
 use Rattle.source.specs.World.{Invocation}
 use Rattle.texts.specs.LineRules.{LineRule}
 use Rattle.world.specs.Gathered.{Gathered, gather, value_at, with_object, with_line}
 use Rattle.world.specs.ReadingWorlds.{is_second_thread, rule_broken, least_rule as least_of}
 use Rattle.world.specs.WorldLines.{WorldValue, NumberValue, NullValue, NamedObject, NamedClass, WorldLine, ClassLine, FieldLine, StaticLine, ObjectLine, ObjectsLine, ArrayLine, StringLine, ThreadLine, CallLine, Lines}
 use Rattle.world.specs.WorldMeaning.{class_number, superclass_number, table_with, table_of, object_defined, objects_defined, value_of, object_of, invocation_of_line, with_last, threads_with, threads_of, cells_of}
-use Rattle.world.specs.WorldRules.{part_of, is_thread_line, is_call_line, is_in_order, broken_by_line}
+use Rattle.world.specs.WorldRules.{part_of, is_thread_line, is_in_order, broken_by_line}
 use Rattle.world.proofs.GatheredLines.{AreGathered}
 use Rattle.world.proofs.GrownLines.{objects_of, table_grows, defined_grow, objects_grow, threads_grow, no_threads}
 use Rattle.world.proofs.KeptBuiltIns.{KeepsBuiltIns}
@@ -24,7 +24,7 @@ use Rattle.world.proofs.KeptLines.{IsKept, kept_line}
 use Rattle.world.proofs.Places.{position-found}
 use Rattle.world.proofs.OrderedLines.{order_told, more_ordered}
 use Rattle.world.proofs.Soundness.{line_sound}
-use Rattle.world.proofs.Tests.{both, same_number, later_number, not_false, not_true}
+use Rattle.world.proofs.Tests.{both, same_number, later_number, not_false}
 use Rattle.world.proofs.WorldCells.{cells_grow, line_cells}
 
 -- ---- the superclass of a new class

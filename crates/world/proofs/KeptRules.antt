@@ -1,6 +1,6 @@
 -- What is known of a line that breaks no rule, by what the lines before it say.
-use Rattle.std.proofs.Common.{◌≡◌, ℕ, ◌+◌, ◌<◌, ◌≤◌, Bool, true, false, cond, List, [], ◌∷◌, length, map, Option, Some, None, IsTrue, refl, sym, ap, ◌∙◌, arith, ℤ, pos, negsuc}
-use Rattle.std.specs.Prelude.{not, ◌&&◌, nat_le, nat_lt, is_some}
+use Rattle.std.proofs.Common.{◌≡◌, ℕ, ◌+◌, ◌≤◌, Bool, true, false, cond, List, [], ◌∷◌, Option, Some, None, refl, arith, ℤ, pos, negsuc}
+use Rattle.std.specs.Prelude.{not, ◌&&◌, nat_le, is_some}
 use Rattle.std.specs.List.{list_all}
 use Rattle.std.proofs.lemmas.Bool.{and_from}
 use Rattle.base.specs.Bytes.{ByName, lookup}
@@ -9,7 +9,7 @@ use Rattle.base.specs.Options.{some_passes}
 use Rattle.classes.specs.Additions.{ClassRule}
 use Rattle.classes.specs.Class.{FieldType, NumberField, ReferenceField, Classes}
 use Rattle.texts.specs.LineRules.{LineRule, LineForm}
-use Rattle.world.specs.Gathered.{Gathered, comes_in_order, broken_class_rule, is_formed, is_named, has_place, name_given, written_values, is_known, each_can_hold, can_hold, refers_to, cells_added, least_broken, least_rule}
+use Rattle.world.specs.Gathered.{Gathered, comes_in_order, broken_class_rule, is_formed, is_named, has_place, name_given, written_values, is_known, each_can_hold, can_hold, cells_added, least_broken, least_rule}
 use Rattle.world.specs.WorldLines.{WorldValue, NumberValue, NullValue, NamedObject, NamedClass, WorldLine}
 use Rattle.world.specs.WorldRules.{is_class_allowed, is_between, is_in_range, types_of_line, value_in_range, each_in_range}
 use Rattle.world.proofs.Tests.{both, not_true, at_most, at_most_so, less, less_so}

@@ -1,12 +1,12 @@
 -- The names of objects in memory, by name and by place.
-use Rattle.std.proofs.Common.{◌≡◌, ℕ, zero, suc, ◌+◌, Bool, cond, List, [], ◌∷◌, ◌++◌, length, position, Option, Some, None, Result, Ok, Err, is_err, false, nat_lt, refl, sym, ap, ◌∙◌}
+use Rattle.std.proofs.Common.{◌≡◌, ℕ, suc, ◌+◌, Bool, cond, List, [], ◌∷◌, ◌++◌, length, position, Option, Some, None, Result, Ok, Err, is_err, false, nat_lt, refl, ap}
 use Rattle.std.specs.Prelude.{not, OnOk}
 use Rattle.std.specs.List.{prefix_len}
 use Rattle.std.specs.Str.{bytes_eq}
 use Rattle.std.specs.Map as maps
 use Rattle.std.specs.Global.{Vec}
 use Rattle.std.proofs.lemmas.List.{map-append}
-use Rattle.base.specs.Bytes.{Identifier, ByName, lookup}
+use Rattle.base.specs.Bytes.{Identifier, lookup}
 use Rattle.class_table.proofs.Places.{same_bytes}
 use Rattle.world.specs.NameViews.{names_view}
 

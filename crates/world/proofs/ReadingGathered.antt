@@ -1,7 +1,7 @@
 -- Reading line by line, with what is gathered in the place of the lines before.
-use Rattle.std.proofs.Common.{◌≡◌, ℕ, ◌≤◌, Bool, true, false, cond, List, [], ◌∷◌, ◌++◌, length, Option, Some, None, Result, Ok, Err, refl, sym, ap, ◌∙◌, subst, arith}
+use Rattle.std.proofs.Common.{◌≡◌, ℕ, ◌≤◌, Bool, true, false, cond, List, [], ◌∷◌, ◌++◌, Option, Some, None, Result, Ok, Err, refl, sym, ap, ◌∙◌, subst, arith}
 use Rattle.std.specs.Prelude.{not, ◌==◌, filter, IfOk}
-use Rattle.std.specs.List.{list_any, enumerate_from}
+use Rattle.std.specs.List.{enumerate_from}
 use Rattle.base.specs.Bytes.{is_some_byte}
 use Rattle.classes.specs.BuiltIns.{built_ins}
 use Rattle.source.specs.World.{World}
@@ -24,7 +24,7 @@ use Rattle.world.specs.ReadingWorlds.{held_rule, rule_broken, ruled, line_read, 
 use Rattle.world.specs.SoundWorlds.{IsSound}
 use Rattle.world.specs.WorldLines.{WorldLine, Lines, text_lines}
 use Rattle.world.specs.WorldMeaning.{cells_of}
-use Rattle.world.specs.WorldRules.{part_of, is_thread_line, IsWorldText}
+use Rattle.world.specs.WorldRules.{part_of, IsWorldText}
 use Rattle.world.proofs.GatheredLines.{AreGathered, rule_same}
 use Rattle.world.proofs.GatheredNext.{gathered_next, are_gathered}
 use Rattle.world.proofs.OrderedLines.{none_ordered}

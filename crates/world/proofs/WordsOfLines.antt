@@ -1,5 +1,5 @@
 -- The words of a line: the first, those after it, and the text of a string, which is what is after the first two.
-use Rattle.std.proofs.Common.{◌≡◌, ℕ, suc, ◌+◌, ◌-◌, ◌<◌, ◌≤◌, Bool, true, false, cond, List, [], ◌∷◌, ◌++◌, length, map, take, drop, get_or, Option, Some, None, refl, sym, ap, ◌∙◌, arith, Bor}
+use Rattle.std.proofs.Common.{◌≡◌, ℕ, suc, ◌+◌, ◌-◌, ◌<◌, ◌≤◌, Bool, true, false, cond, List, [], ◌∷◌, length, map, take, drop, get_or, Some, None, refl, sym, ap, ◌∙◌, arith, Bor}
 use Rattle.std.specs.Prelude.{bytes_eq, codes}
 use Rattle.std.specs.List.{list_all}
 use Rattle.std.proofs.Math.Seq.{drop-append-add}
@@ -11,7 +11,7 @@ use Rattle.base.specs.Bytes.{is_some_byte}
 use Rattle.texts.specs.Split.{parts_of}
 use Rattle.world.specs.ReadingValues.{object_named}
 use Rattle.world.specs.ReadingLines.{heap_by_words, string_by_words, words_by_kind, line_by_words, line_of}
-use Rattle.world.specs.WorldLines.{WorldLine, StringLine, spaced}
+use Rattle.world.specs.WorldLines.{StringLine, spaced}
 
 -- ---- the text of a string
 

@@ -1,7 +1,7 @@
 -- What the lines so far say, as the rules on the next line ask for it, and what one more line adds.
 use Rattle.std.specs.Prelude.{◌≡◌, ℕ, ◌+◌, Bool, true, false, not, ◌&&◌, ◌||◌, ◌==◌, List, [], ◌∷◌, ◌++◌, length, map, position, pos, codes, nat_lt, nat_le, Option, Some, None, Result, Ok, Err, is_some, filter_map, unwrap_or, bytes_eq, if◌then◌else◌}
 use Rattle.std.specs.Option.{option_map, option_to_list}
-use Rattle.std.specs.List.{list_all, list_any}
+use Rattle.std.specs.List.{list_all}
 use Rattle.base.specs.Bytes.{Identifier, ByName, lookup}
 use Rattle.base.specs.Element.{JInt}
 use Rattle.base.specs.Options.{some_passes}
@@ -9,7 +9,7 @@ use Rattle.classes.specs.Additions.{ClassRule, new_class, with_class, with_field
 use Rattle.classes.specs.BuiltIns.{class_class, string_class, number_array}
 use Rattle.classes.specs.Class.{FieldType, NumberField, ReferenceField, Classes, class_named, array_name, assignable}
 use Rattle.class_table.specs.Refusals.{first_broken}
-use Rattle.source.specs.Object.{Reference, ObjectValue, Number, Refers, Object}
+use Rattle.source.specs.Object.{ObjectValue, Number, Refers, Object}
 use Rattle.source.specs.World.{Invocation, World}
 use Rattle.texts.specs.declared.fault.ReadError.{ReadError}
 use Rattle.texts.specs.declared.fault.Rule.TheVariants as held
@@ -147,11 +147,11 @@ abbrev pub least_rule : Gathered → WorldLine → Option LineRule
 least_rule g line =
     if comes_in_order g line
     then least_broken
-      (broken_class_rule g.classes line)
-      (is_formed g.classes line)
-      (is_named g.classes g.names line)
-      (each_in_range (types_of_line g.classes line) (written_values line) && has_place g line)
-      (nat_le (g.used + cells_added line) g.cells)
+    (broken_class_rule g.classes line)
+    (is_formed g.classes line)
+    (is_named g.classes g.names line)
+    (each_in_range (types_of_line g.classes line) (written_values line) && has_place g line)
+    (nat_le (g.used + cells_added line) g.cells)
     else Some LineForm
 
 -- ---- one more line

@@ -1,5 +1,5 @@
 -- The lines of a world, as they are held in memory.
-use Rattle.std.specs.Prelude.{map, ◌∷◌, [], Some, None}
+use Rattle.std.specs.Prelude.{map}
 use Rattle.std.specs.Option.{option_map}
 use Rattle.class_table.specs.Views.{element_view}
 use Rattle.world.specs.declared.value.Value.{Value}

@@ -3,10 +3,10 @@
 
 mod additions;
 mod builder;
+mod laws;
 mod line;
 mod names;
 mod next_line;
-mod laws;
 mod object;
 mod rules;
 mod value;

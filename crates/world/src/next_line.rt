@@ -83,7 +83,12 @@ impl WorldBuilder {
         Ok(Call::new(function, number, arguments))
     }
 
-    fn take_thread(&mut self, alloc: Global, number: usize, call: &CallWords) -> Result<(), AllocError>
+    fn take_thread(
+        &mut self,
+        alloc: Global,
+        number: usize,
+        call: &CallWords,
+    ) -> Result<(), AllocError>
         requires { least_rule (gathered_of self.old) (ThreadLine call.now.function.now (map value_view call.now.arguments.items)) ≡ None }
         ensures { OnOk result (gathered_of self.new ≡ with_line (gathered_of self.old) number (ThreadLine call.now.function.now (map value_view call.now.arguments.items))) }
     {
@@ -91,7 +96,12 @@ impl WorldBuilder {
         self.put_thread(alloc, made)
     }
 
-    fn take_call(&mut self, alloc: Global, number: usize, call: &CallWords) -> Result<(), AllocError>
+    fn take_call(
+        &mut self,
+        alloc: Global,
+        number: usize,
+        call: &CallWords,
+    ) -> Result<(), AllocError>
         requires { least_rule (gathered_of self.old) (CallLine call.now.function.now (map value_view call.now.arguments.items)) ≡ None }
         ensures { OnOk result (gathered_of self.new ≡ with_line (gathered_of self.old) number (CallLine call.now.function.now (map value_view call.now.arguments.items))) }
     {

@@ -349,7 +349,12 @@ fn each_can_hold(classes: &ClassTable, names: &ObjectNames, line: &Line) -> bool
             all_can_hold(classes, names, FieldType::Reference(class), &object.values)
         }
         Line::Array(array) => {
-            all_can_hold(classes, names, FieldType::Number(array.element), &array.values)
+            all_can_hold(
+                classes,
+                names,
+                FieldType::Number(array.element),
+                &array.values,
+            )
         }
         _ => true,
     }

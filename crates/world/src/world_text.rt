@@ -96,7 +96,12 @@ fn begun(alloc: Global, cells: u32) -> Result<WorldBuilder, AllocError>
 }
 
 /// Takes a line, where it breaks no rule.
-fn take_formed(alloc: Global, builder: &mut WorldBuilder, number: usize, line: &Line) -> Result<(), ReadError>
+fn take_formed(
+    alloc: Global,
+    builder: &mut WorldBuilder,
+    number: usize,
+    line: &Line,
+) -> Result<(), ReadError>
     ensures { OnGathered result (gathered_of builder.new) (gathered_read (gathered_of builder.old) number (Some (line_view line.now))) }
 {
     if let Some(rule) = builder.least_rule(line) {
@@ -107,7 +112,12 @@ fn take_formed(alloc: Global, builder: &mut WorldBuilder, number: usize, line: &
 }
 
 /// Takes a line that isn't empty.
-fn take_line(alloc: Global, builder: &mut WorldBuilder, number: usize, bytes: &[u8]) -> Result<(), ReadError>
+fn take_line(
+    alloc: Global,
+    builder: &mut WorldBuilder,
+    number: usize,
+    bytes: &[u8],
+) -> Result<(), ReadError>
     ensures { OnGathered result (gathered_of builder.new) (gathered_read (gathered_of builder.old) number (line_of bytes.now)) }
 {
     match read_line(alloc, bytes)? {

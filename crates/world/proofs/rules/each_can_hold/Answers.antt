@@ -1,4 +1,4 @@
-use Rattle.std.proofs.Common.{◌≡◌, Bool, sym, ap, ◌∙◌, map}
+use Rattle.std.proofs.Common.{sym, ap, ◌∙◌, map}
 use Rattle.classes.specs.Class.{NumberField, ReferenceField}
 use Rattle.class_table.specs.Views.{element_view}
 use Rattle.world.specs.declared.line.Line.{Line}

@@ -1,10 +1,9 @@
-use Rattle.std.proofs.Common.{◌≡◌, ℕ, List, [], ◌∷◌, sym, ap, ◌∙◌, subst, ◌+◌}
+use Rattle.std.proofs.Common.{sym, ◌∙◌, subst}
 use Rattle.std.proofs.lemmas.Result.{err_from_is_err_and}
 use Rattle.texts.specs.Reading.{Gives}
 use Rattle.world.specs.GatheredViews.{gathered_of}
 use Rattle.world.specs.LinesLeft.{lines_left}
 use Rattle.world.specs.ReadingWorlds.{world_of_text}
-use Rattle.world.specs.WorldLines.{text_lines}
 use Rattle.world.proofs.ReadingGathered.{IsReading, text_left, no_heap, heap_stops, starts, takes, line_stops, ends, sound_end, world_means}
 use Rattle.world.proofs.world_text.read_world.Goals as goal
 
@@ -43,7 +42,7 @@ returns-in_err-take_line-clause-read c =
     let rest = lines_left c.next_line-in-loop-line.new.number c.next_line-in-loop-line.new.lines in
     rw (p.1, p.2)
     (line_stops (gathered_of c.loop-line.builder) c.loop-line.last c.next_line-in-loop-line.new.number c.in-Some-next_line.line.now _ rest (world_of_text c.args.text.now) c.in_err-take_line.field-0.0
-      c.in-Some-next_line.ensures.line c.loop-line.invariant.reading c.in_err-take_line.ensures)
+    c.in-Some-next_line.ensures.line c.loop-line.invariant.reading c.in_err-take_line.ensures)
 
 pub finished-requires : goal.finished-requires
 finished-requires c = sound_end (gathered_of c.loop-line.builder) c.loop-line.last _ (world_of_text c.args.text.now) c.loop-line.invariant.reading

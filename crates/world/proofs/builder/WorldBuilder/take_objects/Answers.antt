@@ -1,8 +1,6 @@
-use Rattle.std.proofs.Common.{◌≡◌, true, ap, ◌∙◌, map, length, arith}
+use Rattle.std.proofs.Common.{ap, ◌∙◌, map}
 use Rattle.std.specs.List.{list_all}
-use Rattle.std.proofs.lemmas.List.{length-map}
 use Rattle.base.specs.Element.{JInt}
-use Rattle.class_table.specs.Views.{element_view}
 use Rattle.world.specs.GatheredViews.{gathered_of}
 use Rattle.world.specs.LineViews.{value_view}
 use Rattle.world.specs.WorldLines.{ObjectsLine}
