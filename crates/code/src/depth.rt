@@ -66,7 +66,11 @@ fn words_taken(operands: &[Operand]) -> usize
 fn fewer(taken: usize, depth: usize) -> Option<usize>
     ensures { result ≡ with_fewer taken depth }
 {
-    if taken <= depth { Some(depth - taken) } else { None }
+    if taken <= depth {
+        Some(depth - taken)
+    } else {
+        None
+    }
 }
 
 /// Whether the last instruction has nothing after it.

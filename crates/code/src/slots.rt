@@ -78,7 +78,9 @@ fn target_within(target: Target, slots: SlotCounts) -> bool
 fn are_within(operands: &[Operand], slots: SlotCounts) -> bool
     ensures { result ≡ list_all (operand_within slots) operands.now }
 {
-    operands.iter().all(|operand| operand_within(*operand, slots))
+    operands
+        .iter()
+        .all(|operand| operand_within(*operand, slots))
 }
 
 fn operand_within(operand: Operand, slots: SlotCounts) -> bool

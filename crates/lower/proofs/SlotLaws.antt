@@ -236,4 +236,3 @@ shows_element_set code known old new slots t x size start index z word shows at 
       elements = λ k small. element_set old new slots.numbers t x start index k z word inside is fits set (array.elements k small) (k == index) refl;
       past = λ k above. set.elements k (λ e. omega (arith, e, above, below)) ∙ array.past k above;
     }))
-
