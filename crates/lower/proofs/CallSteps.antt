@@ -30,7 +30,7 @@ use Rattle.code_generator.specs.Coding.{term_code}
 use Rattle.lower.specs.Slots.{word_of, Visible, Slots, Shows}
 use Rattle.lower.specs.Fits.{IsReferenceKind, TermHasSort}
 use Rattle.lower.specs.Stands.{held, IsBegun, HasAt, ReferenceStands, OperandStands, TargetStands, InvokeStands, TasksStand, task_returns, operands_rest, operand_held, operands_held, AreUntouched, AreBegun}
-use Rattle.lower.specs.Does.{IsOperand, TakesResult, DoesEffect, word_given, words_given}
+use Rattle.lower.specs.Does.{IsOperand, TakesResult, DoesEffect, word_given, words_given, OperandFits}
 use Rattle.lower.proofs.SlotLaws.{fewer_shown, shows_set}
 use Rattle.lower.proofs.TermSteps.{IsOpen, untouched_held, untouched_begun}
 
@@ -275,6 +275,25 @@ module _ (code : Listing) (known : Known) (place : ℕ) (stack : List ℕ) (slot
       ap (λ (l : List ℕ). l ++ operand_held o) (are_words found parameters operands (omega (arith, count)) both.1 h.1)
       ∙ ap (λ (l : List ℕ). words_given (map (look_up visible.sight) (zip parameters operands)) ++ l) (is_found w p o both.0 h.0).word
 
+  -- a reference is no number
+  reference_fits : (p : ParameterKind) (o : Where) → IsReferenceKind p → (o ≡ operand.Number → ⊥) → OperandFits p o
+  reference_fits IntNumber o kind other = absurd kind
+  reference_fits p operand.Number kind other = absurd (other refl)
+  reference_fits p o kind other = tt
+
+  operand_fits : (o : Where) (p : ParameterKind) (given : Operand) → OperandStands known o (p, given) → OperandFits p o
+  operand_fits operand.Null p given h = reference_fits p operand.Null h.kind (λ e. cc)
+  operand_fits (operand.Local i) p given h = reference_fits p (operand.Local i) h.1.kind (λ e. cc)
+  operand_fits (operand.Static i) p given h = reference_fits p (operand.Static i) h.1.kind (λ e. cc)
+  operand_fits operand.Number p given h = subst (λ (q : ParameterKind). OperandFits q operand.Number) (sym h.kind) tt
+
+  operands_fit : (found : List Where) (parameters : List ParameterKind) (operands : List Operand) → length operands ≡ length parameters → AllZip (OperandStands known) found (zip parameters operands) → AllZip OperandFits parameters found
+  operands_fit [] [] operands count h = tt
+  operands_fit (w ∷ found) [] operands count h = absurd h
+  operands_fit found (p ∷ parameters) [] count h = absurd (omega (arith, count))
+  operands_fit [] (p ∷ parameters) (o ∷ operands) count h = absurd h
+  operands_fit (w ∷ found) (p ∷ parameters) (o ∷ operands) count h = (operand_fits w p o h.0, operands_fit found parameters operands (omega (arith, count)) h.1)
+
   -- there is an argument for each parameter
   actual_count : (parameters : List ParameterKind) (operands : List Operand) → length operands ≡ length parameters → length (map (look_up visible.sight) (zip parameters operands)) ≡ length parameters
   actual_count [] operands count = refl
@@ -298,6 +317,7 @@ module _ (code : Listing) (known : Known) (place : ℕ) (stack : List ℕ) (slot
           built = c.built;
           words = c.held ∙ are_words c.call.operands (prototype f).parameters operands c.count ready c.operands_stand;
           count = actual_count (prototype f).parameters operands c.count;
+          kinds = operands_fit c.call.operands (prototype f).parameters operands c.count c.operands_stand;
           given = are_operands c.call.operands (prototype f).parameters operands ready c.operands_stand;
           goes = takes_result line f operands c.call.target target rest (subst (λ p. TargetStands code known (λ q names. TasksStand code names q [] rest) p c.call.target target) next c.goes) returns;
         }

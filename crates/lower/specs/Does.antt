@@ -7,7 +7,7 @@ use Rattle.base.specs.Bytes.{Identifier, lookup}
 use Rattle.base.specs.Element.{ElementType}
 use Rattle.jni.specs.JniFunction.{JniFunction}
 use Rattle.jni.specs.BuiltFunctions.{is_built_function}
-use Rattle.jni.specs.Prototype.{prototype}
+use Rattle.jni.specs.Prototype.{ParameterKind, IntNumber, prototype}
 use Rattle.types.specs.Sorts.{Ref, Global}
 use Rattle.source.specs.Arguments.{Actual, ReferenceActual, NumberActual}
 use Rattle.source.specs.Effect.{Effect, Becomes, Sets, SetsNull, SetsElement, MakesArray, Prints, Calls, Returns, TrapsAt, NoEffect}
@@ -58,6 +58,13 @@ AtEnd P place plain.Next = P (place + 1)
 AtEnd P place (plain.Skip n) = P (place + 1 + n)
 AtEnd P place (plain.Back n) = (n ≤ place) × P (place - n)
 AtEnd P place (plain.Trap t line) = ⊥
+
+-- an operand is a number exactly where the parameter is one
+abbrev pub OperandFits : ParameterKind → Where → Type 0
+OperandFits IntNumber operand.Number = Unit {0}
+OperandFits IntNumber o = ⊥
+OperandFits p operand.Number = ⊥
+OperandFits p o = Unit {0}
 
 -- the word of an argument that is a number
 abbrev pub word_given : Actual → List ℕ
@@ -156,6 +163,7 @@ module _ (code : Listing) (known : Known) (place : ℕ) (stack : List ℕ) (slot
     pub built : is_built_function f ≡ true
     pub words : stack ≡ words_given args
     pub count : length args ≡ length (prototype f).parameters
+    pub kinds : AllZip OperandFits (prototype f).parameters call.operands
     pub given : AllZip IsOperand call.operands args
     pub goes : TakesResult call.target target tasks
 

@@ -10,6 +10,7 @@ ghost use Rattle.machine.specs.ArrayLengths.{first_operand, LengthIs};
 use crate::stop::Trap;
 use crate::thread::{Activation, Event};
 use code::instr::{Call, Operand, Target};
+use code::stack::Stack;
 use heap::{Addr, Heap};
 use jni::JniFunction;
 use world::World;
@@ -22,8 +23,9 @@ pub fn invoke(world: &World, heap: &Heap, call: &mut Activation, function: &Call
     requires place { call.old.place + 1 < 18446744073709551616 }
     ensures { Invoked world.now.classes heap.now call.old (call_view function.now) call.new result }
 {
-    match answer(world, heap, &call.references, function) {
+    match answer(world, heap, &call.references, &call.stack, function) {
         Ok(word) => {
+            call.stack.clear();
             put(&mut call.numbers, function.target, word);
             call.place += 1;
             Event::Quiet
@@ -37,12 +39,15 @@ fn answer(
     world: &World,
     heap: &Heap,
     references: &[Option<Addr>],
+    stack: &Stack,
     function: &Call,
 ) -> Result<u32, Trap>
     requires objects { AreAddresses heap.now references.now (call_view function.now).operands }
     requires built { is_built_function (call_view function.now).function ≡ true }
-    ensures { Answers world.now.classes heap.now references.now (call_view function.now) result }
+    ensures { Answers world.now.classes heap.now references.now stack.now (call_view function.now) result }
 {
+    // No function that can be called today takes a number.
+    let _ = stack;
     let first = first_operand(&function.operands);
     match function.function {
         JniFunction::GetArrayLength => {
@@ -76,7 +81,7 @@ fn reference_in(references: &[Option<Addr>], operand: Operand) -> Option<Addr>
     ensures { result ≡ operand_at references.now operand }
 {
     match operand {
-        Operand::Null | Operand::Static(_) => None,
+        Operand::Null | Operand::Static(_) | Operand::Number => None,
         Operand::Local(slot) => references.get(slot as usize).copied().unwrap_or(None),
     }
 }

@@ -13,5 +13,5 @@ returns c =
     let references = c.args.references.now in
     let function = call_view c.args.function.now in
     let first : c.first_operand-first.result ≡ first_operand function.operands = c.first_operand-first.ensures ∙ ap first_operand c.deref.ensures.value in
-    array_length_answers classes space references function c.array_length.result (ap function_value c.in-GetArrayLength.is)
+    array_length_answers classes space references c.args.stack.now function c.array_length.result (ap function_value c.in-GetArrayLength.is)
     (subst (λ (o : Option ℕ). LengthIs classes space o c.array_length.result) (c.reference_in.ensures ∙ ap (operand_at references) first) c.array_length.ensures)
