@@ -23,7 +23,7 @@ use Rattle.world.proofs.GrownLines.{defined_grow, threads_grow, no_thread}
 use Rattle.world.proofs.OrderedLines.{AreOrdered, order_told}
 use Rattle.world.proofs.Soundness.{AreSound}
 use Rattle.world.proofs.Tests.{both, at_most, at_most_so, less_so}
-use Rattle.world.proofs.WorldCells.{cells_grow, line_cells}
+use Rattle.world.proofs.WorldCells.{cells_grow}
 
 -- what is known of lines that keep the rules
 pub record AreGathered (cells part : ℕ) (lines : Lines) : Type 0 where
@@ -259,7 +259,7 @@ module _ (cells part : ℕ) (L : Lines) where
       limits_told : is_within_limits next ≡ limits_of (N ++ option_to_list (object_defined T line)) (threads_with L (threads_of L) (n, line))
       limits_told = λ i. limits_of (defined_grow L n line ordered i) (threads_grow L n line ordered s.sound.known own i)
 
-      cells_told : is_class_allowed T line ≡ true → cells_of next ≡ cells_of L + line_cells line
+      cells_told : is_class_allowed T line ≡ true → cells_of next ≡ cells_of L + cells_added line
       cells_told allowed = cells_grow L n line s.sound.built_ins ordered s.sound.known own allowed
 
     -- ---- the last two rules

@@ -12,7 +12,7 @@ use Rattle.classes.specs.Class.{Class, Classes, class_at, class_named, array_nam
 use Rattle.source.specs.Object.{ObjectValue, Number}
 use Rattle.source.specs.World.{Invocation}
 use Rattle.texts.specs.LineRules.{LineRule}
-use Rattle.world.specs.Gathered.{Gathered, gather, value_at, with_object, with_line}
+use Rattle.world.specs.Gathered.{Gathered, gather, cells_added, value_at, with_object, with_line}
 use Rattle.world.specs.ReadingWorlds.{is_second_thread, rule_broken, least_rule as least_of}
 use Rattle.world.specs.WorldLines.{WorldValue, NumberValue, NullValue, NamedObject, NamedClass, WorldLine, ClassLine, FieldLine, StaticLine, ObjectLine, ObjectsLine, ArrayLine, StringLine, ThreadLine, CallLine, Lines}
 use Rattle.world.specs.WorldMeaning.{class_number, superclass_number, table_with, table_of, object_defined, objects_defined, value_of, object_of, invocation_of_line, with_last, threads_with, threads_of, cells_of}
@@ -25,7 +25,7 @@ use Rattle.world.proofs.Places.{position-found}
 use Rattle.world.proofs.OrderedLines.{order_told, more_ordered}
 use Rattle.world.proofs.Soundness.{line_sound}
 use Rattle.world.proofs.Tests.{both, same_number, later_number, not_false}
-use Rattle.world.proofs.WorldCells.{cells_grow, line_cells}
+use Rattle.world.proofs.WorldCells.{cells_grow}
 
 -- ---- the superclass of a new class
 
@@ -97,7 +97,7 @@ module _ (cells part : ℕ) (L : Lines) (s : AreGathered cells part L) (n : ℕ)
     names = N ++ option_to_list (object_defined T line);
     objects = objects_of L ++ option_to_list (object_of L line);
     threads = threads_with L (threads_of L) (n, line);
-    used = cells_of L + line_cells line;
+    used = cells_of L + cells_added line;
     part = part_of line;
   }
 

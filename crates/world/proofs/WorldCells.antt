@@ -11,6 +11,7 @@ use Rattle.classes.specs.Class.{Field, Class, Classes, class_at, superclass, abo
 use Rattle.classes.specs.Fields.{FieldId, own_fields, own_statics, layout}
 use Rattle.source.specs.Object.{Object, size, sizes}
 use Rattle.source.specs.World.{initial, fresh_object, class_object, class_objects}
+use Rattle.world.specs.Gathered.{cells_added}
 use Rattle.world.specs.WorldLines.{WorldValue, NumberValue, WorldLine, ClassLine, FieldLine, StaticLine, ObjectLine, ObjectsLine, ArrayLine, StringLine, ThreadLine, CallLine, Lines}
 use Rattle.world.specs.WorldMeaning.{class_number, superclass_number, field_of, table_with, table_of, value_of, values_of_line, object_of, cells_of}
 use Rattle.world.specs.WorldRules.{is_in_order, is_known_value, is_class_allowed}
@@ -82,16 +83,6 @@ module _ (T : Classes) (k : KeepsBuiltIns T) where
 
 -- ---- all that is made at load
 
--- the cells that a line adds: of two class objects, of a static, or of an object
-abbrev pub line_cells : WorldLine → ℕ
-line_cells (ClassLine name superclass) = 6
-line_cells (StaticLine class name signature) = 1
-line_cells (ObjectLine x class values) = 3 + length values
-line_cells (ObjectsLine x class values) = 3 + length values
-line_cells (ArrayLine x t values) = 3 + length values
-line_cells (StringLine x text) = 3 + length text
-line_cells line = 0
-
 pub cells_told : (L : Lines) → KeepsBuiltIns (table_of L) → cells_of L ≡ sum_by class_cells (table_of L) + (4 + sizes (objects_of L))
 cells_told L k =
     let T = table_of L in
@@ -112,7 +103,7 @@ module _ (L : Lines) where
   static_more : (field : Field) (d : Class) → class_cells (record d { statics = d.statics ++ field ∷ [] }) ≡ class_cells d + 1
   static_more field d = omega (arith, length-append d.statics (field ∷ []))
 
-  adds : (line : WorldLine) → is_class_allowed T line ≡ true → sum_by class_cells (table_with T line) + sizes (option_to_list (object_of L line)) ≡ sum_by class_cells T + line_cells line
+  adds : (line : WorldLine) → is_class_allowed T line ≡ true → sum_by class_cells (table_with T line) + sizes (option_to_list (object_of L line)) ≡ sum_by class_cells T + cells_added line
   adds (ClassLine name superclass) h =
       let new = new_class name (Some (superclass_number T superclass)) in
       omega (arith, sum_by-append class_cells T (new ∷ object_array_class (length T + 1, new) ∷ []))
@@ -132,7 +123,7 @@ module _ (L : Lines) where
 
   -- one more line of known values, in its order, whose class is allowed
   pub cells_grow : (n : ℕ) (line : WorldLine) → KeepsBuiltIns T → is_in_order L line ≡ true → are_known L ≡ true → list_all (is_known_value L) (values_of_line line) ≡ true → is_class_allowed T line ≡ true
-      → cells_of (L ++ (n, line) ∷ []) ≡ cells_of L + line_cells line
+      → cells_of (L ++ (n, line) ∷ []) ≡ cells_of L + cells_added line
   cells_grow n line k ordered known own allowed =
       let next = L ++ (n, line) ∷ [] in
       let table = table_grows L n line in
