@@ -2,6 +2,7 @@
 
 ghost use Rattle.std.specs.Prelude.{◌≡◌, ◌+◌, Some, None, length, nat_lt, map, is_ok, if◌then◌else◌, IsTrue, MatchResult};
 ghost use Rattle.std.specs.List.{list_any};
+ghost use Rattle.std.specs.Option.{option_map};
 ghost use Rattle.std.specs.Str.{bytes_eq};
 ghost use Rattle.classes.specs.Additions.{class_breaks, field_breaks, declared_fields, new_class, with_class};
 ghost use Rattle.classes.specs.BuiltIns.{has_own_making};
@@ -51,6 +52,16 @@ impl ClassTable {
                 }
             }
             _ => Err(ClassRule::BadSuperclass),
+        }
+    }
+
+    /// The rule of the least number that a new class breaks.
+    pub fn class_rule(&self, name: &[u8], superclass: &[u8]) -> Option<ClassRule>
+        ensures { option_map rule_view result ≡ first_broken (λ rule. class_breaks rule self.now name.now superclass.now) }
+    {
+        match self.superclass_for(name, superclass) {
+            Ok(_) => None,
+            Err(rule) => Some(rule),
         }
     }
 
@@ -105,6 +116,16 @@ impl ClassTable {
             None => Err(ClassRule::BadSignature),
             Some(_) if self.is_full(class) => Err(ClassRule::TooMany),
             Some(field_type) => Ok(field_type),
+        }
+    }
+
+    /// The rule of the least number that a new field or static of the class of this name breaks.
+    pub fn field_rule(&self, class_name: &[u8], name: &[u8], signature: &[u8]) -> Option<ClassRule>
+        ensures { option_map rule_view result ≡ first_broken (λ rule. field_breaks rule self.now (class_named self.now class_name.now) name.now signature.now) }
+    {
+        match self.type_for(self.find(class_name), name, signature) {
+            Ok(_) => None,
+            Err(rule) => Some(rule),
         }
     }
 

@@ -1,11 +1,11 @@
 //! The built-in classes.
 
-ghost use Rattle.std.specs.Prelude.{◌≡◌, ◌++◌, ◌∷◌, [], map, None, true, IfOk, OnOk, IsTrue};
-ghost use Rattle.classes.specs.BuiltIns.{array_class};
+ghost use Rattle.std.specs.Prelude.{◌≡◌, ◌++◌, ◌∷◌, [], length, map, nat_lt, None, true, IfOk, OnOk, IsTrue};
+ghost use Rattle.classes.specs.BuiltIns.{array_class, built_ins, number_array};
 ghost use Rattle.class_table.specs.BuiltInList.{listed_field, listed_class, listed_number_array, array_classes, listed_classes, is_class_list};
 ghost use Rattle.class_table.specs.Tables.{names_differ};
 ghost use Rattle.classes.specs.Class.{class_named};
-ghost use Rattle.class_table.specs.Views.{field_view, kind_view, classes_view};
+ghost use Rattle.class_table.specs.Views.{element_view, field_view, kind_view, classes_view};
 
 use crate::class::{ClassKind, ElementType, Entry, Field, FieldType};
 use crate::entries::{Entries, array_name, put};
@@ -48,6 +48,9 @@ pub const INCOMPATIBLE_CLASS_CHANGE_ERROR: usize = 7;
 
 /// The number of `java/lang/VirtualMachineError`.
 pub const VIRTUAL_MACHINE_ERROR: usize = 10;
+
+/// The number of `java/lang/OutOfMemoryError`.
+pub const OUT_OF_MEMORY_ERROR: usize = 11;
 
 /// The number of `java/lang/Exception`.
 pub const EXCEPTION: usize = 12;
@@ -170,6 +173,25 @@ const NUMBER_ARRAYS: [(&[u8], ElementType); 4] = [
     (b"[S", ElementType::Short),
     (b"[I", ElementType::Int),
 ];
+
+/// Whether a class of this number comes after the built-in ones.
+pub fn is_after_built_ins(class: usize) -> bool
+    ensures { result ≡ nat_lt (length built_ins) class }
+{
+    class > 42
+}
+
+/// The number of the class of arrays of such numbers.
+pub fn number_array(element: ElementType) -> usize
+    ensures { result ≡ number_array (element_view element) }
+{
+    match element {
+        ElementType::Byte => 20,
+        ElementType::Char => 21,
+        ElementType::Short => 22,
+        ElementType::Int => 23,
+    }
+}
 
 fn copied_fields(alloc: Global, fields: &[BuiltInField]) -> Result<Vec<Field>, AllocError>
     ensures { IfOk result (λ copies. map field_view copies.items ≡ map listed_field fields.now) }

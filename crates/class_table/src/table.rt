@@ -4,12 +4,12 @@ ghost use Rattle.std.specs.Prelude.{◌≡◌, ◌≤◌, length, not, IfOk, IsT
 ghost use Rattle.std.specs.Option.{option_map};
 ghost use Rattle.classes.specs.BuiltIns.{built_ins};
 ghost use Rattle.class_table.specs.BuiltInList.{listed_classes, is_class_list};
-ghost use Rattle.classes.specs.Class.{class_at, class_named, class_name, class_kind, superclass, is_plain, is_subclass, elements_fit, assignable};
+ghost use Rattle.classes.specs.Class.{class_at, class_named, class_name, class_kind, superclass, is_plain, is_subclass, elements_fit, assignable, array_name};
 ghost use Rattle.class_table.specs.Views.{class_view, kind_view};
 
 use crate::built_ins::{BUILT_INS, BuiltIn, listed};
 use crate::class::{ClassKind, Entry};
-use crate::entries::Entries;
+use crate::entries::{Entries, array_name};
 use std::alloc::{AllocError, Global};
 use std::marker::Model;
 
@@ -69,6 +69,14 @@ impl ClassTable {
             Some(place) => Some(place + 1),
             None => None,
         }
+    }
+
+    /// The number of the class of arrays whose elements are of the class of this name.
+    pub fn find_array_of(&self, name: &[u8]) -> Result<Option<usize>, AllocError>
+        ensures { IfOk result (λ class. class ≡ class_named self.now (array_name name.now)) }
+    {
+        let name = array_name(*self.classes.allocator(), name)?;
+        Ok(self.find(&name))
     }
 
     /// The class of a number: its name, and what else is kept of it.

@@ -2,9 +2,9 @@
 
 ghost use Rattle.std.specs.Prelude.{◌≡◌, ◌+◌, ◌-◌, ◌<◌, ◌≤◌, ◌↔◌, List, IsTrue, IsSome, IfSome, IfOk, length, slice_index};
 ghost use Rattle.code.specs.declared.instr.Instr.{Instr};
-ghost use Rattle.code.specs.Depth.{depth_after, depths, IsDepthTable, Leaves, EndsByLeaving, Lands, JumpsLand};
+ghost use Rattle.code.specs.Depth.{depth_after, words_taken, with_fewer, depths, IsDepthTable, Leaves, EndsByLeaving, Lands, JumpsLand};
 
-use crate::instr::Instr;
+use crate::instr::{Instr, Operand};
 use std::alloc::{AllocError, Global};
 
 /// The number of words at each place of the code, or none where an instruction finds too few of them or no room.
@@ -44,8 +44,32 @@ fn next_depth(instr: &Instr, depth: usize) -> Option<usize>
         | Instr::JumpIfFalse(_)
         | Instr::PutJint => depth.checked_sub(1),
         Instr::ReturnJint => (depth > 0).then_some(0),
-        Instr::ClearArray(_) | Instr::StoreNull(_) | Instr::Call(_) => Some(depth),
+        Instr::ClearArray(_) | Instr::StoreNull(_) => Some(depth),
+        Instr::Call(boxed) => fewer(words_taken(&boxed.call().operands), depth),
         Instr::Jump(_) | Instr::JumpBack(_) | Instr::Return | Instr::ReturnReference(_) => Some(0),
+    }
+}
+
+/// How many words a call takes from the stack.
+fn words_taken(operands: &[Operand]) -> usize
+    ensures words { result ≡ words_taken operands.now }
+    ensures few { result ≤ length operands.now }
+{
+    match operands {
+        [] => 0,
+        [Operand::Number, rest @ ..] => 1 + words_taken(rest),
+        [_, rest @ ..] => words_taken(rest),
+    }
+}
+
+/// So many words less.
+fn fewer(taken: usize, depth: usize) -> Option<usize>
+    ensures { result ≡ with_fewer taken depth }
+{
+    if taken <= depth {
+        Some(depth - taken)
+    } else {
+        None
     }
 }
 

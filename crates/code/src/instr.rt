@@ -111,6 +111,8 @@ pub enum Operand {
     Local(u32),
     /// The global reference of this static.
     Static(u32),
+    /// The topmost word of the stack that no later operand takes: a `jint`.
+    Number,
 }
 
 /// Where a call's result goes.

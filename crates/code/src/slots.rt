@@ -87,7 +87,7 @@ fn operand_within(operand: Operand, slots: SlotCounts) -> bool
     ensures { result ≡ operand_within slots operand }
 {
     match operand {
-        Operand::Null => true,
+        Operand::Null | Operand::Number => true,
         Operand::Local(slot) => slot < slots.references,
         Operand::Static(index) => index < slots.statics,
     }

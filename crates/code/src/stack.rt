@@ -56,6 +56,13 @@ impl Stack {
         self.words[last] = word;
     }
 
+    /// Takes all words.
+    pub fn clear(&mut self)
+        ensures { self.new ≡ [] }
+    {
+        self.words.clear();
+    }
+
     /// Takes the topmost word.
     pub fn pop(&mut self) -> u32
         requires { 0 < length self.old }

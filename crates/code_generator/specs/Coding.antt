@@ -1,6 +1,6 @@
 -- Which instructions the parts of a program become. What no accepted program has becomes nothing, and no place of a code
 -- stands for it (Stands).
-use Rattle.std.specs.Prelude.{ℕ, ◌+◌, Bool, true, false, not, List, [], ◌∷◌, ◌++◌, length, map, Option, Some, None}
+use Rattle.std.specs.Prelude.{ℕ, ◌+◌, Bool, true, false, not, List, [], ◌∷◌, ◌++◌, length, map, zip, flat_map, Option, Some, None}
 use Rattle.std.specs.Option.{option_map}
 use Rattle.base.specs.Bytes.{lookup}
 use Rattle.base.specs.Element.{ElementType, JInt, JShort, JByte, JChar}
@@ -9,7 +9,7 @@ use Rattle.syntax.specs.Tree.{Constant, PrefixOp, LogicalNot, Complement, ToWord
 use Rattle.types.specs.Sorts.{Sort, Ref, Global, FieldId, Buffer, Array, is_jint}
 use Rattle.types.specs.SortRules.{variable_sort}
 use Rattle.jni.specs.JniFunction.{JniFunction}
-use Rattle.jni.specs.Prototype.{function_named}
+use Rattle.jni.specs.Prototype.{ParameterKind, IntNumber, prototype, function_named}
 use Rattle.code.specs.declared.instr.Operand.{Operand}
 use Rattle.code.specs.declared.instr.Operand.TheVariants as operand
 use Rattle.code.specs.declared.instr.ElementType.{ElementType as ElementOfCode}
@@ -169,14 +169,26 @@ abbrev pub operand_of : Option Slot → Operand
 operand_of None = operand.Null
 operand_of (Some s) = reference_operand s.sort s.index
 
--- where an argument is found; all are references today
-abbrev pub operand_code : Known → Argument → Operand
-operand_code known (tree.Value (tree.Variable x)) = operand_of (lookup x known)
-operand_code known a = operand.Null
+-- where an argument is found: a number is on the stack, and all else is a reference today
+abbrev pub operand_code : Known → ParameterKind × Argument → Operand
+operand_code known (IntNumber, tree.Value e) = operand.Number
+operand_code known (p, tree.Value (tree.Variable x)) = operand_of (lookup x known)
+operand_code known (p, a) = operand.Null
+
+-- an argument that is worked out before the call
+abbrev pub argument_code : Known → (line : ℕ) → ParameterKind × Argument → List Instr
+argument_code known line (IntNumber, tree.Value e) = expr_code known line e
+argument_code known line (p, a) = []
+
+-- the arguments that are, in order
+abbrev pub arguments_code : Known → (line : ℕ) → List (ParameterKind × Argument) → List Instr
+arguments_code known line given = flat_map (argument_code known line) given
 
 -- a call of a function, whose result goes there
 abbrev pub call_code : Known → (line : ℕ) → Target → JniFunction → List Argument → List Instr
-call_code known line target f arguments = Call (record { line = line; target = target; function = f; operands = map (operand_code known) arguments }) ∷ []
+call_code known line target f arguments =
+    let given = zip (prototype f).parameters arguments in
+    arguments_code known line given ++ Call (record { line = line; target = target; function = f; operands = map (operand_code known) given }) ∷ []
 
 -- the same, if the function is known
 abbrev pub named_call_code : Known → (line : ℕ) → Target → Option JniFunction → List Argument → List Instr

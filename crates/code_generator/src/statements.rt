@@ -1,13 +1,14 @@
 //! The code of statements and blocks.
 
-ghost use Rattle.std.specs.Prelude.{◌≡◌, ◌+◌, ◌-◌, ◌<◌, ◌≤◌, [], ◌∷◌, ◌++◌, slice_set, vec_len, map, IfOk, OnOk};
+ghost use Rattle.std.specs.Prelude.{◌≡◌, ◌+◌, ◌-◌, ◌<◌, ◌≤◌, [], ◌∷◌, ◌++◌, slice_set, vec_len, map, zip, IfOk, OnOk};
 ghost use Rattle.base.specs.Bytes.{lookup};
 ghost use Rattle.syntax.specs.Views.{element_tree, expr_tree, argument_tree, call_tree, right_side_tree, test_tree, variable_type_tree, form_tree, block_tree};
 ghost use Rattle.jni.specs.Prototype.{function_named};
+ghost use Rattle.jni.specs.Table.{parameter_value};
 ghost use Rattle.types.specs.SortRules.{variable_sort};
 ghost use Rattle.source.specs.Term.{term_of};
 ghost use Rattle.code_generator.specs.Layout.{closed, layout_after, block_layout, with_name, new_slot};
-ghost use Rattle.code_generator.specs.Coding.{operand_code, reference_operand, named_call_code, right_code, assign_code, write_code, of_slot, return_code, returned_code, test_code, first_code, loop_code, expr_code, stmt_code, block_code};
+ghost use Rattle.code_generator.specs.Coding.{operand_code, argument_code, arguments_code, reference_operand, named_call_code, right_code, assign_code, write_code, of_slot, return_code, returned_code, test_code, first_code, loop_code, expr_code, stmt_code, block_code};
 ghost use Rattle.code_generator.specs.Names.{sort_view, slot_view};
 
 use crate::emitting::{counted, emit, replace};
@@ -15,7 +16,7 @@ use crate::names::{Names, Slot, Sort};
 use crate::terms::{element_type, emit_expr, nullable};
 use code::instr;
 use code::instr::{BoxedCall, Instr, LocalArray, Operand, ReferenceOperand, Target};
-use jni::function_named;
+use jni::{ParameterKind, function_named};
 use std::alloc::{AllocError, Global};
 use syntax::{
     Argument, Block, Call, Constant, ElementType, Expr, Form, Name, RightSide, Test, VariableType,
@@ -336,7 +337,10 @@ fn emit_call(
         return Ok(());
     };
     let alloc = *code.allocator();
-    let operands = operands(alloc, names, &call.arguments)?;
+    let parameters = function.prototype().parameters;
+    emit_arguments(code, names, line, parameters, &call.arguments)?;
+    let mut operands = Vec::new(alloc);
+    push_operands(&mut operands, names, parameters, &call.arguments)?;
     let call = instr::Call {
         line,
         target,
@@ -346,27 +350,74 @@ fn emit_call(
     emit(code, Instr::Call(BoxedCall::of(alloc, call)?))
 }
 
-/// Where the arguments of a call are found.
-fn operands(
-    alloc: Global,
+/// The arguments that are worked out before a call, in order.
+fn emit_arguments(
+    code: &mut Vec<Instr>,
     names: &Names<'_>,
+    line: u32,
+    parameters: &[ParameterKind],
     arguments: &[Argument],
-) -> Result<Vec<Operand>, AllocError>
-    ensures { IfOk result (λ v. v.items ≡ map (operand_code names.now.known) (map argument_tree arguments.now)) }
+) -> Result<(), AllocError>
+    ensures { OnOk result (code.new.items ≡ code.old.items ++ arguments_code names.now.known line (zip (map parameter_value parameters.now) (map argument_tree arguments.now))) }
 {
-    let mut operands = Vec::with_capacity(alloc, arguments.len())?;
-    for argument in arguments {
-        operands.push(operand_of(names, argument))?;
+    match parameters {
+        [] => Ok(()),
+        [parameter, parameters @ ..] => match arguments {
+            [] => Ok(()),
+            [argument, arguments @ ..] => {
+                emit_argument(code, names, line, *parameter, argument)?;
+                emit_arguments(code, names, line, parameters, arguments)
+            }
+        },
     }
-    Ok(operands)
+}
+
+/// An argument, where it is worked out before the call.
+fn emit_argument(
+    code: &mut Vec<Instr>,
+    names: &Names<'_>,
+    line: u32,
+    parameter: ParameterKind,
+    argument: &Argument,
+) -> Result<(), AllocError>
+    ensures { OnOk result (code.new.items ≡ code.old.items ++ argument_code names.now.known line (parameter_value parameter, argument_tree argument.now)) }
+{
+    match (parameter, argument) {
+        (ParameterKind::IntNumber, Argument::Value(number)) => {
+            emit_expr(code, names, line, number)
+        }
+        _ => Ok(()),
+    }
+}
+
+/// Where the arguments of a call are found, in order.
+fn push_operands(
+    operands: &mut Vec<Operand>,
+    names: &Names<'_>,
+    parameters: &[ParameterKind],
+    arguments: &[Argument],
+) -> Result<(), AllocError>
+    ensures { OnOk result (operands.new.items ≡ operands.old.items ++ map (operand_code names.now.known) (zip (map parameter_value parameters.now) (map argument_tree arguments.now))) }
+{
+    match parameters {
+        [] => Ok(()),
+        [parameter, parameters @ ..] => match arguments {
+            [] => Ok(()),
+            [argument, arguments @ ..] => {
+                operands.push(operand_of(names, *parameter, argument))?;
+                push_operands(operands, names, parameters, arguments)
+            }
+        },
+    }
 }
 
 /// Where an argument is found.
-fn operand_of(names: &Names<'_>, argument: &Argument) -> Operand
-    ensures { result ≡ operand_code names.now.known (argument_tree argument.now) }
+fn operand_of(names: &Names<'_>, parameter: ParameterKind, argument: &Argument) -> Operand
+    ensures { result ≡ operand_code names.now.known (parameter_value parameter, argument_tree argument.now) }
 {
-    match argument {
-        Argument::Value(Expr::Variable(name)) => match names.slot_of(name) {
+    match (parameter, argument) {
+        (ParameterKind::IntNumber, Argument::Value(_)) => Operand::Number,
+        (_, Argument::Value(Expr::Variable(name))) => match names.slot_of(name) {
             Some(Slot { sort, index }) => reference_operand(sort, index),
             None => Operand::Null,
         },

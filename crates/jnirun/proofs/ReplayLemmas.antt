@@ -8,9 +8,8 @@ use Rattle.source.specs.Journal.{Journal}
 use Rattle.texts.specs.JournalMeaning.{IsJournalText}
 use Rattle.texts.specs.Reading.{Fails}
 use Rattle.texts.specs.ReadingJournals.{journal_of}
-use Rattle.world.specs.ReadingWorlds.{scene_of_text}
-use Rattle.world.specs.Scene.{Scene}
-use Rattle.world.specs.SceneWorld.{world_of_scene}
+use Rattle.world.specs.ReadingWorlds.{world_of_text}
+use Rattle.source.specs.World.{World}
 use Rattle.report.specs.Sink.{Written}
 use Rattle.world.specs.WorldRules.{IsWorldText}
 use Rattle.source.specs.Load.{first_load_fault}
@@ -46,25 +45,25 @@ module _ (program world journal : List ℕ) (old : Written) where
   refused_program File h = absurd h
   refused_program Writer h = absurd h
 
-  pub refused_world : (unit : SourceUnit) (e : ReadError) → IsProgram program unit → Fails e (scene_of_text world) → Refuses (of_reading which.World e)
+  pub refused_world : (unit : SourceUnit) (e : ReadError) → IsProgram program unit → Fails e (world_of_text world) → Refuses (of_reading which.World e)
   refused_world unit reading.Memory is h = refl
   refused_world unit (reading.Fault fault) is h = (refl, by_world unit fault is h)
 
-  pub refused_journal : (unit : SourceUnit) (scene : Scene) (e : ReadError) → IsProgram program unit → scene_of_text world ≡ Ok scene → Fails e (journal_of journal (length scene.threads)) → Refuses (of_reading which.Journal e)
-  refused_journal unit scene reading.Memory is w h = refl
-  refused_journal unit scene (reading.Fault fault) is w h = (refl, by_journal unit scene fault is w h)
+  pub refused_journal : (unit : SourceUnit) (meant : World) (e : ReadError) → IsProgram program unit → world_of_text world ≡ Ok meant → Fails e (journal_of journal (length meant.threads)) → Refuses (of_reading which.Journal e)
+  refused_journal unit meant reading.Memory is w h = refl
+  refused_journal unit meant (reading.Fault fault) is w h = (refl, by_journal unit meant fault is w h)
 
   -- what was read of the three texts
-  module _ (unit : SourceUnit) (scene : Scene) (entries : Journal) (is : IsProgram program unit) (w : scene_of_text world ≡ Ok scene) (j : journal_of journal (length scene.threads) ≡ Ok entries) where
+  module _ (unit : SourceUnit) (meant : World) (entries : Journal) (is : IsProgram program unit) (w : world_of_text world ≡ Ok meant) (j : journal_of journal (length meant.threads) ≡ Ok entries) where
     -- the texts' meaning, where they load
-    abbrev pub meaning_of : first_load_fault unit (world_of_scene scene) ≡ None → ReplayMeaning program world journal
-    meaning_of l = record { unit = unit; of_program = is; scene = scene; of_world = w; entries = entries; of_journal = j; loads = l }
+    abbrev pub meaning_of : first_load_fault unit meant ≡ None → ReplayMeaning program world journal
+    meaning_of l = record { unit = unit; of_program = is; world = meant; of_world = w; entries = entries; of_journal = j; loads = l }
 
     -- the replay whose text this is
-    abbrev pub is_replay : IsWorldText world (world_of_scene scene) → IsJournalText (length scene.threads) journal entries → first_load_fault unit (world_of_scene scene) ≡ None → (text : List ℕ) → Writes unit (world_of_scene scene) entries text → IsReplay program world journal text
+    abbrev pub is_replay : IsWorldText world meant → IsJournalText (length meant.threads) journal entries → first_load_fault unit meant ≡ None → (text : List ℕ) → Writes unit meant entries text → IsReplay program world journal text
     is_replay of_world of_journal l text writes = record { meaning = meaning_of l; of_world = of_world; of_journal = of_journal; writes = writes }
 
-    pub replayed : (new : Written) (trap : Option TrapAt) → EndsBy unit (world_of_scene scene) entries trap → new.waiting ≡ 0 → IsWorldText world (world_of_scene scene) → IsJournalText (length scene.threads) journal entries → WritesRun unit (world_of_scene scene) entries old new
+    pub replayed : (new : Written) (trap : Option TrapAt) → EndsBy unit meant entries trap → new.waiting ≡ 0 → IsWorldText world meant → IsJournalText (length meant.threads) journal entries → WritesRun unit meant entries old new
         → RunsTexts old new (Ok trap) (EndsReplay program world journal) (AreRefusedReplays program world journal)
     replayed new trap ends none of_world of_journal h =
         let same : h.is.end ≡ ends.end = cc (h.is.replays, ends.replays) in
@@ -75,10 +74,10 @@ module _ (program world journal : List ℕ) (old : Written) where
           none_waits = none;
         }
 
-    pub stopped : (new : Written) (f : ReplayFault) → IsWorldText world (world_of_scene scene) → IsJournalText (length scene.threads) journal entries → IsStoppedBy unit (world_of_scene scene) entries old new f
+    pub stopped : (new : Written) (f : ReplayFault) → IsWorldText world meant → IsJournalText (length meant.threads) journal entries → IsStoppedBy unit meant entries old new f
         → RunsTexts old new (Err (of_replay f)) (EndsReplay program world journal) (AreRefusedReplays program world journal)
     stopped new replaying.Memory of_world of_journal h = h
-    stopped new (replaying.DoesNotFit line) of_world of_journal h = (h.1, by_load unit scene entries line is w j h.0)
+    stopped new (replaying.DoesNotFit line) of_world of_journal h = (h.1, by_load unit meant entries line is w j h.0)
     stopped new (replaying.Impossible entry) of_world of_journal h = (h.2, by_entry (meaning_of h.0) entry h.1)
     stopped new replaying.Writer of_world of_journal h = record { text = h.text; runs = (option_map trap_at h.is.end.stop, record { replay = is_replay of_world of_journal h.fits h.text h.is; stopped = refl }); stopped = h.stopped }
 
@@ -90,11 +89,11 @@ module _ (program world journal : List ℕ) (old : Written) where
   from_outside replaying.Writer h = tt
 
   -- a possible journal can be replayed
-  pub replayable : (unit : SourceUnit) (scene : Scene) (entries : Journal) (p : IsPossible program world journal) → unit ≡ p.meaning.unit → scene_of_text world ≡ Ok scene → journal_of journal (length scene.threads) ≡ Ok entries → IsReplayable unit (world_of_scene scene) entries
-  replayable unit scene entries p same w j =
-      let here : p.meaning.scene ≡ scene = cc (p.meaning.of_world, w) in
-      let read : journal_of journal (length scene.threads) ≡ Ok p.meaning.entries = subst (λ (s : Scene). journal_of journal (length s.threads) ≡ Ok p.meaning.entries) here p.meaning.of_journal in
+  pub replayable : (unit : SourceUnit) (meant : World) (entries : Journal) (p : IsPossible program world journal) → unit ≡ p.meaning.unit → world_of_text world ≡ Ok meant → journal_of journal (length meant.threads) ≡ Ok entries → IsReplayable unit meant entries
+  replayable unit meant entries p same w j =
+      let here : p.meaning.world ≡ meant = cc (p.meaning.of_world, w) in
+      let read : journal_of journal (length meant.threads) ≡ Ok p.meaning.entries = subst (λ (s : World). journal_of journal (length s.threads) ≡ Ok p.meaning.entries) here p.meaning.of_journal in
       let those : p.meaning.entries ≡ entries = cc (read, j) in
-      let on_unit : IsReplayable unit (world_of_scene p.meaning.scene) p.meaning.entries = subst (λ (u : SourceUnit). IsReplayable u (world_of_scene p.meaning.scene) p.meaning.entries) (sym same) (record { fits = p.meaning.loads; defined = p.replays }) in
-      let on_world : IsReplayable unit (world_of_scene scene) p.meaning.entries = subst (λ (s : Scene). IsReplayable unit (world_of_scene s) p.meaning.entries) here on_unit in
-      subst (λ (e : Journal). IsReplayable unit (world_of_scene scene) e) those on_world
+      let on_unit : IsReplayable unit p.meaning.world p.meaning.entries = subst (λ (u : SourceUnit). IsReplayable u p.meaning.world p.meaning.entries) (sym same) (record { fits = p.meaning.loads; defined = p.replays }) in
+      let on_world : IsReplayable unit meant p.meaning.entries = subst (λ (s : World). IsReplayable unit s p.meaning.entries) here on_unit in
+      subst (λ (e : Journal). IsReplayable unit meant e) those on_world

@@ -9,11 +9,9 @@ use Rattle.texts.specs.declared.fault.ReadError.{ReadError}
 use Rattle.texts.specs.declared.fault.ReadError.TheVariants as reading
 use Rattle.texts.specs.Reading.{Fails}
 use Rattle.texts.specs.ReadingSchedules.{schedule_of}
-use Rattle.world.specs.ReadingWorlds.{scene_of_text}
-use Rattle.world.specs.Scene.{Scene}
+use Rattle.world.specs.ReadingWorlds.{world_of_text}
 use Rattle.source.specs.Schedule.{Schedule}
 use Rattle.texts.specs.ScheduleText.{IsScheduleText}
-use Rattle.world.specs.SceneWorld.{world_of_scene}
 use Rattle.report.specs.Sink.{Written}
 use Rattle.source.specs.Load.{first_load_fault}
 use Rattle.source.specs.declared.journal.Entry.{Entry}
@@ -54,8 +52,8 @@ follows_short (Waits s end k journal words e h) = let short : length journal ≤
 follows_short (Steps s next end k refused journal words c e h) = let short : length journal ≤ length words = follows_short h in omega (arith, short)
 
 -- so the journal is never full before the last of a schedule's words
-pub never_full : (items : List Item) (scene : Scene) (begun ended : Run) (words : Schedule) → IsUnstarted items scene begun → RunsInto begun ended words → length words ≤ 1000000 → 1000000 ≤ length ended.journal → ⊥
-never_full items scene begun ended words un into few full =
+pub never_full : (items : List Item) (meant : World) (begun ended : Run) (words : Schedule) → IsUnstarted items meant begun → RunsInto begun ended words → length words ≤ 1000000 → 1000000 ≤ length ended.journal → ⊥
+never_full items meant begun ended words un into few full =
     let steps : ended.journal ≡ into.along.steps = into.along.journal ∙ ap (λ (j : List Entry). j ++ into.along.steps) un.unstarted in
     let short : length into.along.steps ≤ length into.taken = follows_short into.along.follows in
     let parts : length words ≡ length into.taken + suc (length into.left) = ap length into.is ∙ length-append into.taken (into.next ∷ into.left) in
@@ -93,67 +91,67 @@ module _ (program world schedule : List ℕ) (old : Written) where
   abbrev pub passing : (unit : SourceUnit) → IsProgram program unit → (IsTooLong unit → ⊥) → PassesCheck program
   passing unit is short = record { unit = unit; of_program = is; short = short }
 
-  pub refused_world : (e : ReadError) → PassesCheck program → Fails e (scene_of_text world) → Refuses (of_reading which.World e)
+  pub refused_world : (e : ReadError) → PassesCheck program → Fails e (world_of_text world) → Refuses (of_reading which.World e)
   refused_world reading.Memory p h = refl
   refused_world (reading.Fault fault) p h = (refl, by_world fault p h)
 
-  pub refused_schedule : (scene : Scene) (e : ReadError) → PassesCheck program → scene_of_text world ≡ Ok scene → Fails e (schedule_of schedule (length scene.threads)) → Refuses (of_reading which.Schedule e)
-  refused_schedule scene reading.Memory p w h = refl
-  refused_schedule scene (reading.Fault fault) p w h = (refl, by_schedule scene fault p w h)
+  pub refused_schedule : (meant : World) (e : ReadError) → PassesCheck program → world_of_text world ≡ Ok meant → Fails e (schedule_of schedule (length meant.threads)) → Refuses (of_reading which.Schedule e)
+  refused_schedule meant reading.Memory p w h = refl
+  refused_schedule meant (reading.Fault fault) p w h = (refl, by_schedule meant fault p w h)
 
-  pub refused_load : (scene : Scene) (words : Schedule) (f : LoadFault) (p : PassesCheck program) → scene_of_text world ≡ Ok scene → schedule_of schedule (length scene.threads) ≡ Ok words → IsLoadFault p.unit (world_of_scene scene) f → Refuses (of_load f)
-  refused_load scene words loading.Memory p w s h = refl
-  refused_load scene words (loading.DoesNotFit line) p w s h = (refl, by_load scene words line p w s h)
+  pub refused_load : (meant : World) (words : Schedule) (f : LoadFault) (p : PassesCheck program) → world_of_text world ≡ Ok meant → schedule_of schedule (length meant.threads) ≡ Ok words → IsLoadFault p.unit meant f → Refuses (of_load f)
+  refused_load meant words loading.Memory p w s h = refl
+  refused_load meant words (loading.DoesNotFit line) p w s h = (refl, by_load meant words line p w s h)
 
   -- a schedule's run from the start is one of the journal
-  follows_all : (items : List Item) (scene : Scene) (begun ended : Run) (words : Schedule) → IsUnstarted items scene begun → RunsAlong begun ended words → JournalFollows (unit_tree items) (world_of_scene scene) ended.journal words
-  follows_all items scene begun ended words un along =
+  follows_all : (items : List Item) (meant : World) (begun ended : Run) (words : Schedule) → IsUnstarted items meant begun → RunsAlong begun ended words → JournalFollows (unit_tree items) meant ended.journal words
+  follows_all items meant begun ended words un along =
       let unit_is : unit_tree begun.unit ≡ unit_tree items = ap unit_tree un.of_unit in
-      let world_is : world_of_scene begun.world ≡ world_of_scene scene = ap world_of_scene un.on_world in
+      let world_is : begun.world ≡ meant = un.on_world in
       let steps : along.steps ≡ ended.journal = sym (along.journal ∙ ap (λ (j : List Entry). j ++ along.steps) un.unstarted) in
-      let at_start : replay_of begun ≡ Some (start (unit_tree begun.unit) (world_of_scene begun.world)) = ap (replay (unit_tree begun.unit) (world_of_scene begun.world)) un.unstarted in
-      let first : along.before ≡ start (unit_tree begun.unit) (world_of_scene begun.world) = cc (along.replays, at_start) in
-      let here : Follows (unit_tree begun.unit) (world_of_scene begun.world) (start (unit_tree begun.unit) (world_of_scene begun.world)) along.steps words along.after =
-      subst (λ (s : State). Follows (unit_tree begun.unit) (world_of_scene begun.world) s along.steps words along.after) first along.follows in
-      let on_unit : Follows (unit_tree items) (world_of_scene begun.world) (start (unit_tree items) (world_of_scene begun.world)) along.steps words along.after =
-      subst (λ (u : SourceUnit). Follows u (world_of_scene begun.world) (start u (world_of_scene begun.world)) along.steps words along.after) unit_is here in
-      let on_world : Follows (unit_tree items) (world_of_scene scene) (start (unit_tree items) (world_of_scene scene)) along.steps words along.after =
+      let at_start : replay_of begun ≡ Some (start (unit_tree begun.unit) begun.world) = ap (replay (unit_tree begun.unit) begun.world) un.unstarted in
+      let first : along.before ≡ start (unit_tree begun.unit) begun.world = cc (along.replays, at_start) in
+      let here : Follows (unit_tree begun.unit) begun.world (start (unit_tree begun.unit) begun.world) along.steps words along.after =
+      subst (λ (s : State). Follows (unit_tree begun.unit) begun.world s along.steps words along.after) first along.follows in
+      let on_unit : Follows (unit_tree items) begun.world (start (unit_tree items) begun.world) along.steps words along.after =
+      subst (λ (u : SourceUnit). Follows u begun.world (start u begun.world) along.steps words along.after) unit_is here in
+      let on_world : Follows (unit_tree items) meant (start (unit_tree items) meant) along.steps words along.after =
       subst (λ (w : World). Follows (unit_tree items) w (start (unit_tree items) w) along.steps words along.after) world_is on_unit in
-      (along.after, subst (λ (j : Journal). Follows (unit_tree items) (world_of_scene scene) (start (unit_tree items) (world_of_scene scene)) j words along.after) steps on_world)
+      (along.after, subst (λ (j : Journal). Follows (unit_tree items) meant (start (unit_tree items) meant) j words along.after) steps on_world)
 
   -- the unit and the world of a run stay
-  same_parts : (items : List Item) (scene : Scene) (begun ended : Run) (words : Schedule) → IsUnstarted items scene begun → RunsAlong begun ended words → ended ≡ record { unit = items; world = scene; journal = ended.journal; left = ended.left }
-  same_parts items scene begun ended words un along =
+  same_parts : (items : List Item) (meant : World) (begun ended : Run) (words : Schedule) → IsUnstarted items meant begun → RunsAlong begun ended words → ended ≡ record { unit = items; world = meant; journal = ended.journal; left = ended.left }
+  same_parts items meant begun ended words un along =
       ap (λ (u : List Item). let r : Run = record { unit = u; world = ended.world; journal = ended.journal; left = ended.left } in r) (along.same_unit ∙ un.of_unit)
-      ∙ ap (λ (s : Scene). let r : Run = record { unit = items; world = s; journal = ended.journal; left = ended.left } in r) (along.same_world ∙ un.on_world)
+      ∙ ap (λ (s : World). let r : Run = record { unit = items; world = s; journal = ended.journal; left = ended.left } in r) (along.same_world ∙ un.on_world)
 
   -- the texts' meaning, from what the layers answered
-  abbrev pub meaning_of : (items : List Item) (scene : Scene) (words : Schedule) → IsProgram program (unit_tree items) → scene_of_text world ≡ Ok scene → schedule_of schedule (length scene.threads) ≡ Ok words → first_load_fault (unit_tree items) (world_of_scene scene) ≡ None → Meaning program world schedule
-  meaning_of items scene words is w s l = record { unit = unit_tree items; of_program = is; scene = scene; of_world = w; words = words; of_schedule = s; loads = l }
+  abbrev pub meaning_of : (items : List Item) (meant : World) (words : Schedule) → IsProgram program (unit_tree items) → world_of_text world ≡ Ok meant → schedule_of schedule (length meant.threads) ≡ Ok words → first_load_fault (unit_tree items) meant ≡ None → Meaning program world schedule
+  meaning_of items meant words is w s l = record { unit = unit_tree items; of_program = is; world = meant; of_world = w; words = words; of_schedule = s; loads = l }
 
   -- the run that a machine wrote
-  abbrev is_run : (items : List Item) (scene : Scene) (words : Schedule) (begun ended : Run) (text : List ℕ) (is : IsProgram program (unit_tree items)) (w : scene_of_text world ≡ Ok scene) (s : schedule_of schedule (length scene.threads) ≡ Ok words) (l : first_load_fault (unit_tree items) (world_of_scene scene) ≡ None)
-      → IsWorldText world (world_of_scene scene) → IsScheduleText (length scene.threads) schedule words
-      → IsUnstarted items scene begun → RunsAlong begun ended words → Writes (unit_tree ended.unit) (world_of_scene ended.world) ended.journal text → UnmarkedFit (unit_tree ended.unit) (world_of_scene ended.world) ended.journal → MarkedAreFair (unit_tree ended.unit) (world_of_scene ended.world) ended.journal → IsRun program world schedule text
-  is_run items scene words begun ended text is w s l of_world of_schedule un along writes fits fair = record {
-    meaning = meaning_of items scene words is w s l;
+  abbrev is_run : (items : List Item) (meant : World) (words : Schedule) (begun ended : Run) (text : List ℕ) (is : IsProgram program (unit_tree items)) (w : world_of_text world ≡ Ok meant) (s : schedule_of schedule (length meant.threads) ≡ Ok words) (l : first_load_fault (unit_tree items) meant ≡ None)
+      → IsWorldText world meant → IsScheduleText (length meant.threads) schedule words
+      → IsUnstarted items meant begun → RunsAlong begun ended words → Writes (unit_tree ended.unit) ended.world ended.journal text → UnmarkedFit (unit_tree ended.unit) ended.world ended.journal → MarkedAreFair (unit_tree ended.unit) ended.world ended.journal → IsRun program world schedule text
+  is_run items meant words begun ended text is w s l of_world of_schedule un along writes fits fair = record {
+    meaning = meaning_of items meant words is w s l;
     of_world = of_world;
     of_schedule = of_schedule;
     journal = ended.journal;
-    writes = subst (λ (r : Run). Writes (unit_tree r.unit) (world_of_scene r.world) ended.journal text) (same_parts items scene begun ended words un along) writes;
-    follows = follows_all items scene begun ended words un along;
-    fits = subst (λ (r : Run). UnmarkedFit (unit_tree r.unit) (world_of_scene r.world) ended.journal) (same_parts items scene begun ended words un along) fits;
-    fair = subst (λ (r : Run). MarkedAreFair (unit_tree r.unit) (world_of_scene r.world) ended.journal) (same_parts items scene begun ended words un along) fair;
+    writes = subst (λ (r : Run). Writes (unit_tree r.unit) r.world ended.journal text) (same_parts items meant begun ended words un along) writes;
+    follows = follows_all items meant begun ended words un along;
+    fits = subst (λ (r : Run). UnmarkedFit (unit_tree r.unit) r.world ended.journal) (same_parts items meant begun ended words un along) fits;
+    fair = subst (λ (r : Run). MarkedAreFair (unit_tree r.unit) r.world ended.journal) (same_parts items meant begun ended words un along) fair;
   }
 
-  pub ran : (items : List Item) (scene : Scene) (words : Schedule) (begun ended : Run) (stop : Option Stop) (new : Written) {T E : Type 0} (result : Result T E) → StoppedBy ended stop → OnOk result (new.waiting ≡ 0)
-      → IsProgram program (unit_tree items) → scene_of_text world ≡ Ok scene → schedule_of schedule (length scene.threads) ≡ Ok words → first_load_fault (unit_tree items) (world_of_scene scene) ≡ None
-      → IsWorldText world (world_of_scene scene) → IsScheduleText (length scene.threads) schedule words
-      → IsUnstarted items scene begun → RunsAlong begun ended words → WritesRun ended old new result
+  pub ran : (items : List Item) (meant : World) (words : Schedule) (begun ended : Run) (stop : Option Stop) (new : Written) {T E : Type 0} (result : Result T E) → StoppedBy ended stop → OnOk result (new.waiting ≡ 0)
+      → IsProgram program (unit_tree items) → world_of_text world ≡ Ok meant → schedule_of schedule (length meant.threads) ≡ Ok words → first_load_fault (unit_tree items) meant ≡ None
+      → IsWorldText world meant → IsScheduleText (length meant.threads) schedule words
+      → IsUnstarted items meant begun → RunsAlong begun ended words → WritesRun ended old new result
       → RunsTexts old new (as_run (option_map (λ s. trap_at (stop_view s)) stop) result) (EndsRun program world schedule) (AreRefused program world schedule)
-  ran items scene words begun ended stop new (Ok x) halts none is w s l of_world of_schedule un along h =
-      let run : IsRun program world schedule h.text = is_run items scene words begun ended h.text is w s l of_world of_schedule un along h.is h.fits h.fair in
-      let there : replay_of ended ≡ Some run.writes.end = ap replay_of (same_parts items scene begun ended words un along) ∙ run.writes.replays in
+  ran items meant words begun ended stop new (Ok x) halts none is w s l of_world of_schedule un along h =
+      let run : IsRun program world schedule h.text = is_run items meant words begun ended h.text is w s l of_world of_schedule un along h.is h.fits h.fair in
+      let there : replay_of ended ≡ Some run.writes.end = ap replay_of (same_parts items meant begun ended words un along) ∙ run.writes.replays in
       let same : run.writes.end ≡ halts.0 = cc (there, halts.1) in
       record {
         text = h.text;
@@ -161,14 +159,14 @@ module _ (program world schedule : List ℕ) (old : Written) where
         appended = h.written;
         none_waits = none;
       }
-  ran items scene words begun ended stop new (Err x) halts none is w s l of_world of_schedule un along h =
-      let run : IsRun program world schedule h.text = is_run items scene words begun ended h.text is w s l of_world of_schedule un along h.is h.fits h.fair in
+  ran items meant words begun ended stop new (Err x) halts none is w s l of_world of_schedule un along h =
+      let run : IsRun program world schedule h.text = is_run items meant words begun ended h.text is w s l of_world of_schedule un along h.is h.fits h.fair in
       record { text = h.text; runs = (option_map trap_at run.writes.end.stop, record { run = run; stopped = refl }); stopped = h.written }
 
   -- texts that mean a run load
-  pub loads_or_fails : (items : List Item) (scene : Scene) (f : LoadFault) (m : Meaning program world schedule) → unit_tree items ≡ m.unit → scene_of_text world ≡ Ok scene → IsLoadFault (unit_tree items) (world_of_scene scene) f → IsRunOrFails (Err (of_load f))
-  loads_or_fails items scene loading.Memory m same w h = tt
-  loads_or_fails items scene (loading.DoesNotFit line) m same w h =
-      let here : m.scene ≡ scene = cc (m.of_world, w) in
-      let none : first_load_fault (unit_tree items) (world_of_scene scene) ≡ None = ap (λ (s : Scene). first_load_fault (unit_tree items) (world_of_scene s)) (sym here) ∙ ap (λ (u : SourceUnit). first_load_fault u (world_of_scene m.scene)) same ∙ m.loads in
+  pub loads_or_fails : (items : List Item) (meant : World) (f : LoadFault) (m : Meaning program world schedule) → unit_tree items ≡ m.unit → world_of_text world ≡ Ok meant → IsLoadFault (unit_tree items) meant f → IsRunOrFails (Err (of_load f))
+  loads_or_fails items meant loading.Memory m same w h = tt
+  loads_or_fails items meant (loading.DoesNotFit line) m same w h =
+      let here : m.world ≡ meant = cc (m.of_world, w) in
+      let none : first_load_fault (unit_tree items) meant ≡ None = ap (λ (s : World). first_load_fault (unit_tree items) s) (sym here) ∙ ap (λ (u : SourceUnit). first_load_fault u m.world) same ∙ m.loads in
       absurd (cc (none, h))

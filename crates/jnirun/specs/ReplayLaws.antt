@@ -6,7 +6,7 @@ use Rattle.jnirun.specs.Replays.{IsReplay, IsPossible}
 
 -- the text of a journal is read as the journal of a run
 abbrev pub IsJournalOf : {program world schedule written : List ℕ} → IsRun program world schedule written → (journal : List ℕ) → Type 0
-IsJournalOf run journal = journal_of journal (length run.meaning.scene.threads) ≡ Ok run.journal
+IsJournalOf run journal = journal_of journal (length run.meaning.world.threads) ≡ Ok run.journal
 
 abbrev pub RunsAreReplayed : Type 0
 RunsAreReplayed =

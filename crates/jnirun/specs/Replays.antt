@@ -6,10 +6,9 @@ use Rattle.texts.specs.declared.fault.TextFault.{TextFault}
 use Rattle.source.specs.Journal.{Journal}
 use Rattle.texts.specs.JournalMeaning.{IsJournalText}
 use Rattle.texts.specs.ReadingJournals.{journal_of}
-use Rattle.world.specs.ReadingWorlds.{scene_of_text}
+use Rattle.world.specs.ReadingWorlds.{world_of_text}
 use Rattle.texts.specs.Rule.{rule_number}
-use Rattle.world.specs.Scene.{Scene}
-use Rattle.world.specs.SceneWorld.{world_of_scene}
+use Rattle.source.specs.World.{World}
 use Rattle.world.specs.WorldRules.{IsWorldText}
 use Rattle.source.specs.Load.{first_load_fault}
 use Rattle.source.specs.Run.{replay}
@@ -25,22 +24,22 @@ use Rattle.jnirun.specs.declared.fault.RunError.{RunError}
 use Rattle.jnirun.specs.declared.fault.RunError.TheVariants.{Memory, File, Fault, Writer}
 
 -- the unit, the world and the journal of three texts, which go with each other
-pub record ReplayMeaning (program world journal : List ℕ) : Type 0 where
+pub record ReplayMeaning (program_text world_text journal_text : List ℕ) : Type 0 where
   pub unit : SourceUnit
-  pub of_program : IsProgram program unit
-  pub scene : Scene
-  pub of_world : scene_of_text world ≡ Ok scene
+  pub of_program : IsProgram program_text unit
+  pub world : World
+  pub of_world : world_of_text world_text ≡ Ok world
   pub entries : Journal
-  pub of_journal : journal_of journal (length scene.threads) ≡ Ok entries
-  pub loads : first_load_fault unit (world_of_scene scene) ≡ None
+  pub of_journal : journal_of journal_text (length world.threads) ≡ Ok entries
+  pub loads : first_load_fault unit world ≡ None
 
 -- The text is the report of the source run that the journal names, on a heap where objects have names and never move, and
 -- then that journal.
 pub record IsReplay (program world journal text : List ℕ) : Type 0 where
   pub meaning : ReplayMeaning program world journal
-  pub of_world : IsWorldText world (world_of_scene meaning.scene)
-  pub of_journal : IsJournalText (length meaning.scene.threads) journal meaning.entries
-  pub writes : Writes meaning.unit (world_of_scene meaning.scene) meaning.entries text
+  pub of_world : IsWorldText world meaning.world
+  pub of_journal : IsJournalText (length meaning.world.threads) journal meaning.entries
+  pub writes : Writes meaning.unit meaning.world meaning.entries text
 
 -- the same, and the trap that stopped the run, if one did
 pub record EndsReplay (program world journal : List ℕ) (trap : Option TrapAt) (text : List ℕ) : Type 0 where
@@ -51,16 +50,16 @@ pub record EndsReplay (program world journal : List ℕ) (trap : Option TrapAt) 
 -- that is refused.
 pub data AreRefusedReplays (program world journal : List ℕ) : (number : ℕ) → Place → Type 0 where
   by_program : (number line : ℕ) → IsRefusedProgram program number line → AreRefusedReplays program world journal number (Line which.Program line)
-  by_world : (unit : SourceUnit) (fault : TextFault) → IsProgram program unit → scene_of_text world ≡ Err fault → AreRefusedReplays program world journal (rule_number fault.rule) (Line which.World fault.line)
-  by_journal : (unit : SourceUnit) (scene : Scene) (fault : TextFault) → IsProgram program unit → scene_of_text world ≡ Ok scene → journal_of journal (length scene.threads) ≡ Err fault → AreRefusedReplays program world journal (rule_number fault.rule) (Line which.Journal fault.line)
-  by_load : (unit : SourceUnit) (scene : Scene) (entries : Journal) (line : ℕ) → IsProgram program unit → scene_of_text world ≡ Ok scene → journal_of journal (length scene.threads) ≡ Ok entries → first_load_fault unit (world_of_scene scene) ≡ Some line → AreRefusedReplays program world journal 82 (Line which.World line)
+  by_world : (unit : SourceUnit) (fault : TextFault) → IsProgram program unit → world_of_text world ≡ Err fault → AreRefusedReplays program world journal (rule_number fault.rule) (Line which.World fault.line)
+  by_journal : (unit : SourceUnit) (w : World) (fault : TextFault) → IsProgram program unit → world_of_text world ≡ Ok w → journal_of journal (length w.threads) ≡ Err fault → AreRefusedReplays program world journal (rule_number fault.rule) (Line which.Journal fault.line)
+  by_load : (unit : SourceUnit) (w : World) (entries : Journal) (line : ℕ) → IsProgram program unit → world_of_text world ≡ Ok w → journal_of journal (length w.threads) ≡ Ok entries → first_load_fault unit w ≡ Some line → AreRefusedReplays program world journal 82 (Line which.World line)
   -- an entry isn't possible where the entries before it have led
-  by_entry : (meaning : ReplayMeaning program world journal) (entry : ℕ) → IsFirstImpossible meaning.unit (world_of_scene meaning.scene) meaning.entries entry → AreRefusedReplays program world journal 91 (Entry entry)
+  by_entry : (meaning : ReplayMeaning program world journal) (entry : ℕ) → IsFirstImpossible meaning.unit meaning.world meaning.entries entry → AreRefusedReplays program world journal 91 (Entry entry)
 
 -- each entry of the journal is possible where the entries before it have led
 pub record IsPossible (program world journal : List ℕ) : Type 0 where
   pub meaning : ReplayMeaning program world journal
-  pub replays : IsSome (replay meaning.unit (world_of_scene meaning.scene) meaning.entries)
+  pub replays : IsSome (replay meaning.unit meaning.world meaning.entries)
 
 -- Texts whose journal is possible are refused for want of memory alone, or by the writer.
 abbrev pub IsReplayOrFails : Result (Option TrapAt) RunError → Type 0

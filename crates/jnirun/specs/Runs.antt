@@ -4,7 +4,6 @@ use Rattle.std.specs.Option.{option_map}
 use Rattle.source.specs.Journal.{Journal}
 use Rattle.texts.specs.ScheduleText.{IsScheduleText}
 use Rattle.report.specs.Sink.{Written, AppendsText, StopsWithin}
-use Rattle.world.specs.SceneWorld.{world_of_scene}
 use Rattle.world.specs.WorldRules.{IsWorldText}
 use Rattle.source.specs.Run.{JournalFollows, UnmarkedFit, MarkedAreFair}
 use Rattle.report.specs.RunText.{Writes}
@@ -22,13 +21,13 @@ use Rattle.jnirun.specs.declared.fault.RunError.TheVariants.{Memory, File, Fault
 -- ended or stopped, and an allocation is marked refused only where live and new objects exceed the heap or something is pinned.
 pub record IsRun (program world schedule text : List ℕ) : Type 0 where
   pub meaning : Meaning program world schedule
-  pub of_world : IsWorldText world (world_of_scene meaning.scene)
-  pub of_schedule : IsScheduleText (length meaning.scene.threads) schedule meaning.words
+  pub of_world : IsWorldText world meaning.world
+  pub of_schedule : IsScheduleText (length meaning.world.threads) schedule meaning.words
   pub journal : Journal
-  pub writes : Writes meaning.unit (world_of_scene meaning.scene) journal text
-  pub follows : JournalFollows meaning.unit (world_of_scene meaning.scene) journal meaning.words
-  pub fits : UnmarkedFit meaning.unit (world_of_scene meaning.scene) journal
-  pub fair : MarkedAreFair meaning.unit (world_of_scene meaning.scene) journal
+  pub writes : Writes meaning.unit meaning.world journal text
+  pub follows : JournalFollows meaning.unit meaning.world journal meaning.words
+  pub fits : UnmarkedFit meaning.unit meaning.world journal
+  pub fair : MarkedAreFair meaning.unit meaning.world journal
 
 -- the same, and the trap that stopped the run, if one did
 pub record EndsRun (program world schedule : List ℕ) (trap : Option TrapAt) (text : List ℕ) : Type 0 where

@@ -3,10 +3,9 @@ use Rattle.std.specs.Prelude.{◌≡◌, ℕ, List, length, Some, None, Ok, Err}
 use Rattle.syntax.specs.Tree.{SourceUnit}
 use Rattle.texts.specs.declared.fault.TextFault.{TextFault}
 use Rattle.texts.specs.ReadingSchedules.{schedule_of}
-use Rattle.world.specs.ReadingWorlds.{scene_of_text}
+use Rattle.world.specs.ReadingWorlds.{world_of_text}
 use Rattle.texts.specs.Rule.{rule_number}
-use Rattle.world.specs.Scene.{Scene}
-use Rattle.world.specs.SceneWorld.{world_of_scene}
+use Rattle.source.specs.World.{World}
 use Rattle.source.specs.Schedule.{Schedule}
 use Rattle.source.specs.Load.{first_load_fault}
 use Rattle.jnirun.specs.declared.fault.Place.{Place}
@@ -16,19 +15,19 @@ use Rattle.jnirun.specs.Programs.{IsProgram}
 use Rattle.jnirun.specs.Checks.{PassesCheck, FailsCheck}
 
 -- the unit, the world and the schedule of three texts, which go with each other
-pub record Meaning (program world schedule : List ℕ) : Type 0 where
+pub record Meaning (program_text world_text schedule_text : List ℕ) : Type 0 where
   pub unit : SourceUnit
-  pub of_program : IsProgram program unit
-  pub scene : Scene
-  pub of_world : scene_of_text world ≡ Ok scene
+  pub of_program : IsProgram program_text unit
+  pub world : World
+  pub of_world : world_of_text world_text ≡ Ok world
   pub words : Schedule
-  pub of_schedule : schedule_of schedule (length scene.threads) ≡ Ok words
-  pub loads : first_load_fault unit (world_of_scene scene) ≡ None
+  pub of_schedule : schedule_of schedule_text (length world.threads) ≡ Ok words
+  pub loads : first_load_fault unit world ≡ None
 
 -- The program is checked, the other texts are read in their order, and all are loaded. This number and place are those of the
 -- first that is refused.
 pub data AreRefused (program world schedule : List ℕ) : (number : ℕ) → Place → Type 0 where
   by_check : (number : ℕ) (place : Place) → FailsCheck program number place → AreRefused program world schedule number place
-  by_world : (fault : TextFault) → PassesCheck program → scene_of_text world ≡ Err fault → AreRefused program world schedule (rule_number fault.rule) (Line which.World fault.line)
-  by_schedule : (scene : Scene) (fault : TextFault) → PassesCheck program → scene_of_text world ≡ Ok scene → schedule_of schedule (length scene.threads) ≡ Err fault → AreRefused program world schedule (rule_number fault.rule) (Line which.Schedule fault.line)
-  by_load : (scene : Scene) (words : Schedule) (line : ℕ) (passes : PassesCheck program) → scene_of_text world ≡ Ok scene → schedule_of schedule (length scene.threads) ≡ Ok words → first_load_fault passes.unit (world_of_scene scene) ≡ Some line → AreRefused program world schedule 82 (Line which.World line)
+  by_world : (fault : TextFault) → PassesCheck program → world_of_text world ≡ Err fault → AreRefused program world schedule (rule_number fault.rule) (Line which.World fault.line)
+  by_schedule : (w : World) (fault : TextFault) → PassesCheck program → world_of_text world ≡ Ok w → schedule_of schedule (length w.threads) ≡ Err fault → AreRefused program world schedule (rule_number fault.rule) (Line which.Schedule fault.line)
+  by_load : (w : World) (words : Schedule) (line : ℕ) (passes : PassesCheck program) → world_of_text world ≡ Ok w → schedule_of schedule (length w.threads) ≡ Ok words → first_load_fault passes.unit w ≡ Some line → AreRefused program world schedule 82 (Line which.World line)

@@ -33,7 +33,8 @@ use Rattle.lower.proofs.TermSteps.{negative_past, shows_number, untouched_held, 
 use Rattle.lower.proofs.Bodies.{number_begins, begins}
 use Rattle.lower.proofs.ElementWords.{element_words, convert_fits}
 use Rattle.lower.proofs.WaysReturn.{then_returns, else_returns, any_after}
-use Rattle.lower.proofs.Steps.{step_inside, put_step, set_step, null_step, made_step, call_step}
+use Rattle.lower.proofs.Steps.{step_inside, put_step, set_step, null_step, made_step}
+use Rattle.lower.proofs.CallSteps.{call_step}
 
 -- The place, with these names known, these operands and these slots, which show what can be seen.
 module _ (code : Listing) (known : Known) (place : ℕ) (stack : List ℕ) (slots : Slots) (visible : Visible) (shows : Shows code known visible slots) where

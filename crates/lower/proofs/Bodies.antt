@@ -1,4 +1,7 @@
 -- The code of a block stands for its statements, wherever it stands.
+use Rattle.code.specs.declared.instr.Instr.{Instr}
+use Rattle.code.specs.Call as calls
+use Rattle.lower.proofs.CallSteps.{untouched_are_begun, untouched_are_held}
 use Rattle.std.specs.Prelude.{zip}
 use Rattle.std.specs.List.{AllZip}
 use Rattle.std.proofs.Common.{◌≡◌, ℕ, ◌+◌, ◌⊎◌, inl, inr, true, false, List, [], ◌∷◌, ◌++◌, length, Option, Some, refl, sym, ap, ◌∙◌, subst, arith, length-append, map, suc}
@@ -19,12 +22,12 @@ use Rattle.code.specs.declared.instr.Instr.TheVariants as instr
 use Rattle.code.specs.Depth.{Listing}
 use Rattle.source.specs.Term as term
 use Rattle.source.specs.Term.{Term, Done, Read, Binary, term_of}
-use Rattle.source.specs.Task.{Task, SetScalar, Branch, ReturnValue, Target, Declared, Assigned, Dropped, ScalarKind, BufferKind, kind_of, set_task, invocation, call_task, right_side_task, if_task, task_of, tasks_of, operand, Given}
+use Rattle.source.specs.Task.{Task, SetScalar, Branch, ReturnValue, Target, Declared, Assigned, Dropped, ScalarKind, BufferKind, kind_of, set_task, invocation, call_task, right_side_task, if_task, task_of, tasks_of, operand, Given, Operand}
 use Rattle.code_generator.specs.Layout.{Slot, Known, Layout, new_slot, closed, layout_after, block_layout}
-use Rattle.code_generator.specs.Coding.{nullable_of, store_of, element_of, write_code, of_slot, operand_of, term_code, expr_code, call_code, value_code, right_code, assign_code, returned_code, return_code, ways_code, turn_code, loop_code, if_code, stmt_code, block_code, named_call_code, operand_code}
+use Rattle.code_generator.specs.Coding.{nullable_of, store_of, element_of, write_code, of_slot, operand_of, term_code, expr_code, value_code, right_code, assign_code, returned_code, return_code, ways_code, turn_code, loop_code, if_code, stmt_code, block_code, named_call_code, operand_code, argument_code, arguments_code}
 use Rattle.lower.specs.Slots.{IsNumberSort}
-use Rattle.lower.specs.Fits.{IsUntouched, NumberFits, IndexWithin, IsLaidOut, HasRoomFor, IsReferenceKind, ArgumentFits, ValueFits, RightFits, TestFits, ReturnFits, StmtFits, BlockFits, CallFits}
-use Rattle.lower.specs.Stands.{held, IsBegun, IsUnderWay, HasAt, AreAmong, IsSlotOf, GoesTo, TargetStands, target_name, BlockStands, TasksStand, OperandStands}
+use Rattle.lower.specs.Fits.{IsUntouched, NumberFits, IndexWithin, IsLaidOut, HasRoomFor, IsReferenceKind, ArgumentFits, ValueFits, RightFits, TestFits, ReturnFits, StmtFits, BlockFits, CallFits, ReferenceFits}
+use Rattle.lower.specs.Stands.{held, IsBegun, IsUnderWay, HasAt, AreAmong, IsSlotOf, GoesTo, TargetStands, target_name, BlockStands, TasksStand, OperandStands, AreUntouched, operand_rest, operands_rest}
 use Rattle.lower.proofs.SlotLaws.{known_among, all_among}
 use Rattle.lower.proofs.CodePlaces.{has_front, has_back}
 use Rattle.lower.proofs.TermSteps.{untouched_held, untouched_begun}
@@ -97,33 +100,59 @@ module _ (code : Listing) (known : Known) (line place : ℕ) (tail : List Task) 
   value_set target x (Array t n) i e names fits name goes at own among further = absurd fits
 
   -- an argument is found where the instruction says
-  reference_found : (p : ParameterKind) (x : Identifier) (s : Slot) → IsReferenceKind p → lookup x known ≡ Some s → ((s.sort ≡ Ref) ⊎ (s.sort ≡ Global)) → OperandStands known (operand_of (lookup x known)) (p, Given (tree.Value (tree.Variable x)))
-  reference_found p x s kind found (inl e) =
+  reference_stands : (p : ParameterKind) (x : Identifier) (s : Slot) → IsReferenceKind p → lookup x known ≡ Some s → ((s.sort ≡ Ref) ⊎ (s.sort ≡ Global)) → OperandStands known (operand_of (lookup x known)) (p, Given (tree.Value (tree.Variable x)))
+  reference_stands p x s kind found (inl e) =
       let there : lookup x known ≡ Some (record { sort = Ref; index = s.index }) = found ∙ ap (λ (r : Sort). Some (record { sort = r; index = s.index })) e in
       subst (λ o. OperandStands known (operand_of o) (p, Given (tree.Value (tree.Variable x)))) (sym there) (x, record { kind = kind; is = refl }, there)
-  reference_found p x s kind found (inr e) =
+  reference_stands p x s kind found (inr e) =
       let there : lookup x known ≡ Some (record { sort = Global; index = s.index }) = found ∙ ap (λ (r : Sort). Some (record { sort = r; index = s.index })) e in
       subst (λ o. OperandStands known (operand_of o) (p, Given (tree.Value (tree.Variable x)))) (sym there) (x, record { kind = kind; is = refl }, there)
 
-  -- which is no number
-  given : (p : ParameterKind) (a : Argument) → ArgumentFits known p a → operand (p, a) ≡ Given a
-  given IntNumber (tree.Value e) h = absurd h.0
-  given IntNumber a h = refl
-  given p a h = refl
+  reference_found : (p : ParameterKind) (e : Expr) → IsReferenceKind p → ReferenceFits known e → OperandStands known (operand_code known (p, tree.Value e)) (p, operand (p, tree.Value e))
+  reference_found IntNumber e kind h = absurd kind
+  reference_found p (tree.Named tree.Null) kind h = record { kind = kind; is = refl }
+  reference_found p (tree.Variable x) kind h = reference_stands p x h.0 kind h.1 h.2
+  reference_found p e kind h = absurd h
 
-  argument_found : (p : ParameterKind) (a : Argument) → ArgumentFits known p a → OperandStands known (operand_code known a) (p, Given a)
-  argument_found p (tree.Value (tree.Named tree.Null)) h = record { kind = h.0; is = refl }
-  argument_found p (tree.Value (tree.Variable x)) h = reference_found p x h.1.0 h.0 h.1.1 h.1.2
-  argument_found p (tree.Value e) h = absurd h.1
+  number_found : (e : Expr) → NumberFits known (term_of e) Jint → OperandStands known (operand_code known (IntNumber, tree.Value e)) (IntNumber, operand (IntNumber, tree.Value e))
+  number_found e h = record { kind = refl; term = term_of e; is = refl; sort = h.sort }
+
+  argument_found : (p : ParameterKind) (a : Argument) → ArgumentFits known p a → OperandStands known (operand_code known (p, a)) (p, operand (p, a))
+  argument_found p (tree.Value e) (inl h) = subst (λ (q : ParameterKind). OperandStands known (operand_code known (q, tree.Value e)) (q, operand (q, tree.Value e))) (sym h.0) (number_found e h.1)
+  argument_found p (tree.Value e) (inr h) = reference_found p e h.0 h.1
   argument_found p a h = absurd h
 
   arguments_found : (parameters : List ParameterKind) (arguments : List Argument) → AllZip (ArgumentFits known) parameters arguments
-      → AllZip (OperandStands known) (map (operand_code known) arguments) (zip parameters (map operand (zip parameters arguments)))
+      → AllZip (OperandStands known) (map (operand_code known) (zip parameters arguments)) (zip parameters (map operand (zip parameters arguments)))
   arguments_found [] [] h = tt
   arguments_found [] (a ∷ arguments) h = absurd h
   arguments_found (p ∷ parameters) [] h = absurd h
-  arguments_found (p ∷ parameters) (a ∷ arguments) h =
-      (subst (λ o. OperandStands known (operand_code known a) (p, o)) (sym (given p a h.0)) (argument_found p a h.0), arguments_found parameters arguments h.1)
+  arguments_found (p ∷ parameters) (a ∷ arguments) h = (argument_found p a h.0, arguments_found parameters arguments h.1)
+
+  -- its code is what is to be worked out
+  same_rest : (p : ParameterKind) (a : Argument) → argument_code known line (p, a) ≡ operand_rest known line (operand (p, a))
+  same_rest IntNumber (tree.Value e) = refl
+  same_rest IntNumber (tree.Text t) = refl
+  same_rest IntNumber (tree.AddressOf x) = refl
+  same_rest p a = refl
+
+  all_rest : (given : List (ParameterKind × Argument)) → arguments_code known line given ≡ operands_rest known line (map operand given)
+  all_rest [] = refl
+  all_rest (g ∷ given) = ap (λ (l : List Instr). l ++ arguments_code known line given) (same_rest g.0 g.1) ∙ ap (λ (l : List Instr). operand_rest known line (operand (g.0, g.1)) ++ l) (all_rest given)
+
+  -- no number of it has its value yet
+  untouched_reference : (p : ParameterKind) (e : Expr) (operands : List Operand) → IsReferenceKind p → AreUntouched operands → AreUntouched (operand (p, tree.Value e) ∷ operands)
+  untouched_reference IntNumber e operands kind h = absurd kind
+  untouched_reference p e operands kind h = h
+
+  all_untouched : (parameters : List ParameterKind) (arguments : List Argument) → AllZip (ArgumentFits known) parameters arguments → AreUntouched (map operand (zip parameters arguments))
+  all_untouched [] [] h = tt
+  all_untouched [] (a ∷ arguments) h = absurd h
+  all_untouched (p ∷ parameters) [] h = absurd h
+  all_untouched (p ∷ parameters) (tree.Value e ∷ arguments) (inl h, more) =
+      subst (λ (q : ParameterKind). AreUntouched (operand (q, tree.Value e) ∷ map operand (zip parameters arguments))) (sym h.0) (h.1.untouched, all_untouched parameters arguments more)
+  all_untouched (p ∷ parameters) (tree.Value e ∷ arguments) (inr h, more) = untouched_reference p e (map operand (zip parameters arguments)) h.0 (all_untouched parameters arguments more)
+  all_untouched (p ∷ parameters) (a ∷ arguments) h = absurd h.0
 
   -- there are as many arguments as parameters
   operand_count : (parameters : List ParameterKind) (arguments : List Argument) → AllZip (ArgumentFits known) parameters arguments → length (map operand (zip parameters arguments)) ≡ length parameters
@@ -131,41 +160,44 @@ module _ (code : Listing) (known : Known) (line place : ℕ) (tail : List Task) 
   operand_count (p ∷ parameters) [] h = absurd h
   operand_count (p ∷ parameters) (a ∷ arguments) h = ap (λ n. suc n) (operand_count parameters arguments h.1)
 
-  -- the call's instruction stands at the place, and what comes after it
+  -- what is to be worked out for a call is at the place, and then its instruction, and what comes after it
   call_stands : (target : Target) (goes : Destination) (c : Call) → CallFits known c → HasAt code.instrs place (named_call_code known line goes (function_named c.function) c.arguments)
-      → TargetStands code known (λ p names. TasksStand code names p [] tail) (place + 1) goes target → TasksStand code known place [] (call_task line target c ∷ tail)
+      → TargetStands code known (λ p names. TasksStand code names p [] tail) (place + length (named_call_code known line goes (function_named c.function) c.arguments)) goes target → TasksStand code known place [] (call_task line target c ∷ tail)
   call_stands target goes c fits at stands =
-      let here : HasAt code.instrs place (call_code known line goes fits.function c.arguments) = subst (λ o. HasAt code.instrs place (named_call_code known line goes o c.arguments)) fits.named at in
+      let parameters = (prototype fits.function).parameters in
+      let given = zip parameters c.arguments in
+      let call : calls.Call = record { line = line; target = goes; function = fits.function; operands = map (operand_code known) given } in
+      let rest : arguments_code known line given ≡ operands_rest known line (map operand given) = all_rest given in
+      let here : HasAt code.instrs place (arguments_code known line given ++ instr.Call call ∷ []) = subst (λ o. HasAt code.instrs place (named_call_code known line goes o c.arguments)) fits.named at in
+      let size : place + length (named_call_code known line goes (function_named c.function) c.arguments) ≡ place + length (operands_rest known line (map operand given)) + 1 =
+      omega (arith, ap (λ o. length (named_call_code known line goes o c.arguments)) fits.named, length-append (arguments_code known line given) (instr.Call call ∷ []), ap length rest) in
+      let untouched = all_untouched parameters c.arguments fits.arguments in
       subst (λ o. TasksStand code known place [] (invocation line target c o ∷ tail)) (sym fits.named) (record {
-        call = record { line = line; target = goes; function = fits.function; operands = map (operand_code known) c.arguments };
-        at = here.0;
+        call = call;
+        at = subst (λ (l : List Instr). HasAt code.instrs place (l ++ instr.Call call ∷ [])) rest here;
         same_line = refl;
         same_function = refl;
         built = fits.built;
-        empty = refl;
-        count = operand_count (prototype fits.function).parameters c.arguments fits.arguments;
-        operands_stand = arguments_found (prototype fits.function).parameters c.arguments fits.arguments;
-        goes = stands;
+        begun = untouched_are_begun (map operand given) untouched;
+        held = sym (untouched_are_held (map operand given) untouched);
+        count = operand_count parameters c.arguments fits.arguments;
+        operands_stand = arguments_found parameters c.arguments fits.arguments;
+        goes = subst (λ p. TargetStands code known (λ q names. TasksStand code names q [] tail) p goes target) size stands;
       })
 
-  -- a call is one instruction
-  call_length : (goes : Destination) (c : Call) → CallFits known c → length (named_call_code known line goes (function_named c.function) c.arguments) ≡ 1
-  call_length goes c fits = ap (λ o. length (named_call_code known line goes o c.arguments)) fits.named
-
-  result_stands : (target : Target) (x : Identifier) (i : ℕ) (names : Known) → IsResultTarget target x → GoesTo known (record { sort = Jint; index = i }) target → IsSlotOf code known x (record { sort = Jint; index = i }) → AreAmong names ((x, record { sort = Jint; index = i }) ∷ known) → TasksStand code names (place + 1) [] tail
-      → TargetStands code known (λ p names. TasksStand code names p [] tail) (place + 1) (destination.Number i) target
-  result_stands target x i names (inl e) goes own among further = subst (TargetStands code known (λ p names. TasksStand code names p [] tail) (place + 1) (destination.Number i)) (sym e) (record { own = own; further = (names, among, further) })
-  result_stands target x i names (inr e) goes own among further =
-      subst (TargetStands code known (λ p names. TasksStand code names p [] tail) (place + 1) (destination.Number i)) (sym e) (record { own = own; further = (names, among, further) }, subst (GoesTo known (record { sort = Jint; index = i })) e goes)
+  result_stands : (p : ℕ) (target : Target) (x : Identifier) (i : ℕ) (names : Known) → IsResultTarget target x → GoesTo known (record { sort = Jint; index = i }) target → IsSlotOf code known x (record { sort = Jint; index = i }) → AreAmong names ((x, record { sort = Jint; index = i }) ∷ known) → TasksStand code names p [] tail
+      → TargetStands code known (λ q names. TasksStand code names q [] tail) p (destination.Number i) target
+  result_stands p target x i names (inl e) goes own among further = subst (TargetStands code known (λ q names. TasksStand code names q [] tail) p (destination.Number i)) (sym e) (record { own = own; further = (names, among, further) })
+  result_stands p target x i names (inr e) goes own among further =
+      subst (TargetStands code known (λ q names. TasksStand code names q [] tail) p (destination.Number i)) (sym e) (record { own = own; further = (names, among, further) }, subst (GoesTo known (record { sort = Jint; index = i })) e goes)
 
   pub right_stands : (target : Target) (x : Identifier) (s : Slot) (r : RightSide) (names : Known) → RightFits known s.sort r → target_name target ≡ Some x → (s.sort ≡ Jint → IsResultTarget target x) → GoesTo known s target → HasAt code.instrs place (right_code known line s r) → IsSlotOf code known x s
       → AreAmong names ((x, s) ∷ known) → TasksStand code names (place + length (right_code known line s r)) [] tail → TasksStand code known place [] (right_side_task line target x r ∷ tail)
   right_stands target x s (FromExpr e) names fits name result goes at own among further = value_set target x s.sort s.index e names fits name goes at own among further
   right_stands target x s (FromCall c) names fits name result goes at own among further =
       let is : s ≡ record { sort = Jint; index = s.index } = ap (λ (k : Sort). record { sort = k; index = s.index }) fits.0 in
-      let size : place + length (named_call_code known line (destination.Number s.index) (function_named c.function) c.arguments) ≡ place + 1 = omega (arith, call_length (destination.Number s.index) c fits.1) in
       call_stands target (destination.Number s.index) c fits.1 at
-      (result_stands target x s.index names (result fits.0) (subst (λ (k : Slot). GoesTo known k target) is goes) (subst (IsSlotOf code known x) is own) (subst (λ (k : Slot). AreAmong names ((x, k) ∷ known)) is among) (subst (λ p. TasksStand code names p [] tail) size further))
+      (result_stands (place + length (right_code known line s (FromCall c))) target x s.index names (result fits.0) (subst (λ (k : Slot). GoesTo known k target) is goes) (subst (IsSlotOf code known x) is own) (subst (λ (k : Slot). AreAmong names ((x, k) ∷ known)) is among) further)
 
 -- ---- statements
 
@@ -327,9 +359,7 @@ stmt_begins code (tree.Assign line x r) l place tail at fits laid room further =
     right_stands code l.known line place tail (Assigned x) x slot r l.known fits.2 refl (λ e. inr refl) found there own (known_among x slot l.known found)
     (subst (λ c. TasksStand code l.known (place + length c) [] tail) (ap (λ (o : Option Slot). assign_code l.known line o r) found) further)
 stmt_begins code (tree.AssignElement line x i e) l place tail at fits laid room further = element_set_stands code line x i e l place tail at fits laid room further
-stmt_begins code (tree.Perform line c) l place tail at fits laid room further =
-    let size : place + length (named_call_code l.known line destination.Dropped (function_named c.function) c.arguments) ≡ place + 1 = omega (arith, call_length code l.known line place tail destination.Dropped c fits) in
-    call_stands code l.known line place tail Dropped destination.Dropped c fits at (subst (λ p. TasksStand code l.known p [] tail) size further)
+stmt_begins code (tree.Perform line c) l place tail at fits laid room further = call_stands code l.known line place tail Dropped destination.Dropped c fits at further
 stmt_begins code (tree.PutJint line e) l place tail at fits laid room further =
     let size : place + length (expr_code l.known line e ++ instr.PutJint ∷ []) ≡ place + length (expr_code l.known line e) + 1 = omega (arith, length-append (expr_code l.known line e) (instr.PutJint ∷ [])) in
     ((number_begins l.known (term_of e) Jint fits, at), subst (λ p. TasksStand code l.known p [] tail) size further)

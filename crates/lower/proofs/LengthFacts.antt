@@ -1,5 +1,5 @@
 -- The code of an accepted function has one instruction for each step, and a return at its end.
-use Rattle.std.proofs.Common.{◌≡◌, ℕ, ◌+◌, Bool, true, false, ◌||◌, List, [], ◌∷◌, ◌++◌, length, Option, Some, None, refl, sym, ap, ◌∙◌, subst, arith, length-append}
+use Rattle.std.proofs.Common.{◌≡◌, ℕ, ◌+◌, Bool, true, false, ◌||◌, List, [], ◌∷◌, ◌++◌, length, Option, Some, None, refl, sym, ap, ◌∙◌, subst, arith, length-append, inl, inr, map}
 use Rattle.std.specs.Prelude.{zip}
 use Rattle.std.specs.List.{AllZip, sum_by}
 use Rattle.std.proofs.lemmas.List.Sums.{sum_by-cons}
@@ -19,8 +19,8 @@ use Rattle.code.specs.declared.instr.Instr.TheVariants as instr
 use Rattle.source.specs.Term as term
 use Rattle.source.specs.Term.{Term, Done, Read, IsNull, Prefix, And, Or, Binary, binary_term, term_of}
 use Rattle.code_generator.specs.Layout.{Slot, Known, Layout, new_slot, closed, layout_after, block_layout}
-use Rattle.code_generator.specs.Coding.{nullable_of, test_of, store_of, null_code, element_code, write_code, of_slot, load_code, prefix_code, operator_code, is_signed, skip_code, term_code, expr_code, named_call_code, value_code, right_code, assign_code, returned_code, return_code, test_code, ways_code, if_code, turn_code, loop_code, stmt_code, block_code}
-use Rattle.lower.specs.Fits.{IsNullable, TermHasSort, NumberFits, ArgumentFits, CallFits, ValueFits, RightFits, TestFits, ReturnFits, StmtFits, BlockFits}
+use Rattle.code_generator.specs.Coding.{nullable_of, test_of, store_of, null_code, element_code, write_code, of_slot, load_code, prefix_code, operator_code, is_signed, skip_code, term_code, expr_code, named_call_code, value_code, right_code, assign_code, returned_code, return_code, test_code, ways_code, if_code, turn_code, loop_code, stmt_code, block_code, argument_code, arguments_code, operand_code}
+use Rattle.lower.specs.Fits.{IsNullable, TermHasSort, NumberFits, ArgumentFits, CallFits, ValueFits, RightFits, TestFits, ReturnFits, StmtFits, BlockFits, IsReferenceKind}
 use Rattle.lower.specs.Length.{binary_steps, expr_steps, argument_steps, arguments_steps, call_steps, value_steps, right_steps, test_steps, return_steps, stmt_steps, block_steps}
 use Rattle.lower.proofs.SortFacts.{scope_of, slot_of_name}
 use Rattle.lower.proofs.StatementFacts.{jint_is, ref_is}
@@ -110,25 +110,32 @@ expr_length known line e s h = term_length known line (term_of e) s h.sort ∙ s
 
 -- ---- right sides
 
--- a reference takes no step
-no_steps : (known : Known) (p : ParameterKind) (a : Argument) → ArgumentFits known p a → argument_steps (p, a) ≡ 0
-no_steps known IntNumber (tree.Value e) h = absurd h.0
-no_steps known IntNumber a h = refl
-no_steps known p a h = refl
+-- a reference takes no step, and has no code
+no_steps : (known : Known) (line : ℕ) (p : ParameterKind) (e : Expr) → IsReferenceKind p → length (argument_code known line (p, tree.Value e)) ≡ argument_steps (p, tree.Value e)
+no_steps known line IntNumber e kind = absurd kind
+no_steps known line p e kind = refl
 
-no_argument_steps : (known : Known) (parameters : List ParameterKind) (arguments : List Argument) → AllZip (ArgumentFits known) parameters arguments → sum_by argument_steps (zip parameters arguments) ≡ 0
-no_argument_steps known [] [] h = refl
-no_argument_steps known [] (a ∷ arguments) h = absurd h
-no_argument_steps known (p ∷ parameters) [] h = absurd h
-no_argument_steps known (p ∷ parameters) (a ∷ arguments) h =
-    let one = no_steps known p a h.0 in
-    let others = no_argument_steps known parameters arguments h.1 in
-    omega (arith, one, others, sum_by-cons argument_steps (p, a) (zip parameters arguments))
+argument_length : (known : Known) (line : ℕ) (p : ParameterKind) (a : Argument) → ArgumentFits known p a → length (argument_code known line (p, a)) ≡ argument_steps (p, a)
+argument_length known line p (tree.Value e) (inl h) = subst (λ (q : ParameterKind). length (argument_code known line (q, tree.Value e)) ≡ argument_steps (q, tree.Value e)) (sym h.0) (expr_length known line e Jint h.1)
+argument_length known line p (tree.Value e) (inr h) = no_steps known line p e h.0
+argument_length known line p a h = absurd h
+
+arguments_length : (known : Known) (line : ℕ) (parameters : List ParameterKind) (arguments : List Argument) → AllZip (ArgumentFits known) parameters arguments → length (arguments_code known line (zip parameters arguments)) ≡ sum_by argument_steps (zip parameters arguments)
+arguments_length known line [] [] h = refl
+arguments_length known line [] (a ∷ arguments) h = absurd h
+arguments_length known line (p ∷ parameters) [] h = absurd h
+arguments_length known line (p ∷ parameters) (a ∷ arguments) h =
+    let one = argument_length known line p a h.0 in
+    let others = arguments_length known line parameters arguments h.1 in
+    omega (arith, one, others, sum_by-cons argument_steps (p, a) (zip parameters arguments), length-append (argument_code known line (p, a)) (arguments_code known line (zip parameters arguments)))
 
 call_length : (known : Known) (line : ℕ) (target : Target) (c : Call) → CallFits known c → length (named_call_code known line target (function_named c.function) c.arguments) ≡ call_steps c
 call_length known line target c h =
+    let given = zip (prototype h.function).parameters c.arguments in
+    let steps = arguments_length known line (prototype h.function).parameters c.arguments h.arguments in
+    let call = instr.Call (record { line = line; target = target; function = h.function; operands = map (operand_code known) given }) ∷ [] in
     ap (λ o. length (named_call_code known line target o c.arguments)) h.named
-    ∙ sym (ap (λ n. n + 1) (no_argument_steps known (prototype h.function).parameters c.arguments h.arguments))
+    ∙ omega (arith, steps, length-append (arguments_code known line given) call)
     ∙ sym (ap (λ o. arguments_steps o c.arguments + 1) h.named)
 
 number_set : (known : Known) (line : ℕ) (slot : Slot) (e : Expr) (s : Sort) → NumberFits known (term_of e) s → length (value_code known line slot e) ≡ value_steps e

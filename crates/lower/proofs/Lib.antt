@@ -6,6 +6,7 @@ pub mod Layouts
 pub mod Bodies
 pub mod WaysReturn
 pub mod Steps
+pub mod CallSteps
 pub mod BlockSteps
 pub mod EntryLaws
 pub mod EntryLayouts

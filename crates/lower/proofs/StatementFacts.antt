@@ -127,7 +127,7 @@ module _ (known : Known) where
   value_is_reference p e kind h = absurd kind
 
   one_fits : (p : ParameterKind) (a : Argument) → IsReferenceKind p → argument_fits (scope_of known) p a ≡ true → ArgumentFits known p a
-  one_fits p (tree.Value e) kind h = (kind, value_is_reference p e kind h)
+  one_fits p (tree.Value e) kind h = inr (kind, value_is_reference p e kind h)
   one_fits p (tree.Text t) kind h = absurd (no_text p kind h)
   one_fits p (tree.AddressOf x) kind h = absurd (no_address known p x kind h)
 

@@ -1,23 +1,15 @@
 -- The instruction at a place does what the first task there does.
-use Rattle.std.proofs.Common.{◌≡◌, ℕ, ◌+◌, ◌<◌, ◌≤◌, ◌⊎◌, inl, inr, Bool, true, List, [], ◌∷◌, ◌++◌, length, Some, refl, sym, ap, ◌∙◌, subst, arith, append_assoc, length-append, suc}
-use Rattle.std.specs.Prelude.{slice_set, is_none, IsTrue, zip, map}
-use Rattle.std.specs.List.{list_any, AllZip}
+use Rattle.std.proofs.Common.{◌≡◌, ℕ, ◌+◌, ◌<◌, ◌≤◌, ◌⊎◌, inl, inr, Bool, true, List, [], ◌∷◌, ◌++◌, length, Some, refl, sym, ap, ◌∙◌, subst, arith, append_assoc, length-append}
+use Rattle.std.specs.Prelude.{slice_set, is_none, IsTrue}
+use Rattle.std.specs.List.{list_any}
 use Rattle.std.specs.Int.{w32, cast_unsigned}
 use Rattle.std.proofs.Math.Facts.{to_z-of_z}
 use Rattle.std.proofs.lemmas.List.{append-nil}
 use Rattle.std.proofs.lemmas.Bool.{lt-ltb, le-leb}
 use Rattle.base.specs.Bytes.{Identifier}
-use Rattle.syntax.specs.Tree as tree
-use Rattle.syntax.specs.Tree.{Expr}
-use Rattle.jni.specs.JniFunction.{JniFunction}
-use Rattle.jni.specs.Prototype.{ParameterKind, FieldID, ArrayVariable, BufferVariable, Mode, IsCopy, prototype}
 use Rattle.types.specs.Sorts.{Sort, Jint, Ref, Global, FieldId, Buffer, Array}
 use Rattle.types.specs.Sorts as sort
-use Rattle.code.specs.declared.instr.Operand.{Operand as Where}
-use Rattle.code.specs.declared.instr.Operand.TheVariants as operand
 use Rattle.code.specs.declared.instr.NullableVariable.{NullableVariable}
-use Rattle.code.specs.declared.instr.Target.{Target as Destination}
-use Rattle.code.specs.declared.instr.Target.TheVariants as destination
 use Rattle.code.specs.declared.instr.Instr.{Instr}
 use Rattle.code.specs.declared.instr.Instr.TheVariants as instr
 use Rattle.code.specs.declared.instr.Plain.{Plain}
@@ -25,18 +17,17 @@ use Rattle.code.specs.declared.instr.Plain.TheVariants as plain
 use Rattle.code.specs.Depth.{Listing}
 use Rattle.code.specs.Effect.{plain_of, cleared}
 use Rattle.code.proofs.Effects.{KeepsSlots, plain_keeps}
-use Rattle.source.specs.Effect.{Effect, goes_on, with_value, is_given, is_ready, call_effect_of, effect_of}
-use Rattle.source.specs.Arguments.{reference_argument, look_up_expression, look_up}
+use Rattle.source.specs.Effect.{Effect, goes_on, with_value, effect_of}
 use Rattle.source.specs.Sight.{Sight}
-use Rattle.source.specs.Task.{Task, SetScalar, SetNull, MakeArray, Invoke, Print, Target, Declared, Assigned, Dropped, ScalarKind, ReferenceKind, FieldKind, BufferKind, Operand}
+use Rattle.source.specs.Task.{Task, SetScalar, SetNull, MakeArray, Print, Target, Declared, Assigned, ScalarKind, ReferenceKind, FieldKind, BufferKind}
 use Rattle.source.specs.Term.{Term, Done, reduce}
 use Rattle.source.specs.Value.{Value, Word, Int, Flag, Truth, Gives}
 use Rattle.code_generator.specs.Layout.{Slot, Known}
 use Rattle.code_generator.specs.Coding.{nullable_of, term_code}
 use Rattle.lower.specs.Slots.{word_of, IsNumberSort, Visible, Slots, ShowsSlot, Shows}
-use Rattle.lower.specs.Fits.{IsReferenceKind, TermHasSort}
-use Rattle.lower.specs.Stands.{held, IsBegun, HasAt, IsUnderWay, ReferenceStands, OperandStands, GoesTo, TargetStands, InvokeStands, TasksStand, StandsFor, task_returns}
-use Rattle.lower.specs.Does.{AtEnd, Works, CanBeNull, IsOperand, TakesResult, DoesEffect}
+use Rattle.lower.specs.Fits.{TermHasSort}
+use Rattle.lower.specs.Stands.{held, IsBegun, HasAt, IsUnderWay, GoesTo, TasksStand, StandsFor, task_returns}
+use Rattle.lower.specs.Does.{AtEnd, Works, CanBeNull, DoesEffect}
 use Rattle.lower.proofs.SlotLaws.{fewer_shown, number_below, shows_set, shows_nulled, shows_made}
 use Rattle.lower.proofs.CodePlaces.{has_back}
 use Rattle.lower.proofs.TermSteps.{IsOpen, LeadsOver, TermGoes, TermTraps, steps_term}
@@ -212,83 +203,3 @@ module _ (code : Listing) (known : Known) (place : ℕ) (stack : List ℕ) (slot
             (shows_made code known visible new slots t x size d.start shows d.own (subst (KeepsSlots slots.numbers) clears (plain_keeps (instr.ClearArray (record { start = d.start; len = size })) stack slots.numbers)) made);
         stands = record { stand = d.further.2; returns = h.returns };
       }
-
-  -- ---- calls
-
-  takes_result : (line : ℕ) (f : JniFunction) (operands : List Operand) (goes : Destination) (target : Target) (rest : List Task) → TargetStands code known (λ p names. TasksStand code names p [] rest) (place + 1) goes target
-      → IsTrue (list_any task_returns (Invoke line target f operands ∷ rest)) → TakesResult code known place stack slots visible goes target rest
-  takes_result line f operands (destination.Number i) (Declared ScalarKind x) rest h returns = record {
-    within = omega (arith, h.own.within, shows.numbers);
-    names = h.further.0;
-    shows = λ z new fits set. fewer_shown code h.further.0 ((x, record { sort = Jint; index = i }) ∷ known) new (record slots { numbers = slice_set slots.numbers i (word_of (Int z)) }) h.further.1 (shows_set code known visible new slots x (record { sort = Jint; index = i }) (Int z) shows h.own tt (fits, refl) set);
-    stands = record { stand = h.further.2; returns = returns };
-  }
-  takes_result line f operands (destination.Number i) (Assigned x) rest (h, found) returns =
-      let shown = shows.each x (record { sort = Jint; index = i }) found in (
-        record {
-          within = omega (arith, h.own.within, shows.numbers);
-          names = h.further.0;
-          shows = λ z new fits set. fewer_shown code h.further.0 ((x, record { sort = Jint; index = i }) ∷ known) new (record slots { numbers = slice_set slots.numbers i (word_of (Int z)) }) h.further.1 (shows_set code known visible new slots x (record { sort = Jint; index = i }) (Int z) shows h.own tt (fits, refl) set);
-          stands = record { stand = h.further.2; returns = returns };
-        },
-        (shown.value, shown.is),
-      )
-  takes_result line f operands destination.Dropped Dropped rest h returns = record { stand = h; returns = returns }
-  takes_result line f operands goes target rest h returns = absurd h
-
-  -- a reference is looked up in the call's own step
-  looked_up : (p : ParameterKind) (e : Expr) → IsReferenceKind p → look_up_expression visible.sight p e ≡ reference_argument visible.sight e
-  looked_up FieldID e kind = absurd kind
-  looked_up (ArrayVariable t) e kind = absurd kind
-  looked_up (BufferVariable a) e kind = absurd kind
-  looked_up Mode e kind = absurd kind
-  looked_up IsCopy e kind = absurd kind
-  looked_up p e kind = refl
-
-  is_actual : (p : ParameterKind) (given : Operand) (e : Expr) → ReferenceStands p given e → look_up visible.sight (p, given) ≡ reference_argument visible.sight e
-  is_actual p given e h = ap (λ (o : Operand). look_up visible.sight (p, o)) h.is ∙ looked_up p e h.kind
-
-  is_operand : (o : Where) (p : ParameterKind) (given : Operand) → OperandStands known o (p, given) → IsOperand code known place stack slots visible o (look_up visible.sight (p, given))
-  is_operand operand.Null p given h = ([], is_actual p given (tree.Named tree.Null) h)
-  is_operand (operand.Local i) p given h = (h.0, is_actual p given (tree.Variable h.0) h.1, h.2)
-  is_operand (operand.Static i) p given h = (h.0, is_actual p given (tree.Variable h.0) h.1, h.2)
-
-  are_operands : (found : List Where) (given : List (ParameterKind × Operand)) → AllZip (OperandStands known) found given → AllZip (IsOperand code known place stack slots visible) found (map (look_up visible.sight) given)
-  are_operands [] [] h = tt
-  are_operands [] (g ∷ given) h = absurd h
-  are_operands (o ∷ found) [] h = absurd h
-  are_operands (o ∷ found) (g ∷ given) h = (is_operand o g.0 g.1 h.0, are_operands found given h.1)
-
-  -- all arguments are references
-  one_given : (o : Where) (p : ParameterKind) (given : Operand) → OperandStands known o (p, given) → is_given given ≡ true
-  one_given operand.Null p given h = ap is_given h.is
-  one_given (operand.Local i) p given h = ap is_given h.1.is
-  one_given (operand.Static i) p given h = ap is_given h.1.is
-
-  all_given : (found : List Where) (parameters : List ParameterKind) (operands : List Operand) → length operands ≡ length parameters → AllZip (OperandStands known) found (zip parameters operands) → is_ready operands ≡ true
-  all_given found parameters [] count h = refl
-  all_given found [] (o ∷ operands) count h = absurd (omega (arith, count))
-  all_given [] (p ∷ parameters) (o ∷ operands) count h = absurd h
-  all_given (w ∷ found) (p ∷ parameters) (o ∷ operands) count h = rw (one_given w p o h.0) (all_given found parameters operands (omega (arith, count)) h.1)
-
-  -- there is an argument for each parameter
-  actual_count : (parameters : List ParameterKind) (operands : List Operand) → length operands ≡ length parameters → length (map (look_up visible.sight) (zip parameters operands)) ≡ length parameters
-  actual_count [] operands count = refl
-  actual_count (p ∷ parameters) [] count = absurd (omega (arith, count))
-  actual_count (p ∷ parameters) (o ∷ operands) count = ap (λ n. suc n) (actual_count parameters operands (omega (arith, count)))
-
-  -- a call whose references are looked up in its own step
-  pub call_step : (line : ℕ) (target : Target) (f : JniFunction) (operands : List Operand) (rest : List Task) → (c : InvokeStands code known place stack (λ p names. TasksStand code names p [] rest) line target f operands) → IsTrue (list_any task_returns (Invoke line target f operands ∷ rest))
-      → DoesEffect code known place stack slots visible rest (call_effect_of visible.sight line target f operands)
-  call_step line target f operands rest c returns =
-      rw (all_given c.call.operands (prototype f).parameters operands c.count c.operands_stand) (record {
-        call = c.call;
-        at = c.at;
-        same_line = c.same_line;
-        same_function = c.same_function;
-        built = c.built;
-        empty = c.empty;
-        count = actual_count (prototype f).parameters operands c.count;
-        given = are_operands c.call.operands (zip (prototype f).parameters operands) c.operands_stand;
-        goes = takes_result line f operands c.call.target target rest c.goes returns;
-      })

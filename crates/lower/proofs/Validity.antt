@@ -1,6 +1,10 @@
 -- The code of a body keeps the stack in its range, and its jumps lead inside.
-use Rattle.std.proofs.Common.{◌≡◌, ℕ, suc, ◌+◌, ◌<◌, ◌≤◌, inl, inr, Bool, true, false, List, [], ◌∷◌, ◌++◌, length, Option, Some, refl, sym, ap, ◌∙◌, subst, arith}
-use Rattle.std.proofs.lemmas.Bool.{lt-ltb}
+use Rattle.code.specs.declared.instr.Operand.{Operand as Where}
+use Rattle.std.specs.List.{AllZip}
+use Rattle.std.specs.Prelude.{zip, map}
+use Rattle.jni.specs.JniFunction.{JniFunction, FindClass, ReleaseBuffer, ArrayView, CharsCopy, CharsView, ElementsCopy}
+use Rattle.std.proofs.Common.{◌≡◌, ℕ, suc, ◌+◌, ◌<◌, ◌≤◌, inl, inr, Bool, true, false, List, [], ◌∷◌, ◌++◌, length, Option, Some, refl, sym, ap, ◌∙◌, subst, arith, None, ◌-◌}
+use Rattle.std.proofs.lemmas.Bool.{lt-ltb, le-leb}
 use Rattle.base.specs.Bytes.{Identifier, lookup}
 use Rattle.syntax.specs.Tree as tree
 use Rattle.syntax.specs.Tree.{PrefixOp, LogicalNot, Complement, ToWord, ToInt, BinaryOp, LogicalOr, LogicalAnd, BitOr, BitXor, BitAnd, Equal, NotEqual, Less, LessEqual, Greater, GreaterEqual, ShiftLeft, ShiftRight, Add, Subtract, Multiply, Divide, Remainder, Expr, Argument, RightSide, FromExpr, FromCall, Test, TestExpr, TestCall, Stmt, Block, End, Next, Call}
@@ -10,16 +14,16 @@ use Rattle.types.specs.SortRules.{variable_sort}
 use Rattle.base.specs.Element.{JChar}
 use Rattle.code.specs.declared.instr.Target.{Target}
 use Rattle.code.specs.declared.instr.Target.TheVariants as destination
-use Rattle.jni.specs.Prototype.{function_named}
+use Rattle.jni.specs.Prototype.{function_named, ParameterKind, IntNumber, prototype}
 use Rattle.code.specs.declared.instr.Instr.{Instr}
 use Rattle.code.specs.declared.instr.Instr.TheVariants as instr
-use Rattle.code.specs.Depth.{depth_after}
+use Rattle.code.specs.Depth.{depth_after, words_taken}
 use Rattle.code.proofs.Pieces.{IsPiece, piece_none, piece_append, piece_one, piece_and, piece_or, piece_if, piece_end, piece_loop}
 use Rattle.source.specs.Term as term
 use Rattle.source.specs.Term.{Term, Done, Read, IsNull, Prefix, And, Or, Binary, term_of}
 use Rattle.code_generator.specs.Layout.{Slot, Known, Layout, new_slot, closed, layout_after, block_layout}
-use Rattle.code_generator.specs.Coding.{nullable_of, test_of, null_code, element_of, element_code, write_code, of_slot, load_code, prefix_code, operator_code, is_signed, skip_code, term_code, expr_code, named_call_code, value_code, right_code, assign_code, returned_code, return_code, test_code, ways_code, if_code, stmt_code, block_code}
-use Rattle.lower.specs.Fits.{IsNullable, TermHasSort, IsUntouched, term_height, NumberFits, ValueFits, RightFits, TestFits, ReturnFits, StmtFits, BlockFits, CallFits}
+use Rattle.code_generator.specs.Coding.{nullable_of, test_of, null_code, element_of, element_code, write_code, of_slot, load_code, prefix_code, operator_code, is_signed, skip_code, term_code, expr_code, named_call_code, value_code, right_code, assign_code, returned_code, return_code, test_code, ways_code, if_code, stmt_code, block_code, argument_code, arguments_code, operand_code, operand_of, reference_operand}
+use Rattle.lower.specs.Fits.{IsNullable, TermHasSort, IsUntouched, term_height, NumberFits, ValueFits, RightFits, TestFits, ReturnFits, StmtFits, BlockFits, CallFits, IsReferenceKind, ArgumentFits}
 use Rattle.lower.proofs.Bodies.{value_is}
 
 -- ---- instructions
@@ -104,7 +108,7 @@ term_piece known line (Binary op a b) s d sorted u h =
     (piece_append (term_code known line b) last (suc d) (suc (suc d)) (suc d) right (operator_piece line (is_signed known a) op d))
 
 -- an expression with so many words in front of it
-number_piece : (known : Known) (line : ℕ) (t : Term) (s : Sort) (d : ℕ) → NumberFits known t s → d ≤ 1 → IsPiece (term_code known line t) d (suc d)
+number_piece : (known : Known) (line : ℕ) (t : Term) (s : Sort) (d : ℕ) → NumberFits known t s → d ≤ 31 → IsPiece (term_code known line t) d (suc d)
 number_piece known line t s d h few = let low = h.low in term_piece known line t s d h.sort h.untouched (omega arith)
 
 -- an expression and the instruction that takes its value
@@ -113,8 +117,86 @@ taken_piece known line t s last h piece = piece_append (term_code known line t) 
 
 -- ---- statements
 
+-- how many arguments are numbers
+abbrev numbers_among : List ParameterKind → ℕ
+numbers_among [] = 0
+numbers_among (IntNumber ∷ parameters) = suc (numbers_among parameters)
+numbers_among (p ∷ parameters) = numbers_among parameters
+
+numbers_step : (p : ParameterKind) (parameters : List ParameterKind) → numbers_among (p ∷ parameters) ≤ 1 + numbers_among parameters
+numbers_step IntNumber parameters = omega arith
+numbers_step p parameters = omega arith
+
+taken_slot : (o : Option Slot) (operands : List Where) → words_taken (operand_of o ∷ operands) ≡ words_taken operands
+taken_slot None operands = refl
+taken_slot (Some s) operands = by_sort s.sort s.index
+  where
+    by_sort : (s : Sort) (i : ℕ) → words_taken (reference_operand s i ∷ operands) ≡ words_taken operands
+    by_sort Ref i = refl
+    by_sort Global i = refl
+    by_sort s i = refl
+
+few_parameters : (f : JniFunction) → length (prototype f).parameters ≤ 4
+few_parameters FindClass = omega arith
+few_parameters (ReleaseBuffer ArrayView) = omega arith
+few_parameters (ReleaseBuffer CharsCopy) = omega arith
+few_parameters (ReleaseBuffer CharsView) = omega arith
+few_parameters (ReleaseBuffer (ElementsCopy t)) = omega arith
+few_parameters f = omega arith
+
+-- a reference has no code, and is no word
+no_number : (known : Known) (line : ℕ) (p : ParameterKind) (parameters : List ParameterKind) (e : Expr) (d : ℕ) → IsReferenceKind p → IsPiece (argument_code known line (p, tree.Value e)) d d × (numbers_among (p ∷ parameters) ≡ numbers_among parameters)
+no_number known line IntNumber parameters e d kind = absurd kind
+no_number known line p parameters e d kind = (piece_none d, refl)
+
+argument_piece : (known : Known) (line : ℕ) (p : ParameterKind) (parameters : List ParameterKind) (a : Argument) (d : ℕ) → ArgumentFits known p a → d ≤ 31 → (m : ℕ) × IsPiece (argument_code known line (p, a)) d m × (m + numbers_among parameters ≡ d + numbers_among (p ∷ parameters))
+argument_piece known line p parameters (tree.Value e) d (inl h) few =
+    subst (λ (q : ParameterKind). (m : ℕ) × IsPiece (argument_code known line (q, tree.Value e)) d m × (m + numbers_among parameters ≡ d + numbers_among (q ∷ parameters))) (sym h.0) (suc d, number_piece known line (term_of e) Jint d h.1 few, omega arith)
+argument_piece known line p parameters (tree.Value e) d (inr h) few =
+    let none = no_number known line p parameters e d h.0 in
+    (d, none.0, ap (λ n. d + n) (sym none.1))
+argument_piece known line p parameters a d h few = absurd h
+
+arguments_piece : (known : Known) (line : ℕ) (parameters : List ParameterKind) (arguments : List Argument) (d : ℕ) → AllZip (ArgumentFits known) parameters arguments → d + length parameters ≤ 31
+    → IsPiece (arguments_code known line (zip parameters arguments)) d (d + numbers_among parameters)
+arguments_piece known line [] [] d h few = subst (IsPiece [] d) (let e : d ≡ d + 0 = omega arith in e) (piece_none d)
+arguments_piece known line [] (a ∷ arguments) d h few = absurd h
+arguments_piece known line (p ∷ parameters) [] d h few = absurd h
+arguments_piece known line (p ∷ parameters) (a ∷ arguments) d h few =
+    let one = argument_piece known line p parameters a d h.0 (omega (arith, few)) in
+    let low : one.0 + length parameters ≤ 31 = omega (arith, few, one.2, numbers_step p parameters) in
+    piece_append (argument_code known line (p, a)) (arguments_code known line (zip parameters arguments)) d one.0 (d + numbers_among (p ∷ parameters)) one.1
+    (subst (IsPiece (arguments_code known line (zip parameters arguments)) one.0) one.2 (arguments_piece known line parameters arguments one.0 h.1 low))
+
+-- the call takes as many words
+taken_reference : (known : Known) (p : ParameterKind) (parameters : List ParameterKind) (e : Expr) (operands : List Where) → IsReferenceKind p → (words_taken (operand_code known (p, tree.Value e) ∷ operands) ≡ words_taken operands) × (numbers_among (p ∷ parameters) ≡ numbers_among parameters)
+taken_reference known IntNumber parameters e operands kind = absurd kind
+taken_reference known p parameters (tree.Variable x) operands kind = (taken_slot (lookup x known) operands, refl)
+taken_reference known p parameters e operands kind = (refl, refl)
+
+words_are : (known : Known) (parameters : List ParameterKind) (arguments : List Argument) → AllZip (ArgumentFits known) parameters arguments → words_taken (map (operand_code known) (zip parameters arguments)) ≡ numbers_among parameters
+words_are known [] [] h = refl
+words_are known [] (a ∷ arguments) h = absurd h
+words_are known (p ∷ parameters) [] h = absurd h
+words_are known (p ∷ parameters) (tree.Value e ∷ arguments) (inl h, more) =
+    subst (λ (q : ParameterKind). words_taken (operand_code known (q, tree.Value e) ∷ map (operand_code known) (zip parameters arguments)) ≡ numbers_among (q ∷ parameters)) (sym h.0) (ap (λ n. suc n) (words_are known parameters arguments more))
+words_are known (p ∷ parameters) (tree.Value e ∷ arguments) (inr h, more) =
+    let both = taken_reference known p parameters e (map (operand_code known) (zip parameters arguments)) h.0 in
+    both.0 ∙ words_are known parameters arguments more ∙ sym both.1
+words_are known (p ∷ parameters) (a ∷ arguments) h = absurd h.0
+
+-- no function has more than four parameters
+call_instr : (line : ℕ) (target : Target) (f : JniFunction) (operands : List Where) (n : ℕ) → words_taken operands ≡ n → IsPiece (instr.Call (record { line = line; target = target; function = f; operands = operands }) ∷ []) n 0
+call_instr line target f operands n same = piece_one (instr.Call _) n 0 (rw (same, le-leb n n (omega arith)) (ap (λ (m : ℕ). Some m) (let e : n - n ≡ 0 = omega arith in e))) tt
+
 call_piece : (known : Known) (line : ℕ) (target : Target) (c : Call) → CallFits known c → IsPiece (named_call_code known line target (function_named c.function) c.arguments) 0 0
-call_piece known line target c fits = subst (λ o. IsPiece (named_call_code known line target o c.arguments) 0 0) (sym fits.named) (piece_one (instr.Call _) 0 0 refl tt)
+call_piece known line target c fits =
+    let parameters = (prototype fits.function).parameters in
+    let few = few_parameters fits.function in
+    let given = zip parameters c.arguments in
+    let call = instr.Call (record { line = line; target = target; function = fits.function; operands = map (operand_code known) given }) ∷ [] in
+    subst (λ o. IsPiece (named_call_code known line target o c.arguments) 0 0) (sym fits.named)
+    (piece_append (arguments_code known line given) call 0 (0 + numbers_among parameters) 0 (arguments_piece known line parameters c.arguments 0 fits.arguments (omega (arith, few))) (call_instr line target fits.function (map (operand_code known) given) (0 + numbers_among parameters) (words_are known parameters c.arguments fits.arguments ∙ sym (let e : 0 + numbers_among parameters ≡ numbers_among parameters = omega arith in e))))
 
 value_piece : (known : Known) (line : ℕ) (kind : Sort) (i : ℕ) (e : Expr) → ValueFits known kind e → IsPiece (value_code known line (record { sort = kind; index = i }) e) 0 0
 value_piece known line sort.Word i e fits = subst (λ c. IsPiece c 0 0) (sym (value_is known line (record { sort = sort.Word; index = i }) e sort.Word fits)) (taken_piece known line (term_of e) sort.Word (instr.Store i) fits (piece_one (instr.Store i) 1 0 refl tt))

@@ -1,4 +1,5 @@
 -- Each instruction of a body finds its slots.
+use Rattle.std.specs.Prelude.{zip}
 use Rattle.std.proofs.Common.{◌≡◌, ℕ, ◌+◌, ◌<◌, inl, inr, Bool, true, false, List, [], ◌∷◌, ◌++◌, length, Option, Some, refl, sym, ap, ◌∙◌, subst, map}
 use Rattle.std.specs.List.{list_all, AllZip}
 use Rattle.std.proofs.lemmas.List.Folds.{list_all-append}
@@ -12,7 +13,7 @@ use Rattle.types.specs.SortRules.{variable_sort}
 use Rattle.base.specs.Element.{JChar}
 use Rattle.code.specs.declared.instr.Target.{Target}
 use Rattle.code.specs.declared.instr.Target.TheVariants as destination
-use Rattle.jni.specs.Prototype.{ParameterKind, function_named, prototype}
+use Rattle.jni.specs.Prototype.{ParameterKind, function_named, prototype, IntNumber}
 use Rattle.code.specs.declared.instr.Instr.{Instr}
 use Rattle.code.specs.declared.instr.Instr.TheVariants as instr
 use Rattle.code.specs.declared.slots.SlotCounts.{SlotCounts}
@@ -20,8 +21,8 @@ use Rattle.code.specs.Depth.{operand_within, within_slots, target_within}
 use Rattle.source.specs.Term as term
 use Rattle.source.specs.Term.{Term, Done, Read, IsNull, Prefix, And, Or, Binary, term_of}
 use Rattle.code_generator.specs.Layout.{Slot, Known, Layout, next_index, slots_after, new_slot, closed, layout_after, block_layout}
-use Rattle.code_generator.specs.Coding.{nullable_of, test_of, null_code, element_code, write_code, of_slot, load_code, prefix_code, operator_code, is_signed, skip_code, term_code, expr_code, reference_operand, operand_of, operand_code, named_call_code, value_code, right_code, assign_code, returned_code, return_code, test_code, ways_code, turn_code, if_code, stmt_code, block_code}
-use Rattle.lower.specs.Fits.{IsNullable, TermHasSort, NumberFits, IndexWithin, IsLaidOut, HasRoomFor, ArgumentFits, ValueFits, RightFits, TestFits, ReturnFits, StmtFits, BlockFits, CallFits}
+use Rattle.code_generator.specs.Coding.{nullable_of, test_of, null_code, element_code, write_code, of_slot, load_code, prefix_code, operator_code, is_signed, skip_code, term_code, expr_code, reference_operand, operand_of, operand_code, named_call_code, value_code, right_code, assign_code, returned_code, return_code, test_code, ways_code, turn_code, if_code, stmt_code, block_code, argument_code, arguments_code}
+use Rattle.lower.specs.Fits.{IsNullable, TermHasSort, NumberFits, IndexWithin, IsLaidOut, HasRoomFor, ArgumentFits, ValueFits, RightFits, TestFits, ReturnFits, StmtFits, BlockFits, CallFits, IsReferenceKind, ReferenceFits}
 use Rattle.lower.specs.Slots.{IsNumberSort}
 use Rattle.lower.proofs.Bodies.{value_is}
 use Rattle.lower.proofs.Layouts.{SizeFits, index_more, room_before, room_at_least, declared_slot, laid_after, laid_more, variable_size, block_grows, stmt_grows}
@@ -129,21 +130,44 @@ module _ (slots : SlotCounts) where
   slot_within (Buffer t w) i h = refl
   slot_within (Array t n) i h = refl
 
-  argument_within : (known : Known) (p : ParameterKind) (a : Argument) → AllThere known → ArgumentFits known p a → operand_within slots (operand_code known a) ≡ true
-  argument_within known p (tree.Value (tree.Named tree.Null)) all h = refl
-  argument_within known p (tree.Value (tree.Variable x)) all h = ap (λ (o : Option Slot). operand_within slots (operand_of o)) h.1.1 ∙ slot_within h.1.0.sort h.1.0.index (all x h.1.0 h.1.1)
-  argument_within known p (tree.Value e) all h = absurd h.1
-  argument_within known p a all h = absurd h
+  reference_within : (known : Known) (p : ParameterKind) (e : Expr) → IsReferenceKind p → AllThere known → ReferenceFits known e → operand_within slots (operand_code known (p, tree.Value e)) ≡ true
+  reference_within known IntNumber e kind all h = absurd kind
+  reference_within known p (tree.Named tree.Null) kind all h = refl
+  reference_within known p (tree.Variable x) kind all h = ap (λ (o : Option Slot). operand_within slots (operand_of o)) h.1 ∙ slot_within h.0.sort h.0.index (all x h.0 h.1)
+  reference_within known p e kind all h = absurd h
 
-  arguments_within : (known : Known) (parameters : List ParameterKind) (arguments : List Argument) → AllThere known → AllZip (ArgumentFits known) parameters arguments → list_all (operand_within slots) (map (operand_code known) arguments) ≡ true
-  arguments_within known [] [] all h = refl
-  arguments_within known [] (a ∷ arguments) all h = absurd h
-  arguments_within known (p ∷ parameters) [] all h = absurd h
-  arguments_within known (p ∷ parameters) (a ∷ arguments) all h = rw (argument_within known p a all h.0, arguments_within known parameters arguments all h.1) refl
+  no_code : (known : Known) (line : ℕ) (p : ParameterKind) (e : Expr) → IsReferenceKind p → argument_code known line (p, tree.Value e) ≡ []
+  no_code known line IntNumber e kind = absurd kind
+  no_code known line p e kind = refl
+
+  operand_fits : (known : Known) (p : ParameterKind) (a : Argument) → AllThere known → ArgumentFits known p a → operand_within slots (operand_code known (p, a)) ≡ true
+  operand_fits known p (tree.Value e) all (inl h) = subst (λ (q : ParameterKind). operand_within slots (operand_code known (q, tree.Value e)) ≡ true) (sym h.0) refl
+  operand_fits known p (tree.Value e) all (inr h) = reference_within known p e h.0 all h.1
+  operand_fits known p a all h = absurd h
+
+  argument_within : (known : Known) (line : ℕ) (p : ParameterKind) (a : Argument) → AllThere known → ArgumentFits known p a → AllWithin (argument_code known line (p, a))
+  argument_within known line p (tree.Value e) all (inl h) = subst (λ (q : ParameterKind). AllWithin (argument_code known line (q, tree.Value e))) (sym h.0) (term_within known line (term_of e) Jint all h.1.sort)
+  argument_within known line p (tree.Value e) all (inr h) = subst AllWithin (sym (no_code known line p e h.0)) refl
+  argument_within known line p a all h = absurd h
+
+  operands_fit : (known : Known) (parameters : List ParameterKind) (arguments : List Argument) → AllThere known → AllZip (ArgumentFits known) parameters arguments → list_all (operand_within slots) (map (operand_code known) (zip parameters arguments)) ≡ true
+  operands_fit known [] [] all h = refl
+  operands_fit known [] (a ∷ arguments) all h = absurd h
+  operands_fit known (p ∷ parameters) [] all h = absurd h
+  operands_fit known (p ∷ parameters) (a ∷ arguments) all h = rw (operand_fits known p a all h.0, operands_fit known parameters arguments all h.1) refl
+
+  arguments_within : (known : Known) (line : ℕ) (parameters : List ParameterKind) (arguments : List Argument) → AllThere known → AllZip (ArgumentFits known) parameters arguments → AllWithin (arguments_code known line (zip parameters arguments))
+  arguments_within known line [] [] all h = refl
+  arguments_within known line [] (a ∷ arguments) all h = absurd h
+  arguments_within known line (p ∷ parameters) [] all h = absurd h
+  arguments_within known line (p ∷ parameters) (a ∷ arguments) all h =
+      both_within (argument_code known line (p, a)) (arguments_code known line (zip parameters arguments)) (argument_within known line p a all h.0) (arguments_within known line parameters arguments all h.1)
 
   call_within : (known : Known) (line : ℕ) (target : Target) (c : Call) → target_within slots target ≡ true → AllThere known → CallFits known c → AllWithin (named_call_code known line target (function_named c.function) c.arguments)
   call_within known line target c there all h =
-      subst (λ o. AllWithin (named_call_code known line target o c.arguments)) (sym h.named) (rw (there, arguments_within known (prototype h.function).parameters c.arguments all h.arguments) refl)
+      let parameters = (prototype h.function).parameters in
+      let call : AllWithin (instr.Call (record { line = line; target = target; function = h.function; operands = map (operand_code known) (zip parameters c.arguments) }) ∷ []) = rw (there, operands_fit known parameters c.arguments all h.arguments) refl in
+      subst (λ o. AllWithin (named_call_code known line target o c.arguments)) (sym h.named) (both_within (arguments_code known line (zip parameters c.arguments)) _ (arguments_within known line parameters c.arguments all h.arguments) call)
 
   value_within : (known : Known) (line : ℕ) (kind : Sort) (i : ℕ) (e : Expr) → AllThere known → IndexWithin slots kind i → ValueFits known kind e → AllWithin (value_code known line (record { sort = kind; index = i }) e)
   value_within known line sort.Word i e all there fits = subst AllWithin (sym (value_is known line (record { sort = sort.Word; index = i }) e sort.Word fits)) (taken_within known line (term_of e) sort.Word (instr.Store i) all fits (lt-ltb i slots.numbers there))

@@ -7,9 +7,9 @@ use Rattle.base.specs.Bytes.{Identifier, lookup}
 use Rattle.base.specs.Element.{ElementType}
 use Rattle.jni.specs.JniFunction.{JniFunction}
 use Rattle.jni.specs.BuiltFunctions.{is_built_function}
-use Rattle.jni.specs.Prototype.{prototype}
+use Rattle.jni.specs.Prototype.{ParameterKind, IntNumber, prototype}
 use Rattle.types.specs.Sorts.{Ref, Global}
-use Rattle.source.specs.Arguments.{Actual, ReferenceActual}
+use Rattle.source.specs.Arguments.{Actual, ReferenceActual, NumberActual}
 use Rattle.source.specs.Effect.{Effect, Becomes, Sets, SetsNull, SetsElement, MakesArray, Prints, Calls, Returns, TrapsAt, NoEffect}
 use Rattle.source.specs.Task.{Task, Target, Declared, Assigned, Dropped, ScalarKind}
 use Rattle.source.specs.Value.{Value, Trap, Int, Gives}
@@ -58,6 +58,23 @@ AtEnd P place plain.Next = P (place + 1)
 AtEnd P place (plain.Skip n) = P (place + 1 + n)
 AtEnd P place (plain.Back n) = (n ≤ place) × P (place - n)
 AtEnd P place (plain.Trap t line) = ⊥
+
+-- an operand is a number exactly where the parameter is one
+abbrev pub OperandFits : ParameterKind → Where → Type 0
+OperandFits IntNumber operand.Number = Unit {0}
+OperandFits IntNumber o = ⊥
+OperandFits p operand.Number = ⊥
+OperandFits p o = Unit {0}
+
+-- the word of an argument that is a number
+abbrev pub word_given : Actual → List ℕ
+word_given (NumberActual z) = word_of (Int z) ∷ []
+word_given a = []
+
+-- those of several, the last on top
+abbrev pub words_given : List Actual → List ℕ
+words_given [] = []
+words_given (a ∷ args) = words_given args ++ word_given a
 
 -- The place, with these names known, these operands and these slots, where this can be seen.
 module _ (code : Listing) (known : Known) (place : ℕ) (stack : List ℕ) (slots : Slots) (visible : Visible) where
@@ -109,13 +126,14 @@ module _ (code : Listing) (known : Known) (place : ℕ) (stack : List ℕ) (slot
     pub is : cast_signed w32 word ≡ number
     pub stands : StandsFor code known (place + 1) [] tasks
 
-  -- an argument is NULL, or the reference in the slot, or of the static, of a known name
+  -- an argument is NULL, the reference in the slot, or of the static, of a known name, or a `jint`
   abbrev pub IsOperand : Where → Actual → Type 0
   IsOperand operand.Null actual = (x : Identifier) × (actual ≡ ReferenceActual x Empty)
   IsOperand (operand.Local i) actual =
       (x : Identifier) × (actual ≡ ReferenceActual x (visible.sight.reference x)) × (lookup x known ≡ Some (record { sort = Ref; index = i }))
   IsOperand (operand.Static i) actual =
       (x : Identifier) × (actual ≡ ReferenceActual x (visible.sight.reference x)) × (lookup x known ≡ Some (record { sort = Global; index = i }))
+  IsOperand operand.Number actual = (z : ℤ) × (actual ≡ NumberActual z) × FitsSigned w32 z
 
   -- A `jint` that the call gives goes into a slot: then the slots show the variable with it, and the next place stands for
   -- these tasks.
@@ -143,8 +161,9 @@ module _ (code : Listing) (known : Known) (place : ℕ) (stack : List ℕ) (slot
     pub same_line : call.line ≡ line
     pub same_function : call.function ≡ f
     pub built : is_built_function f ≡ true
-    pub empty : stack ≡ []
+    pub words : stack ≡ words_given args
     pub count : length args ≡ length (prototype f).parameters
+    pub kinds : AllZip OperandFits (prototype f).parameters call.operands
     pub given : AllZip IsOperand call.operands args
     pub goes : TakesResult call.target target tasks
 

@@ -7,7 +7,7 @@ use Rattle.syntax.specs.Tree as tree
 use Rattle.syntax.specs.Tree.{LogicalNot, Complement, ToWord, ToInt, Expr, Argument, Call, RightSide, FromExpr, FromCall, Test, TestExpr, TestCall, Stmt, Block, End, Next, Function}
 use Rattle.jni.specs.JniFunction.{JniFunction}
 use Rattle.jni.specs.BuiltFunctions.{is_built_function}
-use Rattle.jni.specs.Prototype.{ParameterKind, Nullable, NonNull, ClassObject, ObjectArray, StringObject, NumberArray, LocalVariable, StaticVariable, function_named, prototype}
+use Rattle.jni.specs.Prototype.{ParameterKind, Nullable, NonNull, ClassObject, ObjectArray, StringObject, NumberArray, LocalVariable, StaticVariable, IntNumber, function_named, prototype}
 use Rattle.types.specs.Sorts.{Sort, Word, Jint, Flag, Truth, Ref, Global, FieldId, Buffer, Array, OperatorGroup, Logic, Equality, Order, OnWords, group}
 use Rattle.types.specs.SortRules.{variable_sort}
 use Rattle.code.specs.declared.slots.SlotCounts.{SlotCounts}
@@ -153,9 +153,9 @@ IsReferenceKind LocalVariable = Unit {0}
 IsReferenceKind StaticVariable = Unit {0}
 IsReferenceKind p = ⊥
 
--- an argument for a parameter; all are references today
+-- an argument for a parameter: a number or a reference today
 abbrev pub ArgumentFits : Known → ParameterKind → Argument → Type 0
-ArgumentFits known p (tree.Value e) = IsReferenceKind p × ReferenceFits known e
+ArgumentFits known p (tree.Value e) = ((p ≡ IntNumber) × NumberFits known (term_of e) Jint) ⊎ (IsReferenceKind p × ReferenceFits known e)
 ArgumentFits known p a = ⊥
 
 -- a call of a function that is built, with an argument for each parameter

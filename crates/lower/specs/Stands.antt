@@ -1,5 +1,5 @@
 -- Which tasks a place of the code stands for.
-use Rattle.std.specs.Prelude.{◌≡◌, ℕ, ◌+◌, ◌-◌, ◌≤◌, ◌⊎◌, Bool, true, false, ◌&&◌, ◌||◌, List, [], ◌∷◌, ◌++◌, length, slice_get, zip, Option, Some, None, IsTrue}
+use Rattle.std.specs.Prelude.{◌≡◌, ℕ, ◌+◌, ◌-◌, ◌≤◌, ◌⊎◌, Bool, true, false, ◌&&◌, ◌||◌, List, [], ◌∷◌, ◌++◌, length, slice_get, zip, flat_map, Option, Some, None, IsTrue}
 use Rattle.std.specs.List.{list_any, AllZip}
 use Rattle.base.specs.Bytes.{Identifier, lookup}
 use Rattle.base.specs.Element.{ElementType}
@@ -7,9 +7,9 @@ use Rattle.syntax.specs.Tree as tree
 use Rattle.syntax.specs.Tree.{BitOr, Expr, Stmt, Block, End, Next}
 use Rattle.jni.specs.JniFunction.{JniFunction}
 use Rattle.jni.specs.BuiltFunctions.{is_built_function}
-use Rattle.jni.specs.Prototype.{ParameterKind, prototype}
+use Rattle.jni.specs.Prototype.{ParameterKind, IntNumber, prototype}
 use Rattle.types.specs.Sorts.{Sort, Jint, Truth, Ref, Global, Array}
-use Rattle.source.specs.Task.{Task, SetScalar, SetElement, SetNull, MakeArray, Invoke, Print, Branch, EndIf, Loop, EndTurn, Return, ReturnValue, Impossible, Target, Declared, Assigned, Tested, Dropped, ScalarKind, Operand, Given}
+use Rattle.source.specs.Task.{Task, SetScalar, SetElement, SetNull, MakeArray, Invoke, Print, Branch, EndIf, Loop, EndTurn, Return, ReturnValue, Impossible, Target, Declared, Assigned, Tested, Dropped, ScalarKind, Operand, NumberOperand, Given}
 use Rattle.source.specs.Term as term
 use Rattle.source.specs.Term.{Term, Done, Read, And, Or, Prefix, Binary, term_of}
 use Rattle.code.specs.Call.{Call}
@@ -149,6 +149,13 @@ pub record ReferenceStands (p : ParameterKind) (given : Operand) (e : Expr) : Ty
   pub kind : IsReferenceKind p
   pub is : given ≡ Given (tree.Value e)
 
+-- an argument that is a number, on the way to its value or with it
+pub record NumberIsUnderWay (known : Known) (p : ParameterKind) (given : Operand) : Type 0 where
+  pub kind : p ≡ IntNumber
+  pub term : Term
+  pub is : given ≡ NumberOperand term
+  pub sort : TermHasSort known term Jint
+
 -- where the instruction finds an argument, for a parameter of this kind
 abbrev pub OperandStands : Known → Where → ParameterKind × Operand → Type 0
 OperandStands known operand.Null (p, given) = ReferenceStands p given (tree.Named tree.Null)
@@ -156,6 +163,39 @@ OperandStands known (operand.Local i) (p, given) =
     (x : Identifier) × ReferenceStands p given (tree.Variable x) × (lookup x known ≡ Some (record { sort = Ref; index = i }))
 OperandStands known (operand.Static i) (p, given) =
     (x : Identifier) × ReferenceStands p given (tree.Variable x) × (lookup x known ≡ Some (record { sort = Global; index = i }))
+OperandStands known operand.Number (p, given) = NumberIsUnderWay known p given
+
+-- the instructions of an argument that is still to be worked out
+abbrev pub operand_rest : Known → (line : ℕ) → Operand → List Instr
+operand_rest known line (NumberOperand t) = term_code known line t
+operand_rest known line (Given a) = []
+
+-- those of several
+abbrev pub operands_rest : Known → (line : ℕ) → List Operand → List Instr
+operands_rest known line operands = flat_map (operand_rest known line) operands
+
+-- the words of an argument on the stack
+abbrev pub operand_held : Operand → List ℕ
+operand_held (NumberOperand t) = held t
+operand_held (Given a) = []
+
+-- those of several, the last on top
+abbrev pub operands_held : List Operand → List ℕ
+operands_held [] = []
+operands_held (o ∷ operands) = operands_held operands ++ operand_held o
+
+-- no number of these has its value yet
+abbrev pub AreUntouched : List Operand → Type 0
+AreUntouched [] = Unit {0}
+AreUntouched (NumberOperand t ∷ operands) = IsUntouched t × AreUntouched operands
+AreUntouched (Given a ∷ operands) = AreUntouched operands
+
+-- the numbers with their values are the first
+abbrev pub AreBegun : List Operand → Type 0
+AreBegun [] = Unit {0}
+AreBegun (NumberOperand (Done v) ∷ operands) = AreBegun operands
+AreBegun (NumberOperand t ∷ operands) = IsBegun t × AreUntouched operands
+AreBegun (Given a ∷ operands) = AreBegun operands
 
 -- a variable takes a call's result, and then this comes
 pub record ResultStands (code : Listing) (known : Known) (after : After) (place i : ℕ) (x : Identifier) : Type 0 where
@@ -169,17 +209,18 @@ TargetStands code known after place (destination.Number i) (Assigned x) = Result
 TargetStands code known after place destination.Dropped Dropped = after place known
 TargetStands code known after place goes target = ⊥
 
--- a call's instruction stands at the place, and then what comes
+-- what is left to be worked out for a call is at the place, and then its instruction, and then what comes
 pub record InvokeStands (code : Listing) (known : Known) (place : ℕ) (stack : List ℕ) (after : After) (line : ℕ) (target : Target) (f : JniFunction) (operands : List Operand) : Type 0 where
   pub call : Call
-  pub at : slice_get code.instrs place ≡ Some (instr.Call call)
+  pub at : HasAt code.instrs place (operands_rest known line operands ++ instr.Call call ∷ [])
   pub same_line : call.line ≡ line
   pub same_function : call.function ≡ f
   pub built : is_built_function f ≡ true
-  pub empty : stack ≡ []
+  pub begun : AreBegun operands
+  pub held : stack ≡ operands_held operands
   pub count : length operands ≡ length (prototype f).parameters
   pub operands_stand : AllZip (OperandStands known) call.operands (zip (prototype f).parameters operands)
-  pub goes : TargetStands code known after (place + 1) call.target target
+  pub goes : TargetStands code known after (place + length (operands_rest known line operands) + 1) call.target target
 
 -- ---- blocks
 

@@ -1,5 +1,5 @@
 -- The slots of a call, argument by argument.
-use Rattle.std.proofs.Common.{◌≡◌, ℕ, ℤ, pos, negsuc, zero, suc, ◌+◌, ◌<◌, ◌≤◌, Bool, true, false, List, [], ◌∷◌, ◌++◌, length, map, take, get_or, Option, Some, None, refl, ap, ◌∙◌, subst, arith, to_z}
+use Rattle.std.proofs.Common.{◌≡◌, ℕ, ℤ, pos, negsuc, zero, suc, ◌+◌, ◌<◌, ◌≤◌, Bool, true, List, [], ◌∷◌, ◌++◌, length, map, take, get_or, Option, Some, None, refl, ap, ◌∙◌, arith, to_z}
 use Rattle.std.specs.Prelude.{filter_map, slice_get, nat_lt, nat_le, ◌&&◌}
 use Rattle.std.specs.List.{list_all, cons_option}
 use Rattle.std.specs.Int.{w32, cast_unsigned}
@@ -7,10 +7,14 @@ use Rattle.std.proofs.Math.Facts.{to_z-of_z}
 use Rattle.base.specs.Element.{JInt}
 use Rattle.world.specs.WorldRules.{is_in_range}
 use Rattle.std.proofs.lemmas.Bool.Decides.{nat_tests}
-use Rattle.world.specs.declared.argument.Argument.{Argument}
+use Rattle.world.specs.declared.object.ObjectValue.{ObjectValue as Argument}
 use Rattle.source.specs.Object.{ObjectValue, Number, Refers}
-use Rattle.world.specs.Views.{argument_view}
+use Rattle.world.specs.Views.{object_value_view}
 use Rattle.lower.specs.Slots.{argument_reference}
+use Rattle.std.specs.Option.{option_map}
+use Rattle.std.proofs.lemmas.Option.{slice_get-map}
+use Rattle.texts.proofs.WordLaws.{both_true}
+use Rattle.world.proofs.LoadedWorlds.{passes_at}
 use Rattle.machine.specs.Entry.{argument_address}
 
 -- ---- one argument more
@@ -26,36 +30,26 @@ consed None xs ys = refl
 consed (Some y) xs ys = refl
 
 more : {Y : Type 0} (h : ObjectValue → Option Y) (xs : List Argument) (i : ℕ) (x : Argument) → slice_get xs i ≡ Some x
-    → filter_map h (map argument_view (take (suc i) xs)) ≡ filter_map h (map argument_view (take i xs)) ++ filter_map h (argument_view x ∷ [])
+    → filter_map h (map object_value_view (take (suc i) xs)) ≡ filter_map h (map object_value_view (take i xs)) ++ filter_map h (object_value_view x ∷ [])
 more h [] i x e = absurd (cc)
-more h (a ∷ xs) zero x e = let same : a ≡ x = cc in ap (λ (y : Argument). filter_map h (argument_view y ∷ [])) same
-more h (a ∷ xs) (suc i) x e = ap (cons_option (h (argument_view a))) (more h xs i x e) ∙ consed (h (argument_view a)) (filter_map h (map argument_view (take i xs))) (filter_map h (argument_view x ∷ []))
+more h (a ∷ xs) zero x e = let same : a ≡ x = cc in ap (λ (y : Argument). filter_map h (object_value_view y ∷ [])) same
+more h (a ∷ xs) (suc i) x e = ap (cons_option (h (object_value_view a))) (more h xs i x e) ∙ consed (h (object_value_view a)) (filter_map h (map object_value_view (take i xs))) (filter_map h (object_value_view x ∷ []))
 
 pub given_more : {Y : Type 0} (h : ObjectValue → Option Y) (xs : List Argument) (i : ℕ) (x : Argument) → slice_get xs i ≡ Some x
-    → filter_map h (map argument_view (take (i + 1) xs)) ≡ filter_map h (map argument_view (take i xs)) ++ filter_map h (argument_view x ∷ [])
+    → filter_map h (map object_value_view (take (i + 1) xs)) ≡ filter_map h (map object_value_view (take i xs)) ++ filter_map h (object_value_view x ∷ [])
 given_more h xs i x e =
     let next : i + 1 ≡ suc i = omega arith in
-    ap (λ (n : ℕ). filter_map h (map argument_view (take n xs))) next ∙ more h xs i x e
+    ap (λ (n : ℕ). filter_map h (map object_value_view (take n xs))) next ∙ more h xs i x e
 
 -- ---- each argument
 
-first : (a b : Bool) → (a && b) ≡ true → a ≡ true
-first true b h = refl
-first false b h = h
-
-second : (a b : Bool) → (a && b) ≡ true → b ≡ true
-second true b h = h
-second false b h = absurd (cc)
-
 -- what holds of each argument holds of the one at a place
-pub given_at : (test : ObjectValue → Bool) (xs : List Argument) (i : ℕ) (x : Argument) → list_all test (map argument_view xs) ≡ true → slice_get xs i ≡ Some x → test (argument_view x) ≡ true
-given_at test [] i x h e = absurd (cc)
-given_at test (a ∷ xs) zero x h e = let same : a ≡ x = cc in subst (λ (y : Argument). test (argument_view y) ≡ true) same (first (test (argument_view a)) (list_all test (map argument_view xs)) h)
-given_at test (a ∷ xs) (suc i) x h e = given_at test xs i x (second (test (argument_view a)) (list_all test (map argument_view xs)) h) e
+pub given_at : (test : ObjectValue → Bool) (xs : List Argument) (i : ℕ) (x : Argument) → list_all test (map object_value_view xs) ≡ true → slice_get xs i ≡ Some x → test (object_value_view x) ≡ true
+given_at test xs i x h e = passes_at test (map object_value_view xs) i (object_value_view x) h (slice_get-map object_value_view xs i ∙ ap (option_map object_value_view) e)
 
 -- names are counted from 1
 pub counted_from_1 : (made n : ℕ) → (nat_lt 0 n && nat_le n made) ≡ true → 0 < n
-counted_from_1 made n h = grind (arith, nat_tests, first (nat_lt 0 n) (nat_le n made) h)
+counted_from_1 made n h = grind (arith, nat_tests, (both_true (nat_lt 0 n) (nat_le n made) h).0)
 
 -- the word of a number in range
 pub passed_word : (z : ℤ) → is_in_range JInt z ≡ true → cast_unsigned w32 (to_z w32 (cast_unsigned w32 z)) ≡ cast_unsigned w32 z

@@ -1,5 +1,5 @@
 -- The row of a block is that of its object.
-use Rattle.std.proofs.Common.{◌≡◌, ℕ, ℤ, zero, suc, ◌+◌, Bool, true, false, cond, eqb, List, [], ◌∷◌, ◌++◌, length, map, Option, Some, None, refl, sym, ap, ◌∙◌, subst, arith, IsSome}
+use Rattle.std.proofs.Common.{◌≡◌, ℕ, ℤ, zero, suc, ◌+◌, Bool, true, false, cond, eqb, List, [], ◌∷◌, length, map, Option, Some, None, refl, sym, ap, ◌∙◌, subst, arith, IsSome}
 use Rattle.std.specs.Prelude.{slice_get, find}
 use Rattle.std.specs.Option.{option_map, option_map_or}
 use Rattle.std.specs.Int.{w32, cast_signed}
@@ -14,11 +14,9 @@ use Rattle.source.specs.World.{World, loaded_objects}
 use Rattle.source.specs.Heap.{Heap, object_at}
 use Rattle.source.specs.ReportOf.{shown_value}
 use Rattle.machine.specs.HeapAgrees.{ValueAgrees, ValuesAgree, BlockAgrees, BlocksAgree, HeapAgrees}
-use Rattle.source.specs.World.{made_before}
+use Rattle.world.proofs.LoadedWorlds.{loaded_object}
 use Rattle.machine.specs.Rows.{block_row, shown_cell, shown_cells, IsThere, AreThere}
 use Rattle.source.specs.ReportOf.{object_row}
-use Rattle.source.proofs.ShownRows.{loaded_is}
-use Rattle.source.proofs.ShownRows.{length-before}
 
 -- the block of a name
 pub record Named (s : Space) (heap : Heap) (a n : ℕ) : Type 0 where
@@ -108,13 +106,8 @@ row_is s heap classes a n o h there =
 
 -- ---- the world's objects
 
-get_after : (first rest : Heap) (j : ℕ) → slice_get (first ++ rest) (length first + j) ≡ slice_get rest j
-get_after [] rest j = let e : 0 + j ≡ j = omega arith in ap (slice_get rest) e
-get_after (x ∷ first) rest j = let e : suc (length first) + j ≡ suc (length first + j) = omega arith in ap (slice_get ((x ∷ first) ++ rest)) e ∙ get_after first rest j
-
 -- by its name
 pub object_there : (w : World) (place j : ℕ) (o : Object) → place ≡ length w.classes + 1 + j → slice_get w.objects j ≡ Some o → object_at (loaded_objects w) (place + 1) ≡ Some o
 object_there w place j o is at =
-    let before = length-before w.classes in
-    let e : place + 1 ≡ suc (length (made_before w.classes) + j) = omega arith in
-    ap (object_at (loaded_objects w)) e ∙ ap (λ (h : Heap). slice_get h (length (made_before w.classes) + j)) (loaded_is w) ∙ get_after (made_before w.classes) w.objects j ∙ at
+    let e : place + 1 ≡ suc place = omega arith in
+    ap (object_at (loaded_objects w)) e ∙ loaded_object w place j is ∙ at

@@ -1,14 +1,16 @@
 -- What a call of GetArrayLength does, by its argument.
+use Rattle.code.specs.declared.instr.Operand.TheVariants.{Null, Local, Static, Number}
+use Rattle.lower.specs.Does.{OperandFits}
 use Rattle.machine.specs.declared.stop.Trap.{Trap as TrapInMemory}
 use Rattle.std.proofs.Common as lists
-use Rattle.jni.specs.Prototype.{prototype}
+use Rattle.jni.specs.Prototype.{prototype, NonNull}
 use Rattle.code.specs.declared.instr.Operand.{Operand}
 use Rattle.code.specs.Call.{Call}
 use Rattle.machine.proofs.ObjectsAtAddresses.{is_object}
 use Rattle.machine.specs.Stops.{trap_view}
 use Rattle.machine.specs.HeapAgrees.{ReferenceAgrees, BlocksAgree}
 use Rattle.machine.specs.ArrayLengths.{first_operand, LengthIs}
-use Rattle.machine.specs.Invoked.{operand_at, IsGiven, IsAnswer, Answers}
+use Rattle.machine.specs.Invoked.{operand_at, IsGiven, IsAnswer, Answers, ReferenceIsGiven}
 use Rattle.std.specs.List.{AllZip}
 use Rattle.std.specs.Int.{w32}
 use Rattle.std.specs.Prelude.{Ok, Err, FitsSigned}
@@ -92,22 +94,28 @@ module _ (classes : Classes) (s : Shared) (t : Thread) (target : Target) (x : Id
 
 -- by the one argument
 module _ (classes : Classes) (space : Space) (references : List (Option ℕ)) (answer : Result ℕ TrapInMemory) (lent : BuffersInUse) (k line : ℕ) (s : Shared) (t : Thread) (target : Target) (rest : List Task) (none : t.pending ≡ None) (blocks : BlocksAgree space s.heap space.blocks) where
-  by_argument : (operands : List Operand) (args : List Actual) → LengthIs classes space (operand_at references (first_operand operands)) answer → lists.length args ≡ 1 → AllZip (IsGiven space references) operands args
-      → IsAnswer s t (effect_of_call classes lent k s t line target GetArrayLength args rest) answer
-  by_argument operands [] is count given = absurd (omega (arith, count))
-  by_argument operands (a ∷ b ∷ args) is count given = absurd (omega (arith, count))
-  by_argument [] (a ∷ []) is count given = absurd given
-  by_argument (o ∷ operands) (a ∷ []) is count given =
-      subst (λ (c : Actual). IsAnswer s t (effect_of_call classes lent k s t line target GetArrayLength (c ∷ []) rest) answer) (sym given.0.is)
-      (answers_reference classes s t target given.0.name none lent k line rest space (operand_at references o) given.0.reference answer blocks given.0.agrees is)
+  by_reference : (o : Operand) (a : Actual) → LengthIs classes space (operand_at references o) answer → ReferenceIsGiven space references o a → IsAnswer s t (effect_of_call classes lent k s t line target GetArrayLength (a ∷ []) rest) answer
+  by_reference o a is given =
+      subst (λ (c : Actual). IsAnswer s t (effect_of_call classes lent k s t line target GetArrayLength (c ∷ []) rest) answer) (sym given.is)
+      (answers_reference classes s t target given.name none lent k line rest space (operand_at references o) given.reference answer blocks given.agrees is)
 
-  pub length_answers : (f : JniFunction) (operands : List Operand) (args : List Actual) → f ≡ GetArrayLength → LengthIs classes space (operand_at references (first_operand operands)) answer → lists.length args ≡ lists.length (prototype f).parameters → AllZip (IsGiven space references) operands args
+  by_argument : (operands : List Operand) (args : List Actual) → LengthIs classes space (operand_at references (first_operand operands)) answer → lists.length args ≡ 1 → AllZip OperandFits (NonNull ∷ []) operands → AllZip (IsGiven space references) operands args
+      → IsAnswer s t (effect_of_call classes lent k s t line target GetArrayLength args rest) answer
+  by_argument operands [] is count kinds given = absurd (omega (arith, count))
+  by_argument operands (a ∷ b ∷ args) is count kinds given = absurd (omega (arith, count))
+  by_argument [] (a ∷ []) is count kinds given = absurd given
+  by_argument (Number ∷ operands) (a ∷ []) is count kinds given = absurd kinds.0
+  by_argument (Null ∷ operands) (a ∷ []) is count kinds given = by_reference Null a is given.0
+  by_argument (Local i ∷ operands) (a ∷ []) is count kinds given = by_reference (Local i) a is given.0
+  by_argument (Static i ∷ operands) (a ∷ []) is count kinds given = by_reference (Static i) a is given.0
+
+  pub length_answers : (f : JniFunction) (operands : List Operand) (args : List Actual) → f ≡ GetArrayLength → LengthIs classes space (operand_at references (first_operand operands)) answer → lists.length args ≡ lists.length (prototype f).parameters → AllZip OperandFits (prototype f).parameters operands → AllZip (IsGiven space references) operands args
       → IsAnswer s t (effect_of_call classes lent k s t line target f args rest) answer
-  length_answers f operands args same is count given =
-      subst (λ (g : JniFunction). IsAnswer s t (effect_of_call classes lent k s t line target g args rest) answer) (sym same) (by_argument operands args is (count ∙ ap (λ (g : JniFunction). lists.length (prototype g).parameters) same) given)
+  length_answers f operands args same is count kinds given =
+      subst (λ (g : JniFunction). IsAnswer s t (effect_of_call classes lent k s t line target g args rest) answer) (sym same) (by_argument operands args is (count ∙ ap (λ (g : JniFunction). lists.length (prototype g).parameters) same) (subst (λ (g : JniFunction). AllZip OperandFits (prototype g).parameters operands) same kinds) given)
 
 -- what is answered is the effect of the source's call
-pub array_length_answers : (classes : Classes) (space : Space) (references : List (Option ℕ)) (function : Call) (answer : Result ℕ TrapInMemory) → function.function ≡ GetArrayLength
-    → LengthIs classes space (operand_at references (first_operand function.operands)) answer → Answers classes space references function answer
-array_length_answers classes space references function answer same is lent k line s t target args rest none blocks count given =
-    length_answers classes space references answer lent k line s t target rest none blocks function.function function.operands args same is count given
+pub array_length_answers : (classes : Classes) (space : Space) (references : List (Option ℕ)) (stack : List ℕ) (function : Call) (answer : Result ℕ TrapInMemory) → function.function ≡ GetArrayLength
+    → LengthIs classes space (operand_at references (first_operand function.operands)) answer → Answers classes space references stack function answer
+array_length_answers classes space references stack function answer same is lent k line s t target args rest none blocks count kinds words given =
+    length_answers classes space references answer lent k line s t target rest none blocks function.function function.operands args same is count kinds given

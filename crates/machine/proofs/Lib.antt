@@ -1,3 +1,4 @@
+pub mod Lists
 pub mod ArgumentSlots
 pub mod Calls
 pub mod Threads
@@ -9,9 +10,9 @@ pub mod Runs
 pub mod Standings
 pub mod Reports
 pub mod HeapLaws
-pub mod LoadedObjects
 pub mod Loaded
-pub mod Arrays
+pub mod FilledBlocks
+pub mod MadeInOrder
 pub mod LengthCalls
 pub mod Changes
 pub mod Elements

@@ -1,5 +1,5 @@
 -- Calls that load, and calls that don't.
-use Rattle.std.proofs.Common.{◌≡◌, ℕ, ℤ, zero, suc, pos, negsuc, ◌+◌, ◌<◌, ◌≤◌, Bool, true, false, List, [], ◌∷◌, ◌++◌, length, drop, map, Option, Some, None, refl, sym, ap, ◌∙◌, subst, arith, append_assoc, append-nil}
+use Rattle.std.proofs.Common.{◌≡◌, ℕ, ℤ, pos, negsuc, ◌+◌, ◌<◌, ◌≤◌, Bool, true, false, List, [], ◌∷◌, ◌++◌, length, drop, map, Option, Some, None, refl, sym, ap, ◌∙◌, subst, arith, append_assoc, append-nil}
 use Rattle.std.specs.Prelude.{slice_get, is_some, ◌&&◌, FitsSigned}
 use Rattle.std.specs.Int.{w32}
 use Rattle.std.specs.List.{list_all}
@@ -17,22 +17,24 @@ use Rattle.classes.specs.Class.{Classes, class_named}
 use Rattle.classes.specs.Mangling.{native_class}
 use Rattle.world.specs.CallArguments.{is_argument, are_arguments}
 use Rattle.source.specs.Object.{ObjectValue, Number, Refers}
-use Rattle.world.specs.Scene.{CallScene, has_call}
-use Rattle.world.specs.SceneWorld.{invocation_of}
-use Rattle.world.specs.Views.{argument_view}
+use Rattle.source.specs.World.{Invocation}
+use Rattle.world.specs.SoundWorlds.{has_call}
+use Rattle.world.specs.Views.{object_value_view}
 use Rattle.world.specs.WorldRules.{is_in_range}
-use Rattle.world.proofs.GivenLemmas.{class_within}
+use Rattle.world.proofs.LoadedWorlds.{class_within}
 use Rattle.source.specs.Activation.{class_of_function}
 use Rattle.source.specs.Load.{call_loads, is_callable, fits_parameter, fit_parameters}
 use Rattle.lower.specs.Lowered.{Lowered}
 use Rattle.lower.specs.Slots.{ArgumentFits, ArgumentsFit}
 use Rattle.machine.specs.declared.thread.PendingCall.{PendingCall}
 use Rattle.machine.specs.Agrees.{CallAgrees, CallsAgree}
+use Rattle.machine.proofs.Lists.{drop_next}
+use Rattle.texts.proofs.WordLaws.{both_true}
 use Rattle.machine.specs.Loading.{IsNumberOf, IsCallOf, refused_calls}
 
 -- ---- arguments
 
-in_range : (z : ℤ) → is_in_range JInt z ≡ true → FitsSigned w32 z
+pub in_range : (z : ℤ) → is_in_range JInt z ≡ true → FitsSigned w32 z
 in_range (pos n) h = let low : n < 2147483648 = grind (arith, nat_tests, h) in record { sfits = low }
 in_range (negsuc n) h = let low : n < 2147483648 = grind (arith, nat_tests, h) in record { sfits = low }
 
@@ -42,18 +44,13 @@ argument_fits made IntParameter (Refers r) h k = absurd (cc)
 argument_fits made (ReferenceParameter type) (Number z) h k = absurd (cc)
 argument_fits made (ReferenceParameter type) (Refers r) h k = tt
 
-both : (a b : Bool) → (a && b) ≡ true → (a ≡ true) × (b ≡ true)
-both true true h = (refl, refl)
-both true false h = absurd (cc)
-both false b h = absurd (cc)
-
 arguments_fit : (made : ℕ) (ps : List Parameter) (vs : List ObjectValue) → fit_parameters ps vs ≡ true → list_all (is_argument made) vs ≡ true → ArgumentsFit ps vs
 arguments_fit made [] [] h k = tt
 arguments_fit made [] (v ∷ vs) h k = absurd (cc)
 arguments_fit made (p ∷ ps) [] h k = absurd (cc)
 arguments_fit made (p ∷ ps) (v ∷ vs) h k =
-    let a = both (fits_parameter p.type v) (fit_parameters ps vs) h in
-    let b = both (is_argument made v) (list_all (is_argument made) vs) k in
+    let a = both_true (fits_parameter p.type v) (fit_parameters ps vs) h in
+    let b = both_true (is_argument made v) (list_all (is_argument made) vs) k in
     (argument_fits made p.type v a.0 b.0, arguments_fit made ps vs a.1 b.1)
 
 -- ---- calls
@@ -63,8 +60,8 @@ class_made classes made None c few h = absurd (cc)
 class_made classes made (Some name) c few h = let w = class_within classes name c h in (w.0, omega (arith, w.1))
 
 -- a call whose function and class are there, and whose arguments fit
-pub call_found : (p : Lowered) (classes : Classes) (made : ℕ) (call : CallScene) (f : FunctionInMemory) (next : PendingCall) → IsNumberOf p call.function next.function f → length classes ≤ made → option_and_then (class_named classes) (native_class call.function) ≡ Some next.class
-    → map argument_view next.arguments.items ≡ call.arguments → are_arguments made call ≡ true → fit_parameters (function_tree f).parameters call.arguments ≡ true → IsCallOf p classes made (invocation_of call) (Some next)
+pub call_found : (p : Lowered) (classes : Classes) (made : ℕ) (call : Invocation) (f : FunctionInMemory) (next : PendingCall) → IsNumberOf p call.function next.function f → length classes ≤ made → option_and_then (class_named classes) (native_class call.function) ≡ Some next.class
+    → map object_value_view next.arguments.items ≡ call.arguments → are_arguments made call ≡ true → fit_parameters (function_tree f).parameters call.arguments ≡ true → IsCallOf p classes made call (Some next)
 call_found p classes made call f next n few known arguments given fits =
     let function : Function = function_tree f in
     let class : class_of_function classes function ≡ Some next.class = ap (λ name. option_and_then (class_named classes) (native_class name)) n.has_name ∙ known in (
@@ -82,14 +79,14 @@ call_found p classes made call f next n few known arguments given fits =
     )
 
 -- a call whose class isn't there
-pub no_class : (p : Lowered) (classes : Classes) (call : CallScene) (number : ℕ) (f : FunctionInMemory) → IsNumberOf p call.function number f → option_and_then (class_named classes) (native_class call.function) ≡ None → call_loads (unit_tree p.unit) classes (invocation_of call) ≡ false
+pub no_class : (p : Lowered) (classes : Classes) (call : Invocation) (number : ℕ) (f : FunctionInMemory) → IsNumberOf p call.function number f → option_and_then (class_named classes) (native_class call.function) ≡ None → call_loads (unit_tree p.unit) classes call ≡ false
 no_class p classes call number f n none =
     let function : Function = function_tree f in
     let class : class_of_function classes function ≡ None = ap (λ name. option_and_then (class_named classes) (native_class name)) n.has_name ∙ none in
     ap (some_passes (is_callable classes call.arguments)) n.named ∙ ap (λ (o : Option ℕ). is_some o && fit_parameters function.parameters call.arguments) class
 
 -- a call whose arguments don't fit
-pub no_fit : (p : Lowered) (classes : Classes) (call : CallScene) (number : ℕ) (f : FunctionInMemory) → IsNumberOf p call.function number f → fit_parameters (function_tree f).parameters call.arguments ≡ false → call_loads (unit_tree p.unit) classes (invocation_of call) ≡ false
+pub no_fit : (p : Lowered) (classes : Classes) (call : Invocation) (number : ℕ) (f : FunctionInMemory) → IsNumberOf p call.function number f → fit_parameters (function_tree f).parameters call.arguments ≡ false → call_loads (unit_tree p.unit) classes call ≡ false
 no_fit p classes call number f n none =
     let function : Function = function_tree f in
     ap (some_passes (is_callable classes call.arguments)) n.named ∙ ap (λ (b : Bool). is_some (class_of_function classes function) && b) none ∙ and_none (is_some (class_of_function classes function))
@@ -98,48 +95,36 @@ no_fit p classes call number f n none =
     and_none true = refl
     and_none false = refl
 
--- the calls from a place on
-calls_drop : (calls : List CallScene) (i : ℕ) (x : CallScene) → slice_get calls i ≡ Some x → drop i calls ≡ x ∷ drop (i + 1) calls
-calls_drop [] i x h = absurd (cc)
-calls_drop (y ∷ calls) zero x h = let same : y ≡ x = cc in ap (λ (z : CallScene). z ∷ calls) same
-calls_drop (y ∷ calls) (suc i) x h = let e : suc i + 1 ≡ suc (i + 1) = omega arith in rw e (calls_drop calls i x h)
-
 module _ (unit : SourceUnit) (classes : Classes) where
-  next_loads : (x : CallScene) (rest : List CallScene) → call_loads unit classes (invocation_of x) ≡ true → refused_calls unit classes (map invocation_of (x ∷ rest)) ≡ refused_calls unit classes (map invocation_of rest)
+  next_loads : (x : Invocation) (rest : List Invocation) → call_loads unit classes x ≡ true → refused_calls unit classes (x ∷ rest) ≡ refused_calls unit classes rest
   next_loads x rest h = rw h refl
 
-  next_refused : (x : CallScene) (rest : List CallScene) → call_loads unit classes (invocation_of x) ≡ false → refused_calls unit classes (map invocation_of (x ∷ rest)) ≡ invocation_of x ∷ refused_calls unit classes (map invocation_of rest)
+  next_refused : (x : Invocation) (rest : List Invocation) → call_loads unit classes x ≡ false → refused_calls unit classes (x ∷ rest) ≡ x ∷ refused_calls unit classes rest
   next_refused x rest h = rw h refl
 
-  pub loads_at : (calls : List CallScene) (i : ℕ) (x : CallScene) → slice_get calls i ≡ Some x → call_loads unit classes (invocation_of x) ≡ true → refused_calls unit classes (map invocation_of (drop i calls)) ≡ refused_calls unit classes (map invocation_of (drop (i + 1) calls))
-  loads_at calls i x h l = ap (λ (cs : List CallScene). refused_calls unit classes (map invocation_of cs)) (calls_drop calls i x h) ∙ next_loads x (drop (i + 1) calls) l
+  pub loads_at : (calls : List Invocation) (i : ℕ) (x : Invocation) → slice_get calls i ≡ Some x → call_loads unit classes x ≡ true → refused_calls unit classes (drop i calls) ≡ refused_calls unit classes (drop (i + 1) calls)
+  loads_at calls i x h l = ap (refused_calls unit classes) (drop_next calls i x h) ∙ next_loads x (drop (i + 1) calls) l
 
-  pub refused_at : (calls : List CallScene) (i : ℕ) (x : CallScene) → slice_get calls i ≡ Some x → call_loads unit classes (invocation_of x) ≡ false → refused_calls unit classes (map invocation_of (drop i calls)) ≡ invocation_of x ∷ refused_calls unit classes (map invocation_of (drop (i + 1) calls))
-  refused_at calls i x h l = ap (λ (cs : List CallScene). refused_calls unit classes (map invocation_of cs)) (calls_drop calls i x h) ∙ next_refused x (drop (i + 1) calls) l
+  pub refused_at : (calls : List Invocation) (i : ℕ) (x : Invocation) → slice_get calls i ≡ Some x → call_loads unit classes x ≡ false → refused_calls unit classes (drop i calls) ≡ x ∷ refused_calls unit classes (drop (i + 1) calls)
+  refused_at calls i x h l = ap (refused_calls unit classes) (drop_next calls i x h) ∙ next_refused x (drop (i + 1) calls) l
 
 -- the calls so far agree, and so do those that are still to come
-abbrev pub AgreeSoFar : Lowered → Classes → (made : ℕ) → List CallScene → (i : ℕ) → List PendingCall → Type 0
-AgreeSoFar p classes made calls i nexts = (rest : List PendingCall) → CallsAgree p classes made rest (map invocation_of (drop i calls)) → CallsAgree p classes made (nexts ++ rest) (map invocation_of calls)
+abbrev pub AgreeSoFar : Lowered → Classes → (made : ℕ) → List Invocation → (i : ℕ) → List PendingCall → Type 0
+AgreeSoFar p classes made calls i nexts = (rest : List PendingCall) → CallsAgree p classes made rest (drop i calls) → CallsAgree p classes made (nexts ++ rest) calls
 
-pub one_more : (p : Lowered) (classes : Classes) (made : ℕ) (calls : List CallScene) (i : ℕ) (x : CallScene) (n : PendingCall) (nexts : List PendingCall) → slice_get calls i ≡ Some x → CallAgrees p classes made n (invocation_of x) → AgreeSoFar p classes made calls i nexts → AgreeSoFar p classes made calls (i + 1) (nexts ++ n ∷ [])
+pub one_more : (p : Lowered) (classes : Classes) (made : ℕ) (calls : List Invocation) (i : ℕ) (x : Invocation) (n : PendingCall) (nexts : List PendingCall) → slice_get calls i ≡ Some x → CallAgrees p classes made n x → AgreeSoFar p classes made calls i nexts → AgreeSoFar p classes made calls (i + 1) (nexts ++ n ∷ [])
 one_more p classes made calls i x n nexts at a so_far rest h =
-    subst (λ (l : List PendingCall). CallsAgree p classes made l (map invocation_of calls)) (sym (append_assoc nexts (n ∷ []) rest))
-    (so_far (n ∷ rest) (subst (λ (cs : List CallScene). CallsAgree p classes made (n ∷ rest) (map invocation_of cs)) (sym (calls_drop calls i x at)) (a, h)))
+    subst (λ (l : List PendingCall). CallsAgree p classes made l calls) (sym (append_assoc nexts (n ∷ []) rest))
+    (so_far (n ∷ rest) (subst (λ (cs : List Invocation). CallsAgree p classes made (n ∷ rest) cs) (sym (drop_next calls i x at)) (a, h)))
 
-pub all_agree : (p : Lowered) (classes : Classes) (made : ℕ) (calls : List CallScene) (i : ℕ) (nexts : List PendingCall) → length calls ≤ i → AgreeSoFar p classes made calls i nexts → CallsAgree p classes made nexts (map invocation_of calls)
+pub all_agree : (p : Lowered) (classes : Classes) (made : ℕ) (calls : List Invocation) (i : ℕ) (nexts : List PendingCall) → length calls ≤ i → AgreeSoFar p classes made calls i nexts → CallsAgree p classes made nexts calls
 all_agree p classes made calls i nexts past so_far =
-    let none : CallsAgree p classes made [] (map invocation_of (drop i calls)) = rw (drop_of_length-le calls past) tt in
-    subst (λ (n : List PendingCall). CallsAgree p classes made n (map invocation_of calls)) (append-nil nexts) (so_far [] none)
+    let none : CallsAgree p classes made [] (drop i calls) = rw (drop_of_length-le calls past) tt in
+    subst (λ (n : List PendingCall). CallsAgree p classes made n calls) (append-nil nexts) (so_far [] none)
 
--- each call of several
-pub given_at : (made : ℕ) (calls : List CallScene) (i : ℕ) (x : CallScene) → list_all (are_arguments made) calls ≡ true → slice_get calls i ≡ Some x → are_arguments made x ≡ true
-given_at made [] i x h e = absurd (cc)
-given_at made (c ∷ calls) zero x h e = let same : c ≡ x = cc in ap (are_arguments made) (sym same) ∙ (both (are_arguments made c) (list_all (are_arguments made) calls) h).0
-given_at made (c ∷ calls) (suc i) x h e = given_at made calls i x ((both (are_arguments made c) (list_all (are_arguments made) calls) h).1) e
+pub none_refused : (unit : SourceUnit) (classes : Classes) (calls : List Invocation) (i : ℕ) → length calls ≤ i → refused_calls unit classes (drop i calls) ≡ []
+none_refused unit classes calls i past = ap (refused_calls unit classes) (drop_of_length-le calls past)
 
-pub none_refused : (unit : SourceUnit) (classes : Classes) (calls : List CallScene) (i : ℕ) → length calls ≤ i → refused_calls unit classes (map invocation_of (drop i calls)) ≡ []
-none_refused unit classes calls i past = ap (λ (cs : List CallScene). refused_calls unit classes (map invocation_of cs)) (drop_of_length-le calls past)
-
-pub some_call : (calls : List CallScene) → has_call calls ≡ true → map invocation_of calls ≡ [] → ⊥
+pub some_call : (calls : List Invocation) → has_call calls ≡ true → calls ≡ [] → ⊥
 some_call [] h e = cc
 some_call (c ∷ calls) h e = cc

@@ -1,21 +1,17 @@
 -- Objects that are made one after another.
-use Rattle.std.proofs.Common.{◌≡◌, ℕ, suc, ◌+◌, ◌≤◌, Bool, true, false, cond, eqb, List, [], ◌∷◌, ◌++◌, length, map, replicate, Option, refl, sym, ap, ◌∙◌, subst, arith, ⊎_elim, ◌⊎◌, length-append}
+use Rattle.std.proofs.Common.{◌≡◌, ℕ, suc, ◌+◌, ◌≤◌, Bool, true, false, cond, eqb, List, [], ◌∷◌, ◌++◌, length, map, Option, refl, sym, ap, ◌∙◌, subst, arith, ⊎_elim, ◌⊎◌, length-append}
 use Rattle.std.specs.Option.{option_map_or}
 use Rattle.std.proofs.lemmas.Bool.Decides.{eqb_tells}
-use Rattle.std.proofs.lemmas.List.{map-append, replicate-append-replicate}
+use Rattle.std.proofs.lemmas.List.{map-append}
 use Rattle.std.proofs.lemmas.List.Sums.{sum_by-append, sum_by-cons}
-use Rattle.classes.specs.BuiltIns.{class_class, out_of_memory_error}
 use Rattle.heap.specs.declared.value.Value.{Value}
-use Rattle.heap.specs.declared.value.Value.TheVariants.{Null}
-use Rattle.heap.specs.Heap.{Block, Space, block_end, end_from, end_of, left_of, LieFrom, IsLaidOut, values_at, fresh_block, with_block, with_changed}
+use Rattle.heap.specs.Heap.{Block, Space, block_end, end_from, end_of, left_of, LieFrom, IsLaidOut, values_at, with_block, with_changed}
 use Rattle.heap.proofs.Layouts.{from_below_end, end_from-push, LieFrom-push}
 use Rattle.source.specs.Object.{Object, ObjectValue, size, sizes}
 use Rattle.source.specs.Heap.{Heap}
 use Rattle.source.specs.Reachable.{IsName}
 use Rattle.machine.specs.HeapAgrees.{ValuesAgree, IsTable, AreMade}
 use Rattle.machine.proofs.HeapLaws.{IsNext, block_new, agrees_with_block, table_push, from_one-bounds, IsName-more}
-use Rattle.machine.proofs.LoadedObjects.{made_first}
-use Rattle.world.proofs.PlainObjects.{plain_class_object, error_object}
 
 -- nothing has been made
 pub none_made : (cells : ℕ) → AreMade (record { cells = cells; blocks = [] }) [] []
@@ -76,26 +72,5 @@ changed_new s b change laid after =
     ∙ ap (λ (l : List Block). s.blocks ++ l) here in
     ap (λ (l : List Block). let t : Space = record { cells = s.cells; blocks = l } in t) all
 
--- ---- the objects made at load
-
 pub values_new : (s : Space) (b : Block) → IsLaidOut s → b.address ≡ end_of s → values_at (with_block s b) b.address ≡ b.values
 values_new s b laid after = ap (λ (o : Option Block). option_map_or (λ (b : Block). b.values) o []) (block_new s b laid after)
-
--- a further class object
-pub class_made : (s : Space) (addresses : List ℕ) (i : ℕ) → AreMade s addresses (replicate i plain_class_object) → 3 ≤ left_of s
-    → AreMade (with_block s (fresh_block (end_of s) class_class (length addresses + 1) 0 Null)) (addresses ++ end_of s ∷ []) (replicate (i + 1) plain_class_object)
-class_made s addresses i h room =
-    let counted : length addresses ≡ length (replicate i plain_class_object) = h.table.counted in
-    let next : IsNext s (replicate i plain_class_object) (fresh_block (end_of s) class_class (length addresses + 1) 0 Null) plain_class_object =
-    record { after = refl; birth = ap (λ n. n + 1) counted; class = refl; values = tt } in
-    subst (AreMade (with_block s (fresh_block (end_of s) class_class (length addresses + 1) 0 Null)) (addresses ++ end_of s ∷ [])) (replicate-append-replicate i 1 plain_class_object)
-    (made_more s addresses (replicate i plain_class_object) (fresh_block (end_of s) class_class (length addresses + 1) 0 Null) plain_class_object h next room)
-
--- the OutOfMemoryError object, whose message is NULL
-pub error_made : (s : Space) (addresses : List ℕ) (n : ℕ) → AreMade s addresses (replicate n plain_class_object) → 4 ≤ left_of s
-    → AreMade (with_block s (fresh_block (end_of s) out_of_memory_error (length addresses + 1) 1 Null)) (addresses ++ end_of s ∷ []) (made_first n)
-error_made s addresses n h room =
-    let fresh : Block = fresh_block (end_of s) out_of_memory_error (length addresses + 1) 1 Null in
-    let counted : length addresses ≡ length (replicate n plain_class_object) = h.table.counted in
-    let next : IsNext s (replicate n plain_class_object) fresh error_object = record { after = refl; birth = ap (λ n. n + 1) counted; class = refl; values = (tt, tt) } in
-    made_more s addresses (replicate n plain_class_object) fresh error_object h next room

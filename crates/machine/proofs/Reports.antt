@@ -14,8 +14,7 @@ use Rattle.source.specs.Report.{ThreadStanding, HasTrapped, ShownRow, Report}
 use Rattle.report.specs.ReportText.{report_text}
 use Rattle.report.specs.Sink as sink
 use Rattle.report.specs.Sink.{Written}
-use Rattle.world.specs.Scene.{Scene}
-use Rattle.world.specs.SceneWorld.{world_of_scene}
+use Rattle.source.specs.World.{World}
 use Rattle.report.specs.Shown.{report_with}
 use Rattle.report.specs.ThreadStatus.{standing_view}
 use Rattle.source.specs.ReportOf.{standing_by_ending, standing_of, shown, shown_row, report}
@@ -80,19 +79,18 @@ each_stands p classes space made shared s stop n (t ∷ ts) (x ∷ ss) free h =
 
 -- ---- the report
 
-pub report_is : (p : Lowered) (scene : Scene) (space : Space) (addresses : List ℕ) (ts : List Thread) (printed : List Printed) (stop : Option Stop) (journal : List Entry) (c : Corresponds p scene space addresses ts printed stop journal)
-    → report (world_of_scene scene) c.state ≡ report_with printed (standings stop 1 ts) (loaded_rows (world_of_scene scene))
+pub report_is : (p : Lowered) (world : World) (space : Space) (addresses : List ℕ) (ts : List Thread) (printed : List Printed) (stop : Option Stop) (journal : List Entry) (c : Corresponds p world space addresses ts printed stop journal)
+    → report world c.state ≡ report_with printed (standings stop 1 ts) (loaded_rows world)
 unfolding report
-report_is p scene space addresses ts printed stop journal c =
-    let w = world_of_scene scene in
-    let before = map (λ (t : ℕ × source.Thread). standing_of w.classes c.state t.0 t.1 c.state.stop) (enumerate_from 1 c.state.threads) in
+report_is p world space addresses ts printed stop journal c =
+    let before = map (λ (t : ℕ × source.Thread). standing_of world.classes c.state t.0 t.1 c.state.stop) (enumerate_from 1 c.state.threads) in
     let threads = map standing_view (standings stop 1 ts) in
     let same : before ≡ threads =
-    ap (λ (o : Option state.Stop). map (λ (t : ℕ × source.Thread). standing_of w.classes c.state t.0 t.1 o) (enumerate_from 1 c.state.threads)) c.same_stop
-    ∙ each_stands p w.classes space (length addresses) c.state.shared c.state stop 1 ts c.state.threads (never_blocked p w.classes space (length addresses) c.state ts c.lowered c.threads_agree) c.threads_agree in
-    let rows = shown_rows w c.state c.heap in
-    ap (λ (l : List Printed). let r : Report = record { printed = l; standings = before; objects = map (shown_row w.classes c.state.shared.heap) (shown w c.state) } in r) c.same_printed
-    ∙ ap (λ (l : List ThreadStanding). let r : Report = record { printed = printed; standings = l; objects = map (shown_row w.classes c.state.shared.heap) (shown w c.state) } in r) same
+    ap (λ (o : Option state.Stop). map (λ (t : ℕ × source.Thread). standing_of world.classes c.state t.0 t.1 o) (enumerate_from 1 c.state.threads)) c.same_stop
+    ∙ each_stands p world.classes space (length addresses) c.state.shared c.state stop 1 ts c.state.threads (never_blocked p world.classes space (length addresses) c.state ts c.lowered c.threads_agree) c.threads_agree in
+    let rows = shown_rows world c.state c.heap in
+    ap (λ (l : List Printed). let r : Report = record { printed = l; standings = before; objects = map (shown_row world.classes c.state.shared.heap) (shown world c.state) } in r) c.same_printed
+    ∙ ap (λ (l : List ThreadStanding). let r : Report = record { printed = printed; standings = l; objects = map (shown_row world.classes c.state.shared.heap) (shown world c.state) } in r) same
     ∙ ap (λ (l : List ShownRow). let r : Report = record { printed = printed; standings = threads; objects = l } in r) rows
 
 -- ---- the end
@@ -110,15 +108,14 @@ each_ended p classes space made shared s n (t ∷ ts) (x ∷ ss) free h =
     ap (λ b. b && list_all (λ (t : Thread). run.has_ended t.ending) ts) (one_ended t.ending x.ending (is_blocked classes s n) (free n) h.0.ending)
     ∙ ap (λ b. (not (is_unfinished x.ending) || is_blocked classes s n) && b) (each_ended p classes space made shared s (n + 1) ts ss free h.1)
 
-pub is_finished : (p : Lowered) (scene : Scene) (space : Space) (addresses : List ℕ) (ts : List Thread) (printed : List Printed) (stop : Option Stop) (journal : List Entry) (c : Corresponds p scene space addresses ts printed stop journal) (now : Run)
-    → ◌≡◌ {A = Run} (record { unit = p.unit; world = scene; journal = journal; left = left_of space }) now
+pub is_finished : (p : Lowered) (world : World) (space : Space) (addresses : List ℕ) (ts : List Thread) (printed : List Printed) (stop : Option Stop) (journal : List Entry) (c : Corresponds p world space addresses ts printed stop journal) (now : Run)
+    → ◌≡◌ {A = Run} (record { unit = p.unit; world = world; journal = journal; left = left_of space }) now
     → (answer : Bool) → answer ≡ (is_some stop || list_all (λ (t : Thread). run.has_ended t.ending) ts) → IsFinished now answer
-is_finished p scene space addresses ts printed stop journal c now view answer h =
-    let w = world_of_scene scene in
-    let free = never_blocked p w.classes space (length addresses) c.state ts c.lowered c.threads_agree in
-    let same : answer ≡ run.is_finished w.classes c.state =
-    h ∙ ap (λ b. is_some stop || b) (each_ended p w.classes space (length addresses) c.state.shared c.state 1 ts c.state.threads free c.threads_agree)
-    ∙ ap (λ b. b || list_all (λ (t : ℕ × source.Thread). not (is_unfinished t.1.ending) || is_blocked w.classes c.state t.0) (enumerate_from 1 c.state.threads)) (has_stopped stop ∙ ap (λ (o : Option state.Stop). is_some o) (sym c.same_stop)) in
+is_finished p world space addresses ts printed stop journal c now view answer h =
+    let free = never_blocked p world.classes space (length addresses) c.state ts c.lowered c.threads_agree in
+    let same : answer ≡ run.is_finished world.classes c.state =
+    h ∙ ap (λ b. is_some stop || b) (each_ended p world.classes space (length addresses) c.state.shared c.state 1 ts c.state.threads free c.threads_agree)
+    ∙ ap (λ b. b || list_all (λ (t : ℕ × source.Thread). not (is_unfinished t.1.ending) || is_blocked world.classes c.state t.0) (enumerate_from 1 c.state.threads)) (has_stopped stop ∙ ap (λ (o : Option state.Stop). is_some o) (sym c.same_stop)) in
     subst (λ (r : Run). IsFinished r answer) view (c.state, c.replays, same)
   where
     has_stopped : (o : Option Stop) → is_some o ≡ is_some (option_map stop_view o)
@@ -126,25 +123,25 @@ is_finished p scene space addresses ts printed stop journal c now view answer h 
     has_stopped (Some x) = refl
 
 -- what is written of these parts is what the run writes
-pub writes_run : {T E : Type 0} (p : Lowered) (scene : Scene) (space : Space) (addresses : List ℕ) (ts : List Thread) (printed : List Printed) (stop : Option Stop) (journal : List Entry) (c : Corresponds p scene space addresses ts printed stop journal) (now : Run)
-    → ◌≡◌ {A = Run} (record { unit = p.unit; world = scene; journal = journal; left = left_of space }) now
+pub writes_run : {T E : Type 0} (p : Lowered) (world : World) (space : Space) (addresses : List ℕ) (ts : List Thread) (printed : List Printed) (stop : Option Stop) (journal : List Entry) (c : Corresponds p world space addresses ts printed stop journal) (now : Run)
+    → ◌≡◌ {A = Run} (record { unit = p.unit; world = world; journal = journal; left = left_of space }) now
     → (old new : Written) (result : Result T E) (numbers : List Printed) (shown : List ThreadStatus) (rows : List ShownRow) (entries : List Entry)
-    → numbers ≡ printed → shown ≡ standings stop 1 ts → rows ≡ loaded_rows (world_of_scene scene) → entries ≡ journal
+    → numbers ≡ printed → shown ≡ standings stop 1 ts → rows ≡ loaded_rows world → entries ≡ journal
     → sink.Writes old new result (report_text (report_with numbers shown rows) ++ journal_line entries)
     → WritesRun now old new result
-writes_run p scene space addresses ts printed stop journal c now view old new result numbers shown rows entries n s o e h =
+writes_run p world space addresses ts printed stop journal c now view old new result numbers shown rows entries n s o e h =
     let threads = standings stop 1 ts in
-    let same : report_text (report_with numbers shown rows) ++ journal_line entries ≡ report_text (report (world_of_scene scene) c.state) ++ journal_line journal =
+    let same : report_text (report_with numbers shown rows) ++ journal_line entries ≡ report_text (report world c.state) ++ journal_line journal =
     ap (λ (l : List Printed). report_text (report_with l shown rows) ++ journal_line entries) n
     ∙ ap (λ (l : List ThreadStatus). report_text (report_with printed l rows) ++ journal_line entries) s
     ∙ ap (λ (l : List ShownRow). report_text (report_with printed threads l) ++ journal_line entries) o
-    ∙ ap (λ (l : List Entry). report_text (report_with printed threads (loaded_rows (world_of_scene scene))) ++ journal_line l) e
-    ∙ ap (λ (r : Report). report_text r ++ journal_line journal) (sym (report_is p scene space addresses ts printed stop journal c)) in
-    let written : run_text.Writes (unit_tree p.unit) (world_of_scene scene) journal (report_text (report_with numbers shown rows) ++ journal_line entries) = record { end = c.state; replays = c.replays; same = same } in
+    ∙ ap (λ (l : List Entry). report_text (report_with printed threads (loaded_rows world)) ++ journal_line l) e
+    ∙ ap (λ (r : Report). report_text r ++ journal_line journal) (sym (report_is p world space addresses ts printed stop journal c)) in
+    let written : run_text.Writes (unit_tree p.unit) world journal (report_text (report_with numbers shown rows) ++ journal_line entries) = record { end = c.state; replays = c.replays; same = same } in
     record {
       text = report_text (report_with numbers shown rows) ++ journal_line entries;
-      is = subst (λ (r : Run). run_text.Writes (unit_tree r.unit) (world_of_scene r.world) r.journal (report_text (report_with numbers shown rows) ++ journal_line entries)) view written;
-      fits = subst (λ (r : Run). UnmarkedFit (unit_tree r.unit) (world_of_scene r.world) r.journal) view c.fits;
-      fair = subst (λ (r : Run). MarkedAreFair (unit_tree r.unit) (world_of_scene r.world) r.journal) view c.fair;
+      is = subst (λ (r : Run). run_text.Writes (unit_tree r.unit) r.world r.journal (report_text (report_with numbers shown rows) ++ journal_line entries)) view written;
+      fits = subst (λ (r : Run). UnmarkedFit (unit_tree r.unit) r.world r.journal) view c.fits;
+      fair = subst (λ (r : Run). MarkedAreFair (unit_tree r.unit) r.world r.journal) view c.fair;
       written = h;
     }

@@ -15,8 +15,7 @@ use Rattle.classes.specs.Class.{Classes}
 use Rattle.source.specs.declared.journal.Entry.{Entry}
 use Rattle.source.specs.declared.schedule.ScheduleWord.{ScheduleWord}
 use Rattle.source.specs.declared.schedule.ScheduleWord.TheVariants.{Turn, Collect}
-use Rattle.world.specs.Scene.{Scene}
-use Rattle.world.specs.SceneWorld.{world_of_scene}
+use Rattle.source.specs.World.{World}
 use Rattle.source.specs.Schedule.{Schedule}
 use Rattle.source.specs.Run.{replay, replay_from, Follows, Over, Collects, Waits, Steps}
 use Rattle.source.specs.Start.{start}
@@ -25,33 +24,34 @@ use Rattle.source.specs.Step.{can_step, is_live, is_waiting, world_step}
 use Rattle.source.proofs.RunLaws.{replay_from-append, follows-replay, follows-append}
 use Rattle.machine.specs.declared.turn.Turn.{Turn as Answer}
 use Rattle.machine.specs.declared.turn.Turn.TheVariants as turn
+use Rattle.machine.proofs.Lists.{take_next}
 use Rattle.machine.specs.Run.{Run, replay_of, can_turn, HasEnded, TurnHolds, GivesNoStep, GivesStep, RunsAlong, RunsInto}
 
 -- the walk from a state of a run along these words
 abbrev pub Walk : Run → State → List Entry → Schedule → State → Type 0
-Walk r before steps words after = Follows (unit_tree r.unit) (world_of_scene r.world) before steps words after
+Walk r before steps words after = Follows (unit_tree r.unit) r.world before steps words after
 
 -- ---- states
 
 -- the replay of a run with more entries
-replay_with : (r : Run) (steps : List Entry) (s : State) → replay_of r ≡ Some s → replay (unit_tree r.unit) (world_of_scene r.world) (r.journal ++ steps) ≡ replay_from (unit_tree r.unit) (world_of_scene r.world) s steps
+replay_with : (r : Run) (steps : List Entry) (s : State) → replay_of r ≡ Some s → replay (unit_tree r.unit) r.world (r.journal ++ steps) ≡ replay_from (unit_tree r.unit) r.world s steps
 replay_with r steps s h =
-    replay_from-append (unit_tree r.unit) (world_of_scene r.world) (start (unit_tree r.unit) (world_of_scene r.world)) r.journal steps
-    ∙ ap (option_and_then (λ t. replay_from (unit_tree r.unit) (world_of_scene r.world) t steps)) h
+    replay_from-append (unit_tree r.unit) r.world (start (unit_tree r.unit) r.world) r.journal steps
+    ∙ ap (option_and_then (λ t. replay_from (unit_tree r.unit) r.world t steps)) h
 
 -- the same program and world
-same_replay : (a b : Run) → b.unit ≡ a.unit → b.world ≡ a.world → replay_of b ≡ replay (unit_tree a.unit) (world_of_scene a.world) b.journal
+same_replay : (a b : Run) → b.unit ≡ a.unit → b.world ≡ a.world → replay_of b ≡ replay (unit_tree a.unit) a.world b.journal
 same_replay a b u w =
-    ap (λ (x : List Item). replay (unit_tree x) (world_of_scene b.world) b.journal) u
-    ∙ ap (λ (x : Scene). replay (unit_tree a.unit) (world_of_scene x) b.journal) w
+    ap (λ (x : List Item). replay (unit_tree x) b.world b.journal) u
+    ∙ ap (λ (x : World). replay (unit_tree a.unit) x b.journal) w
 
 -- the state that a walk leads to
 pub leads : (old new : Run) (words : Schedule) (r : RunsAlong old new words) → replay_of new ≡ Some r.after
 leads old new words r =
     same_replay old new r.same_unit r.same_world
-    ∙ ap (λ (j : List Entry). replay (unit_tree old.unit) (world_of_scene old.world) j) r.journal
+    ∙ ap (λ (j : List Entry). replay (unit_tree old.unit) old.world j) r.journal
     ∙ replay_with old r.steps r.before r.replays
-    ∙ follows-replay (unit_tree old.unit) (world_of_scene old.world) r.follows
+    ∙ follows-replay (unit_tree old.unit) old.world r.follows
 
 -- ---- walks
 
@@ -59,8 +59,8 @@ leads old new words r =
 pub along_both : (a b c : Run) (words more : Schedule) → RunsAlong a b words → RunsAlong b c more → RunsAlong a c (words ++ more)
 along_both a b c words more p q =
     let there : q.before ≡ p.after = cc (q.replays, leads a b words p) in
-    let on_unit : Follows (unit_tree a.unit) (world_of_scene b.world) q.before q.steps more q.after = subst (λ (x : List Item). Follows (unit_tree x) (world_of_scene b.world) q.before q.steps more q.after) p.same_unit q.follows in
-    let on_world : Walk a q.before q.steps more q.after = subst (λ (x : Scene). Follows (unit_tree a.unit) (world_of_scene x) q.before q.steps more q.after) p.same_world on_unit in
+    let on_unit : Follows (unit_tree a.unit) b.world q.before q.steps more q.after = subst (λ (x : List Item). Follows (unit_tree x) b.world q.before q.steps more q.after) p.same_unit q.follows in
+    let on_world : Walk a q.before q.steps more q.after = subst (λ (x : World). Follows (unit_tree a.unit) x q.before q.steps more q.after) p.same_world on_unit in
     record {
       same_unit = q.same_unit ∙ p.same_unit;
       same_world = q.same_world ∙ p.same_world;
@@ -69,7 +69,7 @@ along_both a b c words more p q =
       before = p.before;
       replays = p.replays;
       after = q.after;
-      follows = follows-append (unit_tree a.unit) (world_of_scene a.world) q.steps more q.after p.follows (subst (λ s. Walk a s q.steps more q.after) there on_world);
+      follows = follows-append (unit_tree a.unit) a.world q.steps more q.after p.follows (subst (λ s. Walk a s q.steps more q.after) there on_world);
     }
 
 -- one walk and a beginning of another
@@ -136,10 +136,10 @@ blocked_waits : (classes : Classes) (s : State) (k : ℕ) → is_waiting classes
 blocked_waits classes s k h = and_right (is_none s.stop && is_live (thread_at s k)) (not (is_waiting classes k s.shared (thread_at s k))) (ap not h)
 
 -- the step of a journal with one more entry
-step_of : (r new : Run) (e : Entry) (left : ℕ) (s : State) → new ≡ record r { journal = r.journal ++ e ∷ []; left = left } → replay_of r ≡ Some s → IsSome (replay_of new) → (n : State) × (world_step (unit_tree r.unit) (world_of_scene r.world).classes s e ≡ Some n)
-step_of r new e left s is h defined = there (world_step (unit_tree r.unit) (world_of_scene r.world).classes s e) (subst IsSome (ap replay_of is ∙ replay_with r (e ∷ []) s h) defined)
+step_of : (r new : Run) (e : Entry) (left : ℕ) (s : State) → new ≡ record r { journal = r.journal ++ e ∷ []; left = left } → replay_of r ≡ Some s → IsSome (replay_of new) → (n : State) × (world_step (unit_tree r.unit) r.world.classes s e ≡ Some n)
+step_of r new e left s is h defined = there (world_step (unit_tree r.unit) r.world.classes s e) (subst IsSome (ap replay_of is ∙ replay_with r (e ∷ []) s h) defined)
   where
-    there : (o : Option State) → IsSome (option_and_then (λ t. replay_from (unit_tree r.unit) (world_of_scene r.world) t []) o) → (n : State) × (o ≡ Some n)
+    there : (o : Option State) → IsSome (option_and_then (λ t. replay_from (unit_tree r.unit) r.world t []) o) → (n : State) × (o ≡ Some n)
     there None d = absurd (let f : false ≡ true = d in cc)
     there (Some n) d = (n, refl)
 
@@ -161,11 +161,11 @@ stepped_once r new k refused left s is h can defined =
 -- a turn, but where the journal is full
 pub turned : (r new : Run) (k : ℕ) (t : Answer) → TurnHolds r k new t → IsSome (replay_of new) → (t ≡ turn.Full → ⊥) → RunsAlong r new (Turn k ∷ [])
 turned r new k turn.Stopped h defined full =
-    subst (λ x. RunsAlong r x (Turn k ∷ [])) (sym h.0) (no_step r (Turn k) (h.1.0, h.1.1, stopped_waits (world_of_scene r.world).classes h.1.0 k h.1.2))
+    subst (λ x. RunsAlong r x (Turn k ∷ [])) (sym h.0) (no_step r (Turn k) (h.1.0, h.1.1, stopped_waits r.world.classes h.1.0 k h.1.2))
 turned r new k turn.Ended h defined full =
-    subst (λ x. RunsAlong r x (Turn k ∷ [])) (sym h.0) (no_step r (Turn k) (h.1.0, h.1.1, ended_waits (world_of_scene r.world).classes h.1.0 k h.1.2))
+    subst (λ x. RunsAlong r x (Turn k ∷ [])) (sym h.0) (no_step r (Turn k) (h.1.0, h.1.1, ended_waits r.world.classes h.1.0 k h.1.2))
 turned r new k (turn.Blocked all) h defined full =
-    subst (λ x. RunsAlong r x (Turn k ∷ [])) (sym h.0) (no_step r (Turn k) (h.1.0, h.1.1, blocked_waits (world_of_scene r.world).classes h.1.0 k h.1.2.waits))
+    subst (λ x. RunsAlong r x (Turn k ∷ [])) (sym h.0) (no_step r (Turn k) (h.1.0, h.1.1, blocked_waits r.world.classes h.1.0 k h.1.2.waits))
 turned r new k turn.Full h defined full = absurd (full refl)
 turned r new k turn.Short h defined full = let could = h.1.1 in stepped_once r new k true new.left could.0 h.0 could.1 could.2 defined
 turned r new k turn.Stepped h defined full = let could = h.1.1 in stepped_once r new k false new.left could.0 h.0 could.1 could.2 defined
@@ -194,12 +194,7 @@ abbrev pub words_to : List Repetition → ℕ → Schedule
 words_to reps i = flat_map repeated_words (take i reps)
 
 pub words_more : (reps : List Repetition) (i : ℕ) (x : Repetition) → slice_get reps i ≡ Some x → words_to reps (i + 1) ≡ words_to reps i ++ repeated_words x
-words_more reps i x at = ap (flat_map repeated_words) (take_one reps i x at) ∙ flat_map-append repeated_words (take i reps) (x ∷ []) ∙ ap (λ (w : Schedule). words_to reps i ++ w) (flat_map-cons repeated_words x [] ∙ append-nil (repeated_words x))
-  where
-    take_one : (reps : List Repetition) (i : ℕ) (x : Repetition) → slice_get reps i ≡ Some x → take (i + 1) reps ≡ take i reps ++ x ∷ []
-    take_one [] i x h = absurd (cc)
-    take_one (y ∷ reps) zero x h = let same : y ≡ x = cc in ap (λ (z : Repetition). z ∷ []) same
-    take_one (y ∷ reps) (suc i) x h = let e : suc i + 1 ≡ suc (i + 1) = omega arith in rw e (ap (λ (l : List Repetition). y ∷ l) (take_one reps i x h))
+words_more reps i x at = ap (flat_map repeated_words) (take_next reps i x at) ∙ flat_map-append repeated_words (take i reps) (x ∷ []) ∙ ap (λ (w : Schedule). words_to reps i ++ w) (flat_map-cons repeated_words x [] ∙ append-nil (repeated_words x))
 
 pub words_all : (reps : List Repetition) (i : ℕ) → flat_map repeated_words reps ≡ words_to reps i ++ flat_map repeated_words (drop i reps)
 words_all reps i = ap (flat_map repeated_words) (sym (take-append-drop i reps)) ∙ flat_map-append repeated_words (take i reps) (drop i reps)

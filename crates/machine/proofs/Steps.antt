@@ -8,8 +8,7 @@ use Rattle.syntax.specs.Views.{unit_tree}
 use Rattle.classes.specs.Class.{Classes}
 use Rattle.source.specs.declared.journal.Entry.{Entry}
 use Rattle.source.specs.declared.printed.Printed.{Printed}
-use Rattle.world.specs.Scene.{Scene}
-use Rattle.world.specs.SceneWorld.{world_of_scene}
+use Rattle.source.specs.World.{World}
 use Rattle.source.specs.State.{State, thread_at, set_thread, lent, with_event, advanced}
 use Rattle.source.specs.Step.{can_step, is_unfinished, world_step}
 use Rattle.source.specs.Thread as source
@@ -87,9 +86,9 @@ AdvancesAlways p classes space addresses t after e =
 
 -- ---- thread k of the state that the journal leads to, which is the machine's at i
 
-module _ (p : Lowered) (scene : Scene) (space : Space) (addresses : List ℕ) (ts : List Thread) (printed : List Printed) (stop : Option Stop) (journal : List Entry) (c : Corresponds p scene space addresses ts printed stop journal) (k i : ℕ) (t : Thread) (counted : k ≡ suc i) (at : slice_get ts i ≡ Some t) where
+module _ (p : Lowered) (world : World) (space : Space) (addresses : List ℕ) (ts : List Thread) (printed : List Printed) (stop : Option Stop) (journal : List Entry) (c : Corresponds p world space addresses ts printed stop journal) (k i : ℕ) (t : Thread) (counted : k ≡ suc i) (at : slice_get ts i ≡ Some t) where
   abbrev pub classes : Classes
-  classes = (world_of_scene scene).classes
+  classes = world.classes
 
   pub the_thread : Found p classes space (length addresses) c.state.shared t c.state.threads i
   the_thread = found p classes space (length addresses) c.state.shared ts c.state.threads i t c.threads_agree at
@@ -111,12 +110,12 @@ module _ (p : Lowered) (scene : Scene) (space : Space) (addresses : List ℕ) (t
   has_ended goes ended = record { running = running goes; thread = the_thread.source; is = there; ended = ap is_unfinished (the_thread.agrees.ending ∙ ap ending_view ended) }
 
   -- a step that leaves the heap as it was has room
-  makes_nothing : (s next : State) → world_step (unit_tree p.unit) classes s (entry_of k) ≡ Some next → next.shared.heap ≡ s.shared.heap → Fits (unit_tree p.unit) (world_of_scene scene) s k
+  makes_nothing : (s next : State) → world_step (unit_tree p.unit) classes s (entry_of k) ≡ Some next → next.shared.heap ≡ s.shared.heap → Fits (unit_tree p.unit) world s k
   makes_nothing s next step same = λ some. absurd (some (ap (made_between s) step ∙ ap (drop (length s.shared.heap)) same ∙ drop-length s.shared.heap))
 
   -- the machine after the step
   pub steps_on : (after : Thread) (e : Event) → stop ≡ None → t.ending ≡ Unfinished → AdvancesAlways p classes space addresses t after e
-      → Corresponds p scene space addresses (slice_set ts i after) (printed_after printed k e) (stop_after stop k e) (journal ++ entry_of k ∷ [])
+      → Corresponds p world space addresses (slice_set ts i after) (printed_after printed k e) (stop_after stop k e) (journal ++ entry_of k ∷ [])
   steps_on after e goes live advances =
       let f = the_thread in
       let blocks = subst (λ (h : Heap). BlocksAgree space h space.blocks) (sym c.heap) c.blocks.agree.blocks in
@@ -128,7 +127,7 @@ module _ (p : Lowered) (scene : Scene) (space : Space) (addresses : List ℕ) (t
       record {
         lowered = c.lowered;
         state = next;
-        replays = replay_more (unit_tree p.unit) (world_of_scene scene) journal (entry_of k) c.state next c.replays step;
+        replays = replay_more (unit_tree p.unit) world journal (entry_of k) c.state next c.replays step;
         threads_agree = subst (λ (x : Shared). ThreadsAgree p classes space (length addresses) x (slice_set ts i after) next.threads) (sym (shared_next c.state k a.next e)) (subst (ThreadsAgree p classes space (length addresses) c.state.shared (slice_set ts i after)) (sym (threads_next c.state k a.next e ∙ ap (λ n. set_thread c.state.threads n a.next) counted)) (changed p classes space (length addresses) c.state.shared ts c.state.threads i after a.next c.threads_agree a.agrees));
         same_printed = printed_next c.state k a.next e ∙ ap (λ l. printed_after l k e) c.same_printed;
         same_stop = stop_next c.state k a.next e stop c.same_stop;
@@ -136,9 +135,9 @@ module _ (p : Lowered) (scene : Scene) (space : Space) (addresses : List ℕ) (t
         heap = ap (λ (x : Shared). x.heap) (shared_next c.state k a.next e) ∙ c.heap;
         blocks = c.blocks;
         monitors = ap (λ (x : Shared). x.monitors) (shared_next c.state k a.next e) ∙ c.monitors;
-        fits = each-more (unit_tree p.unit) (world_of_scene scene) (λ s e. FitsUnmarked (unit_tree p.unit) (world_of_scene scene) s e.thread e.refused) (Some (start (unit_tree p.unit) (world_of_scene scene))) journal (entry_of k) c.fits
-            (λ s there. let same : c.state ≡ s = cc (sym c.replays, there) in subst (λ (x : State). Fits (unit_tree p.unit) (world_of_scene scene) x k) same (makes_nothing c.state next step (ap (λ (x : Shared). x.heap) (shared_next c.state k a.next e))));
-        fair = each-more (unit_tree p.unit) (world_of_scene scene) (λ s e. IsFairMarked (unit_tree p.unit) (world_of_scene scene) s e.thread e.refused) (Some (start (unit_tree p.unit) (world_of_scene scene))) journal (entry_of k) c.fair (λ s there. tt);
+        fits = each-more (unit_tree p.unit) world (λ s e. FitsUnmarked (unit_tree p.unit) world s e.thread e.refused) (Some (start (unit_tree p.unit) world)) journal (entry_of k) c.fits
+            (λ s there. let same : c.state ≡ s = cc (sym c.replays, there) in subst (λ (x : State). Fits (unit_tree p.unit) world x k) same (makes_nothing c.state next step (ap (λ (x : Shared). x.heap) (shared_next c.state k a.next e))));
+        fair = each-more (unit_tree p.unit) world (λ s e. IsFairMarked (unit_tree p.unit) world s e.thread e.refused) (Some (start (unit_tree p.unit) world)) journal (entry_of k) c.fair (λ s there. tt);
         count = length-set ts i after ∙ c.count;
         few = subst (λ n. n ≤ 8) (sym (length-set ts i after)) c.few;
       }

@@ -1,17 +1,12 @@
 -- The threads of a world that load, and the first call that doesn't.
-use Rattle.std.proofs.Common.{◌≡◌, ℕ, zero, suc, ◌+◌, ◌≤◌, true, List, [], ◌∷◌, ◌++◌, length, drop, map, Some, refl, sym, ap, ◌∙◌, subst, arith, append_assoc, append-nil}
+use Rattle.std.proofs.Common.{◌≡◌, ℕ, suc, ◌+◌, ◌≤◌, List, [], ◌∷◌, ◌++◌, length, drop, map, Some, refl, sym, ap, ◌∙◌, subst, append_assoc, append-nil}
 use Rattle.std.specs.Prelude.{slice_get, flat_map}
 use Rattle.std.specs.Global.{Vec}
-use Rattle.std.specs.List.{list_all}
-use Rattle.texts.proofs.WordLaws.{both_true}
 use Rattle.std.proofs.lemmas.List.Concat.{flat_map-cons}
 use Rattle.std.proofs.Math.ListN.{drop_of_length-le}
 use Rattle.syntax.specs.Tree.{SourceUnit}
 use Rattle.classes.specs.Class.{Classes}
 use Rattle.heap.specs.Heap.{Space}
-use Rattle.world.specs.CallArguments.{are_arguments}
-use Rattle.world.specs.Scene.{CallScene}
-use Rattle.world.specs.SceneWorld.{invocation_of}
 use Rattle.source.specs.World.{Invocation}
 use Rattle.source.specs.Start.{waiting_thread}
 use Rattle.source.specs.Thread as source
@@ -21,37 +16,25 @@ use Rattle.machine.specs.declared.fault.LoadFault.{LoadFault}
 use Rattle.machine.specs.declared.fault.LoadFault.TheVariants.{DoesNotFit, Memory}
 use Rattle.machine.specs.declared.thread.Thread.{Thread}
 use Rattle.machine.specs.Agrees.{ThreadAgrees, ThreadsAgree}
+use Rattle.machine.proofs.Lists.{drop_next}
 use Rattle.machine.specs.Loading.{IsFirstOf, refused_calls}
 
 -- the calls of each thread in memory
-abbrev pub called : List (Vec CallScene) → List (List Invocation)
-called ts = map (λ (t : Vec CallScene). map invocation_of t.items) ts
-
-two_maps : (ts : List (Vec CallScene)) → called ts ≡ map (λ calls. map invocation_of calls) (map (λ t. t.items) ts)
-two_maps [] = refl
-two_maps (t ∷ ts) = ap (λ (xs : List (List Invocation)). map invocation_of t.items ∷ xs) (two_maps ts)
-
-pub called_is : (ts : List (Vec CallScene)) (threads : List (List CallScene)) → map (λ t. t.items) ts ≡ threads → called ts ≡ map (λ calls. map invocation_of calls) threads
-called_is ts threads e = two_maps ts ∙ ap (λ (xs : List (List CallScene)). map (λ calls. map invocation_of calls) xs) e
-
--- the threads from a place on
-threads_drop : (ts : List (Vec CallScene)) (i : ℕ) (x : Vec CallScene) → slice_get ts i ≡ Some x → drop i ts ≡ x ∷ drop (i + 1) ts
-threads_drop [] i x h = absurd (cc)
-threads_drop (y ∷ ts) zero x h = let same : y ≡ x = cc in ap (λ (z : Vec CallScene). z ∷ ts) same
-threads_drop (y ∷ ts) (suc i) x h = let e : suc i + 1 ≡ suc (i + 1) = omega arith in rw e (threads_drop ts i x h)
+abbrev pub called : List (Vec Invocation) → List (List Invocation)
+called ts = map (λ (t : Vec Invocation). t.items) ts
 
 -- ---- threads that agree
 
 module _ (p : Lowered) (classes : Classes) (space : Space) (made : ℕ) (shared : Shared) where
-  abbrev pub AgreeSoFar : List (Vec CallScene) → (i : ℕ) → List Thread → Type 0
+  abbrev pub AgreeSoFar : List (Vec Invocation) → (i : ℕ) → List Thread → Type 0
   AgreeSoFar ts i threads = (rest : List Thread) → ThreadsAgree p classes space made shared rest (map waiting_thread (called (drop i ts))) → ThreadsAgree p classes space made shared (threads ++ rest) (map waiting_thread (called ts))
 
-  pub one_more : (ts : List (Vec CallScene)) (i : ℕ) (x : Vec CallScene) (t : Thread) (threads : List Thread) → slice_get ts i ≡ Some x → ThreadAgrees p classes space made shared t (waiting_thread (map invocation_of x.items)) → AgreeSoFar ts i threads → AgreeSoFar ts (i + 1) (threads ++ t ∷ [])
+  pub one_more : (ts : List (Vec Invocation)) (i : ℕ) (x : Vec Invocation) (t : Thread) (threads : List Thread) → slice_get ts i ≡ Some x → ThreadAgrees p classes space made shared t (waiting_thread x.items) → AgreeSoFar ts i threads → AgreeSoFar ts (i + 1) (threads ++ t ∷ [])
   one_more ts i x t threads at a so_far rest h =
       subst (λ (l : List Thread). ThreadsAgree p classes space made shared l (map waiting_thread (called ts))) (sym (append_assoc threads (t ∷ []) rest))
-      (so_far (t ∷ rest) (subst (λ (us : List (Vec CallScene)). ThreadsAgree p classes space made shared (t ∷ rest) (map waiting_thread (called us))) (sym (threads_drop ts i x at)) (a, h)))
+      (so_far (t ∷ rest) (subst (λ (us : List (Vec Invocation)). ThreadsAgree p classes space made shared (t ∷ rest) (map waiting_thread (called us))) (sym (drop_next ts i x at)) (a, h)))
 
-  pub all_agree : (ts : List (Vec CallScene)) (i : ℕ) (threads : List Thread) → length ts ≤ i → AgreeSoFar ts i threads → ThreadsAgree p classes space made shared threads (map waiting_thread (called ts))
+  pub all_agree : (ts : List (Vec Invocation)) (i : ℕ) (threads : List Thread) → length ts ≤ i → AgreeSoFar ts i threads → ThreadsAgree p classes space made shared threads (map waiting_thread (called ts))
   all_agree ts i threads past so_far =
       let none : ThreadsAgree p classes space made shared [] (map waiting_thread (called (drop i ts))) = rw (drop_of_length-le ts past) tt in
       subst (λ (n : List Thread). ThreadsAgree p classes space made shared n (map waiting_thread (called ts))) (append-nil threads) (so_far [] none)
@@ -59,7 +42,7 @@ module _ (p : Lowered) (classes : Classes) (space : Space) (made : ℕ) (shared 
 -- ---- calls that don't load
 
 -- the calls of these threads that don't load
-abbrev pub refused_of : SourceUnit → Classes → List (Vec CallScene) → List Invocation
+abbrev pub refused_of : SourceUnit → Classes → List (Vec Invocation) → List Invocation
 refused_of unit classes ts = flat_map (refused_calls unit classes) (called ts)
 
 first : (a b : List Invocation) (e : LoadFault) → IsFirstOf a e → IsFirstOf (a ++ b) e
@@ -67,17 +50,17 @@ first [] b (DoesNotFit line) h = absurd (cc)
 first (x ∷ a) b (DoesNotFit line) h = h
 first a b Memory h = tt
 
-module _ (unit : SourceUnit) (classes : Classes) (ts : List (Vec CallScene)) (i : ℕ) (x : Vec CallScene) (at : slice_get ts i ≡ Some x) where
-  here : refused_of unit classes (drop i ts) ≡ refused_calls unit classes (map invocation_of x.items) ++ refused_of unit classes (drop (i + 1) ts)
-  here = ap (refused_of unit classes) (threads_drop ts i x at) ∙ flat_map-cons (refused_calls unit classes) (map invocation_of x.items) (called (drop (i + 1) ts))
+module _ (unit : SourceUnit) (classes : Classes) (ts : List (Vec Invocation)) (i : ℕ) (x : Vec Invocation) (at : slice_get ts i ≡ Some x) where
+  here : refused_of unit classes (drop i ts) ≡ refused_calls unit classes x.items ++ refused_of unit classes (drop (i + 1) ts)
+  here = ap (refused_of unit classes) (drop_next ts i x at) ∙ flat_map-cons (refused_calls unit classes) x.items (called (drop (i + 1) ts))
 
-  pub loads_at : refused_calls unit classes (map invocation_of x.items) ≡ [] → refused_of unit classes (drop i ts) ≡ refused_of unit classes (drop (i + 1) ts)
+  pub loads_at : refused_calls unit classes x.items ≡ [] → refused_of unit classes (drop i ts) ≡ refused_of unit classes (drop (i + 1) ts)
   loads_at none = here ∙ ap (λ (l : List Invocation). l ++ refused_of unit classes (drop (i + 1) ts)) none
 
-  pub refused_at : (e : LoadFault) → IsFirstOf (refused_calls unit classes (map invocation_of x.items)) e → IsFirstOf (refused_of unit classes (drop i ts)) e
-  refused_at e h = subst (λ (l : List Invocation). IsFirstOf l e) (sym here) (first (refused_calls unit classes (map invocation_of x.items)) (refused_of unit classes (drop (i + 1) ts)) e h)
+  pub refused_at : (e : LoadFault) → IsFirstOf (refused_calls unit classes x.items) e → IsFirstOf (refused_of unit classes (drop i ts)) e
+  refused_at e h = subst (λ (l : List Invocation). IsFirstOf l e) (sym here) (first (refused_calls unit classes x.items) (refused_of unit classes (drop (i + 1) ts)) e h)
 
-pub none_refused : (unit : SourceUnit) (classes : Classes) (ts : List (Vec CallScene)) (i : ℕ) → length ts ≤ i → refused_of unit classes (drop i ts) ≡ []
+pub none_refused : (unit : SourceUnit) (classes : Classes) (ts : List (Vec Invocation)) (i : ℕ) → length ts ≤ i → refused_of unit classes (drop i ts) ≡ []
 none_refused unit classes ts i past = ap (refused_of unit classes) (drop_of_length-le ts past)
 
 -- as many threads as agree
@@ -87,16 +70,6 @@ agree_length p classes space made shared [] (s ∷ ss) h = absurd h
 agree_length p classes space made shared (t ∷ ts) [] h = absurd h
 agree_length p classes space made shared (t ∷ ts) (s ∷ ss) h = ap suc (agree_length p classes space made shared ts ss h.1)
 
-pub waiting_length : (threads : List (List CallScene)) → length (map waiting_thread (map (λ calls. map invocation_of calls) threads)) ≡ length threads
-waiting_length [] = refl
-waiting_length (t ∷ threads) = ap suc (waiting_length threads)
-
-pub items_length : (ts : List (Vec CallScene)) → length (map (λ t. t.items) ts) ≡ length ts
+pub items_length : (ts : List (Vec Invocation)) → length (map (λ t. t.items) ts) ≡ length ts
 items_length [] = refl
 items_length (t ∷ ts) = ap suc (items_length ts)
-
--- each thread of several
-pub given_at : (made : ℕ) (ts : List (Vec CallScene)) (i : ℕ) (x : Vec CallScene) → list_all (list_all (are_arguments made)) (map (λ t. t.items) ts) ≡ true → slice_get ts i ≡ Some x → list_all (are_arguments made) x.items ≡ true
-given_at made [] i x h e = absurd (cc)
-given_at made (t ∷ ts) zero x h e = let same : t ≡ x = cc in ap (λ (v : Vec CallScene). list_all (are_arguments made) v.items) (sym same) ∙ (both_true (list_all (are_arguments made) t.items) (list_all (list_all (are_arguments made)) (map (λ t. t.items) ts)) h).0
-given_at made (t ∷ ts) (suc i) x h e = given_at made ts i x ((both_true (list_all (are_arguments made) t.items) (list_all (list_all (are_arguments made)) (map (λ t. t.items) ts)) h).1) e

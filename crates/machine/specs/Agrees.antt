@@ -8,7 +8,7 @@ use Rattle.classes.specs.Class.{Classes}
 use Rattle.heap.specs.Heap.{Space}
 use Rattle.world.specs.CallArguments.{is_argument}
 use Rattle.source.specs.Object.{Reference}
-use Rattle.world.specs.Views.{argument_view}
+use Rattle.world.specs.Views.{object_value_view}
 use Rattle.source.specs.World.{Invocation}
 use Rattle.code.specs.Depth.{Listing, depth_at}
 use Rattle.source.specs.Activation.{function_at, class_of_function}
@@ -54,7 +54,7 @@ pub record CallAgrees (p : Lowered) (classes : Classes) (made : ℕ) (next : Pen
   pub numbered : slice_get (functions_of (unit_tree p.unit)) next.function ≡ Some function
   pub of_class : class_of_function classes function ≡ Some next.class
   pub class_made : (0 < next.class) × (next.class ≤ made)
-  pub arguments : map argument_view next.arguments.items ≡ call.arguments
+  pub arguments : map object_value_view next.arguments.items ≡ call.arguments
   pub given : IsTrue (list_all (is_argument made) call.arguments)
   pub fit : ArgumentsFit function.parameters call.arguments
 

@@ -3,7 +3,7 @@ use Rattle.std.specs.Prelude.{◌≡◌, ℕ, ◌-◌, ◌<◌, ◌≤◌, List,
 use Rattle.std.specs.List.{list_all}
 use Rattle.source.specs.Object.{ObjectValue, Number, Refers}
 use Rattle.world.specs.CallArguments.{is_argument}
-use Rattle.world.specs.Views.{argument_view}
+use Rattle.world.specs.Views.{object_value_view}
 use Rattle.code.specs.Depth.{Listing}
 use Rattle.lower.specs.Lowered.{Lowered}
 use Rattle.lower.specs.Slots.{argument_word, HasRoom}
@@ -33,8 +33,8 @@ pub record BeginsIn (code : Listing) (loaded : List ℕ) (next : PendingCall) (c
   pub function : call.function ≡ next.function
   pub place : call.place ≡ 0
   pub stack : call.stack ≡ []
-  pub numbers : IsNumbersOf code.slots.numbers (map argument_view next.arguments.items) call.numbers.items
-  pub references : IsReferencesOf code.slots.references loaded next.class (map argument_view next.arguments.items) call.references.items
+  pub numbers : IsNumbersOf code.slots.numbers (map object_value_view next.arguments.items) call.numbers.items
+  pub references : IsReferencesOf code.slots.references loaded next.class (map object_value_view next.arguments.items) call.references.items
 
 -- a call of a program before its first instruction
 pub record Begins (p : Lowered) (loaded : List ℕ) (next : PendingCall) (call : Activation) : Type 0 where
@@ -45,7 +45,7 @@ pub record Begins (p : Lowered) (loaded : List ℕ) (next : PendingCall) (call :
 -- the class and the arguments of a call are among so many objects, and its code has room for them
 pub record IsReady (p : Lowered) (made : ℕ) (next : PendingCall) : Type 0 where
   pub class : (0 < next.class) × (next.class ≤ made)
-  pub given : IsTrue (list_all (is_argument made) (map argument_view next.arguments.items))
+  pub given : IsTrue (list_all (is_argument made) (map object_value_view next.arguments.items))
   pub code : Listing
   pub of_function : slice_get p.codes next.function ≡ Some code
-  pub room : HasRoom code (map argument_view next.arguments.items)
+  pub room : HasRoom code (map object_value_view next.arguments.items)

@@ -1,5 +1,5 @@
 -- What an instruction that calls a function of the JNI does.
-use Rattle.std.specs.Prelude.{◌≡◌, ℕ, ◌+◌, ◌<◌, List, [], ◌∷◌, length, slice_get, slice_set, Option, Some, None, Result, Ok, Err, FitsSigned}
+use Rattle.std.specs.Prelude.{◌≡◌, ℕ, ℤ, ◌+◌, ◌<◌, List, [], ◌∷◌, length, slice_get, slice_set, Option, Some, None, Result, Ok, Err, FitsSigned}
 use Rattle.std.specs.Int.{w32}
 use Rattle.std.specs.List.{AllZip}
 use Rattle.base.specs.Bytes.{Identifier}
@@ -8,10 +8,11 @@ use Rattle.jni.specs.Prototype.{prototype}
 use Rattle.code.specs.Call.{Call}
 use Rattle.code.specs.declared.instr.Operand.{Operand}
 use Rattle.code.specs.declared.instr.Operand.TheVariants.{Null, Local, Static}
+use Rattle.code.specs.declared.instr.Operand.TheVariants as operand
 use Rattle.code.specs.declared.instr.Target.{Target}
 use Rattle.code.specs.declared.instr.Target.TheVariants.{Dropped, Number}
 use Rattle.heap.specs.Heap.{Space, IsAddress}
-use Rattle.source.specs.Arguments.{Actual, ReferenceActual}
+use Rattle.source.specs.Arguments.{Actual, ReferenceActual, NumberActual}
 use Rattle.source.specs.CallEffects.{ScalarResult, CallEffect, Leaves, Halts}
 use Rattle.source.specs.CallStep.{effect_of_call}
 use Rattle.source.specs.Object.{Reference}
@@ -19,6 +20,7 @@ use Rattle.source.specs.Task as source
 use Rattle.source.specs.Thread.{BuffersInUse, Shared, Thread}
 use Rattle.source.specs.Value.{Int}
 use Rattle.source.specs.Variable.{as_static}
+use Rattle.lower.specs.Does.{OperandFits, words_given}
 use Rattle.lower.specs.Slots.{word_of}
 use Rattle.machine.specs.declared.stop.Trap.{Trap}
 use Rattle.machine.specs.declared.thread.Activation.{Activation}
@@ -39,13 +41,19 @@ abbrev pub operand_at : List (Option ℕ) → Operand → Option ℕ
 operand_at references Null = None
 operand_at references (Local i) = held_in (slice_get references i)
 operand_at references (Static i) = None
+operand_at references operand.Number = None
 
--- an operand gives what the source's argument is
-pub record IsGiven (space : Space) (references : List (Option ℕ)) (operand : Operand) (actual : Actual) : Type 0 where
+-- an operand gives the reference that the source's argument is
+pub record ReferenceIsGiven (space : Space) (references : List (Option ℕ)) (operand : Operand) (actual : Actual) : Type 0 where
   pub name : Identifier
   pub reference : Reference
   pub is : actual ≡ ReferenceActual name (as_static reference)
   pub agrees : ReferenceAgrees space (operand_at references operand) reference
+
+-- an operand gives what the source's argument is; a number is on the stack
+abbrev pub IsGiven : Space → List (Option ℕ) → Operand → Actual → Type 0
+IsGiven space references operand.Number actual = (z : ℤ) × (actual ≡ NumberActual z) × FitsSigned w32 z
+IsGiven space references operand actual = ReferenceIsGiven space references operand actual
 
 -- each operand is NULL or the address of a block
 abbrev pub AreAddresses : Space → List (Option ℕ) → List Operand → Type 0
@@ -61,12 +69,14 @@ IsAnswer s t (Leaves [] s' t' (ScalarResult (Int z))) (Ok word) = (s' ≡ s) × 
 IsAnswer s t effect answer = ⊥
 
 -- The answer is the effect of the source's call, in each state that the heap and the operands stand for.
-abbrev pub Answers : Classes → Space → (references : List (Option ℕ)) → Call → Result ℕ Trap → Type 0
-Answers classes space references function answer =
+abbrev pub Answers : Classes → Space → (references : List (Option ℕ)) → (stack : List ℕ) → Call → Result ℕ Trap → Type 0
+Answers classes space references stack function answer =
     (lent : BuffersInUse) (k line : ℕ) (s : Shared) (t : Thread) (target : source.Target) (args : List Actual) (rest : List source.Task)
     → t.pending ≡ None
     → BlocksAgree space s.heap space.blocks
     → length args ≡ length (prototype function.function).parameters
+    → AllZip OperandFits (prototype function.function).parameters function.operands
+    → stack ≡ words_given args
     → AllZip (IsGiven space references) function.operands args
     → IsAnswer s t (effect_of_call classes lent k s t line target function.function args rest) answer
 
@@ -82,10 +92,10 @@ abbrev pub with_result : List ℕ → Target → (word : ℕ) → List ℕ
 with_result numbers Dropped word = numbers
 with_result numbers (Number i) word = slice_set numbers i word
 
--- the call goes on after the instruction, with a word where it goes
+-- the call goes on after the instruction, with no argument on the stack and a word where it goes
 abbrev pub HasWord : Activation → Target → ℕ → Activation → Type 0
 HasWord call target word after =
-    (after.function ≡ call.function) × (after.place ≡ call.place + 1) × (after.stack ≡ call.stack)
+    (after.function ≡ call.function) × (after.place ≡ call.place + 1) × (after.stack ≡ [])
     × (after.numbers.items ≡ with_result call.numbers.items target word) × (after.references ≡ call.references)
 
 -- what the instruction did, by the answer
@@ -96,4 +106,4 @@ DidCall line target call after (Err trap) event = (after ≡ call) × (event ≡
 -- the call of a function
 abbrev pub Invoked : Classes → Space → Activation → Call → Activation → Event → Type 0
 Invoked classes space call function after event =
-    (answer : Result ℕ Trap) × Answers classes space call.references.items function answer × DidCall function.line function.target call after answer event
+    (answer : Result ℕ Trap) × Answers classes space call.references.items call.stack function answer × DidCall function.line function.target call after answer event

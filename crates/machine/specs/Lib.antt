@@ -1,4 +1,5 @@
 pub mod HeapAgrees
+pub mod Held
 pub mod Entry
 pub mod ArrayLengths
 pub mod Invoked

@@ -9,12 +9,10 @@ use Rattle.source.specs.declared.journal.Entry.{Entry}
 use Rattle.source.specs.declared.printed.Printed.{Printed}
 use Rattle.source.specs.declared.schedule.ScheduleWord.{ScheduleWord}
 use Rattle.source.specs.declared.schedule.ScheduleWord.TheVariants.{Turn, Collect}
-use Rattle.world.specs.Scene.{Scene}
-use Rattle.world.specs.SceneWorld.{world_of_scene}
 use Rattle.source.specs.Schedule.{Schedule}
 use Rattle.report.specs.Sink as sink
 use Rattle.report.specs.Sink.{Written}
-use Rattle.source.specs.World.{loaded_objects}
+use Rattle.source.specs.World.{World, loaded_objects}
 use Rattle.report.specs.RunText as run_text
 use Rattle.source.specs.Run.{replay, Follows, UnmarkedFit, MarkedAreFair}
 use Rattle.source.specs.State.{State, thread_at}
@@ -34,40 +32,40 @@ use Rattle.machine.specs.Agrees.{StaticsAgree, ThreadsAgree}
 use Rattle.machine.specs.HeapAgrees.{AgreesAtLoad}
 use Rattle.machine.specs.Stops.{stop_view}
 
--- a program's items, the world in memory, the steps taken, and the cells after the heap's highest block
+-- a program's items, the world, the steps taken, and the cells after the heap's highest block
 pub record Run : Type 0 where
   pub unit : List Item
-  pub world : Scene
+  pub world : World
   pub journal : List Entry
   pub left : ℕ
 
 -- the state that the journal leads to
 abbrev pub replay_of : Run → Option State
-replay_of r = replay (unit_tree r.unit) (world_of_scene r.world) r.journal
+replay_of r = replay (unit_tree r.unit) r.world r.journal
 
 -- a run of this program on this world before its first step
-pub record IsUnstarted (unit : List Item) (scene : Scene) (r : Run) : Type 0 where
+pub record IsUnstarted (unit : List Item) (world : World) (r : Run) : Type 0 where
   pub of_unit : r.unit ≡ unit
-  pub on_world : r.world ≡ scene
+  pub on_world : r.world ≡ world
   pub unstarted : r.journal ≡ []
 
 -- The machine stands for the state that its journal leads to.
-pub record Corresponds (p : Lowered) (scene : Scene) (space : Space) (addresses : List ℕ) (threads : List Thread) (printed : List Printed) (stop : Option Stop) (journal : List Entry) : Type 0 where
+pub record Corresponds (p : Lowered) (world : World) (space : Space) (addresses : List ℕ) (threads : List Thread) (printed : List Printed) (stop : Option Stop) (journal : List Entry) : Type 0 where
   pub lowered : IsLowered p
   pub state : State
-  pub replays : replay (unit_tree p.unit) (world_of_scene scene) journal ≡ Some state
-  pub threads_agree : ThreadsAgree p (world_of_scene scene).classes space (length addresses) state.shared threads state.threads
+  pub replays : replay (unit_tree p.unit) world journal ≡ Some state
+  pub threads_agree : ThreadsAgree p world.classes space (length addresses) state.shared threads state.threads
   pub same_printed : state.printed ≡ printed
   pub same_stop : state.stop ≡ option_map stop_view stop
   pub statics : StaticsAgree p state.shared
   -- no instruction allocates or enters a monitor yet
-  pub heap : state.shared.heap ≡ loaded_objects (world_of_scene scene)
-  pub blocks : AgreesAtLoad space addresses (world_of_scene scene)
+  pub heap : state.shared.heap ≡ loaded_objects world
+  pub blocks : AgreesAtLoad space addresses world
   pub monitors : state.shared.monitors ≡ []
   -- the steps that made objects had room, and no step was refused an allocation that had
-  pub fits : UnmarkedFit (unit_tree p.unit) (world_of_scene scene) journal
-  pub fair : MarkedAreFair (unit_tree p.unit) (world_of_scene scene) journal
-  pub count : length threads ≡ length scene.threads
+  pub fits : UnmarkedFit (unit_tree p.unit) world journal
+  pub fair : MarkedAreFair (unit_tree p.unit) world journal
+  pub count : length threads ≡ length world.threads
   pub few : length threads ≤ 8
 
 -- the numbers printed after a step
@@ -84,7 +82,7 @@ InState r P = (s : State) × (replay_of r ≡ Some s) × P s
 
 -- whether thread k can step in a state of the run
 abbrev pub can_turn : Run → State → ℕ → Bool
-can_turn r s k = can_step (world_of_scene r.world).classes s k
+can_turn r s k = can_step r.world.classes s k
 
 -- thread k has ended, and no trap has stopped the machine
 pub record HasEnded (s : State) (k : ℕ) : Type 0 where
@@ -128,7 +126,7 @@ CouldStep r k = (length r.journal < 1000000) × InState r (λ s. can_turn r s k 
 abbrev pub TurnHolds : Run → ℕ → Run → Answer → Type 0
 TurnHolds old k new turn.Stopped = (new ≡ old) × InState old (λ s. IsSome s.stop)
 TurnHolds old k new turn.Ended = (new ≡ old) × InState old (λ s. HasEnded s k)
-TurnHolds old k new (turn.Blocked all) = (new ≡ old) × InState old (λ s. IsWaiting (world_of_scene old.world).classes s k all)
+TurnHolds old k new (turn.Blocked all) = (new ≡ old) × InState old (λ s. IsWaiting old.world.classes s k all)
 TurnHolds old k new turn.Full = (new ≡ old) × (1000000 ≤ length old.journal) × InState old (λ s. can_turn old s k ≡ true)
 TurnHolds old k new turn.Short = (new ≡ refused old k new.left) × CouldStep old k
 TurnHolds old k new turn.Stepped = (new ≡ stepped old k new.left) × CouldStep old k
@@ -158,7 +156,7 @@ pub record RunsAlong (old new : Run) (schedule : Schedule) : Type 0 where
   pub before : State
   pub replays : replay_of old ≡ Some before
   pub after : State
-  pub follows : Follows (unit_tree old.unit) (world_of_scene old.world) before steps schedule after
+  pub follows : Follows (unit_tree old.unit) old.world before steps schedule after
 
 -- the steps of a beginning of the schedule were taken, and the next word would have given a step
 pub record RunsInto (old new : Run) (schedule : Schedule) : Type 0 where
@@ -182,14 +180,14 @@ StoppedBy r stop = InState r (λ s. s.stop ≡ option_map stop_view stop)
 
 -- whether no thread can take a step any more
 abbrev pub IsFinished : Run → Bool → Type 0
-IsFinished r answer = InState r (λ s. answer ≡ is_finished (world_of_scene r.world).classes s)
+IsFinished r answer = InState r (λ s. answer ≡ is_finished r.world.classes s)
 
 -- ---- reports
 
 -- what a run writes in all was written, or a beginning of it
 pub record WritesRun {T E : Type 0} (r : Run) (old new : Written) (result : Result T E) : Type 0 where
   pub text : List ℕ
-  pub is : run_text.Writes (unit_tree r.unit) (world_of_scene r.world) r.journal text
-  pub fits : UnmarkedFit (unit_tree r.unit) (world_of_scene r.world) r.journal
-  pub fair : MarkedAreFair (unit_tree r.unit) (world_of_scene r.world) r.journal
+  pub is : run_text.Writes (unit_tree r.unit) r.world r.journal text
+  pub fits : UnmarkedFit (unit_tree r.unit) r.world r.journal
+  pub fair : MarkedAreFair (unit_tree r.unit) r.world r.journal
   pub written : sink.Writes old new result text

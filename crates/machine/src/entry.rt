@@ -2,7 +2,7 @@
 
 ghost use Rattle.std.specs.Prelude.{◌≡◌, ℕ, ◌-◌, ◌<◌, ◌≤◌, ◌∷◌, ◌++◌, [], List, length, map, filter_map, slice_get, IfOk, IsTrue};
 ghost use Rattle.std.specs.List.{list_all};
-ghost use Rattle.world.specs.Views.{argument_view};
+ghost use Rattle.world.specs.Views.{object_value_view};
 ghost use Rattle.world.specs.CallArguments.{is_argument};
 ghost use Rattle.lower.specs.Slots.{argument_word, HasRoom};
 ghost use Rattle.machine.specs.Entry.{argument_address, IsNumbersOf, IsReferencesOf, BeginsIn};
@@ -13,7 +13,7 @@ use code::stack::Stack;
 use heap::Addr;
 use std::alloc::{AllocError, Global};
 use std::vec::VecCloneMethods;
-use world::Argument;
+use world::ObjectValue;
 
 /// A call before its first instruction.
 pub fn begin(
@@ -23,8 +23,8 @@ pub fn begin(
     next: &PendingCall,
 ) -> Result<Activation, AllocError>
     requires class { 0 < next.now.class }
-    requires given { IsTrue (list_all (is_argument (length loaded.now)) (map argument_view next.now.arguments.items)) }
-    requires room { HasRoom code.now (map argument_view next.now.arguments.items) }
+    requires given { IsTrue (list_all (is_argument (length loaded.now)) (map object_value_view next.now.arguments.items)) }
+    requires room { HasRoom code.now (map object_value_view next.now.arguments.items) }
     ensures { IfOk result (λ call. BeginsIn code.now loaded.now next.now call) }
 {
     let slots = code.slots();
@@ -44,16 +44,20 @@ pub fn begin(
 }
 
 /// `count` number slots, of which the first hold the numbers that the call is given.
-fn number_slots(alloc: Global, arguments: &[Argument], count: usize) -> Result<Vec<u32>, AllocError>
-    requires given { (made : ℕ) × IsTrue (list_all (is_argument made) (map argument_view arguments.now)) }
-    requires room { length (filter_map argument_word (map argument_view arguments.now)) ≤ count }
-    ensures { IfOk result (λ v. IsNumbersOf count (map argument_view arguments.now) v.items) }
+fn number_slots(
+    alloc: Global,
+    arguments: &[ObjectValue],
+    count: usize,
+) -> Result<Vec<u32>, AllocError>
+    requires given { (made : ℕ) × IsTrue (list_all (is_argument made) (map object_value_view arguments.now)) }
+    requires room { length (filter_map argument_word (map object_value_view arguments.now)) ≤ count }
+    ensures { IfOk result (λ v. IsNumbersOf count (map object_value_view arguments.now) v.items) }
 {
     let mut slots = Vec::new(alloc);
     for argument in arguments {
         match argument {
-            Argument::Number(number) => slots.push(number.cast_unsigned())?,
-            Argument::Reference(_) => {}
+            ObjectValue::Number(number) => slots.push(number.cast_unsigned())?,
+            ObjectValue::Reference(_) => {}
         }
     }
     slots.resize(count, 0)?;
@@ -65,21 +69,21 @@ fn reference_slots(
     alloc: Global,
     loaded: &[Addr],
     class: usize,
-    arguments: &[Argument],
+    arguments: &[ObjectValue],
     count: usize,
 ) -> Result<Vec<Option<Addr>>, AllocError>
     requires class { 0 < class }
-    requires given { IsTrue (list_all (is_argument (length loaded.now)) (map argument_view arguments.now)) }
-    requires room { length (filter_map (argument_address loaded.now) (map argument_view arguments.now)) < count }
-    ensures { IfOk result (λ v. IsReferencesOf count loaded.now class (map argument_view arguments.now) v.items) }
+    requires given { IsTrue (list_all (is_argument (length loaded.now)) (map object_value_view arguments.now)) }
+    requires room { length (filter_map (argument_address loaded.now) (map object_value_view arguments.now)) < count }
+    ensures { IfOk result (λ v. IsReferencesOf count loaded.now class (map object_value_view arguments.now) v.items) }
 {
     let mut slots = Vec::new(alloc);
     slots.push(object_of(loaded, class))?;
     for argument in arguments {
         match argument {
-            Argument::Number(_) => {}
-            Argument::Reference(None) => slots.push(None)?,
-            Argument::Reference(Some(name)) => slots.push(object_of(loaded, *name as usize))?,
+            ObjectValue::Number(_) => {}
+            ObjectValue::Reference(None) => slots.push(None)?,
+            ObjectValue::Reference(Some(name)) => slots.push(object_of(loaded, *name as usize))?,
         }
     }
     slots.resize(count, None)?;

@@ -4,13 +4,13 @@ ghost use Rattle.std.specs.Prelude.{◌≡◌, true, ℕ, ◌<◌, ◌+◌, Some
 ghost use Rattle.code.specs.Call.{call_view};
 ghost use Rattle.jni.specs.BuiltFunctions.{is_built_function};
 ghost use Rattle.heap.specs.Heap.{IsAddress};
-ghost use Rattle.world.specs.SceneWorld.{world_of_scene};
 ghost use Rattle.machine.specs.Invoked.{operand_at, AreAddresses, Answers, HasTarget, with_result, Invoked};
 ghost use Rattle.machine.specs.ArrayLengths.{first_operand, LengthIs};
 
 use crate::stop::Trap;
 use crate::thread::{Activation, Event};
 use code::instr::{Call, Operand, Target};
+use code::stack::Stack;
 use heap::{Addr, Heap};
 use jni::JniFunction;
 use world::World;
@@ -21,10 +21,11 @@ pub fn invoke(world: &World, heap: &Heap, call: &mut Activation, function: &Call
     requires built { is_built_function (call_view function.now).function ≡ true }
     requires slot { HasTarget call.old.numbers.items function.now.target }
     requires place { call.old.place + 1 < 18446744073709551616 }
-    ensures { Invoked (world_of_scene world.now).classes heap.now call.old (call_view function.now) call.new result }
+    ensures { Invoked world.now.classes heap.now call.old (call_view function.now) call.new result }
 {
-    match answer(world, heap, &call.references, function) {
+    match answer(world, heap, &call.references, &call.stack, function) {
         Ok(word) => {
+            call.stack.clear();
             put(&mut call.numbers, function.target, word);
             call.place += 1;
             Event::Quiet
@@ -34,17 +35,19 @@ pub fn invoke(world: &World, heap: &Heap, call: &mut Activation, function: &Call
 }
 
 /// What a function gives.
-
 fn answer(
     world: &World,
     heap: &Heap,
     references: &[Option<Addr>],
+    stack: &Stack,
     function: &Call,
 ) -> Result<u32, Trap>
     requires objects { AreAddresses heap.now references.now (call_view function.now).operands }
     requires built { is_built_function (call_view function.now).function ≡ true }
-    ensures { Answers (world_of_scene world.now).classes heap.now references.now (call_view function.now) result }
+    ensures { Answers world.now.classes heap.now references.now stack.now (call_view function.now) result }
 {
+    // No function that can be called today takes a number.
+    let _ = stack;
     let first = first_operand(&function.operands);
     match function.function {
         JniFunction::GetArrayLength => {
@@ -78,7 +81,7 @@ fn reference_in(references: &[Option<Addr>], operand: Operand) -> Option<Addr>
     ensures { result ≡ operand_at references.now operand }
 {
     match operand {
-        Operand::Null | Operand::Static(_) => None,
+        Operand::Null | Operand::Static(_) | Operand::Number => None,
         Operand::Local(slot) => references.get(slot as usize).copied().unwrap_or(None),
     }
 }
@@ -86,7 +89,7 @@ fn reference_in(references: &[Option<Addr>], operand: Operand) -> Option<Addr>
 /// The length of an array ("GetArrayLength").
 fn array_length(world: &World, heap: &Heap, array: Option<Addr>) -> Result<u32, Trap>
     requires { (a : ℕ) → array ≡ Some a → IsAddress heap.now a }
-    ensures { LengthIs (world_of_scene world.now).classes heap.now array result }
+    ensures { LengthIs world.now.classes heap.now array result }
 {
     // The proof reads off these calls that no array has more elements than there are cells.
     let _ = heap.count();
@@ -94,7 +97,7 @@ fn array_length(world: &World, heap: &Heap, array: Option<Addr>) -> Result<u32, 
     let Some(addr) = array else {
         return Err(Trap::NullReference);
     };
-    if !world.is_array_class(heap.class_of(addr) as usize) {
+    if !world.classes().is_array(heap.class_of(addr) as usize) {
         return Err(Trap::WrongObject);
     }
     Ok(heap.len_of(addr) as u32)

@@ -8,9 +8,8 @@ ghost use Rattle.classes.specs.Class.{class_named};
 ghost use Rattle.classes.specs.Mangling.{native_class};
 ghost use Rattle.heap.specs.Heap.{Space};
 ghost use Rattle.world.specs.CallArguments.{are_arguments};
-ghost use Rattle.world.specs.Scene.{has_call};
-ghost use Rattle.world.specs.SceneWorld.{world_of_scene, invocation_of};
-ghost use Rattle.world.specs.Views.{argument_view};
+ghost use Rattle.world.specs.SoundWorlds.{has_call};
+ghost use Rattle.world.specs.Views.{object_value_view};
 ghost use Rattle.source.specs.World.{loaded_objects};
 ghost use Rattle.source.specs.Activation.{function_at};
 ghost use Rattle.source.specs.Load.{fits_parameter, fit_parameters};
@@ -26,7 +25,7 @@ use lower::Program;
 use std::alloc::{AllocError, Global};
 use std::collections::VecDeque;
 use syntax::{Function, Item, Parameter, ParameterType};
-use world::{Argument, Call, World};
+use world::{Call, ObjectValue, World};
 
 /// The world's threads before their first calls.
 pub fn load_threads(
@@ -34,10 +33,10 @@ pub fn load_threads(
     program: &Program<'_>,
     world: &World,
 ) -> Result<Vec<Thread>, LoadFault>
-    ensures agree { IfOk result (λ threads. (space : Space) (shared : Shared) → ThreadsAgree program.now (world_of_scene world.now).classes space (length (loaded_objects (world_of_scene world.now))) shared threads.items
-        (map waiting_thread (world_of_scene world.now).threads)) }
-    ensures all { OnOk result (flat_map (refused_calls (unit_tree program.now.unit) (world_of_scene world.now).classes) (world_of_scene world.now).threads ≡ []) }
-    ensures refused { IfErr result (IsFirstOf (flat_map (refused_calls (unit_tree program.now.unit) (world_of_scene world.now).classes) (world_of_scene world.now).threads)) }
+    ensures agree { IfOk result (λ threads. (space : Space) (shared : Shared) → ThreadsAgree program.now world.now.classes space (length (loaded_objects world.now)) shared threads.items
+        (map waiting_thread world.now.threads)) }
+    ensures all { OnOk result (flat_map (refused_calls (unit_tree program.now.unit) world.now.classes) world.now.threads ≡ []) }
+    ensures refused { IfErr result (IsFirstOf (flat_map (refused_calls (unit_tree program.now.unit) world.now.classes) world.now.threads)) }
 {
     let mut threads = Vec::new(alloc);
     for calls in world.threads() {
@@ -57,11 +56,11 @@ fn load_thread(
     calls: &[Call],
 ) -> Result<Thread, LoadFault>
     requires some { IsTrue (has_call calls.now) }
-    requires given { IsTrue (list_all (are_arguments (length (loaded_objects (world_of_scene world.now)))) calls.now) }
-    ensures agrees { IfOk result (λ thread. (space : Space) (shared : Shared) → ThreadAgrees program.now (world_of_scene world.now).classes space (length (loaded_objects (world_of_scene world.now))) shared thread
-        (waiting_thread (map invocation_of calls.now))) }
-    ensures all { OnOk result (refused_calls (unit_tree program.now.unit) (world_of_scene world.now).classes (map invocation_of calls.now) ≡ []) }
-    ensures refused { IfErr result (IsFirstOf (refused_calls (unit_tree program.now.unit) (world_of_scene world.now).classes (map invocation_of calls.now))) }
+    requires given { IsTrue (list_all (are_arguments (length (loaded_objects world.now))) calls.now) }
+    ensures agrees { IfOk result (λ thread. (space : Space) (shared : Shared) → ThreadAgrees program.now world.now.classes space (length (loaded_objects world.now)) shared thread
+        (waiting_thread calls.now)) }
+    ensures all { OnOk result (refused_calls (unit_tree program.now.unit) world.now.classes calls.now ≡ []) }
+    ensures refused { IfErr result (IsFirstOf (refused_calls (unit_tree program.now.unit) world.now.classes calls.now)) }
 {
     let mut nexts = VecDeque::new(alloc);
     for call in calls {
@@ -84,8 +83,8 @@ fn load_call(
     world: &World,
     call: &Call,
 ) -> Result<Option<PendingCall>, AllocError>
-    requires { IsTrue (are_arguments (length (loaded_objects (world_of_scene world.now))) call.now) }
-    ensures { IfOk result (IsCallOf program.now (world_of_scene world.now).classes (length (loaded_objects (world_of_scene world.now))) (invocation_of call.now)) }
+    requires { IsTrue (are_arguments (length (loaded_objects world.now)) call.now) }
+    ensures { IfOk result (IsCallOf program.now world.now.classes (length (loaded_objects world.now)) call.now) }
 {
     let Some(found) = function_named(program, call.function()) else {
         return Ok(None);
@@ -109,17 +108,17 @@ fn native_class_number(
     world: &World,
     name: &[u8],
 ) -> Result<Option<usize>, AllocError>
-    ensures { IfOk result (λ number. number ≡ option_and_then (class_named (world_of_scene world.now).classes) (native_class name.now)) }
+    ensures { IfOk result (λ number. number ≡ option_and_then (class_named world.now.classes) (native_class name.now)) }
 {
     match unmangle(alloc, name)? {
-        Some(native) => Ok(world.class_number(&native.class)),
+        Some(native) => Ok(world.classes().find(&native.class)),
         None => Ok(None),
     }
 }
 
 /// Whether there are as many arguments as parameters, each of its kind.
-fn fit(parameters: &[Parameter], arguments: &[Argument]) -> bool
-    ensures { result ≡ fit_parameters (map parameter_tree parameters.now) (map argument_view arguments.now) }
+fn fit(parameters: &[Parameter], arguments: &[ObjectValue]) -> bool
+    ensures { result ≡ fit_parameters (map parameter_tree parameters.now) (map object_value_view arguments.now) }
 {
     match parameters {
         [] => arguments.is_empty(),
@@ -133,12 +132,12 @@ fn fit(parameters: &[Parameter], arguments: &[Argument]) -> bool
 }
 
 /// Whether an argument is of the kind of a parameter: a number for `jint`, and NULL or an object for a reference.
-fn fits(kind: ParameterType, argument: Argument) -> bool
-    ensures { result ≡ fits_parameter (parameter_type_tree kind) (argument_view argument) }
+fn fits(kind: ParameterType, argument: ObjectValue) -> bool
+    ensures { result ≡ fits_parameter (parameter_type_tree kind) (object_value_view argument) }
 {
     match (kind, argument) {
-        (ParameterType::Jint, Argument::Number(_)) => true,
-        (ParameterType::Reference(_), Argument::Reference(_)) => true,
+        (ParameterType::Jint, ObjectValue::Number(_)) => true,
+        (ParameterType::Reference(_), ObjectValue::Reference(_)) => true,
         _ => false,
     }
 }

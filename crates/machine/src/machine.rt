@@ -3,7 +3,6 @@
 ghost use Rattle.std.specs.Prelude.{◌≡◌, ℕ, ◌+◌, ◌-◌, ◌<◌, ◌≤◌, [], ◌∷◌, ◌++◌, length, map, replicate, take, IfOk, IfErr, OnOk, OnErr, IfSome, IfNone, IsSome, Err, None, vec_len, vec_capacity};
 ghost use Rattle.std.specs.List.{list_all, enumerate_from};
 ghost use Rattle.syntax.specs.Views.{unit_tree};
-ghost use Rattle.world.specs.SceneWorld.{world_of_scene};
 ghost use Rattle.report.specs.Sink.{CanFail};
 ghost use Rattle.source.specs.Load.{first_load_fault};
 ghost use Rattle.source.specs.Object.{sizes};
@@ -67,9 +66,9 @@ impl<'a> Machine<'a> {
     /// unknown, or the arguments don't fit the parameters in number and kind. The objects that the world begins with lie in its heap.
     pub fn load(alloc: Global, program: Program<'a>, world: World) -> Result<Machine<'a>, LoadFault>
         ensures ok { IfOk result (IsUnstarted program.entry.unit world) }
-        ensures fits { OnOk result (first_load_fault (unit_tree program.entry.unit) (world_of_scene world) ≡ None) }
-        ensures left { IfOk result (λ m. m.left ≡ world.heap - sizes (loaded_objects (world_of_scene world))) }
-        ensures fault { IfErr result (IsLoadFault (unit_tree program.entry.unit) (world_of_scene world)) }
+        ensures fits { OnOk result (first_load_fault (unit_tree program.entry.unit) world ≡ None) }
+        ensures left { IfOk result (λ m. m.left ≡ world.cells - sizes (loaded_objects world)) }
+        ensures fault { IfErr result (IsLoadFault (unit_tree program.entry.unit) world) }
     {
         // The proof reads off these calls what is known of a program and of a world.
         let _ = program.items();

@@ -1,109 +1,147 @@
 //! The objects that are there when a run begins.
 
-ghost use Rattle.std.specs.Prelude.{◌≡◌, ◌+◌, ◌<◌, ◌≤◌, [], ◌∷◌, ◌++◌, length, map, IfOk, OnOk};
-ghost use Rattle.heap.specs.Heap.{IsLaidOut, left_of, end_of, fresh_block, with_block};
-ghost use Rattle.world.specs.SceneWorld.{world_of_scene};
-ghost use Rattle.world.specs.Views.{element_view};
-ghost use Rattle.source.specs.World.{loaded_objects};
-ghost use Rattle.classes.specs.BuiltIns.{number_array};
-ghost use Rattle.source.specs.Object.{Number};
-ghost use Rattle.source.specs.Heap.{Heap as Objects};
+ghost use Rattle.std.specs.Prelude.{◌≡◌, ◌+◌, ◌^◌, ◌<◌, ◌≤◌, [], ◌∷◌, ◌++◌, length, map, take, IfOk, OnOk, IsTrue};
+ghost use Rattle.std.specs.List.{list_all};
+ghost use Rattle.class_table.specs.Views.{field_type_view, field_view};
+ghost use Rattle.classes.specs.Fields.{layout};
+ghost use Rattle.heap.specs.Heap.{IsLaidOut, left_of};
 ghost use Rattle.machine.specs.HeapAgrees.{AreMade};
-ghost use Rattle.source.specs.World.{made_before};
+ghost use Rattle.machine.specs.Held.{held_value};
+ghost use Rattle.source.specs.Heap.{Heap as Objects};
+ghost use Rattle.source.specs.World.{initial, loaded_objects};
+ghost use Rattle.world.specs.CallArguments.{is_argument};
+ghost use Rattle.world.specs.Views.{object_value_view};
 
+use class_table::built_ins::{CLASS, OUT_OF_MEMORY_ERROR};
+use class_table::class::{Field, FieldType};
+use class_table::table::ClassTable;
 use heap::{Addr, Heap, MOST_CELLS, Value};
 use std::alloc::{AllocError, Global};
-use world::{Element, World};
-
-/// The class of class objects, java/lang/Class, by its number.
-const CLASS: u32 = 2;
-
-/// The class java/lang/OutOfMemoryError, by its number.
-const OUT_OF_MEMORY_ERROR: u32 = 11;
+use world::{ObjectValue, World};
 
 /// The heap with the objects that are made before the first step: the class objects, the OutOfMemoryError object and
 /// the world's, in this order. After it the address of each, by its name, counted from 1.
 pub fn load_heap(alloc: Global, world: &World) -> Result<(Heap, Vec<Addr>), AllocError>
-    ensures made { IfOk result (λ made. AreMade made.0 made.1.items (loaded_objects (world_of_scene world.now))) }
-    ensures cells { IfOk result (λ made. made.0.cells ≡ world.now.heap) }
+    ensures made { IfOk result (λ made. AreMade made.0 made.1.items (loaded_objects world.now)) }
+    ensures cells { IfOk result (λ made. made.0.cells ≡ world.now.cells) }
 {
-    // The proof reads off this call that the world's objects fit into its heap.
-    let _ = world.objects();
-    let mut heap = Heap::new(alloc, world.heap())?;
+    let mut heap = Heap::new(alloc, world.cells())?;
     let mut loaded = Vec::new(alloc);
-    for _class in 0..world.class_count() {
-        make(&mut heap, &mut loaded, CLASS, 0, Value::Null)?;
-    }
-    make(&mut heap, &mut loaded, OUT_OF_MEMORY_ERROR, 1, Value::Null)?;
-    make_arrays(&mut heap, &mut loaded, world)?;
+    make_class_objects(alloc, &mut heap, &mut loaded, world)?;
+    let error = fresh_values(alloc, world.classes(), OUT_OF_MEMORY_ERROR)?;
+    make(&mut heap, &mut loaded, OUT_OF_MEMORY_ERROR, &error)?;
+    make_objects(&mut heap, &mut loaded, world)?;
     Ok((heap, loaded))
 }
 
-/// Makes the world's objects.
-fn make_arrays(heap: &mut Heap, loaded: &mut Vec<Addr>, world: &World) -> Result<(), AllocError>
-    requires first { AreMade heap.old loaded.old.items (made_before (world_of_scene world.now).classes) }
-    requires cells { heap.old.cells ≡ world.now.heap }
-    ensures made { OnOk result (AreMade heap.new loaded.new.items (loaded_objects (world_of_scene world.now))) }
-    ensures cells { OnOk result (heap.new.cells ≡ world.now.heap) }
+/// Makes the class objects, which hold the statics that their classes declare.
+fn make_class_objects(
+    alloc: Global,
+    heap: &mut Heap,
+    loaded: &mut Vec<Addr>,
+    world: &World,
+) -> Result<(), AllocError>
+    requires none { AreMade heap.old loaded.old.items [] }
+    requires cells { heap.old.cells ≡ world.now.cells }
+    ensures made { OnOk result (AreMade heap.new loaded.new.items (take (length world.now.classes) (loaded_objects world.now))) }
+    ensures cells { OnOk result (heap.new.cells ≡ world.now.cells) }
 {
-    // The proof reads off this call how many cells the heap has.
-    let _ = world.heap();
-    for array in world.objects() {
-        make_array(heap, loaded, array_class(array.element()), array.values())?;
+    let classes = world.classes();
+    for place in 0..classes.len() {
+        let values = initial_values(alloc, classes.own_statics(place + 1))?;
+        make(heap, loaded, CLASS, &values)?;
     }
     Ok(())
 }
 
-/// The number of the class of arrays with such elements.
-fn array_class(element: Element) -> u32
-    ensures { result ≡ number_array (element_view element) }
+/// Makes the world's objects.
+fn make_objects(heap: &mut Heap, loaded: &mut Vec<Addr>, world: &World) -> Result<(), AllocError>
+    requires first { AreMade heap.old loaded.old.items (take (length world.now.classes + 1) (loaded_objects world.now)) }
+    requires cells { heap.old.cells ≡ world.now.cells }
+    ensures made { OnOk result (AreMade heap.new loaded.new.items (loaded_objects world.now)) }
+    ensures cells { OnOk result (heap.new.cells ≡ world.now.cells) }
 {
-    match element {
-        Element::Byte => 20,
-        Element::Char => 21,
-        Element::Short => 22,
-        Element::Int => 23,
+    // The proof reads off this call how many classes there are.
+    let _ = world.classes().len();
+    for object in world.objects() {
+        make(heap, loaded, object.class(), object.values())?;
+    }
+    Ok(())
+}
+
+/// What new fields hold.
+fn initial_values(alloc: Global, fields: &[Field]) -> Result<Vec<ObjectValue>, AllocError>
+    ensures { IfOk result (λ values. map object_value_view values.items ≡ map (λ f. initial (field_view f).type) fields.now) }
+{
+    let mut values = Vec::new(alloc);
+    for field in fields {
+        values.push(initial(field.field_type))?;
+    }
+    Ok(values)
+}
+
+/// What the fields of a new object of the class hold.
+fn fresh_values(
+    alloc: Global,
+    classes: &ClassTable,
+    class: usize,
+) -> Result<Vec<ObjectValue>, AllocError>
+    ensures { IfOk result (λ values. map object_value_view values.items ≡ map (λ f. initial f.field.type) (layout classes.now class)) }
+{
+    let mut values = Vec::new(alloc);
+    for place in 0..classes.layout_len(class) {
+        let id = classes.layout_field(class, place).unwrap();
+        values.push(initial(id.field.field_type))?;
+    }
+    Ok(values)
+}
+
+/// What a new field of this type holds.
+fn initial(field_type: FieldType) -> ObjectValue
+    ensures { object_value_view result ≡ initial (field_type_view field_type) }
+{
+    match field_type {
+        FieldType::Number(_) => ObjectValue::Number(0),
+        FieldType::Reference(_) => ObjectValue::Reference(None),
     }
 }
 
-/// Makes the next object, whose values are all the same.
+/// Makes the next object, with these values.
 fn make(
     heap: &mut Heap,
     loaded: &mut Vec<Addr>,
-    class: u32,
-    len: usize,
-    fill: Value,
-) -> Result<Addr, AllocError>
-    requires room { 3 + len ≤ left_of heap.old }
-    requires few { length loaded.old.items < MOST_CELLS }
-    ensures address { IfOk result (λ addr. addr ≡ end_of heap.old) }
-    ensures heap { OnOk result (heap.new ≡ with_block heap.old (fresh_block (end_of heap.old) class (length loaded.old.items + 1) len fill)) }
-    ensures loaded { OnOk result (loaded.new.items ≡ loaded.old.items ++ end_of heap.old ∷ []) }
-{
-    let birth = loaded.len() as u32 + 1;
-    let addr = heap.alloc(class, birth, len, fill).unwrap();
-    loaded.push(addr)?;
-    Ok(addr)
-}
-
-/// Makes the next object, an array of these numbers.
-fn make_array(
-    heap: &mut Heap,
-    loaded: &mut Vec<Addr>,
-    class: u32,
-    numbers: &[i32],
+    class: usize,
+    values: &[ObjectValue],
 ) -> Result<(), AllocError>
-    requires room { 3 + length numbers.now ≤ left_of heap.old }
+    requires class { class < 2 ^ 32 }
+    requires room { 3 + length values.now ≤ left_of heap.old }
     requires few { length loaded.old.items < MOST_CELLS }
     requires laid_out { IsLaidOut heap.old }
+    requires given { IsTrue (list_all (is_argument (length loaded.old.items)) (map object_value_view values.now)) }
     ensures made { (objects : Objects) → AreMade heap.old loaded.old.items objects
-        → OnOk result (AreMade heap.new loaded.new.items (objects ++ record { class = class; values = map Number numbers.now } ∷ [])) }
+        → OnOk result (AreMade heap.new loaded.new.items (objects ++ record { class = class; values = map object_value_view values.now } ∷ [])) }
     ensures cells { OnOk result (heap.new.cells ≡ heap.old.cells) }
 {
-    let addr = make(heap, loaded, class, numbers.len(), Value::Number(0))?;
-    for place in 0..numbers.len() {
-        let number = numbers.get(place).copied().unwrap();
-        heap.set_number(addr, place, number.cast_unsigned());
+    loaded.reserve(1)?;
+    let birth = loaded.len() as u32 + 1;
+    let addr = heap
+        .alloc(class as u32, birth, values.len(), Value::Null)
+        .unwrap();
+    for place in 0..values.len() {
+        heap.set(addr, place, held(loaded, values[place]));
     }
+    loaded.push(addr).unwrap();
     Ok(())
+}
+
+/// How a cell holds a value: an object by its address.
+fn held(loaded: &[Addr], value: ObjectValue) -> Value
+    requires { IsTrue (is_argument (length loaded.now) (object_value_view value)) }
+    ensures { result ≡ held_value loaded.now (object_value_view value) }
+{
+    match value {
+        ObjectValue::Number(number) => Value::Number(number.cast_unsigned()),
+        ObjectValue::Reference(None) => Value::Null,
+        ObjectValue::Reference(Some(name)) => Value::Block(loaded[name as usize - 1]),
+    }
 }

@@ -5,7 +5,6 @@ ghost use Rattle.classes.specs.Class.{Classes};
 ghost use Rattle.heap.specs.Heap.{IsAddress, values_at};
 ghost use Rattle.source.specs.Object.{Refers};
 ghost use Rattle.report.specs.ReportText.{object_line, shown_text};
-ghost use Rattle.world.specs.SceneWorld.{world_of_scene};
 ghost use Rattle.report.specs.Shown.{shown_view};
 ghost use Rattle.report.specs.Sink.{CanFail, Writes};
 ghost use Rattle.source.specs.World.{loaded_objects};
@@ -26,26 +25,24 @@ pub struct LoadedRows<'a> {
 }
 
 impl<'a> Model for LoadedRows<'a> {
-    ghost use Rattle.world.specs.Scene.{Scene};
-    ghost use Rattle.world.specs.SceneWorld.{world_of_scene};
+    ghost use Rattle.source.specs.World.{World as SourceWorld};
     ghost use Rattle.machine.specs.HeapAgrees.{AgreesAtLoad};
 
-    ghost Value = { Scene };
+    ghost Value = { SourceWorld };
 
     ghost view = { λ r. r.world.now };
 
-    ghost invariant = { λ r. AgreesAtLoad r.heap.now r.loaded.now (world_of_scene r.world.now) };
+    ghost invariant = { λ r. AgreesAtLoad r.heap.now r.loaded.now r.world.now };
 }
 
 impl<'a> Rows for LoadedRows<'a> {
-    ghost use Rattle.world.specs.SceneWorld.{world_of_scene};
     ghost use Rattle.source.specs.ReportOf.{loaded_rows};
 
-    ghost rows = { λ r. loaded_rows (world_of_scene r) };
+    ghost rows = { λ r. loaded_rows r };
 
     fn put<S: Sink>(&self, sink: &mut S) -> Result<(), SinkFailed> {
         // The proof reads off this call that names are below 2 to the 32.
-        let _ = self.world.heap();
+        let _ = self.world.cells();
         let before = self.loaded.len() - self.world.objects().len();
         for place in before..self.loaded.len() {
             let name = place as u32 + 1;
@@ -66,9 +63,9 @@ fn put_row<S: Sink>(
     requires can_fail { CanFail (S.written sink.old) }
     requires address { IsAddress heap.now addr }
     requires there { AreThere heap.now (values_at heap.now addr) }
-    ensures { Writes (S.written sink.old) (S.written sink.new) result (object_line (block_row (world_of_scene world.now).classes heap.now name addr)) }
+    ensures { Writes (S.written sink.old) (S.written sink.new) result (object_line (block_row world.now.classes heap.now name addr)) }
 {
-    let class = world.class_name(heap.class_of(addr) as usize);
+    let class = world.classes().name(heap.class_of(addr) as usize);
     put_row_head(sink, name, class)?;
     put_values(sink, world, heap, addr)?;
     put_row_end(sink)
@@ -84,7 +81,7 @@ fn put_values<S: Sink>(
     requires can_fail { CanFail (S.written sink.old) }
     requires address { IsAddress heap.now addr }
     requires there { AreThere heap.now (values_at heap.now addr) }
-    ensures { Writes (S.written sink.old) (S.written sink.new) result (flat_map (λ v. codes " " ++ shown_text v) (shown_cells (world_of_scene world.now).classes heap.now (values_at heap.now addr))) }
+    ensures { Writes (S.written sink.old) (S.written sink.new) result (flat_map (λ v. codes " " ++ shown_text v) (shown_cells world.now.classes heap.now (values_at heap.now addr))) }
 {
     for place in 0..heap.len_of(addr) {
         let value = heap.get(addr, place);
@@ -96,7 +93,7 @@ fn put_values<S: Sink>(
 /// A value as a report shows it.
 fn shown<'a>(world: &'a World, heap: &Heap, value: &Value) -> Shown<'a>
     requires { IsThere heap.now value.now }
-    ensures { shown_view result ≡ shown_cell (world_of_scene world.now).classes heap.now value.now }
+    ensures { shown_view result ≡ shown_cell world.now.classes heap.now value.now }
 {
     match value {
         Value::Number(number) => Shown::Number(number.cast_signed()),
@@ -107,10 +104,11 @@ fn shown<'a>(world: &'a World, heap: &Heap, value: &Value) -> Shown<'a>
 
 /// An object of this name as a report shows it: a class object by the name of its class.
 fn shown_object<'a>(world: &'a World, name: u32) -> Shown<'a>
-    ensures { shown_view result ≡ shown_value (world_of_scene world.now).classes (Refers (Some name)) }
+    ensures { shown_view result ≡ shown_value world.now.classes (Refers (Some name)) }
 {
-    if name as usize <= world.class_count() {
-        Shown::Class(world.class_name(name as usize))
+    let classes = world.classes();
+    if name as usize <= classes.len() {
+        Shown::Class(classes.name(name as usize))
     } else {
         Shown::Object(name)
     }

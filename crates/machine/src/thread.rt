@@ -5,7 +5,6 @@ ghost use Rattle.std.specs.VecDeque.{deque_len};
 ghost use Rattle.source.specs.Effect.{effect_of};
 ghost use Rattle.source.specs.Task.{Task};
 ghost use Rattle.source.specs.Thread.{BuffersInUse, Shared, Thread as SourceThread, sight_of};
-ghost use Rattle.world.specs.SceneWorld.{world_of_scene};
 ghost use Rattle.lower.specs.Lowered.{IsLowered};
 ghost use Rattle.lower.specs.Slots.{Visible, visible_to};
 ghost use Rattle.machine.specs.Agrees.{StaticsAgree, ThreadAgrees, CallStands, Executes, Advances, ending_after};
@@ -23,7 +22,7 @@ use heap::{Addr, Heap};
 use lower::Program;
 use std::alloc::AllocError;
 use std::collections::VecDeque;
-use world::{Argument, World};
+use world::{ObjectValue, World};
 
 /// Whether a thread has ended.
 #[derive(Clone, Copy, PartialEq, Eq)]
@@ -56,7 +55,7 @@ pub struct Thread {
 pub struct PendingCall {
     pub function: usize,
     pub class: usize,
-    pub arguments: Vec<Argument>,
+    pub arguments: Vec<ObjectValue>,
 }
 
 /// A call in progress: its place in its function's code, its operands, and the slots of its variables. A
@@ -87,10 +86,10 @@ pub fn advance(
     thread: &mut Thread,
 ) -> Result<Event, AllocError>
     requires lowered { IsLowered program.now }
-    requires agrees { (shared : Shared) × (s : SourceThread) × ThreadAgrees program.now (world_of_scene world.now).classes heap.now (length loaded.now) shared thread.old s × (thread.old.ending ≡ Ending.Unfinished) }
+    requires agrees { (shared : Shared) × (s : SourceThread) × ThreadAgrees program.now world.now.classes heap.now (length loaded.now) shared thread.old s × (thread.old.ending ≡ Ending.Unfinished) }
     ensures advances { IfOk result (λ event. (lent : BuffersInUse) (k : ℕ) (shared : Shared) (s : SourceThread) → shared.monitors ≡ [] → StaticsAgree program.now shared → BlocksAgree heap.now shared.heap heap.now.blocks
-        → IsTable heap.now loaded.now (length loaded.now) → ThreadAgrees program.now (world_of_scene world.now).classes heap.now (length loaded.now) shared thread.old s
-        → Advances program.now (world_of_scene world.now).classes heap.now (length loaded.now) lent k shared s thread.new event) }
+        → IsTable heap.now loaded.now (length loaded.now) → ThreadAgrees program.now world.now.classes heap.now (length loaded.now) shared thread.old s
+        → Advances program.now world.now.classes heap.now (length loaded.now) lent k shared s thread.new event) }
     ensures err { OnErr result (thread.new ≡ thread.old) }
 {
     match &mut thread.call {
@@ -146,7 +145,7 @@ fn execute(program: &Program<'_>, world: &World, heap: &Heap, call: &mut Activat
     requires stands { (visible : Visible) × (task : Task) × (rest : List Task) × CallStands program.now heap.now call.old visible (task ∷ rest) }
     ensures { (lent : BuffersInUse) (k : ℕ) (shared : Shared) (s : SourceThread) (task : Task) (rest : List Task) → s.tasks ≡ Some (task ∷ rest) → s.pending ≡ None → StaticsAgree program.now shared
         → BlocksAgree heap.now shared.heap heap.now.blocks → CallStands program.now heap.now call.old (visible_to shared s) (task ∷ rest)
-        → Executes program.now (world_of_scene world.now).classes heap.now lent k shared s rest call.new (effect_of (sight_of shared s) task) result }
+        → Executes program.now world.now.classes heap.now lent k shared s rest call.new (effect_of (sight_of shared s) task) result }
 {
     let code = program.code(call.function).unwrap();
     let instr = code.get(call.place).unwrap();

@@ -1,7 +1,6 @@
 mod PlainTasks
 mod ThreadLemmas
 mod RowLemmas
-mod ShownRows
 mod StateLemmas
 mod LoadLemmas
 mod RunLemmas

@@ -5,8 +5,6 @@ use Rattle.std.specs.List.{flat_map, list_all}
 use Rattle.std.specs.Global.{Vec}
 use Rattle.syntax.specs.Tree.{SourceUnit}
 use Rattle.classes.specs.Class.{Classes}
-use Rattle.world.specs.Scene.{CallScene}
-use Rattle.world.specs.SceneWorld.{invocation_of}
 use Rattle.source.specs.World.{Invocation}
 use Rattle.source.specs.Load.{call_loads}
 use Rattle.source.specs.Start.{waiting_thread}
@@ -17,8 +15,8 @@ use Rattle.replay.specs.Threads.{ThreadStands, VariablesIn, FramesIn, tasks_in, 
 use Rattle.tasks.specs.declared.activation.Activation.{Activation}
 
 -- the calls of each thread
-abbrev pub calls_of : List (Vec CallScene) → List (List Invocation)
-calls_of threads = map (λ calls. map invocation_of calls) (map (λ (t : Vec CallScene). t.items) threads)
+abbrev pub calls_of : List (Vec Invocation) → List (List Invocation)
+calls_of threads = map (λ (t : Vec Invocation). t.items) threads
 
 -- ---- lists
 
@@ -65,27 +63,27 @@ module _ (unit : SourceUnit) (classes : Classes) where
   abbrev pub refused : List (List Invocation) → List Invocation
   refused threads = flat_map (refused_calls unit classes) threads
 
-  module _ (items : List (Vec CallScene)) (i : ℕ) (v : Vec CallScene) (line : Option ℕ) (at : slice_get items i ≡ Some v) (is : line ≡ first_line (refused_calls unit classes (map invocation_of v.items))) (so_far : refused (calls_of items) ≡ refused (calls_of (drop i items))) where
-    after : refused (calls_of (drop i items)) ≡ refused_calls unit classes (map invocation_of v.items) ++ refused (calls_of (drop (i + 1) items))
-    after = ap (λ (vs : List (Vec CallScene)). refused (calls_of vs)) (drop_more items i v at)
+  module _ (items : List (Vec Invocation)) (i : ℕ) (v : Vec Invocation) (line : Option ℕ) (at : slice_get items i ≡ Some v) (is : line ≡ first_line (refused_calls unit classes v.items)) (so_far : refused (calls_of items) ≡ refused (calls_of (drop i items))) where
+    after : refused (calls_of (drop i items)) ≡ refused_calls unit classes v.items ++ refused (calls_of (drop (i + 1) items))
+    after = ap (λ (vs : List (Vec Invocation)). refused (calls_of vs)) (drop_more items i v at)
 
     -- the first refused call is in this thread
     pub line_here : is_some line ≡ true → line ≡ first_line (refused (calls_of items))
     line_here some =
-        first_of_both (refused_calls unit classes (map invocation_of v.items)) (refused (calls_of (drop (i + 1) items))) line is some
+        first_of_both (refused_calls unit classes v.items) (refused (calls_of (drop (i + 1) items))) line is some
         ∙ ap first_line (sym (so_far ∙ after))
 
     -- or it is after this thread
     pub line_later : is_some line ≡ false → refused (calls_of items) ≡ refused (calls_of (drop (i + 1) items))
     line_later none =
         so_far ∙ after
-        ∙ ap (λ (cs : List Invocation). cs ++ refused (calls_of (drop (i + 1) items))) (no_call (refused_calls unit classes (map invocation_of v.items)) line is none)
+        ∙ ap (λ (cs : List Invocation). cs ++ refused (calls_of (drop (i + 1) items))) (no_call (refused_calls unit classes v.items) line is none)
 
   -- a thread whose calls all fit
-  stands_waiting : (t : ThreadInMemory) (calls : List CallScene) → IsWaiting t calls → refused_calls unit classes (map invocation_of calls) ≡ [] → ThreadStands unit classes t (waiting_thread (map invocation_of calls))
+  stands_waiting : (t : ThreadInMemory) (calls : List Invocation) → IsWaiting t calls → refused_calls unit classes calls ≡ [] → ThreadStands unit classes t (waiting_thread calls)
   stands_waiting t calls h none = record {
-    calls = ap (map invocation_of) (sym h.same);
-    loads = subst (λ (cs : List CallScene). IsTrue (list_all (call_loads unit classes) (map invocation_of cs))) (sym h.same) (all_pass (call_loads unit classes) (map invocation_of calls) none);
+    calls = sym h.same;
+    loads = subst (λ (cs : List Invocation). IsTrue (list_all (call_loads unit classes) cs)) (sym h.same) (all_pass (call_loads unit classes) calls none);
     tasks = ap tasks_in (sym h.idle);
     variables = subst (λ (o : Option Activation). VariablesIn o []) (sym h.idle) tt;
     frames = subst (λ (o : Option Activation). FramesIn o []) (sym h.idle) tt;
@@ -94,11 +92,11 @@ module _ (unit : SourceUnit) (classes : Classes) where
   }
 
   -- all of them
-  pub stand_waiting : (ts : List ThreadInMemory) (threads : List (List CallScene)) → AreWaiting ts threads → refused (map (λ calls. map invocation_of calls) threads) ≡ []
-      → ThreadsStand unit classes ts (map waiting_thread (map (λ calls. map invocation_of calls) threads))
+  pub stand_waiting : (ts : List ThreadInMemory) (threads : List (List Invocation)) → AreWaiting ts threads → refused threads ≡ []
+      → ThreadsStand unit classes ts (map waiting_thread threads)
   stand_waiting [] [] h none = tt
   stand_waiting [] (c ∷ cs) h none = absurd h
   stand_waiting (t ∷ ts) [] h none = absurd h
   stand_waiting (t ∷ ts) (c ∷ cs) h none =
-      let parts = none_of_both (refused_calls unit classes (map invocation_of c)) (refused (map (λ calls. map invocation_of calls) cs)) none in
+      let parts = none_of_both (refused_calls unit classes c) (refused cs) none in
       (stands_waiting t c h.0 parts.0, stand_waiting ts cs h.1 parts.1)

@@ -24,7 +24,7 @@ use Rattle.replay.specs.declared.state.State.{State as StateInMemory}
 use Rattle.replay.specs.States.{TakesEntry, AreInRange, standings_of, stop_view, shown_stop}
 use Rattle.replay.specs.TrapAt.{trap_at}
 use Rattle.replay.specs.declared.state.Stop.{Stop as StopInMemory}
-use Rattle.replay.specs.Rows.{rows_of}
+use Rattle.source.specs.ReportOf.{loaded_rows}
 use Rattle.replay.specs.Replays.{IsFirstImpossible, Replayed, IsRefused, IsLoadFault, IsStoppedBy, IsReplayable, IsFromOutside, EndsBy}
 use Rattle.replay.proofs.LoadLemmas.{drop_more, take_more}
 use Rattle.replay.proofs.StateLemmas.{report_same}
@@ -111,7 +111,7 @@ ends unit w journal m h = record {
 
 -- what is written from the state in memory is what the run writes
 pub writes : (unit : SourceUnit) (w : World) (journal : Journal) (m : StateInMemory) → Replayed unit w journal m
-    → Writes unit w journal (report_text (report_with m.printed.items (standings_of m) (rows_of m.world.now)) ++ journal_line journal)
+    → Writes unit w journal (report_text (report_with m.printed.items (standings_of m) (loaded_rows m.world.now)) ++ journal_line journal)
 writes unit w journal m h = record {
   end = h.end;
   replays = h.replays;

@@ -11,12 +11,10 @@ use Rattle.source.specs.declared.printed.Printed.{Printed}
 use Rattle.source.specs.Report.{ThreadStanding, HasTrapped}
 use Rattle.report.specs.Shown.{report_with}
 use Rattle.report.specs.ThreadStatus.{standing_view}
-use Rattle.world.specs.Scene.{Scene}
-use Rattle.world.specs.SceneWorld.{world_of_scene}
 use Rattle.source.specs.World.{World, loaded_objects}
 use Rattle.source.specs.Value.{trap_number}
 use Rattle.report.specs.declared.thread_status.ThreadStatus.TheVariants as standing
-use Rattle.source.specs.ReportOf.{report, shown, shown_row}
+use Rattle.source.specs.ReportOf.{report, shown, shown_row, loaded_rows}
 use Rattle.source.specs.ReportOf as language
 use Rattle.source.specs.State.{State, thread_at, set_thread, lent, with_event, advanced}
 use Rattle.source.specs.Step.{world_step, can_step, step_of, is_blocked, is_live, is_unfinished, is_waiting}
@@ -28,12 +26,11 @@ use Rattle.replay.specs.declared.thread.Thread.{Thread as ThreadInMemory}
 use Rattle.replay.specs.declared.thread.Step.{Step}
 use Rattle.replay.specs.declared.thread.Step.TheVariants as step
 use Rattle.replay.specs.declared.state.Stop.{Stop as StopInMemory}
-use Rattle.replay.specs.Rows.{rows_of}
 use Rattle.terms.specs.Views.{trap_view}
 use Rattle.replay.specs.States.{ThreadsStand, AreInRange, Stands, stop_view, printed_after, stop_after, is_possible, Leads, standing_by, standing_of, standings_of}
 use Rattle.replay.specs.Threads.{ThreadStands, WorkInRange, IsAsLoaded, ending_in, StepIs, TakesStep}
 use Rattle.replay.proofs.PlainTasks.{refused_none, waits_none}
-use Rattle.replay.proofs.ShownRows.{shown_arrays}
+use Rattle.source.proofs.ShownRows.{shown_rows}
 
 -- ---- one thread of several
 
@@ -195,8 +192,8 @@ module _ (unit : SourceUnit) (w : World) (m : StateInMemory) (s : State) (h : St
     all_stand : (next : Thread) → ThreadStands unit w.classes after next → ThreadsStand unit w.classes new.threads.items (slice_set s.threads i next)
     all_stand next stands = rw threads (changed unit w.classes m.threads.items s.threads i after next h.threads stands)
 
-    same_world : w ≡ world_of_scene new.world.now
-    same_world = h.world ∙ ap (λ (b : Bor Scene). world_of_scene b.now) (sym world)
+    same_world : w ≡ new.world.now
+    same_world = h.world ∙ ap (λ (b : Bor World). b.now) (sym world)
 
     same_stop : (o : Option StopInMemory) → new.stop ≡ o → o ≡ m.stop → s.stop ≡ option_map stop_view new.stop
     same_stop o is same = h.stop ∙ ap (option_map stop_view) (sym (is ∙ same))
@@ -275,13 +272,13 @@ module _ (unit : SourceUnit) (w : World) (m : StateInMemory) (s : State) (h : St
       ap (λ (y : ThreadStanding). y ∷ map (λ (t : ℕ × Thread). language.standing_of w.classes s t.0 t.1 s.stop) (enumerate_from (n + 1) ss)) first
       ∙ ap (λ (ys : List ThreadStanding). standing_view (standing_of m.stop (n, t)) ∷ ys) rest
 
-  rows_same : (v : World) → v ≡ world_of_scene m.world.now → s.shared.heap ≡ loaded_objects v → map (shown_row v.classes s.shared.heap) (shown v s) ≡ rows_of m.world.now
+  rows_same : (v : World) → v ≡ m.world.now → s.shared.heap ≡ loaded_objects v → map (shown_row v.classes s.shared.heap) (shown v s) ≡ loaded_rows m.world.now
   rows_same v is heap =
       ap (λ (u : World). map (shown_row u.classes s.shared.heap) (shown u s)) is
-      ∙ shown_arrays m.world.now s (heap ∙ ap loaded_objects is)
+      ∙ shown_rows m.world.now s (heap ∙ ap loaded_objects is)
 
   -- the report of the state is written from the state in memory
-  pub report_same : report w s ≡ report_with m.printed.items (standings_of m) (rows_of m.world.now)
+  pub report_same : report w s ≡ report_with m.printed.items (standings_of m) (loaded_rows m.world.now)
   unfolding report
   report_same =
       let objects = rows_same w h.world (ap (λ (x : Shared). x.heap) h.shared) in

@@ -1,5 +1,5 @@
 -- A thread in memory steps as the thread that it stands for.
-use Rattle.std.proofs.Common.{◌≡◌, ℕ, true, false, List, [], ◌∷◌, Option, Some, None, refl, sym, ap, ◌∙◌, map, length, ◌==◌, IsTrue}
+use Rattle.std.proofs.Common.{◌≡◌, ℕ, true, false, List, [], ◌∷◌, Option, Some, None, refl, sym, ap, ◌∙◌, length, ◌==◌, IsTrue}
 use Rattle.std.specs.List.{list_all}
 use Rattle.std.specs.Option.{option_map}
 use Rattle.source.specs.World.{Invocation, World}
@@ -11,8 +11,6 @@ use Rattle.syntax.specs.Tree.{Function, SourceUnit}
 use Rattle.source.specs.Start.{null_statics}
 use Rattle.source.specs.Task.{tasks_of}
 use Rattle.classes.specs.Class.{Classes}
-use Rattle.world.specs.Scene.{CallScene}
-use Rattle.world.specs.SceneWorld.{invocation_of}
 use Rattle.source.specs.Thread.{Thread, Shared, BuffersInUse, Event, Quiet, PrintedNumber, Trapped, Advances as AdvancesTo, NoAdvance, Unfinished, Ended}
 use Rattle.source.specs.Activation.{return_step, enter, entered, entry_advance, entered_function, class_of_function, function_at}
 use Rattle.source.specs.ThreadStep.{thread_step, step_within}
@@ -33,24 +31,24 @@ module _ (unit : SourceUnit) (w : World) (shared : Shared) (lent : BuffersInUse)
   classes = w.classes
 
   -- the thread after its call, with these calls to come
-  thread_after : List CallScene → Thread
+  thread_after : List Invocation → Thread
   thread_after [] = record { calls = []; tasks = None; variables = []; frames = []; pending = None; ending = Ended }
-  thread_after (c ∷ calls) = record { calls = map invocation_of (c ∷ calls); tasks = None; variables = []; frames = []; pending = None; ending = Unfinished }
+  thread_after (c ∷ calls) = record { calls = c ∷ calls; tasks = None; variables = []; frames = []; pending = None; ending = Unfinished }
 
-  left_by : (s : Thread) (calls : List CallScene) → s.calls ≡ map invocation_of calls → s.pending ≡ None → shared.monitors ≡ [] → return_step k shared s ≡ AdvancesTo shared (thread_after calls) Quiet
+  left_by : (s : Thread) (calls : List Invocation) → s.calls ≡ calls → s.pending ≡ None → shared.monitors ≡ [] → return_step k shared s ≡ AdvancesTo shared (thread_after calls) Quiet
   unfolding thread_after
   left_by s [] is none_pending none = rw (none_pending, is, none) refl
   left_by s (c ∷ calls) is none_pending none = rw (none_pending, is) refl
 
-  some_are : (c : CallScene) (calls : List CallScene) → (length (c ∷ calls) == 0) ≡ false
+  some_are : (c : Invocation) (calls : List Invocation) → (length (c ∷ calls) == 0) ≡ false
   some_are c calls = ne_eqb (length (c ∷ calls)) 0 (λ e. omega arith)
 
   -- after the call, it stands for a thread with the calls to come
-  stands_after : (t : ThreadInMemory) (calls : List CallScene) → t.calls.now ≡ calls → IsTrue (list_all (call_loads unit classes) (map invocation_of calls))
+  stands_after : (t : ThreadInMemory) (calls : List Invocation) → t.calls.now ≡ calls → IsTrue (list_all (call_loads unit classes) calls)
       → ThreadStands unit classes (record t { activation = None; ended = length calls == 0 }) (thread_after calls)
   unfolding thread_after
-  stands_after t [] is loads = record { calls = ap (map invocation_of) (sym is); loads = rw is loads; tasks = refl; variables = tt; frames = tt; pending = refl; ending = refl }
-  stands_after t (c ∷ calls) is loads = record { calls = ap (map invocation_of) (sym is); loads = rw is loads; tasks = refl; variables = tt; frames = tt; pending = refl; ending = ap ending_in (sym (some_are c calls)) }
+  stands_after t [] is loads = record { calls = sym is; loads = rw is loads; tasks = refl; variables = tt; frames = tt; pending = refl; ending = refl }
+  stands_after t (c ∷ calls) is loads = record { calls = sym is; loads = rw is loads; tasks = refl; variables = tt; frames = tt; pending = refl; ending = ap ending_in (sym (some_are c calls)) }
 
   module _ (t : ThreadInMemory) (a new : Activation) (s : Thread) (is : t.activation ≡ Some a) (h : ThreadStands unit classes t s) (loaded : IsAsLoaded unit w shared) where
     has_tasks : s.tasks ≡ Some (tasks_left a)
@@ -102,21 +100,21 @@ module _ (unit : SourceUnit) (w : World) (shared : Shared) (lent : BuffersInUse)
     }
 
   -- the entry into the next call
-  pub enters : (t : ThreadInMemory) (call : CallScene) (rest : List CallScene) (f : Function) (class : ℕ) (a : Activation) (s : Thread)
+  pub enters : (t : ThreadInMemory) (call : Invocation) (rest : List Invocation) (f : Function) (class : ℕ) (a : Activation) (s : Thread)
       → t.activation ≡ None → t.calls.now ≡ call ∷ rest → function_at unit call.function ≡ Some f → class_of_function classes f ≡ Some class
       → tasks_left a ≡ tasks_of f.body → variables_view a.variables.items ≡ (f.class_name, LocalRef 1 (Some class)) ∷ parameter_variables (zip f.parameters call.arguments) → ThreadStands unit classes t s
-      → (after : Bor (List CallScene)) → after.now ≡ rest
+      → (after : Bor (List Invocation)) → after.now ≡ rest
       → Leaves unit classes shared (record t { calls = after; activation = Some a }) Quiet (thread_step unit classes lent k shared s false)
   enters t call rest f class a s idle calls found its_class tasks variables h after is = record {
-    next = entered s (map invocation_of rest) f class call.arguments;
+    next = entered s rest f class call.arguments;
     advances =
         ap (step_within unit classes lent k shared s false) (h.tasks ∙ ap tasks_in idle)
-        ∙ ap (λ (cs : List Invocation). entry_advance shared (enter unit classes s cs)) (h.calls ∙ ap (map invocation_of) calls)
-        ∙ ap (λ (o : Option Function). entry_advance shared (entered_function classes s (invocation_of call) (map invocation_of rest) o)) found
-        ∙ ap (λ (o : Option ℕ). entry_advance shared (option_map (λ d. entered s (map invocation_of rest) f d call.arguments) o)) its_class;
+        ∙ ap (λ (cs : List Invocation). entry_advance shared (enter unit classes s cs)) (h.calls ∙ calls)
+        ∙ ap (λ (o : Option Function). entry_advance shared (entered_function classes s call rest o)) found
+        ∙ ap (λ (o : Option ℕ). entry_advance shared (option_map (λ d. entered s rest f d call.arguments) o)) its_class;
     stands = record {
-      calls = ap (map invocation_of) (sym is);
-      loads = subst (λ (cs : List CallScene). IsTrue (list_all (call_loads unit classes) (map invocation_of cs))) (sym is) parts.1;
+      calls = sym is;
+      loads = subst (λ (cs : List Invocation). IsTrue (list_all (call_loads unit classes) cs)) (sym is) parts.1;
       tasks = ap Some (sym tasks);
       variables = sym variables;
       frames = refl;
@@ -125,31 +123,31 @@ module _ (unit : SourceUnit) (w : World) (shared : Shared) (lent : BuffersInUse)
     };
   }
     where
-      loads : IsTrue (list_all (call_loads unit classes) (map invocation_of (call ∷ rest)))
-      loads = subst (λ (cs : List CallScene). IsTrue (list_all (call_loads unit classes) (map invocation_of cs))) calls h.loads
+      loads : IsTrue (list_all (call_loads unit classes) (call ∷ rest))
+      loads = subst (λ (cs : List Invocation). IsTrue (list_all (call_loads unit classes) cs)) calls h.loads
 
-      parts : (call_loads unit classes (invocation_of call) ≡ true) × (list_all (call_loads unit classes) (map invocation_of rest) ≡ true)
-      parts = and_parts (call_loads unit classes (invocation_of call)) (list_all (call_loads unit classes) (map invocation_of rest)) loads
+      parts : (call_loads unit classes call ≡ true) × (list_all (call_loads unit classes) rest ≡ true)
+      parts = and_parts (call_loads unit classes call) (list_all (call_loads unit classes) rest) loads
 
   -- no call is to come
   pub no_entry : (t : ThreadInMemory) (s : Thread) → t.activation ≡ None → t.calls.now ≡ [] → ThreadStands unit classes t s → thread_step unit classes lent k shared s false ≡ NoAdvance
   no_entry t s idle none h =
       ap (step_within unit classes lent k shared s false) (h.tasks ∙ ap tasks_in idle)
-      ∙ ap (λ (cs : List Invocation). entry_advance shared (enter unit classes s cs)) (h.calls ∙ ap (map invocation_of) none)
+      ∙ ap (λ (cs : List Invocation). entry_advance shared (enter unit classes s cs)) (h.calls ∙ none)
 
   -- the next call's function isn't there
-  pub no_function : (t : ThreadInMemory) (call : CallScene) (rest : List CallScene) (s : Thread) → t.activation ≡ None → t.calls.now ≡ call ∷ rest → function_at unit call.function ≡ None → ThreadStands unit classes t s
+  pub no_function : (t : ThreadInMemory) (call : Invocation) (rest : List Invocation) (s : Thread) → t.activation ≡ None → t.calls.now ≡ call ∷ rest → function_at unit call.function ≡ None → ThreadStands unit classes t s
       → thread_step unit classes lent k shared s false ≡ NoAdvance
   no_function t call rest s idle calls none h =
       ap (step_within unit classes lent k shared s false) (h.tasks ∙ ap tasks_in idle)
-      ∙ ap (λ (cs : List Invocation). entry_advance shared (enter unit classes s cs)) (h.calls ∙ ap (map invocation_of) calls)
-      ∙ ap (λ (o : Option Function). entry_advance shared (entered_function classes s (invocation_of call) (map invocation_of rest) o)) none
+      ∙ ap (λ (cs : List Invocation). entry_advance shared (enter unit classes s cs)) (h.calls ∙ calls)
+      ∙ ap (λ (o : Option Function). entry_advance shared (entered_function classes s call rest o)) none
 
   -- nor its class
-  pub no_class : (t : ThreadInMemory) (call : CallScene) (rest : List CallScene) (f : Function) (s : Thread) → t.activation ≡ None → t.calls.now ≡ call ∷ rest → function_at unit call.function ≡ Some f → class_of_function classes f ≡ None → ThreadStands unit classes t s
+  pub no_class : (t : ThreadInMemory) (call : Invocation) (rest : List Invocation) (f : Function) (s : Thread) → t.activation ≡ None → t.calls.now ≡ call ∷ rest → function_at unit call.function ≡ Some f → class_of_function classes f ≡ None → ThreadStands unit classes t s
       → thread_step unit classes lent k shared s false ≡ NoAdvance
   no_class t call rest f s idle calls found none h =
       ap (step_within unit classes lent k shared s false) (h.tasks ∙ ap tasks_in idle)
-      ∙ ap (λ (cs : List Invocation). entry_advance shared (enter unit classes s cs)) (h.calls ∙ ap (map invocation_of) calls)
-      ∙ ap (λ (o : Option Function). entry_advance shared (entered_function classes s (invocation_of call) (map invocation_of rest) o)) found
-      ∙ ap (λ (o : Option ℕ). entry_advance shared (option_map (λ d. entered s (map invocation_of rest) f d call.arguments) o)) none
+      ∙ ap (λ (cs : List Invocation). entry_advance shared (enter unit classes s cs)) (h.calls ∙ calls)
+      ∙ ap (λ (o : Option Function). entry_advance shared (entered_function classes s call rest o)) found
+      ∙ ap (λ (o : Option ℕ). entry_advance shared (option_map (λ d. entered s rest f d call.arguments) o)) none

@@ -2,7 +2,6 @@
 use Rattle.std.specs.Prelude.{◌≡◌, ℕ, false, not, List, [], ◌∷◌, filter, map, slice_get, Option, None}
 use Rattle.syntax.specs.Tree.{SourceUnit}
 use Rattle.classes.specs.Class.{Classes}
-use Rattle.world.specs.Scene.{CallScene}
 use Rattle.source.specs.World.{Invocation}
 use Rattle.source.specs.Load.{call_loads}
 use Rattle.replay.specs.declared.thread.Thread.{Thread as ThreadInMemory}
@@ -16,13 +15,13 @@ abbrev pub first_line : List Invocation → Option ℕ
 first_line calls = slice_get (map (λ (c : Invocation). c.line) calls) 0
 
 -- a thread has all of these calls to come
-pub record IsWaiting (t : ThreadInMemory) (calls : List CallScene) : Type 0 where
+pub record IsWaiting (t : ThreadInMemory) (calls : List Invocation) : Type 0 where
   pub same : t.calls.now ≡ calls
   pub idle : t.activation ≡ None
   pub unended : t.ended ≡ false
 
 -- each thread has
-abbrev pub AreWaiting : List ThreadInMemory → List (List CallScene) → Type 0
+abbrev pub AreWaiting : List ThreadInMemory → List (List Invocation) → Type 0
 AreWaiting [] [] = Unit {0}
 AreWaiting (t ∷ ts) (c ∷ cs) = IsWaiting t c × AreWaiting ts cs
 AreWaiting ts cs = ⊥

@@ -8,7 +8,6 @@ use Rattle.source.specs.declared.journal.Entry.{Entry}
 use Rattle.source.specs.declared.printed.Printed.{Printed}
 use Rattle.report.specs.declared.thread_status.ThreadStatus.{ThreadStatus}
 use Rattle.report.specs.declared.thread_status.ThreadStatus.TheVariants as standing
-use Rattle.world.specs.SceneWorld.{world_of_scene}
 use Rattle.source.specs.World.{World}
 use Rattle.source.specs.Thread.{Thread}
 use Rattle.source.specs.Start.{start}
@@ -45,7 +44,7 @@ shown_stop stop = option_map (λ s. trap_at (stop_view s)) stop
 
 -- a state in memory stands for one of the language, in the world that it began in
 pub record Stands (unit : SourceUnit) (w : World) (m : StateInMemory) (s : State) : Type 0 where
-  pub world : w ≡ world_of_scene m.world.now
+  pub world : w ≡ m.world.now
   -- no step changes yet what all threads share
   pub shared : s.shared ≡ (start unit w).shared
   pub threads : ThreadsStand unit w.classes m.threads.items s.threads

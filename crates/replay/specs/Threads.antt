@@ -1,10 +1,9 @@
 -- Threads that lie in memory, as those of the language, and what a step of one does.
-use Rattle.std.specs.Prelude.{◌≡◌, ℕ, Bool, true, false, List, [], map, length, Option, Some, None, IsTrue}
+use Rattle.std.specs.Prelude.{◌≡◌, ℕ, Bool, true, false, List, [], length, Option, Some, None, IsTrue}
 use Rattle.std.specs.List.{list_all}
 use Rattle.syntax.specs.Tree.{SourceUnit}
 use Rattle.classes.specs.Class.{Classes}
 use Rattle.source.specs.Object.{ObjectValue, Number, Refers}
-use Rattle.world.specs.SceneWorld.{invocation_of}
 use Rattle.source.specs.World.{World, loaded_objects}
 use Rattle.source.specs.Load.{call_loads}
 use Rattle.source.specs.Start.{null_statics}
@@ -59,8 +58,8 @@ step_of took = step.Quiet
 
 -- a thread in memory stands for one of the language; frames aren't stored, as no function that can be called reads them
 pub record ThreadStands (unit : SourceUnit) (classes : Classes) (t : ThreadInMemory) (s : Thread) : Type 0 where
-  pub calls : s.calls ≡ map invocation_of t.calls.now
-  pub loads : IsTrue (list_all (call_loads unit classes) (map invocation_of t.calls.now))
+  pub calls : s.calls ≡ t.calls.now
+  pub loads : IsTrue (list_all (call_loads unit classes) t.calls.now)
   pub tasks : s.tasks ≡ tasks_in t.activation
   pub variables : VariablesIn t.activation s.variables
   pub frames : FramesIn t.activation s.frames

@@ -4,7 +4,6 @@ ghost use Rattle.std.specs.Prelude.{◌≡◌, IfOk, IfErr, OnOk, IsTrue};
 ghost use Rattle.syntax.specs.Limits.{IsTree};
 ghost use Rattle.syntax.specs.Views.{unit_tree};
 ghost use Rattle.types.specs.BuiltCalls.{calls_are_built};
-ghost use Rattle.world.specs.SceneWorld.{world_of_scene};
 ghost use Rattle.report.specs.Sink.{CanFail};
 ghost use Rattle.replay.specs.Replays.{Replayed, IsRefused, WritesRun, IsStoppedBy, IsReplayable, IsFromOutside, EndsBy};
 
@@ -27,8 +26,8 @@ fn run<'a>(
 ) -> Result<State<'a>, ReplayFault>
     requires tree { IsTree (unit_tree items.now) }
     requires calls { IsTrue (calls_are_built (unit_tree items.now)) }
-    ensures end { IfOk result (Replayed (unit_tree items.now) (world_of_scene world.now) journal.now) }
-    ensures refused { IfErr result (IsRefused (unit_tree items.now) (world_of_scene world.now) journal.now) }
+    ensures end { IfOk result (Replayed (unit_tree items.now) world.now journal.now) }
+    ensures refused { IfErr result (IsRefused (unit_tree items.now) world.now journal.now) }
 {
     let mut state = match start(alloc, items, world) {
         Ok(state) => state,
@@ -56,12 +55,12 @@ pub fn replay<W: Sink>(
     out: &mut W,
 ) -> Result<Option<TrapAt>, ReplayFault>
     requires { CanFail (W.written out.old) }
-    ensures ok { OnOk result (WritesRun (unit_tree checked.now) (world_of_scene world.now) journal.now (W.written out.old) (W.written out.new)) }
-    ensures trap { IfOk result (EndsBy (unit_tree checked.now) (world_of_scene world.now) journal.now) }
+    ensures ok { OnOk result (WritesRun (unit_tree checked.now) world.now journal.now (W.written out.old) (W.written out.new)) }
+    ensures trap { IfOk result (EndsBy (unit_tree checked.now) world.now journal.now) }
     ensures none_waits { OnOk result ((W.written out.new).waiting ≡ 0) }
-    ensures err { IfErr result (IsStoppedBy (unit_tree checked.now) (world_of_scene world.now) journal.now (W.written out.old) (W.written out.new)) }
+    ensures err { IfErr result (IsStoppedBy (unit_tree checked.now) world.now journal.now (W.written out.old) (W.written out.new)) }
     // Faults 82 and 91 are answered only where they must be.
-    ensures only { IsReplayable (unit_tree checked.now) (world_of_scene world.now) journal.now → IfErr result IsFromOutside }
+    ensures only { IsReplayable (unit_tree checked.now) world.now journal.now → IfErr result IsFromOutside }
 {
     let items = checked.items();
     let state = match run(alloc, items, world, journal) {

@@ -2,8 +2,7 @@
 
 ghost use Rattle.std.specs.Prelude.{◌≡◌, IfOk, IfErr, map, [], None};
 ghost use Rattle.syntax.specs.Views.{unit_tree, function_tree, parameter_tree};
-ghost use Rattle.world.specs.SceneWorld.{world_of_scene, invocation_of};
-ghost use Rattle.world.specs.Views.{argument_view};
+ghost use Rattle.world.specs.Views.{object_value_view};
 ghost use Rattle.source.specs.Load.{call_loads, fits_parameter, fit_parameters, is_callable, first_load_fault};
 ghost use Rattle.source.specs.Start.{start};
 ghost use Rattle.replay.specs.States.{AreInRange, Stands};
@@ -15,22 +14,22 @@ use crate::state::State;
 use crate::thread::{Thread, class_of, function_at};
 use std::alloc::{AllocError, Global};
 use syntax::{Function, Item, Parameter, ParameterType};
-use world::{Argument, Call, World};
+use world::{Call, ObjectValue, World};
 
 /// Whether a parameter can have this argument.
-fn fits_parameter(parameter: &Parameter, argument: &Argument) -> bool
-    ensures { result ≡ fits_parameter (parameter_tree parameter.now).type (argument_view argument.now) }
+fn fits_parameter(parameter: &Parameter, argument: &ObjectValue) -> bool
+    ensures { result ≡ fits_parameter (parameter_tree parameter.now).type (object_value_view argument.now) }
 {
     match (parameter.kind, *argument) {
-        (ParameterType::Jint, Argument::Number(_)) => true,
-        (ParameterType::Reference(_), Argument::Reference(_)) => true,
+        (ParameterType::Jint, ObjectValue::Number(_)) => true,
+        (ParameterType::Reference(_), ObjectValue::Reference(_)) => true,
         _ => false,
     }
 }
 
 /// Whether there are as many arguments as parameters, and each fits.
-fn fit_parameters(parameters: &[Parameter], arguments: &[Argument]) -> bool
-    ensures { result ≡ fit_parameters (map parameter_tree parameters.entry.now) (map argument_view arguments.entry.now) }
+fn fit_parameters(parameters: &[Parameter], arguments: &[ObjectValue]) -> bool
+    ensures { result ≡ fit_parameters (map parameter_tree parameters.entry.now) (map object_value_view arguments.entry.now) }
 {
     match parameters {
         [] => arguments.is_empty(),
@@ -48,9 +47,9 @@ fn is_callable(
     alloc: Global,
     world: &World,
     function: &Function,
-    arguments: &[Argument],
+    arguments: &[ObjectValue],
 ) -> Result<bool, AllocError>
-    ensures { IfOk result (λ fits. fits ≡ is_callable (world_of_scene world.now).classes (map argument_view arguments.now) (function_tree function.now)) }
+    ensures { IfOk result (λ fits. fits ≡ is_callable world.now.classes (map object_value_view arguments.now) (function_tree function.now)) }
 {
     let class = class_of(alloc, world, function)?;
     Ok(class.is_some() && fit_parameters(&function.parameters, arguments))
@@ -58,7 +57,7 @@ fn is_callable(
 
 /// Whether a call's function is there, and can be called.
 fn fits(alloc: Global, items: &[Item], world: &World, call: &Call) -> Result<bool, AllocError>
-    ensures { IfOk result (λ fits. fits ≡ call_loads (unit_tree items.now) (world_of_scene world.now).classes (invocation_of call.now)) }
+    ensures { IfOk result (λ fits. fits ≡ call_loads (unit_tree items.now) world.now.classes call.now) }
 {
     match function_at(items, call.function()) {
         Some(function) => is_callable(alloc, world, function, call.arguments()),
@@ -73,7 +72,7 @@ fn first_unfit(
     world: &World,
     calls: &[Call],
 ) -> Result<Option<usize>, AllocError>
-    ensures { IfOk result (λ line. line ≡ first_line (refused_calls (unit_tree items.now) (world_of_scene world.now).classes (map invocation_of calls.now))) }
+    ensures { IfOk result (λ line. line ≡ first_line (refused_calls (unit_tree items.now) world.now.classes calls.now)) }
 {
     for call in calls {
         if !fits(alloc, items, world, call)? {
@@ -85,7 +84,7 @@ fn first_unfit(
 
 /// The line of the first call of a thread that doesn't fit.
 fn first_fault(alloc: Global, items: &[Item], world: &World) -> Result<Option<usize>, AllocError>
-    ensures { IfOk result (λ line. line ≡ first_load_fault (unit_tree items.now) (world_of_scene world.now)) }
+    ensures { IfOk result (λ line. line ≡ first_load_fault (unit_tree items.now) world.now) }
 {
     for calls in world.threads() {
         let line = first_unfit(alloc, items, world, calls)?;
@@ -118,10 +117,10 @@ pub(crate) fn start<'a>(
     items: &[Item],
     world: &'a World,
 ) -> Result<State<'a>, ReplayFault>
-    ensures stands { IfOk result (λ m. Stands (unit_tree items.now) (world_of_scene world.now) m (start (unit_tree items.now) (world_of_scene world.now))) }
+    ensures stands { IfOk result (λ m. Stands (unit_tree items.now) world.now m (start (unit_tree items.now) world.now)) }
     ensures range { IfOk result (λ m. AreInRange m.threads.items) }
-    ensures fits { IfOk result (λ _. first_load_fault (unit_tree items.now) (world_of_scene world.now) ≡ None) }
-    ensures fault { IfErr result (IsLoadFault (unit_tree items.now) (world_of_scene world.now)) }
+    ensures fits { IfOk result (λ _. first_load_fault (unit_tree items.now) world.now ≡ None) }
+    ensures fault { IfErr result (IsLoadFault (unit_tree items.now) world.now) }
 {
     if let Some(line) = first_fault(alloc, items, world)? {
         return Err(ReplayFault::DoesNotFit(line));

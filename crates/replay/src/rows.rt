@@ -2,16 +2,17 @@
 
 ghost use Rattle.std.specs.Prelude.{◌≡◌};
 ghost use Rattle.std.specs.List.{flat_map};
-ghost use Rattle.classes.specs.BuiltIns.{number_array};
 ghost use Rattle.report.specs.ReportText.{object_line};
-ghost use Rattle.report.specs.Shown.{name_view};
+ghost use Rattle.report.specs.Shown.{shown_view};
 ghost use Rattle.report.specs.Sink.{CanFail, Writes};
-ghost use Rattle.world.specs.Views.{element_view};
-ghost use Rattle.replay.specs.Rows.{number_text, number_row, rows_text};
+ghost use Rattle.source.specs.ReportOf.{shown_value, object_row};
+ghost use Rattle.world.specs.Views.{object_value_view};
+ghost use Rattle.replay.specs.Rows.{value_text, rows_text};
 
+use class_table::table::ClassTable;
 use tasks::made_before;
 use world::{
-    ClassName, Element, Rows, Shown, Sink, SinkFailed, World, put_row_end, put_row_head, put_value,
+    Object, ObjectValue, Rows, Shown, Sink, SinkFailed, World, put_row_end, put_row_head, put_value,
 };
 
 /// The world's own objects. They are made at load, and so stay reachable.
@@ -20,49 +21,66 @@ pub(crate) struct Objects<'a> {
     pub world: &'a World,
 }
 
-/// The number of the class of arrays with such elements.
-fn array_class(element: Element) -> usize
-    ensures { result ≡ number_array (element_view element) }
+/// A value as a row shows it: a class object by its class.
+fn shown(classes: &ClassTable, value: ObjectValue) -> Shown<'_>
+    ensures { shown_view result ≡ shown_value classes.now (object_value_view value) }
 {
-    match element {
-        Element::Byte => 20,
-        Element::Char => 21,
-        Element::Short => 22,
-        Element::Int => 23,
+    match value {
+        ObjectValue::Number(number) => Shown::Number(number),
+        ObjectValue::Reference(None) => Shown::Null,
+        ObjectValue::Reference(Some(name)) => {
+            let number = name as usize;
+            if number <= classes.len() {
+                Shown::Class(classes.name(number))
+            } else {
+                Shown::Object(name)
+            }
+        }
     }
 }
 
-/// Puts a number of a row.
-fn put_number<S: Sink>(sink: &mut S, number: i32) -> Result<(), SinkFailed>
+/// Puts a value of a row.
+fn put_one<S: Sink>(
+    sink: &mut S,
+    classes: &ClassTable,
+    value: ObjectValue,
+) -> Result<(), SinkFailed>
     requires { CanFail (S.written sink.old) }
-    ensures { Writes (S.written sink.old) (S.written sink.new) result (number_text number) }
+    ensures { Writes (S.written sink.old) (S.written sink.new) result (value_text classes.now value) }
 {
-    put_value(sink, Shown::Number(number))
+    let shown = shown(classes, value);
+    put_value(sink, shown)
 }
 
-/// Puts the numbers of a row.
-fn put_numbers<S: Sink>(sink: &mut S, numbers: &[i32]) -> Result<(), SinkFailed>
+/// Puts the values of a row.
+fn put_values<S: Sink>(
+    sink: &mut S,
+    classes: &ClassTable,
+    values: &[ObjectValue],
+) -> Result<(), SinkFailed>
     requires { CanFail (S.written sink.old) }
-    ensures { Writes (S.written sink.old) (S.written sink.new) result (flat_map number_text numbers.now) }
+    ensures { Writes (S.written sink.old) (S.written sink.new) result (flat_map (value_text classes.now) values.now) }
 {
-    for number in numbers {
-        put_number(sink, *number)?;
+    for value in values {
+        put_one(sink, classes, *value)?;
     }
     Ok(())
 }
 
-/// Puts the row of an object of this name and class.
+/// Puts the row of an object of this name.
 fn put_row<S: Sink>(
     sink: &mut S,
+    classes: &ClassTable,
     name: u32,
-    class: ClassName<'_>,
-    numbers: &[i32],
+    object: &Object,
 ) -> Result<(), SinkFailed>
     requires { CanFail (S.written sink.old) }
-    ensures { Writes (S.written sink.old) (S.written sink.new) result (object_line (number_row name (name_view class.entry) numbers.now)) }
+    ensures { Writes (S.written sink.old) (S.written sink.new) result (object_line (object_row classes.now (name, object.now))) }
 {
+    let class = classes.name(object.class());
+    let values = object.values();
     put_row_head(sink, name, class)?;
-    put_numbers(sink, numbers)?;
+    put_values(sink, classes, values)?;
     put_row_end(sink)
 }
 
@@ -71,22 +89,20 @@ fn put_rows<S: Sink>(sink: &mut S, world: &World) -> Result<(), SinkFailed>
     requires { CanFail (S.written sink.old) }
     ensures { Writes (S.written sink.old) (S.written sink.new) result (rows_text world.now) }
 {
-    // The proof reads off this call that names are below 2 to the 32.
-    let _cells = world.heap();
-    let mut name = made_before(world);
+    let classes = world.classes();
     let objects = world.objects();
-    for array in objects {
+    let mut name = made_before(world);
+    for object in objects {
         name += 1;
-        let class = world.class_name(array_class(array.element()));
-        put_row(sink, name as u32, class, array.values())?;
+        put_row(sink, classes, name as u32, object)?;
     }
     Ok(())
 }
 
 impl Rows for Objects<'_> {
-    ghost use Rattle.replay.specs.Rows.{rows_of};
+    ghost use Rattle.source.specs.ReportOf.{loaded_rows};
 
-    ghost rows = { λ o. rows_of o.world.now };
+    ghost rows = { λ o. loaded_rows o.world.now };
 
     fn put<S: Sink>(&self, sink: &mut S) -> Result<(), SinkFailed> {
         put_rows(sink, self.world)

@@ -5,8 +5,7 @@ ghost use Rattle.std.specs.Option.{option_map};
 ghost use Rattle.syntax.specs.Limits.{IsTree};
 ghost use Rattle.syntax.specs.Views.{function_tree, parameter_tree, unit_tree};
 ghost use Rattle.types.specs.BuiltCalls.{calls_are_built};
-ghost use Rattle.world.specs.SceneWorld.{world_of_scene};
-ghost use Rattle.world.specs.Views.{argument_view};
+ghost use Rattle.world.specs.Views.{object_value_view};
 ghost use Rattle.source.specs.Activation.{function_at, parameter_variables, class_of_function};
 ghost use Rattle.source.specs.Variable.{LocalRef};
 ghost use Rattle.replay.specs.Threads.{argument_content, TakesStep, WorkInRange, step_of};
@@ -17,7 +16,7 @@ use std::alloc::{AllocError, Global};
 use syntax::{Function, Item, Parameter};
 use tasks::{Activation, Outcome, advance};
 use terms::{Content, Trap, Value, Variable};
-use world::{Argument, Call, World};
+use world::{Call, ObjectValue, World};
 
 /// A thread: the calls to come, the one in progress, and whether all are done.
 #[derive(Drop)]
@@ -56,13 +55,13 @@ pub(crate) fn function_at<'a>(items: &'a [Item], name: &[u8]) -> Option<&'a Func
 }
 
 /// What a parameter holds at first.
-fn content_of(argument: Argument) -> Content
-    ensures { content_view result ≡ argument_content (argument_view argument) }
+fn content_of(argument: ObjectValue) -> Content
+    ensures { content_view result ≡ argument_content (object_value_view argument) }
 {
     match argument {
-        Argument::Number(z) => Content::Number(Value::Int(z)),
-        Argument::Reference(None) => Content::Reference(None),
-        Argument::Reference(Some(object)) => Content::Reference(Some(object as usize)),
+        ObjectValue::Number(z) => Content::Number(Value::Int(z)),
+        ObjectValue::Reference(None) => Content::Reference(None),
+        ObjectValue::Reference(Some(object)) => Content::Reference(Some(object as usize)),
     }
 }
 
@@ -71,10 +70,10 @@ fn content_of(argument: Argument) -> Content
 fn add_parameters<'a>(
     variables: &mut Vec<Variable<'a>>,
     parameters: &'a [Parameter],
-    arguments: &[Argument],
+    arguments: &[ObjectValue],
 ) -> Result<(), AllocError>
     ensures { IfOk result (λ _. variables_view variables.new.items ≡ variables_view variables.old.items
-        ++ parameter_variables (zip (map parameter_tree parameters.entry.now) (map argument_view arguments.entry.now))) }
+        ++ parameter_variables (zip (map parameter_tree parameters.entry.now) (map object_value_view arguments.entry.now))) }
 {
     match parameters {
         [] => Ok(()),
@@ -97,10 +96,10 @@ pub(crate) fn class_of(
     world: &World,
     function: &Function,
 ) -> Result<Option<usize>, AllocError>
-    ensures { IfOk result (λ class. class ≡ class_of_function (world_of_scene world.now).classes (function_tree function.now)) }
+    ensures { IfOk result (λ class. class ≡ class_of_function world.now.classes (function_tree function.now)) }
 {
     match unmangle(alloc, function.name.as_bytes())? {
-        Some(native) => Ok(world.class_number(&native.class)),
+        Some(native) => Ok(world.classes().find(&native.class)),
         None => Ok(None),
     }
 }
@@ -110,10 +109,10 @@ fn entry_variables<'a>(
     alloc: Global,
     function: &'a Function,
     class: usize,
-    arguments: &[Argument],
+    arguments: &[ObjectValue],
 ) -> Result<Vec<Variable<'a>>, AllocError>
     ensures { IfOk result (λ variables. variables_view variables.items
-        ≡ (function.entry.now.class_name, LocalRef 1 (Some class)) ∷ parameter_variables (zip (function_tree function.entry.now).parameters (map argument_view arguments.now))) }
+        ≡ (function.entry.now.class_name, LocalRef 1 (Some class)) ∷ parameter_variables (zip (function_tree function.entry.now).parameters (map object_value_view arguments.now))) }
 {
     let mut variables = Vec::new(alloc);
     variables.push(Variable {
@@ -141,7 +140,7 @@ fn enter<'a>(
     requires tree { IsTree (unit_tree items.now) }
     requires calls { IsTrue (calls_are_built (unit_tree items.now)) }
     requires idle { thread.old.activation ≡ None }
-    ensures step { IfOk result (λ took. TakesStep (unit_tree items.now) (world_of_scene world.now) thread.old took thread.new) }
+    ensures step { IfOk result (λ took. TakesStep (unit_tree items.now) world.now thread.old took thread.new) }
     ensures range { IfOk result (λ _. WorkInRange thread.new.activation) }
 {
     let Some((call, rest)) = thread.calls.split_first() else {
@@ -198,7 +197,7 @@ pub(crate) fn take_step<'a>(
     requires tree { IsTree (unit_tree items.now) }
     requires calls { IsTrue (calls_are_built (unit_tree items.now)) }
     requires range { WorkInRange thread.old.activation }
-    ensures step { IfOk result (λ took. TakesStep (unit_tree items.now) (world_of_scene world.now) thread.old took thread.new) }
+    ensures step { IfOk result (λ took. TakesStep (unit_tree items.now) world.now thread.old took thread.new) }
     ensures range { IfOk result (λ _. WorkInRange thread.new.activation) }
 {
     let Some(activation) = &mut thread.activation else {

@@ -1,9 +1,6 @@
 -- The rows of a report, as they are held in memory.
 use Rattle.std.specs.Prelude.{ℕ, List, ◌++◌, map, codes, decimal, flat_map}
 use Rattle.base.specs.Bytes.{Identifier}
-use Rattle.classes.specs.Class.{array_name}
-use Rattle.report.specs.declared.class_name.ClassName.{ClassName}
-use Rattle.report.specs.declared.class_name.ClassName.TheVariants.{Plain, Array}
 use Rattle.report.specs.declared.rows.Shown.{Shown}
 use Rattle.report.specs.declared.rows.Shown.TheVariants as held
 use Rattle.source.specs.declared.printed.Printed.{Printed}
@@ -12,16 +9,11 @@ use Rattle.source.specs.Report.{ShownValue, ShownNumber, ShownNull, ShownClass, 
 use Rattle.report.specs.ReportText.{object_line}
 use Rattle.report.specs.ThreadStatus.{standing_view}
 
--- the name of a class
-abbrev pub name_view : ClassName → Identifier
-name_view (Plain class) = class.now
-name_view (Array class) = array_name class.now
-
 -- a value of a row
 abbrev pub shown_view : Shown → ShownValue
 shown_view (held.Number z) = ShownNumber z
 shown_view held.Null = ShownNull
-shown_view (held.Class class) = ShownClass (name_view class)
+shown_view (held.Class class) = ShownClass class.now
 shown_view (held.Object n) = ShownObject n
 
 -- `#46 Node`

@@ -1,7 +1,6 @@
 //! What a run writes: its report and its journal, into a sink.
 #![tactic(auto)]
 
-mod class_name;
 mod rows;
 mod sink;
 mod std_sink;
@@ -9,7 +8,6 @@ mod text;
 mod thread_status;
 mod writing;
 
-pub use class_name::ClassName;
 pub use rows::{NoRows, Rows, Shown, put_row_end, put_row_head, put_value};
 pub use sink::{Sink, SinkFailed, put_all, put_pieces};
 pub use std_sink::StdSink;

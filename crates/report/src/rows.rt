@@ -3,10 +3,9 @@
 ghost use Rattle.std.specs.Prelude.{◌≡◌, List, ◌++◌, [], codes};
 ghost use Rattle.source.specs.Report.{ShownRow};
 ghost use Rattle.report.specs.ReportText.{shown_text, text_line};
-ghost use Rattle.report.specs.Shown.{name_view, shown_view, row_head, row_lines};
+ghost use Rattle.report.specs.Shown.{shown_view, row_head, row_lines};
 ghost use Rattle.report.specs.Sink.{CanFail, Writes};
 
-use crate::class_name::ClassName;
 use crate::sink::{Sink, SinkFailed, put_all, put_pieces};
 use itoa::Buffer;
 
@@ -40,23 +39,20 @@ impl Rows for NoRows {
 pub enum Shown<'a> {
     Number(i32),
     Null,
-    /// The class object of a class.
-    Class(ClassName<'a>),
+    /// The class object of the class of this name.
+    Class(&'a [u8]),
     /// The object of this number.
     Object(u32),
 }
 
 /// Puts what stands before the values of a row: the object's number and its class.
-pub fn put_row_head<S: Sink>(sink: &mut S, number: u32, class: ClassName) -> Result<(), SinkFailed>
+pub fn put_row_head<S: Sink>(sink: &mut S, number: u32, class: &[u8]) -> Result<(), SinkFailed>
     requires { CanFail (S.written sink.old) }
-    ensures { Writes (S.written sink.old) (S.written sink.new) result (row_head number (name_view class.entry)) }
+    ensures { Writes (S.written sink.old) (S.written sink.new) result (row_head number class.now) }
 {
     let mut name = Buffer::new();
     let name = name.format(number);
-    match class {
-        ClassName::Plain(class) => put_pieces(sink, &[b"#", name.as_bytes(), b" ", class]),
-        ClassName::Array(class) => put_pieces(sink, &[b"#", name.as_bytes(), b" [L", class, b";"]),
-    }
+    put_pieces(sink, &[b"#", name.as_bytes(), b" ", class])
 }
 
 /// Puts a value of a row, after a space.
@@ -71,8 +67,7 @@ pub fn put_value<S: Sink>(sink: &mut S, value: Shown) -> Result<(), SinkFailed>
             put_pieces(sink, &[b" ", text.as_bytes()])
         }
         Shown::Null => put_all(sink, b" null"),
-        Shown::Class(ClassName::Plain(class)) => put_pieces(sink, &[b" class:", class]),
-        Shown::Class(ClassName::Array(class)) => put_pieces(sink, &[b" class:[L", class, b";"]),
+        Shown::Class(class) => put_pieces(sink, &[b" class:", class]),
         Shown::Object(number) => {
             let text = text.format(number);
             put_pieces(sink, &[b" #", text.as_bytes()])

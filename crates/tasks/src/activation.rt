@@ -3,7 +3,6 @@
 ghost use Rattle.std.specs.Prelude.{◌≡◌, IfOk, None, []};
 ghost use Rattle.syntax.specs.Tree.{SourceUnit};
 ghost use Rattle.syntax.specs.Views.{unit_tree};
-ghost use Rattle.world.specs.SceneWorld.{world_of_scene};
 ghost use Rattle.source.specs.World.{World as WorldOfTree};
 ghost use Rattle.tasks.specs.Activations.{tasks_left, IsInRange, AreSet, Advances};
 
@@ -119,7 +118,7 @@ pub fn advance<'a>(
     activation: &mut Activation<'a>,
 ) -> Result<Outcome<'a>, AllocError>
     requires { IsInRange activation.old }
-    ensures step { IfOk result (λ o. Advances (unit_tree items.now) (world_of_scene world.now) activation.old o activation.new) }
+    ensures step { IfOk result (λ o. Advances (unit_tree items.now) world.now activation.old o activation.new) }
     ensures range { IfOk result (λ _. IsInRange activation.new) }
 {
     begin(alloc, activation)?;

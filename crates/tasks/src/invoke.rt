@@ -6,7 +6,6 @@ ghost use Rattle.std.specs.Option.{option_map};
 ghost use Rattle.syntax.specs.Tree.{SourceUnit};
 ghost use Rattle.syntax.specs.Views.{expr_tree, call_tree};
 ghost use Rattle.types.specs.BuiltCalls.{is_built_call};
-ghost use Rattle.world.specs.SceneWorld.{world_of_scene};
 ghost use Rattle.source.specs.World.{loaded_objects};
 ghost use Rattle.source.specs.Start.{null_statics};
 ghost use Rattle.source.specs.Variable.{as_static};
@@ -55,7 +54,7 @@ fn first_argument(call: &Call) -> Option<&Expr>
 /// The number of elements of this object, for a variable.
 fn set_length<'a>(world: &World, line: usize, target: Target<'a>, object: usize) -> Outcome<'a>
     ensures { result ≡ length_outcome line target.entry
-        (array_length (world_of_scene world.now).classes (loaded_objects (world_of_scene world.now)) object) }
+        (array_length world.now.classes (loaded_objects world.now) object) }
 {
     match array_length(world, object) {
         None => Outcome::Trapped(Trap::WrongObject, line),
@@ -72,7 +71,7 @@ pub(crate) fn invoke<'a>(
     call: &'a Call,
 ) -> Result<Outcome<'a>, AllocError>
     requires { IsTrue (is_built_call (call_tree call.now)) }
-    ensures step { IfOk result (λ o. (unit : SourceUnit) → Does (world_of_scene world.now) (variables_view variables.now) (null_statics unit) (invoke_task line target.entry call.entry) o (invoke_task line target.entry call.entry)) }
+    ensures step { IfOk result (λ o. (unit : SourceUnit) → Does world.now (variables_view variables.now) (null_statics unit) (invoke_task line target.entry call.entry) o (invoke_task line target.entry call.entry)) }
     ensures range { IfOk result OutcomeInRange }
 {
     match first_argument(call) {

@@ -2,7 +2,6 @@
 
 ghost use Rattle.std.specs.Prelude.{◌≡◌, IfOk, ℕ};
 ghost use Rattle.syntax.specs.Views.{expr_tree, block_tree, unit_tree};
-ghost use Rattle.world.specs.SceneWorld.{world_of_scene};
 ghost use Rattle.source.specs.Start.{null_statics};
 ghost use Rattle.source.specs.Task.{tasks_of};
 ghost use Rattle.source.specs.Variable.{Statics};
@@ -240,7 +239,7 @@ pub(crate) fn step<'a>(
     task: &mut Task<'a>,
 ) -> Result<Outcome<'a>, AllocError>
     requires { TaskInRange task.old }
-    ensures step { IfOk result (λ o. Does (world_of_scene world.now) (variables_view variables.now) (null_statics (unit_tree items.now)) task.old o task.new) }
+    ensures step { IfOk result (λ o. Does world.now (variables_view variables.now) (null_statics (unit_tree items.now)) task.old o task.new) }
     ensures task { IfOk result (λ _. TaskInRange task.new) }
     ensures range { IfOk result OutcomeInRange }
 {

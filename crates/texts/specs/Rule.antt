@@ -1,6 +1,6 @@
 -- The rules that a line breaks, as they are held in memory.
 use Rattle.std.specs.Prelude.{ℕ}
-use Rattle.classes.specs.Additions.{NameTaken, TooMany}
+use Rattle.classes.specs.Additions.{NameTaken, BadSuperclass, BadSignature, TooMany}
 use Rattle.texts.specs.declared.fault.Rule.{Rule}
 use Rattle.texts.specs.declared.fault.Rule.TheVariants as held
 use Rattle.texts.specs.LineRules.{LineRule, OfClass, LineForm, WrongName, OutOfLimit, HeapFull, line_rule_number}
@@ -8,6 +8,8 @@ use Rattle.texts.specs.LineRules.{LineRule, OfClass, LineForm, WrongName, OutOfL
 -- the rule
 abbrev pub rule_of : Rule → LineRule
 rule_of held.NameTaken = OfClass NameTaken
+rule_of held.Superclass = OfClass BadSuperclass
+rule_of held.Signature = OfClass BadSignature
 rule_of held.Classes = OfClass TooMany
 rule_of held.Form = LineForm
 rule_of held.Name = WrongName

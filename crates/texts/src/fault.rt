@@ -9,9 +9,13 @@ use thiserror::Error;
 /// A rule that a line breaks.
 #[derive(Clone, Copy, Debug, PartialEq, Eq)]
 pub enum Rule {
-    /// A class of this name is there already.
+    /// A class of this name is there already, or the class declares a field of this name.
     NameTaken = 61,
-    /// There are 256 classes already.
+    /// A superclass isn't there, or has no subclasses.
+    Superclass = 62,
+    /// No type of a field has this signature.
+    Signature = 63,
+    /// There are as many classes, or fields of a class, as there may be.
     Classes = 64,
     /// A line or a word has no form that the text may have.
     Form = 81,

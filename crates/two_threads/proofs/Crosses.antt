@@ -30,6 +30,9 @@ use Rattle.regions.specs.contracts.checked.Checked.TheInside as checked-inside
 use Rattle.code.specs.contracts.code.Code as code
 use Rattle.code.specs.contracts.code.Code.TheInside as code-inside
 use Rattle.code.specs.contracts.instr.Instr as instr
+use Rattle.jni.proofs.function.JniFunction.TheSendSync as function
+use Rattle.code.proofs.instr.Operand.TheSendSync as operand
+use Rattle.code.proofs.instr.Target.TheSendSync as target
 use Rattle.code.specs.contracts.instr.Call as call
 use Rattle.code.specs.contracts.instr.BoxedCall as boxed-call
 use Rattle.code.specs.contracts.instr.BoxedCall.TheInside as boxed-call-inside
@@ -63,9 +66,12 @@ checked_sync = view_sync checked-inside.the_row _ _ _ _ (recorded_sync (checked-
 
 -- ---- what it owns
 
+call_send : IsSend call.the_row
+call_send = search (function.the_field_send, operand.the_field_send, target.the_field_send, vec.the_send, crosses, sendable) depth 60 fits 20000
+
 boxed_call_send : IsSend boxed-call.the_row
 boxed_call_send =
-    view_send boxed-call-inside.the_row _ _ _ _ (recorded_send (boxed-call-inside.the_field).row _ _ boxed-call-inside.the_type.to_one (struct_send (shape boxed-call-inside.the_type) (Box-send call.the_row (search (crosses, sendable) depth 60 fits 20000), tt)))
+    view_send boxed-call-inside.the_row _ _ _ _ (recorded_send (boxed-call-inside.the_field).row _ _ boxed-call-inside.the_type.to_one (struct_send (shape boxed-call-inside.the_type) (Box-send call.the_row call_send, tt)))
 
 instr_send : IsSend instr.the_row
 instr_send = search (boxed_call_send, crosses, sendable) depth 60 fits 20000

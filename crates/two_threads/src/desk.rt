@@ -11,11 +11,11 @@ use world::Schedule;
 pub trait Naming {
     ghost use Rattle.std.specs.Prelude.{List};
     ghost use Rattle.syntax.specs.declared.unit.Item.{Item};
-    ghost use Rattle.world.specs.Scene.{Scene};
+    ghost use Rattle.source.specs.World.{World};
 
     ghost unit: { List Item };
 
-    ghost world: { Scene };
+    ghost world: { World };
 }
 
 impl Naming for Brand {
@@ -23,7 +23,7 @@ impl Naming for Brand {
 
     ghost unit = { [] };
 
-    ghost world = { record { heap = 0; classes = []; objects = []; threads = [] } };
+    ghost world = { record { cells = 0; classes = []; objects = []; threads = [] } };
 }
 
 /// A machine of the named program in the named world. To a contract it is the machine.

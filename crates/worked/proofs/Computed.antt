@@ -22,16 +22,17 @@ use Rattle.source.specs.JournalText.{entry_text, journal_line}
 use Rattle.source.specs.Object.{Object, sizes}
 use Rattle.world.specs.ReadingValues.{value_named}
 use Rattle.texts.specs.ReadingWords.{lines_words, allowed_words}
-use Rattle.world.specs.ReadingWorlds.{lines_scene, line_scene, heap_scene, class_scene, array_scene, thread_scene, finished_scene}
+use Rattle.world.specs.ReadingLines.{heap_of_line, line_of}
+use Rattle.world.specs.ReadingWorlds.{line_read, lines_read, heap_read, world_read, numbered_read}
 use Rattle.report.specs.ReportText.{report_text}
 use Rattle.source.specs.Schedule.{Schedule}
 use Rattle.texts.specs.ScheduleText.{IsScheduleText, schedule_word, words_meant, is_turn, is_count}
 use Rattle.texts.specs.Words.{words_of, is_thread}
 use Rattle.source.specs.World.{World}
-use Rattle.world.specs.WorldLines.{WorldLine, Lines, line_text, spaced, text_lines}
+use Rattle.world.specs.WorldLines.{WorldLine, Lines, has_words, line_text, spaced, text_lines}
 use Rattle.world.specs.WorldMeaning.{world_of}
 use Rattle.world.specs.WorldRules.{IsWorldText, IsNumberedLine, broken_after, is_thread_line}
-use Rattle.world.proofs.WrittenValues.{same_bytes}
+use Rattle.std.proofs.lemmas.Slice.Eq.{bytes_eq-Decides}
 use Rattle.source.specs.CallTable.{call_effect}
 use Rattle.source.specs.Checks.{go_together, call_trap}
 use Rattle.regions.specs.Findings.{first_fault}
@@ -56,7 +57,7 @@ opened = tt
 
 -- what the reading of worlds and schedules unfolds beside
 unfoldable pub read : Unit {0}
-unfolding digits built_ins lines_words allowed_words lines_scene line_scene heap_scene class_scene array_scene thread_scene finished_scene value_named
+unfolding digits built_ins lines_words allowed_words numbered_read heap_of_line heap_read lines_read line_read line_of value_named world_read
 read = tt
 
 both : (a b : Bool) → IsTrue (a && b) → IsTrue a × IsTrue b
@@ -121,27 +122,28 @@ bad_way unit rule line tree sorted first = by_regions rule line (a_tree unit tre
 abbrev pub written_line : ℕ × WorldLine → ℕ × List ℕ
 written_line l = (l.0, line_text l.1)
 
-lines-spelled : (lines : Lines) → AllZip IsNumberedLine (map written_line lines) lines
-lines-spelled [] = tt
-lines-spelled (l ∷ lines) = ((refl, inl refl), lines-spelled lines)
+lines-spelled : (lines : Lines) → IsTrue (list_all (λ l. has_words l.1) lines) → AllZip IsNumberedLine (map written_line lines) lines
+lines-spelled [] words = tt
+lines-spelled (l ∷ lines) words = let parts = both (has_words l.1) (list_all (λ l. has_words l.1) lines) words in ((refl, (parts.0, inl refl)), lines-spelled lines parts.1)
 
 pub world-text : (text : List ℕ) (cells : ℕ) (lines : Lines) (heap_line : ℕ)
     → text_lines text ≡ (heap_line, spaced (codes "heap" ∷ decimal cells ∷ [])) ∷ map written_line lines
     → IsTrue (nat_le 512 cells && nat_le cells 1048576)
     → broken_after cells [] lines ≡ []
-    → IsTrue (list_any (λ (l : ℕ × WorldLine). is_thread_line l.1) lines)
+    → IsTrue (list_any (λ (l : ℕ × WorldLine). is_thread_line l.1) lines && list_all (λ (l : ℕ × WorldLine). has_words l.1) lines)
     → IsWorldText text (world_of cells lines)
-world-text text cells lines heap_line spelled size rules threads =
+world-text text cells lines heap_line spelled size rules formed =
     let sizes = both (nat_le 512 cells) (nat_le cells 1048576) size in
+    let parts = both (list_any (λ (l : ℕ × WorldLine). is_thread_line l.1) lines) (list_all (λ (l : ℕ × WorldLine). has_words l.1) lines) formed in
     record {
       heap_line = heap_line;
       written = map written_line lines;
       lines = lines;
       spelled = spelled;
-      lines_spelled = lines-spelled lines;
+      lines_spelled = lines-spelled lines parts.1;
       size = (leb-true _ _ sizes.0, leb-true _ _ sizes.1);
       rules = rules;
-      threads = threads;
+      threads = parts.0;
       meant = refl;
     }
 
@@ -343,7 +345,7 @@ module _ (unit : SourceUnit) (w : World) where
         writes = record {
           end = end;
           replays = follows-replay unit w lawful.follows;
-          same = same_bytes text (output end (onto latest [])) is ∙ ap (output end) (ap (λ j. onto j []) lawful.adds ∙ turned_twice lawful.journal);
+          same = (bytes_eq-Decides text (output end (onto latest []))).0 is ∙ ap (output end) (ap (λ j. onto j []) lawful.adds ∙ turned_twice lawful.journal);
         };
       }
 
@@ -372,7 +374,7 @@ replays_to w text journal (Some end) = bytes_eq text (report_text (report w end)
 
 replay-writes : (unit : SourceUnit) (w : World) (text : List ℕ) (journal : Journal) (o : Option State) → replay unit w journal ≡ o → IsTrue (replays_to w text journal o) → Writes unit w journal text
 replay-writes unit w text journal None e is = absurd cc
-replay-writes unit w text journal (Some end) e is = record { end = end; replays = e; same = same_bytes text (report_text (report w end) ++ journal_line journal) is }
+replay-writes unit w text journal (Some end) e is = record { end = end; replays = e; same = (bytes_eq-Decides text (report_text (report w end) ++ journal_line journal)).0 is }
 
 pub worked-replay : {world journal text : List ℕ} (unit : SourceUnit) (w : World) (entries : Journal)
     → IsAccepted unit

@@ -34,6 +34,7 @@ mod Monitors
 mod MonitorsShared
 mod NumberArrays
 mod ObjectArrays
+mod Objects
 mod OrderOfChecks
 mod ReferenceFaults
 mod References

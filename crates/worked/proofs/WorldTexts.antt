@@ -1,6 +1,6 @@
 -- World texts: what they mean, and the rules that they break.
 use Rattle.std.specs.Prelude.{length, replicate}
-use Rattle.std.proofs.Common.{◌≡◌, true, false, [], ◌∷◌, Some, None, codes, refl, inl, inr, arith, pos, negsuc}
+use Rattle.std.proofs.Common.{◌≡◌, true, false, [], ◌∷◌, Some, None, Ok, codes, refl, inl, inr, arith, pos, negsuc}
 use Rattle.std.specs.Fmt.{digits}
 use Rattle.base.specs.Element.{JInt}
 use Rattle.classes.specs.Class.{assignable}
@@ -8,12 +8,14 @@ use Rattle.classes.specs.BuiltIns.{built_ins}
 use Rattle.classes.specs.Fields.{layout, type_of_signature}
 use Rattle.classes.specs.Mangling.{unmangle}
 use Rattle.classes.specs.Additions.{NameTaken, BadSuperclass, BadSignature}
+use Rattle.world.specs.ReadingWorlds.{world_of_text}
 use Rattle.world.specs.WorldLines.{ClassLine, FieldLine, ObjectLine, ArrayLine, StringLine, ThreadLine, CallLine, NumberValue, NullValue, NamedObject, NamedClass, Lines}
 use Rattle.world.specs.WorldMeaning.{world_of, cells_of}
 use Rattle.world.specs.WorldRules.{IsWorldText, broken_after}
 use Rattle.texts.specs.LineRules.{OfClass, LineForm, WrongName, OutOfLimit, HeapFull}
 use Rattle.source.specs.Load.{Loads}
 use Rattle.worked.proofs.Arguments.{a_thread_that_has_not_begun}
+use Rattle.worked.proofs.Computed.{read}
 
 abbrev small_lines : Lines
 small_lines = (2, ClassLine (codes "A") None) ∷ (4, ArrayLine (codes "a") JInt (NumberValue (pos 7) ∷ NumberValue (negsuc 7) ∷ [])) ∷ (5, StringLine (codes "s") []) ∷ (6, StringLine (codes "t") []) ∷ (7, ThreadLine (codes "Java_A_f") (NamedObject (codes "a") ∷ [])) ∷ []
@@ -26,12 +28,17 @@ small_world-text = record {
   written = (2, codes "class A") ∷ (4, codes "array @a I 7 -8") ∷ (5, codes "string @s ") ∷ (6, codes "string @t") ∷ (7, codes "thread Java_A_f @a") ∷ [];
   lines = small_lines;
   spelled = refl;
-  lines_spelled = ((refl, inl refl), ((refl, inl refl), ((refl, inl refl), ((refl, inr refl), ((refl, inl refl), tt)))));
+  lines_spelled = ((refl, (refl, inl refl)), ((refl, (refl, inl refl)), ((refl, (refl, inl refl)), ((refl, (refl, inr refl)), ((refl, (refl, inl refl)), tt)))));
   size = (omega arith, omega arith);
   rules = refl;
   threads = refl;
   meant = refl;
 }
+
+-- and what is read of the text is the same world
+small_world-read : world_of_text (codes "heap 512\nclass A\n\narray @a I 7 -8\nstring @s \nstring @t\nthread Java_A_f @a") ≡ Ok (world_of 512 small_lines)
+unfolding read
+small_world-read = refl
 
 small_world-loads : Loads a_thread_that_has_not_begun (world_of 512 small_lines)
 unfolding unmangle built_ins

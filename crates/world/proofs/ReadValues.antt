@@ -1,8 +1,7 @@
--- The texts of values are read as these values.
-use Rattle.std.proofs.Common.{◌≡◌, ℕ, zero, suc, ◌-◌, ◌^◌, ◌<◌, ◌≤◌, true, false, cond, List, [], ◌∷◌, ◌++◌, length, map, min, Some, None, refl, sym, ap, ◌∙◌, arith}
-use Rattle.std.specs.Prelude.{codes, decimal, ◌==◌, nat_le, ℤ, pos, negsuc}
+-- The words that values are written as are read as these values.
+use Rattle.std.proofs.Common.{◌≡◌, ℕ, zero, suc, ◌-◌, ◌^◌, ◌<◌, ◌≤◌, Bool, true, false, List, [], ◌∷◌, length, map, min, Some, refl, sym, ap, ◌∙◌, arith}
+use Rattle.std.specs.Prelude.{codes, decimal, not, ◌==◌, nat_le, ℤ, pos, negsuc}
 use Rattle.std.specs.Fmt.{signed_decimal}
-use Rattle.std.specs.Option.{option_map}
 use Rattle.std.specs.Char.{is_ascii_digit}
 use Rattle.std.specs.List.{list_all}
 use Rattle.std.specs.Str.{all_ascii_digits}
@@ -10,21 +9,16 @@ use Rattle.std.proofs.lemmas.Bool.{and_from}
 use Rattle.std.proofs.lemmas.Bool.Decides.{nat_tests}
 use Rattle.std.proofs.lemmas.Fmt.{decimal_nonempty, digits_decimal}
 use Rattle.std.proofs.lemmas.Str.Parse.{numerals_by_value, tells_all_ascii_digits}
-use Rattle.base.specs.Bytes.{Identifier}
+use Rattle.base.specs.Bytes.{is_some_byte}
 use Rattle.base.specs.Element.{ElementType, JInt, JShort, JByte, JChar}
-use Rattle.classes.specs.Mangling.{is_simple_name, is_class_name}
 use Rattle.texts.specs.Numbers.{natural_of}
-use Rattle.world.specs.ReadingValues.{object_named, value_named, values_named, element_named}
 use Rattle.texts.specs.ReadingWords.{with_word}
-use Rattle.world.specs.ReadingWorlds.{is_there}
-use Rattle.world.specs.Scene.{Scene}
-use Rattle.world.specs.WorldLines.{WorldValue, NumberValue, NullValue, NamedObject, NamedClass, at_name, value_text, element_letter}
-use Rattle.world.specs.WorldRules.{is_formed_value, is_in_range, value_in_range}
-use Rattle.world.proofs.FreeWords.{decimal_free, simple_name_free, known_class_free}
-use Rattle.world.proofs.LineForms.{is_free}
+use Rattle.world.specs.ReadingValues.{value_named, values_named, element_named}
+use Rattle.world.specs.WorldLines.{WorldValue, NumberValue, NullValue, NamedObject, NamedClass, has_no_space, is_line_word, is_value_word, value_text, element_letter}
+use Rattle.world.specs.WorldRules.{is_in_range, value_in_range}
 use Rattle.texts.proofs.MeantSchedules.{natural_of-decimal}
 use Rattle.texts.proofs.ScheduleLaws.{decimal-natural_of}
-use Rattle.texts.proofs.WordLaws.{both_true}
+use Rattle.world.proofs.Tests.{both, at_most, less}
 
 -- ---- numbers
 
@@ -44,8 +38,8 @@ record BeginsWithDigit (bytes : List ℕ) : Type 0 where
 begins : (bytes : List ℕ) → 0 < length bytes → all_ascii_digits bytes ≡ true → BeginsWithDigit bytes
 begins [] some h = absurd (omega arith)
 begins (d ∷ ds) some h =
-    let a = both_true (is_ascii_digit d) (all_ascii_digits ds) h in
-    let b = both_true (nat_le 48 d) (nat_le d 57) a.0 in
+    let a = both (is_ascii_digit d) (all_ascii_digits ds) h in
+    let b = both (nat_le 48 d) (nat_le d 57) a.0 in
     let low : 48 ≤ d = grind (arith, nat_tests, b.0) in
     let high : d ≤ 57 = grind (arith, nat_tests, b.1) in
     record { digit = d; rest = ds; is = refl; low = low; high = high }
@@ -81,62 +75,60 @@ number_read (negsuc m) range =
     let low : m < 2147483648 = grind (arith, nat_tests, range) in
     below_word (decimal (suc m)) m (omega (arith, low)) (natural_of-written (suc m) (omega (arith, low)))
 
-pub number_free : (z : ℤ) → is_in_range JInt z ≡ true → is_free (λ c. c == 32) (signed_decimal z) ≡ true
-number_free (pos n) range =
-    let low : n ≤ 2147483647 = grind (arith, nat_tests, range) in
-    decimal_free n (omega (arith, low))
-number_free (negsuc m) range =
-    let low : m < 2147483648 = grind (arith, nat_tests, range) in
-    decimal_free (suc m) (omega (arith, low))
+-- ---- words
+
+digits_word : (ds : List ℕ) → all_ascii_digits ds ≡ true → has_no_space ds ≡ true
+digits_word [] h = refl
+digits_word (d ∷ ds) h =
+    let b = both (is_ascii_digit d) (all_ascii_digits ds) h in
+    and_from (not (d == 32)) (has_no_space ds) (by_test (d == 32) refl b.0) (digits_word ds b.1)
+  where
+    by_test : (t : Bool) → (d == 32) ≡ t → is_ascii_digit d ≡ true → not t ≡ true
+    by_test false e k = refl
+    by_test true e k = let is : d ≡ 32 = grind (arith, nat_tests, e) in absurd (let none : false ≡ true = ap is_ascii_digit (sym is) ∙ k in cc)
+
+begun_word : (bytes : List ℕ) → BeginsWithDigit bytes → is_some_byte bytes ≡ true
+begun_word bytes b = ap is_some_byte b.is
+
+pub decimal_word : (n : ℕ) → n < 2 ^ 64 → is_line_word (decimal n) ≡ true
+decimal_word n small =
+    and_from (is_some_byte (decimal n)) (has_no_space (decimal n)) (begun_word (decimal n) (decimal_begins n small))
+    (digits_word (decimal n) (digits_decimal (numerals_by_value (λ ds. all_ascii_digits ds ≡ true) tells_all_ascii_digits) n small))
+
+number_word : (z : ℤ) → is_in_range JInt z ≡ true → is_line_word (signed_decimal z) ≡ true
+number_word (pos n) range = let low = at_most n 2147483647 range in decimal_word n (omega (arith, low))
+number_word (negsuc m) range =
+    let low = less m 2147483648 range in
+    (both (is_some_byte (decimal (suc m))) (has_no_space (decimal (suc m))) (decimal_word (suc m) (omega (arith, low)))).1
+
+-- the words of values
+pub value_word : (v : WorldValue) → is_value_word v ≡ true → value_in_range JInt v ≡ true → is_line_word (value_text v) ≡ true
+value_word (NumberValue z) h range = number_word z range
+value_word NullValue h range = refl
+value_word (NamedObject x) h range = h
+value_word (NamedClass name) h range = h
+
+pub value_words : (vs : List WorldValue) → list_all is_value_word vs ≡ true → list_all (value_in_range JInt) vs ≡ true → list_all is_line_word (map value_text vs) ≡ true
+value_words [] h range = refl
+value_words (v ∷ vs) h range =
+    let w = both (is_value_word v) (list_all is_value_word vs) h in
+    let r = both (value_in_range JInt v) (list_all (value_in_range JInt) vs) range in
+    and_from (is_line_word (value_text v)) (list_all is_line_word (map value_text vs)) (value_word v w.0 r.0) (value_words vs w.1 r.1)
 
 -- ---- values
 
--- the name of an object
-pub object_read : (x : Identifier) → is_simple_name x ≡ true → object_named (at_name x) ≡ Some x
-object_read x h = ap (λ b. cond b (Some x) None) h
-
-class_word : (name : Identifier) → value_named (codes "class:" ++ name) ≡ Some (NamedClass name)
+value_read : (v : WorldValue) → value_in_range JInt v ≡ true → value_named (value_text v) ≡ Some v
 unfolding value_named
-class_word name = refl
+value_read (NumberValue z) range = number_read z range
+value_read NullValue range = refl
+value_read (NamedObject x) range = refl
+value_read (NamedClass name) range = refl
 
-object_word : (x : Identifier) → is_simple_name x ≡ true → value_named (at_name x) ≡ Some (NamedObject x)
-unfolding value_named
-object_word x h = ap (option_map NamedObject) (object_read x h)
-
-null_word : value_named (codes "null") ≡ Some NullValue
-unfolding value_named
-null_word = refl
-
-value_read : (v : WorldValue) → is_formed_value v ≡ true → value_in_range JInt v ≡ true → value_named (value_text v) ≡ Some v
-value_read (NumberValue z) h range = number_read z range
-value_read NullValue h range = null_word
-value_read (NamedObject x) h range = object_word x h
-value_read (NamedClass name) h range = class_word name
-
-pub values_read : (vs : List WorldValue) → list_all is_formed_value vs ≡ true → list_all (value_in_range JInt) vs ≡ true → values_named (map value_text vs) ≡ Some vs
-values_read [] h range = refl
-values_read (v ∷ vs) h range =
-    let f = both_true (is_formed_value v) (list_all is_formed_value vs) h in
-    let r = both_true (value_in_range JInt v) (list_all (value_in_range JInt) vs) range in
-    ap (λ o. with_word o (values_named (map value_text vs))) (value_read v f.0 r.0)
-    ∙ ap (with_word (Some v)) (values_read vs f.1 r.1)
-
--- ---- values without a space
-
-module _ (scene : Scene) (classes : list_all is_class_name scene.classes ≡ true) where
-  value_free : (v : WorldValue) → is_formed_value v ≡ true → value_in_range JInt v ≡ true → is_there scene v ≡ true → is_free (λ c. c == 32) (value_text v) ≡ true
-  value_free (NumberValue z) h range there = number_free z range
-  value_free NullValue h range there = refl
-  value_free (NamedObject x) h range there = simple_name_free x h
-  value_free (NamedClass name) h range there = known_class_free scene.classes name classes there
-
-  pub values_free : (vs : List WorldValue) → list_all is_formed_value vs ≡ true → list_all (value_in_range JInt) vs ≡ true → list_all (is_there scene) vs ≡ true → list_all (is_free (λ c. c == 32)) (map value_text vs) ≡ true
-  values_free [] h range there = refl
-  values_free (v ∷ vs) h range there =
-      let f = both_true (is_formed_value v) (list_all is_formed_value vs) h in
-      let r = both_true (value_in_range JInt v) (list_all (value_in_range JInt) vs) range in
-      let t = both_true (is_there scene v) (list_all (is_there scene) vs) there in
-      and_from (is_free (λ c. c == 32) (value_text v)) (list_all (is_free (λ c. c == 32)) (map value_text vs)) (value_free v f.0 r.0 t.0) (values_free vs f.1 r.1 t.1)
+pub values_read : (vs : List WorldValue) → list_all (value_in_range JInt) vs ≡ true → values_named (map value_text vs) ≡ Some vs
+values_read [] range = refl
+values_read (v ∷ vs) range =
+    let r = both (value_in_range JInt v) (list_all (value_in_range JInt) vs) range in
+    ap (λ o. with_word o (values_named (map value_text vs))) (value_read v r.0) ∙ ap (with_word (Some v)) (values_read vs r.1)
 
 -- ---- the letter of a type
 
@@ -146,8 +138,8 @@ element_read JShort = refl
 element_read JByte = refl
 element_read JChar = refl
 
-pub element_free : (t : ElementType) → is_free (λ c. c == 32) (element_letter t) ≡ true
-element_free JInt = refl
-element_free JShort = refl
-element_free JByte = refl
-element_free JChar = refl
+pub element_word : (t : ElementType) → is_line_word (element_letter t) ≡ true
+element_word JInt = refl
+element_word JShort = refl
+element_word JByte = refl
+element_word JChar = refl

@@ -1,6 +1,6 @@
 -- Words that are read as values are written so.
 use Rattle.std.proofs.Common.{◌≡◌, ℕ, suc, ◌-◌, ◌^◌, ◌<◌, ◌≤◌, Bool, true, false, cond, List, [], ◌∷◌, ◌++◌, map, take, drop, min, Option, Some, None, refl, sym, ap, ◌∙◌, subst, arith}
-use Rattle.std.specs.Prelude.{codes, decimal, ◌&&◌, ◌==◌, nat_lt, nat_le, ℤ, pos, negsuc}
+use Rattle.std.specs.Prelude.{codes, decimal, ◌==◌, nat_lt, nat_le, ℤ, pos, negsuc}
 use Rattle.std.specs.Fmt.{signed_decimal}
 use Rattle.std.specs.Option.{option_map}
 use Rattle.std.specs.List.{list_all}
@@ -8,24 +8,14 @@ use Rattle.std.specs.Str.{bytes_eq}
 use Rattle.std.proofs.lemmas.Bool.{and_from}
 use Rattle.std.proofs.lemmas.Bool.Decides.{nat_tests}
 use Rattle.std.proofs.lemmas.List.{take-append-drop}
-use Rattle.std.proofs.lemmas.Slice.Eq.{bytes_eq-Decides}
 use Rattle.base.specs.Bytes.{Identifier}
 use Rattle.base.specs.Element.{ElementType, JInt, JShort, JByte, JChar}
-use Rattle.classes.specs.Mangling.{is_simple_name}
-use Rattle.texts.specs.Numbers.{natural_of}
-use Rattle.texts.specs.Numbers.{negated, number_named}
+use Rattle.texts.specs.Numbers.{natural_of, negated, number_named}
 use Rattle.world.specs.ReadingValues.{object_named, plain_value, value_named, values_named, element_named}
-use Rattle.world.specs.WorldLines.{WorldValue, NumberValue, NullValue, NamedObject, NamedClass, at_name, value_text, element_letter}
-use Rattle.world.specs.WorldRules.{is_formed_value, is_in_range, value_in_range}
+use Rattle.world.specs.WorldLines.{WorldValue, NumberValue, NullValue, NamedObject, NamedClass, has_no_space, is_value_word, at_name, value_text, element_letter}
+use Rattle.world.specs.WorldRules.{is_in_range, value_in_range}
 use Rattle.texts.proofs.ScheduleLaws.{guarded, some_with, decimal-natural_of}
-use Rattle.texts.proofs.WordLaws.{both_true}
-
-pub same_bytes : (a b : List ℕ) → bytes_eq a b ≡ true → a ≡ b
-same_bytes a b h = (bytes_eq-Decides a b).0 h
-
-pub mapped : {A B : Type 0} (f : A → B) (o : Option A) (y : B) → option_map f o ≡ Some y → (x : A) × (o ≡ Some x) × (f x ≡ y)
-mapped f None y h = absurd (cc)
-mapped f (Some x) y h = (x, refl, cc)
+use Rattle.world.proofs.Tests.{both, mapped, same_number, same_bytes}
 
 -- ---- numbers
 
@@ -69,60 +59,60 @@ number_written (sign ∷ digits) z h range = by_sign (sign == 45) refl h
 
 -- ---- values
 
--- a word is the text of a value, which is formed
-pub record IsWritten (word : List ℕ) (v : WorldValue) : Type 0 where
-  pub text : word ≡ value_text v
-  pub formed : is_formed_value v ≡ true
-
 -- the name of an object
-pub object_written : (word : List ℕ) (x : Identifier) → object_named word ≡ Some x → (word ≡ at_name x) × (is_simple_name x ≡ true)
+pub object_written : (word : List ℕ) (x : Identifier) → object_named word ≡ Some x → word ≡ at_name x
 object_written [] x h = absurd (cc)
 object_written (c ∷ y) x h =
-    let g = guarded (c == 64 && is_simple_name y) y x h in
-    let b = both_true (c == 64) (is_simple_name y) g.0 in
-    let is : c ≡ 64 = grind (arith, nat_tests, b.0) in
-    (ap (λ s. s ∷ y) is ∙ ap (λ (n : Identifier). 64 ∷ n) g.1, subst (λ (n : Identifier). is_simple_name n ≡ true) g.1 b.1)
+    let g = guarded (c == 64) y x h in
+    ap (λ s. s ∷ y) (same_number c 64 g.0) ∙ ap (λ (n : Identifier). 64 ∷ n) g.1
 
-plain_written : (word : List ℕ) (v : WorldValue) → plain_value word ≡ Some v → value_in_range JInt v ≡ true → IsWritten word v
+plain_written : (word : List ℕ) (v : WorldValue) → plain_value word ≡ Some v → value_in_range JInt v ≡ true → word ≡ value_text v
 plain_written word v h range = by_test (bytes_eq word (codes "null")) refl h
   where
-    by_test : (b : Bool) → bytes_eq word (codes "null") ≡ b → cond b (Some NullValue) (option_map NumberValue (number_named word)) ≡ Some v → IsWritten word v
-    by_test true t h = let is : NullValue ≡ v = cc in subst (IsWritten word) is (record { text = same_bytes word (codes "null") t; formed = refl })
+    by_test : (b : Bool) → bytes_eq word (codes "null") ≡ b → cond b (Some NullValue) (option_map NumberValue (number_named word)) ≡ Some v → word ≡ value_text v
+    by_test true t h = let is : NullValue ≡ v = cc in same_bytes word (codes "null") t ∙ ap value_text is
     by_test false t h =
         let z = mapped NumberValue (number_named word) v h in
-        subst (IsWritten word) z.2 (record { text = sym (number_written word z.0 z.1 (ap (value_in_range JInt) z.2 ∙ range)); formed = refl })
+        sym (number_written word z.0 z.1 (ap (value_in_range JInt) z.2 ∙ range)) ∙ ap value_text z.2
 
-pub value_written : (word : List ℕ) (v : WorldValue) → value_named word ≡ Some v → value_in_range JInt v ≡ true → IsWritten word v
+value_written : (word : List ℕ) (v : WorldValue) → value_named word ≡ Some v → value_in_range JInt v ≡ true → word ≡ value_text v
 unfolding value_named
 value_written [] v h range = absurd (cc)
 value_written (c ∷ rest) v h range = by_sign (c == 64) (bytes_eq (take 6 (c ∷ rest)) (codes "class:")) refl h
   where
     by_sign : (a b : Bool) → bytes_eq (take 6 (c ∷ rest)) (codes "class:") ≡ b
-        → cond a (option_map NamedObject (object_named (c ∷ rest))) (cond b (Some (NamedClass (drop 6 (c ∷ rest)))) (plain_value (c ∷ rest))) ≡ Some v → IsWritten (c ∷ rest) v
+        → cond a (option_map NamedObject (object_named (c ∷ rest))) (cond b (Some (NamedClass (drop 6 (c ∷ rest)))) (plain_value (c ∷ rest))) ≡ Some v → c ∷ rest ≡ value_text v
     by_sign true b t h =
         let x = mapped NamedObject (object_named (c ∷ rest)) v h in
-        let w = object_written (c ∷ rest) x.0 x.1 in
-        subst (IsWritten (c ∷ rest)) x.2 (record { text = w.0; formed = w.1 })
+        object_written (c ∷ rest) x.0 x.1 ∙ ap value_text x.2
     by_sign false true t h =
         let is : NamedClass (drop 6 (c ∷ rest)) ≡ v = cc in
-        subst (IsWritten (c ∷ rest)) is (record { text = sym (take-append-drop 6 (c ∷ rest)) ∙ ap (λ (front : List ℕ). front ++ drop 6 (c ∷ rest)) (same_bytes (take 6 (c ∷ rest)) (codes "class:") t); formed = refl })
+        sym (take-append-drop 6 (c ∷ rest)) ∙ ap (λ (front : List ℕ). front ++ drop 6 (c ∷ rest)) (same_bytes (take 6 (c ∷ rest)) (codes "class:") t) ∙ ap value_text is
     by_sign false false t h = plain_written (c ∷ rest) v h range
 
--- words are the texts of values, which are formed
+-- what is written as a word is one
+word_value : (v : WorldValue) → has_no_space (value_text v) ≡ true → is_value_word v ≡ true
+word_value (NumberValue z) h = refl
+word_value NullValue h = refl
+word_value (NamedObject x) h = h
+word_value (NamedClass name) h = h
+
+-- words are the texts of values
 pub record AreWritten (words : List (List ℕ)) (vs : List WorldValue) : Type 0 where
   pub texts : words ≡ map value_text vs
-  pub formed : list_all is_formed_value vs ≡ true
+  pub are_words : list_all is_value_word vs ≡ true
 
-pub values_written : (words : List (List ℕ)) (vs : List WorldValue) → values_named words ≡ Some vs → list_all (value_in_range JInt) vs ≡ true → AreWritten words vs
-values_written [] vs h range = let none : [] ≡ vs = cc in subst (AreWritten []) none (record { texts = refl; formed = refl })
-values_written (word ∷ words) vs h range =
+pub values_written : (words : List (List ℕ)) (vs : List WorldValue) → list_all has_no_space words ≡ true → values_named words ≡ Some vs → list_all (value_in_range JInt) vs ≡ true → AreWritten words vs
+values_written [] vs free h range = let none : [] ≡ vs = cc in subst (AreWritten []) none (record { texts = refl; are_words = refl })
+values_written (word ∷ words) vs free h range =
     let w = some_with (value_named word) (values_named words) vs h in
-    let r = both_true (value_in_range JInt w.0) (list_all (value_in_range JInt) w.1) (ap (list_all (value_in_range JInt)) (sym w.4) ∙ range) in
+    let f = both (has_no_space word) (list_all has_no_space words) free in
+    let r = both (value_in_range JInt w.0) (list_all (value_in_range JInt) w.1) (ap (list_all (value_in_range JInt)) (sym w.4) ∙ range) in
     let first = value_written word w.0 w.2 r.0 in
-    let others = values_written words w.1 w.3 r.1 in
+    let others = values_written words w.1 f.1 w.3 r.1 in
     subst (AreWritten (word ∷ words)) (sym w.4) (record {
-      texts = ap (λ (x : List ℕ). x ∷ words) first.text ∙ ap (λ (xs : List (List ℕ)). value_text w.0 ∷ xs) others.texts;
-      formed = and_from (is_formed_value w.0) (list_all is_formed_value w.1) first.formed others.formed;
+      texts = ap (λ (x : List ℕ). x ∷ words) first ∙ ap (λ (xs : List (List ℕ)). value_text w.0 ∷ xs) others.texts;
+      are_words = and_from (is_value_word w.0) (list_all is_value_word w.1) (word_value w.0 (ap has_no_space (sym first) ∙ f.0)) others.are_words;
     })
 
 -- ---- ranges
@@ -137,7 +127,7 @@ in_jint JByte (negsuc n) h = grind (arith, nat_tests, h)
 in_jint JChar (pos n) h = grind (arith, nat_tests, h)
 in_jint JChar (negsuc n) h = grind (arith, nat_tests, h)
 
-value_in_jint : (t : ElementType) (v : WorldValue) → value_in_range t v ≡ true → value_in_range JInt v ≡ true
+pub value_in_jint : (t : ElementType) (v : WorldValue) → value_in_range t v ≡ true → value_in_range JInt v ≡ true
 value_in_jint t (NumberValue z) h = in_jint t z h
 value_in_jint t NullValue h = refl
 value_in_jint t (NamedObject x) h = refl
@@ -146,7 +136,7 @@ value_in_jint t (NamedClass x) h = refl
 pub values_in_jint : (t : ElementType) (vs : List WorldValue) → list_all (value_in_range t) vs ≡ true → list_all (value_in_range JInt) vs ≡ true
 values_in_jint t [] h = refl
 values_in_jint t (v ∷ vs) h =
-    let b = both_true (value_in_range t v) (list_all (value_in_range t) vs) h in
+    let b = both (value_in_range t v) (list_all (value_in_range t) vs) h in
     and_from (value_in_range JInt v) (list_all (value_in_range JInt) vs) (value_in_jint t v b.0) (values_in_jint t vs b.1)
 
 -- ---- the letter of a type

@@ -1,15 +1,10 @@
 -- What calls are given.
-use Rattle.std.specs.Prelude.{ℕ, ◌+◌, ◌*◌, Bool, true, ◌&&◌, nat_lt, nat_le, Some, None}
+use Rattle.std.specs.Prelude.{ℕ, Bool, true, ◌&&◌, nat_lt, nat_le, Some, None}
 use Rattle.std.specs.List.{list_all}
 use Rattle.base.specs.Element.{JInt}
 use Rattle.source.specs.Object.{ObjectValue, Number, Refers}
-use Rattle.world.specs.Scene.{CallScene}
+use Rattle.source.specs.World.{Invocation}
 use Rattle.world.specs.WorldRules.{is_in_range}
-
--- How many objects are made at load: 42 class objects and two for each class of the world, the OutOfMemoryError object,
--- and the world's.
-abbrev pub objects_made : (classes objects : ℕ) → ℕ
-objects_made classes objects = 43 + 2 * classes + objects
 
 -- a number in the range of jint, NULL, or one of so many objects, counted from 1
 abbrev pub is_argument : (made : ℕ) → ObjectValue → Bool
@@ -18,5 +13,5 @@ is_argument made (Refers None) = true
 is_argument made (Refers (Some n)) = nat_lt 0 n && nat_le n made
 
 -- each that a call is given
-abbrev pub are_arguments : (made : ℕ) → CallScene → Bool
+abbrev pub are_arguments : (made : ℕ) → Invocation → Bool
 are_arguments made call = list_all (is_argument made) call.arguments

@@ -1,17 +1,16 @@
 -- How the values of a world's lines are read.
-use Rattle.std.specs.Prelude.{ℕ, List, [], ◌∷◌, take, drop, codes, ◌==◌, ◌&&◌, Option, Some, None, bytes_eq, if◌then◌else◌}
+use Rattle.std.specs.Prelude.{ℕ, List, [], ◌∷◌, take, drop, codes, ◌==◌, Option, Some, None, bytes_eq, if◌then◌else◌}
 use Rattle.std.specs.Option.{option_map}
 use Rattle.base.specs.Bytes.{Identifier}
 use Rattle.base.specs.Element.{ElementType, JInt, JShort, JByte, JChar}
-use Rattle.classes.specs.Mangling.{is_simple_name}
 use Rattle.texts.specs.Numbers.{number_named}
 use Rattle.texts.specs.ReadingWords.{with_word}
 use Rattle.world.specs.WorldLines.{WorldValue, NumberValue, NullValue, NamedObject, NamedClass}
 
--- the name of an object, `@x`
+-- what is after the `@` of the name of an object
 abbrev pub object_named : List ℕ → Option Identifier
 object_named [] = None
-object_named (c ∷ x) = if c == 64 && is_simple_name x then Some x else None
+object_named (c ∷ x) = if c == 64 then Some x else None
 
 -- the number that a word is, or null
 abbrev pub plain_value : List ℕ → Option WorldValue

@@ -1,29 +1,25 @@
 //! What the lines of a world have said so far.
 
-ghost use Rattle.std.specs.Prelude.{◌≡◌, ◌<◌, ◌≤◌, true, map, length};
-ghost use Rattle.std.specs.List.{list_all};
-ghost use Rattle.world.specs.Scene.{has_call, cells_used};
-ghost use Rattle.world.specs.CallArguments.{objects_made, are_arguments};
+ghost use Rattle.std.specs.Prelude.{◌≡◌, ◌≤◌, length};
 
-use crate::objects::Objects;
+use crate::names::ObjectNames;
+use crate::object::Object;
 use crate::world::Call;
+use class_table::table::ClassTable;
 
-/// What the lines so far say. The heap has no cells before its line.
+/// What the lines so far say.
 #[derive(Drop)]
 pub struct WorldBuilder {
-    pub heap: u32,
-    pub classes: Vec<Vec<u8>>,
-    pub objects: Objects,
+    pub cells: u32,
+    pub classes: ClassTable,
+    pub names: ObjectNames,
+    pub objects: Vec<Object>,
     pub threads: Vec<Vec<Call>>,
-    /// The cells that the objects take which are made at the start.
+    /// The cells that are used at load.
     pub used: usize,
-    ghost each_has_call: { list_all has_call (map (λ t. t.items) threads.items) ≡ true },
-    ghost few: { length threads.items ≤ 8 },
-    ghost few_classes: { length classes.items ≤ 107 },
-    ghost few_objects: { length objects ≤ 65536 },
-    ghost used_is: { used ≡ cells_used (length classes.items) objects },
-    ghost room_before: { heap ≡ 0 → used ≤ 512 },
-    ghost room: { 0 < heap → used ≤ heap },
-    ghost limit: { heap ≤ 1048576 },
-    ghost named: { list_all (list_all (are_arguments (objects_made (length classes.items) (length objects)))) (map (λ t. t.items) threads.items) ≡ true },
+    /// The part of the last line.
+    pub part: u8,
+    ghost room: { used ≤ cells },
+    ghost limit: { cells ≤ 1048576 },
+    ghost few: { length names ≤ 65536 },
 }

@@ -1,20 +1,24 @@
 //! Worlds, as texts and in memory: the heap's size, the classes, the objects, and what each thread calls. What else is read and written of a run, it passes on.
 #![tactic(auto)]
 
-mod argument;
-mod array;
+mod additions;
 mod builder;
+mod laws;
+mod line;
 mod names;
-mod objects;
+mod next_line;
+mod object;
+mod rules;
 mod value;
+mod words;
 mod world;
 mod world_text;
 
-pub use argument::Argument;
-pub use array::{Array, Element};
+pub use laws::{texts_mean_one_world, worlds_are_read};
+pub use object::{Object, ObjectValue};
 pub use report::{
-    ClassName, NoRows, Rows, Shown, Sink, SinkFailed, StdSink, ThreadStatus, put_all, put_pieces,
-    put_row_end, put_row_head, put_value, write_journal, write_report, write_run,
+    NoRows, Rows, Shown, Sink, SinkFailed, StdSink, ThreadStatus, put_all, put_pieces, put_row_end,
+    put_row_head, put_value, write_journal, write_report, write_run,
 };
 pub use source::{Entry, Printed, ScheduleWord};
 pub use texts::{
@@ -22,4 +26,4 @@ pub use texts::{
     journals_are_read, read_journal, read_schedule, schedules_are_read,
 };
 pub use world::{Call, World};
-pub use world_text::{read_world, texts_mean_one_world, worlds_are_read};
+pub use world_text::read_world;

@@ -2,14 +2,13 @@
 
 ghost use Rattle.std.specs.Prelude.{◌≡◌, IfOk, map};
 ghost use Rattle.std.specs.Option.{option_map};
-ghost use Rattle.texts.specs.Split.{parts_left};
+ghost use Rattle.class_table.specs.Views.{element_view};
 ghost use Rattle.world.specs.ReadingValues.{object_named, plain_value, value_named, values_named, element_named};
-ghost use Rattle.world.specs.Views.{element_view, value_view};
+ghost use Rattle.world.specs.LineViews.{value_view};
 
-use crate::array::Element;
-use crate::names::is_simple_name;
+use class_table::class::ElementType;
 use std::alloc::{AllocError, Global};
-use texts::{Split, integer};
+use texts::integer;
 
 /// A value.
 #[derive(Clone, Copy)]
@@ -23,17 +22,13 @@ pub enum Value<'a> {
     Class(&'a [u8]),
 }
 
-/// The name of an object, where the word is one.
+/// What is after the `@` of the name of an object.
 pub fn object_name(word: &[u8]) -> Option<&[u8]>
     ensures { option_map (λ x. x.now) result ≡ object_named word.now }
 {
-    let [first, name @ ..] = word else {
-        return None;
-    };
-    if *first == b'@' && is_simple_name(name) {
-        Some(name)
-    } else {
-        None
+    match word {
+        [b'@', name @ ..] => Some(name),
+        _ => None,
     }
 }
 
@@ -57,10 +52,7 @@ fn read_value(word: &[u8]) -> Option<Value<'_>>
 {
     match word {
         [] => None,
-        [b'@', ..] => match object_name(word) {
-            Some(name) => Some(Value::Object(name)),
-            None => None,
-        },
+        [b'@', name @ ..] => Some(Value::Object(name)),
         _ => match word.strip_prefix(b"class:".as_slice()) {
             Some(name) => Some(Value::Class(name)),
             None => plain_value(word),
@@ -71,13 +63,13 @@ fn read_value(word: &[u8]) -> Option<Value<'_>>
 /// The values that the words are, or `None` where one of them is none.
 pub fn read_values<'a>(
     alloc: Global,
-    words: Split<'a>,
+    words: &[&'a [u8]],
 ) -> Result<Option<Vec<Value<'a>>>, AllocError>
-    ensures { IfOk result (λ values. option_map (λ v. map value_view v.items) values ≡ values_named (parts_left words.entry)) }
+    ensures { IfOk result (λ values. option_map (λ v. map value_view v.items) values ≡ values_named (map (λ w. w.now) words.now)) }
 {
     let mut values = Vec::new(alloc);
     for word in words {
-        match read_value(word) {
+        match read_value(*word) {
             Some(value) => values.push(value)?,
             None => return Ok(None),
         }
@@ -86,18 +78,14 @@ pub fn read_values<'a>(
 }
 
 /// The type of the elements of an array, by its letter.
-pub fn read_element(word: &[u8]) -> Option<Element>
+pub fn read_element(word: &[u8]) -> Option<ElementType>
     ensures { option_map element_view result ≡ element_named word.now }
 {
-    if word == b"I".as_slice() {
-        Some(Element::Int)
-    } else if word == b"S".as_slice() {
-        Some(Element::Short)
-    } else if word == b"B".as_slice() {
-        Some(Element::Byte)
-    } else if word == b"C".as_slice() {
-        Some(Element::Char)
-    } else {
-        None
+    match word {
+        b"I" => Some(ElementType::Int),
+        b"S" => Some(ElementType::Short),
+        b"B" => Some(ElementType::Byte),
+        b"C" => Some(ElementType::Char),
+        _ => None,
     }
 }

@@ -3,8 +3,7 @@
 use classes::mangling::{is_mangled, mangle, unmangle};
 use std::test::Fail;
 use world::{
-    Argument, ClassName, Element, Entry, Repetition, ScheduleWord, read_journal, read_schedule,
-    read_world,
+    Entry, ObjectValue, Repetition, ScheduleWord, read_journal, read_schedule, read_world,
 };
 
 #[test]
@@ -29,59 +28,64 @@ fn a_journal(rt: HostRuntime) -> Result<(), Fail> {
     Ok(())
 }
 
+const WORLD: &[u8] =
+    b"heap 1024\nclass A\nclass p/B extends A\nfield A n I\nstatic p/B s [I\nobject @o p/B 7\nobjects @r A @o null\n\narray @b I 7 8 -9\nstring @t a b\nthread Java_A_f @b -5 null class:A\ncall Java_A_g @t\n";
+
 #[test]
-fn a_world(rt: HostRuntime) -> Result<(), Fail> {
-    let world = read_world(
-        rt.alloc(),
-        b"heap 512\nclass A\narray @b I 7 8 -9\narray @a B\nthread Java_A_f @a -5 null class:A @b\n",
-    )?;
-    let [b, a] = world.objects() else {
-        return Err(Fail::new("two arrays"));
-    };
-    assert!(rt;
-        b.name() == b"b".as_slice()
-            && b.element() == Element::Int
-            && b.values() == [7, 8, -9].as_slice()
-    );
-    assert!(rt;
-        a.name() == b"a".as_slice() && a.element() == Element::Byte && a.values().is_empty()
-    );
-    let [calls] = world.threads() else {
-        return Err(Fail::new("one thread"));
-    };
-    let [call] = calls.as_slice() else {
-        return Err(Fail::new("one call"));
-    };
-    let arguments = [
-        Argument::Reference(Some(47)),
-        Argument::Number(-5),
-        Argument::Reference(None),
-        Argument::Reference(Some(43)),
-        Argument::Reference(Some(46)),
-    ];
-    assert!(rt;
-        call.function() == b"Java_A_f".as_slice()
-            && call.line() == 5
-            && call.arguments() == arguments.as_slice()
-    );
+fn classes_of_a_world(rt: HostRuntime) -> Result<(), Fail> {
+    let world = read_world(rt.alloc(), WORLD)?;
+    let classes = world.classes();
+    assert!(rt; world.cells() == 1024 && classes.len() == 46);
+    assert!(rt; classes.find(b"p/B") == Some(45) && classes.superclass(45) == Some(43));
+    assert!(rt; classes.name(44) == b"[LA;".as_slice() && classes.layout_len(45) == 1);
+    assert!(rt; classes.own_statics(45).len() == 1);
     Ok(())
 }
 
 #[test]
-fn names_of_classes(rt: HostRuntime) -> Result<(), Fail> {
-    let world = read_world(rt.alloc(), b"heap 512\nclass A\nthread f")?;
-    assert!(rt; world.heap() == 512 && world.classes().len() == 1 && world.class_count() == 44);
-    for (number, name) in [
-        (1, ClassName::Plain(b"java/lang/Object")),
-        (23, ClassName::Plain(b"[I")),
-        (43, ClassName::Plain(b"A")),
-        (44, ClassName::Array(b"A")),
-        (45, ClassName::Plain(b"")),
-    ] {
-        assert!(rt; world.class_name(number) == name);
-    }
-    assert!(rt; world.class_number(b"[LA;") == Some(44) && world.class_number(b"B").is_none());
-    assert!(rt; world.has_class(b"[B") && world.is_array_class(20) && !world.is_array_class(43));
+fn objects_of_a_world(rt: HostRuntime) -> Result<(), Fail> {
+    let world = read_world(rt.alloc(), WORLD)?;
+    let [o, r, b, t] = world.objects() else {
+        return Err(Fail::new("four objects"));
+    };
+    assert!(rt; o.class() == 45 && o.values() == [ObjectValue::Number(7)].as_slice());
+    let elements = [
+        ObjectValue::Reference(Some(48)),
+        ObjectValue::Reference(None),
+    ];
+    assert!(rt; r.class() == 44 && r.values() == elements.as_slice());
+    let numbers = [7, 8, -9].map(ObjectValue::Number);
+    assert!(rt; b.class() == 23 && b.values() == numbers.as_slice());
+    let units = [97, 32, 98].map(ObjectValue::Number);
+    assert!(rt; t.class() == 3 && t.values() == units.as_slice());
+    Ok(())
+}
+
+#[test]
+fn calls_of_a_world(rt: HostRuntime) -> Result<(), Fail> {
+    let world = read_world(rt.alloc(), WORLD)?;
+    let [calls] = world.threads() else {
+        return Err(Fail::new("one thread"));
+    };
+    let [first, second] = calls.as_slice() else {
+        return Err(Fail::new("two calls"));
+    };
+    let arguments = [
+        ObjectValue::Reference(Some(50)),
+        ObjectValue::Number(-5),
+        ObjectValue::Reference(None),
+        ObjectValue::Reference(Some(43)),
+    ];
+    assert!(rt;
+        first.function() == b"Java_A_f".as_slice()
+            && first.line() == 11
+            && first.arguments() == arguments.as_slice()
+    );
+    assert!(rt;
+        second.function() == b"Java_A_g".as_slice()
+            && second.line() == 12
+            && second.arguments() == [ObjectValue::Reference(Some(51))].as_slice()
+    );
     Ok(())
 }
 

@@ -1,4 +1,4 @@
-use Rattle.std.proofs.Common.{◌≡◌, ℕ, ◌<◌, ◌≤◌, ◌^◌, Bool, true, false, eqb, List, [], ◌∷◌, length, not, Option, arith, refl, sym, subst, ⊎_elim, w32}
+use Rattle.std.proofs.Common.{◌≡◌, ℕ, ◌<◌, ◌≤◌, ◌^◌, Bool, true, false, eqb, List, [], ◌∷◌, length, not, Option, arith, refl, sym, ap, ◌∙◌, subst, ⊎_elim, w32}
 use Rattle.std.specs.Prelude.{find, Ok}
 use Rattle.std.specs.Option.{option_map_or}
 use Rattle.std.proofs.Math.Facts.{Fits-of_lt}
@@ -6,8 +6,7 @@ use Rattle.std.proofs.lemmas.Bool.Decides.{eqb_tells}
 use Rattle.heap.specs.declared.value.Value.{Value}
 use Rattle.heap.specs.Heap.{Block, Space, block_end, LieFrom, IsLaidOut, values_at}
 use Rattle.heap.proofs.Layouts.{begins_within}
-use Rattle.classes.specs.Class.{class_kind, is_plain}
-use Rattle.world.specs.SceneWorld.{world_of_scene}
+use Rattle.classes.specs.Class.{Classes, class_kind, is_plain}
 use Rattle.machine.specs.ArrayLengths.{LengthIs}
 use Rattle.machine.proofs.invoke.array_length.Goals as goal
 
@@ -46,7 +45,7 @@ overflow_cast-result c =
 pub returns : goal.returns
 returns c =
     let few = few_values c.args.heap.now c.in-Some.addr c.count.ensures.laid_out (omega arith) in
-    let classes = (world_of_scene c.args.world.now).classes in
-    let kind : is_plain (class_kind classes c.class_of.result) ≡ false = from_not _ c.if-not-is_array_class.ensures in
+    let classes = c.args.world.now.classes in
+    let kind : is_plain (class_kind classes c.class_of.result) ≡ false = from_not _ (c.if-not-is_array.ensures ∙ ap (λ (T : Classes). not (is_plain (class_kind T c.class_of.result))) c.classes.ensures.classes) in
     let count : c.len_of.result ≡ length (values_at c.args.heap.now c.in-Some.addr) = c.len_of.ensures in
     subst (λ (o : Option ℕ). LengthIs classes c.args.heap.now o (Ok c.len_of.result)) (sym c.in-Some.is) ((c.class_of.result, c.class_of.ensures, kind), count, omega arith)

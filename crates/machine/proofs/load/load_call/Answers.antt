@@ -6,10 +6,9 @@ use Rattle.syntax.specs.Views.{function_tree, parameter_tree}
 use Rattle.classes.specs.Class.{class_named}
 use Rattle.classes.specs.Mangling.{native_class}
 use Rattle.source.specs.Object.{ObjectValue}
-use Rattle.world.specs.SceneWorld.{world_of_scene, classes_named}
-use Rattle.world.specs.Views.{argument_view}
+use Rattle.world.specs.Views.{object_value_view}
 use Rattle.source.specs.World.{loaded_objects}
-use Rattle.world.proofs.GivenLemmas.{made_length}
+use Rattle.source.proofs.ShownRows.{length-loaded}
 use Rattle.source.specs.Load.{fit_parameters}
 use Rattle.lower.specs.Lowered.{Lowered}
 use Rattle.machine.specs.Loading.{IsNumberOf}
@@ -30,16 +29,16 @@ pub returns-then-not-fit : goal.returns-then-not-fit
 returns-then-not-fit c =
     let f = c.in-Some.found.function.now in
     let number = renamed c.args.program.now c.function.result.now c.args.call.now.function c.in-Some.found.number f c.function.ensures c.in-Some.ensures.found in
-    let fit = tested f c.deref.result.now (map argument_view c.arguments.result.now) c.args.call.now.arguments c.fit.result c.deref.ensures.value c.arguments.ensures c.fit.ensures in
-    no_fit c.args.program.now (classes_named c.args.world.now.classes) c.args.call.now c.in-Some.found.number f number (fit ∙ c.if-not-fit.true)
+    let fit = tested f c.deref.result.now (map object_value_view c.arguments.result.now) c.args.call.now.arguments c.fit.result c.deref.ensures.value c.arguments.ensures c.fit.ensures in
+    no_fit c.args.program.now c.args.world.now.classes c.args.call.now c.in-Some.found.number f number (fit ∙ c.if-not-fit.true)
 
 pub returns : goal.returns
 returns c =
-    let w = world_of_scene c.args.world.now in
+    let w = c.args.world.now in
     let f = c.in-Some.found.function.now in
     let number = renamed c.args.program.now c.function.result.now c.args.call.now.function c.in-Some.found.number f c.function.ensures c.in-Some.ensures.found in
-    let fit = tested f c.deref.result.now (map argument_view c.arguments.result.now) c.args.call.now.arguments c.fit.result c.deref.ensures.value c.arguments.ensures c.fit.ensures in
-    let few : length w.classes ≤ length (loaded_objects w) = omega (arith, made_length w) in
+    let fit = tested f c.deref.result.now (map object_value_view c.arguments.result.now) c.args.call.now.arguments c.fit.result c.deref.ensures.value c.arguments.ensures c.fit.ensures in
+    let few : length w.classes ≤ length (loaded_objects w) = omega (arith, length-loaded w) in
     let known = ap (λ (n : List ℕ). option_and_then (class_named w.classes) (native_class n)) (sym c.function-2.ensures) ∙ sym c.in_ok-class.ensures ∙ c.in-Some-2.is in
-    let given = ap (map argument_view) c.in_ok-from_slice.ensures.items ∙ c.arguments-2.ensures in
+    let given = ap (map object_value_view) c.in_ok-from_slice.ensures.items ∙ c.arguments-2.ensures in
     call_found c.args.program.now w.classes (length (loaded_objects w)) c.args.call.now f (record { function = c.in-Some.found.number; class = c.in-Some-2.class; arguments = c.in_ok-from_slice.field-0 }) number few known given c.requires (fit ∙ c.if-not-fit.false)

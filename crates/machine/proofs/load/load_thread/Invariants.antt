@@ -1,6 +1,5 @@
-use Rattle.std.proofs.Common.{◌≡◌, drop, length, map}
+use Rattle.std.proofs.Common.{◌≡◌, drop, length}
 use Rattle.syntax.specs.Views.{unit_tree}
-use Rattle.world.specs.SceneWorld.{world_of_scene, invocation_of}
 use Rattle.source.specs.World.{loaded_objects}
 use Rattle.machine.specs.Loading.{refused_calls}
 use Rattle.machine.proofs.LoadLemmas.{AgreeSoFar}
@@ -8,6 +7,6 @@ use Rattle.machine.proofs.load.load_thread.Given as goal
 
 abbrev pub invariant-loop-call : goal.invariant-loop-call
 invariant-loop-call l = record {
-  agree : AgreeSoFar l.program (world_of_scene l.world).classes (length (loaded_objects (world_of_scene l.world))) l.calls l.call-index l.nexts.items;
-  all : refused_calls (unit_tree l.program.unit) (world_of_scene l.world).classes (map invocation_of l.calls) ≡ refused_calls (unit_tree l.program.unit) (world_of_scene l.world).classes (map invocation_of (drop l.call-index l.calls));
+  agree : AgreeSoFar l.program l.world.classes (length (loaded_objects l.world)) l.calls l.call-index l.nexts.items;
+  all : refused_calls (unit_tree l.program.unit) l.world.classes l.calls ≡ refused_calls (unit_tree l.program.unit) l.world.classes (drop l.call-index l.calls);
 }

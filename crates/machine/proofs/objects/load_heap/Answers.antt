@@ -1,60 +1,51 @@
-use Rattle.std.proofs.Common.{◌≡◌, ◌+◌, [], ◌∷◌, ◌++◌, length, refl, sym, ap, ◌∙◌, arith, subst}
-use Rattle.heap.specs.declared.value.Value.TheVariants.{Null}
-use Rattle.heap.specs.Heap.{Space, end_of, fresh_block, with_block}
+use Rattle.std.proofs.Common.{◌≡◌, true, List, [], ◌∷◌, ◌++◌, length, map, take, sym, ap, ◌∙◌, subst, arith}
+use Rattle.std.specs.List.{list_all}
+use Rattle.std.proofs.lemmas.List.{length-map}
 use Rattle.classes.specs.BuiltIns.{out_of_memory_error}
+use Rattle.classes.specs.Class.{Classes}
+use Rattle.classes.specs.Fields.{FieldId, layout}
+use Rattle.source.specs.Heap.{Heap}
+use Rattle.source.specs.Object.{ObjectValue, Object}
+use Rattle.source.specs.World.{initial, fresh_object, loaded_objects}
+use Rattle.world.proofs.LoadedWorlds.{loaded_error, initial_given}
+use Rattle.world.specs.CallArguments.{is_argument}
+use Rattle.world.specs.Views.{object_value_view}
 use Rattle.machine.specs.HeapAgrees.{AreMade}
-use Rattle.source.specs.World.{made_before}
-use Rattle.std.proofs.lemmas.List.{length-replicate}
-use Rattle.world.specs.SceneWorld.{world_of_scene}
-use Rattle.machine.proofs.LoadedObjects.{made_first, before_is, fits_first, sizes_plain}
-use Rattle.world.proofs.PlainObjects.{plain_class_object}
-use Rattle.machine.proofs.Loaded.{class_made, error_made}
+use Rattle.machine.proofs.MadeInOrder.{room, few, next}
+use Rattle.machine.proofs.objects.load_heap.Goals.{After-deref}
 use Rattle.machine.proofs.objects.load_heap.Goals as goal
+
+-- the values of the OutOfMemoryError object
+values_are : (c : After-deref) → map object_value_view c.deref.result.now ≡ (fresh_object c.args.world.now.classes out_of_memory_error).values
+values_are c =
+    ap (map object_value_view) c.deref.ensures.value ∙ c.in_ok-error.ensures
+    ∙ ap (λ (T : Classes). map (λ (f : FieldId). initial f.field.type) (layout T out_of_memory_error)) c.classes.ensures.classes
 
 pub make-requires-clause-room : goal.make-requires-clause-room
 make-requires-clause-room c =
-    let fits = fits_first c.args.world.now.classes (world_of_scene c.args.world.now) refl c.objects.ensures.fits in
-    let filled = c.loop-class.invariant.made.filled ∙ sizes_plain c.loop-class._class in
-    omega arith
+    let w = c.args.world.now in
+    let made = c.in_ok-make_class_objects.ensures in
+    let free = room w c.cells.ensures.sound c.make_class_objects.new.heap c.make_class_objects.new.loaded.items (length w.classes) _ made.made (loaded_error w) made.cells in
+    omega (arith, free, ap length (values_are c), length-map c.deref.result.now object_value_view)
 
 pub make-requires-clause-few : goal.make-requires-clause-few
 make-requires-clause-few c =
-    let fits = fits_first c.args.world.now.classes (world_of_scene c.args.world.now) refl c.objects.ensures.fits in
-    let counted = c.loop-class.invariant.made.table.counted in
-    omega (arith, length-replicate c.loop-class._class plain_class_object)
+    let w = c.args.world.now in
+    let made = c.in_ok-make_class_objects.ensures in
+    few w c.cells.ensures.sound c.make_class_objects.new.heap c.make_class_objects.new.loaded.items (length w.classes) _ made.made (loaded_error w) made.cells
 
-pub make-requires-2-clause-room : goal.make-requires-2-clause-room
-make-requires-2-clause-room c =
-    let fits = fits_first c.args.world.now.classes (world_of_scene c.args.world.now) refl c.objects.ensures.fits in
-    let filled = c.loop-class.invariant.made.filled ∙ sizes_plain c.loop-class._class in
-    omega arith
+pub make-requires-clause-given : goal.make-requires-clause-given
+make-requires-clause-given c =
+    let count = length c.make_class_objects.new.loaded.items in
+    subst (λ (vs : List ObjectValue). list_all (is_argument count) vs ≡ true) (sym (values_are c)) (initial_given count (layout c.args.world.now.classes out_of_memory_error))
 
-pub make-requires-2-clause-few : goal.make-requires-2-clause-few
-make-requires-2-clause-few c =
-    let fits = fits_first c.args.world.now.classes (world_of_scene c.args.world.now) refl c.objects.ensures.fits in
-    let counted = c.loop-class.invariant.made.table.counted in
-    omega (arith, length-replicate c.loop-class._class plain_class_object)
-
-pub loop-class-preserved : goal.loop-class-preserved
-loop-class-preserved c =
-    let fits = fits_first c.args.world.now.classes (world_of_scene c.args.world.now) refl c.objects.ensures.fits in
-    let filled = c.loop-class.invariant.made.filled ∙ sizes_plain c.loop-class._class in
-    record {
-      made = rw (c.in_ok-make.ensures.heap, c.in_ok-make.ensures.loaded) (class_made c.loop-class.heap c.loop-class.loaded.items c.loop-class._class c.loop-class.invariant.made (omega arith));
-      cells = ap (λ (s : Space). s.cells) c.in_ok-make.ensures.heap ∙ c.loop-class.invariant.cells;
-    }
-
-pub make_arrays-requires-clause-first : goal.make_arrays-requires-clause-first
-make_arrays-requires-clause-first c =
-    let s = c.loop-class.heap in
-    let w = world_of_scene c.args.world.now in
-    let fits = fits_first c.args.world.now.classes w refl c.objects.ensures.fits in
-    let filled = c.loop-class.invariant.made.filled ∙ sizes_plain c.loop-class._class in
-    let count : c.loop-class._class ≡ length w.classes = omega arith in
-    let all : made_first c.loop-class._class ≡ made_before w.classes = ap made_first count ∙ sym (before_is c.args.world.now.classes) in
-    rw (c.in_ok-make-2.ensures.heap, c.in_ok-make-2.ensures.loaded) (subst (AreMade (with_block s (fresh_block (end_of s) out_of_memory_error (length c.loop-class.loaded.items + 1) 1 Null)) (c.loop-class.loaded.items ++ end_of s ∷ [])) all
-    (error_made s c.loop-class.loaded.items c.loop-class._class c.loop-class.invariant.made (omega arith)))
-
-pub make_arrays-requires-clause-cells : goal.make_arrays-requires-clause-cells
-make_arrays-requires-clause-cells c =
-    ap (λ (t : Space). t.cells) c.in_ok-make-2.ensures.heap ∙ c.loop-class.invariant.cells
+pub make_objects-requires-clause-first : goal.make_objects-requires-clause-first
+make_objects-requires-clause-first c =
+    let w = c.args.world.now in
+    let before : Heap = take (length w.classes) (loaded_objects w) in
+    let made = c.in_ok-make_class_objects.ensures in
+    let later = next w c.cells.ensures.sound c.make_class_objects.new.heap c.make_class_objects.new.loaded.items (length w.classes) _ made.made (loaded_error w) made.cells in
+    let values = values_are (goal.at.make_objects-requires-clause-first c).After-deref in
+    let object : ◌≡◌ {A = Object} (record { class = out_of_memory_error; values = map object_value_view c.deref.result.now }) (fresh_object w.classes out_of_memory_error) =
+    ap (λ (vs : List ObjectValue). let o : Object = record { class = out_of_memory_error; values = vs } in o) values in
+    subst (AreMade c.make.new.heap c.make.new.loaded.items) (ap (λ (o : Object). before ++ o ∷ []) object ∙ sym later) (c.in_ok-make.ensures.made before made.made)

@@ -2,7 +2,7 @@ use Rattle.std.proofs.Common.{◌≡◌, ◌<◌, ◌≤◌, Some, None, [], ◌
 use Rattle.std.specs.Prelude.{slice_get}
 use Rattle.std.specs.List.{HoldsAt}
 use Rattle.std.specs.Option.{MatchOption, option_copied}
-use Rattle.world.specs.Views.{argument_view}
+use Rattle.world.specs.Views.{object_value_view}
 use Rattle.code.specs.Depth.{Listing}
 use Rattle.lower.specs.Slots.{HasRoom}
 use Rattle.machine.specs.declared.thread.PendingCall.{PendingCall}
@@ -37,7 +37,7 @@ begin-requires-clause-room c =
     let ready = c.requires.ready c.unwrap-next.result.now f.0 f.1 in
     let here : slice_get c.args.program.now.codes c.unwrap-next.result.now.function ≡ Some c.unwrap-code.result.now = sym c.code.ensures.code ∙ ap option_copied c.unwrap-code.ensures in
     let same : ready.code ≡ c.unwrap-code.result.now = cc (ready.of_function, here) in
-    subst (λ (k : Listing). HasRoom k (map argument_view c.unwrap-next.result.now.arguments.items)) same ready.room
+    subst (λ (k : Listing). HasRoom k (map object_value_view c.unwrap-next.result.now.arguments.items)) same ready.room
 
 pub returns-clause-calls : goal.returns-clause-calls
 returns-clause-calls c =

@@ -18,7 +18,6 @@ use Rattle.code.specs.Depth.{Listing}
 use Rattle.source.specs.Effect.{effect_of}
 use Rattle.source.specs.Task.{Task}
 use Rattle.source.specs.Thread.{sight_of}
-use Rattle.world.specs.SceneWorld.{world_of_scene}
 use Rattle.lower.specs.Slots.{Visible, visible_to}
 use Rattle.lower.specs.Does.{IsReturn}
 use Rattle.lower.specs.Lowered.{Lowered, IsLowered}
@@ -96,7 +95,7 @@ invoke-requires-clause-objects c =
 pub returns-in-TestNull : goal.returns-in-TestNull
 returns-in-TestNull c lent k shared s task rest tasks none statics blocks h =
     let f = fetched (goal.at.returns-in-TestNull c).After-unwrap-instr in
-    let classes = (world_of_scene c.args.world.now).classes in
+    let classes = c.args.world.now.classes in
     let after : Activation = record c.args.call.now { place = c.args.call.now.place + 1; stack = c.push.new.self } in
     let null : c.is_null-null.result ≡ is_null c.args.call.now.references.items c.in-TestNull.variable = c.is_null-null.ensures ∙ ap (λ (l : List (Option ℕ)). is_null l c.in-TestNull.variable) c.deref.ensures.value in
     let word : c.from.result ≡ truth_word (beq c.is_null-null.result c.in-TestNull.equal) = c.from.ensures in
@@ -113,7 +112,7 @@ returns-in-TestNull c lent k shared s task rest tasks none statics blocks h =
 pub returns-in-StoreNull : goal.returns-in-StoreNull
 returns-in-StoreNull c lent k shared s task rest tasks none statics blocks h =
     let f = fetched (goal.at.returns-in-StoreNull c).After-unwrap-instr in
-    let classes = (world_of_scene c.args.world.now).classes in
+    let classes = c.args.world.now.classes in
     let after : Activation = record c.args.call.now { place = c.args.call.now.place + 1; references = with_items c.args.call.now.references c.set_null.new.references } in
     store_executes c.args.program.now classes c.args.heap.now lent k shared statics s c.args.call.now f.code task rest (ready_for _ c.args.heap.now _ _ f (visible_to shared s) task rest h) c.unwrap-instr.result.now f.at
     c.in-StoreNull.variable after c.in-StoreNull.is
@@ -129,7 +128,7 @@ pub returns-in-PutJint : goal.returns-in-PutJint
 returns-in-PutJint c lent k shared s task rest tasks none statics blocks h =
     let f = fetched (goal.at.returns-in-PutJint c).After-unwrap-instr in
     let number : cast_signed w32 (cast_unsigned w32 c.cast_signed.result) ≡ cast_signed w32 c.pop-word.result = to_z-of_z {w = w32} (record { sfits = c.cast_signed.type_inv }) ∙ c.cast_signed.ensures in
-    let classes = (world_of_scene c.args.world.now).classes in
+    let classes = c.args.world.now.classes in
     let after : Activation = record c.args.call.now { place = c.args.call.now.place + 1; stack = c.pop-word.new.self } in
     subst (λ (z : ℤ). Executes c.args.program.now classes c.args.heap.now lent k shared s rest after (effect_of (sight_of shared s) task) (Did (Printed z))) (sym number)
     (put_executes c.args.program.now classes c.args.heap.now lent k shared statics s c.args.call.now f.code task rest (ready_for _ c.args.heap.now _ _ f (visible_to shared s) task rest h) c.unwrap-instr.result.now f.at
@@ -139,29 +138,29 @@ returns-in-PutJint c lent k shared s task rest tasks none statics blocks h =
 pub returns-in-Call : goal.returns-in-Call
 returns-in-Call c lent k shared s task rest tasks none statics blocks h =
     let f = fetched (goal.at.returns-in-Call c).After-unwrap-instr in
-    let classes = (world_of_scene c.args.world.now).classes in
+    let classes = c.args.world.now.classes in
     call_executes c.args.program.now classes c.args.heap.now lent k shared s c.args.call.now f.code task rest (ready_for _ c.args.heap.now _ _ f (visible_to shared s) task rest h) c.unwrap-instr.result.now f.at (call_view c.call.result.now) (c.in-Call.is ∙ ap (λ (x : Call). instr.Call x) (sym c.call.ensures))
     c.invoke.new.call c.invoke.result tasks none h blocks c.invoke.ensures
 
 pub returns-in-Return : goal.returns-in-Return
 returns-in-Return c lent k shared s task rest tasks none statics blocks h =
     let f = fetched (goal.at.returns-in-Return c).After-unwrap-instr in
-    return_executes _ (world_of_scene c.args.world.now).classes c.args.heap.now lent k shared statics s _ f.code task rest (ready_for _ c.args.heap.now _ _ f (visible_to shared s) task rest h) c.unwrap-instr.result.now f.at (returns_is _ c.in-Return.is) c.args.call.now
+    return_executes _ c.args.world.now.classes c.args.heap.now lent k shared statics s _ f.code task rest (ready_for _ c.args.heap.now _ _ f (visible_to shared s) task rest h) c.unwrap-instr.result.now f.at (returns_is _ c.in-Return.is) c.args.call.now
 
 pub returns-in-Return-2 : goal.returns-in-Return-2
 returns-in-Return-2 c lent k shared s task rest tasks none statics blocks h =
     let f = fetched (goal.at.returns-in-Return-2 c).After-unwrap-instr in
-    return_executes _ (world_of_scene c.args.world.now).classes c.args.heap.now lent k shared statics s _ f.code task rest (ready_for _ c.args.heap.now _ _ f (visible_to shared s) task rest h) c.unwrap-instr.result.now f.at (returns_is _ c.in-Return.is) c.args.call.now
+    return_executes _ c.args.world.now.classes c.args.heap.now lent k shared statics s _ f.code task rest (ready_for _ c.args.heap.now _ _ f (visible_to shared s) task rest h) c.unwrap-instr.result.now f.at (returns_is _ c.in-Return.is) c.args.call.now
 
 pub returns-in-Return-3 : goal.returns-in-Return-3
 returns-in-Return-3 c lent k shared s task rest tasks none statics blocks h =
     let f = fetched (goal.at.returns-in-Return-3 c).After-unwrap-instr in
-    return_executes _ (world_of_scene c.args.world.now).classes c.args.heap.now lent k shared statics s _ f.code task rest (ready_for _ c.args.heap.now _ _ f (visible_to shared s) task rest h) c.unwrap-instr.result.now f.at (returns_is _ c.in-Return.is) c.args.call.now
+    return_executes _ c.args.world.now.classes c.args.heap.now lent k shared statics s _ f.code task rest (ready_for _ c.args.heap.now _ _ f (visible_to shared s) task rest h) c.unwrap-instr.result.now f.at (returns_is _ c.in-Return.is) c.args.call.now
 
 pub returns-in-Next : goal.returns-in-Next
 returns-in-Next c lent k shared s task rest tasks none statics blocks h =
     let f = fetched (goal.at.returns-in-Next c).After-unwrap-instr in
-    let classes = (world_of_scene c.args.world.now).classes in
+    let classes = c.args.world.now.classes in
     let i = c.unwrap-instr.result.now in
     let stack = c.args.call.now.stack in
     let is : ◌≡◌ {A = Answer} (plain_of i stack c.args.call.now.numbers.items) (Some (plain.Next, c.plain.new.stack, c.plain.new.numbers)) =
@@ -174,7 +173,7 @@ returns-in-Next c lent k shared s task rest tasks none statics blocks h =
 pub returns-in-Skip : goal.returns-in-Skip
 returns-in-Skip c lent k shared s task rest tasks none statics blocks h =
     let f = fetched (goal.at.returns-in-Skip c).After-unwrap-instr in
-    let classes = (world_of_scene c.args.world.now).classes in
+    let classes = c.args.world.now.classes in
     let i = c.unwrap-instr.result.now in
     let stack = c.args.call.now.stack in
     let is : ◌≡◌ {A = Answer} (plain_of i stack c.args.call.now.numbers.items) (Some (plain.Skip c.in-Skip.skipped, c.plain.new.stack, c.plain.new.numbers)) =
@@ -187,7 +186,7 @@ returns-in-Skip c lent k shared s task rest tasks none statics blocks h =
 pub returns-in-Back : goal.returns-in-Back
 returns-in-Back c lent k shared s task rest tasks none statics blocks h =
     let f = fetched (goal.at.returns-in-Back c).After-unwrap-instr in
-    let classes = (world_of_scene c.args.world.now).classes in
+    let classes = c.args.world.now.classes in
     let i = c.unwrap-instr.result.now in
     let stack = c.args.call.now.stack in
     let is : ◌≡◌ {A = Answer} (plain_of i stack c.args.call.now.numbers.items) (Some (plain.Back c.in-Back.back, c.plain.new.stack, c.plain.new.numbers)) =
@@ -200,7 +199,7 @@ returns-in-Back c lent k shared s task rest tasks none statics blocks h =
 pub returns-in-Trap : goal.returns-in-Trap
 returns-in-Trap c lent k shared s task rest tasks none statics blocks h =
     let f = fetched (goal.at.returns-in-Trap c).After-unwrap-instr in
-    let classes = (world_of_scene c.args.world.now).classes in
+    let classes = c.args.world.now.classes in
     let i = c.unwrap-instr.result.now in
     let stack = c.args.call.now.stack in
     let is : ◌≡◌ {A = Answer} (plain_of i stack c.args.call.now.numbers.items) (Some (plain.Trap c.in-Trap.trap c.in-Trap.line, c.plain.new.stack, c.plain.new.numbers)) =

@@ -1,45 +1,44 @@
 use Rattle.std.proofs.Common.{List, subst}
 use Rattle.syntax.specs.declared.unit.Item.{Item}
 use Rattle.syntax.specs.Views.{unit_tree}
-use Rattle.world.specs.SceneWorld.{world_of_scene}
 use Rattle.replay.specs.Replays.{IsRefused, Replayed}
 use Rattle.replay.proofs.RunLemmas.{unwritten, from_outside, writes, ends}
 use Rattle.replay.proofs.journal.replay.Goals as goal
 
 pub returns-in-Err-clause-err : goal.returns-in-Err-clause-err
 returns-in-Err-clause-err g c =
-    unwritten (unit_tree c.args.checked.now) (world_of_scene c.args.world.now) c.args.journal.now (g.W.Sink.written c.args.out.now) c.in-Err.fault
-    (subst (λ (items : List Item). IsRefused (unit_tree items) (world_of_scene c.args.world.now) c.args.journal.now c.in-Err.fault) (c.items-items.ensures.same) c.in-Err.ensures.refused)
+    unwritten (unit_tree c.args.checked.now) c.args.world.now c.args.journal.now (g.W.Sink.written c.args.out.now) c.in-Err.fault
+    (subst (λ (items : List Item). IsRefused (unit_tree items) c.args.world.now c.args.journal.now c.in-Err.fault) (c.items-items.ensures.same) c.in-Err.ensures.refused)
 
 pub returns-in-Err-clause-only : goal.returns-in-Err-clause-only
 returns-in-Err-clause-only g c =
-    from_outside (unit_tree c.args.checked.now) (world_of_scene c.args.world.now) c.args.journal.now c.in-Err.fault
-    (subst (λ (items : List Item). IsRefused (unit_tree items) (world_of_scene c.args.world.now) c.args.journal.now c.in-Err.fault) (c.items-items.ensures.same) c.in-Err.ensures.refused)
+    from_outside (unit_tree c.args.checked.now) c.args.world.now c.args.journal.now c.in-Err.fault
+    (subst (λ (items : List Item). IsRefused (unit_tree items) c.args.world.now c.args.journal.now c.in-Err.fault) (c.items-items.ensures.same) c.in-Err.ensures.refused)
 
 pub returns-in-Ok-write_run-clause-ok : goal.returns-in-Ok-write_run-clause-ok
 returns-in-Ok-write_run-clause-ok g c =
-    let replayed : Replayed (unit_tree c.args.checked.now) (world_of_scene c.args.world.now) c.args.journal.now c.in-Ok.state =
-    subst (λ (items : List Item). Replayed (unit_tree items) (world_of_scene c.args.world.now) c.args.journal.now c.in-Ok.state) (c.items-items.ensures.same) c.in-Ok.ensures.end in
+    let replayed : Replayed (unit_tree c.args.checked.now) c.args.world.now c.args.journal.now c.in-Ok.state =
+    subst (λ (items : List Item). Replayed (unit_tree items) c.args.world.now c.args.journal.now c.in-Ok.state) (c.items-items.ensures.same) c.in-Ok.ensures.end in
     record {
       fits = replayed.fits;
       text = _;
-      is = writes (unit_tree c.args.checked.now) (world_of_scene c.args.world.now) c.args.journal.now c.in-Ok.state replayed;
+      is = writes (unit_tree c.args.checked.now) c.args.world.now c.args.journal.now c.in-Ok.state replayed;
       written = rw (c.deref-2.ensures.value, c.in_ok-standings.ensures, c.deref.ensures.value) at c.in-Ok-write_run.ensures.text;
     }
 
 pub returns-in-Ok-write_run-clause-trap : goal.returns-in-Ok-write_run-clause-trap
 returns-in-Ok-write_run-clause-trap g c =
-    let replayed : Replayed (unit_tree c.args.checked.now) (world_of_scene c.args.world.now) c.args.journal.now c.in-Ok.state =
-    subst (λ (items : List Item). Replayed (unit_tree items) (world_of_scene c.args.world.now) c.args.journal.now c.in-Ok.state) (c.items-items.ensures.same) c.in-Ok.ensures.end in
-    rw c.shown_stop.ensures (ends (unit_tree c.args.checked.now) (world_of_scene c.args.world.now) c.args.journal.now c.in-Ok.state replayed)
+    let replayed : Replayed (unit_tree c.args.checked.now) c.args.world.now c.args.journal.now c.in-Ok.state =
+    subst (λ (items : List Item). Replayed (unit_tree items) c.args.world.now c.args.journal.now c.in-Ok.state) (c.items-items.ensures.same) c.in-Ok.ensures.end in
+    rw c.shown_stop.ensures (ends (unit_tree c.args.checked.now) c.args.world.now c.args.journal.now c.in-Ok.state replayed)
 
 pub returns-clause-err : goal.returns-clause-err
 returns-clause-err g c =
-    let replayed : Replayed (unit_tree c.args.checked.now) (world_of_scene c.args.world.now) c.args.journal.now c.in-Ok.state =
-    subst (λ (items : List Item). Replayed (unit_tree items) (world_of_scene c.args.world.now) c.args.journal.now c.in-Ok.state) (c.items-items.ensures.same) c.in-Ok.ensures.end in
+    let replayed : Replayed (unit_tree c.args.checked.now) c.args.world.now c.args.journal.now c.in-Ok.state =
+    subst (λ (items : List Item). Replayed (unit_tree items) c.args.world.now c.args.journal.now c.in-Ok.state) (c.items-items.ensures.same) c.in-Ok.ensures.end in
     record {
       fits = replayed.fits;
       text = _;
-      is = writes (unit_tree c.args.checked.now) (world_of_scene c.args.world.now) c.args.journal.now c.in-Ok.state replayed;
+      is = writes (unit_tree c.args.checked.now) c.args.world.now c.args.journal.now c.in-Ok.state replayed;
       stopped = rw (c.deref-2.ensures.value, c.in_ok-standings.ensures, c.deref.ensures.value) at c.in-Err-write_run.ensures.text;
     }

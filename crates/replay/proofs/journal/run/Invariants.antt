@@ -1,12 +1,11 @@
 use Rattle.std.proofs.Common.{take}
 use Rattle.syntax.specs.Views.{unit_tree}
-use Rattle.world.specs.SceneWorld.{world_of_scene}
 use Rattle.replay.specs.Replays.{Replayed}
 use Rattle.replay.specs.States.{AreInRange}
 use Rattle.replay.proofs.journal.run.Given as goal
 
 abbrev pub invariant-loop-done : goal.invariant-loop-done
 invariant-loop-done l = record {
-  replayed : Replayed (unit_tree l.fn.items) (world_of_scene l.fn.world) (take l.done l.journal) l.state;
+  replayed : Replayed (unit_tree l.fn.items) l.fn.world (take l.done l.journal) l.state;
   range : AreInRange l.state.threads.items;
 }

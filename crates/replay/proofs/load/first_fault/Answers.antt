@@ -1,8 +1,7 @@
-use Rattle.std.proofs.Common.{◌≡◌, List, map, length, refl, sym, ap, ◌∙◌, subst}
+use Rattle.std.proofs.Common.{◌≡◌, List, length, refl, sym, ap, ◌∙◌, subst}
 use Rattle.std.proofs.lemmas.Option.{slice_get_read}
 use Rattle.syntax.specs.Views.{unit_tree}
-use Rattle.world.specs.Scene.{CallScene}
-use Rattle.world.specs.SceneWorld.{world_of_scene, invocation_of}
+use Rattle.source.specs.World.{Invocation}
 use Rattle.replay.specs.Loading.{first_line, refused_calls}
 use Rattle.replay.proofs.LoadLemmas.{refused, line_here, line_later}
 use Rattle.replay.proofs.load.first_fault.Goals as goal
@@ -10,16 +9,16 @@ use Rattle.replay.proofs.load.first_fault.Goals as goal
 pub returns-then-is_some : goal.returns-then-is_some
 returns-then-is_some c =
     let unit = unit_tree c.args.items.now in
-    let classes = (world_of_scene c.args.world.now).classes in
+    let classes = c.args.world.now.classes in
     let items = c.threads-calls-items.result.now in
     let at = slice_get_read items (length items) c.loop-calls.calls-index c.calls-item.result refl c.loop-calls-test.true c.calls-item.is in
-    subst (λ (ts : List (List CallScene)). c.in_ok-line.line ≡ first_line (refused unit classes (map (λ calls. map invocation_of calls) ts))) c.threads-calls-items.ensures.calls
-    (line_here unit classes items c.loop-calls.calls-index c.calls-item.result c.in_ok-line.line at (c.in_ok-line.ensures ∙ ap (λ (cs : List CallScene). first_line (refused_calls unit classes (map invocation_of cs))) c.deref.ensures.value) c.loop-calls.invariant (sym c.is_some.ensures ∙ c.if-is_some.true))
+    subst (λ (ts : List (List Invocation)). c.in_ok-line.line ≡ first_line (refused unit classes ts)) c.threads-calls-items.ensures.calls
+    (line_here unit classes items c.loop-calls.calls-index c.calls-item.result c.in_ok-line.line at (c.in_ok-line.ensures ∙ ap (λ (cs : List Invocation). first_line (refused_calls unit classes cs)) c.deref.ensures.value) c.loop-calls.invariant (sym c.is_some.ensures ∙ c.if-is_some.true))
 
 pub loop-calls-preserved : goal.loop-calls-preserved
 loop-calls-preserved c =
     let unit = unit_tree c.args.items.now in
-    let classes = (world_of_scene c.args.world.now).classes in
+    let classes = c.args.world.now.classes in
     let items = c.threads-calls-items.result.now in
     let at = slice_get_read items (length items) c.loop-calls.calls-index c.calls-item.result refl c.loop-calls-test.true c.calls-item.is in
-    line_later unit classes items c.loop-calls.calls-index c.calls-item.result c.in_ok-line.line at (c.in_ok-line.ensures ∙ ap (λ (cs : List CallScene). first_line (refused_calls unit classes (map invocation_of cs))) c.deref.ensures.value) c.loop-calls.invariant (sym c.is_some.ensures ∙ c.if-is_some.false)
+    line_later unit classes items c.loop-calls.calls-index c.calls-item.result c.in_ok-line.line at (c.in_ok-line.ensures ∙ ap (λ (cs : List Invocation). first_line (refused_calls unit classes cs)) c.deref.ensures.value) c.loop-calls.invariant (sym c.is_some.ensures ∙ c.if-is_some.false)

@@ -1,12 +1,11 @@
 use Rattle.std.proofs.Common.{◌≡◌, drop}
 use Rattle.std.specs.List.{flat_map}
 use Rattle.syntax.specs.Views.{unit_tree}
-use Rattle.world.specs.SceneWorld.{world_of_scene}
 use Rattle.replay.specs.Loading.{refused_calls}
 use Rattle.replay.proofs.LoadLemmas.{calls_of}
 use Rattle.replay.proofs.load.first_fault.Given as goal
 
 abbrev pub invariant-loop-calls : goal.invariant-loop-calls
 invariant-loop-calls l =
-    flat_map (refused_calls (unit_tree l.items) (world_of_scene l.world).classes) (calls_of l.calls-items)
-    ≡ flat_map (refused_calls (unit_tree l.items) (world_of_scene l.world).classes) (calls_of (drop l.calls-index l.calls-items))
+    flat_map (refused_calls (unit_tree l.items) l.world.classes) (calls_of l.calls-items)
+    ≡ flat_map (refused_calls (unit_tree l.items) l.world.classes) (calls_of (drop l.calls-index l.calls-items))

@@ -1,13 +1,12 @@
 use Rattle.std.proofs.Common.{refl, sym}
 use Rattle.syntax.specs.Views.{unit_tree}
-use Rattle.world.specs.SceneWorld.{world_of_scene}
 use Rattle.replay.proofs.LoadLemmas.{refused, no_call, not_some, stand_waiting}
 use Rattle.replay.proofs.load.start.Goals as goal
 
 pub returns-clause-stands : goal.returns-clause-stands
 returns-clause-stands c =
     let unit = unit_tree c.args.items.now in
-    let w = world_of_scene c.args.world.now in
+    let w = c.args.world.now in
     let none = no_call (refused unit w.classes w.threads) c.in_ok-line.field-0 c.in_ok-line.ensures (not_some c.in_ok-line.field-0 c.in_default.not-Some) in
     record {
       world = refl;

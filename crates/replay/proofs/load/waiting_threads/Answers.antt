@@ -2,19 +2,19 @@ use Rattle.std.proofs.Common.{◌≤◌, ◌++◌, ℕ, List, [], drop, length, 
 use Rattle.std.specs.Global.{Vec}
 use Rattle.std.proofs.lemmas.List.{append-nil}
 use Rattle.std.proofs.Math.ListN.{drop_of_length-le}
-use Rattle.world.specs.Scene.{CallScene}
+use Rattle.source.specs.World.{Invocation}
 use Rattle.replay.specs.declared.thread.Thread.{Thread}
 use Rattle.replay.specs.Loading.{AreWaiting}
 use Rattle.replay.specs.States.{AreInRange}
 use Rattle.replay.proofs.load.waiting_threads.Goals as goal
 
 -- all threads are made
-all : (items : List (Vec CallScene)) (i : ℕ) (threads : List Thread) → length items ≤ i
-    → ((rest : List Thread) → AreWaiting rest (map (λ (t : Vec CallScene). t.items) (drop i items)) → AreWaiting (threads ++ rest) (map (λ (t : Vec CallScene). t.items) items))
-    → AreWaiting threads (map (λ (t : Vec CallScene). t.items) items)
+all : (items : List (Vec Invocation)) (i : ℕ) (threads : List Thread) → length items ≤ i
+    → ((rest : List Thread) → AreWaiting rest (map (λ (t : Vec Invocation). t.items) (drop i items)) → AreWaiting (threads ++ rest) (map (λ (t : Vec Invocation). t.items) items))
+    → AreWaiting threads (map (λ (t : Vec Invocation). t.items) items)
 all items i threads past h =
-    let none : AreWaiting [] (map (λ (t : Vec CallScene). t.items) (drop i items)) = rw (drop_of_length-le items past) tt in
-    subst (λ ts. AreWaiting ts (map (λ (t : Vec CallScene). t.items) items)) (append-nil threads) (h [] none)
+    let none : AreWaiting [] (map (λ (t : Vec Invocation). t.items) (drop i items)) = rw (drop_of_length-le items past) tt in
+    subst (λ ts. AreWaiting ts (map (λ (t : Vec Invocation). t.items) items)) (append-nil threads) (h [] none)
 
 pub returns-clause-waiting : goal.returns-clause-waiting
 returns-clause-waiting c =

@@ -1,7 +1,6 @@
 use Rattle.std.proofs.Common.{◌∷◌, ◌++◌, List, [], ap, sym, ◌∙◌, append-nil, None, Some, zip, rules}
 use Rattle.syntax.specs.Views.{unit_tree, function_tree}
 use Rattle.source.specs.Object.{ObjectValue}
-use Rattle.world.specs.SceneWorld.{world_of_scene}
 use Rattle.source.specs.Activation.{parameter_variables}
 use Rattle.source.specs.Variable.{LocalRef}
 use Rattle.tasks.specs.declared.activation.Activation.{Activation}
@@ -17,7 +16,7 @@ pub returns-clause-step : goal.returns-clause-step
 returns-clause-step c = rw c.put_activation.ensures (λ s shared lent k h live loaded.
     let f = c.in-Some-function_at.function.now in
     let a : Activation = record { task = None; rest = c.deref.result; outer = c.new.result; variables = c.in_ok-variables.variables } in
-    enters (unit_tree c.args.items.now) (world_of_scene c.args.world.now) shared lent k c.args.thread.now c.in-Some.call.now c.in-Some.rest.now (function_tree f) c.in-Some-2.class
+    enters (unit_tree c.args.items.now) c.args.world.now shared lent k c.args.thread.now c.in-Some.call.now c.in-Some.rest.now (function_tree f) c.in-Some-2.class
     a s c.requires.idle (search rules) (search rules)
     (sym c.in_ok-class.ensures ∙ c.in-Some-2.is)
     (ap (λ (os : List Outer). tasks_of_statements c.deref.result.now ++ tasks_around [] os) c.new.ensures.items ∙ append-nil (tasks_of_statements c.deref.result.now) ∙ ap tasks_of_statements c.deref.ensures.value ∙ block_tasks f.body)

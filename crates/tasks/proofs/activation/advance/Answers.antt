@@ -1,6 +1,5 @@
 use Rattle.std.proofs.Common.{Bool, List, subst}
 use Rattle.syntax.specs.Views.{unit_tree}
-use Rattle.world.specs.SceneWorld.{world_of_scene}
 use Rattle.source.specs.Start.{null_statics}
 use Rattle.terms.specs.declared.variable.Variable.{Variable}
 use Rattle.tasks.specs.Outcomes.{variable_step, LeavesIf}
@@ -13,14 +12,14 @@ use Rattle.tasks.proofs.activation.advance.Goals as goal
 pub returns-in_default-clause-step : goal.returns-in_default-clause-step
 returns-in_default-clause-step c =
     if_ok c.leave_block.result
-    (λ o does. begun_before (unit_tree c.args.items.now) (world_of_scene c.args.world.now) c.args.activation.now c.begin.new.activation o c.leave_block.new.activation c.in_ok-begin.ensures.tasks c.in_ok-begin.ensures.variables
-    (does (unit_tree c.args.items.now) (world_of_scene c.args.world.now)))
+    (λ o does. begun_before (unit_tree c.args.items.now) c.args.world.now c.args.activation.now c.begin.new.activation o c.leave_block.new.activation c.in_ok-begin.ensures.tasks c.in_ok-begin.ensures.variables
+    (does (unit_tree c.args.items.now) c.args.world.now))
     c.leave_block.ensures.step
 
 pub returns-then-not-done-clause-step : goal.returns-then-not-done-clause-step
 returns-then-not-done-clause-step c =
     let unit = unit_tree c.args.items.now in
-    let w = world_of_scene c.args.world.now in
+    let w = c.args.world.now in
     let begun = c.begin.new.activation in
     let does = subst (λ (vs : List Variable). Does w (variables_view vs) (null_statics unit) c.in-Some.task c.in_ok-outcome.outcome c.step.new.task) c.deref.ensures.value c.in_ok-outcome.ensures.step in
     let none = subst (λ (b : Bool). LeavesIf (null_statics unit) begun.variables.items (variable_step c.in_ok-outcome.outcome) b c.set_variables.new.variables.items) c.if-not-done.true c.in_ok-done.ensures in
@@ -29,7 +28,7 @@ returns-then-not-done-clause-step c =
 pub returns-clause-step : goal.returns-clause-step
 returns-clause-step c =
     let unit = unit_tree c.args.items.now in
-    let w = world_of_scene c.args.world.now in
+    let w = c.args.world.now in
     let begun = c.begin.new.activation in
     let does = subst (λ (vs : List Variable). Does w (variables_view vs) (null_statics unit) c.in-Some.task c.in_ok-outcome.outcome c.step.new.task) c.deref.ensures.value c.in_ok-outcome.ensures.step in
     let leaves = subst (λ (b : Bool). LeavesIf (null_statics unit) begun.variables.items (variable_step c.in_ok-outcome.outcome) b c.set_variables.new.variables.items) c.if-not-done.false c.in_ok-done.ensures in

@@ -1,18 +1,17 @@
-use Rattle.std.proofs.Common.{◌≡◌, ℕ, subst, length, refl, sym, ap, ◌∙◌, arith}
+use Rattle.std.proofs.Common.{◌≡◌, ℕ, subst, length, refl, sym, ◌∙◌, arith}
 use Rattle.syntax.specs.Views.{unit_tree}
-use Rattle.world.specs.SceneWorld.{world_of_scene}
-use Rattle.source.specs.Start.{start}
+use Rattle.source.specs.Start.{start, waiting_thread}
+use Rattle.std.proofs.lemmas.List.{length-map}
 use Rattle.machine.specs.Agrees.{ThreadsAgree}
-use Rattle.machine.proofs.ThreadLoads.{agree_length, waiting_length, items_length}
+use Rattle.machine.proofs.ThreadLoads.{agree_length}
 use Rattle.machine.proofs.machine.Machine.load.Goals as goal
 
 pub invariant_of-result : goal.invariant_of-result
 invariant_of-result c =
-    let w = world_of_scene c.args.world in
+    let w = c.args.world in
     let s = start (unit_tree c.args.program.unit) w in
     let agree = subst (λ (n : ℕ). ThreadsAgree c.args.program w.classes c.in_ok-heap.heap n s.shared c.in-Ok.threads.items s.threads) (sym c.in_ok-heap.ensures.made.table.counted) (c.in-Ok.ensures.agree c.in_ok-heap.heap s.shared) in
-    let count : length c.in-Ok.threads.items ≡ length c.args.world.threads = agree_length _ _ _ _ _ _ _ agree ∙ waiting_length c.args.world.threads in
-    let long : length c.args.world.threads ≡ length c.threads.result.now = sym (ap length c.threads.ensures.calls) ∙ items_length c.threads.result.now in
+    let count : length c.in-Ok.threads.items ≡ length c.args.world.threads = agree_length _ _ _ _ _ _ _ agree ∙ length-map c.args.world.threads waiting_thread in
     record {
       lowered = c.items.ensures.lowered;
       state = s;
@@ -27,5 +26,5 @@ invariant_of-result c =
       fits = rw c.new-in-Ok.ensures.items tt;
       fair = rw c.new-in-Ok.ensures.items tt;
       count = count;
-      few = omega (arith, count, long, c.threads.ensures.few);
+      few = omega (arith, count, c.threads.ensures.sound.few_threads);
     }

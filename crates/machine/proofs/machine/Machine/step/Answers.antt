@@ -10,7 +10,6 @@ use Rattle.machine.specs.contracts.thread.Ending.{the_type}
 use Rattle.machine.specs.declared.stop.Stop.{Stop}
 use Rattle.machine.specs.declared.thread.Thread.{Thread}
 use Rattle.machine.specs.Run.{Run, InState, CouldStep, replay_of, entry_of, printed_after, can_turn, stepped}
-use Rattle.world.specs.SceneWorld.{world_of_scene}
 use Rattle.machine.specs.Agrees.{ThreadAgrees}
 use Rattle.machine.proofs.Steps.{AdvancesAlways, the_thread, can_turn_here, has_ended, steps_on}
 use Rattle.machine.proofs.machine.Machine.step.Goals as goal
@@ -115,7 +114,7 @@ advance-requires-clause-agrees c =
     let seen = there a c.index.result.now c.index.ensures in
     let at = there a c.index_mut.result.now c.index_mut.ensures.value in
     let f = the_thread _ _ _ _ _ _ _ _ c.self.invariant c.args.k (c.from-index.result - 1) c.index_mut.result.now (number a) at in
-    let agrees = subst (λ (l : List ℕ). ThreadAgrees c.self.inside.program (world_of_scene c.self.inside.world).classes c.self.inside.heap (length l) c.self.invariant.state.shared c.index_mut.result.now f.source) (sym c.deref.ensures.value) f.agrees in
+    let agrees = subst (λ (l : List ℕ). ThreadAgrees c.self.inside.program c.self.inside.world.classes c.self.inside.heap (length l) c.self.invariant.state.shared c.index_mut.result.now f.source) (sym c.deref.ensures.value) f.agrees in
     (c.self.invariant.state.shared, f.source, agrees, same_thread c.self.inside.threads.items (c.from-index.result - 1) _ _ seen at (is_live _ c.if-eq.ensures))
 
 -- the journal has one more entry
@@ -127,7 +126,7 @@ invariant_of-self-2 c =
     let a = (goal.at.invariant_of-self-2 c).After-eq in
     let seen = there a c.index.result.now c.index.ensures in
     let at = there a c.index_mut.result.now c.index_mut.ensures.value in
-    let advances = subst (λ (l : List ℕ). AdvancesAlways c.self.inside.program (world_of_scene c.self.inside.world).classes c.self.inside.heap l c.index_mut.result.now c.advance.new.thread c.in_ok-event.event) c.deref.ensures.value c.in_ok-event.ensures.advances in
+    let advances = subst (λ (l : List ℕ). AdvancesAlways c.self.inside.program c.self.inside.world.classes c.self.inside.heap l c.index_mut.result.now c.advance.new.thread c.in_ok-event.event) c.deref.ensures.value c.in_ok-event.ensures.advances in
     let live = same_thread c.self.inside.threads.items (c.from-index.result - 1) _ _ seen at (is_live _ c.if-eq.ensures) in
     let s = steps_on _ _ _ _ _ _ _ _ c.self.invariant c.args.k (c.from-index.result - 1) c.index_mut.result.now (number a) at c.advance.new.thread c.in_ok-event.event (running a) live advances in
     let printed : c.note.new.printed.items ≡ printed_after c.self.inside.printed.items c.args.k c.in_ok-event.event = c.note.ensures.printed ∙ ap (λ l. printed_after l c.args.k c.in_ok-event.event) c.reserve-2.ensures.items in

@@ -3,43 +3,38 @@ use Rattle.std.specs.Prelude.{slice_index_or}
 use Rattle.std.proofs.lemmas.Option.{slice_get-get_or}
 use Rattle.std.proofs.lemmas.Result.{err_from_is_err_and}
 use Rattle.report.specs.ReportText.{object_line}
-use Rattle.world.specs.Scene.{Scene}
-use Rattle.world.specs.SceneWorld.{world_of_scene}
 use Rattle.report.specs.Shown.{row_lines}
-use Rattle.source.specs.World.{loaded_objects}
+use Rattle.source.specs.World.{World, loaded_objects}
 use Rattle.report.proofs.Puts.{PutSoFar, starts, goes_on, stops, is_all}
 use Rattle.machine.specs.Rows.{block_row}
 use Rattle.source.specs.ReportOf.{loaded_rows}
 use Rattle.machine.proofs.BlockRows.{is_address, named, row_there}
-use Rattle.machine.proofs.LoadedRows.{few_loaded, table_length, row_here, rows_end}
+use Rattle.world.proofs.LoadedWorlds.{few_loaded}
+use Rattle.machine.proofs.LoadedRows.{table_length, row_here, rows_end}
 use Rattle.machine.proofs.rows.LoadedRowsRows.put.Goals as goal
 
 pub loop-place-init : goal.loop-place-init
 loop-place-init g c =
-    let scene = c.self.inside.world.now in
-    let count = table_length scene c.self.inside.heap.now c.self.inside.loaded.now c.self.invariant in
-    let objects : length c.objects.result.now ≡ length scene.objects = ap length c.objects.ensures.objects in
-    let classes : length (world_of_scene scene).classes ≡ length (world_of_scene c.args.self.now).classes = ap (λ (x : Scene). length (world_of_scene x).classes) c.self.view_is in
-    let none : length c.self.inside.loaded.now - length c.objects.result.now - (length (world_of_scene c.args.self.now).classes + 1) ≡ 0 = omega arith in
-    subst (λ n. PutSoFar (g.S.Sink.written c.args.sink.now) (g.S.Sink.written c.args.sink.now) (row_lines (loaded_rows (world_of_scene c.args.self.now))) (row_lines (drop n (loaded_rows (world_of_scene c.args.self.now))))) (sym none)
-    (starts (g.S.Sink.written c.args.sink.now) (row_lines (loaded_rows (world_of_scene c.args.self.now))))
+    let world = c.self.inside.world.now in
+    let count = table_length world c.self.inside.heap.now c.self.inside.loaded.now c.self.invariant in
+    let objects : length c.objects.result.now ≡ length world.objects = ap length c.objects.ensures.objects in
+    let classes : length world.classes ≡ length c.args.self.now.classes = ap (λ (x : World). length x.classes) c.self.view_is in
+    let none : length c.self.inside.loaded.now - length c.objects.result.now - (length c.args.self.now.classes + 1) ≡ 0 = omega arith in
+    subst (λ n. PutSoFar (g.S.Sink.written c.args.sink.now) (g.S.Sink.written c.args.sink.now) (row_lines (loaded_rows c.args.self.now)) (row_lines (drop n (loaded_rows c.args.self.now)))) (sym none)
+    (starts (g.S.Sink.written c.args.sink.now) (row_lines (loaded_rows c.args.self.now)))
 
 pub overflow_cast-name : goal.overflow_cast-name
 overflow_cast-name g c =
-    let w = world_of_scene c.self.inside.world.now in
+    let w = c.self.inside.world.now in
     let counted : length c.self.inside.loaded.now ≡ length (loaded_objects w) = c.self.invariant.table.counted in
-    let cells = c.heap.ensures.cells in
-    let limit = c.heap.ensures.limit in
-    let few = few_loaded w c.objects.ensures.fits (omega arith) in
+    let few = few_loaded w c.objects.ensures.sound in
     omega arith
 
 pub overflow_add-name : goal.overflow_add-name
 overflow_add-name g c =
-    let w = world_of_scene c.self.inside.world.now in
+    let w = c.self.inside.world.now in
     let counted : length c.self.inside.loaded.now ≡ length (loaded_objects w) = c.self.invariant.table.counted in
-    let cells = c.heap.ensures.cells in
-    let limit = c.heap.ensures.limit in
-    let few = few_loaded w c.objects.ensures.fits (omega arith) in
+    let few = few_loaded w c.objects.ensures.sound in
     omega arith
 
 pub put_row-requires-clause-address : goal.put_row-requires-clause-address
@@ -53,44 +48,44 @@ put_row-requires-clause-there g c =
     let place = c.loop-place.place in
     let address = slice_index_or c.self.inside.loaded.now place c.index-self-place.result in
     let at = slice_get-get_or c.self.inside.loaded.now place c.index-self-place.result c.loop-place-test.true in
-    let heap = loaded_objects (world_of_scene c.self.inside.world.now) in
+    let heap = loaded_objects c.self.inside.world.now in
     row_there c.self.inside.heap.now heap address (place + 1) (named c.self.inside.heap.now heap _ address (place + 1) c.self.invariant.agree (c.self.invariant.table.named place address at))
 
 -- the row that is put, and those after it
 pub returns-in_err-put_row : goal.returns-in_err-put_row
 returns-in_err-put_row g c =
     let p = err_from_is_err_and c.from_residual.result c.from_residual.ensures.1 in
-    let scene = c.self.inside.world.now in
+    let world = c.self.inside.world.now in
     let s = c.self.inside.heap.now in
     let place = c.loop-place.place in
     let address = slice_index_or c.self.inside.loaded.now place c.index-self-place.result in
-    let count = table_length scene s c.self.inside.loaded.now c.self.invariant in
-    let objects : length c.objects.result.now ≡ length scene.objects = ap length c.objects.ensures.objects in
+    let count = table_length world s c.self.inside.loaded.now c.self.invariant in
+    let objects : length c.objects.result.now ≡ length world.objects = ap length c.objects.ensures.objects in
     let low = c.loop-place.auto.place in
-    let here = row_here scene s c.self.inside.loaded.now place address c.self.invariant (slice_get-get_or c.self.inside.loaded.now place c.index-self-place.result c.loop-place-test.true) (omega arith) c.loop-place-test.true in
-    let at = subst (λ (x : Scene). row_lines (drop (place - (length (world_of_scene x).classes + 1)) (loaded_rows (world_of_scene x))) ≡ object_line (block_row (world_of_scene scene).classes s (place + 1) address) ++ row_lines (drop (place + 1 - (length (world_of_scene x).classes + 1)) (loaded_rows (world_of_scene x)))) c.self.view_is here in
+    let here = row_here world s c.self.inside.loaded.now place address c.self.invariant (slice_get-get_or c.self.inside.loaded.now place c.index-self-place.result c.loop-place-test.true) (omega arith) c.loop-place-test.true in
+    let at = subst (λ (x : World). row_lines (drop (place - (length x.classes + 1)) (loaded_rows x)) ≡ object_line (block_row world.classes s (place + 1) address) ++ row_lines (drop (place + 1 - (length x.classes + 1)) (loaded_rows x))) c.self.view_is here in
     rw p.1 (stops _ _ _ _ _ _ _ c.loop-place.invariant at c.in_err-put_row.ensures)
 
 pub loop-place-preserved : goal.loop-place-preserved
 loop-place-preserved g c =
-    let scene = c.self.inside.world.now in
+    let world = c.self.inside.world.now in
     let s = c.self.inside.heap.now in
     let place = c.loop-place.place in
     let address = slice_index_or c.self.inside.loaded.now place c.index-self-place.result in
-    let count = table_length scene s c.self.inside.loaded.now c.self.invariant in
-    let objects : length c.objects.result.now ≡ length scene.objects = ap length c.objects.ensures.objects in
+    let count = table_length world s c.self.inside.loaded.now c.self.invariant in
+    let objects : length c.objects.result.now ≡ length world.objects = ap length c.objects.ensures.objects in
     let low = c.loop-place.auto.place in
-    let here = row_here scene s c.self.inside.loaded.now place address c.self.invariant (slice_get-get_or c.self.inside.loaded.now place c.index-self-place.result c.loop-place-test.true) (omega arith) c.loop-place-test.true in
-    let at = subst (λ (x : Scene). row_lines (drop (place - (length (world_of_scene x).classes + 1)) (loaded_rows (world_of_scene x))) ≡ object_line (block_row (world_of_scene scene).classes s (place + 1) address) ++ row_lines (drop (place + 1 - (length (world_of_scene x).classes + 1)) (loaded_rows (world_of_scene x)))) c.self.view_is here in
+    let here = row_here world s c.self.inside.loaded.now place address c.self.invariant (slice_get-get_or c.self.inside.loaded.now place c.index-self-place.result c.loop-place-test.true) (omega arith) c.loop-place-test.true in
+    let at = subst (λ (x : World). row_lines (drop (place - (length x.classes + 1)) (loaded_rows x)) ≡ object_line (block_row world.classes s (place + 1) address) ++ row_lines (drop (place + 1 - (length x.classes + 1)) (loaded_rows x))) c.self.view_is here in
     goes_on _ _ _ _ _ _ _ c.loop-place.invariant at c.in_ok-put_row.ensures
 
 pub returns : goal.returns
 returns g c =
-    let scene = c.self.inside.world.now in
+    let world = c.self.inside.world.now in
     let place = c.loop-place.place in
-    let count = table_length scene c.self.inside.heap.now c.self.inside.loaded.now c.self.invariant in
-    let objects : length c.objects.result.now ≡ length scene.objects = ap length c.objects.ensures.objects in
+    let count = table_length world c.self.inside.heap.now c.self.inside.loaded.now c.self.invariant in
+    let objects : length c.objects.result.now ≡ length world.objects = ap length c.objects.ensures.objects in
     let high = c.loop-place.auto.place-end (omega arith) in
-    let none = rows_end scene place (omega arith) in
-    let end = subst (λ (x : Scene). row_lines (drop (place - (length (world_of_scene x).classes + 1)) (loaded_rows (world_of_scene x))) ≡ []) c.self.view_is none in
+    let none = rows_end world place (omega arith) in
+    let end = subst (λ (x : World). row_lines (drop (place - (length x.classes + 1)) (loaded_rows x)) ≡ []) c.self.view_is none in
     is_all _ _ _ _ c.loop-place.invariant end

@@ -1,0 +1,55 @@
+//! The objects of a world.
+
+ghost use Rattle.std.specs.Prelude.{◌≡◌, map};
+ghost use Rattle.world.specs.Views.{object_value_view};
+
+use std::marker::Model;
+
+/// What is in a field, in an array or a string, or what a call is given. An object goes by its number in the order in which
+/// they are made at load, counted from 1: the class objects, the OutOfMemoryError object, the world's objects.
+#[derive(Clone, Copy, Debug, PartialEq, Eq)]
+pub enum ObjectValue {
+    /// In the range of `jint`.
+    Number(i32),
+    /// NULL or an object.
+    Reference(Option<u32>),
+}
+
+/// An object that a world begins with.
+#[derive(Drop)]
+pub struct Object {
+    class: usize,
+    values: Vec<ObjectValue>,
+}
+
+impl Model for Object {
+    ghost use Rattle.std.specs.Prelude.{map};
+    ghost use Rattle.source.specs.Object.{Object as SourceObject};
+    ghost use Rattle.world.specs.Views.{object_value_view};
+
+    ghost Value = { SourceObject };
+
+    ghost view = { λ o. record { class = o.class; values = map object_value_view o.values.items } };
+}
+
+impl Object {
+    pub(crate) fn new(class: usize, values: Vec<ObjectValue>) -> Object
+        ensures { result ≡ record { class = class; values = map object_value_view values.items } }
+    {
+        Object { class, values }
+    }
+
+    /// The number of its class in the class table.
+    pub fn class(&self) -> usize
+        ensures { result ≡ self.now.class }
+    {
+        self.class
+    }
+
+    /// Its fields in the order of its class's layout, the elements of an array, or the units of a string.
+    pub fn values(&self) -> &[ObjectValue]
+        ensures { map object_value_view result.now ≡ self.now.values }
+    {
+        &self.values
+    }
+}

@@ -1,0 +1,50 @@
+//! Words that are names.
+
+ghost use Rattle.std.specs.Prelude.{◌≡◌};
+ghost use Rattle.std.specs.List.{list_all};
+ghost use Rattle.base.specs.Bytes.{is_letter, is_name_part};
+ghost use Rattle.classes.specs.Mangling.{is_simple_name, is_class_name};
+
+use texts::Split;
+
+fn is_letter(byte: u8) -> bool
+    ensures { result ≡ is_letter byte }
+{
+    matches!(byte, b'A'..=b'Z' | b'a'..=b'z')
+}
+
+/// Whether a name may go on with the byte.
+fn is_name_part(byte: u8) -> bool
+    ensures { result ≡ is_name_part byte }
+{
+    is_letter(byte) || matches!(byte, b'0'..=b'9') || byte == b'_'
+}
+
+/// Whether a name may go on with the bytes.
+fn are_name_parts(bytes: &[u8]) -> bool
+    ensures { result ≡ list_all is_name_part bytes.now }
+{
+    bytes.iter().all(|byte| is_name_part(*byte))
+}
+
+/// Whether the bytes are a letter, and then letters, digits and underscores.
+pub fn is_simple_name(bytes: &[u8]) -> bool
+    ensures { result ≡ is_simple_name bytes.now }
+{
+    match bytes {
+        [] => false,
+        [first, ..] => is_letter(*first) && are_name_parts(bytes),
+    }
+}
+
+/// Whether the bytes are simple names with slashes between them.
+pub fn is_class_name(bytes: &[u8]) -> bool
+    ensures { result ≡ is_class_name bytes.now }
+{
+    for part in Split::new(bytes, b'/') {
+        if !is_simple_name(part) {
+            return false;
+        }
+    }
+    true
+}
