@@ -1,3 +1,4 @@
+use class_table::built_ins::{is_after_built_ins, number_array};
 use class_table::class::{ClassKind, ElementType, FieldType};
 use class_table::fault::{ClassError, ClassRule, FieldError};
 use class_table::table::ClassTable;
@@ -81,6 +82,31 @@ fn added_fields(rt: HostRuntime) -> Result<(), Fail> {
             && found.field.field_type == FieldType::Reference(3)
             && table.own_statics(43).len() == 1
     );
+    Ok(())
+}
+
+#[test]
+fn rules_without_an_addition(rt: HostRuntime) -> Result<(), Fail> {
+    let mut table = ClassTable::of_built_ins(rt.alloc())?;
+    let _ = table.add_class(b"A", b"java/lang/Error")?;
+    assert!(rt;
+        table.class_rule(b"A", b"java/lang/Object") == Some(ClassRule::NameTaken)
+            && table.class_rule(b"B", b"[I") == Some(ClassRule::BadSuperclass)
+            && table.class_rule(b"B", b"A") == None
+            && table.field_rule(b"A", b"x", b"J") == Some(ClassRule::BadSignature)
+            && table.field_rule(b"A", b"x", b"[LA;") == None
+            && table.len() == 44
+    );
+    Ok(())
+}
+
+#[test]
+fn classes_of_arrays(rt: HostRuntime) -> Result<(), Fail> {
+    let table = ClassTable::of_built_ins(rt.alloc())?;
+    let objects = table.find_array_of(b"java/lang/Object")?;
+    let none = table.find_array_of(b"A")?;
+    assert!(rt; objects == Some(24) && none == None && number_array(ElementType::Int) == 23);
+    assert!(rt; is_after_built_ins(43) && !is_after_built_ins(42));
     Ok(())
 }
 

@@ -1,4 +1,5 @@
 -- A thread's step is that of the source's thread.
+use Rattle.source.proofs.BuiltCalls.{waits_for_none}
 use Rattle.std.proofs.Common.{◌≡◌, ℕ, zero, suc, ◌+◌, ◌-◌, ◌<◌, ◌≤◌, Bool, true, false, List, [], ◌∷◌, ◌++◌, length, filter_map, map, replicate, Option, Some, None, refl, sym, ap, ◌∙◌, subst, arith, append_assoc, if◌then◌else◌}
 use Rattle.std.specs.Prelude.{slice_get, nat_lt, nat_le, ◌&&◌, ◌||◌, IsTrue}
 use Rattle.std.specs.List.{list_all, list_any}
@@ -11,26 +12,23 @@ use Rattle.syntax.specs.Views.{unit_tree}
 use Rattle.base.specs.Bytes.{Identifier, lookup}
 use Rattle.classes.specs.Class.{Classes}
 use Rattle.heap.specs.Heap.{Space}
-use Rattle.jni.specs.JniFunction.{JniFunction, GetArrayLength}
 use Rattle.types.specs.Sorts.{Global}
 use Rattle.world.specs.CallArguments.{is_argument}
 use Rattle.source.specs.Object.{ObjectValue, Number, Refers, Reference}
 use Rattle.source.specs.World.{Invocation}
-use Rattle.jni.specs.BuiltFunctions.{is_built_function}
 use Rattle.code.specs.Depth.{Listing, depth_at}
 use Rattle.source.specs.Activation.{enter, entered, entered_function, entry_advance, return_step, monitors_after, calls_after}
 use Rattle.source.specs.Activation as activation
-use Rattle.source.specs.Arguments.{Actual}
 use Rattle.source.specs.CallStep.{waits_with}
-use Rattle.source.specs.Effect.{Calls, Returns, effect_of}
+use Rattle.source.specs.Effect.{Returns, effect_of}
 use Rattle.source.specs.Start.{null_static, waiting_thread}
-use Rattle.source.specs.Task.{Task, Target, tasks_of}
+use Rattle.source.specs.Task.{Task, tasks_of}
 use Rattle.source.specs.Thread as source
 use Rattle.source.specs.Thread.{BuffersInUse, Shared, Monitor, sight_of, without_owner}
 use Rattle.source.specs.Variable.{Empty, Statics}
 use Rattle.source.specs.ThreadStep.{thread_step, step_within, after_effect, next_effect, waits}
 use Rattle.code_generator.specs.Layout.{Slot, Known, with_static, entry_layout}
-use Rattle.lower.specs.Slots.{Visible, Slots, visible_to, EntrySlots, HasRoom, AreNull, argument_word, argument_reference}
+use Rattle.lower.specs.Slots.{Visible, visible_to, EntrySlots, HasRoom, AreNull, argument_word, argument_reference}
 use Rattle.lower.specs.Stands.{StandsFor}
 use Rattle.lower.specs.Lowered.{Lowered, IsLowered, IsCodeOf, AreCodesOf}
 use Rattle.machine.specs.declared.thread.Ending.{Ending}
@@ -72,12 +70,8 @@ never_waits p space classes k shared s call task rest l w =
     let r = ready p space call w.code (visible_to shared s) task rest l w.of_function w in
     does_cases w.code r.known call.place call.stack (slots_of call r.references) (visible_to shared s) rest (λ e. waits_with classes k shared s e ≡ false)
     (λ tasks h. refl) (λ x v h. refl) (λ target h. refl) (λ x i z t a h. refl) (λ t x n h. refl) (λ z h. refl)
-    (λ line target f args h. no_monitor w.code r.known call.place call.stack (slots_of call r.references) (visible_to shared s) line target f args h.built)
+    (λ line target f args h. waits_for_none classes k shared s line target f args h.built)
     (λ h. refl) (λ trap line h. refl) (effect_of (sight_of shared s) task) r.does
-  where
-    no_monitor : (code : Listing) (known : Known) (place : ℕ) (stack : List ℕ) (slots : Slots) (visible : Visible) (line : ℕ) (target : Target) (f : JniFunction) (args : List Actual) → is_built_function f ≡ true → waits_with classes k shared s (Calls line target f args) ≡ false
-    no_monitor code known place stack slots visible line target GetArrayLength args h = refl
-    no_monitor code known place stack slots visible line target f args h = absurd (cc)
 
 not_waiting : (p : Lowered) (space : Space) (classes : Classes) (k : ℕ) (shared : Shared) (s : source.Thread) (o : Option Activation) (tasks : Option (List Task)) → IsLowered p → WorkAgrees p space (visible_to shared s) o tasks → waits_with classes k shared s (next_effect shared s tasks) ≡ false
 not_waiting p space classes k shared s None None l w = refl

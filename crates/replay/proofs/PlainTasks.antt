@@ -11,17 +11,18 @@ use Rattle.syntax.specs.Tree.{SourceUnit, Call, Expr, Block, True, False, Commit
 use Rattle.syntax.specs.Views.{stmt_tree, call_tree}
 use Rattle.classes.specs.Class.{Classes}
 use Rattle.types.specs.BuiltCalls.{is_built_call}
-use Rattle.jni.specs.JniFunction.{JniFunction, GetArrayLength}
+use Rattle.jni.specs.JniFunction.{JniFunction}
+use Rattle.jni.specs.BuiltFunctions.{is_built_function}
+use Rattle.jni.specs.Prototype.{function_named}
 use Rattle.source.specs.Arguments.{Actual, actuals}
-use Rattle.source.specs.CallStep.{waits_with, call_step, after_refusal, makes_objects, checked, trap_of_call}
-use Rattle.source.specs.CallTable.{call_effect}
+use Rattle.source.specs.CallStep.{waits_with, call_step, after_refusal, trap_of_call}
 use Rattle.source.specs.Effect.{Effect, Becomes, Sets, SetsNull, SetsElement, MakesArray, Prints, Calls, Returns, TrapsAt, NoEffect, at_line, goes_on, with_value, print_effect, branch_effect, loop_effect, element_effect, returned_name, return_effect, effect_of, is_ready, reduce_first}
 use Rattle.source.specs.Sight.{Sight}
 use Rattle.source.specs.Task.{Task, SetScalar, SetElement, SetNull, MakeArray, Invoke, Print, Branch, EndIf, Loop, EndTurn, Return, ReturnValue, Impossible, Operand, Target, Declared, Assigned, Tested, Dropped, BufferKind, kind_of, set_task, right_side_task, invocation, call_task, task_of}
 use Rattle.source.specs.Term.{Term, Done, Number, Named, Read, Element, IsNull, Prefix, And, Or, Binary, index_of, reduce}
 use Rattle.source.specs.Thread.{Thread, Shared, BuffersInUse, NoAdvance, sight_of}
 use Rattle.source.specs.ThreadStep.{thread_step, step_within, after_refused_effect, next_effect, waits}
-use Rattle.source.specs.Value.{Value, Word, Int, Flag, Truth, Trap, Outcome, Gives, Traps, Stuck}
+use Rattle.source.specs.Value.{Value, Word, Int, Flag, Truth, Outcome, Gives, Traps, Stuck}
 use Rattle.tasks.specs.Activations.{tasks_from, tasks_around, tasks_after, tasks_left, BegunInRange}
 use Rattle.tasks.specs.Outcomes.{target_view}
 use Rattle.tasks.specs.Tasks.{task_view, end_view, tasks_of_statements, calls_built, StatementsInRange, TaskInRange}
@@ -33,20 +34,20 @@ use Rattle.tasks.specs.declared.outcome.End.TheVariants as end
 use Rattle.tasks.specs.declared.task.Task.{Task as TaskInMemory}
 use Rattle.tasks.specs.declared.task.Task.TheVariants as task
 use Rattle.replay.specs.declared.thread.Thread.{Thread as ThreadInMemory}
-use Rattle.tasks.proofs.CallLemmas.{is_length}
+use Rattle.source.proofs.BuiltCalls.{makes_none, waits_for_none}
 
--- the tasks of a thread in memory, which call GetArrayLength alone
+-- the tasks of a thread in memory, which call built functions alone
 abbrev IsPlain : Task → Type 0
-IsPlain (Invoke line target f operands) = f ≡ GetArrayLength
+IsPlain (Invoke line target f operands) = is_built_function f ≡ true
 IsPlain t = Unit {0}
 
 abbrev BeginsPlain : List Task → Type 0
 BeginsPlain [] = Unit {0}
 BeginsPlain (t ∷ rest) = IsPlain t
 
--- at most a call of GetArrayLength
+-- at most a call of a built function
 abbrev CallsNone : Effect → Type 0
-CallsNone (Calls line target f args) = f ≡ GetArrayLength
+CallsNone (Calls line target f args) = is_built_function f ≡ true
 CallsNone e = Unit {0}
 
 -- ---- effects
@@ -122,7 +123,7 @@ return-none sight line (And a b) = goes_on-none line (ReturnValue line) (reduce 
 return-none sight line (Or a b) = goes_on-none line (ReturnValue line) (reduce sight (Or a b))
 return-none sight line (Binary op a b) = goes_on-none line (ReturnValue line) (reduce sight (Binary op a b))
 
-by_ready : (b : Bool) (line : ℕ) (target : Target) (f : JniFunction) (args : List Actual) (o : Outcome (List Operand)) → f ≡ GetArrayLength → CallsNone (cond b (Calls line target f args) (goes_on line (Invoke line target f) o))
+by_ready : (b : Bool) (line : ℕ) (target : Target) (f : JniFunction) (args : List Actual) (o : Outcome (List Operand)) → is_built_function f ≡ true → CallsNone (cond b (Calls line target f args) (goes_on line (Invoke line target f) o))
 by_ready true line target f args o h = h
 by_ready false line target f args (Gives operands) h = tt
 by_ready false line target f args (Traps trap) h = tt
@@ -149,7 +150,11 @@ effect-none sight Impossible h = tt
 -- ---- tasks
 
 call-plain : (line : ℕ) (target : Target) (c : Call) → IsTrue (is_built_call c) → IsPlain (call_task line target c)
-call-plain line target c built = subst (λ (o : Option JniFunction). IsPlain (invocation line target c o)) (sym (is_length c built)) refl
+call-plain line target c built = by_function (function_named c.function) built
+  where
+    by_function : (o : Option JniFunction) → IsTrue (some_passes is_built_function o) → IsPlain (invocation line target c o)
+    by_function None h = absurd (cc)
+    by_function (Some f) h = h
 
 expr-plain : (line : ℕ) (target : Target) (x : Identifier) (e : Expr) → IsPlain (set_task line target x e)
 expr-plain line target x (tree.Number n u) = tt
@@ -217,14 +222,9 @@ begins-plain (Some t) rest os h r = task-plain t h
 -- ---- threads
 
 module _ (unit : SourceUnit) (classes : Classes) (shared : Shared) (lent : BuffersInUse) (k : ℕ) where
-  -- the length of an array makes no object
-  makes_none : (s : Thread) (args : List Actual) (o : Option Trap) → makes_objects (checked o (call_effect classes lent k shared s args GetArrayLength)) ≡ false
-  unfolding call_effect
-  makes_none s args None = refl
-  makes_none s args (Some trap) = refl
-
-  refused_length : (s : Thread) (rest : List Task) (line : ℕ) (target : Target) (args : List Actual) → call_step classes lent k shared s line target GetArrayLength args rest true ≡ NoAdvance
-  refused_length s rest line target args = ap (after_refusal classes lent k shared s line target GetArrayLength args rest) (makes_none s args (trap_of_call classes shared s target GetArrayLength args))
+  -- a call of a built function makes no object
+  refused_call : (s : Thread) (rest : List Task) (line : ℕ) (target : Target) (f : JniFunction) (args : List Actual) → is_built_function f ≡ true → call_step classes lent k shared s line target f args rest true ≡ NoAdvance
+  refused_call s rest line target f args h = ap (after_refusal classes lent k shared s line target f args rest) (makes_none classes lent k shared s args f (trap_of_call classes shared s target f args) h)
 
   refused_effect : (s : Thread) (rest : List Task) (e : Effect) → CallsNone e → after_refused_effect classes lent k shared s rest e ≡ NoAdvance
   refused_effect s rest (Becomes tasks) h = refl
@@ -233,7 +233,7 @@ module _ (unit : SourceUnit) (classes : Classes) (shared : Shared) (lent : Buffe
   refused_effect s rest (SetsElement x i z) h = refl
   refused_effect s rest (MakesArray T x n) h = refl
   refused_effect s rest (Prints z) h = refl
-  refused_effect s rest (Calls line target f args) h = ap (λ (g : JniFunction). call_step classes lent k shared s line target g args rest true) h ∙ refused_length s rest line target args
+  refused_effect s rest (Calls line target f args) h = refused_call s rest line target f args h
   refused_effect s rest Returns h = refl
   refused_effect s rest (TrapsAt trap line) h = refl
   refused_effect s rest NoEffect h = refl
@@ -258,7 +258,7 @@ module _ (unit : SourceUnit) (classes : Classes) (shared : Shared) (k : ℕ) whe
   free_effect s (SetsElement x i z) h = refl
   free_effect s (MakesArray T x n) h = refl
   free_effect s (Prints z) h = refl
-  free_effect s (Calls line target f args) h = ap (λ (g : JniFunction). waits_with classes k shared s (Calls line target g args)) h
+  free_effect s (Calls line target f args) h = waits_for_none classes k shared s line target f args h
   free_effect s Returns h = refl
   free_effect s (TrapsAt trap line) h = refl
   free_effect s NoEffect h = refl

@@ -7,21 +7,13 @@ use Rattle.std.proofs.lemmas.Bool.{and_from}
 use Rattle.base.specs.Bytes.{is_some_byte}
 use Rattle.base.specs.Element.{JInt}
 use Rattle.texts.specs.Split.{parts_of}
+use Rattle.world.specs.Gathered.{written_values}
 use Rattle.world.specs.ReadingLines.{string_by_words, object_line, array_line, words_by_kind, line_by_words, line_of}
 use Rattle.world.specs.WorldLines.{WorldValue, WorldLine, ClassLine, FieldLine, StaticLine, ObjectLine, ObjectsLine, ArrayLine, StringLine, ThreadLine, CallLine, has_no_space, is_line_word, is_value_word, has_words, spaced, at_name, value_text, element_letter, line_text, IsLineText}
 use Rattle.world.specs.WorldRules.{value_in_range}
 use Rattle.world.proofs.LineWords.{first_part, spaced_parts, parts_spaced, words_some, words_free}
 use Rattle.world.proofs.ReadValues.{value_words, values_read, element_read, element_word}
 use Rattle.world.proofs.Tests.{both}
-
--- the values that a line writes; a string writes none
-abbrev pub written_values : WorldLine → List WorldValue
-written_values (ObjectLine x class values) = values
-written_values (ObjectsLine x class values) = values
-written_values (ArrayLine x t values) = values
-written_values (ThreadLine function arguments) = arguments
-written_values (CallLine function arguments) = arguments
-written_values line = []
 
 by_words : (bytes : List ℕ) (words : List (List ℕ)) → parts_of 32 bytes ≡ words → line_of bytes ≡ line_by_words words
 unfolding line_of

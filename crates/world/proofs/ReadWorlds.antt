@@ -18,7 +18,8 @@ use Rattle.world.specs.WorldMeaning.{invocation_of_line, with_last, threads_with
 use Rattle.world.specs.WorldRules.{is_thread_line, holds_value, each_holds, value_in_range, each_in_range, broken_by_line, broken_after, IsNumberedLine, MeansOneWorld}
 use Rattle.world.proofs.HeapLines.{heap_is_read, heap_is_written}
 use Rattle.world.proofs.KeptLines.{IsKept, kept_line, each_keeps, none_breaks}
-use Rattle.world.proofs.ReadLines.{written_values, line_is_read}
+use Rattle.world.specs.Gathered.{written_values}
+use Rattle.world.proofs.ReadLines.{line_is_read}
 use Rattle.world.proofs.Tests.{both, neither, at_most, at_most_so}
 use Rattle.world.proofs.WrittenLines.{line_is_written}
 use Rattle.world.proofs.WrittenValues.{value_in_jint}

@@ -11,7 +11,7 @@ use Rattle.world.specs.ReadingValues.{object_named, values_named, element_named}
 use Rattle.world.specs.WorldLines.{WorldValue, WorldLine, ClassLine, FieldLine, StaticLine, ObjectLine, ObjectsLine, ArrayLine, StringLine, ThreadLine, CallLine, has_no_space, is_line_word, is_value_word, spaced, at_name, value_text, line_text, IsBareString, IsLineText}
 use Rattle.world.specs.WorldRules.{value_in_range}
 use Rattle.world.proofs.LineWords.{parts_spaced, parts_free, are_words}
-use Rattle.world.proofs.ReadLines.{written_values}
+use Rattle.world.specs.Gathered.{written_values}
 use Rattle.world.proofs.Tests.{both, mapped, same_bytes}
 use Rattle.world.proofs.WrittenValues.{object_written, values_written, element_written}
 

@@ -94,7 +94,7 @@ impl WorldBuilder {
         Ok(held)
     }
 
-    /// One more class, below the class of this name.
+    /// One more class, below the class of this name. Where a rule is broken or memory runs out, that is an error, so the rules are asked first.
     fn put_class_below(&mut self, name: &[u8], superclass: &[u8]) -> Result<(), AllocError>
         requires formed { IsTrue (is_class_name name.now) }
         requires room { self.old.used + 6 ≤ self.old.cells }
@@ -128,7 +128,7 @@ impl WorldBuilder {
         }
     }
 
-    /// One more field, or static.
+    /// One more field, or static. Where a rule is broken or memory runs out, that is an error, so the rules are asked first.
     pub fn put_field(&mut self, field: FieldWords, is_static: bool) -> Result<(), AllocError>
         requires room { self.old.used + (if is_static then 1 else 0) ≤ self.old.cells }
         ensures { OnOk result (gathered_of self.new ≡ record (gathered_of self.old) {

@@ -468,7 +468,7 @@ impl WorldBuilder {
         self.threads.iter().all(|calls| calls.len() < MOST_CALLS)
     }
 
-    /// Whether there is one more object, thread or call than there may be.
+    /// Whether there may be one more object, thread or call.
     fn has_place(&self, line: &Line) -> bool
         ensures { result ≡ has_place (gathered_of self.now) (line_view line.now) }
     {
@@ -480,6 +480,7 @@ impl WorldBuilder {
         }
     }
 
+    /// Whether what the line adds fits into the cells that are left.
     fn has_room(&self, line: &Line) -> bool
         ensures { result ≡ nat_le (self.now.used + cells_added (line_view line.now)) self.now.cells }
     {
