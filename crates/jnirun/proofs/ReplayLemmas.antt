@@ -8,7 +8,7 @@ use Rattle.source.specs.Journal.{Journal}
 use Rattle.texts.specs.JournalMeaning.{IsJournalText}
 use Rattle.texts.specs.Reading.{Fails}
 use Rattle.texts.specs.ReadingJournals.{journal_of}
-use Rattle.world.specs.ReadingWorlds.{world_of_text}
+use Rattle.world_text.specs.ReadingWorlds.{world_of_text}
 use Rattle.source.specs.World.{World}
 use Rattle.report.specs.Sink.{Written}
 use Rattle.world.specs.WorldRules.{IsWorldText}

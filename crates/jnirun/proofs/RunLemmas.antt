@@ -9,7 +9,7 @@ use Rattle.texts.specs.declared.fault.ReadError.{ReadError}
 use Rattle.texts.specs.declared.fault.ReadError.TheVariants as reading
 use Rattle.texts.specs.Reading.{Fails}
 use Rattle.texts.specs.ReadingSchedules.{schedule_of}
-use Rattle.world.specs.ReadingWorlds.{world_of_text}
+use Rattle.world_text.specs.ReadingWorlds.{world_of_text}
 use Rattle.source.specs.Schedule.{Schedule}
 use Rattle.texts.specs.ScheduleText.{IsScheduleText}
 use Rattle.report.specs.Sink.{Written}

@@ -6,7 +6,7 @@ use Rattle.texts.specs.declared.fault.TextFault.{TextFault}
 use Rattle.source.specs.Journal.{Journal}
 use Rattle.texts.specs.JournalMeaning.{IsJournalText}
 use Rattle.texts.specs.ReadingJournals.{journal_of}
-use Rattle.world.specs.ReadingWorlds.{world_of_text}
+use Rattle.world_text.specs.ReadingWorlds.{world_of_text}
 use Rattle.texts.specs.Rule.{rule_number}
 use Rattle.source.specs.World.{World}
 use Rattle.world.specs.WorldRules.{IsWorldText}

@@ -3,7 +3,7 @@ use Rattle.std.specs.Prelude.{◌≡◌, ℕ, List, length, Some, None, Ok, Err}
 use Rattle.syntax.specs.Tree.{SourceUnit}
 use Rattle.texts.specs.declared.fault.TextFault.{TextFault}
 use Rattle.texts.specs.ReadingSchedules.{schedule_of}
-use Rattle.world.specs.ReadingWorlds.{world_of_text}
+use Rattle.world_text.specs.ReadingWorlds.{world_of_text}
 use Rattle.texts.specs.Rule.{rule_number}
 use Rattle.source.specs.World.{World}
 use Rattle.source.specs.Schedule.{Schedule}

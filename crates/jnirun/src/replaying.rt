@@ -13,7 +13,8 @@ use crate::run::of_reading;
 use parse::one_unit;
 use replay::{ReplayFault, TrapAt, replay};
 use std::alloc::Global;
-use world::{Sink, read_journal, read_world};
+use world::{Sink, read_journal};
+use world_text::read_world;
 
 fn of_replay(fault: ReplayFault) -> RunError
     ensures { result ≡ of_replay fault }

@@ -15,7 +15,8 @@ use lower::{LowerFault, lower};
 use machine::{LoadFault, Machine, RunFault, Stop};
 use replay::TrapAt;
 use std::alloc::Global;
-use world::{ReadError, Sink, read_schedule, read_world};
+use world::{ReadError, Sink, read_schedule};
+use world_text::read_world;
 
 pub(crate) fn of_lower(fault: LowerFault) -> RunError
     ensures { result ≡ of_lower fault }

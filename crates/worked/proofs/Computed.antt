@@ -20,10 +20,10 @@ use Rattle.source.specs.Journal.{Journal}
 use Rattle.texts.specs.JournalMeaning.{IsJournalText}
 use Rattle.source.specs.JournalText.{entry_text, journal_line}
 use Rattle.source.specs.Object.{Object, sizes}
-use Rattle.world.specs.ReadingValues.{value_named}
+use Rattle.world_text.specs.ReadingValues.{value_named}
 use Rattle.texts.specs.ReadingWords.{lines_words, allowed_words}
-use Rattle.world.specs.ReadingLines.{heap_of_line, line_of}
-use Rattle.world.specs.ReadingWorlds.{line_read, lines_read, heap_read, world_read, numbered_read}
+use Rattle.world_text.specs.ReadingLines.{heap_of_line, line_of}
+use Rattle.world_text.specs.ReadingWorlds.{line_read, lines_read, heap_read, world_read, numbered_read}
 use Rattle.report.specs.ReportText.{report_text}
 use Rattle.source.specs.Schedule.{Schedule}
 use Rattle.texts.specs.ScheduleText.{IsScheduleText, schedule_word, words_meant, is_turn, is_count}

@@ -2,7 +2,7 @@
 use Rattle.std.specs.Prelude.{◌≡◌, Err, codes, refl}
 use Rattle.texts.specs.declared.fault.Rule.TheVariants.{NameTaken, Superclass, Signature, Form, Name, Limit}
 use Rattle.texts.specs.ReadingSchedules.{schedule_of}
-use Rattle.world.specs.ReadingWorlds.{world_of_text}
+use Rattle.world_text.specs.ReadingWorlds.{world_of_text}
 use Rattle.worked.proofs.Computed.{read}
 
 -- a turn of a thread that is not there

@@ -4,7 +4,7 @@ use Rattle.base.specs.Element.{JInt}
 use Rattle.syntax.specs.Tree.{Declare, FromCall, IntResult, JIntArray, Number, Perform, ReferenceVariable, Return, ReturnValue, SourceUnit, Value, Void}
 use Rattle.texts.specs.declared.fault.Rule.TheVariants.{Heap}
 use Rattle.source.specs.declared.schedule.ScheduleWord.TheVariants.{Turn}
-use Rattle.world.specs.ReadingWorlds.{world_of_text}
+use Rattle.world_text.specs.ReadingWorlds.{world_of_text}
 use Rattle.source.specs.World.{World}
 use Rattle.world.specs.WorldLines.{NumberValue, ClassLine, ArrayLine, ThreadLine, Lines}
 use Rattle.world.specs.WorldMeaning.{world_of}

@@ -8,7 +8,7 @@ use Rattle.classes.specs.BuiltIns.{built_ins}
 use Rattle.classes.specs.Fields.{layout, type_of_signature}
 use Rattle.classes.specs.Mangling.{unmangle}
 use Rattle.classes.specs.Additions.{NameTaken, BadSuperclass, BadSignature}
-use Rattle.world.specs.ReadingWorlds.{world_of_text}
+use Rattle.world_text.specs.ReadingWorlds.{world_of_text}
 use Rattle.world.specs.WorldLines.{ClassLine, FieldLine, ObjectLine, ArrayLine, StringLine, ThreadLine, CallLine, NumberValue, NullValue, NamedObject, NamedClass, Lines}
 use Rattle.world.specs.WorldMeaning.{world_of, cells_of}
 use Rattle.world.specs.WorldRules.{IsWorldText, broken_after}

@@ -1,20 +1,9 @@
-//! Worlds, as texts and in memory: the heap's size, the classes, the objects, and what each thread calls. What else is read and written of a run, it passes on.
+//! Worlds in memory: the heap's size, the classes, the objects, and what each thread calls. What else is read and written of a run, it passes on.
 #![tactic(auto)]
 
-mod additions;
-mod builder;
-mod laws;
-mod line;
-mod names;
-mod next_line;
 mod object;
-mod rules;
-mod value;
-mod words;
 mod world;
-mod world_text;
 
-pub use laws::{texts_mean_one_world, worlds_are_read};
 pub use object::{Object, ObjectValue};
 pub use report::{
     NoRows, Rows, Shown, Sink, SinkFailed, StdSink, ThreadStatus, put_all, put_pieces, put_row_end,
@@ -26,4 +15,3 @@ pub use texts::{
     journals_are_read, read_journal, read_schedule, schedules_are_read,
 };
 pub use world::{Call, World};
-pub use world_text::read_world;

@@ -33,7 +33,8 @@ impl Model for Object {
 }
 
 impl Object {
-    pub(crate) fn new(class: usize, values: Vec<ObjectValue>) -> Object
+    /// An object of the class of this number.
+    pub fn new(class: usize, values: Vec<ObjectValue>) -> Object
         ensures { result ≡ record { class = class; values = map object_value_view values.items } }
     {
         Object { class, values }

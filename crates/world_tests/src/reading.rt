@@ -2,9 +2,8 @@
 
 use classes::mangling::{is_mangled, mangle, unmangle};
 use std::test::Fail;
-use world::{
-    Entry, ObjectValue, Repetition, ScheduleWord, read_journal, read_schedule, read_world,
-};
+use world::{Entry, ObjectValue, Repetition, ScheduleWord, read_journal, read_schedule};
+use world_text::read_world;
 
 #[test]
 fn a_schedule(rt: HostRuntime) -> Result<(), Fail> {

@@ -1,0 +1,194 @@
+-- Reading line by line, with what is gathered in the place of the lines before.
+use Rattle.std.proofs.Common.{◌≡◌, ℕ, ◌≤◌, Bool, true, false, cond, List, [], ◌∷◌, ◌++◌, Option, Some, None, Result, Ok, Err, refl, sym, ap, ◌∙◌, subst, arith}
+use Rattle.std.specs.Prelude.{not, ◌==◌, filter, IfOk}
+use Rattle.std.specs.List.{enumerate_from}
+use Rattle.base.specs.Bytes.{is_some_byte}
+use Rattle.classes.specs.BuiltIns.{built_ins}
+use Rattle.source.specs.World.{World}
+use Rattle.texts.specs.LineRules.{LineRule}
+use Rattle.texts.specs.Reading.{◌>>=◌, refused, Gives, Fails}
+use Rattle.texts.specs.Split.{parts_of, parts_left}
+use Rattle.texts.specs.declared.split.Split.{Split}
+use Rattle.texts.specs.declared.fault.ReadError.{ReadError}
+use Rattle.texts.specs.declared.fault.ReadError.TheVariants as errors
+use Rattle.texts.proofs.PartLemmas.{slice_split-split_at}
+use Rattle.texts.specs.declared.fault.Rule.{Rule}
+use Rattle.texts.specs.declared.fault.Rule.TheVariants as held
+use Rattle.texts.specs.declared.fault.TextFault.{TextFault}
+use Rattle.texts.specs.Rule.{rule_of}
+use Rattle.world_text.specs.Gathered.{Gathered, gather, gathered_read, gathered_world, finished_read, least_rule, with_line}
+use Rattle.world_text.specs.LinesLeft.{lines_left}
+use Rattle.world.specs.declared.world.World.{World as InMemory}
+use Rattle.world_text.specs.ReadingLines.{heap_of_line, line_of}
+use Rattle.world_text.specs.ReadingWorlds.{held_rule, rule_broken, ruled, line_read, lines_read, heap_read, last_number, world_read, numbered_read, world_of_text}
+use Rattle.world.specs.SoundWorlds.{IsSound}
+use Rattle.world.specs.WorldLines.{WorldLine, Lines, text_lines}
+use Rattle.world.specs.WorldMeaning.{cells_of}
+use Rattle.world.specs.WorldRules.{part_of, IsWorldText}
+use Rattle.world_text.proofs.GatheredLines.{AreGathered, rule_same}
+use Rattle.world_text.proofs.GatheredNext.{gathered_next, are_gathered}
+use Rattle.world_text.proofs.OrderedLines.{none_ordered}
+use Rattle.world_text.proofs.ReadWorlds.{worlds_read}
+use Rattle.world_text.proofs.Soundness.{none_sound, sound_world}
+
+-- ---- rules in memory
+
+-- a rule that is held in memory stands for itself
+pub held_same : (rule : Rule) → held_rule (rule_of rule) ≡ rule
+held_same held.NameTaken = refl
+held_same held.Superclass = refl
+held_same held.Signature = refl
+held_same held.Classes = refl
+held_same held.Form = refl
+held_same held.Name = refl
+held_same held.Limit = refl
+held_same held.Heap = refl
+
+-- ---- one line
+
+module _ (cells part : ℕ) (L : Lines) (s : AreGathered cells part L) (n : ℕ) where
+  abbrev g : Gathered
+  g = gather cells part L
+
+  -- what was taken
+  record IsTaken (line : Option WorldLine) (next : Gathered) : Type 0 where
+    pub said : WorldLine
+    pub is : line ≡ Some said
+    pub kept : rule_broken cells L (n, said) ≡ None
+    pub added : with_line g n said ≡ next
+
+  taken : (line : Option WorldLine) (next : Gathered) → gathered_read g n line ≡ Ok next → IsTaken line next
+  unfolding gathered_read
+  taken None next h = absurd (cc)
+  taken (Some line) next h = by_rule (least_rule g line) refl h
+    where
+      by_rule : (rule : Option LineRule) → least_rule g line ≡ rule → ruled n rule (with_line g n line) ≡ Ok next → IsTaken (Some line) next
+      by_rule None e k = record { said = line; is = refl; kept = sym (rule_same cells part L s n line) ∙ e; added = cc }
+      by_rule (Some rule) e k = absurd (cc)
+
+  -- the fault is that of the lines
+  fault_told : (line : Option WorldLine) (f : TextFault) → gathered_read g n line ≡ Err f → line_read cells L n line ≡ Err f
+  unfolding gathered_read line_read
+  fault_told None f h = cc
+  fault_told (Some line) f h = ap (λ rule. ruled n rule (L ++ (n, line) ∷ [])) (sym (rule_same cells part L s n line)) ∙ by_rule (least_rule g line) h
+    where
+      by_rule : (rule : Option LineRule) → ruled n rule (with_line g n line) ≡ Err f → ruled n rule (L ++ (n, line) ∷ []) ≡ Err f
+      by_rule None k = absurd (cc)
+      by_rule (Some rule) k = cc
+
+-- ---- several lines
+
+-- what is gathered so far, and the lines that are left
+pub record IsReading (g : Gathered) (last : ℕ) (rest : List (ℕ × List ℕ)) (read : Result World TextFault) : Type 0 where
+  pub cells : ℕ
+  pub part : ℕ
+  pub lines : Lines
+  pub high : cells ≤ 1048576
+  pub is : g ≡ gather cells part lines
+  pub state : AreGathered cells part lines
+  pub further : (lines_read cells lines rest >>= λ all. world_read cells (last_number last rest) all) ≡ read
+
+none_gathered : (cells : ℕ) → 512 ≤ cells → AreGathered cells 0 []
+none_gathered cells low = record { sound = none_sound cells low; ordered = none_ordered; single = omega arith; few_calls = refl; started = refl }
+
+-- after the line of the heap
+pub starts : (g : Gathered) (number cells : ℕ) (bytes : List ℕ) (rest : List (ℕ × List ℕ)) (text : List ℕ) → (512 ≤ cells) × (cells ≤ 1048576) → g ≡ gather cells 0 [] → text_lines text ≡ (number, bytes) ∷ rest
+    → heap_read number (heap_of_line bytes) ≡ Ok cells → IsReading g number rest (world_of_text text)
+unfolding numbered_read
+starts g number cells bytes rest text size is first heap = record {
+  cells = cells;
+  part = 0;
+  lines = [];
+  high = size.1;
+  is = is;
+  state = none_gathered cells size.0;
+  further = sym (ap numbered_read first ∙ ap (λ (r : Result ℕ TextFault). r >>= λ n. lines_read n [] rest >>= λ lines. world_read n (last_number number rest) lines) heap);
+}
+
+-- the line of the heap is refused
+pub heap_refused : (number : ℕ) (bytes : List ℕ) (rest : List (ℕ × List ℕ)) (text : List ℕ) (f : TextFault) → text_lines text ≡ (number, bytes) ∷ rest → heap_read number (heap_of_line bytes) ≡ Err f → world_of_text text ≡ Err f
+unfolding numbered_read
+heap_refused number bytes rest text f first heap =
+    ap numbered_read first ∙ ap (λ (r : Result ℕ TextFault). r >>= λ n. lines_read n [] rest >>= λ lines. world_read n (last_number number rest) lines) heap
+
+-- no line is there
+pub no_heap : (text : List ℕ) → text_lines text ≡ [] → world_of_text text ≡ refused held.Form 1
+unfolding numbered_read
+no_heap text none = ap numbered_read none
+
+module _ (g : Gathered) (last number : ℕ) (bytes : List ℕ) (rest : List (ℕ × List ℕ)) (read : Result World TextFault) (r : IsReading g last ((number, bytes) ∷ rest) read) where
+  by_line : (line_read r.cells r.lines number (line_of bytes) >>= (λ lines. lines_read r.cells lines rest) >>= λ all. world_read r.cells (last_number number rest) all) ≡ read
+  unfolding lines_read
+  by_line = r.further
+
+  told : gathered_read g number (line_of bytes) ≡ gathered_read (gather r.cells r.part r.lines) number (line_of bytes)
+  told = ap (λ x. gathered_read x number (line_of bytes)) r.is
+
+  line_kept : (line : WorldLine) → rule_broken r.cells r.lines (number, line) ≡ None → line_read r.cells r.lines number (Some line) ≡ Ok (r.lines ++ (number, line) ∷ [])
+  unfolding line_read
+  line_kept line e = ap (λ rule. ruled number rule (r.lines ++ (number, line) ∷ [])) e
+
+  -- the next line is refused
+  pub refuses : (f : TextFault) → gathered_read g number (line_of bytes) ≡ Err f → read ≡ Err f
+  refuses f h =
+      let fault = fault_told r.cells r.part r.lines r.state number (line_of bytes) f (sym told ∙ h) in
+      sym by_line ∙ ap (λ (o : Result Lines TextFault). o >>= (λ lines. lines_read r.cells lines rest) >>= λ all. world_read r.cells (last_number number rest) all) fault
+
+  -- the next line is taken
+  pub takes : (next : Gathered) → gathered_read g number (line_of bytes) ≡ Ok next → IsReading next number rest read
+  takes next h =
+      let t = taken r.cells r.part r.lines r.state number (line_of bytes) next (sym told ∙ h) in
+      record {
+        cells = r.cells;
+        part = part_of t.said;
+        lines = r.lines ++ (number, t.said) ∷ [];
+        high = r.high;
+        is = sym t.added ∙ sym (gathered_next r.cells r.part r.lines r.state number t.said t.kept);
+        state = are_gathered r.cells r.part r.lines r.state number t.said t.kept;
+        further =
+            sym (ap (λ (o : Result Lines TextFault). o >>= (λ lines. lines_read r.cells lines rest) >>= λ all. world_read r.cells (last_number number rest) all) (ap (line_read r.cells r.lines number) t.is ∙ line_kept t.said t.kept))
+            ∙ by_line;
+      }
+
+-- no line is left
+pub ends : (g : Gathered) (last : ℕ) (read : Result World TextFault) → IsReading g last [] read → finished_read g last ≡ read
+unfolding lines_read world_read
+ends g last read r =
+    ap (λ x. finished_read x last) r.is
+    ∙ ap (λ b. cond b (refused held.Limit last) (Ok (gathered_world (gather r.cells r.part r.lines)))) r.state.started
+    ∙ by_test (r.part == 2)
+    ∙ sym (ap (λ b. cond b (Ok (gathered_world (gather r.cells r.part r.lines))) (refused held.Limit last)) r.state.ordered.threads)
+    ∙ r.further
+  where
+    by_test : (b : Bool) → cond (not b) (refused held.Limit last) (Ok (gathered_world (gather r.cells r.part r.lines))) ≡ cond b (Ok (gathered_world (gather r.cells r.part r.lines))) (refused held.Limit last)
+    by_test true = refl
+    by_test false = refl
+
+pub sound_end : (g : Gathered) (last : ℕ) (rest : List (ℕ × List ℕ)) (read : Result World TextFault) → IsReading g last rest read → IsSound (gathered_world g)
+sound_end g last rest read r = subst (λ x. IsSound (gathered_world x)) (sym r.is) (sound_world r.cells r.lines r.high r.state.sound)
+
+-- the cells that are used where a world defines nothing
+pub none_used : 130 ≡ cells_of []
+unfolding built_ins
+none_used = refl
+
+-- ---- the whole text
+
+-- no line of it was read yet
+pub text_left : (lines : Split) (text : List ℕ) → parts_left lines ≡ parts_of 10 text → lines_left 0 lines ≡ text_lines text
+text_left lines text e = ap (λ parts. filter (λ (l : ℕ × List ℕ). is_some_byte l.1) (enumerate_from 1 parts)) (e ∙ slice_split-split_at (λ c. c == 10) text)
+
+-- what is read is what the text means
+pub world_means : (text : List ℕ) (read : Result InMemory ReadError) → Gives (λ w. w) read (world_of_text text) → IfOk read (λ w. IsWorldText text w)
+world_means text (Ok w) h = ((worlds_read text w).0 h).0
+world_means text (Err e) h = tt
+
+-- the line of the heap is not read
+pub heap_stops : (number : ℕ) (bytes : List ℕ) (rest : List (ℕ × List ℕ)) (text : List ℕ) (e : ReadError) → text_lines text ≡ (number, bytes) ∷ rest → Fails e (heap_read number (heap_of_line bytes)) → Fails e (world_of_text text)
+heap_stops number bytes rest text errors.Memory first h = tt
+heap_stops number bytes rest text (errors.Fault f) first h = heap_refused number bytes rest text f first h
+
+-- another line is not read
+pub line_stops : (g : Gathered) (last number : ℕ) (bytes : List ℕ) (left rest : List (ℕ × List ℕ)) (read : Result World TextFault) (e : ReadError) → left ≡ (number, bytes) ∷ rest → IsReading g last left read → Fails e (gathered_read g number (line_of bytes)) → Fails e read
+line_stops g last number bytes left rest read errors.Memory first r h = tt
+line_stops g last number bytes left rest read (errors.Fault f) first r h = refuses g last number bytes rest read (subst (λ ls. IsReading g last ls read) first r) f h

@@ -1,0 +1,15 @@
+use Rattle.std.proofs.Common.{ap, ◌∙◌, map}
+use Rattle.std.specs.List.{list_all}
+use Rattle.base.specs.Element.{JInt}
+use Rattle.world_text.specs.GatheredViews.{gathered_of}
+use Rattle.world_text.specs.LineViews.{value_view}
+use Rattle.world.specs.WorldLines.{ObjectsLine}
+use Rattle.world.specs.WorldRules.{value_in_range}
+use Rattle.world_text.proofs.KeptRules.{keeps, all_in_jint}
+use Rattle.world_text.proofs.builder.WorldBuilder.take_objects.Goals as goal
+
+pub put_values-requires-clause-numbers : goal.put_values-requires-clause-numbers
+put_values-requires-clause-numbers c =
+    let k = keeps (gathered_of c.args.self.now) (ObjectsLine c.args.object.now.name.now c.args.object.now.class.now (map value_view c.args.object.now.values.items)) c.requires in
+    ap (λ values. list_all (value_in_range JInt) (map value_view values)) c.deref.ensures.value
+    ∙ all_in_jint c.args.self.now.classes c.args.self.now.names _ (map value_view c.args.object.now.values.items) k.held k.ranged

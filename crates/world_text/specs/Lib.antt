@@ -1,0 +1,9 @@
+pub mod ReadingValues
+pub mod LineViews
+pub mod NameViews
+pub mod ReadingLines
+pub mod ReadingWorlds
+pub mod TextLaws
+pub mod Gathered
+pub mod GatheredViews
+pub mod LinesLeft

@@ -1,0 +1,191 @@
+//! Reading the text of a world.
+
+ghost use Rattle.std.specs.Prelude.{◌≡◌, ◌∷◌, ◌+◌, ◌<◌, ◌≤◌, ◌^◌, [], IfOk, MatchOption, map, length};
+ghost use Rattle.texts.specs.Reading.{Gives};
+ghost use Rattle.texts.specs.Split.{parts_left};
+ghost use Rattle.world_text.specs.Gathered.{gather, gathered_read, gathered_world, finished_read, OnGathered};
+ghost use Rattle.world_text.specs.GatheredViews.{gathered_of};
+ghost use Rattle.world_text.specs.LinesLeft.{lines_left};
+ghost use Rattle.world_text.specs.LineViews.{line_view};
+ghost use Rattle.world_text.specs.ReadingLines.{cells_named, heap_by_words, heap_of_line, line_of};
+ghost use Rattle.world_text.specs.ReadingWorlds.{heap_read, ruled, world_of_text};
+ghost use Rattle.world.specs.SoundWorlds.{IsSound};
+ghost use Rattle.world.specs.WorldRules.{IsWorldText};
+
+use crate::builder::WorldBuilder;
+use crate::line::{Line, read_line, split_words};
+use crate::names::ObjectNames;
+use world::World;
+use class_table::table::ClassTable;
+use std::alloc::{AllocError, Global};
+use texts::{ReadError, Rule, Split, TextFault, natural};
+
+/// The cells that are used at load where a world defines nothing.
+const LEAST_USED: usize = 130;
+
+/// The number of cells that a word spells; a negative one is as far below each limit as 0 is.
+fn read_cells(word: &[u8]) -> Option<u64>
+    ensures { result ≡ cells_named word.now }
+{
+    match word {
+        [b'-', digits @ ..] => match natural(digits) {
+            None | Some(0) => None,
+            Some(_) => Some(0),
+        },
+        _ => natural(word),
+    }
+}
+
+/// `heap N`, by its words.
+fn heap_by_words(words: &[&[u8]]) -> Option<u64>
+    ensures { result ≡ heap_by_words (map (λ w. w.now) words.now) }
+{
+    match words {
+        [word, number] => {
+            if *word == b"heap".as_slice() {
+                read_cells(*number)
+            } else {
+                None
+            }
+        }
+        _ => None,
+    }
+}
+
+/// The number of cells that a line of the heap gives it.
+#[tactic(auto, unfolding(crate::specs::ReadingLines::heap_of_line))]
+fn heap_of_line(alloc: Global, line: &[u8]) -> Result<Option<u64>, AllocError>
+    ensures { IfOk result (λ cells. cells ≡ heap_of_line line.now) }
+{
+    let words = split_words(alloc, line)?;
+    Ok(heap_by_words(&words))
+}
+
+/// The size of the heap, by the first line.
+#[tactic(auto, unfolding(crate::specs::ReadingWorlds::heap_read))]
+fn read_heap(alloc: Global, number: usize, line: &[u8]) -> Result<u32, ReadError>
+    ensures read { Gives (λ cells. cells) result (heap_read number (heap_of_line line.now)) }
+    ensures within { IfOk result (λ cells. (512 ≤ cells) × (cells ≤ 1048576)) }
+{
+    let Some(cells) = heap_of_line(alloc, line)? else {
+        let rule = Rule::Form;
+        return Err(ReadError::Fault(TextFault { rule, line: number }));
+    };
+    if cells < 512 || cells > 1_048_576 {
+        let rule = Rule::Limit;
+        return Err(ReadError::Fault(TextFault { rule, line: number }));
+    }
+    Ok(cells as u32)
+}
+
+/// What no line says, with a heap of so many cells.
+fn begun(alloc: Global, cells: u32) -> Result<WorldBuilder, AllocError>
+    requires { (512 ≤ cells) × (cells ≤ 1048576) }
+    ensures { IfOk result (λ builder. gathered_of builder ≡ gather cells 0 []) }
+{
+    let classes = ClassTable::of_built_ins(alloc)?;
+    Ok(WorldBuilder {
+        cells,
+        classes,
+        names: ObjectNames::new(alloc),
+        objects: Vec::new(alloc),
+        threads: Vec::new(alloc),
+        used: LEAST_USED,
+        part: 0,
+    })
+}
+
+/// Takes a line, where it breaks no rule.
+fn take_formed(
+    alloc: Global,
+    builder: &mut WorldBuilder,
+    number: usize,
+    line: &Line,
+) -> Result<(), ReadError>
+    ensures { OnGathered result (gathered_of builder.new) (gathered_read (gathered_of builder.old) number (Some (line_view line.now))) }
+{
+    if let Some(rule) = builder.least_rule(line) {
+        return Err(ReadError::Fault(TextFault { rule, line: number }));
+    }
+    builder.take(alloc, number, line)?;
+    Ok(())
+}
+
+/// Takes a line that isn't empty.
+fn take_line(
+    alloc: Global,
+    builder: &mut WorldBuilder,
+    number: usize,
+    bytes: &[u8],
+) -> Result<(), ReadError>
+    ensures { OnGathered result (gathered_of builder.new) (gathered_read (gathered_of builder.old) number (line_of bytes.now)) }
+{
+    match read_line(alloc, bytes)? {
+        Some(line) => take_formed(alloc, builder, number, &line),
+        None => {
+            let rule = Rule::Form;
+            Err(ReadError::Fault(TextFault { rule, line: number }))
+        }
+    }
+}
+
+/// The next line that isn't empty, and its number.
+fn next_line<'a>(lines: &mut Split<'a>, number: &mut usize) -> Option<&'a [u8]>
+    requires { number.old + length (parts_left lines.old) < 2 ^ 64 }
+    ensures line { MatchOption result (lines_left number.old lines.old ≡ []) (λ line. lines_left number.old lines.old ≡ (number.new, line.now) ∷ lines_left number.new lines.new) }
+    ensures few { number.new + length (parts_left lines.new) < 2 ^ 64 }
+{
+    while let Some(line) = lines.next() {
+        *number += 1;
+        if !line.is_empty() {
+            return Some(line);
+        }
+    }
+    None
+}
+
+/// The world that the text means.
+///
+/// Fault 61 to 64: a class or field breaks a rule of class tables. 81: a line has no form, or is out of its order. 82: a
+/// name is taken or isn't known, a class is not allowed, or a place can't hold a value. 83: the heap's cells are not 512 to
+/// 1,048,576, a number is out of its type's range, there are more objects or calls than there may be, or there is not
+/// exactly one thread, which is told at the second thread's line, or at the last line. 84: the objects don't fit into the
+/// heap. Of one line the least of these, and of several lines that of the first.
+pub fn read_world(alloc: Global, text: &[u8]) -> Result<World, ReadError>
+    ensures read { Gives (λ w. w) result (world_of_text text.now) }
+    ensures means { IfOk result (λ w. IsWorldText text.now w) }
+{
+    let mut lines = Split::new(text, b'\n');
+    let mut number = 0;
+    let Some(heap) = next_line(&mut lines, &mut number) else {
+        let rule = Rule::Form;
+        return Err(ReadError::Fault(TextFault { rule, line: 1 }));
+    };
+    let cells = read_heap(alloc, number, heap)?;
+    let mut builder = begun(alloc, cells)?;
+    let mut last = number;
+    while let Some(line) = next_line(&mut lines, &mut number) {
+        last = number;
+        take_line(alloc, &mut builder, number, line)?;
+    }
+    finished(builder, last)
+}
+
+/// The world that the lines make, the last of which had this number.
+fn finished(builder: WorldBuilder, last: usize) -> Result<World, ReadError>
+    requires { IsSound (gathered_world (gathered_of builder)) }
+    ensures { Gives (λ w. w) result (finished_read (gathered_of builder) last) }
+{
+    if builder.threads.is_empty() {
+        let rule = Rule::Limit;
+        return Err(ReadError::Fault(TextFault { rule, line: last }));
+    }
+    let WorldBuilder {
+        cells,
+        classes,
+        objects,
+        threads,
+        ..
+    } = builder;
+    Ok(World::new(cells, classes, objects, threads))
+}
