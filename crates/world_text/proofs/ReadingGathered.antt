@@ -167,11 +167,6 @@ ends g last read r =
 pub sound_end : (g : Gathered) (last : ℕ) (rest : List (ℕ × List ℕ)) (read : Result World TextFault) → IsReading g last rest read → IsSound (gathered_world g)
 sound_end g last rest read r = subst (λ x. IsSound (gathered_world x)) (sym r.is) (sound_world r.cells r.lines r.high r.state.sound)
 
--- the cells that are used where a world defines nothing
-pub none_used : 130 ≡ cells_of []
-unfolding built_ins
-none_used = refl
-
 -- ---- the whole text
 
 -- no line of it was read yet

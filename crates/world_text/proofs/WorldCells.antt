@@ -1,10 +1,11 @@
 -- How many cells are used at load, and what one more line adds.
-use Rattle.std.proofs.Common.{◌≡◌, ℕ, suc, ◌+◌, ◌-◌, true, List, [], ◌∷◌, ◌++◌, length, map, Some, None, refl, sym, ap, ◌∙◌, subst, arith, sum_by, length-append}
+use Rattle.std.proofs.Common.{◌≡◌, ℕ, suc, ◌+◌, ◌-◌, ◌<◌, ◌≤◌, take, get_or, Option, true, List, [], ◌∷◌, ◌++◌, length, map, Some, None, refl, sym, ap, ◌∙◌, subst, arith, sum_by, length-append}
 use Rattle.std.specs.Prelude.{pos, flat_map, reverse, slice_get}
 use Rattle.std.specs.Option.{option_map_or, option_to_list}
 use Rattle.std.specs.List.{list_all, enumerate_from}
 use Rattle.std.proofs.lemmas.List.{length-map}
-use Rattle.std.proofs.lemmas.List.Sums.{sum_by-append, sum_by-cons}
+use Rattle.std.proofs.lemmas.List.Sums.{sum_by-append, sum_by-cons, sum_by_more, sum_by-take-le}
+use Rattle.std.proofs.lemmas.Option.{slice_get-get_or}
 use Rattle.classes.specs.Additions.{new_class}
 use Rattle.classes.specs.BuiltIns.{built_ins, string_class, number_array, object_array_class, out_of_memory_error}
 use Rattle.classes.specs.Class.{Field, Class, Classes, class_at, superclass, above, ancestry_within, ancestry, array_name}
@@ -131,3 +132,33 @@ module _ (L : Lines) where
       let objects : sizes (objects_of next) ≡ sizes (objects_of L) + sizes (option_to_list (object_of L line)) = ap sizes (objects_grow L n line ordered known own) ∙ sum_by-append size (objects_of L) (option_to_list (object_of L line)) in
       let classes : sum_by class_cells (table_of next) ≡ sum_by class_cells (table_with T line) = ap (sum_by class_cells) table in
       omega (arith, told, objects, classes, cells_told L k, adds line allowed)
+
+-- ---- where a world defines nothing
+
+-- the class objects of the built-in classes
+built_in_cells : sum_by class_cells built_ins ≡ 126
+unfolding built_ins
+built_in_cells = refl
+
+-- the message of the OutOfMemoryError object
+pub error_fields : length (layout built_ins out_of_memory_error) ≡ 1
+unfolding built_ins
+error_fields = refl
+
+pub all_built_ins : 4 + sum_by class_cells (take (length built_ins) built_ins) ≡ cells_of []
+unfolding built_ins
+all_built_ins = refl
+
+pub few_cells : (i : ℕ) → 4 + sum_by class_cells (take i built_ins) ≤ 130
+few_cells i = omega (arith, sum_by-take-le class_cells built_ins i, built_in_cells)
+
+-- one class more, which has these statics
+pub one_class_more : (i : ℕ) (fields : List FieldId) → i < length built_ins → fields ≡ own_statics built_ins (i + 1) → sum_by class_cells (take (i + 1) built_ins) ≡ sum_by class_cells (take i built_ins) + (3 + length fields)
+one_class_more i fields within is =
+    let d : Class = get_or built_ins i (new_class [] None) in
+    let at : class_at built_ins (i + 1) ≡ Some d = let e : i + 1 ≡ suc i = omega arith in ap (class_at built_ins) e ∙ slice_get-get_or built_ins i (new_class [] None) within in
+    let count : length fields ≡ length d.statics =
+    ap (λ (fs : List FieldId). length fs) is
+    ∙ length-map (option_map_or (λ (x : Class). x.statics) (class_at built_ins (i + 1)) []) (λ (f : Field). record { class = i + 1; is_static = true; field = f })
+    ∙ ap (λ (o : Option Class). length (option_map_or (λ (x : Class). x.statics) o [])) at in
+    omega (arith, sum_by_more class_cells built_ins i (new_class [] None) within, count)

@@ -19,10 +19,9 @@ ghost use Rattle.world.specs.WorldRules.{value_in_range};
 
 use crate::builder::WorldBuilder;
 use crate::line::FieldWords;
-use world::{Object, ObjectValue};
 use crate::value::Value;
-use world::Call;
 use std::alloc::{AllocError, Global};
+use world::{Call, Object, ObjectValue};
 
 /// The units of a string.
 pub fn units(alloc: Global, text: &[u8]) -> Result<Vec<ObjectValue>, AllocError>

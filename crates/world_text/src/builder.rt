@@ -3,9 +3,8 @@
 ghost use Rattle.std.specs.Prelude.{◌≡◌, ◌≤◌, length};
 
 use crate::names::ObjectNames;
-use world::Object;
-use world::Call;
 use class_table::table::ClassTable;
+use world::{Call, Object};
 
 /// What the lines so far say.
 #[derive(Drop)]

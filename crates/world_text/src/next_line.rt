@@ -15,9 +15,9 @@ use crate::additions::units;
 use crate::builder::WorldBuilder;
 use crate::line::{ArrayWords, CallWords, FieldWords, Line, ObjectWords};
 use crate::rules::class_number;
-use world::Call;
 use class_table::built_ins::{STRING, number_array};
 use std::alloc::{AllocError, Global};
+use world::Call;
 
 impl WorldBuilder {
     fn take_class(&mut self, name: &[u8], superclass: Option<&[u8]>) -> Result<(), AllocError>

@@ -1,6 +1,7 @@
 //! Reading the text of a world.
 
 ghost use Rattle.std.specs.Prelude.{◌≡◌, ◌∷◌, ◌+◌, ◌<◌, ◌≤◌, ◌^◌, [], IfOk, MatchOption, map, length};
+ghost use Rattle.classes.specs.BuiltIns.{built_ins};
 ghost use Rattle.texts.specs.Reading.{Gives};
 ghost use Rattle.texts.specs.Split.{parts_left};
 ghost use Rattle.world_text.specs.Gathered.{gather, gathered_read, gathered_world, finished_read, OnGathered};
@@ -10,18 +11,17 @@ ghost use Rattle.world_text.specs.LineViews.{line_view};
 ghost use Rattle.world_text.specs.ReadingLines.{cells_named, heap_by_words, heap_of_line, line_of};
 ghost use Rattle.world_text.specs.ReadingWorlds.{heap_read, ruled, world_of_text};
 ghost use Rattle.world.specs.SoundWorlds.{IsSound};
+ghost use Rattle.world.specs.WorldMeaning.{cells_of};
 ghost use Rattle.world.specs.WorldRules.{IsWorldText};
 
 use crate::builder::WorldBuilder;
 use crate::line::{Line, read_line, split_words};
 use crate::names::ObjectNames;
-use world::World;
+use class_table::built_ins::OUT_OF_MEMORY_ERROR;
 use class_table::table::ClassTable;
 use std::alloc::{AllocError, Global};
 use texts::{ReadError, Rule, Split, TextFault, natural};
-
-/// The cells that are used at load where a world defines nothing.
-const LEAST_USED: usize = 130;
+use world::World;
 
 /// The number of cells that a word spells; a negative one is as far below each limit as 0 is.
 fn read_cells(word: &[u8]) -> Option<u64>
@@ -78,19 +78,34 @@ fn read_heap(alloc: Global, number: usize, line: &[u8]) -> Result<u32, ReadError
     Ok(cells as u32)
 }
 
-/// What no line says, with a heap of so many cells.
+/// The cells that are used at load where a world defines nothing: those of a class object for each built-in class and of the
+/// OutOfMemoryError object, each with 3 beside its values.
+fn least_used(classes: &ClassTable) -> usize
+    requires { classes.now ≡ built_ins }
+    ensures used { result ≡ cells_of [] }
+    ensures few { result ≤ 512 }
+{
+    let mut used = 3 + classes.layout_len(OUT_OF_MEMORY_ERROR);
+    for place in 0..classes.len() {
+        used += 3 + classes.own_statics(place + 1).len();
+    }
+    used
+}
+
+/// What no line says, with a heap of this many cells.
 fn begun(alloc: Global, cells: u32) -> Result<WorldBuilder, AllocError>
     requires { (512 ≤ cells) × (cells ≤ 1048576) }
     ensures { IfOk result (λ builder. gathered_of builder ≡ gather cells 0 []) }
 {
     let classes = ClassTable::of_built_ins(alloc)?;
+    let used = least_used(&classes);
     Ok(WorldBuilder {
         cells,
         classes,
         names: ObjectNames::new(alloc),
         objects: Vec::new(alloc),
         threads: Vec::new(alloc),
-        used: LEAST_USED,
+        used,
         part: 0,
     })
 }

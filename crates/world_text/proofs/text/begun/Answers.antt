@@ -1,5 +1,4 @@
 use Rattle.std.proofs.Common.{map}
-use Rattle.world_text.proofs.ReadingGathered.{none_used}
 use Rattle.world_text.proofs.text.begun.Goals as goal
 
 pub returns : goal.returns
@@ -9,6 +8,6 @@ returns c = λ i. record {
   names = c.new.ensures i;
   objects = c.new-2.ensures.items i;
   threads = map (λ t. t.items) (c.new-3.ensures.items i);
-  used = none_used i;
+  used = c.least_used-used.ensures.used i;
   part = 0;
 }
