@@ -1,5 +1,5 @@
 -- What is known of variables, as it lies in memory.
-use Rattle.std.specs.Prelude.{Bool, List, map, Option, bytes_eq}
+use Rattle.std.specs.Prelude.{Some, Bool, List, map, Option, bytes_eq}
 use Rattle.std.specs.Option.{option_and_then}
 use Rattle.std.specs.List.{list_any}
 use Rattle.base.specs.Bytes.{Identifier, ByName}
@@ -45,6 +45,10 @@ condition_holds condition.Held = is_held
 -- the answer about a variable
 abbrev pub asks : Condition → RegionState → Identifier → Bool
 asks question state x = condition_holds question (state_of state x)
+
+-- the answer is yes about some variable
+abbrev pub any_asked : Condition → RegionState → Bool
+any_asked question state = list_any (λ v. condition_holds question (Some v.1)) state.variables
 
 -- a held buffer's access and the variable of its array or string
 abbrev pub held_in : VariableState → Option (Access × Identifier)

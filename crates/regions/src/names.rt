@@ -6,7 +6,7 @@ ghost use Rattle.regions.specs.StatesInMemory.{state_value, asks};
 ghost use Rattle.types.specs.Uses.{expr_uses, argument_uses, call_uses, right_uses, test_uses, uses};
 ghost use Rattle.regions.specs.Reads.{expr_reads, argument_reads, call_reads, right_reads, test_reads, reads};
 
-use crate::states::{Condition, StaticState, meets};
+use crate::states::{Condition, StaticState, is_any, meets};
 use syntax::{Argument, Call, Expr, Form, RightSide, Test};
 
 /// Whether some name of an expression is so.
@@ -67,8 +67,8 @@ fn test_uses(state: &StaticState, condition: Condition, test: &Test) -> bool
     }
 }
 
-/// Whether a statement uses a name that is so. A name that it declares or sets is not used.
-pub(crate) fn uses(state: &StaticState, condition: Condition, form: &Form) -> bool
+/// The same, looked for in the statement.
+fn form_uses(state: &StaticState, condition: Condition, form: &Form) -> bool
     ensures { (line : ℕ) → result ≡ uses (asks condition (state_value state.now)) (form_tree line form.now) }
 {
     match form {
@@ -147,8 +147,8 @@ fn test_reads(state: &StaticState, condition: Condition, test: &Test) -> bool
     }
 }
 
-/// Whether a statement reads or writes an element of a name that is so.
-pub(crate) fn reads(state: &StaticState, condition: Condition, form: &Form) -> bool
+/// The same, looked for in the statement.
+fn form_reads(state: &StaticState, condition: Condition, form: &Form) -> bool
     ensures { (line : ℕ) → result ≡ reads (asks condition (state_value state.now)) (form_tree line form.now) }
 {
     match form {
@@ -170,4 +170,22 @@ pub(crate) fn reads(state: &StaticState, condition: Condition, form: &Form) -> b
         Form::Return(None) => false,
         Form::Return(Some(e)) => expr_reads(state, condition, e),
     }
+}
+
+/// Whether a statement uses a name that is so. A name that it declares or sets is not used.
+/// Where no name is so, the statement isn't looked at.
+#[tactic(auto, using(crate::proofs::NoneLemmas::none_uses))]
+pub(crate) fn uses(state: &StaticState, condition: Condition, form: &Form) -> bool
+    ensures { (line : ℕ) → result ≡ uses (asks condition (state_value state.now)) (form_tree line form.now) }
+{
+    is_any(state, condition) && form_uses(state, condition, form)
+}
+
+/// Whether a statement reads or writes an element of a name that is so.
+/// Where no name is so, the statement isn't looked at.
+#[tactic(auto, using(crate::proofs::NoneLemmas::none_reads))]
+pub(crate) fn reads(state: &StaticState, condition: Condition, form: &Form) -> bool
+    ensures { (line : ℕ) → result ≡ reads (asks condition (state_value state.now)) (form_tree line form.now) }
+{
+    is_any(state, condition) && form_reads(state, condition, form)
 }

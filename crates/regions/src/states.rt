@@ -7,7 +7,7 @@ ghost use Rattle.jni.specs.JniFunction.{is_critical};
 ghost use Rattle.jni.specs.Table.{access_value};
 ghost use Rattle.regions.specs.RegionStates.{state_of};
 ghost use Rattle.regions.specs.RegionRules.{holds_buffer, is_level};
-ghost use Rattle.regions.specs.StatesInMemory.{variable_state, state_value, condition_holds, asks, held_in, holds_critical, holds_of};
+ghost use Rattle.regions.specs.StatesInMemory.{any_asked, variable_state, state_value, condition_holds, asks, held_in, holds_critical, holds_of};
 
 use jni::Access;
 use std::alloc::{AllocError, Global};
@@ -102,6 +102,18 @@ fn holds(condition: Condition, known: Option<VariableState>) -> bool
         }
         Some(VariableState::Usable(..)) => matches!(condition, Condition::Held),
     }
+}
+
+/// Whether the answer to a question is yes about some variable.
+pub(crate) fn is_any(state: &StaticState, condition: Condition) -> bool
+    ensures { result ≡ any_asked condition (state_value state.now) }
+{
+    for v in &state.variables {
+        if holds(condition, Some(v.known)) {
+            return true;
+        }
+    }
+    false
 }
 
 /// The answer to a question about a variable.
