@@ -2,9 +2,11 @@
 #![tactic(auto)]
 
 mod fault;
+mod length;
 mod lowering;
 mod program;
 
 pub use fault::LowerFault;
+pub use length::has_long_function;
 pub use lowering::lower;
 pub use program::Program;

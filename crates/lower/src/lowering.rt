@@ -20,7 +20,7 @@ use std::alloc::{AllocError, Global};
 use syntax::{Function, Item, Static};
 
 /// How many steps a function may have, each with an instruction.
-const MOST_STEPS: usize = 65_535;
+pub(crate) const MOST_STEPS: usize = 65_535;
 
 /// The program's code, of which each instruction is one step of the source.
 ///

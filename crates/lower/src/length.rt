@@ -1,0 +1,223 @@
+//! Which functions are too long, told from the tree alone. A walk counts down from the limit, and stops where nothing is left.
+
+ghost use Rattle.std.specs.Prelude.{◌≡◌, ℕ, ◌+◌, ◌<◌, is_some, nat_lt, IfSome, IfNone, map, zip};
+ghost use Rattle.std.specs.List.{list_any, sum_by};
+ghost use Rattle.std.specs.Option.{option_map};
+ghost use Rattle.syntax.specs.Parts.{null_tested};
+ghost use Rattle.syntax.specs.Tree.{Binary};
+ghost use Rattle.syntax.specs.Views.{expr_tree, binary_tree, argument_tree, call_tree, right_side_tree, test_tree, result_tree, form_tree, block_tree, function_tree, item_tree, unit_tree};
+ghost use Rattle.jni.specs.Prototype.{function_named};
+ghost use Rattle.jni.specs.Table.{parameter_value};
+ghost use Rattle.lower.specs.Length.{step_limit, expr_steps, argument_steps, call_steps, value_steps, right_steps, test_steps, return_steps, stmt_steps, block_steps, function_steps, is_long};
+
+use crate::lowering::MOST_STEPS;
+use jni::{ParameterKind, function_named};
+use regions::Checked;
+use syntax::{
+    Argument, BinaryOp, Block, Call, Constant, Expr, Form, Function, Item, ResultType, RightSide,
+    Test,
+};
+
+/// What is left of `left` after one step, where there is one.
+fn after_one(left: usize) -> Option<usize>
+    ensures some { IfSome result (λ rest. rest + 1 ≡ left) }
+    ensures none { IfNone result (left ≡ 0) }
+{
+    left.checked_sub(1)
+}
+
+/// Whether an operator compares a bare name with NULL.
+fn is_null_test(op: BinaryOp, left: &Expr, right: &Expr) -> bool
+    ensures { result ≡ is_some (null_tested (Binary (binary_tree op) (expr_tree left.now) (expr_tree right.now))) }
+{
+    matches!(op, BinaryOp::Equal | BinaryOp::NotEqual)
+        && matches!(left, Expr::Variable(_))
+        && matches!(right, Expr::Named(Constant::Null))
+}
+
+/// The same after the steps of an expression.
+fn after_expr(left: usize, e: &Expr) -> Option<usize>
+    ensures some { IfSome result (λ rest. rest + expr_steps (expr_tree e.now) ≡ left) }
+    ensures none { IfNone result (left < expr_steps (expr_tree e.now)) }
+{
+    match e {
+        Expr::Number { .. } | Expr::Named(_) | Expr::Variable(_) => after_one(left),
+        Expr::Element(_, a) | Expr::Prefix(_, a) => after_one(after_expr(left, a)?),
+        Expr::Binary(op, a, b) => {
+            if is_null_test(*op, a, b) {
+                return after_one(left);
+            }
+            after_one(after_expr(after_expr(left, a)?, b)?)
+        }
+        Expr::Paren(a) => after_expr(left, a),
+    }
+}
+
+/// The same after what is worked out of an argument before the call.
+fn after_argument(left: usize, parameter: ParameterKind, argument: &Argument) -> Option<usize>
+    ensures some { IfSome result (λ rest. rest + argument_steps (parameter_value parameter, argument_tree argument.now) ≡ left) }
+    ensures none { IfNone result (left < argument_steps (parameter_value parameter, argument_tree argument.now)) }
+{
+    match (parameter, argument) {
+        (ParameterKind::IntNumber, Argument::Value(e)) => after_expr(left, e),
+        _ => Some(left),
+    }
+}
+
+/// The same of several arguments.
+fn after_arguments(
+    left: usize,
+    parameters: &[ParameterKind],
+    arguments: &[Argument],
+) -> Option<usize>
+    ensures some { IfSome result (λ rest. rest + sum_by argument_steps (zip (map parameter_value parameters.now) (map argument_tree arguments.now)) ≡ left) }
+    ensures none { IfNone result (left < sum_by argument_steps (zip (map parameter_value parameters.now) (map argument_tree arguments.now))) }
+{
+    match parameters {
+        [] => Some(left),
+        [parameter, parameters_left @ ..] => match arguments {
+            [] => Some(left),
+            [argument, arguments_left @ ..] => after_arguments(
+                after_argument(left, *parameter, argument)?,
+                parameters_left,
+                arguments_left,
+            ),
+        },
+    }
+}
+
+/// The same after a call.
+fn after_call(left: usize, call: &Call) -> Option<usize>
+    ensures some { IfSome result (λ rest. rest + call_steps (call_tree call.now) ≡ left) }
+    ensures none { IfNone result (left < call_steps (call_tree call.now)) }
+{
+    match function_named(call.function.as_bytes()) {
+        Some(function) => after_one(after_arguments(
+            left,
+            function.prototype().parameters,
+            &call.arguments,
+        )?),
+        None => after_one(left),
+    }
+}
+
+/// The same after a value for a variable.
+fn after_value(left: usize, e: &Expr) -> Option<usize>
+    ensures some { IfSome result (λ rest. rest + value_steps (expr_tree e.now) ≡ left) }
+    ensures none { IfNone result (left < value_steps (expr_tree e.now)) }
+{
+    match e {
+        Expr::Named(Constant::Null) => after_one(left),
+        e => after_one(after_expr(left, e)?),
+    }
+}
+
+/// The same after a right side.
+fn after_right(left: usize, right: &RightSide) -> Option<usize>
+    ensures some { IfSome result (λ rest. rest + right_steps (right_side_tree right.now) ≡ left) }
+    ensures none { IfNone result (left < right_steps (right_side_tree right.now)) }
+{
+    match right {
+        RightSide::Expr(e) => after_value(left, e),
+        RightSide::Call(call) => after_call(left, call),
+    }
+}
+
+/// The same after a test and the choice of a way.
+fn after_test(left: usize, test: &Test) -> Option<usize>
+    ensures some { IfSome result (λ rest. rest + test_steps (test_tree test.now) ≡ left) }
+    ensures none { IfNone result (left < test_steps (test_tree test.now)) }
+{
+    match test {
+        Test::Expr(e) => after_one(after_expr(left, e)?),
+        Test::Call(call) => after_one(after_call(left, call)?),
+    }
+}
+
+/// The same after the return of a value.
+fn after_return(left: usize, returns: ResultType, e: &Expr) -> Option<usize>
+    ensures some { IfSome result (λ rest. rest + return_steps (result_tree returns) (expr_tree e.now) ≡ left) }
+    ensures none { IfNone result (left < return_steps (result_tree returns) (expr_tree e.now)) }
+{
+    match returns {
+        ResultType::Jint => after_one(after_expr(left, e)?),
+        ResultType::Void | ResultType::Reference(_) => after_one(left),
+    }
+}
+
+/// The same after a statement.
+#[cycle(statements)]
+fn after_form(left: usize, returns: ResultType, form: &Form) -> Option<usize>
+    ensures some { (line : ℕ) → IfSome result (λ rest. rest + stmt_steps (result_tree returns) (form_tree line form.now) ≡ left) }
+    ensures none { (line : ℕ) → IfNone result (left < stmt_steps (result_tree returns) (form_tree line form.now)) }
+{
+    match form {
+        Form::Declare(_, _, right) => after_right(left, right),
+        Form::DeclareBuffer(_, _, right) => after_right(left, right),
+        Form::DeclareChars(_, right) => after_right(left, right),
+        Form::DeclareArray(..) => after_one(left),
+        Form::Assign(_, right) => after_right(left, right),
+        Form::AssignElement(_, i, e) => after_one(after_expr(after_expr(left, i)?, e)?),
+        Form::Perform(call) => after_call(left, call),
+        Form::PutJint(e) => after_one(after_expr(left, e)?),
+        Form::If(test, block) => { after_one(after_way(after_test(left, test)?, returns, block)?) }
+        Form::IfElse(test, block, other) => after_way(
+            after_way(after_test(left, test)?, returns, block)?,
+            returns,
+            other,
+        ),
+        Form::While(test, body) => after_way(after_one(after_expr(left, test)?)?, returns, body),
+        Form::Return(None) => after_one(left),
+        Form::Return(Some(e)) => after_return(left, returns, e),
+    }
+}
+
+/// The same after a block and the step at its end.
+#[cycle(statements)]
+fn after_way(left: usize, returns: ResultType, block: &Block) -> Option<usize>
+    ensures some { IfSome result (λ rest. rest + (block_steps (result_tree returns) (block_tree block.now) + 1) ≡ left) }
+    ensures none { IfNone result (left < block_steps (result_tree returns) (block_tree block.now) + 1) }
+{
+    after_one(after_block(left, returns, block)?)
+}
+
+/// The same after the statements of a block.
+#[cycle(statements)]
+fn after_block(left: usize, returns: ResultType, block: &Block) -> Option<usize>
+    ensures some { IfSome result (λ rest. rest + block_steps (result_tree returns) (block_tree block.now) ≡ left) }
+    ensures none { IfNone result (left < block_steps (result_tree returns) (block_tree block.now)) }
+{
+    let mut rest = left;
+    for stmt in &block.statements {
+        rest = after_form(rest, returns, &stmt.form)?;
+    }
+    Some(rest)
+}
+
+/// Whether a function has more than 65,535 steps.
+fn is_long_function(function: &Function) -> bool
+    ensures { result ≡ nat_lt step_limit (function_steps (function_tree function.now)) }
+{
+    after_block(MOST_STEPS, function.result, &function.body).is_none()
+}
+
+fn is_long(item: &Item) -> bool
+    ensures { result ≡ is_long (item_tree item.now) }
+{
+    match item {
+        Item::Static(_) => false,
+        Item::Function(function) => is_long_function(function),
+    }
+}
+
+/// Whether some function has more than 65,535 steps, so that `lower` answers `TooLong` unless host memory is refused.
+pub fn has_long_function(checked: &Checked) -> bool
+    ensures { result ≡ list_any is_long (unit_tree checked.now).items }
+{
+    for item in checked.items() {
+        if is_long(item) {
+            return true;
+        }
+    }
+    false
+}
