@@ -120,11 +120,16 @@ fn assigns_unknown(known: &[Known], form: &Form) -> bool
     }
 }
 
-/// Whether some name that a statement uses or sets is not known.
-#[tactic(auto, using(crate::proofs::StatementLemmas::unknown_names))]
-fn names_unknown(known: &[Known], form: &Form) -> bool
+/// Whether some name that a statement uses or sets is not known. A statement that fits and calls nothing has sorts for all of
+/// them, so it isn't looked at again.
+#[tactic(auto, using(crate::proofs::StatementLemmas::unknown_names, crate::proofs::KnownLemmas::none_unknown))]
+fn names_unknown(known: &[Known], returns: ResultType, form: &Form, misfits: bool) -> bool
+    requires { (line : ℕ) → misfits ≡ breaks_sort_rule SortMisfit (scope_of known.now) [] (result_tree returns) (form_tree line form.now) }
     ensures { (line : ℕ) → result ≡ breaks_sort_rule UnknownName (scope_of known.now) [] Void (form_tree line form.now) }
 {
+    if !misfits && own_call(form).is_none() {
+        return false;
+    }
     uses_unknown(known, form) || assigns_unknown(known, form)
 }
 
@@ -405,13 +410,14 @@ fn check_form(
     ensures { Finds result (refused_of (result_tree returns) (scope_of known.now) taken.now (form_tree line form.now) line sort_rules) }
 {
     let function = function_called(form);
-    refuse_if(names_unknown(known, form), SortRule::UnknownName, line)?;
-    refuse_if(declares_taken(taken, form), SortRule::DeclaredTwice, line)?;
+    let misfits = misfits(known, returns, form, function);
     refuse_if(
-        misfits(known, returns, form, function),
-        SortRule::SortMisfit,
+        names_unknown(known, returns, form, misfits),
+        SortRule::UnknownName,
         line,
     )?;
+    refuse_if(declares_taken(taken, form), SortRule::DeclaredTwice, line)?;
+    refuse_if(misfits, SortRule::SortMisfit, line)?;
     check_call(known, taken, returns, form, function, line)
 }
 
