@@ -37,3 +37,9 @@ AnswersField broken class (Ok x) = (broken ≡ None) × ((c : ℕ) × (class ≡
 AnswersField broken class (Err errors.Memory) = broken ≡ None
 AnswersField broken class (Err errors.NoClass) = (broken ≡ None) × (class ≡ None)
 AnswersField broken class (Err (errors.Refused rule)) = broken ≡ Some (rule_view rule)
+
+-- ---- handles
+
+-- the field, or the static, at a place among those that a class declares itself
+abbrev pub field_of : Classes → FieldHandle → Option FieldId
+field_of classes h = slice_get (if h.is_static then own_statics classes h.class else own_fields classes h.class) h.place

@@ -62,23 +62,33 @@ AreAddresses space references (o ∷ operands) = ((a : ℕ) → operand_at refer
 
 -- ---- answers
 
--- a number, with nothing else changed, or the trap that stops the machine
-abbrev pub IsAnswer : Shared → Thread → CallEffect → Result ℕ Trap → Type 0
-IsAnswer s t (Halts trap) (Err u) = trap_view u ≡ trap
-IsAnswer s t (Leaves [] s' t' (ScalarResult (Int z))) (Ok word) = (s' ≡ s) × (t' ≡ t) × (word ≡ word_of (Int z)) × FitsSigned w32 z
-IsAnswer s t effect answer = ⊥
+-- what a function of this kind of result gives
+abbrev pub GivenAgrees : Classes → Space → ResultKind → CallResult → Given → Type 0
+GivenAgrees classes space GivesNothing NoResult given.Nothing = Unit {0}
+GivenAgrees classes space GivesInt (ScalarResult (Int z)) (given.Number word) = (word ≡ word_of (Int z)) × FitsSigned w32 z
+GivenAgrees classes space GivesFlag (ScalarResult (Flag b)) (given.Number word) = word ≡ word_of (Flag b)
+GivenAgrees classes space NewLocal (ReferenceResult r) (given.Reference a) = ReferenceAgrees space a r
+GivenAgrees classes space GivesField (FieldResult f) (given.FieldId h) = FieldAgrees classes h f
+GivenAgrees classes space kind result given = ⊥
 
--- The answer is the effect of the source's call, in each state that the heap and the operands stand for.
-abbrev pub Answers : Classes → Space → (references : List (Option ℕ)) → (stack : List ℕ) → Call → Result ℕ Trap → Type 0
-Answers classes space references stack function answer =
-    (lent : BuffersInUse) (k line : ℕ) (s : Shared) (t : Thread) (target : source.Target) (args : List Actual) (rest : List source.Task)
-    → t.pending ≡ None
-    → BlocksAgree space s.heap space.blocks
-    → length args ≡ length (prototype function.function).parameters
-    → AllZip OperandFits (prototype function.function).parameters function.operands
-    → stack ≡ words_given args
-    → AllZip (IsGiven space references) function.operands args
-    → IsAnswer s t (effect_of_call classes lent k s t line target function.function args rest) answer
+-- another heap of the source, where a value of the object at an address is changed
+pub record WritesAt (space : Space) (s : Shared) (s' : Shared) (a place : ℕ) (v : Value) : Type 0 where
+  pub name : ℕ
+  pub there : name_at space a ≡ Some name
+  pub value : ObjectValue
+  pub agrees : ValueAgrees space v value
+  pub within : place < length (values_at space a)
+  pub is : s' ≡ record s { heap = with_value_at s.heap name place value }
+
+-- The answer is what the call does to this state, all checks being passed.
+abbrev pub IsAnswer : Classes → Space → ResultKind → Shared → Thread → CallEffect → Answer → Type 0
+IsAnswer classes space kind s t (Halts trap) (answer.Halts u) = trap_view u ≡ trap
+IsAnswer classes space kind s t (Throws class) (answer.Throws c) = (c ≡ class) × (c < 2 ^ 32)
+IsAnswer classes space kind s t (Leaves [] s' t' result) (answer.Gives given) = (s' ≡ s) × (t' ≡ t) × GivenAgrees classes space kind result given
+IsAnswer classes space kind s t (Leaves [] s' t' NoResult) (answer.Writes a place v) = (t' ≡ t) × (kind ≡ GivesNothing) × WritesAt space s s' a place v
+IsAnswer classes space kind s t (Leaves (o ∷ []) s' t' (ReferenceResult r)) (answer.Makes c) =
+    (s' ≡ s) × (t' ≡ t) × (kind ≡ NewLocal) × (r ≡ Some (next_name s.heap)) × (o ≡ fresh_object classes c) × (c < 2 ^ 32)
+IsAnswer classes space kind s t effect answer = ⊥
 
 -- ---- results
 

@@ -29,6 +29,8 @@ use world::{ObjectValue, World};
 pub enum Ending {
     Unfinished,
     Ended,
+    /// Its call returned with an exception of the class of this number pending.
+    Uncaught(usize),
 }
 
 /// What is seen of a thread's step by others.
@@ -46,6 +48,8 @@ pub enum Event {
 pub struct Thread {
     pub calls: VecDeque<PendingCall>,
     pub call: Option<Activation>,
+    /// The pending exception.
+    pub pending: Option<Addr>,
     pub ending: Ending,
 }
 
@@ -58,7 +62,16 @@ pub struct PendingCall {
     pub arguments: Vec<ObjectValue>,
 }
 
-/// A call in progress: its place in its function's code, its operands, and the slots of its variables. A
+/// Local references of a call, of which there may be at most `capacity` (JNI Specification, chapter 2, "Local and Global
+/// References").
+#[derive(Drop)]
+pub struct Frame {
+    pub capacity: usize,
+    /// The last one put is the last.
+    pub references: Vec<Addr>,
+}
+
+/// A call in progress: its place in its function's code, its operands, the slots of its variables, and its frames. A
 /// reference is NULL or the address of an object.
 #[derive(Drop)]
 pub struct Activation {
@@ -67,12 +80,17 @@ pub struct Activation {
     pub stack: Stack,
     pub numbers: Vec<u32>,
     pub references: Vec<Option<Addr>>,
+    pub fields: Vec<Option<FieldHandle>>,
+    /// The current frame is the last.
+    pub frames: Vec<Frame>,
 }
 
 /// What an instruction did.
 #[derive(Clone, Copy)]
 pub enum Executed {
     Did(Event),
+    /// A call's allocation was refused.
+    Refused,
     Returned,
 }
 
