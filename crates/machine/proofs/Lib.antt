@@ -1,5 +1,6 @@
 pub mod Lists
 pub mod ArgumentSlots
+pub mod Keeping
 pub mod Calls
 pub mod Threads
 pub mod Steps

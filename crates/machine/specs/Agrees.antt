@@ -1,37 +1,45 @@
 -- How the machine stands for a state of the source.
-use Rattle.std.specs.Prelude.{◌≡◌, ℕ, ◌<◌, ◌≤◌, List, [], ◌∷◌, length, map, Option, Some, None, IsTrue, slice_get, false}
-use Rattle.std.specs.List.{list_all}
+use Rattle.std.specs.Prelude.{◌≡◌, ℕ, ◌<◌, ◌≤◌, Bool, true, false, List, [], ◌∷◌, length, map, reverse, take, Option, Some, None, IsTrue, slice_get, if◌then◌else◌}
+use Rattle.std.specs.List.{list_all, AllZip}
 use Rattle.syntax.specs.Parts.{functions_of}
 use Rattle.syntax.specs.Tree.{Function}
 use Rattle.syntax.specs.Views.{unit_tree}
 use Rattle.classes.specs.Class.{Classes}
-use Rattle.heap.specs.Heap.{Space}
+use Rattle.classes.specs.Fields.{FieldId}
+use Rattle.class_table.specs.declared.class.FieldHandle.{FieldHandle}
+use Rattle.class_table.specs.FieldViews.{field_of}
+use Rattle.heap.specs.Heap.{Space, IsLaidOut, end_of, name_at}
 use Rattle.world.specs.CallArguments.{is_argument}
-use Rattle.source.specs.Object.{Reference}
+use Rattle.source.specs.Object.{Reference, sizes}
 use Rattle.world.specs.Views.{object_value_view}
-use Rattle.source.specs.World.{Invocation}
+use Rattle.source.specs.World.{Invocation, World, loaded_objects}
 use Rattle.code.specs.Depth.{Listing, depth_at}
 use Rattle.source.specs.Activation.{function_at, class_of_function}
 use Rattle.source.specs.Effect.{Effect, Returns}
+use Rattle.source.specs.Reachable.{IsName}
 use Rattle.source.specs.Start.{null_statics}
 use Rattle.source.specs.Task.{Task}
 use Rattle.source.specs.Thread as source
-use Rattle.source.specs.Thread.{BuffersInUse, Shared}
-use Rattle.source.specs.ThreadStep.{thread_step, after_effect}
+use Rattle.source.specs.Thread.{BuffersInUse, Shared, Advance}
+use Rattle.source.specs.ThreadStep.{thread_step, after_effect, after_refused_effect}
 use Rattle.code_generator.specs.Layout.{Known}
 use Rattle.lower.specs.Slots.{ArgumentsFit, Visible, visible_to, Shows}
 use Rattle.lower.specs.Stands.{StandsFor}
 use Rattle.lower.specs.Lowered.{Lowered}
 use Rattle.machine.specs.declared.thread.Ending.{Ending}
-use Rattle.machine.specs.declared.thread.Ending.TheVariants.{Unfinished, Ended}
+use Rattle.machine.specs.declared.thread.Ending.TheVariants.{Unfinished, Ended, Uncaught}
 use Rattle.machine.specs.declared.thread.Event.{Event}
 use Rattle.machine.specs.declared.thread.Event.TheVariants.{Quiet, Printed, Trapped}
+use Rattle.machine.specs.declared.thread.Advanced.{Advanced}
+use Rattle.machine.specs.declared.thread.Advanced.TheVariants as advanced
+use Rattle.machine.specs.declared.thread.Frame.{Frame}
 use Rattle.machine.specs.declared.thread.Thread.{Thread}
 use Rattle.machine.specs.declared.thread.PendingCall.{PendingCall}
 use Rattle.machine.specs.declared.thread.Activation.{Activation}
 use Rattle.machine.specs.declared.thread.Executed.{Executed}
-use Rattle.machine.specs.declared.thread.Executed.TheVariants.{Did, Returned}
-use Rattle.machine.specs.HeapAgrees.{ReferenceAgrees}
+use Rattle.machine.specs.declared.thread.Executed.TheVariants.{Did, Refused, Returned}
+use Rattle.machine.specs.declared.store.Store.{Store}
+use Rattle.machine.specs.HeapAgrees.{ReferenceAgrees, NamesAgree, HeapAgrees, IsTable}
 use Rattle.machine.specs.Stops.{trap_view}
 
 -- how a thread has ended, if it has
@@ -89,6 +97,8 @@ pub record Keeps (space : Space) (shared : Shared) (space' : Space) (shared' : S
   -- objects stay where they are
   pub names : (a n : ℕ) → name_at space a ≡ Some n → name_at space' a ≡ Some n
   pub statics : shared'.statics ≡ shared.statics
+  -- none is taken out, and none takes more cells or fewer
+  pub sizes : sizes (take (length shared.heap) shared'.heap) ≡ sizes shared.heap
 
 -- ---- frames and field IDs
 
@@ -163,6 +173,13 @@ ThreadsAgree p classes space made shared (t ∷ ts) (s ∷ ss) = ThreadAgrees p 
 
 -- ---- steps
 
+-- A call in progress, with what is pending, stands for a thread's tasks, of which this is the first.
+pub record IsExecuting (p : Lowered) (w : World) (store : Store) (call : Activation) (pending : Option ℕ) (shared : Shared) (s : source.Thread) (task : Task) (rest : List Task) : Type 0 where
+  pub store_agrees : StoreAgrees p w store shared
+  pub tasks : s.tasks ≡ Some (task ∷ rest)
+  pub stands : CallStands p w.classes store.heap call (visible_to shared s) s.frames (task ∷ rest)
+  pub pending_agrees : ReferenceAgrees store.heap pending s.pending
+
 -- what an effect of the first task leaves, or the same with its allocation refused
 abbrev pub after_any : Classes → BuffersInUse → ℕ → Shared → source.Thread → List Task → (refused : Bool) → Effect → Advance
 after_any classes lent k shared s rest false effect = after_effect classes lent k shared s rest effect
@@ -176,7 +193,7 @@ pub record GoesOn (p : Lowered) (w : World) (old : Space) (store : Store) (lent 
   pub store_agrees : StoreAgrees p w store next_shared
   pub keeps : Keeps old shared store.heap next_shared
   pub work : WorkAgrees p w.classes store.heap (visible_to next_shared next) (Some call) next.frames next.tasks
-  pub pending : ReferenceAgrees store.heap pending next.pending
+  pub pending_agrees : ReferenceAgrees store.heap pending next.pending
   pub calls : next.calls ≡ s.calls
   pub ending : next.ending ≡ s.ending
 
@@ -195,7 +212,20 @@ pub record Advances (p : Lowered) (w : World) (old : Space) (store : Store) (len
   pub keeps : Keeps old shared store.heap next_shared
   pub agrees : ThreadAgrees p w.classes store.heap (length (loaded_objects w)) next_shared t next
 
--- how a thread with these calls to come stands after a call
-abbrev pub ending_after : List PendingCall → Ending → Ending
-ending_after [] ending = Ended
-ending_after (n ∷ rest) ending = ending
+-- the same by what is told of it
+abbrev pub AdvancesBy : Lowered → World → Space → Store → BuffersInUse → ℕ → Shared → source.Thread → Thread → Advanced → Type 0
+AdvancesBy p w old store lent k shared s t (advanced.Did event) = Advances p w old store lent k shared s t false event
+AdvancesBy p w old store lent k shared s t advanced.Refused = Advances p w old store lent k shared s t true Quiet
+
+-- ---- returns
+
+-- how a thread with these calls to come has ended after a call, with an exception of this class pending or none
+abbrev pub ending_after : Option ℕ → List PendingCall → Ending → Ending
+ending_after (Some class) calls ending = Uncaught class
+ending_after None [] ending = Ended
+ending_after None (n ∷ rest) ending = ending
+
+-- its calls that are left
+abbrev pub calls_after : Option ℕ → List PendingCall → List PendingCall
+calls_after (Some class) calls = []
+calls_after None calls = calls
