@@ -18,7 +18,8 @@ use Rattle.source.specs.Object.{sizes}
 use Rattle.source.proofs.LiveSizes.{live_within, sizes_split}
 use Rattle.source.specs.Start.{start}
 use Rattle.source.proofs.StepLaws.{Steps, steps, step-thread}
-use Rattle.heap.specs.Heap.{Block, Space, block_end, end_from, end_of, LieFrom}
+use Rattle.heap.specs.Heap.{Space, end_of}
+use Rattle.heap.proofs.Layouts.{ends_within}
 use Rattle.lower.specs.Lowered.{Lowered}
 use Rattle.machine.specs.declared.thread.Ending.{Ending}
 use Rattle.machine.specs.declared.thread.Ending.TheVariants.{Unfinished, Ended, Uncaught}
@@ -87,11 +88,6 @@ AdvancesAlways p w store store' t after refused e =
     → Advances p w store.heap store' lent k shared s after refused e
 
 -- ---- room
-
--- the blocks end within the cells
-ends_within : (from : ℕ) (bs : List Block) (cells : ℕ) → LieFrom from bs cells → end_from from bs ≤ cells
-ends_within from [] cells h = h
-ends_within from (b ∷ bs) cells h = ends_within (block_end b) bs cells h.1
 
 -- a step that isn't refused has room beside what is reachable
 has_room : (p : Lowered) (w : World) (store : Store) (s next : State) (k : ℕ) → StoreAgrees p w store next.shared → sizes (take (length s.shared.heap) next.shared.heap) ≡ sizes s.shared.heap → world_step (unit_tree p.unit) w.classes s (entry_of k) ≡ Some next → Fits (unit_tree p.unit) w s k

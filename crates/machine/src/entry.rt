@@ -116,7 +116,8 @@ fn entry_frame(
     references.push(loaded[class - 1])?;
     for argument in arguments {
         match argument {
-            ObjectValue::Number(_) | ObjectValue::Reference(None) => {}
+            ObjectValue::Number(_) => {}
+            ObjectValue::Reference(None) => {}
             ObjectValue::Reference(Some(name)) => references.push(loaded[*name as usize - 1])?,
         }
     }

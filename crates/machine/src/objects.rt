@@ -33,6 +33,8 @@ pub fn load_store(alloc: Global, world: &World) -> Result<Store, AllocError>
     let error = fresh_values(alloc, world.classes(), OUT_OF_MEMORY_ERROR)?;
     make(&mut heap, &mut loaded, OUT_OF_MEMORY_ERROR, &error)?;
     make_objects(&mut heap, &mut loaded, world)?;
+    // The proof reads off this call that there are few objects.
+    let _ = heap.cells();
     let births = loaded.len() as u32;
     Ok(Store {
         heap,
