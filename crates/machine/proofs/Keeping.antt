@@ -1,5 +1,5 @@
 -- What a step leaves as it was for the other threads, and what of them agrees with it still.
-use Rattle.std.proofs.Common.{◌≡◌, ℕ, ℤ, ◌-◌, List, [], ◌∷◌, ◌++◌, length, map, reverse, take, Option, Some, None, refl, sym, ap, ◌∙◌, subst, arith}
+use Rattle.std.proofs.Common.{◌≡◌, ℕ, ℤ, ◌-◌, List, [], ◌∷◌, ◌++◌, length, reverse, take, Option, Some, None, refl, sym, ap, ◌∙◌, arith}
 use Rattle.std.specs.Prelude.{slice_get, slice_set}
 use Rattle.std.specs.List.{AllZip}
 use Rattle.std.proofs.Math.ListN.{length-set}
@@ -23,7 +23,7 @@ use Rattle.code_generator.specs.Layout.{Slot, Known}
 use Rattle.source.specs.Sight.{holds_null, held_reference, in_range, elements_of}
 use Rattle.source.specs.Value.{outcome_then}
 use Rattle.source.specs.Variable.{Variable, Statics}
-use Rattle.lower.specs.Slots.{Visible, Slots, Shows, ShowsSlot, visible_to}
+use Rattle.lower.specs.Slots.{Slots, Shows, ShowsSlot, visible_to}
 use Rattle.machine.proofs.Changes.{array_of}
 use Rattle.machine.specs.declared.thread.Activation.{Activation}
 use Rattle.machine.specs.declared.thread.Frame.{Frame}

@@ -44,7 +44,7 @@ use Rattle.machine.specs.declared.thread.PendingCall.{PendingCall}
 use Rattle.machine.specs.declared.thread.Activation.{Activation}
 use Rattle.machine.specs.declared.thread.Frame.{Frame}
 use Rattle.machine.specs.declared.store.Store.{Store}
-use Rattle.machine.specs.Agrees.{StoreAgrees, FrameAgrees, FramesAgree, FieldsAgree, CallAgrees, CallsAgree, CallStands, WorkAgrees, ReferencesAgree, ThreadAgrees, GoesOn, Advances, after_any, ending_view, ending_after, calls_after}
+use Rattle.machine.specs.Agrees.{StoreAgrees, Keeps, FrameAgrees, FramesAgree, FieldsAgree, CallAgrees, CallsAgree, CallStands, WorkAgrees, ReferencesAgree, ThreadAgrees, GoesOn, Advances, after_any, ending_view, ending_after, calls_after}
 use Rattle.machine.proofs.Keeping.{StaticsAgree, keeps_same}
 use Rattle.machine.specs.Entry.{argument_address, named_address, IsEntryFrame, Begins, IsReady}
 use Rattle.machine.specs.HeapAgrees.{ReferenceAgrees, NamesAgree, BlocksAgree, IsTable}
@@ -191,20 +191,21 @@ class_pending space heap (Some a) (Some n) b h = found_class space.blocks b h
             ap (λ (c : ℕ). Some c) (ap (class_of heap) (sym named) ∙ of ∙ sym there.class)
         by_test false later e = later e
 
-module _ (p : Lowered) (w : World) (store : Store) (lent : BuffersInUse) (k : ℕ) (shared : Shared) (t : Thread) (s : source.Thread) (h : ThreadAgrees p w.classes store.heap (length (loaded_objects w)) shared t s) where
-  pub returned : (after : Thread) (task : Task) (rest : List Task) → s.tasks ≡ Some (task ∷ rest) → StoreAgrees p w store shared → t.ending ≡ Unfinished → effect_of (sight_of shared s) task ≡ Returns
-      → after.call ≡ None → after.pending ≡ None → after.calls.items ≡ calls_after (option_and_then (class_at store.heap) t.pending) t.calls.items → after.ending ≡ ending_after (option_and_then (class_at store.heap) t.pending) t.calls.items t.ending
-      → Advances p w store.heap store lent k shared s after false event.Quiet
-  returned after task rest tasks shares o is no_call no_pending calls ending =
-      let class : Option ℕ = option_and_then (class_at store.heap) t.pending in
+module _ (p : Lowered) (w : World) (old : Space) (lent : BuffersInUse) (k : ℕ) (shared : Shared) (t : Thread) (s : source.Thread) (h : ThreadAgrees p w.classes old (length (loaded_objects w)) shared t s) where
+  pub returned : (store : Store) (pending : Option ℕ) (after : Thread) (task : Task) (rest : List Task) → s.tasks ≡ Some (task ∷ rest) → StoreAgrees p w store shared → store.heap ≡ old → ReferenceAgrees store.heap pending s.pending → t.ending ≡ Unfinished
+      → effect_of (sight_of shared s) task ≡ Returns → after.call ≡ None → after.pending ≡ None → after.calls.items ≡ calls_after (option_and_then (class_at store.heap) pending) t.calls.items
+      → after.ending ≡ ending_after (option_and_then (class_at store.heap) pending) t.calls.items t.ending
+      → Advances p w old store lent k shared s after false event.Quiet
+  returned store pending after task rest tasks shares same pends o is no_call no_pending calls ending =
+      let class : Option ℕ = option_and_then (class_at store.heap) pending in
       let made : ℕ = length (loaded_objects w) in
-      let of : option_map (class_of shared.heap) s.pending ≡ class = class_pending store.heap shared.heap t.pending s.pending shares.heap.blocks h.pending in
+      let of : option_map (class_of shared.heap) s.pending ≡ class = class_pending store.heap shared.heap pending s.pending shares.heap.blocks pends in
       record {
         next_shared = shared;
         next = idle class s.calls;
-        steps = steps_by p w store.heap lent k shared t s h false task rest tasks ∙ ap (after_effect w.classes lent k shared s rest) is ∙ returns_by k shared s class shares.monitors of;
+        steps = steps_by p w old lent k shared t s h false task rest tasks ∙ ap (after_effect w.classes lent k shared s rest) is ∙ returns_by k shared s class shares.monitors of;
         store_agrees = shares;
-        keeps = keeps_same store.heap shared;
+        keeps = subst (λ (x : Space). Keeps x shared store.heap shared) same (keeps_same store.heap shared);
         agrees = record {
           calls = subst (λ (ns : List PendingCall). CallsAgree p w.classes made ns (activation.calls_after (ending_of class s.calls) s.calls)) (sym calls) (calls_left p w.classes made class t.calls.items s.calls h.calls);
           work = subst (λ (c : Option Activation). WorkAgrees p w.classes store.heap (visible_to shared (idle class s.calls)) c [] None) (sym no_call) refl;

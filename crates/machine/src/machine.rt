@@ -126,7 +126,7 @@ impl<'a> Machine<'a> {
             return Ok(Turn::Stopped);
         }
         let index = usize::from(k) - 1;
-        if self.threads[index].ending != Ending::Unfinished {
+        if has_ended(&self.threads[index]) {
             return Ok(Turn::Ended);
         }
         if self.journal.len() >= MOST_ENTRIES {

@@ -28,7 +28,7 @@ use std::collections::VecDeque;
 use world::{ObjectValue, World};
 
 /// Whether a thread has ended.
-#[derive(Clone, Copy, PartialEq, Eq)]
+#[derive(Clone, Copy)]
 pub enum Ending {
     Unfinished,
     Ended,

@@ -29,6 +29,9 @@ use Rattle.classes.specs.Class.{Classes}
 use Rattle.class_table.specs.declared.class.FieldHandle.{FieldHandle}
 use Rattle.source.specs.Thread.{Frame, Shared, Thread}
 use Rattle.machine.specs.Agrees.{CallStands, IsExecuting, Executes}
+use Rattle.source.specs.World.{World}
+use Rattle.code.specs.declared.instr.Call.{Call as CallInMemory}
+use Rattle.machine.specs.declared.store.Store.{Store}
 use Rattle.machine.specs.Invoked.{AtCall}
 use Rattle.machine.specs.Variables.{is_null, HasSlot, nulled_references, nulled_fields}
 use Rattle.machine.proofs.Calls.{Ready, ready, here, room, is_there, positive}
@@ -76,8 +79,8 @@ set_null-requires c =
     let s = c.requires.stands in
     let f = fetched (goal.at.set_null-requires c).After-unwrap-instr in
     let there = variable_there _ c.args.world.now.classes c.args.store.now.heap _ f.code (visible_to s.0 s.1) s.1.frames s.2 s.3 (ready_for _ c.args.world.now.classes c.args.store.now.heap _ _ f (visible_to s.0 s.1) s.1.frames s.2 s.3 s.4.stands) c.unwrap-instr.result.now f.at c.in-StoreNull.variable c.in-StoreNull.is in
-    subst (λ (l : List (Option ℕ)). HasSlot l c.deref_mut-2.result.now c.in-StoreNull.variable) (sym c.deref_mut.ensures.value)
-    (subst (λ (l : List (Option FieldHandle)). HasSlot c.args.call.now.references.items l c.in-StoreNull.variable) (sym c.deref_mut-2.ensures.value) there)
+    subst (λ (l : List (Option ℕ)). HasSlot l c.deref_mut-in-StoreNull.result.now c.in-StoreNull.variable) (sym c.deref_mut.ensures.value)
+    (subst (λ (l : List (Option FieldHandle)). HasSlot c.args.call.now.references.items l c.in-StoreNull.variable) (sym c.deref_mut-in-StoreNull.ensures.value) there)
 
 pub pop-word-requires : goal.pop-word-requires
 pop-word-requires c =
@@ -86,32 +89,31 @@ pop-word-requires c =
     positive (length c.args.call.now.stack) (room _ _ _ _ f.code (visible_to s.0 s.1) s.1.frames s.2 s.3 (ready_for _ c.args.world.now.classes c.args.store.now.heap _ _ f (visible_to s.0 s.1) s.1.frames s.2 s.3 s.4.stands) instr.PutJint (f.at ∙ ap (λ i. Some i) c.in-PutJint.is))
 
 -- the machine is at the instruction of a call
-at_call : (c : goal.After-call) (shared : Shared) (s : Thread) (task : Task) (rest : List Task) → IsExecuting c.args.program.now c.args.world.now c.args.store.now c.args.call.now c.args.pending.now shared s task rest
-    → AtCall c.args.program.now c.args.world.now c.args.store.now c.args.pending.now c.args.call.now c.call.result.now shared s task rest
-at_call c shared s task rest e =
-    let f = fetched (goal.at.After-call c).After-unwrap-instr in
-    record {
-      lowered = c.requires.lowered;
-      tasks = e.tasks;
-      shares = e.store_agrees;
-      pending_agrees = e.pending_agrees;
-      stands = e.stands;
-      code = f.code;
-      of_function = f.of_function;
-      at = f.at ∙ ap (λ i. Some i) (c.in-Call.is ∙ ap (λ (x : Call). instr.Call x) (sym c.call.ensures));
-    }
+at_call : (p : Lowered) (w : World) (store : Store) (pending : Option ℕ) (call : Activation) (i : Instr) (f : Fetched p call i) (function : CallInMemory) → i ≡ instr.Call (call_view function) → (shared : Shared) (s : Thread) (task : Task) (rest : List Task)
+    → IsExecuting p w store call pending shared s task rest → AtCall p w store pending call function shared s task rest
+at_call p w store pending call i f function is shared s task rest e = record {
+  lowered = f.lowered;
+  tasks = e.tasks;
+  shares = e.store_agrees;
+  pending_agrees = e.pending_agrees;
+  stands = e.stands;
+  code = f.code;
+  of_function = f.of_function;
+  at = f.at ∙ ap (λ j. Some j) is;
+}
 
-pub invoke-requires-clause-at_call : goal.invoke-requires-clause-at_call
-invoke-requires-clause-at_call c =
+pub invoke-requires : goal.invoke-requires
+invoke-requires c =
     let s = c.requires.stands in
-    (c.args.program.now, s.0, s.1, s.2, s.3, at_call (goal.at.invoke-requires-clause-at_call c).After-call s.0 s.1 s.2 s.3 s.4)
+    let f = fetched (goal.at.invoke-requires c).After-unwrap-instr in
+    record { at_call = (c.args.program.now, s.0, s.1, s.2, s.3, at_call c.args.program.now c.args.world.now c.args.store.now c.args.pending.now c.args.call.now c.unwrap-instr.result.now f c.call.result.now (c.in-Call.is ∙ ap (λ (x : Call). instr.Call x) (sym c.call.ensures)) s.0 s.1 s.2 s.3 s.4) }
 
 pub returns-in-TestNull-clause-executes : goal.returns-in-TestNull-clause-executes
 returns-in-TestNull-clause-executes c lent k shared s task rest e =
     let f = fetched (goal.at.returns-in-TestNull-clause-executes c).After-unwrap-instr in
     let after : Activation = record c.args.call.now { place = c.args.call.now.place + 1; stack = c.push.new.self } in
     let null : c.is_null-null.result ≡ is_null c.args.call.now.references.items c.args.call.now.fields.items c.in-TestNull.variable =
-    c.is_null-null.ensures ∙ ap (λ (l : List (Option ℕ)). is_null l c.deref-2.result.now c.in-TestNull.variable) c.deref.ensures.value ∙ ap (λ (l : List (Option FieldHandle)). is_null c.args.call.now.references.items l c.in-TestNull.variable) c.deref-2.ensures.value in
+    c.is_null-null.ensures ∙ ap (λ (l : List (Option ℕ)). is_null l c.deref-in-TestNull.result.now c.in-TestNull.variable) c.deref.ensures.value ∙ ap (λ (l : List (Option FieldHandle)). is_null c.args.call.now.references.items l c.in-TestNull.variable) c.deref-in-TestNull.ensures.value in
     let word : c.from.result ≡ truth_word (beq c.is_null-null.result c.in-TestNull.equal) = c.from.ensures in
     test_executes c.args.program.now c.args.world.now c.args.store.now lent k shared e.store_agrees s c.args.pending.now e.pending_agrees c.args.call.now f.code task rest (ready_for _ c.args.world.now.classes c.args.store.now.heap _ _ f (visible_to shared s) s.frames task rest e.stands) c.unwrap-instr.result.now f.at
     c.in-TestNull.variable c.in-TestNull.equal after c.in-TestNull.is
@@ -137,7 +139,7 @@ returns-in-StoreNull-clause-executes c lent k shared s task rest e =
       stack = refl;
       numbers = refl;
       references = with_items_is c.args.call.now.references c.set_null.new.references (search (rules, places)) ∙ c.set_null.ensures.references ∙ ap (λ (l : List (Option ℕ)). nulled_references c.in-StoreNull.variable l) c.deref_mut.ensures.value;
-      fields = with_items_is c.args.call.now.fields c.set_null.new.fields (search (rules, places)) ∙ c.set_null.ensures.fields ∙ ap (λ (l : List (Option FieldHandle)). nulled_fields c.in-StoreNull.variable l) c.deref_mut-2.ensures.value;
+      fields = with_items_is c.args.call.now.fields c.set_null.new.fields (search (rules, places)) ∙ c.set_null.ensures.fields ∙ ap (λ (l : List (Option FieldHandle)). nulled_fields c.in-StoreNull.variable l) c.deref_mut-in-StoreNull.ensures.value;
       frames = refl;
     })
 
@@ -158,7 +160,9 @@ if_ok (Err e) P Q more h = tt
 
 pub returns-in-Call-clause-executes : goal.returns-in-Call-clause-executes
 returns-in-Call-clause-executes c =
-    if_ok c.invoke.result _ _ (λ done h lent k shared s task rest e. h c.args.program.now lent k shared s task rest (at_call (goal.at.returns-in-Call-clause-executes c).After-call shared s task rest e)) c.invoke.ensures.executes
+    let f = fetched (goal.at.returns-in-Call-clause-executes c).After-unwrap-instr in
+    if_ok c.invoke.result _ _ (λ done h lent k shared s task rest e. h c.args.program.now lent k shared s task rest
+    (at_call c.args.program.now c.args.world.now c.args.store.now c.args.pending.now c.args.call.now c.unwrap-instr.result.now f c.call.result.now (c.in-Call.is ∙ ap (λ (x : Call). instr.Call x) (sym c.call.ensures)) shared s task rest e)) c.invoke.ensures.executes
 
 pub returns-in-Return-clause-executes : goal.returns-in-Return-clause-executes
 returns-in-Return-clause-executes c lent k shared s task rest e =

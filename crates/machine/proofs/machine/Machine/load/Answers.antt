@@ -1,8 +1,7 @@
-use Rattle.std.proofs.Common.{◌≡◌, ℕ, subst, length, refl, sym, ◌∙◌, arith}
+use Rattle.std.proofs.Common.{◌≡◌, length, refl, sym, ◌∙◌, arith}
 use Rattle.syntax.specs.Views.{unit_tree}
 use Rattle.source.specs.Start.{start, waiting_thread}
 use Rattle.std.proofs.lemmas.List.{length-map}
-use Rattle.machine.specs.Agrees.{ThreadsAgree}
 use Rattle.machine.proofs.ThreadLoads.{agree_length}
 use Rattle.machine.proofs.machine.Machine.load.Goals as goal
 
