@@ -1,5 +1,5 @@
 -- A run, as its program, its world, the steps taken and the room that is left.
-use Rattle.std.specs.Prelude.{◌≡◌, ℕ, ◌<◌, ◌≤◌, Bool, true, false, List, [], ◌∷◌, ◌++◌, length, Option, Some, None, Result, IsSome, is_some, not, ◌||◌}
+use Rattle.std.specs.Prelude.{◌≡◌, ℕ, ◌<◌, ◌≤◌, Bool, true, false, List, [], ◌∷◌, ◌++◌, length, map, Option, Some, None, Result, IsSome, is_some, not, ◌||◌}
 use Rattle.std.specs.Option.{option_map}
 use Rattle.std.specs.List.{list_all, enumerate_from}
 use Rattle.syntax.specs.declared.unit.Item.{Item}
@@ -14,6 +14,8 @@ use Rattle.report.specs.Sink as sink
 use Rattle.report.specs.Sink.{Written}
 use Rattle.source.specs.World.{World, loaded_objects}
 use Rattle.report.specs.RunText as run_text
+use Rattle.source.specs.Report.{ShownRow}
+use Rattle.source.specs.ReportOf.{shown, shown_row}
 use Rattle.source.specs.Run.{replay, Follows, UnmarkedFit}
 use Rattle.source.specs.State.{State, thread_at}
 use Rattle.source.specs.Step.{can_step, is_blocked, is_unfinished}
@@ -178,6 +180,10 @@ abbrev pub IsFinished : Run → Bool → Type 0
 IsFinished r answer = InState r (λ s. answer ≡ is_finished r.world.classes s)
 
 -- ---- reports
+
+-- the rows of the objects that are shown of the state that the journal leads to
+abbrev pub ShowsObjects : Run → List ShownRow → Type 0
+ShowsObjects r rows = InState r (λ s. rows ≡ map (shown_row r.world.classes s.shared.heap) (shown r.world s))
 
 -- what a run writes in all was written, or a beginning of it
 pub record WritesRun {T E : Type 0} (r : Run) (old new : Written) (result : Result T E) : Type 0 where

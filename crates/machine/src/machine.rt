@@ -9,7 +9,7 @@ ghost use Rattle.source.specs.Load.{first_load_fault};
 ghost use Rattle.source.specs.Object.{sizes};
 ghost use Rattle.source.specs.World.{loaded_objects};
 ghost use Rattle.machine.specs.Loading.{IsLoadFault};
-ghost use Rattle.machine.specs.Run.{replay_of, IsUnstarted, CouldStep, TurnHolds, RunsAlong, RunsInto, PrintedBy, IsFinished, has_ended, WritesRun, GivesNoStep, GivesStep, StoppedBy, printed_after};
+ghost use Rattle.machine.specs.Run.{replay_of, IsUnstarted, CouldStep, TurnHolds, RunsAlong, RunsInto, PrintedBy, IsFinished, has_ended, ShowsObjects, WritesRun, GivesNoStep, GivesStep, StoppedBy, printed_after};
 ghost use Rattle.machine.specs.Stops.{stop_after, standing_of, standing_by_ending};
 
 use crate::fault::{LoadFault, RunFault};
@@ -25,7 +25,7 @@ use lower::Program;
 use std::alloc::{AllocError, Global};
 use std::marker::Model;
 use world::{
-    Entry, Printed, Schedule, ScheduleWord, Sink, SinkFailed, ThreadStatus, World, write_run,
+    Entry, Printed, Rows, Schedule, ScheduleWord, Sink, SinkFailed, ThreadStatus, World, write_run,
 };
 
 /// How many entries a journal has at most.
@@ -244,6 +244,24 @@ impl<'a> Machine<'a> {
         ensures { IsFinished self.now result }
     {
         self.stop.is_some() || all_ended(&self.threads)
+    }
+
+    /// Writes the report of the run, with these rows of its objects, and the line of its journal, and flushes the sink. It
+    /// takes no host memory.
+    pub fn report<S: Sink, R: Rows>(&self, rows: &R, sink: &mut S) -> Result<(), SinkFailed>
+        requires can_fail { CanFail (S.written sink.old) }
+        requires rows { ShowsObjects self.now (R.rows rows.now) }
+        ensures run { WritesRun self.now (S.written sink.old) (S.written sink.new) result }
+        ensures none_waits { OnOk result ((S.written sink.new).waiting ≡ 0) }
+    {
+        let standings = standings_of(self.world.classes(), &self.threads, self.stop);
+        write_run(
+            sink,
+            self.printed.as_slice(),
+            standings.as_slice(),
+            rows,
+            self.journal.as_slice(),
+        )
     }
 }
 
