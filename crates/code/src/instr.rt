@@ -105,7 +105,7 @@ pub enum NullableVariable {
 /// Where a call finds an argument, by its kind. Slots of each kind, and statics, are counted from 0.
 #[derive(Clone, Copy, Debug, PartialEq, Eq)]
 pub enum Operand {
-    /// `NULL` for a reference.
+    /// `NULL` for a reference or a field ID.
     Null,
     /// The local reference in this slot.
     Local(u32),

@@ -1,5 +1,5 @@
 -- What the instruction at a place does.
-use Rattle.std.specs.Prelude.{◌≡◌, ℕ, ℤ, ◌+◌, ◌-◌, ◌<◌, ◌≤◌, Bool, true, List, [], ◌∷◌, ◌++◌, length, slice_get, slice_set, Some, FitsSigned}
+use Rattle.std.specs.Prelude.{◌≡◌, ℕ, ℤ, ◌+◌, ◌-◌, ◌<◌, ◌≤◌, ◌⊎◌, Bool, true, List, [], ◌∷◌, ◌++◌, length, flat_map, slice_get, slice_set, Option, Some, None, FitsSigned}
 use Rattle.std.specs.Bool.{beq}
 use Rattle.std.specs.List.{AllZip}
 use Rattle.std.specs.Int.{w32, cast_signed}
@@ -7,11 +7,13 @@ use Rattle.base.specs.Bytes.{Identifier, lookup}
 use Rattle.base.specs.Element.{ElementType}
 use Rattle.jni.specs.JniFunction.{JniFunction}
 use Rattle.jni.specs.BuiltFunctions.{is_built_function}
-use Rattle.jni.specs.Prototype.{ParameterKind, IntNumber, prototype}
-use Rattle.types.specs.Sorts.{Ref, Global}
-use Rattle.source.specs.Arguments.{Actual, ReferenceActual, NumberActual}
+use Rattle.jni.specs.Prototype.{ParameterKind, FieldID, IntNumber, TextBytes, ResultKind, NewLocal, GivesField, prototype}
+use Rattle.types.specs.Sorts.{Sort, Ref, Global, FieldId}
+use Rattle.classes.specs.Fields as source
+use Rattle.source.specs.Object.{Reference}
+use Rattle.source.specs.Arguments.{Actual, ReferenceActual, FieldActual, NumberActual, TextActual}
 use Rattle.source.specs.Effect.{Effect, Becomes, Sets, SetsNull, SetsElement, MakesArray, Prints, Calls, Returns, TrapsAt, NoEffect}
-use Rattle.source.specs.Task.{Task, Target, Declared, Assigned, Dropped, ScalarKind}
+use Rattle.source.specs.Task.{Task, Target, Declared, Assigned, Dropped, VariableKind, ScalarKind, ReferenceKind, FieldKind}
 use Rattle.source.specs.Value.{Value, Trap, Int, Gives}
 use Rattle.source.specs.Value as value
 use Rattle.source.specs.Variable.{Empty}
@@ -30,8 +32,9 @@ use Rattle.code.specs.declared.instr.PlainTrap.TheVariants as trap
 use Rattle.code.specs.Depth.{Listing}
 use Rattle.code.specs.Effect.{truth_word, plain_of}
 use Rattle.code_generator.specs.Layout.{Known}
-use Rattle.lower.specs.Slots.{word_of, Visible, Slots, Shows, IsSet, IsNulled, IsMade, IsElementSet, holds_null, with_null}
-use Rattle.lower.specs.Stands.{target_name, StandsFor}
+use Rattle.lower.specs.Slots.{word_of, ValueHasSort, Visible, Slots, Shows, IsSet, IsNulled, IsReferred, IsFieldSet, IsMade, IsElementSet, holds_null, with_null}
+use Rattle.lower.specs.Stands.{target_name, number_sort, StandsFor}
+use Rattle.lower.specs.Fits.{IsReferenceKind}
 
 -- the instructions that leave a function
 abbrev pub IsReturn : Instr → Type 0

@@ -7,7 +7,7 @@ use Rattle.syntax.specs.Tree as tree
 use Rattle.syntax.specs.Tree.{LogicalNot, Complement, ToWord, ToInt, Expr, Argument, Call, RightSide, FromExpr, FromCall, Test, TestExpr, TestCall, Stmt, Block, End, Next, Function}
 use Rattle.jni.specs.JniFunction.{JniFunction}
 use Rattle.jni.specs.BuiltFunctions.{is_built_function}
-use Rattle.jni.specs.Prototype.{ParameterKind, Nullable, NonNull, ClassObject, ObjectArray, StringObject, NumberArray, LocalVariable, StaticVariable, IntNumber, function_named, prototype}
+use Rattle.jni.specs.Prototype.{ParameterKind, Nullable, NonNull, ClassObject, ObjectArray, StringObject, NumberArray, LocalVariable, StaticVariable, FieldID, IntNumber, TextBytes, ResultKind, NewLocal, GivesFlag, GivesInt, GivesField, function_named, prototype}
 use Rattle.types.specs.Sorts.{Sort, Word, Jint, Flag, Truth, Ref, Global, FieldId, Buffer, Array, OperatorGroup, Logic, Equality, Order, OnWords, group}
 use Rattle.types.specs.SortRules.{variable_sort}
 use Rattle.code.specs.declared.slots.SlotCounts.{SlotCounts}
@@ -111,6 +111,7 @@ IsPlaceOf s k = (s.index ≤ k) × (k < s.index + width s.sort)
 pub record AreApart (s t : Slot) : Type 0 where
   pub numbers : (k : ℕ) → IsPlaceOf s k → IsPlaceOf t k → ⊥
   pub references : s.sort ≡ Ref → t.sort ≡ Ref → s.index ≢ t.index
+  pub fields : s.sort ≡ FieldId → t.sort ≡ FieldId → s.index ≢ t.index
 
 -- no known name but this has the slot
 abbrev pub IsOwn : Known → Identifier → Slot → Type 0

@@ -7,9 +7,10 @@ use Rattle.syntax.specs.Tree as tree
 use Rattle.syntax.specs.Tree.{BitOr, Expr, Stmt, Block, End, Next}
 use Rattle.jni.specs.JniFunction.{JniFunction}
 use Rattle.jni.specs.BuiltFunctions.{is_built_function}
-use Rattle.jni.specs.Prototype.{ParameterKind, IntNumber, prototype}
-use Rattle.types.specs.Sorts.{Sort, Jint, Truth, Ref, Global, Array}
-use Rattle.source.specs.Task.{Task, SetScalar, SetElement, SetNull, MakeArray, Invoke, Print, Branch, EndIf, Loop, EndTurn, Return, ReturnValue, Impossible, Target, Declared, Assigned, Tested, Dropped, ScalarKind, Operand, NumberOperand, Given}
+use Rattle.jni.specs.Prototype.{ParameterKind, FieldID, IntNumber, TextBytes, ResultKind, NewLocal, GivesFlag, GivesInt, GivesField, prototype}
+use Rattle.types.specs.Sorts.{Sort, Jint, Truth, Ref, Global, FieldId, Buffer, Array}
+use Rattle.types.specs.Sorts as sort
+use Rattle.source.specs.Task.{Task, SetScalar, SetElement, SetNull, MakeArray, Invoke, Print, Branch, EndIf, Loop, EndTurn, Return, ReturnValue, Impossible, Target, Declared, Assigned, Tested, Dropped, VariableKind, ScalarKind, ReferenceKind, FieldKind, BufferKind, Operand, NumberOperand, Given}
 use Rattle.source.specs.Term as term
 use Rattle.source.specs.Term.{Term, Done, Read, And, Or, Prefix, Binary, term_of}
 use Rattle.code.specs.Call.{Call}
@@ -114,10 +115,19 @@ target_name (Declared kind x) = Some x
 target_name (Assigned x) = Some x
 target_name target = None
 
+-- the kind of a variable of this sort; statics and arrays have none
+abbrev pub kind_of_sort : Sort → Option VariableKind
+kind_of_sort sort.Word = Some ScalarKind
+kind_of_sort Jint = Some ScalarKind
+kind_of_sort sort.Flag = Some ScalarKind
+kind_of_sort Ref = Some ReferenceKind
+kind_of_sort FieldId = Some FieldKind
+kind_of_sort (Buffer t writable) = Some (BufferKind t)
+kind_of_sort s = None
+
 -- the variable is a new one, of the slot's kind, or the one that has the slot
 abbrev pub GoesTo : Known → Slot → Target → Type 0
-GoesTo known s (Declared ScalarKind x) = IsNumberSort s.sort
-GoesTo known s (Declared kind x) = Unit {0}
+GoesTo known s (Declared kind x) = kind_of_sort s.sort ≡ Some kind
 GoesTo known s (Assigned x) = lookup x known ≡ Some s
 GoesTo known s target = ⊥
 
