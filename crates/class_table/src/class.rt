@@ -42,8 +42,8 @@ pub struct Field {
 /// the class declares.
 #[derive(Clone, Copy, Debug, PartialEq, Eq)]
 pub struct FieldHandle {
-    pub class: u32,
-    pub place: u32,
+    pub class: usize,
+    pub place: usize,
     pub is_static: bool,
 }
 

@@ -14,6 +14,7 @@ pub mod HeapLaws
 pub mod Loaded
 pub mod FilledBlocks
 pub mod MadeInOrder
+pub mod CallChecks
 pub mod LengthCalls
 pub mod Changes
 pub mod Elements

@@ -90,30 +90,16 @@ IsAnswer classes space kind s t (Leaves (o ∷ []) s' t' (ReferenceResult r)) (a
     (s' ≡ s) × (t' ≡ t) × (kind ≡ NewLocal) × (r ≡ Some (next_name s.heap)) × (o ≡ fresh_object classes c) × (c < 2 ^ 32)
 IsAnswer classes space kind s t effect answer = ⊥
 
--- ---- results
+-- ---- the instruction
 
--- the slot of the result is there
-abbrev pub HasTarget : List ℕ → Target → Type 0
-HasTarget numbers Dropped = Unit {0}
-HasTarget numbers (Number i) = i < length numbers
-
--- the number slots with a word where a result goes
-abbrev pub with_result : List ℕ → Target → (word : ℕ) → List ℕ
-with_result numbers Dropped word = numbers
-with_result numbers (Number i) word = slice_set numbers i word
-
--- the call goes on after the instruction, with no argument on the stack and a word where it goes
-abbrev pub HasWord : Activation → Target → ℕ → Activation → Type 0
-HasWord call target word after =
-    (after.function ≡ call.function) × (after.place ≡ call.place + 1) × (after.stack ≡ [])
-    × (after.numbers.items ≡ with_result call.numbers.items target word) × (after.references ≡ call.references)
-
--- what the instruction did, by the answer
-abbrev pub DidCall : (line : ℕ) → Target → Activation → Activation → Result ℕ Trap → Event → Type 0
-DidCall line target call after (Ok n) event = HasWord call target n after × (event ≡ Quiet)
-DidCall line target call after (Err trap) event = (after ≡ call) × (event ≡ Trapped trap line)
-
--- the call of a function
-abbrev pub Invoked : Classes → Space → Activation → Call → Activation → Event → Type 0
-Invoked classes space call function after event =
-    (answer : Result ℕ Trap) × Answers classes space call.references.items call.stack function answer × DidCall function.line function.target call after answer event
+-- A thread of the source has a call as its first task, the machine is at the instruction that stands for it, and all that the
+-- call can change agrees.
+pub record AtCall (p : Lowered) (w : World) (store : Store) (pending : Option ℕ) (call : Activation) (function : InMemory) (shared : Shared) (s : Thread) (task : Task) (rest : List Task) : Type 0 where
+  pub lowered : IsLowered p
+  pub tasks : s.tasks ≡ Some (task ∷ rest)
+  pub shares : StoreAgrees p w store shared
+  pub pending_agrees : ReferenceAgrees store.heap pending s.pending
+  pub stands : CallStands p w.classes store.heap call (visible_to shared s) s.frames (task ∷ rest)
+  pub code : Listing
+  pub of_function : slice_get p.codes call.function ≡ Some code
+  pub at : slice_get code.instrs call.place ≡ Some (instr.Call (call_view function))
