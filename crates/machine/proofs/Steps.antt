@@ -1,5 +1,5 @@
 -- A step of the machine is a step of the state that its journal leads to.
-use Rattle.std.proofs.Common.{◌≡◌, ℕ, zero, suc, ◌≤◌, Bool, true, false, List, [], ◌∷◌, ◌++◌, length, take, drop, arith, Option, Some, None, refl, sym, ap, ◌∙◌, subst}
+use Rattle.std.proofs.Common.{◌≡◌, ℕ, zero, suc, ◌*◌, ◌≤◌, Bool, true, false, List, [], ◌∷◌, ◌++◌, length, take, drop, arith, Option, Some, None, refl, sym, ap, ◌∙◌, subst}
 use Rattle.std.specs.Prelude.{slice_get, slice_set}
 use Rattle.std.specs.Option.{option_map}
 use Rattle.std.proofs.Math.ListN.{length-set}
@@ -20,6 +20,7 @@ use Rattle.source.specs.Start.{start}
 use Rattle.source.proofs.StepLaws.{Steps, steps, step-thread}
 use Rattle.heap.specs.Heap.{Space, end_of}
 use Rattle.heap.proofs.Layouts.{ends_within}
+use Rattle.world.proofs.LoadedWorlds.{few_objects}
 use Rattle.lower.specs.Lowered.{Lowered}
 use Rattle.machine.specs.declared.thread.Ending.{Ending}
 use Rattle.machine.specs.declared.thread.Ending.TheVariants.{Unfinished, Ended, Uncaught}
@@ -88,6 +89,13 @@ AdvancesAlways p w store store' t after refused e =
     → Advances p w store.heap store' lent k shared s after refused e
 
 -- ---- room
+
+-- each object takes three cells, so birth numbers are small
+pub births_few : (p : Lowered) (w : World) (store : Store) (shared : Shared) → StoreAgrees p w store shared → 3 * store.births ≤ store.heap.cells
+births_few p w store shared shares =
+    let filled : end_of store.heap ≡ sizes shared.heap = shares.filled in
+    let births : store.births ≡ length shared.heap = shares.births in
+    omega (arith, filled, births, few_objects shared.heap, ends_within 0 store.heap.blocks store.heap.cells shares.laid_out)
 
 -- a step that isn't refused has room beside what is reachable
 has_room : (p : Lowered) (w : World) (store : Store) (s next : State) (k : ℕ) → StoreAgrees p w store next.shared → sizes (take (length s.shared.heap) next.shared.heap) ≡ sizes s.shared.heap → world_step (unit_tree p.unit) w.classes s (entry_of k) ≡ Some next → Fits (unit_tree p.unit) w s k
