@@ -19,7 +19,7 @@ use Rattle.source.specs.Journal.{Journal}
 use Rattle.source.specs.World.{World}
 use Rattle.world.specs.WorldRules.{IsWorldText}
 use Rattle.source.specs.State.{State}
-use Rattle.source.specs.Run.{Over, Collects, Waits, Steps, Follows, JournalFollows, UnmarkedFit, MarkedAreFair, replay}
+use Rattle.source.specs.Run.{Over, Collects, Waits, Steps, Follows, JournalFollows, UnmarkedFit, replay}
 use Rattle.report.specs.RunText.{Writes}
 use Rattle.source.specs.Start.{start}
 use Rattle.lower.specs.declared.fault.LowerFault.{LowerFault}
@@ -132,8 +132,8 @@ module _ (program world schedule : List ℕ) (old : Written) where
   -- the run that a machine wrote
   abbrev is_run : (items : List Item) (meant : World) (words : Schedule) (begun ended : Run) (text : List ℕ) (is : IsProgram program (unit_tree items)) (w : world_of_text world ≡ Ok meant) (s : schedule_of schedule (length meant.threads) ≡ Ok words) (l : first_load_fault (unit_tree items) meant ≡ None)
       → IsWorldText world meant → IsScheduleText (length meant.threads) schedule words
-      → IsUnstarted items meant begun → RunsAlong begun ended words → Writes (unit_tree ended.unit) ended.world ended.journal text → UnmarkedFit (unit_tree ended.unit) ended.world ended.journal → MarkedAreFair (unit_tree ended.unit) ended.world ended.journal → IsRun program world schedule text
-  is_run items meant words begun ended text is w s l of_world of_schedule un along writes fits fair = record {
+      → IsUnstarted items meant begun → RunsAlong begun ended words → Writes (unit_tree ended.unit) ended.world ended.journal text → UnmarkedFit (unit_tree ended.unit) ended.world ended.journal → IsRun program world schedule text
+  is_run items meant words begun ended text is w s l of_world of_schedule un along writes fits = record {
     meaning = meaning_of items meant words is w s l;
     of_world = of_world;
     of_schedule = of_schedule;
@@ -141,7 +141,6 @@ module _ (program world schedule : List ℕ) (old : Written) where
     writes = subst (λ (r : Run). Writes (unit_tree r.unit) r.world ended.journal text) (same_parts items meant begun ended words un along) writes;
     follows = follows_all items meant begun ended words un along;
     fits = subst (λ (r : Run). UnmarkedFit (unit_tree r.unit) r.world ended.journal) (same_parts items meant begun ended words un along) fits;
-    fair = subst (λ (r : Run). MarkedAreFair (unit_tree r.unit) r.world ended.journal) (same_parts items meant begun ended words un along) fair;
   }
 
   pub ran : (items : List Item) (meant : World) (words : Schedule) (begun ended : Run) (stop : Option Stop) (new : Written) {T E : Type 0} (result : Result T E) → StoppedBy ended stop → OnOk result (new.waiting ≡ 0)
@@ -150,7 +149,7 @@ module _ (program world schedule : List ℕ) (old : Written) where
       → IsUnstarted items meant begun → RunsAlong begun ended words → WritesRun ended old new result
       → RunsTexts old new (as_run (option_map (λ s. trap_at (stop_view s)) stop) result) (EndsRun program world schedule) (AreRefused program world schedule)
   ran items meant words begun ended stop new (Ok x) halts none is w s l of_world of_schedule un along h =
-      let run : IsRun program world schedule h.text = is_run items meant words begun ended h.text is w s l of_world of_schedule un along h.is h.fits h.fair in
+      let run : IsRun program world schedule h.text = is_run items meant words begun ended h.text is w s l of_world of_schedule un along h.is h.fits in
       let there : replay_of ended ≡ Some run.writes.end = ap replay_of (same_parts items meant begun ended words un along) ∙ run.writes.replays in
       let same : run.writes.end ≡ halts.0 = cc (there, halts.1) in
       record {
@@ -160,7 +159,7 @@ module _ (program world schedule : List ℕ) (old : Written) where
         none_waits = none;
       }
   ran items meant words begun ended stop new (Err x) halts none is w s l of_world of_schedule un along h =
-      let run : IsRun program world schedule h.text = is_run items meant words begun ended h.text is w s l of_world of_schedule un along h.is h.fits h.fair in
+      let run : IsRun program world schedule h.text = is_run items meant words begun ended h.text is w s l of_world of_schedule un along h.is h.fits in
       record { text = h.text; runs = (option_map trap_at run.writes.end.stop, record { run = run; stopped = refl }); stopped = h.written }
 
   -- texts that mean a run load

@@ -7,12 +7,13 @@ use Rattle.std.proofs.lemmas.Option.{slice_get_past, slice_get_within}
 use Rattle.std.proofs.lemmas.Slice.Eq.{bytes_eq-Decides}
 use Rattle.base.specs.Bytes.{Identifier, ByName, lookup}
 use Rattle.base.specs.Element.{ElementType}
-use Rattle.source.specs.Sight.{scalar, holds_null, elements_of, in_range, held_reference}
+use Rattle.source.specs.Sight.{scalar, holds_null, elements_of, in_range, held_reference, held_field}
 use Rattle.source.specs.Thread as source
 use Rattle.source.specs.Thread.{Shared}
 use Rattle.source.specs.Value.{Value, Gives, Stuck, outcome_then, convert}
 use Rattle.source.specs.Variable.{Variable, Scalar, LocalArray, Empty, Variables, assign}
-use Rattle.lower.specs.Slots.{visible_to, type_of_array, OthersStay, IsSet, IsNulled, IsMade, IsElementSet}
+use Rattle.source.specs.Task.{VariableKind}
+use Rattle.lower.specs.Slots.{visible_to, type_of_array, kind_of_variable, OthersStay, IsSet, IsNulled, IsMade, IsElementSet}
 
 -- ---- lists by name
 
@@ -109,24 +110,28 @@ module _ (shared : Shared) (s t : source.Thread) (x : Identifier) (v : Variable)
         is_null = ap (λ (o : Option Variable). holds_null o (lookup y shared.statics)) same;
         element = λ i. ap (λ (o : Option Variable). outcome_then (λ (zs : List ℤ). in_range (slice_get zs i)) (elements_of shared.heap o)) same;
         reference = ap (λ (o : Option Variable). held_reference o (lookup y shared.statics)) same;
+        field = ap held_field same;
         array_type = ap type_of_array same;
+        kind = ap kind_of_variable same;
       }
 
   element_of : (i : ℕ) → (visible_to shared t).sight.element x i ≡ outcome_then (λ (zs : List ℤ). in_range (slice_get zs i)) (elements_of shared.heap (Some v))
   element_of i = ap (λ (o : Option Variable). outcome_then (λ (zs : List ℤ). in_range (slice_get zs i)) (elements_of shared.heap o)) found
 
   -- a variable that is NULL
-  pub is_nulled : scalar (Some v) ≡ Stuck → holds_null (Some v) (lookup x shared.statics) ≡ Gives true → held_reference (Some v) (lookup x shared.statics) ≡ Empty → IsNulled (visible_to shared s) x (visible_to shared t)
-  is_nulled number null reference = record {
+  pub is_nulled : (kind : Option VariableKind) → scalar (Some v) ≡ Stuck → holds_null (Some v) (lookup x shared.statics) ≡ Gives true → held_reference (Some v) (lookup x shared.statics) ≡ Empty → held_field (Some v) ≡ None → kind_of_variable (Some v) ≡ kind → IsNulled (visible_to shared s) kind x (visible_to shared t)
+  is_nulled kind number null reference field same_kind = record {
     number = ap scalar found ∙ number;
     is_null = ap (λ (o : Option Variable). holds_null o (lookup x shared.statics)) found ∙ null;
     reference = ap (λ (o : Option Variable). held_reference o (lookup x shared.statics)) found ∙ reference;
+    field = ap held_field found ∙ field;
+    same_kind = ap kind_of_variable found ∙ same_kind;
     others = others;
   }
 
 -- a number
 pub is_set : (shared : Shared) (s t : source.Thread) (x : Identifier) (v : Value) → t.variables ≡ assign x (Scalar v) s.variables → IsSet (visible_to shared s) x v (visible_to shared t)
-is_set shared s t x v e = record { is = ap scalar (found shared s t x (Scalar v) e); others = others shared s t x (Scalar v) e }
+is_set shared s t x v e = record { is = ap scalar (found shared s t x (Scalar v) e); kind = ap kind_of_variable (found shared s t x (Scalar v) e); others = others shared s t x (Scalar v) e }
 
 -- a new array
 pub is_made : (shared : Shared) (s t : source.Thread) (x : Identifier) (type : ElementType) (n : ℕ) → t.variables ≡ assign x (LocalArray type (replicate n (pos 0))) s.variables → IsMade (visible_to shared s) type x n (visible_to shared t)

@@ -1,5 +1,6 @@
 pub mod Lists
 pub mod ArgumentSlots
+pub mod Keeping
 pub mod Calls
 pub mod Threads
 pub mod Steps
@@ -13,6 +14,7 @@ pub mod HeapLaws
 pub mod Loaded
 pub mod FilledBlocks
 pub mod MadeInOrder
+pub mod CallChecks
 pub mod LengthCalls
 pub mod Changes
 pub mod Elements

@@ -62,48 +62,44 @@ AreAddresses space references (o ∷ operands) = ((a : ℕ) → operand_at refer
 
 -- ---- answers
 
--- a number, with nothing else changed, or the trap that stops the machine
-abbrev pub IsAnswer : Shared → Thread → CallEffect → Result ℕ Trap → Type 0
-IsAnswer s t (Halts trap) (Err u) = trap_view u ≡ trap
-IsAnswer s t (Leaves [] s' t' (ScalarResult (Int z))) (Ok word) = (s' ≡ s) × (t' ≡ t) × (word ≡ word_of (Int z)) × FitsSigned w32 z
-IsAnswer s t effect answer = ⊥
+-- what a function of this kind of result gives
+abbrev pub GivenAgrees : Classes → Space → ResultKind → CallResult → Given → Type 0
+GivenAgrees classes space GivesNothing NoResult given.Nothing = Unit {0}
+GivenAgrees classes space GivesInt (ScalarResult (Int z)) (given.Number word) = (word ≡ word_of (Int z)) × FitsSigned w32 z
+GivenAgrees classes space GivesFlag (ScalarResult (Flag b)) (given.Number word) = word ≡ word_of (Flag b)
+GivenAgrees classes space NewLocal (ReferenceResult r) (given.Reference a) = ReferenceAgrees space a r
+GivenAgrees classes space GivesField (FieldResult f) (given.FieldId h) = FieldAgrees classes h f
+GivenAgrees classes space kind result given = ⊥
 
--- The answer is the effect of the source's call, in each state that the heap and the operands stand for.
-abbrev pub Answers : Classes → Space → (references : List (Option ℕ)) → (stack : List ℕ) → Call → Result ℕ Trap → Type 0
-Answers classes space references stack function answer =
-    (lent : BuffersInUse) (k line : ℕ) (s : Shared) (t : Thread) (target : source.Target) (args : List Actual) (rest : List source.Task)
-    → t.pending ≡ None
-    → BlocksAgree space s.heap space.blocks
-    → length args ≡ length (prototype function.function).parameters
-    → AllZip OperandFits (prototype function.function).parameters function.operands
-    → stack ≡ words_given args
-    → AllZip (IsGiven space references) function.operands args
-    → IsAnswer s t (effect_of_call classes lent k s t line target function.function args rest) answer
+-- another heap of the source, where a value of the object at an address is changed
+pub record WritesAt (space : Space) (s : Shared) (s' : Shared) (a place : ℕ) (v : Value) : Type 0 where
+  pub name : ℕ
+  pub there : name_at space a ≡ Some name
+  pub value : ObjectValue
+  pub agrees : ValueAgrees space v value
+  pub within : place < length (values_at space a)
+  pub is : s' ≡ record s { heap = with_value_at s.heap name place value }
 
--- ---- results
+-- The answer is what the call does to this state, all checks being passed.
+abbrev pub IsAnswer : Classes → Space → ResultKind → Shared → Thread → CallEffect → Answer → Type 0
+IsAnswer classes space kind s t (Halts trap) (answer.Halts u) = trap_view u ≡ trap
+IsAnswer classes space kind s t (Throws class) (answer.Throws c) = (c ≡ class) × (c < 2 ^ 32)
+IsAnswer classes space kind s t (Leaves [] s' t' result) (answer.Gives given) = (s' ≡ s) × (t' ≡ t) × GivenAgrees classes space kind result given
+IsAnswer classes space kind s t (Leaves [] s' t' NoResult) (answer.Writes a place v) = (t' ≡ t) × (kind ≡ GivesNothing) × WritesAt space s s' a place v
+IsAnswer classes space kind s t (Leaves (o ∷ []) s' t' (ReferenceResult r)) (answer.Makes c) =
+    (s' ≡ s) × (t' ≡ t) × (kind ≡ NewLocal) × (r ≡ Some (next_name s.heap)) × (o ≡ fresh_object classes c) × (c < 2 ^ 32)
+IsAnswer classes space kind s t effect answer = ⊥
 
--- the slot of the result is there
-abbrev pub HasTarget : List ℕ → Target → Type 0
-HasTarget numbers Dropped = Unit {0}
-HasTarget numbers (Number i) = i < length numbers
+-- ---- the instruction
 
--- the number slots with a word where a result goes
-abbrev pub with_result : List ℕ → Target → (word : ℕ) → List ℕ
-with_result numbers Dropped word = numbers
-with_result numbers (Number i) word = slice_set numbers i word
-
--- the call goes on after the instruction, with no argument on the stack and a word where it goes
-abbrev pub HasWord : Activation → Target → ℕ → Activation → Type 0
-HasWord call target word after =
-    (after.function ≡ call.function) × (after.place ≡ call.place + 1) × (after.stack ≡ [])
-    × (after.numbers.items ≡ with_result call.numbers.items target word) × (after.references ≡ call.references)
-
--- what the instruction did, by the answer
-abbrev pub DidCall : (line : ℕ) → Target → Activation → Activation → Result ℕ Trap → Event → Type 0
-DidCall line target call after (Ok n) event = HasWord call target n after × (event ≡ Quiet)
-DidCall line target call after (Err trap) event = (after ≡ call) × (event ≡ Trapped trap line)
-
--- the call of a function
-abbrev pub Invoked : Classes → Space → Activation → Call → Activation → Event → Type 0
-Invoked classes space call function after event =
-    (answer : Result ℕ Trap) × Answers classes space call.references.items call.stack function answer × DidCall function.line function.target call after answer event
+-- A thread of the source has a call as its first task, the machine is at the instruction that stands for it, and all that the
+-- call can change agrees.
+pub record AtCall (p : Lowered) (w : World) (store : Store) (pending : Option ℕ) (call : Activation) (function : InMemory) (shared : Shared) (s : Thread) (task : Task) (rest : List Task) : Type 0 where
+  pub lowered : IsLowered p
+  pub tasks : s.tasks ≡ Some (task ∷ rest)
+  pub shares : StoreAgrees p w store shared
+  pub pending_agrees : ReferenceAgrees store.heap pending s.pending
+  pub stands : CallStands p w.classes store.heap call (visible_to shared s) s.frames (task ∷ rest)
+  pub code : Listing
+  pub of_function : slice_get p.codes call.function ≡ Some code
+  pub at : slice_get code.instrs call.place ≡ Some (instr.Call (call_view function))

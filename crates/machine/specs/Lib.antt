@@ -2,6 +2,8 @@ pub mod HeapAgrees
 pub mod Held
 pub mod Entry
 pub mod ArrayLengths
+pub mod Given
+pub mod Checked
 pub mod Invoked
 pub mod Variables
 pub mod Agrees

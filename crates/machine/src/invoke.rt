@@ -1,37 +1,37 @@
 //! Calls of the functions of the JNI (JNI Specification, chapter 4).
 
-ghost use Rattle.std.specs.Prelude.{◌≡◌, true, ℕ, ◌<◌, ◌+◌, Some, None, length, slice_get, IfErr};
-ghost use Rattle.code.specs.Call.{call_view};
-ghost use Rattle.jni.specs.BuiltFunctions.{is_built_function};
-ghost use Rattle.heap.specs.Heap.{IsAddress};
-ghost use Rattle.machine.specs.Invoked.{operand_at, AreAddresses, Answers, HasTarget, with_result, Invoked};
-ghost use Rattle.machine.specs.ArrayLengths.{first_operand, LengthIs};
+ghost use Rattle.std.specs.Prelude.{◌≡◌, ℕ, List, IfOk, OnErr};
+ghost use Rattle.source.specs.Effect.{effect_of};
+ghost use Rattle.source.specs.Task.{Task};
+ghost use Rattle.source.specs.Thread.{BuffersInUse, Shared, Thread as SourceThread, sight_of};
+ghost use Rattle.lower.specs.Lowered.{Lowered};
+ghost use Rattle.machine.specs.Agrees.{Executes};
+ghost use Rattle.machine.specs.Invoked.{AtCall};
 
-use crate::stop::Trap;
-use crate::thread::{Activation, Event};
-use code::instr::{Call, Operand, Target};
-use code::stack::Stack;
-use heap::{Addr, Heap};
-use jni::JniFunction;
+use crate::answer::{Answer, Given};
+use crate::check::check;
+use crate::store::Store;
+use crate::thread::{Activation, Event, Executed};
+use code::instr::Call;
+use heap::Addr;
+use std::alloc::AllocError;
 use world::World;
 
-/// The instruction that calls a function.
-pub fn invoke(world: &World, heap: &Heap, call: &mut Activation, function: &Call) -> Event
-    requires objects { AreAddresses heap.now call.old.references.items (call_view function.now).operands }
-    requires built { is_built_function (call_view function.now).function ≡ true }
-    requires slot { HasTarget call.old.numbers.items function.now.target }
-    requires place { call.old.place + 1 < 18446744073709551616 }
-    ensures { Invoked world.now.classes heap.now call.old (call_view function.now) call.new result }
+/// The instruction that calls a function. Only a new local reference takes host memory.
+pub fn invoke(
+    world: &World,
+    store: &mut Store,
+    pending: &mut Option<Addr>,
+    call: &mut Activation,
+    function: &Call,
+) -> Result<Executed, AllocError>
+    requires at_call { (p : Lowered) × (shared : Shared) × (s : SourceThread) × (task : Task) × (rest : List Task) × AtCall p world.now store.old pending.old call.old function.now shared s task rest }
+    ensures executes { IfOk result (λ executed. (p : Lowered) (lent : BuffersInUse) (k : ℕ) (shared : Shared) (s : SourceThread) (task : Task) (rest : List Task) → AtCall p world.now store.old pending.old call.old function.now shared s task rest
+        → Executes p world.now store.old.heap store.new lent k shared s rest call.new pending.new (effect_of (sight_of shared s) task) executed) }
+    ensures store { OnErr result (store.new ≡ store.old) }
+    ensures pending { OnErr result (pending.new ≡ pending.old) }
+    ensures call { OnErr result (call.new ≡ call.old) }
 {
-    match answer(world, heap, &call.references, &call.stack, function) {
-        Ok(word) => {
-            call.stack.clear();
-            put(&mut call.numbers, function.target, word);
-            call.place += 1;
-            Event::Quiet
-        }
-        Err(trap) => Event::Trapped(trap, function.line as usize),
-    }
 }
 
 /// What a function gives.

@@ -1,6 +1,8 @@
 //! The machine, which runs lowered programs on their worlds.
 #![tactic(auto)]
 
+mod answer;
+mod check;
 mod entry;
 mod fault;
 mod invoke;
@@ -9,6 +11,7 @@ mod machine;
 mod objects;
 mod rows;
 mod stop;
+mod store;
 mod thread;
 mod turn;
 mod variable;

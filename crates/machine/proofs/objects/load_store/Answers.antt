@@ -10,10 +10,14 @@ use Rattle.source.specs.World.{initial, fresh_object, loaded_objects}
 use Rattle.world.proofs.LoadedWorlds.{loaded_error, initial_given}
 use Rattle.world.specs.CallArguments.{is_argument}
 use Rattle.world.specs.Views.{object_value_view}
+use Rattle.heap.specs.Heap.{end_of}
+use Rattle.heap.proofs.Layouts.{ends_within}
+use Rattle.source.specs.Object.{sizes}
+use Rattle.world.proofs.LoadedWorlds.{few_objects}
 use Rattle.machine.specs.HeapAgrees.{AreMade}
 use Rattle.machine.proofs.MadeInOrder.{room, few, next}
-use Rattle.machine.proofs.objects.load_heap.Goals.{After-deref}
-use Rattle.machine.proofs.objects.load_heap.Goals as goal
+use Rattle.machine.proofs.objects.load_store.Goals.{After-deref}
+use Rattle.machine.proofs.objects.load_store.Goals as goal
 
 -- the values of the OutOfMemoryError object
 values_are : (c : After-deref) → map object_value_view c.deref.result.now ≡ (fresh_object c.args.world.now.classes out_of_memory_error).values
@@ -49,3 +53,13 @@ make_objects-requires-clause-first c =
     let object : ◌≡◌ {A = Object} (record { class = out_of_memory_error; values = map object_value_view c.deref.result.now }) (fresh_object w.classes out_of_memory_error) =
     ap (λ (vs : List ObjectValue). let o : Object = record { class = out_of_memory_error; values = vs } in o) values in
     subst (AreMade c.make.new.heap c.make.new.loaded.items) (ap (λ (o : Object). before ++ o ∷ []) object ∙ sym later) (c.in_ok-make.ensures.made before made.made)
+
+pub overflow_cast-births : goal.overflow_cast-births
+overflow_cast-births c =
+    let w = c.args.world.now in
+    let made = c.in_ok-make_objects.ensures.made in
+    let space = c.make_objects.new.heap in
+    let counted : length c.make_objects.new.loaded.items ≡ length (loaded_objects w) = made.table.counted in
+    let filled : end_of space ≡ sizes (loaded_objects w) = made.filled in
+    let within = ends_within 0 space.blocks space.cells made.laid_out in
+    omega (arith, counted, filled, within, few_objects (loaded_objects w), c.cells-births.ensures.cells, c.cells-births.ensures.limit, c.len-births.ensures)
