@@ -15,6 +15,8 @@ pub mod Loaded
 pub mod FilledBlocks
 pub mod MadeInOrder
 pub mod CallChecks
+pub mod FewValues
+pub mod QueryAnswers
 pub mod LengthCalls
 pub mod Changes
 pub mod Elements

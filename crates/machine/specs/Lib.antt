@@ -4,6 +4,8 @@ pub mod Entry
 pub mod ArrayLengths
 pub mod Given
 pub mod Checked
+pub mod Answers
+pub mod WorkedOut
 pub mod Invoked
 pub mod Variables
 pub mod Agrees
