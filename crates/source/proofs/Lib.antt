@@ -6,3 +6,4 @@ pub mod ReachableLemmas
 pub mod RunLaws
 pub mod StepLaws
 pub mod ShownRows
+pub mod ShownNames

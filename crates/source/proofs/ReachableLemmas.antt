@@ -209,7 +209,7 @@ closed_least (suc n) heap Q step names all x k =
 
 -- ---- order
 
-filter_agree_in : (p q : ℕ → Bool) (xs : List ℕ) → ((x : ℕ) → In xs x → p x ≡ q x) → filter p xs ≡ filter q xs
+pub filter_agree_in : (p q : ℕ → Bool) (xs : List ℕ) → ((x : ℕ) → In xs x → p x ≡ q x) → filter p xs ≡ filter q xs
 filter_agree_in p q [] h = refl
 filter_agree_in p q (y ∷ ys) h =
     let rest = filter_agree_in p q ys (λ x k. h x (in_tail y ys x k)) in
@@ -244,7 +244,7 @@ in_order_from heap r (p, e) =
 
 -- ---- the law
 
-to_contains : (xs : List ℕ) (x : ℕ) → In xs x → Contains xs x
+pub to_contains : (xs : List ℕ) (x : ℕ) → In xs x → Contains xs x
 to_contains [] x h = absurd (false≢true h)
 to_contains (y ∷ ys) x h = go (in_cases y ys x h) (to_contains ys x)
   where
@@ -257,7 +257,7 @@ from_contains [] x k l e = absurd (omega (arith, l))
 from_contains (y ∷ ys) x zero l e = subst (λ z. In (z ∷ ys) x) (sym e) (in_head x ys)
 from_contains (y ∷ ys) x (suc k) l e = in_tail y ys x (from_contains ys x k (omega (arith, l)) e)
 
-contains_in : (xs : List ℕ) (x : ℕ) → Contains xs x → In xs x
+pub contains_in : (xs : List ℕ) (x : ℕ) → Contains xs x → In xs x
 contains_in xs x c = from_contains xs x c.0 c.1 c.2
 
 length-from_one : (n : ℕ) → length (from_one n) ≡ n
