@@ -35,7 +35,7 @@ reachable_are w s test h =
     ∙ filter_agree_in (is_in (reachable w s)) test (from_one (length s.shared.heap))
     (λ n k. same_bool (is_in (reachable w s) n) (test n) (λ e. h.complete n (from_listed w s n e)) (λ e. is_reachable w s n (h.sound n (to_contains (from_one (length s.shared.heap)) n k) e)))
 
--- ---- the names from one to another
+-- ---- the names from one to before another
 
 -- so many numbers from one on
 abbrev count_from : ℕ → ℕ → List ℕ
@@ -52,31 +52,31 @@ from_one_is (suc n) =
     let e : suc n ≡ 1 + n = omega arith in
     ap (λ l. l ++ suc n ∷ []) (from_one_is n) ∙ ap (λ m. count_from 1 n ++ m ∷ []) e ∙ one_more 1 n
 
--- the numbers from one to another that pass a test
+-- the numbers from one to before another that pass a test
 unfoldable pub passing : (ℕ → Bool) → ℕ → ℕ → List ℕ
-passing test k n = filter test (count_from k (n + 1 - k))
+passing test k end = filter test (count_from k (end - k))
 
-pub passing-kept : (test : ℕ → Bool) (k n : ℕ) → k ≤ n → test k ≡ true → passing test k n ≡ k ∷ passing test (k + 1) n
+pub passing-kept : (test : ℕ → Bool) (k end : ℕ) → k < end → test k ≡ true → passing test k end ≡ k ∷ passing test (k + 1) end
 unfolding passing
-passing-kept test k n h e =
-    let count : n + 1 - k ≡ suc (n + 1 - (k + 1)) = omega arith in
+passing-kept test k end h e =
+    let count : end - k ≡ suc (end - (k + 1)) = omega arith in
     let next : suc k ≡ k + 1 = omega arith in
     ap (λ c. filter test (count_from k c)) count
-    ∙ ap (λ b. cond b (k ∷ filter test (count_from (suc k) (n + 1 - (k + 1)))) (filter test (count_from (suc k) (n + 1 - (k + 1))))) e
-    ∙ ap (λ m. k ∷ filter test (count_from m (n + 1 - (k + 1)))) next
+    ∙ ap (λ b. cond b (k ∷ filter test (count_from (suc k) (end - (k + 1)))) (filter test (count_from (suc k) (end - (k + 1))))) e
+    ∙ ap (λ m. k ∷ filter test (count_from m (end - (k + 1)))) next
 
-pub passing-left : (test : ℕ → Bool) (k n : ℕ) → k ≤ n → test k ≡ false → passing test k n ≡ passing test (k + 1) n
+pub passing-left : (test : ℕ → Bool) (k end : ℕ) → k < end → test k ≡ false → passing test k end ≡ passing test (k + 1) end
 unfolding passing
-passing-left test k n h e =
-    let count : n + 1 - k ≡ suc (n + 1 - (k + 1)) = omega arith in
+passing-left test k end h e =
+    let count : end - k ≡ suc (end - (k + 1)) = omega arith in
     let next : suc k ≡ k + 1 = omega arith in
     ap (λ c. filter test (count_from k c)) count
-    ∙ ap (λ b. cond b (k ∷ filter test (count_from (suc k) (n + 1 - (k + 1)))) (filter test (count_from (suc k) (n + 1 - (k + 1))))) e
-    ∙ ap (λ m. filter test (count_from m (n + 1 - (k + 1)))) next
+    ∙ ap (λ b. cond b (k ∷ filter test (count_from (suc k) (end - (k + 1)))) (filter test (count_from (suc k) (end - (k + 1))))) e
+    ∙ ap (λ m. filter test (count_from m (end - (k + 1)))) next
 
-pub passing-end : (test : ℕ → Bool) (k n : ℕ) → n < k → passing test k n ≡ []
+pub passing-end : (test : ℕ → Bool) (k end : ℕ) → end ≤ k → passing test k end ≡ []
 unfolding passing
-passing-end test k n h = let none : n + 1 - k ≡ 0 = omega arith in ap (λ c. filter test (count_from k c)) none
+passing-end test k end h = let none : end - k ≡ 0 = omega arith in ap (λ c. filter test (count_from k c)) none
 
 -- ---- those above a number
 
@@ -118,7 +118,7 @@ some_above m test k (suc c) h =
 -- ---- the rows
 
 -- the objects that are shown have the names that pass, after those of the class objects and the OutOfMemoryError object
-pub shown_are : (w : World) (s : State) (test : ℕ → Bool) → Tells w s test → shown w s ≡ passing test (length w.classes + 2) (length s.shared.heap)
+pub shown_are : (w : World) (s : State) (test : ℕ → Bool) → Tells w s test → shown w s ≡ passing test (length w.classes + 2) (length s.shared.heap + 1)
 unfolding passing
 shown_are w s test h =
     let count : 1 + length s.shared.heap - (length w.classes + 1 + 1) ≡ length s.shared.heap + 1 - (length w.classes + 2) = omega arith in
@@ -128,6 +128,6 @@ shown_are w s test h =
     ∙ ap (λ n. filter test (count_from (length w.classes + 1 + 1) n)) count
     ∙ ap (λ n. filter test (count_from n (length s.shared.heap + 1 - (length w.classes + 2)))) first
 
-pub objects_are : (w : World) (s : State) (test : ℕ → Bool) → Tells w s test → (report w s).objects ≡ map (shown_row w.classes s.shared.heap) (passing test (length w.classes + 2) (length s.shared.heap))
+pub objects_are : (w : World) (s : State) (test : ℕ → Bool) → Tells w s test → (report w s).objects ≡ map (shown_row w.classes s.shared.heap) (passing test (length w.classes + 2) (length s.shared.heap + 1))
 unfolding report
 objects_are w s test h = ap (map (shown_row w.classes s.shared.heap)) (shown_are w s test h)
