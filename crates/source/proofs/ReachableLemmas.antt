@@ -13,26 +13,26 @@ use Rattle.source.specs.State.{State}
 abbrev pub In : List ℕ → ℕ → Type 0
 In xs x = is_in xs x ≡ true
 
-in_head : (x : ℕ) (xs : List ℕ) → In (x ∷ xs) x
+pub in_head : (x : ℕ) (xs : List ℕ) → In (x ∷ xs) x
 in_head x xs = or_left (x == x) (is_in xs x) (eq-eqb x x refl)
 
-in_tail : (y : ℕ) (xs : List ℕ) (x : ℕ) → In xs x → In (y ∷ xs) x
+pub in_tail : (y : ℕ) (xs : List ℕ) (x : ℕ) → In xs x → In (y ∷ xs) x
 in_tail y xs x h = or_right (y == x) (is_in xs x) h
 
-in_cases : (y : ℕ) (xs : List ℕ) (x : ℕ) → In (y ∷ xs) x → (y ≡ x) ⊎ In xs x
+pub in_cases : (y : ℕ) (xs : List ℕ) (x : ℕ) → In (y ∷ xs) x → (y ≡ x) ⊎ In xs x
 in_cases y xs x h = go (or_cases (y == x) (is_in xs x) h)
   where
     go : ((y == x) ≡ true) ⊎ In xs x → (y ≡ x) ⊎ In xs x
     go (inl e) = inl (eqb-true y x e)
     go (inr k) = inr k
 
-in_append_left : (xs ys : List ℕ) (x : ℕ) → In xs x → In (xs ++ ys) x
+pub in_append_left : (xs ys : List ℕ) (x : ℕ) → In xs x → In (xs ++ ys) x
 in_append_left xs ys x h = list_any-append (λ m. m == x) xs ys ∙ or_left (is_in xs x) (is_in ys x) h
 
-in_append_right : (xs ys : List ℕ) (x : ℕ) → In ys x → In (xs ++ ys) x
+pub in_append_right : (xs ys : List ℕ) (x : ℕ) → In ys x → In (xs ++ ys) x
 in_append_right xs ys x h = list_any-append (λ m. m == x) xs ys ∙ or_right (is_in xs x) (is_in ys x) h
 
-in_append_cases : (xs ys : List ℕ) (x : ℕ) → In (xs ++ ys) x → In xs x ⊎ In ys x
+pub in_append_cases : (xs ys : List ℕ) (x : ℕ) → In (xs ++ ys) x → In xs x ⊎ In ys x
 in_append_cases xs ys x h = or_cases (is_in xs x) (is_in ys x) (sym (list_any-append (λ m. m == x) xs ys) ∙ h)
 
 kept : (p : ℕ → Bool) (y : ℕ) (ys : List ℕ) (x : ℕ) → (In ys x → In (filter p ys) x) → (y ≡ x) ⊎ In ys x → In (y ∷ filter p ys) x
