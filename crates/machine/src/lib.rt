@@ -7,6 +7,7 @@ mod invoke;
 mod load;
 mod machine;
 mod objects;
+mod roots;
 mod rows;
 mod stop;
 mod thread;
