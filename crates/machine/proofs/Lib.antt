@@ -24,6 +24,5 @@ pub mod NullLaws
 pub mod Effects
 pub mod ObjectsAtAddresses
 pub mod Invocations
-pub mod RowTexts
-pub mod BlockRows
-pub mod LoadedRows
+pub mod BlockObjects
+pub mod RootNames

@@ -11,5 +11,6 @@ pub mod Variables
 pub mod Agrees
 pub mod Stops
 pub mod Rows
+pub mod Roots
 pub mod Loading
 pub mod Run

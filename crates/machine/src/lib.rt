@@ -9,6 +9,7 @@ mod invoke;
 mod load;
 mod machine;
 mod objects;
+mod roots;
 mod rows;
 mod stop;
 mod store;

@@ -7,3 +7,4 @@ pub mod ReachableLemmas
 pub mod RunLaws
 pub mod StepLaws
 pub mod ShownRows
+pub mod ShownNames
