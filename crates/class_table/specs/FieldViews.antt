@@ -1,14 +1,15 @@
 -- Fields that were found in a table in memory, and fields that are added to one.
-use Rattle.std.specs.Prelude.{◌≡◌, ℕ, Bool, List, [], Option, None, Some, Result, Ok, Err, unwrap_or, if◌then◌else◌}
+use Rattle.std.specs.Prelude.{◌≡◌, ℕ, Bool, List, [], Option, None, Some, Result, Ok, Err, unwrap_or, slice_get, if◌then◌else◌}
 use Rattle.std.specs.Option.{option_map_or}
 use Rattle.base.specs.Bytes.{Identifier}
 use Rattle.base.specs.Element.{JInt}
+use Rattle.class_table.specs.declared.class.FieldHandle.{FieldHandle}
 use Rattle.class_table.specs.declared.fields.FieldId.{FieldId as IdInMemory}
 use Rattle.class_table.specs.declared.fault.FieldError.{FieldError}
 use Rattle.class_table.specs.declared.fault.FieldError.TheVariants as errors
 use Rattle.classes.specs.Additions.{ClassRule, with_field, with_static}
 use Rattle.classes.specs.Class.{NumberField, Field, Class, Classes, class_at}
-use Rattle.classes.specs.Fields.{FieldId, find_field, find_static, type_of_signature}
+use Rattle.classes.specs.Fields.{FieldId, own_fields, own_statics, find_field, find_static, type_of_signature}
 use Rattle.class_table.specs.Refusals.{rule_view}
 use Rattle.class_table.specs.Views.{field_view}
 
