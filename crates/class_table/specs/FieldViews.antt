@@ -11,6 +11,7 @@ use Rattle.classes.specs.Additions.{ClassRule, with_field, with_static}
 use Rattle.classes.specs.Class.{NumberField, Field, Class, Classes, class_at}
 use Rattle.classes.specs.Fields.{FieldId, own_fields, own_statics, find_field, find_static, type_of_signature}
 use Rattle.class_table.specs.Refusals.{rule_view}
+use Rattle.class_table.specs.declared.class.FieldHandle.{FieldHandle}
 use Rattle.class_table.specs.Views.{field_view}
 
 abbrev pub field_id_view : IdInMemory → FieldId

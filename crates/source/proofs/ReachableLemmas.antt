@@ -227,10 +227,10 @@ passes_if_kept p xs x k = go (p x) refl
     go true e = in_filter p xs x e k ∙ sym e
     go false e = no e (is_in (filter p xs) x) refl ∙ sym e
 
-abbrev IsRising : Heap → List ℕ → Type 0
+abbrev pub IsRising : Heap → List ℕ → Type 0
 IsRising heap r = (p : ℕ → Bool) × (r ≡ filter p (names_of heap))
 
-closed_rising : (n : ℕ) (heap : Heap) (p : ℕ → Bool) → IsRising heap (closed n heap (filter p (names_of heap)))
+pub closed_rising : (n : ℕ) (heap : Heap) (p : ℕ → Bool) → IsRising heap (closed n heap (filter p (names_of heap)))
 closed_rising zero heap p = (p, refl)
 closed_rising (suc n) heap p =
     let names : List ℕ = filter p (names_of heap) in
