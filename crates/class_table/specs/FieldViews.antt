@@ -3,7 +3,6 @@ use Rattle.std.specs.Prelude.{◌≡◌, ℕ, Bool, List, [], Option, None, Some
 use Rattle.std.specs.Option.{option_map_or}
 use Rattle.base.specs.Bytes.{Identifier}
 use Rattle.base.specs.Element.{JInt}
-use Rattle.class_table.specs.declared.class.FieldHandle.{FieldHandle}
 use Rattle.class_table.specs.declared.fields.FieldId.{FieldId as IdInMemory}
 use Rattle.class_table.specs.declared.fault.FieldError.{FieldError}
 use Rattle.class_table.specs.declared.fault.FieldError.TheVariants as errors

@@ -15,6 +15,11 @@ object_view o = record { class = o.class; values = map object_value_view o.value
 abbrev pub AreShort : List ObjectInMemory → Type 0
 AreShort objects = (i : ℕ) (o : ObjectInMemory) → slice_get objects i ≡ Some o → length o.values.items < 2 ^ 31
 
+-- nor is there an object whose name is no `u32`
+pub record IsStore (objects : List ObjectInMemory) : Type 0 where
+  pub short : AreShort objects
+  pub few : length objects < 2 ^ 32
+
 -- a frame, whose last reference was put last
 abbrev pub frame_view : FrameInMemory → Frame
 frame_view f = record { capacity = f.capacity; references = reverse f.references.items }

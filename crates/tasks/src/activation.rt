@@ -1,6 +1,6 @@
 //! Activations: calls in progress.
 
-ghost use Rattle.std.specs.Prelude.{◌≡◌, IfOk, None, []};
+ghost use Rattle.std.specs.Prelude.{◌≡◌, IfOk, None, [], length};
 ghost use Rattle.syntax.specs.Tree.{SourceUnit};
 ghost use Rattle.syntax.specs.Views.{unit_tree};
 ghost use Rattle.classes.specs.Class.{Classes};
@@ -116,7 +116,7 @@ fn set_tasks<'a>(activation: &mut Activation<'a>, outcome: Outcome<'a>) -> Resul
     Ok(())
 }
 
-/// Lets an activation take its next step.
+/// Lets an activation take its next step. No function that can be called makes an object.
 pub fn advance<'a>(
     alloc: Global,
     items: &'a [Item],
@@ -126,6 +126,7 @@ pub fn advance<'a>(
 ) -> Result<Outcome<'a>, AllocError>
     requires { IsInRange activation.old }
     ensures step { IfOk result (λ o. Advances (unit_tree items.now) classes.now store.old activation.old o store.new activation.new) }
+    ensures count { IfOk result (λ _. length store.new ≡ length store.old) }
     ensures range { IfOk result (λ _. IsInRange activation.new) }
 {
     begin(alloc, activation)?;

@@ -27,13 +27,13 @@ pub struct Store {
 impl Model for Store {
     ghost use Rattle.std.specs.Prelude.{map};
     ghost use Rattle.source.specs.Heap.{Heap};
-    ghost use Rattle.tasks.specs.Stores.{object_view, AreShort};
+    ghost use Rattle.tasks.specs.Stores.{object_view, IsStore};
 
     ghost Value = { Heap };
 
     ghost view = { λ s. map object_view s.objects.items };
 
-    ghost invariant = { λ s. AreShort s.objects.items };
+    ghost invariant = { λ s. IsStore s.objects.items };
 }
 
 impl Store {
@@ -48,7 +48,8 @@ impl Store {
 
     /// The number of objects.
     pub fn len(&self) -> usize
-        ensures { result ≡ length self.now }
+        ensures len { result ≡ length self.now }
+        ensures few { result < 2 ^ 32 }
     {
         self.objects.len()
     }
@@ -89,11 +90,15 @@ impl Store {
         }
     }
 
-    /// Makes the next object. More values than a `jint` counts are refused, as memory is.
+    /// Makes the next object. More values than a `jint` counts, and an object whose name is no `u32`, are refused, as memory
+    /// is.
     pub fn add(&mut self, class: usize, values: Vec<ObjectValue>) -> Result<(), AllocError>
         ensures { IfOk result (λ _. self.new ≡ self.old ++ record { class = class; values = map object_value_view values.items } ∷ []) }
     {
         if values.len() > i32::MAX as usize {
+            return Err(AllocError);
+        }
+        if self.objects.len() >= u32::MAX as usize {
             return Err(AllocError);
         }
         self.objects.push(Object { class, values })?;
