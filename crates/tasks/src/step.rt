@@ -255,9 +255,7 @@ pub(crate) fn step<'a>(
         }
         Task::SetNull(target) => Ok(Outcome::SetsNull(*target)),
         Task::MakeArray(kind, name, size) => Ok(Outcome::Makes(*kind, name, *size)),
-        Task::Invoke(i) => {
-            invoke(classes, store, variables, pending, i)
-        },
+        Task::Invoke(i) => { invoke(classes, store, variables, pending, i) },
         Task::Branch(c) => {
             let (line, block, otherwise) = (c.line, c.block, c.otherwise);
             Ok(branch(items, variables, line, &mut c.test, block, otherwise))
