@@ -1,11 +1,12 @@
 -- What answers are, by the effects of the source's calls.
-use Rattle.std.specs.Prelude.{◌≡◌, ℕ, ◌<◌, ◌^◌, List, [], ◌∷◌, length, Option, Some, None, FitsSigned}
+use Rattle.std.specs.Prelude.{◌≡◌, ℕ, ◌<◌, ◌≤◌, List, [], ◌∷◌, length, Option, Some, None, FitsSigned}
 use Rattle.std.specs.Int.{w32}
+use Rattle.classes.specs.BuiltIns.{class_class}
 use Rattle.classes.specs.Class.{Classes}
 use Rattle.heap.specs.Heap.{Space, name_at, values_at}
 use Rattle.heap.specs.declared.value.Value.{Value}
 use Rattle.jni.specs.Prototype.{ResultKind, NewLocal, GivesFlag, GivesInt, GivesField, GivesNothing}
-use Rattle.source.specs.CallEffects.{CallResult, NoResult, ScalarResult, ReferenceResult, FieldResult, CallEffect, Leaves, Halts, Throws}
+use Rattle.source.specs.CallEffects.{CallResult, NoResult, NullResult, ScalarResult, ReferenceResult, FieldResult, CallEffect, Leaves, Throws}
 use Rattle.source.specs.Heap.{next_name, with_value_at}
 use Rattle.source.specs.Object.{ObjectValue}
 use Rattle.source.specs.Thread.{Shared, Thread}
@@ -18,16 +19,23 @@ use Rattle.machine.specs.declared.answer.Answer.{Answer}
 use Rattle.machine.specs.declared.answer.Answer.TheVariants as answer
 use Rattle.machine.specs.Agrees.{FieldAgrees}
 use Rattle.machine.specs.HeapAgrees.{ReferenceAgrees, ValueAgrees}
-use Rattle.machine.specs.Stops.{trap_view}
 
--- what a function of this kind of result gives
-abbrev pub GivenAgrees : Classes → Space → ResultKind → CallResult → Given → Type 0
-GivenAgrees classes space GivesNothing NoResult given.Nothing = Unit {0}
-GivenAgrees classes space GivesInt (ScalarResult (Int z)) (given.Number word) = (word ≡ word_of (Int z)) × FitsSigned w32 z
-GivenAgrees classes space GivesFlag (ScalarResult (Flag b)) (given.Number word) = word ≡ word_of (Flag b)
-GivenAgrees classes space NewLocal (ReferenceResult r) (given.Reference a) = ReferenceAgrees space a r
-GivenAgrees classes space GivesField (FieldResult f) (given.FieldId h) = FieldAgrees classes h f
-GivenAgrees classes space kind result given = ⊥
+-- what a function of this kind of result gives; NULL where it failed
+abbrev pub GivenAgrees : Classes → Space → ResultKind → Given → CallResult → Type 0
+GivenAgrees classes space GivesNothing given.Nothing NoResult = Unit {0}
+GivenAgrees classes space GivesInt (given.Number word) (ScalarResult (Int z)) = (word ≡ word_of (Int z)) × FitsSigned w32 z
+GivenAgrees classes space GivesFlag (given.Number word) (ScalarResult (Flag b)) = word ≡ word_of (Flag b)
+GivenAgrees classes space NewLocal (given.Reference a) (ReferenceResult r) = ReferenceAgrees space a r
+GivenAgrees classes space NewLocal (given.Reference a) NullResult = a ≡ None
+GivenAgrees classes space GivesField (given.FieldId h) (FieldResult f) = FieldAgrees classes h f
+GivenAgrees classes space GivesField (given.FieldId h) NullResult = h ≡ None
+GivenAgrees classes space kind g c = ⊥
+
+-- objects of this class can be made
+pub record IsMakeable (classes : Classes) (c : ℕ) : Type 0 where
+  pub low : 0 < c
+  pub high : c ≤ length classes
+  pub no_class : c ≡ class_class → ⊥
 
 -- another heap of the source, where a value of the object at an address is changed
 pub record WritesAt (space : Space) (s : Shared) (s' : Shared) (a place : ℕ) (v : Value) : Type 0 where
@@ -39,11 +47,10 @@ pub record WritesAt (space : Space) (s : Shared) (s' : Shared) (a place : ℕ) (
   pub is : s' ≡ record s { heap = with_value_at s.heap name place value }
 
 -- The answer is what the call does to this state, all checks being passed.
-abbrev pub IsAnswer : Classes → Space → ResultKind → Shared → Thread → CallEffect → Answer → Type 0
-IsAnswer classes space kind s t (Halts trap) (answer.Halts u) = trap_view u ≡ trap
-IsAnswer classes space kind s t (Throws class) (answer.Throws c) = (c ≡ class) × (c < 2 ^ 32)
-IsAnswer classes space kind s t (Leaves [] s' t' result) (answer.Gives given) = (s' ≡ s) × (t' ≡ t) × GivenAgrees classes space kind result given
-IsAnswer classes space kind s t (Leaves [] s' t' NoResult) (answer.Writes a place v) = (t' ≡ t) × (kind ≡ GivesNothing) × WritesAt space s s' a place v
-IsAnswer classes space kind s t (Leaves (o ∷ []) s' t' (ReferenceResult r)) (answer.Makes c) =
-    (s' ≡ s) × (t' ≡ t) × (kind ≡ NewLocal) × (r ≡ Some (next_name s.heap)) × (o ≡ fresh_object classes c) × (c < 2 ^ 32)
-IsAnswer classes space kind s t effect answer = ⊥
+abbrev pub IsAnswer : Classes → Space → ResultKind → Shared → Thread → Answer → CallEffect → Type 0
+IsAnswer classes space kind s t (answer.Throws c) (Throws class) = (c ≡ class) × IsMakeable classes c
+IsAnswer classes space kind s t (answer.Gives given) (Leaves [] s' t' c) = (s' ≡ s) × (t' ≡ t) × GivenAgrees classes space kind given c
+IsAnswer classes space kind s t (answer.Writes a place v) (Leaves [] s' t' NoResult) = (t' ≡ t) × (kind ≡ GivesNothing) × WritesAt space s s' a place v
+IsAnswer classes space kind s t (answer.Makes c) (Leaves (o ∷ []) s' t' (ReferenceResult r)) =
+    (s' ≡ s) × (t' ≡ t) × (kind ≡ NewLocal) × (r ≡ Some (next_name s.heap)) × (o ≡ fresh_object classes c) × IsMakeable classes c
+IsAnswer classes space kind s t answer effect = ⊥
