@@ -31,7 +31,7 @@ use Rattle.classes.specs.Class.{Classes}
 use Rattle.classes.specs.Fields.{FieldId}
 use Rattle.class_table.specs.declared.class.FieldHandle.{FieldHandle}
 use Rattle.source.specs.Thread.{Frame}
-use Rattle.machine.specs.declared.thread.Frame.{Frame as FrameInMemory}
+use Rattle.machine.specs.Frames.{Frame as FrameInMemory}
 use Rattle.machine.specs.Agrees.{CallStands, ReferencesAgree, FieldsAgree, FramesAgree}
 
 -- ---- a function's code

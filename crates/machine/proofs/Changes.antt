@@ -58,12 +58,12 @@ assign_same {A = A} x v ((y, w) ∷ rest) at = by_test (bytes_eq x y) refl at (�
 
 -- ---- elements
 
-get_set_same : {A : Type 0} (xs : List A) (i : ℕ) (a : A) → i < length xs → slice_get (slice_set xs i a) i ≡ Some a
+pub get_set_same : {A : Type 0} (xs : List A) (i : ℕ) (a : A) → i < length xs → slice_get (slice_set xs i a) i ≡ Some a
 get_set_same [] i a below = absurd (omega arith)
 get_set_same (x ∷ xs) zero a below = refl
 get_set_same (x ∷ xs) (suc i) a below = get_set_same xs i a (omega arith)
 
-get_set_other : {A : Type 0} (xs : List A) (i j : ℕ) (a : A) → j ≢ i → slice_get (slice_set xs i a) j ≡ slice_get xs j
+pub get_set_other : {A : Type 0} (xs : List A) (i j : ℕ) (a : A) → j ≢ i → slice_get (slice_set xs i a) j ≡ slice_get xs j
 get_set_other [] i j a other = refl
 get_set_other (x ∷ xs) zero zero a other = absurd (other refl)
 get_set_other (x ∷ xs) zero (suc j) a other = refl

@@ -26,7 +26,7 @@ use Rattle.source.specs.Variable.{Variable, Statics}
 use Rattle.lower.specs.Slots.{Slots, Shows, ShowsSlot, visible_to}
 use Rattle.machine.proofs.Changes.{array_of}
 use Rattle.machine.specs.declared.thread.Activation.{Activation}
-use Rattle.machine.specs.declared.thread.Frame.{Frame}
+use Rattle.machine.specs.Frames.{Frame}
 use Rattle.machine.specs.declared.thread.Thread.{Thread}
 use Rattle.machine.specs.HeapAgrees.{ReferenceAgrees, NamesAgree}
 use Rattle.machine.specs.Agrees.{Keeps, ReferencesAgree, FrameAgrees, FramesAgree, CallStands, WorkAgrees, ThreadAgrees, ThreadsAgree}
@@ -77,7 +77,7 @@ module _ (space space' : Space) (names : (a n : ℕ) → name_at space a ≡ Som
   names_stay (a ∷ xs) (n ∷ ns) h = (names a n h.0, names_stay xs ns h.1)
 
   frame_stays : (f : Frame) (g : source.Frame) → FrameAgrees space f g → FrameAgrees space' f g
-  frame_stays f g h = record { capacity = h.capacity; references = names_stay (reverse f.references.items) g.references h.references }
+  frame_stays f g h = record { capacity = h.capacity; references = names_stay (reverse f.references) g.references h.references }
 
   frames_zip : (fs : List Frame) (gs : List source.Frame) → AllZip (FrameAgrees space) fs gs → AllZip (FrameAgrees space') fs gs
   frames_zip [] [] h = h

@@ -12,7 +12,7 @@ use Rattle.source.specs.Object.{Reference}
 use Rattle.source.specs.Reachable.{thread_roots}
 use Rattle.source.specs.Thread as source
 use Rattle.machine.specs.declared.thread.Thread.{Thread}
-use Rattle.machine.specs.declared.thread.Frame.{Frame}
+use Rattle.machine.specs.Frames.{Frame}
 use Rattle.machine.specs.Agrees.{FrameAgrees, FramesAgree}
 use Rattle.machine.specs.HeapAgrees.{NamesAgree, ReferenceAgrees}
 use Rattle.machine.specs.Roots.{name_of, frame_names, frames_of, pending_names, thread_names, AreAddresses, FramesAreThere, CallIsThere, PendingIsThere, ThreadsAreThere}
@@ -68,13 +68,13 @@ names_are space (a ∷ places) (n ∷ ns) h =
     ap (λ (o : Option ℕ). option_map_or (λ (m : ℕ). m) o 0 ∷ map (name_of space) places) h.0
     ∙ ap (λ (l : List ℕ). n ∷ l) (names_are space places ns h.1)
 
-frames_are : (space : Space) (fs : List Frame) (gs : List source.Frame) → AllZip (FrameAgrees space) fs gs → flat_map (λ (f : Frame). frame_names space f.references.items) fs ≡ flat_map (λ (g : source.Frame). g.references) gs
+frames_are : (space : Space) (fs : List Frame) (gs : List source.Frame) → AllZip (FrameAgrees space) fs gs → flat_map (λ (f : Frame). frame_names space f.references) fs ≡ flat_map (λ (g : source.Frame). g.references) gs
 frames_are space [] [] h = refl
 frames_are space [] (g ∷ gs) h = absurd h
 frames_are space (f ∷ fs) [] h = absurd h
 frames_are space (f ∷ fs) (g ∷ gs) h =
-    flat_map-cons (λ (f : Frame). frame_names space f.references.items) f fs
-    ∙ ap (λ (l : List ℕ). l ++ flat_map (λ (f : Frame). frame_names space f.references.items) fs) (names_are space (reverse f.references.items) g.references (h.0).references)
+    flat_map-cons (λ (f : Frame). frame_names space f.references) f fs
+    ∙ ap (λ (l : List ℕ). l ++ flat_map (λ (f : Frame). frame_names space f.references) fs) (names_are space (reverse f.references) g.references (h.0).references)
     ∙ ap (λ (l : List ℕ). g.references ++ l) (frames_are space fs gs h.1)
     ∙ sym (flat_map-cons (λ (g : source.Frame). g.references) g gs)
 
@@ -148,7 +148,7 @@ threads_there space (x ∷ ts) [] h i t e = absurd h
 threads_there space (x ∷ ts) (s ∷ ss) h zero t e =
     let same : x ≡ t = cc in
     subst (λ (y : Thread). CallIsThere space y.call × PendingIsThere space y.pending) same (
-      each_back (λ (f : Frame). AreAddresses space f.references.items) (frames_of x.call) (frames_there_in space (reverse (frames_of x.call)) s.frames (h.0).frames),
+      each_back (λ (f : Frame). AreAddresses space f.references) (frames_of x.call) (frames_there_in space (reverse (frames_of x.call)) s.frames (h.0).frames),
       pending_there space x.pending s.pending (h.0).pending,
     )
 threads_there space (x ∷ ts) (s ∷ ss) h (suc i) t e = threads_there space ts ss h.1 i t e

@@ -42,7 +42,7 @@ use Rattle.machine.specs.declared.thread.Event.TheVariants as event
 use Rattle.machine.specs.declared.thread.Thread.{Thread}
 use Rattle.machine.specs.declared.thread.PendingCall.{PendingCall}
 use Rattle.machine.specs.declared.thread.Activation.{Activation}
-use Rattle.machine.specs.declared.thread.Frame.{Frame}
+use Rattle.machine.specs.Frames.{Frame}
 use Rattle.machine.specs.declared.store.Store.{Store}
 use Rattle.machine.specs.Agrees.{StoreAgrees, Keeps, FrameAgrees, FramesAgree, FieldsAgree, CallAgrees, CallsAgree, CallStands, WorkAgrees, ReferencesAgree, ThreadAgrees, GoesOn, Advances, after_any, ending_view, ending_after, calls_after}
 use Rattle.machine.proofs.Keeping.{StaticsAgree, keeps_same}
@@ -382,9 +382,9 @@ module _ (space : Space) (loaded : List ℕ) (made : ℕ) (table : IsTable space
 
   entry_frame_agrees : (class : ℕ) (vs : List ObjectValue) (f : Frame) → 0 < class → class ≤ made → list_all (is_argument made) vs ≡ true → IsEntryFrame loaded class vs f → FrameAgrees space f (entry_frame (class ∷ filter_map named_object vs))
   entry_frame_agrees class vs f low high h e =
-      let names = frame_names class vs (reverse f.references.items) low high e.given h in
-      let count : length (reverse f.references.items) ≡ length (class ∷ filter_map named_object vs) = names_count (reverse f.references.items) (class ∷ filter_map named_object vs) names in
-      let turned : length (reverse f.references.items) ≡ length f.references.items = length-reverse f.references.items in
+      let names = frame_names class vs (reverse f.references) low high e.given h in
+      let count : length (reverse f.references) ≡ length (class ∷ filter_map named_object vs) = names_count (reverse f.references) (class ∷ filter_map named_object vs) names in
+      let turned : length (reverse f.references) ≡ length f.references = length-reverse f.references in
       record { capacity = e.capacity ∙ ap (λ (n : ℕ). n + 16) (sym turned ∙ count); references = names }
 
 -- NULL field IDs

@@ -20,7 +20,7 @@ use Rattle.source.specs.Reachable.{IsName}
 use Rattle.source.specs.Start.{null_statics}
 use Rattle.source.specs.Task.{Task}
 use Rattle.source.specs.Thread as source
-use Rattle.source.specs.Thread.{BuffersInUse, Shared, Advance}
+use Rattle.source.specs.Thread.{BuffersInUse, Shared, Advance, viewed_by}
 use Rattle.source.specs.ThreadStep.{thread_step, after_effect, after_refused_effect}
 use Rattle.code_generator.specs.Layout.{Known}
 use Rattle.lower.specs.Slots.{ArgumentsFit, Visible, visible_to, Shows}
@@ -32,13 +32,14 @@ use Rattle.machine.specs.declared.thread.Event.{Event}
 use Rattle.machine.specs.declared.thread.Event.TheVariants.{Quiet, Printed, Trapped}
 use Rattle.machine.specs.declared.thread.Advanced.{Advanced}
 use Rattle.machine.specs.declared.thread.Advanced.TheVariants as advanced
-use Rattle.machine.specs.declared.thread.Frame.{Frame}
+use Rattle.machine.specs.Frames.{Frame}
 use Rattle.machine.specs.declared.thread.Thread.{Thread}
 use Rattle.machine.specs.declared.thread.PendingCall.{PendingCall}
 use Rattle.machine.specs.declared.thread.Activation.{Activation}
 use Rattle.machine.specs.declared.thread.Executed.{Executed}
 use Rattle.machine.specs.declared.thread.Executed.TheVariants.{Did, Refused, Returned}
 use Rattle.machine.specs.declared.store.Store.{Store}
+use Rattle.machine.specs.Classed.{AreClassed}
 use Rattle.machine.specs.HeapAgrees.{ReferenceAgrees, NamesAgree, HeapAgrees, IsTable}
 use Rattle.machine.specs.Stops.{trap_view}
 
@@ -87,6 +88,7 @@ pub record StoreAgrees (p : Lowered) (w : World) (store : Store) (shared : Share
   pub table : IsTable store.heap store.loaded.items (length (loaded_objects w))
   pub begun : length (loaded_objects w) ≤ length shared.heap
   pub births : store.births ≡ length shared.heap
+  pub classed : AreClassed w.classes shared.heap
   -- no call that can be made yet changes these
   pub statics : shared.statics ≡ null_statics (unit_tree p.unit)
   pub globals : shared.globals ≡ []
@@ -105,7 +107,7 @@ pub record Keeps (space : Space) (shared : Shared) (space' : Space) (shared' : S
 -- a frame has the capacity and the local references of a frame of the source, the last one put first
 pub record FrameAgrees (space : Space) (f : Frame) (g : source.Frame) : Type 0 where
   pub capacity : f.capacity ≡ g.capacity
-  pub references : NamesAgree space (reverse f.references.items) g.references
+  pub references : NamesAgree space (reverse f.references) g.references
 
 -- frame by frame
 abbrev pub FramesAgree : Space → List Frame → List source.Frame → Type 0
@@ -163,6 +165,8 @@ pub record ThreadAgrees (p : Lowered) (classes : Classes) (space : Space) (made 
   pub busy : t.ending ≡ Unfinished → s.tasks ≡ None → s.calls ≡ [] → ⊥
   -- no exception is pending between two calls
   pub caught : s.tasks ≡ None → s.pending ≡ None
+  -- no function that gives a view can be called yet
+  pub viewless : viewed_by s ≡ []
 
 -- thread by thread
 abbrev pub ThreadsAgree : Lowered → Classes → Space → (made : ℕ) → Shared → List Thread → List source.Thread → Type 0
@@ -179,6 +183,7 @@ pub record IsExecuting (p : Lowered) (w : World) (store : Store) (call : Activat
   pub tasks : s.tasks ≡ Some (task ∷ rest)
   pub stands : CallStands p w.classes store.heap call (visible_to shared s) s.frames (task ∷ rest)
   pub pending_agrees : ReferenceAgrees store.heap pending s.pending
+  pub viewless : viewed_by s ≡ []
 
 -- what an effect of the first task leaves, or the same with its allocation refused
 abbrev pub after_any : Classes → BuffersInUse → ℕ → Shared → source.Thread → List Task → (refused : Bool) → Effect → Advance
@@ -196,6 +201,7 @@ pub record GoesOn (p : Lowered) (w : World) (old : Space) (store : Store) (lent 
   pub pending_agrees : ReferenceAgrees store.heap pending next.pending
   pub calls : next.calls ≡ s.calls
   pub ending : next.ending ≡ s.ending
+  pub viewless : viewed_by next ≡ []
 
 -- what an instruction did is the effect of the first of the tasks; a return leaves the store as it was
 abbrev pub Executes : Lowered → World → Space → Store → BuffersInUse → ℕ → Shared → source.Thread → (rest : List Task) → Activation → (pending : Option ℕ) → Effect → Executed → Type 0

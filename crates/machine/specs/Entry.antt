@@ -8,7 +8,7 @@ use Rattle.code.specs.Depth.{Listing}
 use Rattle.lower.specs.Lowered.{Lowered}
 use Rattle.lower.specs.Slots.{argument_word, HasRoom}
 use Rattle.machine.specs.declared.thread.Activation.{Activation}
-use Rattle.machine.specs.declared.thread.Frame.{Frame}
+use Rattle.machine.specs.Frames.{Frame}
 use Rattle.machine.specs.declared.thread.PendingCall.{PendingCall}
 
 -- where the object lies that an argument refers to
@@ -37,8 +37,8 @@ pub record IsReferencesOf (count : ℕ) (loaded : List ℕ) (class : ℕ) (argum
 
 -- the first frame of a call, with the class and the arguments that aren't NULL, and room for 16 more
 pub record IsEntryFrame (loaded : List ℕ) (class : ℕ) (arguments : List ObjectValue) (f : Frame) : Type 0 where
-  pub given : map (λ a. Some a) (reverse f.references.items) ≡ slice_get loaded (class - 1) ∷ filter_map (named_address loaded) arguments
-  pub capacity : f.capacity ≡ length f.references.items + 16
+  pub given : map (λ a. Some a) (reverse f.references) ≡ slice_get loaded (class - 1) ∷ filter_map (named_address loaded) arguments
+  pub capacity : f.capacity ≡ length f.references + 16
 
 -- a call with this code before its first instruction
 pub record BeginsIn (code : Listing) (loaded : List ℕ) (next : PendingCall) (call : Activation) : Type 0 where

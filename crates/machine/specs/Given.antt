@@ -1,13 +1,15 @@
 -- What the operands of a call give.
-use Rattle.std.specs.Prelude.{◌≡◌, ℕ, ℤ, List, [], ◌∷◌, slice_get, Option, Some, None, FitsSigned, ◌⊎◌}
+use Rattle.std.specs.Prelude.{◌≡◌, ℕ, ℤ, Bool, true, false, List, [], ◌∷◌, slice_get, unwrap_or, Option, Some, None, IsSome, FitsSigned, ◌⊎◌}
 use Rattle.std.specs.Int.{w32}
 use Rattle.base.specs.Bytes.{Identifier}
-use Rattle.classes.specs.Class.{Classes}
+use Rattle.base.specs.Element.{JInt}
+use Rattle.classes.specs.Class.{Classes, NumberField, assignable}
 use Rattle.classes.specs.Fields.{FieldId}
+use Rattle.class_table.specs.FieldViews.{field_of}
 use Rattle.class_table.specs.declared.class.FieldHandle.{FieldHandle}
 use Rattle.code.specs.declared.instr.Operand.{Operand}
 use Rattle.code.specs.declared.instr.Operand.TheVariants as operand
-use Rattle.heap.specs.Heap.{Space, IsAddress}
+use Rattle.heap.specs.Heap.{Space, IsAddress, class_at, name_at}
 use Rattle.source.specs.Arguments.{Actual, ReferenceActual, FieldActual, NumberActual, TextActual}
 use Rattle.source.specs.Object.{Reference}
 use Rattle.source.specs.Variable.{as_static}
@@ -64,3 +66,38 @@ operand_or_null (Some o) = o
 -- the operand at a place
 abbrev pub operand_of : List Operand → ℕ → Operand
 operand_of operands i = operand_or_null (slice_get operands i)
+
+-- ---- what is there
+
+-- the class of the object at an address, and 0 where there is none
+abbrev pub class_there : Space → ℕ → ℕ
+class_there space a = unwrap_or (class_at space a) 0
+
+-- the same, and 0 for NULL
+abbrev pub class_of_given : Space → Option ℕ → ℕ
+class_of_given space None = 0
+class_of_given space (Some a) = class_there space a
+
+-- the name of the object at an address, and 0 for NULL
+abbrev pub name_there : Space → Option ℕ → ℕ
+name_there space None = 0
+name_there space (Some a) = unwrap_or (name_at space a) 0
+
+-- NULL fits every class
+abbrev pub fits_there : Classes → Space → Option ℕ → (class : ℕ) → Bool
+fits_there classes space None class = true
+fits_there classes space (Some a) class = assignable classes (class_there space a) class
+
+-- the field of no handle
+abbrev pub no_field : FieldId
+no_field = record { class = 0; is_static = false; field = record { name = []; type = NumberField JInt } }
+
+-- the field of a handle
+abbrev pub field_there : Classes → Option FieldHandle → FieldId
+field_there classes None = no_field
+field_there classes (Some h) = unwrap_or (field_of classes h) no_field
+
+-- each operand that is a field ID is NULL or a handle of a field
+abbrev pub AreHandles : Classes → List (Option FieldHandle) → List Operand → Type 0
+AreHandles classes fields [] = Unit {0}
+AreHandles classes fields (o ∷ operands) = ((h : FieldHandle) → field_at fields o ≡ Some h → IsSome (field_of classes h)) × AreHandles classes fields operands

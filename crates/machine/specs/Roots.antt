@@ -3,7 +3,7 @@ use Rattle.std.specs.Prelude.{◌≡◌, ℕ, List, [], ◌++◌, map, reverse, 
 use Rattle.std.specs.Option.{option_map, option_map_or, option_to_list}
 use Rattle.heap.specs.Heap.{Space, IsAddress, name_at}
 use Rattle.machine.specs.declared.thread.Thread.{Thread}
-use Rattle.machine.specs.declared.thread.Frame.{Frame}
+use Rattle.machine.specs.Frames.{Frame}
 use Rattle.machine.specs.declared.thread.Activation.{Activation}
 
 -- the name of the object at an address
@@ -16,7 +16,7 @@ frame_names space references = map (name_of space) (reverse references)
 
 -- the names in frames, those of the current one first
 abbrev pub frames_names : Space → List Frame → List ℕ
-frames_names space frames = flat_map (λ (f : Frame). frame_names space f.references.items) (reverse frames)
+frames_names space frames = flat_map (λ (f : Frame). frame_names space f.references) (reverse frames)
 
 -- the frames of a call in progress, or of none
 abbrev pub frames_of : Option Activation → List Frame
@@ -39,7 +39,7 @@ abbrev pub AreAddresses : Space → List ℕ → Type 0
 AreAddresses space references = (i a : ℕ) → slice_get references i ≡ Some a → IsAddress space a
 
 abbrev pub FramesAreThere : Space → List Frame → Type 0
-FramesAreThere space frames = (i : ℕ) (f : Frame) → slice_get frames i ≡ Some f → AreAddresses space f.references.items
+FramesAreThere space frames = (i : ℕ) (f : Frame) → slice_get frames i ≡ Some f → AreAddresses space f.references
 
 abbrev pub CallIsThere : Space → Option Activation → Type 0
 CallIsThere space call = FramesAreThere space (frames_of call)

@@ -122,11 +122,7 @@ fn entry_frame(
         }
     }
     references.reverse();
-    references.reserve(MORE_LOCALS)?;
-    Ok(Frame {
-        capacity: references.len() + MORE_LOCALS,
-        references,
-    })
+    Frame::new(references, MORE_LOCALS)
 }
 
 /// The address of the object of a name.

@@ -2,13 +2,17 @@
 #![tactic(auto)]
 
 mod answer;
+mod carry_out;
 mod check;
 mod entry;
 mod fault;
+mod frame;
 mod invoke;
 mod load;
 mod machine;
+mod make;
 mod objects;
+mod receive;
 mod roots;
 mod rows;
 mod stop;

@@ -3,7 +3,8 @@
 ghost use Rattle.std.specs.Prelude.{◌≡◌, ◌++◌, IfOk, flat_map};
 ghost use Rattle.machine.specs.Roots.{AreAddresses, FramesAreThere, CallIsThere, PendingIsThere, ThreadsAreThere, frame_names, frames_names, call_names, pending_names, thread_names};
 
-use crate::thread::{Activation, Frame, Thread};
+use crate::frame::Frame;
+use crate::thread::{Activation, Thread};
 use heap::{Addr, Heap};
 use std::alloc::{AllocError, Global};
 
@@ -60,7 +61,7 @@ fn push_frames(names: &mut Vec<usize>, heap: &Heap, frames: &[Frame]) -> Result<
 {
     for done in 0..frames.len() {
         let frame = &frames[frames.len() - 1 - done];
-        push_references(names, heap, &frame.references)?;
+        push_references(names, heap, frame.references())?;
     }
     Ok(())
 }

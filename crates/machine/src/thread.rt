@@ -13,6 +13,7 @@ ghost use Rattle.machine.specs.Agrees.{StoreAgrees, ThreadAgrees, IsExecuting, E
 ghost use Rattle.machine.specs.Entry.{IsReady, Begins};
 
 use crate::entry::begin;
+use crate::frame::Frame;
 use crate::invoke::invoke;
 use crate::stop::{Trap, trap_of};
 use crate::store::Store;
@@ -65,15 +66,6 @@ pub struct PendingCall {
     pub arguments: Vec<ObjectValue>,
 }
 
-/// Local references of a call, of which there may be at most `capacity` (JNI Specification, chapter 2, "Local and Global
-/// References").
-#[derive(Drop)]
-pub struct Frame {
-    pub capacity: usize,
-    /// The last one put is the last.
-    pub references: Vec<Addr>,
-}
-
 /// A call in progress: its place in its function's code, its operands, the slots of its variables, and its frames. A
 /// reference is NULL or the address of an object.
 #[derive(Drop)]
@@ -105,7 +97,7 @@ pub enum Advanced {
     Refused,
 }
 
-/// Takes one step of a thread that has not ended. Only the entry into a call and a call of the JNI take host memory.
+/// Takes one step of a thread that has not ended. Only the entry into a call takes host memory.
 pub fn advance(
     program: &Program<'_>,
     world: &World,
@@ -126,7 +118,7 @@ pub fn advance(
             enter(program, &store.loaded, thread)?;
             Ok(Advanced::Did(Event::Quiet))
         }
-        Some(call) => match execute(program, world, store, &mut thread.pending, call)? {
+        Some(call) => match execute(program, world, store, &mut thread.pending, call) {
             Executed::Did(event) => Ok(Advanced::Did(event)),
             Executed::Refused => Ok(Advanced::Refused),
             Executed::Returned => {
@@ -186,14 +178,11 @@ fn execute(
     store: &mut Store,
     pending: &mut Option<Addr>,
     call: &mut Activation,
-) -> Result<Executed, AllocError>
+) -> Executed
     requires lowered { IsLowered program.now }
     requires stands { (shared : Shared) × (s : SourceThread) × (task : Task) × (rest : List Task) × IsExecuting program.now world.now store.old call.old pending.old shared s task rest }
-    ensures executes { IfOk result (λ done. (lent : BuffersInUse) (k : ℕ) (shared : Shared) (s : SourceThread) (task : Task) (rest : List Task) → IsExecuting program.now world.now store.old call.old pending.old shared s task rest
-        → Executes program.now world.now store.old.heap store.new lent k shared s rest call.new pending.new (effect_of (sight_of shared s) task) done) }
-    ensures store { OnErr result (store.new ≡ store.old) }
-    ensures pending { OnErr result (pending.new ≡ pending.old) }
-    ensures call { OnErr result (call.new ≡ call.old) }
+    ensures executes { (lent : BuffersInUse) (k : ℕ) (shared : Shared) (s : SourceThread) (task : Task) (rest : List Task) → IsExecuting program.now world.now store.old call.old pending.old shared s task rest
+        → Executes program.now world.now store.old.heap store.new lent k shared s rest call.new pending.new (effect_of (sight_of shared s) task) result }
 {
     let code = program.code(call.function).unwrap();
     let instr = code.get(call.place).unwrap();
@@ -202,37 +191,37 @@ fn execute(
             let null = is_null(&call.references, &call.fields, *variable);
             call.stack.push(u32::from(null == *equal));
             call.place += 1;
-            Ok(Executed::Did(Event::Quiet))
+            Executed::Did(Event::Quiet)
         }
         Instr::StoreNull(variable) => {
             set_null(&mut call.references, &mut call.fields, *variable);
             call.place += 1;
-            Ok(Executed::Did(Event::Quiet))
+            Executed::Did(Event::Quiet)
         }
         Instr::PutJint => {
             let word = call.stack.pop();
             call.place += 1;
-            Ok(Executed::Did(Event::Printed(word.cast_signed())))
+            Executed::Did(Event::Printed(word.cast_signed()))
         }
         Instr::Call(boxed) => invoke(world, store, pending, call, boxed.call()),
-        Instr::Return | Instr::ReturnJint | Instr::ReturnReference(_) => Ok(Executed::Returned),
+        Instr::Return | Instr::ReturnJint | Instr::ReturnReference(_) => Executed::Returned,
         _ => match plain(instr, &mut call.stack, &mut call.numbers) {
             Plain::Next => {
                 call.place += 1;
-                Ok(Executed::Did(Event::Quiet))
+                Executed::Did(Event::Quiet)
             }
             Plain::Skip(skipped) => {
                 call.place += 1 + skipped as usize;
-                Ok(Executed::Did(Event::Quiet))
+                Executed::Did(Event::Quiet)
             }
             Plain::Back(back) => {
                 call.place -= back as usize;
-                Ok(Executed::Did(Event::Quiet))
+                Executed::Did(Event::Quiet)
             }
-            Plain::Trap(trap, line) => Ok(Executed::Did(Event::Trapped(
+            Plain::Trap(trap, line) => Executed::Did(Event::Trapped(
                 trap_of(trap),
                 line as usize,
-            ))),
+            )),
         },
     }
 }

@@ -3,7 +3,7 @@ use Rattle.std.specs.Prelude.{vec_len}
 use Rattle.std.proofs.lemmas.List.{take_all}
 use Rattle.class_table.specs.declared.class.FieldHandle.{FieldHandle}
 use Rattle.code.specs.declared.slots.SlotCounts.{SlotCounts}
-use Rattle.machine.specs.declared.thread.Frame.{Frame}
+use Rattle.machine.specs.Frames.{Frame}
 use Rattle.world.specs.Views.{object_value_view}
 use Rattle.lower.specs.Slots.{argument_reference}
 use Rattle.machine.proofs.ArgumentSlots.{addresses_count}
