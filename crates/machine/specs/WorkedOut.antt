@@ -72,6 +72,11 @@ abbrev pub top_word : List ℕ → ℕ
 top_word [] = 0
 top_word (word ∷ stack) = word
 
+-- the place of the field of a handle among these, and 0 for NULL
+abbrev pub place_there : Classes → Option FieldHandle → List FieldId → ℕ
+place_there classes None fields = 0
+place_there classes (Some h) fields = place_among (field_there classes (Some h)) fields
+
 -- ---- what a function does
 
 -- A call with these words on the stack.
@@ -84,21 +89,25 @@ module _ (classes : Classes) (space : Space) (loaded : List ℕ) (references : L
   abbrev pub text : ℕ → List ℕ
   text i = unwrap_or (slice_get call.texts i) []
 
-  -- the field or static of operand 1
-  abbrev pub field : FieldId
-  field = field_there classes (field_at fields (operand_of call.operands 1))
+  -- the field ID of operand 1
+  abbrev pub handle : Option FieldHandle
+  handle = field_at fields (operand_of call.operands 1)
 
-  -- the place of the field among those of operand 0
+  -- its place among the fields of operand 0
   abbrev pub place : ℕ
-  place = place_among field (layout classes (class_of_given space (reference 0)))
+  place = place_there classes handle (layout classes (class_of_given space (reference 0)))
+
+  -- the class that declares it
+  abbrev pub class : ℕ
+  class = (field_there classes handle).class
 
   -- the class object that holds the static
   abbrev pub declaring : Option ℕ
-  declaring = class_object loaded (Some field.class)
+  declaring = class_object loaded (Some class)
 
   -- its place there
   abbrev pub place_of_static : ℕ
-  place_of_static = place_among field (own_statics classes field.class)
+  place_of_static = place_there classes handle (own_statics classes class)
 
   -- how a cell of this type holds the word on the stack
   abbrev pub stored : ElementType → Value

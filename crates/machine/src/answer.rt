@@ -1,18 +1,21 @@
 //! What a function of the JNI does, as data.
 
-ghost use Rattle.std.specs.Prelude.{◌≡◌, ◌<◌, ◌^◌, ℕ, Some, true};
+ghost use Rattle.std.specs.Prelude.{◌≡◌, ◌<◌, ◌^◌, ℕ, Some, None, true, unwrap_or, slice_get, map};
+ghost use Rattle.class_table.specs.FieldViews.{find_as};
+ghost use Rattle.code.specs.Call.{call_view};
 ghost use Rattle.code.specs.Effect.{truth_word};
 ghost use Rattle.heap.specs.Heap.{IsAddress};
 ghost use Rattle.jni.specs.Table.{function_value};
-ghost use Rattle.machine.specs.Checked.{is_worked_out};
-ghost use Rattle.machine.specs.Given.{operand_at, operand_of, AreAddresses};
-ghost use Rattle.machine.specs.WorkedOut.{name_there, count_there, fits_there, class_object, class_of_given, worked_out};
+ghost use Rattle.machine.specs.Checked.{fit_together, is_answered};
+ghost use Rattle.machine.specs.Given.{AreAddresses, AreHandles};
+ghost use Rattle.machine.specs.WorkedOut.{count_there, class_object, found_class, IsFoundField, IsWorkedOut};
 
-use crate::check::{operand_of, reference_in};
-use crate::stop::Trap;
+use crate::operands::{class_of_given, fits_there, name_there, reference_at};
+use class_table::built_ins::{NO_CLASS_DEF_FOUND_ERROR, NO_SUCH_FIELD_ERROR};
 use class_table::class::FieldHandle;
 use class_table::table::ClassTable;
-use code::instr::{Call, Operand};
+use code::instr::Call;
+use code::stack::Stack;
 use heap::{Addr, Heap, Value};
 use jni::JniFunction;
 
@@ -29,8 +32,6 @@ pub enum Given {
 /// What a call does. A new object and an exception can be refused where the heap has no room.
 #[derive(Clone, Copy)]
 pub enum Answer {
-    /// The machine stops.
-    Halts(Trap),
     /// Nothing changes, and this is given.
     Gives(Given),
     /// A value of the object at this address changes, by its place, counted from 0.
@@ -42,22 +43,37 @@ pub enum Answer {
 }
 
 /// What a function does, all checks being passed. `loaded` has the addresses of the objects made at load, of which the class
-/// objects are the first.
+/// objects are the first. It takes no host memory.
 pub fn work_out(
     classes: &ClassTable,
     heap: &Heap,
     loaded: &[Addr],
     references: &[Option<Addr>],
+    fields: &[Option<FieldHandle>],
+    stack: &Stack,
     function: &Call,
 ) -> Answer
     requires objects { AreAddresses heap.now references.now function.now.operands.items }
-    requires built { is_worked_out (function_value function.now.function) ≡ true }
-    ensures { result ≡ worked_out classes.now heap.now loaded.now references.now function.now.operands.items (function_value function.now.function) }
+    requires handles { AreHandles classes.now fields.now function.now.operands.items }
+    requires answered { is_answered (function_value function.now.function) ≡ true }
+    requires passed { fit_together classes.now heap.now references.now fields.now function.now.operands.items (function_value function.now.function) ≡ true }
+    ensures { IsWorkedOut classes.now heap.now loaded.now references.now fields.now stack.now (call_view function.now) (function_value function.now.function) result }
 {
+    // No function that can be called yet takes a number or a field ID.
+    let _ = stack;
+    let _ = fields;
     let first = reference_at(heap, references, &function.operands, 0);
     let second = reference_at(heap, references, &function.operands, 1);
     match function.function {
-        JniFunction::GetArrayLength => Answer::Gives(Given::Number(count_there(heap, first))),
+        JniFunction::FindClass => found_class(loaded, classes.find(text_at(&function.texts, 0))),
+        JniFunction::GetSuperclass => {
+            let above = classes.superclass(name_there(heap, first));
+            Answer::Gives(Given::Reference(class_object(loaded, above)))
+        }
+        JniFunction::GetObjectClass => {
+            let class = class_of_given(heap, first);
+            Answer::Gives(Given::Reference(class_object(loaded, Some(class))))
+        }
         JniFunction::IsInstanceOf => {
             let fits = fits_there(classes, heap, first, name_there(heap, second));
             Answer::Gives(Given::Number(word_of_truth(fits)))
@@ -66,31 +82,46 @@ pub fn work_out(
             let fits = classes.assignable(name_there(heap, first), name_there(heap, second));
             Answer::Gives(Given::Number(word_of_truth(fits)))
         }
-        JniFunction::GetSuperclass => {
-            let above = classes.superclass(name_there(heap, first));
-            Answer::Gives(Given::Reference(class_object(loaded, above)))
+        JniFunction::AllocObject => Answer::Makes(name_there(heap, first)),
+        JniFunction::GetFieldID => {
+            find_field(classes, name_there(heap, first), &function.texts, false)
         }
-        JniFunction::GetObjectClass => {
-            let class = class_of_given(heap, first);
-            Answer::Gives(Given::Reference(class_object(loaded, class)))
+        JniFunction::GetStaticFieldID => {
+            find_field(classes, name_there(heap, first), &function.texts, true)
         }
+        JniFunction::GetArrayLength => Answer::Gives(Given::Number(count_there(heap, first))),
         _ => unreachable!(),
     }
 }
 
-/// The reference of an operand at a place, which is NULL or the address of an object.
-fn reference_at(
-    heap: &Heap,
-    references: &[Option<Addr>],
-    operands: &[Operand],
-    place: usize,
-) -> Option<Addr>
-    requires { AreAddresses heap.now references.now operands.now }
-    ensures reference { result ≡ operand_at references.now (operand_of operands.now place) }
-    ensures there { (a : ℕ) → result ≡ Some a → IsAddress heap.now a }
+/// A text of a call, and an empty one where there is none.
+fn text_at(texts: &[Vec<u8>], place: usize) -> &[u8]
+    ensures { result.now ≡ unwrap_or (slice_get (map (λ text. text.items) texts.now) place) [] }
 {
-    let _ = heap;
-    reference_in(references, operand_of(operands, place))
+    match texts.get(place) {
+        Some(text) => text,
+        None => &[],
+    }
+}
+
+/// A class that was found, or else an exception.
+fn found_class(loaded: &[Addr], class: Option<usize>) -> Answer
+    ensures { result ≡ found_class loaded.now class }
+{
+    match class {
+        Some(class) => Answer::Gives(Given::Reference(class_object(loaded, Some(class)))),
+        None => Answer::Throws(NO_CLASS_DEF_FOUND_ERROR),
+    }
+}
+
+/// A handle of the field, or the static, with the name and the signature of a call's texts, or else an exception.
+fn find_field(classes: &ClassTable, class: usize, texts: &[Vec<u8>], is_static: bool) -> Answer
+    ensures { IsFoundField classes.now (find_as classes.now class (unwrap_or (slice_get (map (λ text. text.items) texts.now) 0) []) (unwrap_or (slice_get (map (λ text. text.items) texts.now) 1) []) is_static) result }
+{
+    match classes.find_handle(class, text_at(texts, 0), text_at(texts, 1), is_static) {
+        Some(handle) => Answer::Gives(Given::FieldId(Some(handle))),
+        None => Answer::Throws(NO_SUCH_FIELD_ERROR),
+    }
 }
 
 /// The word of a truth.
@@ -98,17 +129,6 @@ fn word_of_truth(truth: bool) -> u32
     ensures { result ≡ truth_word truth }
 {
     u32::from(truth)
-}
-
-/// The name of an object, and 0 for NULL.
-fn name_there(heap: &Heap, reference: Option<Addr>) -> usize
-    requires { (a : ℕ) → reference ≡ Some a → IsAddress heap.now a }
-    ensures { result ≡ name_there heap.now reference }
-{
-    match reference {
-        Some(addr) => heap.birth_of(addr) as usize,
-        None => 0,
-    }
 }
 
 /// The number of values of an object, and 0 for NULL.
@@ -122,28 +142,6 @@ fn count_there(heap: &Heap, reference: Option<Addr>) -> u32
     match reference {
         Some(addr) => heap.len_of(addr) as u32,
         None => 0,
-    }
-}
-
-/// Whether a reference fits a class, as NULL does always.
-fn fits_there(classes: &ClassTable, heap: &Heap, reference: Option<Addr>, class: usize) -> bool
-    requires { (a : ℕ) → reference ≡ Some a → IsAddress heap.now a }
-    ensures { result ≡ fits_there classes.now heap.now reference class }
-{
-    match reference {
-        Some(addr) => classes.assignable(heap.class_of(addr) as usize, class),
-        None => true,
-    }
-}
-
-/// The class of an object.
-fn class_of_given(heap: &Heap, reference: Option<Addr>) -> Option<usize>
-    requires { (a : ℕ) → reference ≡ Some a → IsAddress heap.now a }
-    ensures { result ≡ class_of_given heap.now reference }
-{
-    match reference {
-        Some(addr) => Some(heap.class_of(addr) as usize),
-        None => None,
     }
 }
 

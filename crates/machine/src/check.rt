@@ -1,42 +1,28 @@
 //! What is checked of a call before it does anything, in one order for all functions.
 
-ghost use Rattle.std.specs.Prelude.{◌≡◌, ℕ, Some, map};
+ghost use Rattle.std.specs.Prelude.{◌≡◌, ◌&&◌, not, ℕ, Some, IsSome, map};
 ghost use Rattle.std.specs.Option.{option_map};
-ghost use Rattle.class_table.specs.Views.{element_view};
+ghost use Rattle.class_table.specs.FieldViews.{field_of};
+ghost use Rattle.class_table.specs.Views.{element_view, field_type_view};
+ghost use Rattle.classes.specs.Class.{assignable};
 ghost use Rattle.heap.specs.Heap.{IsAddress};
 ghost use Rattle.jni.specs.Table.{function_value, parameter_value, result_value};
-ghost use Rattle.machine.specs.Given.{operand_at, field_at, operand_of, AreAddresses};
-ghost use Rattle.machine.specs.Checked.{gives_null, may_be_null, some_missing, class_misfits, misfits, some_misfit, is_array_at, fit_together, puts_local, trap_found};
+ghost use Rattle.machine.specs.Given.{class_of_given, field_there, name_there, AreAddresses, AreHandles};
+ghost use Rattle.machine.specs.Checked.{gives_null, may_be_null, some_missing, class_misfits, misfits, some_misfit, is_array_at, fits_type_there, fit_together, puts_local, trap_found};
 ghost use Rattle.machine.specs.Stops.{trap_view};
-ghost use Rattle.syntax.specs.Views.{element_tree};
+ghost use Rattle.source.specs.Checks.{holds_number, holds_reference};
 
-use class_table::built_ins::{CLASS, STRING, number_array};
-use class_table::class::{ClassKind, ElementType, FieldHandle};
-use class_table::table::ClassTable;
+use crate::operands::{
+    class_of_given, declaring, element_type, field_in, fits_there, handle_at, is_static,
+    name_there, reference_at, reference_in, type_of,
+};
 use crate::stop::Trap;
+use class_table::built_ins::{CLASS, STRING, number_array};
+use class_table::class::{ClassKind, ElementType, FieldHandle, FieldType};
+use class_table::table::ClassTable;
 use code::instr::{Call, Operand};
 use heap::{Addr, Heap};
 use jni::{JniFunction, ParameterKind, ResultKind};
-
-/// The reference that an operand gives.
-pub fn reference_in(references: &[Option<Addr>], operand: Operand) -> Option<Addr>
-    ensures { result ≡ operand_at references.now operand }
-{
-    match operand {
-        Operand::Local(slot) => references.get(slot as usize).copied().unwrap_or(None),
-        _ => None,
-    }
-}
-
-/// The field ID that an operand gives.
-pub fn field_in(fields: &[Option<FieldHandle>], operand: Operand) -> Option<FieldHandle>
-    ensures { result ≡ field_at fields.now operand }
-{
-    match operand {
-        Operand::FieldId(slot) => fields.get(slot as usize).copied().unwrap_or(None),
-        _ => None,
-    }
-}
 
 /// Whether an operand gives NULL.
 fn gives_null(
@@ -82,18 +68,6 @@ fn some_missing(
             [] => false,
         },
         [] => false,
-    }
-}
-
-/// The same type, as classes have it.
-fn element_type(element: syntax::ElementType) -> ElementType
-    ensures { element_view result ≡ element_tree element }
-{
-    match element {
-        syntax::ElementType::Jint => ElementType::Int,
-        syntax::ElementType::Jshort => ElementType::Short,
-        syntax::ElementType::Jbyte => ElementType::Byte,
-        syntax::ElementType::Jchar => ElementType::Char,
     }
 }
 
@@ -161,11 +135,73 @@ fn is_array_at(classes: &ClassTable, heap: &Heap, reference: Option<Addr>) -> bo
     }
 }
 
-/// The operand at a place, and NULL where there is none.
-pub fn operand_of(operands: &[Operand], place: usize) -> Operand
-    ensures { result ≡ operand_of operands.now place }
+/// Whether a type is that of these numbers.
+fn holds_number(element: ElementType, field_type: FieldType) -> bool
+    ensures { result ≡ holds_number (element_view element) (field_type_view field_type) }
 {
-    operands.get(place).copied().unwrap_or(Operand::Null)
+    match field_type {
+        FieldType::Number(numbers) => match (element, numbers) {
+            (ElementType::Int, ElementType::Int) => true,
+            (ElementType::Short, ElementType::Short) => true,
+            (ElementType::Byte, ElementType::Byte) => true,
+            (ElementType::Char, ElementType::Char) => true,
+            _ => false,
+        },
+        FieldType::Reference(_) => false,
+    }
+}
+
+/// Whether a type is that of references.
+fn holds_reference(field_type: FieldType) -> bool
+    ensures { result ≡ holds_reference (field_type_view field_type) }
+{
+    matches!(field_type, FieldType::Reference(_))
+}
+
+/// Whether a reference may be stored in a field of this type.
+fn fits_type(
+    classes: &ClassTable,
+    heap: &Heap,
+    reference: Option<Addr>,
+    field_type: FieldType,
+) -> bool
+    requires { (a : ℕ) → reference ≡ Some a → IsAddress heap.now a }
+    ensures { result ≡ fits_type_there classes.now heap.now reference (field_type_view field_type) }
+{
+    match field_type {
+        FieldType::Number(_) => false,
+        FieldType::Reference(class) => fits_there(classes, heap, reference, class),
+    }
+}
+
+/// Whether an object has the field of a handle.
+fn has_field(
+    classes: &ClassTable,
+    heap: &Heap,
+    reference: Option<Addr>,
+    field: Option<FieldHandle>,
+) -> bool
+    requires object { (a : ℕ) → reference ≡ Some a → IsAddress heap.now a }
+    requires handle { (h : FieldHandle) → field ≡ Some h → IsSome (field_of classes.now h) }
+    ensures { result ≡ (not (field_there classes.now field).is_static && assignable classes.now (class_of_given heap.now reference) (field_there classes.now field).class) }
+{
+    !is_static(classes, field)
+        && classes.assignable(class_of_given(heap, reference), declaring(classes, field))
+}
+
+/// Whether a class has the static of a handle.
+fn has_static(
+    classes: &ClassTable,
+    heap: &Heap,
+    reference: Option<Addr>,
+    field: Option<FieldHandle>,
+) -> bool
+    requires object { (a : ℕ) → reference ≡ Some a → IsAddress heap.now a }
+    requires handle { (h : FieldHandle) → field ≡ Some h → IsSome (field_of classes.now h) }
+    ensures { result ≡ ((field_there classes.now field).is_static && assignable classes.now (name_there heap.now reference) (field_there classes.now field).class) }
+{
+    is_static(classes, field)
+        && classes.assignable(name_there(heap, reference), declaring(classes, field))
 }
 
 /// Whether the arguments of a function, each of its kind, go together.
@@ -173,22 +209,47 @@ fn fit_together(
     classes: &ClassTable,
     heap: &Heap,
     references: &[Option<Addr>],
+    fields: &[Option<FieldHandle>],
     function: JniFunction,
     operands: &[Operand],
 ) -> bool
-    requires { AreAddresses heap.now references.now operands.now }
-    ensures { result ≡ fit_together classes.now heap.now references.now (function_value function) operands.now }
+    requires objects { AreAddresses heap.now references.now operands.now }
+    requires handles { AreHandles classes.now fields.now operands.now }
+    ensures { result ≡ fit_together classes.now heap.now references.now fields.now operands.now (function_value function) }
 {
+    let first = reference_at(heap, references, operands, 0);
+    let field = handle_at(classes, fields, operands, 1);
+    let value = reference_at(heap, references, operands, 2);
     match function {
-        JniFunction::GetArrayLength => {
-            let first = operand_of(operands, 0);
-            is_array_at(classes, heap, reference_in(references, first))
+        JniFunction::AllocObject => !classes.has_own_making(name_there(heap, first)),
+        JniFunction::GetField(element) | JniFunction::SetField(element) => {
+            has_field(classes, heap, first, field)
+                && holds_number(element_type(element), type_of(classes, field))
         }
+        JniFunction::GetObjectField => {
+            has_field(classes, heap, first, field) && holds_reference(type_of(classes, field))
+        }
+        JniFunction::SetObjectField => {
+            has_field(classes, heap, first, field)
+                && fits_type(classes, heap, value, type_of(classes, field))
+        }
+        JniFunction::GetStaticField(element) | JniFunction::SetStaticField(element) => {
+            has_static(classes, heap, first, field)
+                && holds_number(element_type(element), type_of(classes, field))
+        }
+        JniFunction::GetStaticObjectField => {
+            has_static(classes, heap, first, field) && holds_reference(type_of(classes, field))
+        }
+        JniFunction::SetStaticObjectField => {
+            has_static(classes, heap, first, field)
+                && fits_type(classes, heap, value, type_of(classes, field))
+        }
+        JniFunction::GetArrayLength => is_array_at(classes, heap, first),
         _ => true,
     }
 }
 
-/// The trap of a call before it does anything.
+/// The trap of a call before it does anything. It takes no host memory.
 pub fn check(
     classes: &ClassTable,
     heap: &Heap,
@@ -198,7 +259,8 @@ pub fn check(
     fields: &[Option<FieldHandle>],
     function: &Call,
 ) -> Option<Trap>
-    requires { AreAddresses heap.now references.now function.now.operands.items }
+    requires objects { AreAddresses heap.now references.now function.now.operands.items }
+    requires handles { AreHandles classes.now fields.now function.now.operands.items }
     ensures { option_map trap_view result ≡ trap_found classes.now heap.now is_pending has_room references.now fields.now (function_value function.now.function) function.now.operands.items }
 {
     let operands = &function.operands;
@@ -210,7 +272,7 @@ pub fn check(
         return Some(Trap::NullReference);
     }
     if some_misfit(classes, heap, references, asked.parameters, operands)
-        || !fit_together(classes, heap, references, function.function, operands)
+        || !fit_together(classes, heap, references, fields, function.function, operands)
     {
         return Some(Trap::WrongObject);
     }

@@ -12,6 +12,7 @@ mod load;
 mod machine;
 mod make;
 mod objects;
+mod operands;
 mod receive;
 mod roots;
 mod rows;
