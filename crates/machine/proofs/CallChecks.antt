@@ -1,16 +1,18 @@
 -- The checks of a call in memory are those of the source.
 use Rattle.std.proofs.Common.{inl, inr, ◌≡◌, ℕ, ℤ, zero, suc, Bool, true, false, not, List, [], ◌∷◌, zip, Option, Some, None, is_none, slice_get, refl, sym, ap, ◌∙◌, subst}
-use Rattle.std.specs.Prelude.{◌&&◌, ◌||◌, unwrap_or, is_some}
+use Rattle.std.specs.Prelude.{◌&&◌, ◌||◌, unwrap_or, is_some, IsSome}
 use Rattle.std.specs.List.{AllZip, list_any}
 use Rattle.base.specs.Bytes.{Identifier}
 use Rattle.base.specs.Element.{ElementType}
+use Rattle.classes.specs.BuiltIns.{has_own_making}
 use Rattle.classes.specs.Class.{Classes, class_kind, is_plain}
 use Rattle.classes.specs.Fields.{FieldId}
+use Rattle.class_table.specs.FieldViews.{field_of}
 use Rattle.class_table.specs.declared.class.FieldHandle.{FieldHandle}
 use Rattle.code.specs.declared.instr.Operand.{Operand}
 use Rattle.code.specs.declared.instr.Operand.TheVariants as operand
 use Rattle.heap.specs.Heap.{Space, IsAddress}
-use Rattle.jni.specs.JniFunction.{JniFunction, is_allowed_pending, GetArrayLength, GetSuperclass, GetObjectClass, IsInstanceOf, IsAssignableFrom, PopLocalFrame}
+use Rattle.jni.specs.JniFunction.{JniFunction, is_allowed_pending, AllocObject, FindClass, GetFieldID, GetStaticFieldID, GetArrayLength, GetSuperclass, GetObjectClass, IsInstanceOf, IsAssignableFrom, PopLocalFrame}
 use Rattle.jni.specs.Prototype.{ParameterKind, Nullable, LocalVariable, StaticVariable, ClassObject, NumberArray, ObjectArray, StringObject, ResultKind, NewLocal, prototype}
 use Rattle.source.specs.Arguments.{Actual, ReferenceActual, FieldActual, NumberActual, TextActual, reference_given, reference_in_actual, name_or_zero}
 use Rattle.source.specs.CallStep.{trap_of_call, target_element}
@@ -22,8 +24,8 @@ use Rattle.source.specs.Thread.{Frame, Shared, Thread}
 use Rattle.source.specs.Value.{NullReference, ExceptionPending, WrongObject, DeletedReference, NoCapacity}
 use Rattle.source.specs.Variable.{Empty, Live, as_static}
 use Rattle.machine.specs.Agrees.{FieldAgrees}
-use Rattle.machine.specs.Checked.{is_worked_out, class_there, gives_null, may_be_null, some_missing, class_misfits, misfits, some_misfit, is_array_at, fit_together, puts_local, trap_found}
-use Rattle.machine.specs.Given.{operand_at, field_at, operand_of, ReferenceIsGiven, IsGiven, AreAddresses}
+use Rattle.machine.specs.Checked.{is_answered, gives_null, may_be_null, some_missing, class_misfits, misfits, some_misfit, is_array_at, fit_together, puts_local, trap_found}
+use Rattle.machine.specs.Given.{operand_at, field_at, operand_of, class_there, name_there, ReferenceIsGiven, IsGiven, AreAddresses, AreHandles}
 use Rattle.machine.specs.HeapAgrees.{ReferenceAgrees, BlocksAgree}
 use Rattle.machine.proofs.ObjectsAtAddresses.{is_object}
 
@@ -32,6 +34,12 @@ pub address_of : (space : Space) (references : List (Option ℕ)) (operands : Li
 address_of space references [] i h a e = absurd (cc)
 address_of space references (o ∷ operands) zero h a e = h.0 a e
 address_of space references (o ∷ operands) (suc i) h a e = address_of space references operands i h.1 a e
+
+-- the handle that the operand at a place gives
+pub handle_of : (classes : Classes) (fields : List (Option FieldHandle)) (operands : List Operand) (i : ℕ) → AreHandles classes fields operands → (h : FieldHandle) → field_at fields (operand_of operands i) ≡ Some h → IsSome (field_of classes h)
+handle_of classes fields [] i are h e = absurd (cc)
+handle_of classes fields (o ∷ operands) zero are h e = are.0 h e
+handle_of classes fields (o ∷ operands) (suc i) are h e = handle_of classes fields operands i are.1 h e
 
 -- ---- NULL
 
@@ -190,16 +198,28 @@ module _ (classes : Classes) (space : Space) (references : List (Option ℕ)) (f
 
     -- ---- what a function asks beyond that
 
+    -- the name of an object by its address
+    pub name_is : (o : Option ℕ) (q : Reference) → ReferenceAgrees space o q → name_there space o ≡ name_or_zero q
+    name_is None None h = refl
+    name_is None (Some n) h = absurd h
+    name_is (Some a) None h = absurd h
+    name_is (Some a) (Some n) h = ap (λ o. unwrap_or o 0) h
+
     array_is : (o : Option ℕ) (q : Reference) → ReferenceAgrees space o q → is_array_at classes space o ≡ not (is_plain (class_kind classes (class_of heap (name_or_zero q))))
     array_is None None h = refl
     array_is None (Some n) h = absurd h
     array_is (Some a) None h = absurd h
     array_is (Some a) (Some n) h = ap (λ c. not (is_plain (class_kind classes c))) (class_is a n h)
 
-    together_is : (buffer : ElementType) (operands : List Operand) (args : List Actual) → AllZip (IsGiven classes space references fields) operands args → (f : JniFunction) → is_worked_out f ≡ true
-        → fit_together classes space references f operands ≡ go_together classes heap buffer args f
+    together_is : (buffer : ElementType) (operands : List Operand) (args : List Actual) → AllZip (IsGiven classes space references fields) operands args → (f : JniFunction) → is_answered f ≡ true
+        → fit_together classes space references fields operands f ≡ go_together classes heap buffer args f
     unfolding go_together
     together_is buffer operands args h GetArrayLength e = array_is (operand_at references (operand_of operands 0)) (reference_given args 0) (reference_at_place operands args 0 h)
+    together_is buffer operands args h AllocObject e =
+        ap (λ (n : ℕ). not (has_own_making classes n)) (name_is (operand_at references (operand_of operands 0)) (reference_given args 0) (reference_at_place operands args 0 h))
+    together_is buffer operands args h FindClass e = refl
+    together_is buffer operands args h GetFieldID e = refl
+    together_is buffer operands args h GetStaticFieldID e = refl
     together_is buffer operands args h GetSuperclass e = refl
     together_is buffer operands args h GetObjectClass e = refl
     together_is buffer operands args h IsInstanceOf e = refl
@@ -212,7 +232,7 @@ module _ (classes : Classes) (space : Space) (references : List (Option ℕ)) (f
     room_is NewLocal has_room frame h = sym h
     room_is kind has_room frame h = refl
 
-    same_frames : (f : JniFunction) (frames : List Frame) → is_worked_out f ≡ true → frames ≡ frames_after f frames
+    same_frames : (f : JniFunction) (frames : List Frame) → is_answered f ≡ true → frames ≡ frames_after f frames
     same_frames PopLocalFrame frames e = absurd (cc)
     same_frames f frames e = refl
 
@@ -221,7 +241,7 @@ module _ (classes : Classes) (space : Space) (references : List (Option ℕ)) (f
     with_deleted false m w r = refl
 
     -- the trap that is found is the source's
-    pub found_is : (is_pending has_room : Bool) (f : JniFunction) (operands : List Operand) (args : List Actual) (s : Shared) (t : Thread) (target : Target) → is_worked_out f ≡ true → s.heap ≡ heap → is_pending ≡ is_some t.pending
+    pub found_is : (is_pending has_room : Bool) (f : JniFunction) (operands : List Operand) (args : List Actual) (s : Shared) (t : Thread) (target : Target) → is_answered f ≡ true → s.heap ≡ heap → is_pending ≡ is_some t.pending
         → is_full (slice_get t.frames 0) ≡ not has_room → AllZip (IsGiven classes space references fields) operands args
         → trap_found classes space is_pending has_room references fields f operands ≡ trap_of_call classes s t target f args
     unfolding call_trap
@@ -232,6 +252,6 @@ module _ (classes : Classes) (space : Space) (references : List (Option ℕ)) (f
         let misfit = all_misfit (prototype f).parameters operands args h in
         let together = together_is buffer operands args h f built in
         let lacks = room_is (prototype f).result has_room (slice_get t.frames 0) room ∙ ap (λ fs. lacks_room (prototype f).result (slice_get fs 0)) (same_frames f t.frames built) in
-        with_deleted (is_pending && not (is_allowed_pending f)) (some_missing references fields (prototype f).parameters operands) (some_misfit classes space references (prototype f).parameters operands || not (fit_together classes space references f operands)) (puts_local (prototype f).result && not has_room)
+        with_deleted (is_pending && not (is_allowed_pending f)) (some_missing references fields (prototype f).parameters operands) (some_misfit classes space references (prototype f).parameters operands || not (fit_together classes space references fields operands f)) (puts_local (prototype f).result && not has_room)
         ∙ (λ i. first_trap ((pending i && not (is_allowed_pending f), ExceptionPending) ∷ (deleted i, DeletedReference) ∷ (missing i, NullReference) ∷ (misfit i || not (together i), WrongObject) ∷ (lacks i, NoCapacity) ∷ []))
         ∙ ap (λ g. call_trap classes g t buffer f args) (sym same)

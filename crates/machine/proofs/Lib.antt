@@ -6,12 +6,7 @@ pub mod Arguments
 pub mod Classed
 pub mod Makes
 pub mod Writes
-pub mod AnswerCases
-pub mod CarryOuts
 pub mod Views
-pub mod Receives
-pub mod Invocations
-pub mod CallInstructions
 pub mod Threads
 pub mod Steps
 pub mod Names
@@ -25,8 +20,11 @@ pub mod Loaded
 pub mod FilledBlocks
 pub mod MadeInOrder
 pub mod CallChecks
+pub mod LongTables
+pub mod CallTraps
+pub mod CallAnswers
+pub mod Rooms
 pub mod FewValues
-pub mod QueryAnswers
 pub mod Changes
 pub mod Elements
 pub mod NullLaws

@@ -7,7 +7,8 @@ ghost use Rattle.world.specs.CallArguments.{is_argument};
 ghost use Rattle.lower.specs.Slots.{argument_word, HasRoom};
 ghost use Rattle.machine.specs.Entry.{argument_address, named_address, IsNumbersOf, IsReferencesOf, IsEntryFrame, BeginsIn};
 
-use crate::thread::{Activation, Frame, PendingCall};
+use crate::frame::Frame;
+use crate::thread::{Activation, PendingCall};
 use code::code::Code;
 use code::stack::Stack;
 use heap::Addr;

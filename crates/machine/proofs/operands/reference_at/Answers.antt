@@ -1,7 +1,7 @@
 use Rattle.std.proofs.Common.{sym, ◌∙◌, ap}
 use Rattle.machine.specs.Given.{operand_at}
 use Rattle.machine.proofs.CallChecks.{address_of}
-use Rattle.machine.proofs.answer.reference_at.Goals as goal
+use Rattle.machine.proofs.operands.reference_at.Goals as goal
 
 pub returns-clause-there : goal.returns-clause-there
 returns-clause-there c = λ a e.
