@@ -24,7 +24,7 @@ use Rattle.source.specs.Effect as effects
 use Rattle.source.specs.Effect.{Effect, Becomes, Sets, SetsNull, SetsElement, MakesArray, Prints, Calls, TrapsAt, effect_of}
 use Rattle.source.specs.Task.{Task, Target}
 use Rattle.source.specs.Thread as source
-use Rattle.source.specs.Thread.{BuffersInUse, Shared, sight_of}
+use Rattle.source.specs.Thread.{BuffersInUse, Shared, sight_of, viewed_by}
 use Rattle.source.specs.ThreadStep.{with_tasks, after_effect, set_element}
 use Rattle.source.specs.Value.{Trap, convert}
 use Rattle.source.specs.Variable.{Variable, Scalar, LocalArray, assign}
@@ -46,6 +46,7 @@ use Rattle.machine.specs.HeapAgrees.{ReferenceAgrees}
 use Rattle.machine.specs.Agrees.{StoreAgrees, Executes, CallStands, event_view}
 use Rattle.machine.specs.Stops.{trap_view}
 use Rattle.machine.specs.Variables.{is_null, HasSlot, nulled_references, nulled_fields}
+use Rattle.machine.proofs.Views.{Viewless, assigned_viewless}
 use Rattle.machine.proofs.Calls.{does_cases, slots_of, Ready, plain_instr, plain_works, IsNullTest, no_return, agree_count, HasMoved, stands_at, runs, room, leads, depth_behind, fields_count}
 use Rattle.machine.proofs.Changes.{array_of, is_set, is_made, is_element_set}
 use Rattle.machine.proofs.Keeping.{keeps_same}
@@ -206,7 +207,7 @@ module _ (p : Lowered) (classes : Classes) (space : Space) (call : Activation) (
 
 -- ---- what an instruction did
 
-module _ (p : Lowered) (w : World) (store : Store) (lent : BuffersInUse) (k : ℕ) (shared : Shared) (shares : StoreAgrees p w store shared) (s : source.Thread) (pending : Option ℕ) (pends : ReferenceAgrees store.heap pending s.pending) (call : Activation) (code : Listing) (task : Task) (rest : List Task)
+module _ (p : Lowered) (w : World) (store : Store) (lent : BuffersInUse) (k : ℕ) (shared : Shared) (shares : StoreAgrees p w store shared) (s : source.Thread) (pending : Option ℕ) (pends : ReferenceAgrees store.heap pending s.pending) (none : viewed_by s ≡ []) (call : Activation) (code : Listing) (task : Task) (rest : List Task)
     (r : Ready p w.classes store.heap call code (visible_to shared s) s.frames task rest) (i : Instr) (at : slice_get code.instrs call.place ≡ Some i) where
   abbrev classes : Classes
   classes = w.classes
@@ -246,11 +247,12 @@ module _ (p : Lowered) (w : World) (store : Store) (lent : BuffersInUse) (k : �
           pending_agrees = pends;
           calls = refl;
           ending = refl;
+          viewless = none;
         }
 
     writes : (did : Effect) (changed : Visible → Type 0) → Writes code r.known call.place call.stack held seen changed rest → (vs : _) → after_effect classes lent k shared s rest did ≡ source.Advances shared (record s { tasks = Some rest; variables = vs }) source.Quiet
-        → changed (visible_to shared (record s { tasks = Some rest; variables = vs })) → agrees.GoesOn p w space store lent k shared s rest after pending did false e
-    writes did changed h vs steps shown =
+        → changed (visible_to shared (record s { tasks = Some rest; variables = vs })) → Viewless vs → agrees.GoesOn p w space store lent k shared s rest after pending did false e
+    writes did changed h vs steps shown no_view =
         let same : h.here ≡ i = cc (h.at, at) in
         let plain_is : plain_of i call.stack call.numbers.items ≡ Some (plain.Next, [], h.numbers) = subst (λ (j : Instr). plain_of j call.stack call.numbers.items ≡ Some (plain.Next, [], h.numbers)) same h.plain in
         let way_is : way ≡ plain.Next = same_way _ _ _ _ _ _ (sym is ∙ plain_is) in
@@ -272,6 +274,7 @@ module _ (p : Lowered) (w : World) (store : Store) (lent : BuffersInUse) (k : �
           pending_agrees = pends;
           calls = refl;
           ending = refl;
+          viewless = no_view;
         }
 
     traps : (reason : Trap) (line : ℕ) → Stops code r.known call.place call.stack held seen reason line → agrees.GoesOn p w space store lent k shared s rest after pending (TrapsAt reason line) false e
@@ -299,6 +302,7 @@ module _ (p : Lowered) (w : World) (store : Store) (lent : BuffersInUse) (k : �
           pending_agrees = pends;
           calls = refl;
           ending = refl;
+          viewless = none;
         }
 
     sets_element : (x : Identifier) (j : ℕ) (z : ℤ) (t : ElementType) → seen.array_type x ≡ Some t → Writes code r.known call.place call.stack held seen (IsElementSet seen t x j z) rest → SetsWhatIsThere seen.sight (SetsElement x j z)
@@ -307,17 +311,17 @@ module _ (p : Lowered) (w : World) (store : Store) (lent : BuffersInUse) (k : �
         let array = array_of (lookup x s.variables) t type in
         let v : Variable = LocalArray t (slice_set array.0 j (convert t z)) in
         writes (SetsElement x j z) (IsElementSet seen t x j z) h (assign x v s.variables) (ap (set_element shared (with_tasks s rest) x j z) array.1)
-        (is_element_set shared s (record s { tasks = Some rest; variables = assign x v s.variables }) x t array.0 j z there.0 array.1 there.1 refl)
+        (is_element_set shared s (record s { tasks = Some rest; variables = assign x v s.variables }) x t array.0 j z there.0 array.1 there.1 refl) (assigned_viewless x v s.variables refl none)
 
     pub plain_executes : Executes p w space store lent k shared s rest after pending (effect_of (sight_of shared s) task) (Did e)
     plain_executes =
         let works : IsPlain i = plain_instr i call.stack call.numbers.items (way, stack, numbers) is in
         does_cases code r.known call.place call.stack held seen rest (λ effect. SetsWhatIsThere seen.sight effect → Executes p w space store lent k shared s rest after pending effect (Did e))
         (λ tasks h there. becomes works tasks h)
-        (λ x v h there. writes (Sets x v) (IsSet seen x v) h (assign x (Scalar v) s.variables) refl (is_set shared s (record s { tasks = Some rest; variables = assign x (Scalar v) s.variables }) x v refl))
+        (λ x v h there. writes (Sets x v) (IsSet seen x v) h (assign x (Scalar v) s.variables) refl (is_set shared s (record s { tasks = Some rest; variables = assign x (Scalar v) s.variables }) x v refl) (assigned_viewless x (Scalar v) s.variables refl none))
         (λ target h. absurd (let same : i ≡ instr.StoreNull h.variable = cc (at, h.at) in subst IsPlain same works))
         (λ x j z t type h there. sets_element x j z t type h there)
-        (λ t x n h there. let v : Variable = LocalArray t (replicate n (pos 0)) in writes (MakesArray t x n) (IsMade seen t x n) h (assign x v s.variables) refl (is_made shared s (record s { tasks = Some rest; variables = assign x v s.variables }) x t n refl))
+        (λ t x n h there. let v : Variable = LocalArray t (replicate n (pos 0)) in writes (MakesArray t x n) (IsMade seen t x n) h (assign x v s.variables) refl (is_made shared s (record s { tasks = Some rest; variables = assign x v s.variables }) x t n refl) (assigned_viewless x v s.variables refl none))
         (λ z h. absurd (let same : i ≡ instr.PutJint = cc (at, h.at) in subst IsPlain same works))
         (λ line target f args h. absurd (let same : i ≡ instr.Call h.call = cc (at, h.at) in subst IsPlain same works))
         (λ h. absurd (no_return i (let same : h.here ≡ i = cc (at, h.at) in subst IsReturn same h.returns) works))
@@ -357,6 +361,7 @@ module _ (p : Lowered) (w : World) (store : Store) (lent : BuffersInUse) (k : �
             pending_agrees = pends;
             calls = refl;
             ending = refl;
+            viewless = none;
           }
 
   -- NULL is stored
@@ -372,7 +377,7 @@ module _ (p : Lowered) (w : World) (store : Store) (lent : BuffersInUse) (k : �
     where
       stores : (target : Target) (h : StoresNull code r.known call.place call.stack held seen target rest) → h.variable ≡ variable → agrees.GoesOn p w space store lent k shared s rest after pending (SetsNull target) false event.Quiet
       stores target h same =
-          let null = puts_null p shared shares.statics s rest code r.known call.place call.stack held target h.name h.is h.takes in
+          let null = puts_null p shared shares.statics s none rest code r.known call.place call.stack held target h.name h.is h.takes in
           let next : source.Thread = record s { tasks = Some rest; variables = null.variables } in
           let nulled = nulled_agree classes space call.references.items call.fields.items held variable r.agree r.fields_agree in
           let m' : HasMoved call after (call.place + 1) [] (lower.with_null variable held).numbers (nulled_references variable call.references.items) (nulled_fields variable call.fields.items) =
@@ -389,6 +394,7 @@ module _ (p : Lowered) (w : World) (store : Store) (lent : BuffersInUse) (k : �
             pending_agrees = pends;
             calls = refl;
             ending = refl;
+            viewless = null.viewless;
           }
 
   -- a print
@@ -419,6 +425,7 @@ module _ (p : Lowered) (w : World) (store : Store) (lent : BuffersInUse) (k : �
             pending_agrees = pends;
             calls = refl;
             ending = refl;
+            viewless = none;
           }
 
   -- a return

@@ -154,6 +154,7 @@ module _ (p : Lowered) (classes : Classes) (made : ℕ) (space space' : Space) (
     ending = h.ending;
     busy = h.busy;
     caught = h.caught;
+    viewless = h.viewless;
   }
 
   pub threads_stay : (ts : List Thread) (ss : List source.Thread) → ThreadsAgree p classes space made shared ts ss → ThreadsAgree p classes space' made shared' ts ss

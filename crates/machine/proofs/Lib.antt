@@ -6,6 +6,8 @@ pub mod Arguments
 pub mod Classed
 pub mod Makes
 pub mod Writes
+pub mod AnswerCases
+pub mod CarryOuts
 pub mod Views
 pub mod Threads
 pub mod Steps
@@ -23,7 +25,9 @@ pub mod CallChecks
 pub mod LongTables
 pub mod CallTraps
 pub mod CallAnswers
+pub mod Frames
 pub mod Rooms
+pub mod Handles
 pub mod FewValues
 pub mod Changes
 pub mod Elements

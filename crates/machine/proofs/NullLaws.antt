@@ -17,10 +17,10 @@ use Rattle.source.specs.Sight.{holds_null, static_is_null, held_reference, held_
 use Rattle.source.specs.Start.{null_static}
 use Rattle.source.specs.Task.{VariableKind, Task, Target, ScalarKind, ReferenceKind, FieldKind, BufferKind, Declared, Assigned, Tested, Dropped}
 use Rattle.source.specs.Thread as source
-use Rattle.source.specs.Thread.{Shared}
+use Rattle.source.specs.Thread.{Shared, viewed_by}
 use Rattle.source.specs.ThreadStep.{with_tasks}
 use Rattle.source.specs.Value.{Gives, Stuck}
-use Rattle.source.specs.Variable.{Variable, Scalar, LocalRef, FieldHandle, Elements, LocalArray, NoBuffer, StaticReference, Empty, Variables, Statics, assign}
+use Rattle.source.specs.Variable.{Variable, Scalar, LocalRef, FieldHandle, Elements, LocalArray, NoBuffer, StaticReference, Empty, Variables, Statics, assign, viewed}
 use Rattle.lower.specs.Slots as lower
 use Rattle.lower.specs.Slots.{Slots, visible_to, kind_of_variable, IsNulled}
 use Rattle.lower.specs.Stands.{target_name}
@@ -36,6 +36,7 @@ use Rattle.machine.proofs.Keeping.{StaticsAgree}
 use Rattle.machine.specs.HeapAgrees.{ReferenceAgrees}
 use Rattle.machine.specs.Variables.{holds_none, is_null, nulled_references, nulled_fields}
 use Rattle.machine.proofs.Changes.{assign_same, is_nulled}
+use Rattle.machine.proofs.Views.{Viewless, assigned_viewless}
 
 -- ---- statics
 
@@ -65,18 +66,20 @@ pub record PutsNull (shared : Shared) (s : source.Thread) (rest : List Task) (ta
   pub variables : Variables
   pub steps : put target NullResult shared (with_tasks s rest) ≡ source.Advances shared (record s { tasks = Some rest; variables = variables }) source.Quiet
   pub nulled : IsNulled (visible_to shared s) kind x (visible_to shared (record s { tasks = Some rest; variables = variables }))
+  pub viewless : Viewless variables
 
-module _ (p : Lowered) (shared : Shared) (statics : StaticsAgree p shared) (s : source.Thread) (rest : List Task) where
+module _ (p : Lowered) (shared : Shared) (statics : StaticsAgree p shared) (s : source.Thread) (none : viewed_by s ≡ []) (rest : List Task) where
   abbrev after : Variables → source.Thread
   after vs = record s { tasks = Some rest; variables = vs }
 
   declared_null : (target : Target) (x y : Identifier) (kind : Option VariableKind) (v : Variable) → put target NullResult shared (with_tasks s rest) ≡ source.Advances shared (after (assign y v s.variables)) source.Quiet → y ≡ x
-      → scalar (Some v) ≡ Stuck → ((o : Option StaticReference) → holds_null (Some v) o ≡ Gives true) → ((o : Option StaticReference) → held_reference (Some v) o ≡ Empty) → held_field (Some v) ≡ None → kind_of_variable (Some v) ≡ kind → PutsNull shared s rest target x kind
-  declared_null target x y kind v steps same number null reference field same_kind = record {
+      → scalar (Some v) ≡ Stuck → ((o : Option StaticReference) → holds_null (Some v) o ≡ Gives true) → ((o : Option StaticReference) → held_reference (Some v) o ≡ Empty) → held_field (Some v) ≡ None → kind_of_variable (Some v) ≡ kind → viewed v ≡ [] → PutsNull shared s rest target x kind
+  declared_null target x y kind v steps same number null reference field same_kind no_view = record {
     variables = assign y v s.variables;
     steps = steps;
     nulled = subst (λ (z : Identifier). IsNulled (visible_to shared s) kind z (visible_to shared (after (assign y v s.variables)))) same
         (is_nulled shared s (after (assign y v s.variables)) y v refl kind number (null (lookup y shared.statics)) (reference (lookup y shared.statics)) field same_kind);
+    viewless = assigned_viewless y v s.variables no_view none;
   }
 
   assigned_null : (x y : Identifier) (null : Bool) (o : Option Variable) → lookup y s.variables ≡ o → y ≡ x → holds_null o (lookup y shared.statics) ≡ Gives null → PutsNull shared s rest (Assigned y) x (kind_of_variable (lookup y s.variables))
@@ -95,19 +98,20 @@ module _ (p : Lowered) (shared : Shared) (statics : StaticsAgree p shared) (s : 
           same_kind = refl;
           others = λ z other. record { number = refl; is_null = refl; element = λ i. refl; reference = refl; field = refl; array_type = refl; kind = refl };
         });
+        viewless = none;
       }
   assigned_null x y null (Some (Scalar v)) found same h = absurd (cc)
-  assigned_null x y null (Some (LocalRef level q)) found same h = declared_null (Assigned y) x y (kind_of_variable (lookup y s.variables)) (LocalRef level None) (ap (put_assigned y NullResult shared (with_tasks s rest)) found) same refl (λ o. refl) (λ o. refl) refl (sym (ap kind_of_variable found))
-  assigned_null x y null (Some (FieldHandle f)) found same h = declared_null (Assigned y) x y (kind_of_variable (lookup y s.variables)) (FieldHandle None) (ap (put_assigned y NullResult shared (with_tasks s rest)) found) same refl (λ o. refl) (λ o. refl) refl (sym (ap kind_of_variable found))
-  assigned_null x y null (Some (Elements t b)) found same h = declared_null (Assigned y) x y (kind_of_variable (lookup y s.variables)) (Elements t NoBuffer) (ap (put_assigned y NullResult shared (with_tasks s rest)) found) same refl (λ o. refl) (λ o. refl) refl (sym (ap kind_of_variable found))
+  assigned_null x y null (Some (LocalRef level q)) found same h = declared_null (Assigned y) x y (kind_of_variable (lookup y s.variables)) (LocalRef level None) (ap (put_assigned y NullResult shared (with_tasks s rest)) found) same refl (λ o. refl) (λ o. refl) refl (sym (ap kind_of_variable found)) refl
+  assigned_null x y null (Some (FieldHandle f)) found same h = declared_null (Assigned y) x y (kind_of_variable (lookup y s.variables)) (FieldHandle None) (ap (put_assigned y NullResult shared (with_tasks s rest)) found) same refl (λ o. refl) (λ o. refl) refl (sym (ap kind_of_variable found)) refl
+  assigned_null x y null (Some (Elements t b)) found same h = declared_null (Assigned y) x y (kind_of_variable (lookup y s.variables)) (Elements t NoBuffer) (ap (put_assigned y NullResult shared (with_tasks s rest)) found) same refl (λ o. refl) (λ o. refl) refl (sym (ap kind_of_variable found)) refl
   assigned_null x y null (Some (LocalArray t zs)) found same h = absurd (cc)
 
   -- NULL goes to a variable that can be NULL
   pub puts_null : (code : Listing) (known : Known) (place : ℕ) (stack : List ℕ) (slots : Slots) (target : Target) (x : Identifier) → target_name target ≡ Some x → CanBeNull code known place stack slots (visible_to shared s) target → PutsNull shared s rest target x (kind_of_target code known place stack slots (visible_to shared s) target)
   puts_null code known place stack slots (Declared ScalarKind y) x is takes = absurd takes
-  puts_null code known place stack slots (Declared ReferenceKind y) x is takes = declared_null (Declared ReferenceKind y) x y (Some ReferenceKind) (LocalRef (length s.frames) None) refl (cc) refl (λ o. refl) (λ o. refl) refl refl
-  puts_null code known place stack slots (Declared FieldKind y) x is takes = declared_null (Declared FieldKind y) x y (Some FieldKind) (FieldHandle None) refl (cc) refl (λ o. refl) (λ o. refl) refl refl
-  puts_null code known place stack slots (Declared (BufferKind t) y) x is takes = declared_null (Declared (BufferKind t) y) x y (Some (BufferKind t)) (Elements t NoBuffer) refl (cc) refl (λ o. refl) (λ o. refl) refl refl
+  puts_null code known place stack slots (Declared ReferenceKind y) x is takes = declared_null (Declared ReferenceKind y) x y (Some ReferenceKind) (LocalRef (length s.frames) None) refl (cc) refl (λ o. refl) (λ o. refl) refl refl refl
+  puts_null code known place stack slots (Declared FieldKind y) x is takes = declared_null (Declared FieldKind y) x y (Some FieldKind) (FieldHandle None) refl (cc) refl (λ o. refl) (λ o. refl) refl refl refl
+  puts_null code known place stack slots (Declared (BufferKind t) y) x is takes = declared_null (Declared (BufferKind t) y) x y (Some (BufferKind t)) (Elements t NoBuffer) refl (cc) refl (λ o. refl) (λ o. refl) refl refl refl
   puts_null code known place stack slots (Assigned y) x is takes = assigned_null x y takes.0 (lookup y s.variables) refl (cc) takes.1
   puts_null code known place stack slots (Tested then' else') x is takes = absurd takes
   puts_null code known place stack slots Dropped x is takes = absurd takes

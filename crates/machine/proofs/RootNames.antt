@@ -134,7 +134,7 @@ frames_there_in space [] gs h i f e = absurd (cc)
 frames_there_in space (x ∷ fs) [] h i f e = absurd h
 frames_there_in space (x ∷ fs) (g ∷ gs) h zero f e =
     let same : x ≡ f = cc in
-    subst (λ (y : Frame). AreAddresses space y.references.items) same (each_back (IsAddress space) x.references.items (names_there space (reverse x.references.items) g.references (h.0).references))
+    subst (λ (y : Frame). AreAddresses space y.references) same (each_back (IsAddress space) x.references (names_there space (reverse x.references) g.references (h.0).references))
 frames_there_in space (x ∷ fs) (g ∷ gs) h (suc i) f e = frames_there_in space fs gs h.1 i f e
 
 pending_there : (space : Space) (o : Option ℕ) (r : Reference) → ReferenceAgrees space o r → PendingIsThere space o

@@ -45,6 +45,7 @@ use Rattle.machine.specs.declared.thread.Activation.{Activation}
 use Rattle.machine.specs.Frames.{Frame}
 use Rattle.machine.specs.declared.store.Store.{Store}
 use Rattle.machine.specs.Agrees.{StoreAgrees, Keeps, FrameAgrees, FramesAgree, FieldsAgree, CallAgrees, CallsAgree, CallStands, WorkAgrees, ReferencesAgree, ThreadAgrees, GoesOn, Advances, after_any, ending_view, ending_after, calls_after}
+use Rattle.machine.proofs.Views.{parameters_viewless}
 use Rattle.machine.proofs.Keeping.{StaticsAgree, keeps_same}
 use Rattle.machine.specs.Entry.{argument_address, named_address, IsEntryFrame, Begins, IsReady}
 use Rattle.machine.specs.HeapAgrees.{ReferenceAgrees, NamesAgree, BlocksAgree, IsTable}
@@ -115,6 +116,7 @@ module _ (p : Lowered) (w : World) (old : Space) (lent : BuffersInUse) (k : ℕ)
       ending = g.ending ∙ h.ending;
       busy = λ a b c. subst (λ (o : Option (List Task)). WorkAgrees p w.classes store.heap (visible_to g.next_shared g.next) (Some after) g.next.frames o) b g.work;
       caught = λ b. absurd (subst (λ (o : Option (List Task)). WorkAgrees p w.classes store.heap (visible_to g.next_shared g.next) (Some after) g.next.frames o) b g.work);
+      viewless = g.viewless;
     };
   }
 
@@ -213,6 +215,7 @@ module _ (p : Lowered) (w : World) (old : Space) (lent : BuffersInUse) (k : ℕ)
           ending = ending_agrees p w.classes made class t.calls.items s.calls t.ending h.calls o ∙ ap ending_view (sym ending);
           busy = λ a b c. something_to_do p w.classes made class t.calls.items s.calls t.ending h.calls (sym ending ∙ a) c;
           caught = λ b. refl;
+          viewless = refl;
         };
       }
 
@@ -460,10 +463,11 @@ enters p w store lent k shared t after s n call lowered shares h none calls is b
         ending = h.ending ∙ ap ending_view (sym ending);
         busy = λ a b d. cc;
         caught = λ b. absurd (cc);
+        viewless = parameters_viewless (zip f.function.parameters c.call.arguments);
       };
     }
 
 -- ---- before the first call
 
 pub before_agrees : (p : Lowered) (classes : Classes) (space : Space) (made : ℕ) (shared : Shared) (t : Thread) (calls : List Invocation) → CallsAgree p classes made t.calls.items calls → (calls ≡ [] → ⊥) → t.call ≡ None → t.pending ≡ None → t.ending ≡ Unfinished → ThreadAgrees p classes space made shared t (waiting_thread calls)
-before_agrees p classes space made shared t calls h some none no_exception ending = record { calls = h; work = rw none refl; pending = rw no_exception tt; caught = λ b. refl; ending = ap ending_view (sym ending); busy = λ a b c. some c }
+before_agrees p classes space made shared t calls h some none no_exception ending = record { calls = h; work = rw none refl; pending = rw no_exception tt; caught = λ b. refl; viewless = refl; ending = ap ending_view (sym ending); busy = λ a b c. some c }

@@ -1,6 +1,6 @@
 //! What a function of the JNI does, as data.
 
-ghost use Rattle.std.specs.Prelude.{◌≡◌, ◌<◌, ◌^◌, ℕ, Some, None, true, unwrap_or, slice_get, map};
+ghost use Rattle.std.specs.Prelude.{◌≡◌, ◌<◌, ◌^◌, ℕ, [], Some, None, true, unwrap_or, slice_get, map};
 ghost use Rattle.class_table.specs.FieldViews.{find_as};
 ghost use Rattle.code.specs.Call.{call_view};
 ghost use Rattle.code.specs.Effect.{truth_word};

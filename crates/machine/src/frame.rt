@@ -29,7 +29,7 @@ impl Model for Frame {
 impl Frame {
     /// A frame with these references, the last one put last, and room for `more`.
     pub fn new(references: Vec<Addr>, more: usize) -> Result<Frame, AllocError>
-        requires { length references.items + more < 2 ^ 63 }
+        requires { length references.items + more < 2 ^ 64 }
         ensures { IfOk result (λ f. f ≡ record { capacity = length references.items + more; references = references.items }) }
     {
         let mut references = references;

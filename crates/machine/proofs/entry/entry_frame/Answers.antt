@@ -1,5 +1,6 @@
 use Rattle.std.proofs.Common.{◌≡◌, ℕ, pos, ◌+◌, ◌-◌, ◌<◌, List, [], ◌∷◌, ◌++◌, Option, Some, None, length, map, take, refl, sym, ap, ◌∙◌, arith, append-nil}
 use Rattle.std.specs.Prelude.{slice_get, filter_map}
+use Rattle.std.proofs.Math.ListN.{length-reverse}
 use Rattle.std.proofs.lemmas.List.{map-append}
 use Rattle.std.proofs.lemmas.Option.{slice_get_read}
 use Rattle.world.specs.declared.object.ObjectValue.TheVariants.{Number, Reference}
@@ -62,3 +63,6 @@ loop-argument-preserved c =
           ∙ ap (λ (o : Option ℕ). class ∷ filter_map (named_address loaded) (map object_value_view (take i xs)) ++ o ∷ []) (sym there)
           ∙ ap (λ (l : List (Option ℕ)). class ∷ l) (sym (given_more (named_address loaded) xs i (Reference (Some r.name)) at))
     ]
+
+pub new-requires : goal.new-requires
+new-requires c = let few = c.loop-argument.references.small in omega (arith, few, length-reverse c.loop-argument.references.items, ap length c.reverse.ensures.items)

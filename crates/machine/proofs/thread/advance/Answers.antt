@@ -28,7 +28,7 @@ executing : (p : Lowered) (w : World) (store : Store) (shared : Shared) (t : Thr
     → IsExecuting p w store call t.pending shared s (works p w store shared t s call h is).task (works p w store shared t s call h is).rest
 executing p w store shared t s call shares h is =
     let k = works p w store shared t s call h is in
-    record { store_agrees = shares; tasks = k.is; stands = k.stands; pending_agrees = h.pending }
+    record { store_agrees = shares; tasks = k.is; stands = k.stands; pending_agrees = h.pending; viewless = h.viewless }
 
 pub execute-requires-clause-stands : goal.execute-requires-clause-stands
 execute-requires-clause-stands c =
@@ -57,7 +57,7 @@ returns-in-Did-clause-advances c lent k shared s shares h =
     let w = c.args.world.now in
     let old = c.args.store.now in
     let b = works p w old shared c.args.thread.now s c.in-Some.call h c.in-Some.is in
-    let executed = c.in_ok-event-in-Some.ensures.executes lent k shared s b.task b.rest (executing p w old shared c.args.thread.now s c.in-Some.call shares h c.in-Some.is) in
+    let executed = c.execute.ensures lent k shared s b.task b.rest (executing p w old shared c.args.thread.now s c.in-Some.call shares h c.in-Some.is) in
     let goes = subst (λ (x : Executed). Executes p w old.heap c.execute.new.store lent k shared s b.rest c.execute.new.call c.execute.new.pending (effect_of (sight_of shared s) b.task) x) c.in-Did.is executed in
     did p w old.heap lent k shared c.args.thread.now s h c.execute.new.store false c.in-Did.event b.task b.rest b.is c.execute.new.call c.execute.new.pending goes
 
@@ -67,7 +67,7 @@ returns-in-Refused-clause-advances c lent k shared s shares h =
     let w = c.args.world.now in
     let old = c.args.store.now in
     let b = works p w old shared c.args.thread.now s c.in-Some.call h c.in-Some.is in
-    let executed = c.in_ok-event-in-Some.ensures.executes lent k shared s b.task b.rest (executing p w old shared c.args.thread.now s c.in-Some.call shares h c.in-Some.is) in
+    let executed = c.execute.ensures lent k shared s b.task b.rest (executing p w old shared c.args.thread.now s c.in-Some.call shares h c.in-Some.is) in
     let goes = subst (λ (x : Executed). Executes p w old.heap c.execute.new.store lent k shared s b.rest c.execute.new.call c.execute.new.pending (effect_of (sight_of shared s) b.task) x) c.in-Refused.is executed in
     did p w old.heap lent k shared c.args.thread.now s h c.execute.new.store true Quiet b.task b.rest b.is c.execute.new.call c.execute.new.pending goes
 
@@ -89,7 +89,7 @@ leave-requires c a is =
     let r = c.requires.agrees in
     let lent : source.BuffersInUse = record { copied = 0; views = 0 } in
     let b = works p w old r.0 c.args.thread.now r.1 c.in-Some.call r.3 c.in-Some.is in
-    let executed = c.in_ok-event-in-Some.ensures.executes lent 0 r.0 r.1 b.task b.rest (executing p w old r.0 c.args.thread.now r.1 c.in-Some.call r.2 r.3 c.in-Some.is) in
+    let executed = c.execute.ensures lent 0 r.0 r.1 b.task b.rest (executing p w old r.0 c.args.thread.now r.1 c.in-Some.call r.2 r.3 c.in-Some.is) in
     let left = subst (λ (x : Executed). Executes p w old.heap c.execute.new.store lent 0 r.0 r.1 b.rest c.execute.new.call c.execute.new.pending (effect_of (sight_of r.0 r.1) b.task) x) c.in-Returned.is executed in
     named c.execute.new.store.heap c.execute.new.pending r.1.pending a left.3 is
 
@@ -99,6 +99,6 @@ returns-in-Returned-clause-advances c lent k shared s shares h =
     let w = c.args.world.now in
     let old = c.args.store.now in
     let b = works p w old shared c.args.thread.now s c.in-Some.call h c.in-Some.is in
-    let executed = c.in_ok-event-in-Some.ensures.executes lent k shared s b.task b.rest (executing p w old shared c.args.thread.now s c.in-Some.call shares h c.in-Some.is) in
+    let executed = c.execute.ensures lent k shared s b.task b.rest (executing p w old shared c.args.thread.now s c.in-Some.call shares h c.in-Some.is) in
     let left = subst (λ (x : Executed). Executes p w old.heap c.execute.new.store lent k shared s b.rest c.execute.new.call c.execute.new.pending (effect_of (sight_of shared s) b.task) x) c.in-Returned.is executed in
     returned p w old.heap lent k shared c.args.thread.now s h c.execute.new.store c.execute.new.pending c.leave.new.thread b.task b.rest b.is left.1 left.2 left.3 c.requires.agrees.4 left.0 c.leave.ensures.call c.leave.ensures.pending c.leave.ensures.calls c.leave.ensures.ending

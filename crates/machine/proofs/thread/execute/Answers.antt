@@ -97,6 +97,7 @@ at_call p w store pending call i f function is shared s task rest e = record {
   shares = e.store_agrees;
   pending_agrees = e.pending_agrees;
   stands = e.stands;
+  viewless = e.viewless;
   code = f.code;
   of_function = f.of_function;
   at = f.at ∙ ap (λ j. Some j) is;
@@ -108,14 +109,14 @@ invoke-requires c =
     let f = fetched (goal.at.invoke-requires c).After-unwrap-instr in
     record { at_call = (c.args.program.now, s.0, s.1, s.2, s.3, at_call c.args.program.now c.args.world.now c.args.store.now c.args.pending.now c.args.call.now c.unwrap-instr.result.now f c.call.result.now (c.in-Call.is ∙ ap (λ (x : Call). instr.Call x) (sym c.call.ensures)) s.0 s.1 s.2 s.3 s.4) }
 
-pub returns-in-TestNull-clause-executes : goal.returns-in-TestNull-clause-executes
-returns-in-TestNull-clause-executes c lent k shared s task rest e =
-    let f = fetched (goal.at.returns-in-TestNull-clause-executes c).After-unwrap-instr in
+pub returns-in-TestNull : goal.returns-in-TestNull
+returns-in-TestNull c lent k shared s task rest e =
+    let f = fetched (goal.at.returns-in-TestNull c).After-unwrap-instr in
     let after : Activation = record c.args.call.now { place = c.args.call.now.place + 1; stack = c.push.new.self } in
     let null : c.is_null-null.result ≡ is_null c.args.call.now.references.items c.args.call.now.fields.items c.in-TestNull.variable =
     c.is_null-null.ensures ∙ ap (λ (l : List (Option ℕ)). is_null l c.deref-in-TestNull.result.now c.in-TestNull.variable) c.deref.ensures.value ∙ ap (λ (l : List (Option FieldHandle)). is_null c.args.call.now.references.items l c.in-TestNull.variable) c.deref-in-TestNull.ensures.value in
     let word : c.from.result ≡ truth_word (beq c.is_null-null.result c.in-TestNull.equal) = c.from.ensures in
-    test_executes c.args.program.now c.args.world.now c.args.store.now lent k shared e.store_agrees s c.args.pending.now e.pending_agrees c.args.call.now f.code task rest (ready_for _ c.args.world.now.classes c.args.store.now.heap _ _ f (visible_to shared s) s.frames task rest e.stands) c.unwrap-instr.result.now f.at
+    test_executes c.args.program.now c.args.world.now c.args.store.now lent k shared e.store_agrees s c.args.pending.now e.pending_agrees e.viewless c.args.call.now f.code task rest (ready_for _ c.args.world.now.classes c.args.store.now.heap _ _ f (visible_to shared s) s.frames task rest e.stands) c.unwrap-instr.result.now f.at
     c.in-TestNull.variable c.in-TestNull.equal after c.in-TestNull.is
     (record {
       function = refl;
@@ -127,11 +128,11 @@ returns-in-TestNull-clause-executes c lent k shared s task rest e =
       frames = refl;
     })
 
-pub returns-in-StoreNull-clause-executes : goal.returns-in-StoreNull-clause-executes
-returns-in-StoreNull-clause-executes c lent k shared s task rest e =
-    let f = fetched (goal.at.returns-in-StoreNull-clause-executes c).After-unwrap-instr in
+pub returns-in-StoreNull : goal.returns-in-StoreNull
+returns-in-StoreNull c lent k shared s task rest e =
+    let f = fetched (goal.at.returns-in-StoreNull c).After-unwrap-instr in
     let after : Activation = record c.args.call.now { place = c.args.call.now.place + 1; references = with_items c.args.call.now.references c.set_null.new.references; fields = with_items c.args.call.now.fields c.set_null.new.fields } in
-    store_executes c.args.program.now c.args.world.now c.args.store.now lent k shared e.store_agrees s c.args.pending.now e.pending_agrees c.args.call.now f.code task rest (ready_for _ c.args.world.now.classes c.args.store.now.heap _ _ f (visible_to shared s) s.frames task rest e.stands) c.unwrap-instr.result.now f.at
+    store_executes c.args.program.now c.args.world.now c.args.store.now lent k shared e.store_agrees s c.args.pending.now e.pending_agrees e.viewless c.args.call.now f.code task rest (ready_for _ c.args.world.now.classes c.args.store.now.heap _ _ f (visible_to shared s) s.frames task rest e.stands) c.unwrap-instr.result.now f.at
     c.in-StoreNull.variable after c.in-StoreNull.is
     (record {
       function = refl;
@@ -143,86 +144,81 @@ returns-in-StoreNull-clause-executes c lent k shared s task rest e =
       frames = refl;
     })
 
-pub returns-in-PutJint-clause-executes : goal.returns-in-PutJint-clause-executes
-returns-in-PutJint-clause-executes c lent k shared s task rest e =
-    let f = fetched (goal.at.returns-in-PutJint-clause-executes c).After-unwrap-instr in
+pub returns-in-PutJint : goal.returns-in-PutJint
+returns-in-PutJint c lent k shared s task rest e =
+    let f = fetched (goal.at.returns-in-PutJint c).After-unwrap-instr in
     let number : cast_signed w32 (cast_unsigned w32 c.cast_signed.result) ≡ cast_signed w32 c.pop-word.result = to_z-of_z {w = w32} (record { sfits = c.cast_signed.type_inv }) ∙ c.cast_signed.ensures in
     let after : Activation = record c.args.call.now { place = c.args.call.now.place + 1; stack = c.pop-word.new.self } in
     subst (λ (z : ℤ). Executes c.args.program.now c.args.world.now c.args.store.now.heap c.args.store.now lent k shared s rest after c.args.pending.now (effect_of (sight_of shared s) task) (Did (Printed z))) (sym number)
-    (put_executes c.args.program.now c.args.world.now c.args.store.now lent k shared e.store_agrees s c.args.pending.now e.pending_agrees c.args.call.now f.code task rest (ready_for _ c.args.world.now.classes c.args.store.now.heap _ _ f (visible_to shared s) s.frames task rest e.stands) c.unwrap-instr.result.now f.at
+    (put_executes c.args.program.now c.args.world.now c.args.store.now lent k shared e.store_agrees s c.args.pending.now e.pending_agrees e.viewless c.args.call.now f.code task rest (ready_for _ c.args.world.now.classes c.args.store.now.heap _ _ f (visible_to shared s) s.frames task rest e.stands) c.unwrap-instr.result.now f.at
     c.pop-word.result after c.pop-word.new.self c.in-PutJint.is c.pop-word.ensures.words
     (record { function = refl; place = refl; stack = refl; numbers = refl; references = refl; fields = refl; frames = refl }))
 
--- what is known where a call of a function was executed
-if_ok : {A B : Type 0} (r : Result A B) (P Q : A → Type 0) → ((x : A) → P x → Q x) → IfOk r P → IfOk r Q
-if_ok (Ok x) P Q more h = more x h
-if_ok (Err e) P Q more h = tt
+pub returns-in-Call : goal.returns-in-Call
+returns-in-Call c lent k shared s task rest e =
+    let f = fetched (goal.at.returns-in-Call c).After-unwrap-instr in
+    c.invoke.ensures c.args.program.now lent k shared s task rest
+    (at_call c.args.program.now c.args.world.now c.args.store.now c.args.pending.now c.args.call.now c.unwrap-instr.result.now f c.call.result.now (c.in-Call.is ∙ ap (λ (x : Call). instr.Call x) (sym c.call.ensures)) shared s task rest e)
 
-pub returns-in-Call-clause-executes : goal.returns-in-Call-clause-executes
-returns-in-Call-clause-executes c =
-    let f = fetched (goal.at.returns-in-Call-clause-executes c).After-unwrap-instr in
-    if_ok c.invoke.result _ _ (λ done h lent k shared s task rest e. h c.args.program.now lent k shared s task rest
-    (at_call c.args.program.now c.args.world.now c.args.store.now c.args.pending.now c.args.call.now c.unwrap-instr.result.now f c.call.result.now (c.in-Call.is ∙ ap (λ (x : Call). instr.Call x) (sym c.call.ensures)) shared s task rest e)) c.invoke.ensures.executes
+pub returns-in-Return : goal.returns-in-Return
+returns-in-Return c lent k shared s task rest e =
+    let f = fetched (goal.at.returns-in-Return c).After-unwrap-instr in
+    return_executes _ c.args.world.now c.args.store.now lent k shared e.store_agrees s c.args.pending.now e.pending_agrees e.viewless _ f.code task rest (ready_for _ c.args.world.now.classes c.args.store.now.heap _ _ f (visible_to shared s) s.frames task rest e.stands) c.unwrap-instr.result.now f.at (returns_is _ c.in-Return.is) c.args.call.now
 
-pub returns-in-Return-clause-executes : goal.returns-in-Return-clause-executes
-returns-in-Return-clause-executes c lent k shared s task rest e =
-    let f = fetched (goal.at.returns-in-Return-clause-executes c).After-unwrap-instr in
-    return_executes _ c.args.world.now c.args.store.now lent k shared e.store_agrees s c.args.pending.now e.pending_agrees _ f.code task rest (ready_for _ c.args.world.now.classes c.args.store.now.heap _ _ f (visible_to shared s) s.frames task rest e.stands) c.unwrap-instr.result.now f.at (returns_is _ c.in-Return.is) c.args.call.now
+pub returns-in-Return-2 : goal.returns-in-Return-2
+returns-in-Return-2 c lent k shared s task rest e =
+    let f = fetched (goal.at.returns-in-Return-2 c).After-unwrap-instr in
+    return_executes _ c.args.world.now c.args.store.now lent k shared e.store_agrees s c.args.pending.now e.pending_agrees e.viewless _ f.code task rest (ready_for _ c.args.world.now.classes c.args.store.now.heap _ _ f (visible_to shared s) s.frames task rest e.stands) c.unwrap-instr.result.now f.at (returns_is _ c.in-Return.is) c.args.call.now
 
-pub returns-in-Return-2-clause-executes : goal.returns-in-Return-2-clause-executes
-returns-in-Return-2-clause-executes c lent k shared s task rest e =
-    let f = fetched (goal.at.returns-in-Return-2-clause-executes c).After-unwrap-instr in
-    return_executes _ c.args.world.now c.args.store.now lent k shared e.store_agrees s c.args.pending.now e.pending_agrees _ f.code task rest (ready_for _ c.args.world.now.classes c.args.store.now.heap _ _ f (visible_to shared s) s.frames task rest e.stands) c.unwrap-instr.result.now f.at (returns_is _ c.in-Return.is) c.args.call.now
+pub returns-in-Return-3 : goal.returns-in-Return-3
+returns-in-Return-3 c lent k shared s task rest e =
+    let f = fetched (goal.at.returns-in-Return-3 c).After-unwrap-instr in
+    return_executes _ c.args.world.now c.args.store.now lent k shared e.store_agrees s c.args.pending.now e.pending_agrees e.viewless _ f.code task rest (ready_for _ c.args.world.now.classes c.args.store.now.heap _ _ f (visible_to shared s) s.frames task rest e.stands) c.unwrap-instr.result.now f.at (returns_is _ c.in-Return.is) c.args.call.now
 
-pub returns-in-Return-3-clause-executes : goal.returns-in-Return-3-clause-executes
-returns-in-Return-3-clause-executes c lent k shared s task rest e =
-    let f = fetched (goal.at.returns-in-Return-3-clause-executes c).After-unwrap-instr in
-    return_executes _ c.args.world.now c.args.store.now lent k shared e.store_agrees s c.args.pending.now e.pending_agrees _ f.code task rest (ready_for _ c.args.world.now.classes c.args.store.now.heap _ _ f (visible_to shared s) s.frames task rest e.stands) c.unwrap-instr.result.now f.at (returns_is _ c.in-Return.is) c.args.call.now
-
-pub returns-in-Next-clause-executes : goal.returns-in-Next-clause-executes
-returns-in-Next-clause-executes c lent k shared s task rest e =
-    let f = fetched (goal.at.returns-in-Next-clause-executes c).After-unwrap-instr in
+pub returns-in-Next : goal.returns-in-Next
+returns-in-Next c lent k shared s task rest e =
+    let f = fetched (goal.at.returns-in-Next c).After-unwrap-instr in
     let i = c.unwrap-instr.result.now in
     let stack = c.args.call.now.stack in
     let is : ◌≡◌ {A = Answer} (plain_of i stack c.args.call.now.numbers.items) (Some (plain.Next, c.plain.new.stack, c.plain.new.numbers)) =
     ap (plain_of i stack) (sym c.deref_mut-in_default.ensures.value) ∙ c.plain.ensures ∙ ap (λ (o : Plain). let x : Answer = Some (o, c.plain.new.stack, c.plain.new.numbers) in x) c.in-Next.is in
     let after : Activation = record c.args.call.now { place = c.args.call.now.place + 1; stack = c.plain.new.stack; numbers = with_items c.args.call.now.numbers c.plain.new.numbers } in
-    plain_executes c.args.program.now c.args.world.now c.args.store.now lent k shared e.store_agrees s c.args.pending.now e.pending_agrees c.args.call.now f.code task rest (ready_for _ c.args.world.now.classes c.args.store.now.heap _ _ f (visible_to shared s) s.frames task rest e.stands) i f.at e.tasks
+    plain_executes c.args.program.now c.args.world.now c.args.store.now lent k shared e.store_agrees s c.args.pending.now e.pending_agrees e.viewless c.args.call.now f.code task rest (ready_for _ c.args.world.now.classes c.args.store.now.heap _ _ f (visible_to shared s) s.frames task rest e.stands) i f.at e.tasks
     after Quiet plain.Next c.plain.new.stack c.plain.new.numbers is
     (record { function = refl; place = refl; stack = refl; numbers = with_items_is c.args.call.now.numbers c.plain.new.numbers (search (rules, places)); references = refl; fields = refl; frames = refl }) refl
 
-pub returns-in-Skip-clause-executes : goal.returns-in-Skip-clause-executes
-returns-in-Skip-clause-executes c lent k shared s task rest e =
-    let f = fetched (goal.at.returns-in-Skip-clause-executes c).After-unwrap-instr in
+pub returns-in-Skip : goal.returns-in-Skip
+returns-in-Skip c lent k shared s task rest e =
+    let f = fetched (goal.at.returns-in-Skip c).After-unwrap-instr in
     let i = c.unwrap-instr.result.now in
     let stack = c.args.call.now.stack in
     let is : ◌≡◌ {A = Answer} (plain_of i stack c.args.call.now.numbers.items) (Some (plain.Skip c.in-Skip.skipped, c.plain.new.stack, c.plain.new.numbers)) =
     ap (plain_of i stack) (sym c.deref_mut-in_default.ensures.value) ∙ c.plain.ensures ∙ ap (λ (o : Plain). let x : Answer = Some (o, c.plain.new.stack, c.plain.new.numbers) in x) c.in-Skip.is in
     let after : Activation = record c.args.call.now { place = c.args.call.now.place + (1 + c.in-Skip.skipped); stack = c.plain.new.stack; numbers = with_items c.args.call.now.numbers c.plain.new.numbers } in
-    plain_executes c.args.program.now c.args.world.now c.args.store.now lent k shared e.store_agrees s c.args.pending.now e.pending_agrees c.args.call.now f.code task rest (ready_for _ c.args.world.now.classes c.args.store.now.heap _ _ f (visible_to shared s) s.frames task rest e.stands) i f.at e.tasks
+    plain_executes c.args.program.now c.args.world.now c.args.store.now lent k shared e.store_agrees s c.args.pending.now e.pending_agrees e.viewless c.args.call.now f.code task rest (ready_for _ c.args.world.now.classes c.args.store.now.heap _ _ f (visible_to shared s) s.frames task rest e.stands) i f.at e.tasks
     after Quiet (plain.Skip c.in-Skip.skipped) c.plain.new.stack c.plain.new.numbers is
     (record { function = refl; place = omega arith; stack = refl; numbers = with_items_is c.args.call.now.numbers c.plain.new.numbers (search (rules, places)); references = refl; fields = refl; frames = refl }) refl
 
-pub returns-in-Back-clause-executes : goal.returns-in-Back-clause-executes
-returns-in-Back-clause-executes c lent k shared s task rest e =
-    let f = fetched (goal.at.returns-in-Back-clause-executes c).After-unwrap-instr in
+pub returns-in-Back : goal.returns-in-Back
+returns-in-Back c lent k shared s task rest e =
+    let f = fetched (goal.at.returns-in-Back c).After-unwrap-instr in
     let i = c.unwrap-instr.result.now in
     let stack = c.args.call.now.stack in
     let is : ◌≡◌ {A = Answer} (plain_of i stack c.args.call.now.numbers.items) (Some (plain.Back c.in-Back.back, c.plain.new.stack, c.plain.new.numbers)) =
     ap (plain_of i stack) (sym c.deref_mut-in_default.ensures.value) ∙ c.plain.ensures ∙ ap (λ (o : Plain). let x : Answer = Some (o, c.plain.new.stack, c.plain.new.numbers) in x) c.in-Back.is in
     let after : Activation = record c.args.call.now { place = c.args.call.now.place - c.in-Back.back; stack = c.plain.new.stack; numbers = with_items c.args.call.now.numbers c.plain.new.numbers } in
-    plain_executes c.args.program.now c.args.world.now c.args.store.now lent k shared e.store_agrees s c.args.pending.now e.pending_agrees c.args.call.now f.code task rest (ready_for _ c.args.world.now.classes c.args.store.now.heap _ _ f (visible_to shared s) s.frames task rest e.stands) i f.at e.tasks
+    plain_executes c.args.program.now c.args.world.now c.args.store.now lent k shared e.store_agrees s c.args.pending.now e.pending_agrees e.viewless c.args.call.now f.code task rest (ready_for _ c.args.world.now.classes c.args.store.now.heap _ _ f (visible_to shared s) s.frames task rest e.stands) i f.at e.tasks
     after Quiet (plain.Back c.in-Back.back) c.plain.new.stack c.plain.new.numbers is
     (record { function = refl; place = refl; stack = refl; numbers = with_items_is c.args.call.now.numbers c.plain.new.numbers (search (rules, places)); references = refl; fields = refl; frames = refl }) refl
 
-pub returns-in-Trap-clause-executes : goal.returns-in-Trap-clause-executes
-returns-in-Trap-clause-executes c lent k shared s task rest e =
-    let f = fetched (goal.at.returns-in-Trap-clause-executes c).After-unwrap-instr in
+pub returns-in-Trap : goal.returns-in-Trap
+returns-in-Trap c lent k shared s task rest e =
+    let f = fetched (goal.at.returns-in-Trap c).After-unwrap-instr in
     let i = c.unwrap-instr.result.now in
     let stack = c.args.call.now.stack in
     let is : ◌≡◌ {A = Answer} (plain_of i stack c.args.call.now.numbers.items) (Some (plain.Trap c.in-Trap.trap c.in-Trap.line, c.plain.new.stack, c.plain.new.numbers)) =
     ap (plain_of i stack) (sym c.deref_mut-in_default.ensures.value) ∙ c.plain.ensures ∙ ap (λ (o : Plain). let x : Answer = Some (o, c.plain.new.stack, c.plain.new.numbers) in x) c.in-Trap.is in
     let after : Activation = record c.args.call.now { stack = c.plain.new.stack; numbers = with_items c.args.call.now.numbers c.plain.new.numbers } in
-    plain_executes c.args.program.now c.args.world.now c.args.store.now lent k shared e.store_agrees s c.args.pending.now e.pending_agrees c.args.call.now f.code task rest (ready_for _ c.args.world.now.classes c.args.store.now.heap _ _ f (visible_to shared s) s.frames task rest e.stands) i f.at e.tasks
+    plain_executes c.args.program.now c.args.world.now c.args.store.now lent k shared e.store_agrees s c.args.pending.now e.pending_agrees e.viewless c.args.call.now f.code task rest (ready_for _ c.args.world.now.classes c.args.store.now.heap _ _ f (visible_to shared s) s.frames task rest e.stands) i f.at e.tasks
     after (Trapped c.trap_of.result c.in-Trap.line) (plain.Trap c.in-Trap.trap c.in-Trap.line) c.plain.new.stack c.plain.new.numbers is
     (record { function = refl; place = refl; stack = refl; numbers = with_items_is c.args.call.now.numbers c.plain.new.numbers (search (rules, places)); references = refl; fields = refl; frames = refl }) (c.trap_of.result, c.trap_of.ensures, refl)
