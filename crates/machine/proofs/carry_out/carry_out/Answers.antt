@@ -1,8 +1,9 @@
-use Rattle.std.proofs.Common.{◌≡◌, ℕ, ◌<◌, ◌≤◌, ◌^◌, List, Option, Some, None, length, true, refl, sym, ap, ◌∙◌, subst, arith}
+use Rattle.std.proofs.Common.{◌≡◌, ℕ, ◌<◌, ◌≤◌, ◌^◌, List, Option, Some, None, length, true, false, refl, sym, ap, ◌∙◌, subst, arith}
 use Rattle.std.specs.Prelude.{slice_get}
 use Rattle.classes.specs.Class.{Classes}
 use Rattle.heap.specs.Heap.{Space}
 use Rattle.jni.specs.Prototype.{ResultKind}
+use Rattle.jni.specs.Table.{result_value}
 use Rattle.source.specs.CallEffects.{CallEffect}
 use Rattle.source.specs.Thread.{Shared, Thread}
 use Rattle.source.specs.World.{World}
@@ -12,6 +13,7 @@ use Rattle.lower.specs.Lowered.{Lowered}
 use Rattle.machine.specs.declared.answer.Answer.{Answer}
 use Rattle.machine.specs.declared.answer.Answer.TheVariants as answer
 use Rattle.machine.specs.declared.answer.Given.{Given}
+use Rattle.machine.specs.declared.answer.Given.TheVariants as given
 use Rattle.machine.specs.declared.carry_out.Carried.{Carried}
 use Rattle.machine.specs.declared.store.Store.{Store}
 use Rattle.machine.specs.Answers.{IsAnswer}
@@ -46,8 +48,9 @@ pub make-requires-clause-class : goal.make-requires-clause-class
 make-requires-clause-class c =
     let r = c.requires.possible in
     let w = c.args.world.now in
+    let k = result_value c.args.kind in
     small w c.in-Makes.class c.threads.ensures.sound
-    (makes_it w.classes c.args.store.now.heap _ r.1 r.2 c.in-Makes.class r.3 (subst (λ (a : Answer). IsAnswer w.classes c.args.store.now.heap _ r.1 r.2 a r.3) c.in-Makes.is r.5)).makeable.high
+    (makes_it w.classes c.args.store.now.heap k r.1 r.2 c.in-Makes.class r.3 (subst (λ (a : Answer). IsAnswer w.classes c.args.store.now.heap k r.1 r.2 a r.3) c.in-Makes.is r.5)).makeable.high
 
 pub make-requires-clause-few : goal.make-requires-clause-few
 make-requires-clause-few c = few_births c.requires.possible.0 c.args.world.now c.args.store.now c.requires.possible.1 c.requires.possible.4.store_agrees c.threads.ensures.sound.cells
@@ -56,8 +59,9 @@ pub make-requires-in-Throws-clause-class : goal.make-requires-in-Throws-clause-c
 make-requires-in-Throws-clause-class c =
     let r = c.requires.possible in
     let w = c.args.world.now in
+    let k = result_value c.args.kind in
     small w c.in-Throws.class c.threads.ensures.sound
-    (throws_it w.classes c.args.store.now.heap _ r.1 r.2 c.in-Throws.class r.3 (subst (λ (a : Answer). IsAnswer w.classes c.args.store.now.heap _ r.1 r.2 a r.3) c.in-Throws.is r.5)).makeable.high
+    (throws_it w.classes c.args.store.now.heap k r.1 r.2 c.in-Throws.class r.3 (subst (λ (a : Answer). IsAnswer w.classes c.args.store.now.heap k r.1 r.2 a r.3) c.in-Throws.is r.5)).makeable.high
 
 pub make-requires-in-Throws-clause-few : goal.make-requires-in-Throws-clause-few
 make-requires-in-Throws-clause-few c = few_births c.requires.possible.0 c.args.world.now c.args.store.now c.requires.possible.1 c.requires.possible.4.store_agrees c.threads.ensures.sound.cells
@@ -65,42 +69,47 @@ make-requires-in-Throws-clause-few c = few_births c.requires.possible.0 c.args.w
 pub returns-in-Writes : goal.returns-in-Writes
 returns-in-Writes c p shared s effect h does =
     let w = c.args.world.now in
+    let k = result_value c.args.kind in
     let old = c.args.store.now in
-    let writes = subst (λ (a : Answer). IsAnswer w.classes old.heap _ shared s a effect) c.in-Writes.is does in
-    subst (λ (space : Space). CarriesOut p w old.heap _ shared s effect _ (record old { heap = space }) c.args.pending.now _) (sym c.set.ensures)
-    (carries.writes p w old c.args.pending.now _ shared s h c.in-Writes.addr c.in-Writes.place c.in-Writes.value effect writes)
+    let writes = subst (λ (a : Answer). IsAnswer w.classes old.heap k shared s a effect) c.in-Writes.is does in
+    subst (λ (space : Space). CarriesOut p w old.heap k shared s effect false (record old { heap = space }) c.args.pending.now given.Nothing) (sym c.set.ensures)
+    (carries.writes p w old c.args.pending.now k shared s h c.in-Writes.addr c.in-Writes.place c.in-Writes.value effect writes)
 
 pub returns-in-Some : goal.returns-in-Some
 returns-in-Some c p shared s effect h does =
     let w = c.args.world.now in
+    let k = result_value c.args.kind in
     let old = c.args.store.now in
-    let makes = subst (λ (a : Answer). IsAnswer w.classes old.heap _ shared s a effect) c.in-Makes.is does in
-    carries.makes p w old c.args.pending.now _ shared s h c.make.new.store c.in-Makes.class c.in-Some.addr
+    let makes = subst (λ (a : Answer). IsAnswer w.classes old.heap k shared s a effect) c.in-Makes.is does in
+    carries.makes p w old c.args.pending.now k shared s h c.make.new.store c.in-Makes.class c.in-Some.addr
     (has_made w.classes c.classes.result.now old c.make.new.store c.in-Makes.class c.in-Some.addr c.make.result c.classes.ensures.classes c.make.ensures c.in-Some.is) effect makes
 
 pub returns-in-None : goal.returns-in-None
 returns-in-None c p shared s effect h does =
     let w = c.args.world.now in
+    let k = result_value c.args.kind in
     let old = c.args.store.now in
-    let makes = subst (λ (a : Answer). IsAnswer w.classes old.heap _ shared s a effect) c.in-Makes.is does in
-    refused_in p w old.heap _ shared s effect old c.make.new.store c.args.pending.now c.refuse.new.pending c.refuse.result
+    let makes = subst (λ (a : Answer). IsAnswer w.classes old.heap k shared s a effect) c.in-Makes.is does in
+    refused_in p w old.heap k shared s effect old c.make.new.store c.args.pending.now c.refuse.new.pending c.refuse.result
     (unchanged c.classes.result.now old c.make.new.store c.in-Makes.class c.make.result c.make.ensures c.in-None.is) c.refuse.ensures.pending c.refuse.ensures.carried
-    (carries.refuses_object p w old c.args.pending.now _ shared s h c.in-Makes.class effect makes)
+    (carries.refuses_object p w old c.args.pending.now k shared s h c.in-Makes.class effect makes)
 
 pub returns-in-Some-make : goal.returns-in-Some-make
 returns-in-Some-make c p shared s effect h does =
     let w = c.args.world.now in
+    let k = result_value c.args.kind in
     let old = c.args.store.now in
-    let throws = subst (λ (a : Answer). IsAnswer w.classes old.heap _ shared s a effect) c.in-Throws.is does in
-    subst (λ (g : Given). CarriesOut p w old.heap _ shared s effect _ c.make-in-Throws.new.store (Some c.in-Some-make.addr) g) (sym c.failed.ensures)
-    (carries.throws p w old c.args.pending.now _ shared s h c.make-in-Throws.new.store c.in-Throws.class c.in-Some-make.addr
+    let throws = subst (λ (a : Answer). IsAnswer w.classes old.heap k shared s a effect) c.in-Throws.is does in
+    subst (λ (g : Given). CarriesOut p w old.heap k shared s effect false c.make-in-Throws.new.store (Some c.in-Some-make.addr) g) (sym c.failed.ensures)
+    (carries.throws p w old c.args.pending.now k shared s h c.make-in-Throws.new.store c.in-Throws.class c.in-Some-make.addr
     (has_made w.classes c.classes-in-Throws.result.now old c.make-in-Throws.new.store c.in-Throws.class c.in-Some-make.addr c.make-in-Throws.result c.classes-in-Throws.ensures.classes c.make-in-Throws.ensures c.in-Some-make.is) effect throws)
 
 pub returns-in-None-make : goal.returns-in-None-make
 returns-in-None-make c p shared s effect h does =
     let w = c.args.world.now in
+    let k = result_value c.args.kind in
     let old = c.args.store.now in
-    let throws = subst (λ (a : Answer). IsAnswer w.classes old.heap _ shared s a effect) c.in-Throws.is does in
-    refused_in p w old.heap _ shared s effect old c.make-in-Throws.new.store c.args.pending.now c.refuse-in-None-make.new.pending c.refuse-in-None-make.result
+    let throws = subst (λ (a : Answer). IsAnswer w.classes old.heap k shared s a effect) c.in-Throws.is does in
+    refused_in p w old.heap k shared s effect old c.make-in-Throws.new.store c.args.pending.now c.refuse-in-None-make.new.pending c.refuse-in-None-make.result
     (unchanged c.classes-in-Throws.result.now old c.make-in-Throws.new.store c.in-Throws.class c.make-in-Throws.result c.make-in-Throws.ensures c.in-None-make.is) c.refuse-in-None-make.ensures.pending c.refuse-in-None-make.ensures.carried
-    (carries.refuses_exception p w old c.args.pending.now _ shared s h c.in-Throws.class effect throws)
+    (carries.refuses_exception p w old c.args.pending.now k shared s h c.in-Throws.class effect throws)
