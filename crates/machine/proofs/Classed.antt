@@ -1,13 +1,18 @@
 -- The classes of objects, when more are made and values change.
-use Rattle.std.proofs.Common.{◌≡◌, ℕ, zero, suc, ◌+◌, ◌-◌, ◌<◌, ◌≤◌, List, [], ◌∷◌, ◌++◌, length, Option, Some, None, refl, sym, ap, ◌∙◌, subst, arith, ◌⊎◌, inl, inr, ⊎_elim}
-use Rattle.std.specs.Prelude.{slice_get, slice_set}
+use Rattle.std.proofs.Common.{◌≡◌, ℕ, zero, suc, Bool, true, false, eqb, nat_lt, ◌+◌, ◌-◌, ◌<◌, ◌≤◌, List, [], ◌∷◌, ◌++◌, length, Option, Some, None, refl, sym, ap, ◌∙◌, subst, arith, ◌⊎◌, inl, inr, ⊎_elim}
+use Rattle.std.specs.Prelude.{◌==◌, slice_get, slice_set}
+use Rattle.std.proofs.lemmas.Bool.{ltb-false, ltb-true}
+use Rattle.std.proofs.lemmas.Bool.Decides.{eqb_tells}
 use Rattle.classes.specs.BuiltIns.{class_class}
 use Rattle.classes.specs.Class.{Classes}
 use Rattle.source.specs.Heap.{Heap, object_at, class_of, values_of, with_value_at}
 use Rattle.source.specs.Object.{Object, ObjectValue}
-use Rattle.source.specs.World.{fresh_object}
+use Rattle.source.specs.World.{World, class_object, fresh_object, loaded_objects}
+use Rattle.world.proofs.LoadedWorlds.{loaded_class, loaded_error, loaded_object, object_class}
+use Rattle.world.specs.SoundWorlds.{IsSound}
 use Rattle.machine.specs.Answers.{IsMakeable}
 use Rattle.machine.specs.Classed.{AreClassed, IsClassed}
+use Rattle.machine.proofs.LongTables.{grown_long}
 
 -- an object of a longer list is one of the shorter, or the last
 get_last : (xs : Heap) (o x : Object) (i : ℕ) → slice_get (xs ++ o ∷ []) i ≡ Some x → (slice_get xs i ≡ Some x) ⊎ (o ≡ x)
@@ -57,3 +62,38 @@ classed_written classes heap (suc i) place v o there h (suc j) x at =
   where
     written : Object
     written = record { class = class_of heap (suc i); values = slice_set (values_of heap (suc i)) place v }
+
+-- ---- at load
+
+-- the objects made at load are of classes of the table
+pub classed_loaded : (w : World) → IsSound w → AreClassed w.classes (loaded_objects w)
+classed_loaded w sound zero o at = absurd (cc)
+classed_loaded w sound (suc i) o at = by_place (nat_lt i (length w.classes)) refl
+  where
+    long : 42 ≤ length w.classes
+    long = grown_long w.classes sound.grown
+
+    -- after the class objects and the error object
+    of_world : length w.classes ≤ i → (i ≡ length w.classes → ⊥) → IsClassed w.classes (suc i) o
+    of_world above other =
+        let j = i - (length w.classes + 1) in
+        let place : i ≡ length w.classes + 1 + j = omega (arith, above, other) in
+        let known = object_class w j o sound (sym (loaded_object w i j place) ∙ at) in
+        record { low = known.0; high = known.1; of_class = λ is. absurd (differ is known.2) }
+      where
+        differ : o.class ≡ class_class → (o.class == class_class) ≡ false → ⊥
+        differ is h = let same : (class_class == class_class) ≡ false = ap (λ (c : ℕ). c == class_class) (sym is) ∙ h in cc
+
+    by_place : (b : Bool) → nat_lt i (length w.classes) ≡ b → IsClassed w.classes (suc i) o
+    by_place true e =
+        let below : i < length w.classes = ltb-true i (length w.classes) e in
+        let same : class_object w.classes (i + 1) ≡ o = let both : Some (class_object w.classes (i + 1)) ≡ Some o = sym (loaded_class w i below) ∙ at in cc in
+        subst (λ (x : Object). IsClassed w.classes (suc i) x) same (record { low = omega arith; high = omega (arith, long); of_class = λ is. omega (arith, below) })
+    by_place false e =
+        let above : length w.classes ≤ i = ltb-false i (length w.classes) e in
+        ⊎_elim
+        (λ (t : (eqb i (length w.classes) ≡ true) × (i ≡ length w.classes)).
+        let same : fresh_object w.classes 11 ≡ o = let both : Some (fresh_object w.classes 11) ≡ Some o = sym (loaded_error w) ∙ ap (slice_get (loaded_objects w)) (sym t.1) ∙ at in cc in
+        subst (λ (x : Object). IsClassed w.classes (suc i) x) same (record { low = omega arith; high = omega (arith, long); of_class = λ is. absurd (let clash : 11 ≡ 2 = is in cc) }))
+        (λ (t : (eqb i (length w.classes) ≡ false) × (i ≡ length w.classes → ⊥)). of_world above t.1)
+        (eqb_tells i (length w.classes))

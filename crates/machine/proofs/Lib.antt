@@ -3,12 +3,14 @@ pub mod ArgumentSlots
 pub mod Keeping
 pub mod Calls
 pub mod Arguments
+pub mod LongTables
 pub mod Classed
 pub mod Makes
 pub mod Writes
 pub mod AnswerCases
 pub mod CarryOuts
 pub mod Views
+pub mod Receives
 pub mod Threads
 pub mod Steps
 pub mod Names
@@ -22,7 +24,6 @@ pub mod Loaded
 pub mod FilledBlocks
 pub mod MadeInOrder
 pub mod CallChecks
-pub mod LongTables
 pub mod CallTraps
 pub mod CallAnswers
 pub mod Frames

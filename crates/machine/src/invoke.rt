@@ -28,7 +28,7 @@ pub fn invoke(
     function: &Call,
 ) -> Executed
     requires at_call { (p : Lowered) × (shared : Shared) × (s : SourceThread) × (task : Task) × (rest : List Task) × AtCall p world.now store.old pending.old call.old function.now shared s task rest }
-    ensures executes { (p : Lowered) (lent : BuffersInUse) (k : ℕ) (shared : Shared) (s : SourceThread) (task : Task) (rest : List Task) → AtCall p world.now store.old pending.old call.old function.now shared s task rest
+    ensures { (p : Lowered) (lent : BuffersInUse) (k : ℕ) (shared : Shared) (s : SourceThread) (task : Task) (rest : List Task) → AtCall p world.now store.old pending.old call.old function.now shared s task rest
         → Executes p world.now store.old.heap store.new lent k shared s rest call.new pending.new (effect_of (sight_of shared s) task) result }
 {
     let trap = check(

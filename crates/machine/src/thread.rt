@@ -181,7 +181,7 @@ fn execute(
 ) -> Executed
     requires lowered { IsLowered program.now }
     requires stands { (shared : Shared) × (s : SourceThread) × (task : Task) × (rest : List Task) × IsExecuting program.now world.now store.old call.old pending.old shared s task rest }
-    ensures executes { (lent : BuffersInUse) (k : ℕ) (shared : Shared) (s : SourceThread) (task : Task) (rest : List Task) → IsExecuting program.now world.now store.old call.old pending.old shared s task rest
+    ensures { (lent : BuffersInUse) (k : ℕ) (shared : Shared) (s : SourceThread) (task : Task) (rest : List Task) → IsExecuting program.now world.now store.old call.old pending.old shared s task rest
         → Executes program.now world.now store.old.heap store.new lent k shared s rest call.new pending.new (effect_of (sight_of shared s) task) result }
 {
     let code = program.code(call.function).unwrap();

@@ -2,6 +2,7 @@ use Rattle.std.proofs.Common.{◌≡◌, length, refl, sym, ◌∙◌, arith}
 use Rattle.syntax.specs.Views.{unit_tree}
 use Rattle.source.specs.Start.{start, waiting_thread}
 use Rattle.std.proofs.lemmas.List.{length-map}
+use Rattle.machine.proofs.Classed.{classed_loaded}
 use Rattle.machine.proofs.ThreadLoads.{agree_length}
 use Rattle.machine.proofs.machine.Machine.load.Goals as goal
 
@@ -24,6 +25,7 @@ invariant_of-result c =
         table = made.table;
         begun = omega arith;
         births = c.in_ok-store.ensures.births;
+        classed = classed_loaded w c.threads.ensures.sound;
         statics = refl;
         globals = refl;
         monitors = refl;
