@@ -148,3 +148,7 @@ module _ (p : Lowered) (w : World) (store : Store) (pending : Option ℕ) (call 
     -- none gives an object of another kind
     pub none_unfit : some_misfit w.classes store.heap call.references.items (prototype f).parameters function.operands ≡ false
     none_unfit = fitting.0
+
+    -- a local reference has room
+    pub room_left : (puts_local (prototype f).result && not (has_room call.frames.items)) ≡ false
+    room_left = passed.room

@@ -11,6 +11,7 @@ pub mod AnswerCases
 pub mod CarryOuts
 pub mod Views
 pub mod Receives
+pub mod Invocations
 pub mod Threads
 pub mod Steps
 pub mod Names
@@ -26,6 +27,7 @@ pub mod MadeInOrder
 pub mod CallChecks
 pub mod CallTraps
 pub mod CallAnswers
+pub mod CallInstructions
 pub mod Frames
 pub mod Rooms
 pub mod Handles

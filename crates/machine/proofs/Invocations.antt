@@ -1,0 +1,328 @@
+-- After a call the machine's call in progress stands for the source's thread.
+use Rattle.std.proofs.Common.{◌≡◌, ℕ, ◌+◌, List, [], ◌∷◌, ◌++◌, length, Option, Some, None, refl, sym, ap, ◌∙◌, subst}
+use Rattle.std.specs.Prelude.{slice_get, slice_set}
+use Rattle.base.specs.Bytes.{Identifier, lookup}
+use Rattle.classes.specs.Class.{Classes}
+use Rattle.classes.specs.Fields.{FieldId}
+use Rattle.class_table.specs.declared.class.FieldHandle.{FieldHandle as Handle}
+use Rattle.heap.specs.Heap.{Space}
+use Rattle.jni.specs.JniFunction.{JniFunction}
+use Rattle.jni.specs.Prototype.{prototype, ResultKind, NewLocal, NewGlobal, GivesFlag, GivesInt, GivesField, GivesNothing, GivesBuffer}
+use Rattle.types.specs.Sorts.{Sort, Jint}
+use Rattle.types.specs.Sorts as sort
+use Rattle.source.specs.Arguments.{Actual, variable_given}
+use Rattle.source.specs.CallEffects.{CallResult, NoResult, NullResult, ScalarResult, ReferenceResult, FieldResult, BufferResult}
+use Rattle.source.specs.CallStep.{blank, filled, is_zero, put, put_assigned, received, tell_copy}
+use Rattle.source.specs.Effect.{tasks_after}
+use Rattle.source.specs.Object.{Reference}
+use Rattle.source.specs.Task.{Task, Target, VariableKind, ScalarKind, ReferenceKind, FieldKind, Declared, Assigned, Tested, Dropped}
+use Rattle.source.specs.Thread as source
+use Rattle.source.specs.Thread.{Shared, viewed_by}
+use Rattle.source.specs.Value.{Value, Word, Int, Flag, Truth}
+use Rattle.source.specs.Variable.{Variable, Variables, Scalar, LocalRef, FieldHandle, assign}
+use Rattle.source.specs.World.{World}
+use Rattle.code.specs.Call.{Call}
+use Rattle.code.specs.Depth.{Listing, depth_after, depth_at}
+use Rattle.code.specs.declared.instr.Instr.TheVariants as instr
+use Rattle.code.specs.declared.instr.Target.{Target as Destination}
+use Rattle.code.specs.declared.instr.Target.TheVariants as destination
+use Rattle.code_generator.specs.Layout.{Known}
+use Rattle.lower.specs.Does.{GoesInto, TakesField, TakesNumber, TakesReference, TakesResult}
+use Rattle.lower.specs.Lowered.{Lowered}
+use Rattle.lower.specs.Slots.{Shows, Slots, ValueHasSort, visible_to, word_of}
+use Rattle.lower.specs.Stands.{StandsFor, number_sort}
+use Rattle.machine.specs.declared.answer.Given.{Given}
+use Rattle.machine.specs.declared.answer.Given.TheVariants as given
+use Rattle.machine.specs.declared.thread.Activation.{Activation}
+use Rattle.machine.specs.Agrees.{CallStands, FieldAgrees, FieldsAgree, FramesAgree, Keeps, ReferencesAgree}
+use Rattle.machine.specs.Answers.{GivenAgrees}
+use Rattle.machine.specs.Frames.{Frame}
+use Rattle.machine.specs.HeapAgrees.{ReferenceAgrees}
+use Rattle.machine.specs.Received.{Receives, fields_with, numbers_with, references_with}
+use Rattle.machine.proofs.Calls.{Ready, depth_behind, slots_of}
+use Rattle.machine.proofs.Changes.{field_by_kind, is_field_set, is_referred, is_set, local_by_kind, scalar_by_kind}
+use Rattle.machine.proofs.Keeping.{frames_stay, references_stay, shows_stay}
+use Rattle.machine.proofs.Receives.{IsNoBuffer, field_put, frames_agree, frames_received, no_buffer, nothing_told, received_is, reference_put}
+use Rattle.machine.proofs.Views.{assigned_viewless}
+
+-- ---- the source's thread
+
+-- the thread of a call of function f, with this exception pending and this given
+module _ (line : ℕ) (f : JniFunction) (args : List Actual) (rest : List Task) (s : source.Thread) (q : Reference) (c : CallResult) where
+  -- before what was given goes to its target
+  abbrev pub resumption : Target → source.Thread
+  resumption target = record (received (prototype f).result c (record s { pending = q })) { tasks = Some (tasks_after line target (is_zero c) ++ rest); variables = tell_copy (variable_given args 1) c s.variables }
+
+  -- and afterwards, with these variables
+  abbrev pub going : Variables → source.Thread
+  going vs = record s { tasks = Some rest; variables = vs; frames = frames_received (prototype f).result c s.frames; pending = q }
+
+  module _ (plain : IsNoBuffer c) where
+    resumed_is : (target : Target) → resumption target ≡ record (going s.variables) { tasks = Some (tasks_after line target (is_zero c) ++ rest) }
+    resumed_is target =
+        ap (λ (t : source.Thread). let r : source.Thread = record t { tasks = Some (tasks_after line target (is_zero c) ++ rest); variables = tell_copy (variable_given args 1) c s.variables } in r) (received_is (prototype f).result c (record s { pending = q }))
+        ∙ ap (λ (vs : Variables). let r : source.Thread = record (going vs) { tasks = Some (tasks_after line target (is_zero c) ++ rest) } in r) (nothing_told (variable_given args 1) c s.variables plain)
+
+    module _ (next : Shared) where
+      dropped_is : put Dropped c next (resumption Dropped) ≡ source.Advances next (going s.variables) source.Quiet
+      dropped_is = ap (put Dropped c next) (resumed_is Dropped)
+
+      declared_is : (kind : VariableKind) (x : Identifier) (v : Variable) → filled (blank kind (length (frames_received (prototype f).result c s.frames))) c ≡ v
+          → put (Declared kind x) c next (resumption (Declared kind x)) ≡ source.Advances next (going (assign x v s.variables)) source.Quiet
+      declared_is kind x v is = ap (put (Declared kind x) c next) (resumed_is (Declared kind x)) ∙ ap (λ (w : Variable). source.Advances next (going (assign x w s.variables)) source.Quiet) is
+
+      assigned_is : (x : Identifier) (old v : Variable) → lookup x s.variables ≡ Some old → filled old c ≡ v
+          → put (Assigned x) c next (resumption (Assigned x)) ≡ source.Advances next (going (assign x v s.variables)) source.Quiet
+      assigned_is x old v at is =
+          ap (put (Assigned x) c next) (resumed_is (Assigned x))
+          ∙ ap (put_assigned x c next (going s.variables)) at
+          ∙ ap (λ (w : Variable). source.Advances next (going (assign x w s.variables)) source.Quiet) is
+
+-- ---- what was given
+
+-- a number
+record IsNumber (g : Given) (c : CallResult) (of : Sort) : Type 0 where
+  pub value : Value
+  pub gave : c ≡ ScalarResult value
+  pub same : g ≡ given.Number (word_of value)
+  pub sorted : ValueHasSort value of
+
+-- a reference
+record IsReference (space : Space) (g : Given) (c : CallResult) : Type 0 where
+  pub address : Option ℕ
+  pub reference : Reference
+  pub same : g ≡ given.Reference address
+  pub agrees : ReferenceAgrees space address reference
+  pub fills : (level : ℕ) (old : Reference) → filled (LocalRef level old) c ≡ LocalRef level reference
+
+-- a field ID
+record IsField (classes : Classes) (g : Given) (c : CallResult) : Type 0 where
+  pub handle : Option Handle
+  pub field : Option FieldId
+  pub same : g ≡ given.FieldId handle
+  pub agrees : FieldAgrees classes handle field
+  pub fills : (old : Option FieldId) → filled (FieldHandle old) c ≡ FieldHandle field
+
+number_given : (classes : Classes) (space : Space) (kind : ResultKind) (g : Given) (c : CallResult) (of : Sort) → GivenAgrees classes space kind g c → number_sort kind ≡ Some of → IsNumber g c of
+number_given classes space GivesInt (given.Number word) (ScalarResult (Int z)) of h e = record { value = Int z; gave = refl; same = ap given.Number h.0; sorted = (h.1, let same : Jint ≡ of = cc in sym same) }
+number_given classes space GivesInt (given.Number word) (ScalarResult (Word n)) of h e = absurd h
+number_given classes space GivesInt (given.Number word) (ScalarResult (Flag b)) of h e = absurd h
+number_given classes space GivesInt (given.Number word) (ScalarResult (Truth b)) of h e = absurd h
+number_given classes space GivesInt (given.Number word) NoResult of h e = absurd h
+number_given classes space GivesInt (given.Number word) NullResult of h e = absurd h
+number_given classes space GivesInt (given.Number word) (ReferenceResult r) of h e = absurd h
+number_given classes space GivesInt (given.Number word) (FieldResult f) of h e = absurd h
+number_given classes space GivesInt (given.Number word) (BufferResult b) of h e = absurd h
+number_given classes space GivesInt given.Nothing c of h e = absurd h
+number_given classes space GivesInt (given.Reference a) c of h e = absurd h
+number_given classes space GivesInt (given.FieldId a) c of h e = absurd h
+number_given classes space GivesFlag (given.Number word) (ScalarResult (Flag b)) of h e = record { value = Flag b; gave = refl; same = ap given.Number h; sorted = let same : sort.Flag ≡ of = cc in sym same }
+number_given classes space GivesFlag (given.Number word) (ScalarResult (Word n)) of h e = absurd h
+number_given classes space GivesFlag (given.Number word) (ScalarResult (Int z)) of h e = absurd h
+number_given classes space GivesFlag (given.Number word) (ScalarResult (Truth b)) of h e = absurd h
+number_given classes space GivesFlag (given.Number word) NoResult of h e = absurd h
+number_given classes space GivesFlag (given.Number word) NullResult of h e = absurd h
+number_given classes space GivesFlag (given.Number word) (ReferenceResult r) of h e = absurd h
+number_given classes space GivesFlag (given.Number word) (FieldResult f) of h e = absurd h
+number_given classes space GivesFlag (given.Number word) (BufferResult b) of h e = absurd h
+number_given classes space GivesFlag given.Nothing c of h e = absurd h
+number_given classes space GivesFlag (given.Reference a) c of h e = absurd h
+number_given classes space GivesFlag (given.FieldId a) c of h e = absurd h
+number_given classes space kind g c of h e = absurd (cc)
+
+reference_given : (classes : Classes) (space : Space) (g : Given) (c : CallResult) → GivenAgrees classes space NewLocal g c → IsReference space g c
+reference_given classes space (given.Reference a) (ReferenceResult r) h = record { address = a; reference = r; same = refl; agrees = h; fills = λ level old. refl }
+reference_given classes space (given.Reference a) NullResult h = record { address = a; reference = None; same = refl; agrees = subst (λ (o : Option ℕ). ReferenceAgrees space o None) (sym h) tt; fills = λ level old. refl }
+reference_given classes space (given.Reference a) NoResult h = absurd h
+reference_given classes space (given.Reference a) (ScalarResult v) h = absurd h
+reference_given classes space (given.Reference a) (FieldResult f) h = absurd h
+reference_given classes space (given.Reference a) (BufferResult b) h = absurd h
+reference_given classes space given.Nothing c h = absurd h
+reference_given classes space (given.Number word) c h = absurd h
+reference_given classes space (given.FieldId a) c h = absurd h
+
+field_given : (classes : Classes) (space : Space) (g : Given) (c : CallResult) → GivenAgrees classes space GivesField g c → IsField classes g c
+field_given classes space (given.FieldId a) (FieldResult f) h = record { handle = a; field = f; same = refl; agrees = h; fills = λ old. refl }
+field_given classes space (given.FieldId a) NullResult h = record { handle = a; field = None; same = refl; agrees = subst (λ (o : Option Handle). FieldAgrees classes o None) (sym h) tt; fills = λ old. refl }
+field_given classes space (given.FieldId a) NoResult h = absurd h
+field_given classes space (given.FieldId a) (ScalarResult v) h = absurd h
+field_given classes space (given.FieldId a) (ReferenceResult r) h = absurd h
+field_given classes space (given.FieldId a) (BufferResult b) h = absurd h
+field_given classes space given.Nothing c h = absurd h
+field_given classes space (given.Number word) c h = absurd h
+field_given classes space (given.Reference a) c h = absurd h
+
+-- ---- the end of a call
+
+-- the thread goes on with the rest, and the machine's call stands for it
+pub record Finishes (p : Lowered) (w : World) (space : Space) (next : Shared) (line : ℕ) (target : Target) (f : JniFunction) (args : List Actual) (rest : List Task) (s : source.Thread) (q : Reference) (c : CallResult) (after : Activation) : Type 0 where
+  pub variables : Variables
+  pub steps : put target c next (resumption line f args rest s q c target) ≡ source.Advances next (going line f args rest s q c variables) source.Quiet
+  pub stands : CallStands p w.classes space after (visible_to next (going line f args rest s q c variables)) (frames_received (prototype f).result c s.frames) rest
+  pub viewless : viewed_by (going line f args rest s q c variables) ≡ []
+
+module _ (p : Lowered) (w : World) (old space : Space) (shared next : Shared) (keeps : Keeps old shared space next) (s : source.Thread) (none : viewed_by s ≡ []) (call : Activation) (code : Listing) (task : Task) (rest : List Task)
+    (r : Ready p w.classes old call code (visible_to shared s) s.frames task rest) (line : ℕ) (f : JniFunction) (args : List Actual) (q : Reference) (g : Given) (c : CallResult) (agrees : GivenAgrees w.classes space (prototype f).result g c)
+    (function : Call) (at : slice_get code.instrs call.place ≡ Some (instr.Call function)) (left : depth_after (instr.Call function) (length call.stack) ≡ Some 0) (after : Activation) where
+  abbrev kind : ResultKind
+  kind = (prototype f).result
+
+  plain : IsNoBuffer c
+  plain = no_buffer w.classes space kind g c agrees
+
+  abbrev then : Variables → source.Thread
+  then vs = going line f args rest s q c vs
+
+  abbrev held : Slots
+  held = slots_of call r.references r.fields
+
+  abbrev Ends : Target → Type 0
+  Ends target = Finishes p w space next line target f args rest s q c after
+
+  same_references : ReferencesAgree space call.references.items r.references
+  same_references = references_stay old space keeps.names call.references.items r.references r.agree
+
+  frames_after : (d : Destination) → Receives d kind g call after → FramesAgree space after.frames.items (frames_received kind c s.frames)
+  frames_after d receives =
+      subst (λ (l : List Frame). FramesAgree space l (frames_received kind c s.frames)) (sym receives.frames)
+      (frames_agree space w.classes kind g c call.frames.items s.frames agrees (frames_stay old space keeps.names call.frames.items s.frames r.frames_agree))
+
+  stands_after : (d : Destination) → Receives d kind g call after → (names : Known) (vs : Variables) (references : List Reference) (fields : List (Option FieldId)) → ReferencesAgree space after.references.items references → FieldsAgree w.classes after.fields.items fields
+      → StandsFor code names (call.place + 1) [] rest → Shows code names (visible_to shared (then vs)) (record { numbers = after.numbers.items; references = references; fields = fields })
+      → CallStands p w.classes space after (visible_to next (then vs)) (frames_received kind c s.frames) rest
+  stands_after d receives names vs references fields agree fields_agree stands shows = record {
+    code = code;
+    of_function = ap (slice_get p.codes) receives.function ∙ r.of_function;
+    known = names;
+    stands = subst (λ (n : ℕ). StandsFor code names n after.stack rest) (sym receives.place) (subst (λ (l : List ℕ). StandsFor code names (call.place + 1) l rest) (sym receives.stack) stands);
+    references = references;
+    agree = agree;
+    fields = fields;
+    fields_agree = fields_agree;
+    shows = shows_stay shared next keeps.statics (then vs) code names (record { numbers = after.numbers.items; references = references; fields = fields }) shows;
+    depth =
+        ap (depth_at code.instrs) receives.place
+        ∙ depth_behind p w.classes old call code (visible_to shared s) s.frames task rest r (instr.Call function) at 0 (λ leaves. leaves) left
+        ∙ ap (λ (l : List ℕ). Some (length l)) (sym receives.stack);
+    frames_agree = frames_after d receives;
+  }
+
+  -- ---- a number
+
+  module _ (i : ℕ) (receives : Receives (destination.Number i) kind g call after) (of : Sort) (x : Identifier) (takes : TakesNumber code r.known call.place call.stack held (visible_to shared s) of i x rest) (n : IsNumber g c of) where
+    number_stands : CallStands p w.classes space after (visible_to next (then (assign x (Scalar n.value) s.variables))) (frames_received kind c s.frames) rest
+    number_stands =
+        let vs = assign x (Scalar n.value) s.variables in
+        let numbers : after.numbers.items ≡ slice_set call.numbers.items i (word_of n.value) = receives.numbers ∙ ap (λ (h : Given). numbers_with (destination.Number i) h call.numbers.items) n.same in
+        stands_after (destination.Number i) receives takes.names vs r.references r.fields (subst (λ (l : List (Option ℕ)). ReferencesAgree space l r.references) (sym receives.references) same_references)
+        (subst (λ (l : List (Option Handle)). FieldsAgree w.classes l r.fields) (sym receives.fields) r.fields_agree) takes.stands
+        (subst (λ (l : List ℕ). Shows code takes.names (visible_to shared (then vs)) (record { numbers = l; references = r.references; fields = r.fields })) (sym numbers)
+        (takes.shows n.value (visible_to shared (then vs)) n.sorted (is_set shared s (then vs) x n.value refl)))
+
+    number_viewless : viewed_by (then (assign x (Scalar n.value) s.variables)) ≡ []
+    number_viewless = assigned_viewless x (Scalar n.value) s.variables refl none
+
+  number_finishes : (i : ℕ) (target : Target) → Receives (destination.Number i) kind g call after → (of : Sort) → IsNumber g c of → GoesInto code r.known call.place call.stack held (visible_to shared s) ScalarKind target (λ x. TakesNumber code r.known call.place call.stack held (visible_to shared s) of i x rest) → Ends target
+  number_finishes i (Declared declared x) receives of n goes = record {
+    variables = assign x (Scalar n.value) s.variables;
+    steps = declared_is line f args rest s q c plain next declared x (Scalar n.value) (ap (λ (k : VariableKind). filled (blank k (length (frames_received kind c s.frames))) c) goes.0 ∙ ap (filled (blank ScalarKind 0)) n.gave);
+    stands = number_stands i receives of x goes.1 n;
+    viewless = number_viewless i receives of x goes.1 n;
+  }
+  number_finishes i (Assigned x) receives of n goes =
+      let old = scalar_by_kind (lookup x s.variables) goes.0 in
+      record {
+        variables = assign x (Scalar n.value) s.variables;
+        steps = assigned_is line f args rest s q c plain next x (Scalar old.0) (Scalar n.value) old.1 (ap (filled (Scalar old.0)) n.gave);
+        stands = number_stands i receives of x goes.1 n;
+        viewless = number_viewless i receives of x goes.1 n;
+      }
+  number_finishes i (Tested a b) receives of n goes = absurd goes
+  number_finishes i Dropped receives of n goes = absurd goes
+
+  -- ---- a reference
+
+  module _ (i : ℕ) (receives : Receives (destination.Local i) kind g call after) (x : Identifier) (takes : TakesReference code r.known call.place call.stack held (visible_to shared s) i x rest) (n : IsReference space g c) (level : ℕ) where
+    reference_stands : CallStands p w.classes space after (visible_to next (then (assign x (LocalRef level n.reference) s.variables))) (frames_received kind c s.frames) rest
+    reference_stands =
+        let vs = assign x (LocalRef level n.reference) s.variables in
+        let references : after.references.items ≡ slice_set call.references.items i n.address = receives.references ∙ ap (λ (h : Given). references_with (destination.Local i) h call.references.items) n.same in
+        stands_after (destination.Local i) receives takes.names vs (slice_set r.references i n.reference) r.fields
+        (subst (λ (l : List (Option ℕ)). ReferencesAgree space l (slice_set r.references i n.reference)) (sym references) (reference_put space call.references.items r.references i n.address n.reference same_references n.agrees))
+        (subst (λ (l : List (Option Handle)). FieldsAgree w.classes l r.fields) (sym receives.fields) r.fields_agree) takes.stands
+        (subst (λ (l : List ℕ). Shows code takes.names (visible_to shared (then vs)) (record { numbers = l; references = slice_set r.references i n.reference; fields = r.fields })) (sym receives.numbers)
+        (takes.shows n.reference (visible_to shared (then vs)) (is_referred shared s (then vs) x level n.reference refl)))
+
+    reference_viewless : viewed_by (then (assign x (LocalRef level n.reference) s.variables)) ≡ []
+    reference_viewless = assigned_viewless x (LocalRef level n.reference) s.variables refl none
+
+  reference_finishes : (i : ℕ) (target : Target) → Receives (destination.Local i) kind g call after → IsReference space g c → GoesInto code r.known call.place call.stack held (visible_to shared s) ReferenceKind target (λ x. TakesReference code r.known call.place call.stack held (visible_to shared s) i x rest) → Ends target
+  reference_finishes i (Declared declared x) receives n goes =
+      let level = length (frames_received kind c s.frames) in
+      record {
+        variables = assign x (LocalRef level n.reference) s.variables;
+        steps = declared_is line f args rest s q c plain next declared x (LocalRef level n.reference) (ap (λ (k : VariableKind). filled (blank k level) c) goes.0 ∙ n.fills level None);
+        stands = reference_stands i receives x goes.1 n level;
+        viewless = reference_viewless i receives x goes.1 n level;
+      }
+  reference_finishes i (Assigned x) receives n goes =
+      let old = local_by_kind (lookup x s.variables) goes.0 in
+      record {
+        variables = assign x (LocalRef old.0 n.reference) s.variables;
+        steps = assigned_is line f args rest s q c plain next x (LocalRef old.0 old.1) (LocalRef old.0 n.reference) old.2 (n.fills old.0 old.1);
+        stands = reference_stands i receives x goes.1 n old.0;
+        viewless = reference_viewless i receives x goes.1 n old.0;
+      }
+  reference_finishes i (Tested a b) receives n goes = absurd goes
+  reference_finishes i Dropped receives n goes = absurd goes
+
+  -- ---- a field ID
+
+  module _ (i : ℕ) (receives : Receives (destination.FieldId i) kind g call after) (x : Identifier) (takes : TakesField code r.known call.place call.stack held (visible_to shared s) i x rest) (n : IsField w.classes g c) where
+    field_stands : CallStands p w.classes space after (visible_to next (then (assign x (FieldHandle n.field) s.variables))) (frames_received kind c s.frames) rest
+    field_stands =
+        let vs = assign x (FieldHandle n.field) s.variables in
+        let fields : after.fields.items ≡ slice_set call.fields.items i n.handle = receives.fields ∙ ap (λ (h : Given). fields_with (destination.FieldId i) h call.fields.items) n.same in
+        stands_after (destination.FieldId i) receives takes.names vs r.references (slice_set r.fields i n.field) (subst (λ (l : List (Option ℕ)). ReferencesAgree space l r.references) (sym receives.references) same_references)
+        (subst (λ (l : List (Option Handle)). FieldsAgree w.classes l (slice_set r.fields i n.field)) (sym fields) (field_put w.classes call.fields.items r.fields i n.handle n.field r.fields_agree n.agrees)) takes.stands
+        (subst (λ (l : List ℕ). Shows code takes.names (visible_to shared (then vs)) (record { numbers = l; references = r.references; fields = slice_set r.fields i n.field })) (sym receives.numbers)
+        (takes.shows n.field (visible_to shared (then vs)) (is_field_set shared s (then vs) x n.field refl)))
+
+    field_viewless : viewed_by (then (assign x (FieldHandle n.field) s.variables)) ≡ []
+    field_viewless = assigned_viewless x (FieldHandle n.field) s.variables refl none
+
+  field_finishes : (i : ℕ) (target : Target) → Receives (destination.FieldId i) kind g call after → IsField w.classes g c → GoesInto code r.known call.place call.stack held (visible_to shared s) FieldKind target (λ x. TakesField code r.known call.place call.stack held (visible_to shared s) i x rest) → Ends target
+  field_finishes i (Declared declared x) receives n goes = record {
+    variables = assign x (FieldHandle n.field) s.variables;
+    steps = declared_is line f args rest s q c plain next declared x (FieldHandle n.field) (ap (λ (k : VariableKind). filled (blank k (length (frames_received kind c s.frames))) c) goes.0 ∙ n.fills None);
+    stands = field_stands i receives x goes.1 n;
+    viewless = field_viewless i receives x goes.1 n;
+  }
+  field_finishes i (Assigned x) receives n goes =
+      let old = field_by_kind (lookup x s.variables) goes.0 in
+      record {
+        variables = assign x (FieldHandle n.field) s.variables;
+        steps = assigned_is line f args rest s q c plain next x (FieldHandle old.0) (FieldHandle n.field) old.1 (n.fills old.0);
+        stands = field_stands i receives x goes.1 n;
+        viewless = field_viewless i receives x goes.1 n;
+      }
+  field_finishes i (Tested a b) receives n goes = absurd goes
+  field_finishes i Dropped receives n goes = absurd goes
+
+  -- ---- by where it goes
+
+  pub finishes : (d : Destination) (target : Target) → TakesResult code r.known call.place call.stack held (visible_to shared s) d kind target rest → Receives d kind g call after → Ends target
+  finishes (destination.Number i) target goes receives = number_finishes i target receives goes.0 (number_given w.classes space kind g c goes.0 agrees goes.1) goes.2
+  finishes (destination.Local i) target goes receives =
+      reference_finishes i target receives (reference_given w.classes space g c (subst (λ (k : ResultKind). GivenAgrees w.classes space k g c) goes.0 agrees)) goes.1
+  finishes (destination.FieldId i) target goes receives =
+      field_finishes i target receives (field_given w.classes space g c (subst (λ (k : ResultKind). GivenAgrees w.classes space k g c) goes.0 agrees)) goes.1
+  finishes destination.Dropped target goes receives =
+      subst Ends (sym goes.0) (record {
+        variables = s.variables;
+        steps = dropped_is line f args rest s q c plain next;
+        stands = stands_after destination.Dropped receives r.known s.variables r.references r.fields (subst (λ (l : List (Option ℕ)). ReferencesAgree space l r.references) (sym receives.references) same_references)
+            (subst (λ (l : List (Option Handle)). FieldsAgree w.classes l r.fields) (sym receives.fields) r.fields_agree) goes.1
+            (subst (λ (l : List ℕ). Shows code r.known (visible_to shared (then s.variables)) (record { numbers = l; references = r.references; fields = r.fields })) (sym receives.numbers) r.shows);
+        viewless = none;
+      })
