@@ -1,6 +1,6 @@
 //! Calls of functions of the JNI (JNI Specification, chapter 4).
 
-ghost use Rattle.std.specs.Prelude.{◌≡◌, ℕ, List, Option};
+ghost use Rattle.std.specs.Prelude.{◌≡◌, ◌+◌, ◌<◌, ◌^◌, ℕ, List, Option};
 ghost use Rattle.source.specs.Effect.{effect_of};
 ghost use Rattle.source.specs.Task.{Task};
 ghost use Rattle.source.specs.Thread.{BuffersInUse, Shared, Thread as SourceThread, sight_of};
@@ -28,6 +28,7 @@ pub fn invoke(
     function: &Call,
 ) -> Executed
     requires at_call { (p : Lowered) × (shared : Shared) × (s : SourceThread) × (task : Task) × (rest : List Task) × AtCall p world.now store.old pending.old call.old function.now shared s task rest }
+    requires place { call.old.place + 1 < 2 ^ 64 }
     ensures { (p : Lowered) (lent : BuffersInUse) (k : ℕ) (shared : Shared) (s : SourceThread) (task : Task) (rest : List Task) → AtCall p world.now store.old pending.old call.old function.now shared s task rest
         → Executes p world.now store.old.heap store.new lent k shared s rest call.new pending.new (effect_of (sight_of shared s) task) result }
 {

@@ -15,7 +15,7 @@ use jni::ResultKind;
 /// Puts what a function of this kind of result gives into its target, a new local reference also into the current frame, and
 /// goes on after the instruction. It takes no host memory.
 pub fn receive(call: &mut Activation, target: Target, kind: ResultKind, given: &Given)
-    requires place { call.old.place < 2 ^ 32 }
+    requires place { call.old.place + 1 < 2 ^ 64 }
     requires target { HasTarget target call.old }
     requires frame { HasFrame (result_value kind) call.old }
     ensures { Receives target (result_value kind) given.now call.old call.new }
