@@ -24,7 +24,7 @@ use Rattle.lower.specs.Lowered.{Lowered, IsLowered}
 use Rattle.machine.specs.declared.thread.Activation.{Activation}
 use Rattle.machine.specs.declared.thread.Event.TheVariants.{Quiet, Printed, Trapped}
 use Rattle.machine.specs.declared.thread.Executed.TheVariants.{Did}
-use Rattle.std.specs.Prelude.{Result, Ok, Err, IfOk}
+use Rattle.std.specs.Prelude.{◌<◌, ◌^◌, None, OnSome}
 use Rattle.classes.specs.Class.{Classes}
 use Rattle.class_table.specs.declared.class.FieldHandle.{FieldHandle}
 use Rattle.source.specs.Thread.{Frame, Shared, Thread}
@@ -103,11 +103,16 @@ at_call p w store pending call i f function is shared s task rest e = record {
   at = f.at ∙ ap (λ j. Some j) is;
 }
 
+-- what holds where something is there
+limit_of : {A : Type 0} (o : Option A) (x : A) (P : Type 0) → OnSome o P → o ≡ Some x → P
+limit_of None x P h e = absurd (cc)
+limit_of (Some y) x P h e = h
+
 pub invoke-requires : goal.invoke-requires
 invoke-requires c =
     let s = c.requires.stands in
     let f = fetched (goal.at.invoke-requires c).After-unwrap-instr in
-    record { at_call = (c.args.program.now, s.0, s.1, s.2, s.3, at_call c.args.program.now c.args.world.now c.args.store.now c.args.pending.now c.args.call.now c.unwrap-instr.result.now f c.call.result.now (c.in-Call.is ∙ ap (λ (x : Call). instr.Call x) (sym c.call.ensures)) s.0 s.1 s.2 s.3 s.4) }
+    record { at_call = (c.args.program.now, s.0, s.1, s.2, s.3, at_call c.args.program.now c.args.world.now c.args.store.now c.args.pending.now c.args.call.now c.unwrap-instr.result.now f c.call.result.now (c.in-Call.is ∙ ap (λ (x : Call). instr.Call x) (sym c.call.ensures)) s.0 s.1 s.2 s.3 s.4); place = limit_of c.get.result c.unwrap-instr.result (c.args.call.now.place + 1 < 2 ^ 64) c.get.ensures.limit c.unwrap-instr.ensures }
 
 pub returns-in-TestNull : goal.returns-in-TestNull
 returns-in-TestNull c lent k shared s task rest e =
