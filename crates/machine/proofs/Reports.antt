@@ -1,8 +1,9 @@
 -- The report of the state that a machine's journal leads to.
-use Rattle.std.proofs.Common.{◌≡◌, ℕ, zero, suc, ◌+◌, Bool, false, cond, List, [], ◌∷◌, ◌++◌, length, map, Option, Some, None, Result, refl, sym, ap, ◌∙◌, subst}
-use Rattle.std.specs.Prelude.{slice_get, ◌==◌, is_some, not, ◌||◌, ◌&&◌}
-use Rattle.std.specs.List.{list_all, enumerate_from}
+use Rattle.std.proofs.Common.{append-nil, ◌≡◌, ℕ, zero, suc, ◌+◌, Bool, false, cond, List, [], ◌∷◌, ◌++◌, length, map, Option, Some, None, Result, refl, sym, ap, ◌∙◌, subst}
+use Rattle.std.specs.Prelude.{slice_get, flat_map, ◌==◌, is_some, not, ◌||◌, ◌&&◌}
+use Rattle.std.specs.List.{list_all, enumerate_from, AllZip}
 use Rattle.std.specs.Option.{option_map}
+use Rattle.std.proofs.lemmas.List.Concat.{flat_map-cons}
 use Rattle.syntax.specs.Views.{unit_tree}
 use Rattle.classes.specs.Class.{Classes}
 use Rattle.source.specs.declared.journal.Entry.{Entry}
@@ -19,18 +20,25 @@ use Rattle.report.specs.ThreadStatus.{standing_view}
 use Rattle.source.specs.ReportOf.{standing_by_ending, standing_of, shown, shown_row, report}
 use Rattle.report.specs.RunText as run_text
 use Rattle.source.specs.State as state
-use Rattle.source.specs.State.{State}
+use Rattle.source.specs.State.{State, views}
+use Rattle.source.specs.Heap.{Heap}
+use Rattle.source.specs.Reachable.{from_one, loaded_count, thread_roots, roots}
+use Rattle.source.specs.Task.{Task}
+use Rattle.source.proofs.ShownRows.{length-loaded}
 use Rattle.source.specs.Value.{trap_number}
 use Rattle.source.specs.Step.{is_waiting, is_blocked, is_unfinished}
 use Rattle.source.specs.Thread as source
-use Rattle.source.specs.Thread.{Shared}
+use Rattle.source.specs.Thread.{Shared, Monitor, viewed_by}
 use Rattle.heap.specs.Heap.{Space, left_of}
 use Rattle.lower.specs.Lowered.{Lowered, IsLowered}
+use Rattle.lower.specs.Slots.{Visible, visible_to}
+use Rattle.reached.specs.Rows.{AreReported}
 use Rattle.machine.specs.declared.thread.Ending.{Ending}
 use Rattle.machine.specs.declared.thread.Ending.TheVariants as ending
+use Rattle.machine.specs.declared.thread.Activation.{Activation}
 use Rattle.machine.specs.declared.thread.Thread.{Thread}
 use Rattle.machine.specs.declared.stop.Stop.{Stop}
-use Rattle.machine.specs.Agrees.{ThreadsAgree, ending_view}
+use Rattle.machine.specs.Agrees.{ThreadsAgree, FramesAgree, WorkAgrees, ending_view}
 use Rattle.machine.specs.Stops as machine
 use Rattle.machine.specs.Stops.{stop_view, trap_view}
 use Rattle.machine.specs.Run as run
@@ -39,6 +47,8 @@ use Rattle.machine.specs.declared.store.Store.{Store}
 use Rattle.machine.specs.Run.{Run, Corresponds, WritesRun, IsFinished}
 use Rattle.machine.proofs.Standings.{standings}
 use Rattle.machine.proofs.Threads.{unblocked}
+use Rattle.machine.specs.Roots.{frames_of, thread_names, ThreadsAreThere}
+use Rattle.machine.proofs.RootNames.{HasRootsOf, threads_are, threads_there}
 
 -- ---- how threads stand
 
@@ -116,6 +126,68 @@ is_finished p world store ts printed stop journal c now view answer h =
     has_stopped : (o : Option Stop) → is_some o ≡ is_some (option_map stop_view o)
     has_stopped None = refl
     has_stopped (Some x) = refl
+
+-- ---- the rows
+
+-- the frames and the pending exception of a thread stand for those of its thread of the source
+frames_in : (p : Lowered) (classes : Classes) (space : Space) (visible : Visible) (call : Option Activation) (frames : List source.Frame) (tasks : Option (List Task)) → WorkAgrees p classes space visible call frames tasks → FramesAgree space (frames_of call) frames
+frames_in p classes space visible None frames None h = subst (λ (fs : List source.Frame). FramesAgree space [] fs) (sym h) tt
+frames_in p classes space visible None frames (Some tasks) h = absurd h
+frames_in p classes space visible (Some call) frames None h = absurd h
+frames_in p classes space visible (Some call) frames (Some tasks) h = h.frames_agree
+
+roots_of : (p : Lowered) (classes : Classes) (space : Space) (made : ℕ) (shared : Shared) (ts : List Thread) (ss : List source.Thread) → ThreadsAgree p classes space made shared ts ss → AllZip (HasRootsOf space) ts ss
+roots_of p classes space made shared [] [] h = tt
+roots_of p classes space made shared [] (s ∷ ss) h = absurd h
+roots_of p classes space made shared (t ∷ ts) [] h = absurd h
+roots_of p classes space made shared (t ∷ ts) (s ∷ ss) h = (
+  record { frames = frames_in p classes space (visible_to shared s) t.call s.frames s.tasks (h.0).work; pending = (h.0).pending },
+  roots_of p classes space made shared ts ss h.1,
+)
+
+-- no function that gives a view can be called yet
+no_views : (p : Lowered) (classes : Classes) (space : Space) (made : ℕ) (shared : Shared) (ts : List Thread) (ss : List source.Thread) → ThreadsAgree p classes space made shared ts ss → flat_map viewed_by ss ≡ []
+no_views p classes space made shared ts [] h = refl
+no_views p classes space made shared [] (s ∷ ss) h = absurd h
+no_views p classes space made shared (t ∷ ts) (s ∷ ss) h =
+    flat_map-cons viewed_by s ss
+    ∙ ap (λ (l : List ℕ). l ++ flat_map viewed_by ss) (h.0).viewless
+    ∙ no_views p classes space made shared ts ss h.1
+
+module _ (p : Lowered) (world : World) (store : Store) (ts : List Thread) (printed : List Printed) (stop : Option Stop) (journal : List Entry) (c : Corresponds p world store ts printed stop journal) where
+  roots_in : AllZip (HasRootsOf store.heap) ts c.state.threads
+  roots_in = roots_of p world.classes store.heap (length (loaded_objects world)) c.state.shared ts c.state.threads c.threads_agree
+
+  -- what threads refer to is there
+  pub roots_there : ThreadsAreThere store.heap ts
+  roots_there = threads_there store.heap ts c.state.threads roots_in
+
+  -- the state's roots are the objects made at load and what the threads refer to
+  roots_are : roots world c.state ≡ from_one (length store.loaded.items) ++ flat_map (thread_names store.heap) ts
+  roots_are =
+      let names = flat_map thread_roots c.state.threads in
+      let count : loaded_count world ≡ length store.loaded.items = sym (length-loaded world) ∙ sym c.store_agrees.table.counted in
+      let views_none : views c.state ≡ [] = no_views p world.classes store.heap (length (loaded_objects world)) c.state.shared ts c.state.threads c.threads_agree in
+      ap (λ (l : List ℕ). from_one (loaded_count world) ++ l ++ names ++ map (λ (m : Monitor). m.object) c.state.shared.monitors ++ views c.state) c.store_agrees.globals
+      ∙ ap (λ (l : List ℕ). l ++ names ++ map (λ (m : Monitor). m.object) c.state.shared.monitors ++ views c.state) (append-nil (from_one (loaded_count world)))
+      ∙ ap (λ (ms : List Monitor). from_one (loaded_count world) ++ names ++ map (λ (m : Monitor). m.object) ms ++ views c.state) c.store_agrees.monitors
+      ∙ ap (λ (l : List ℕ). l ++ views c.state) (append-nil (from_one (loaded_count world) ++ names))
+      ∙ ap (λ (l : List ℕ). from_one (loaded_count world) ++ names ++ l) views_none
+      ∙ append-nil (from_one (loaded_count world) ++ names)
+      ∙ ap (λ n. from_one n ++ names) count
+      ∙ ap (λ (l : List ℕ). from_one (length store.loaded.items) ++ l) (sym (threads_are store.heap ts c.state.threads roots_in))
+
+  -- the rows of what can be reached from them are the state's
+  pub rows_are : (classes : Classes) (objects : Heap) (loaded : ℕ) (names : List ℕ) (rows : List ShownRow)
+      → classes ≡ world.classes → objects ≡ c.state.shared.heap → loaded ≡ length store.loaded.items → names ≡ flat_map (thread_names store.heap) ts
+      → AreReported classes objects loaded names rows → rows ≡ map (shown_row world.classes c.state.shared.heap) (shown world c.state)
+  unfolding report
+  rows_are classes objects loaded names rows k h l n told =
+      let same : roots world c.state ≡ from_one loaded ++ names =
+      roots_are
+      ∙ ap (λ m. from_one m ++ flat_map (thread_names store.heap) ts) (sym l)
+      ∙ ap (λ (ns : List ℕ). from_one loaded ++ ns) (sym n) in
+      told world c.state (record { classes = sym k; heap = sym h; roots = same })
 
 -- what is written of these parts is what the run writes
 pub writes_run : {T E : Type 0} (p : Lowered) (world : World) (store : Store) (ts : List Thread) (printed : List Printed) (stop : Option Stop) (journal : List Entry) (c : Corresponds p world store ts printed stop journal) (now : Run)

@@ -22,7 +22,7 @@ mod thread;
 mod turn;
 mod variable;
 
-pub use fault::{LoadFault, RunFault};
+pub use fault::{LoadFault, ReportFault, RunFault};
 pub use machine::{MOST_ENTRIES, Machine};
 pub use stop::{Stop, Trap};
 pub use turn::Turn;

@@ -9,12 +9,14 @@ ghost use Rattle.source.specs.Load.{first_load_fault};
 ghost use Rattle.source.specs.Object.{sizes};
 ghost use Rattle.source.specs.World.{loaded_objects};
 ghost use Rattle.machine.specs.Loading.{IsLoadFault};
-ghost use Rattle.machine.specs.Run.{replay_of, IsUnstarted, CouldStep, TurnHolds, RunsAlong, RunsInto, PrintedBy, IsFinished, has_ended, ShowsObjects, WritesRun, GivesNoStep, GivesStep, StoppedBy, printed_after};
+ghost use Rattle.machine.specs.Run.{replay_of, IsUnstarted, CouldStep, TurnHolds, RunsAlong, RunsInto, PrintedBy, IsFinished, has_ended, ReportsRun, GivesNoStep, GivesStep, StoppedBy, printed_after};
 ghost use Rattle.machine.specs.Stops.{stop_after, standing_of, standing_by_ending};
 
-use crate::fault::{LoadFault, RunFault};
+use crate::fault::{LoadFault, ReportFault, RunFault};
 use crate::load::load_threads;
 use crate::objects::load_store;
+use crate::roots::root_names;
+use crate::rows::named_blocks;
 use crate::stop::Stop;
 use crate::store::Store;
 use crate::thread::{Advanced, Ending, Event, Thread, advance};
@@ -22,11 +24,10 @@ use crate::turn::Turn;
 use arrayvec::ArrayVec;
 use class_table::table::ClassTable;
 use lower::Program;
+use reached::reached_rows;
 use std::alloc::{AllocError, Global};
 use std::marker::Model;
-use world::{
-    Entry, Printed, Rows, Schedule, ScheduleWord, Sink, SinkFailed, ThreadStatus, World, write_run,
-};
+use world::{Entry, Printed, Schedule, ScheduleWord, Sink, ThreadStatus, World, write_run};
 
 /// How many entries a journal has at most.
 pub const MOST_ENTRIES: usize = 1_000_000;
@@ -246,22 +247,31 @@ impl<'a> Machine<'a> {
         self.stop.is_some() || all_ended(&self.threads)
     }
 
-    /// Writes the report of the run, with these rows of its objects, and the line of its journal, and flushes the sink. It
-    /// takes no host memory.
-    pub fn report<S: Sink, R: Rows>(&self, rows: &R, sink: &mut S) -> Result<(), SinkFailed>
+    /// Writes the report of the run, with the objects that can still be reached, and the line of its journal, and flushes
+    /// the sink.
+    ///
+    /// Where memory is refused, nothing is written.
+    pub fn report<S: Sink>(&self, alloc: Global, sink: &mut S) -> Result<(), ReportFault>
         requires can_fail { CanFail (S.written sink.old) }
-        requires rows { ShowsObjects self.now (R.rows rows.now) }
-        ensures run { WritesRun self.now (S.written sink.old) (S.written sink.new) result }
+        ensures run { ReportsRun self.now (S.written sink.old) (S.written sink.new) result }
         ensures none_waits { OnOk result ((S.written sink.new).waiting ≡ 0) }
     {
-        let standings = standings_of(self.world.classes(), &self.threads, self.stop);
-        write_run(
+        let classes = self.world.classes();
+        let standings = standings_of(classes, &self.threads, self.stop);
+        let heap = &self.store.heap;
+        let objects = named_blocks(alloc, heap, self.store.births)?;
+        let names = root_names(alloc, heap, &self.threads)?;
+        let rows = reached_rows(alloc, classes, &objects, self.store.loaded.len(), &names)?;
+        match write_run(
             sink,
             self.printed.as_slice(),
             standings.as_slice(),
-            rows,
+            &rows,
             self.journal.as_slice(),
-        )
+        ) {
+            Ok(()) => Ok(()),
+            Err(_) => Err(ReportFault::Sink),
+        }
     }
 }
 
