@@ -1,12 +1,11 @@
 -- Which effects an answer can have.
-use Rattle.std.proofs.Common.{◌≡◌, ℕ, List, [], ◌∷◌, Option, Some, None, refl, sym, ap, ◌∙◌}
+use Rattle.std.proofs.Common.{◌≡◌, ℕ, [], ◌∷◌, Some, sym, ap}
 use Rattle.classes.specs.Class.{Classes}
 use Rattle.heap.specs.Heap.{Space}
 use Rattle.heap.specs.declared.value.Value.{Value}
 use Rattle.jni.specs.Prototype.{ResultKind, NewLocal, GivesNothing}
 use Rattle.source.specs.CallEffects.{CallResult, NoResult, NullResult, ScalarResult, ReferenceResult, FieldResult, BufferResult, CallEffect, Throws, Halts, Leaves}
 use Rattle.source.specs.Heap.{next_name}
-use Rattle.source.specs.Object.{Object, Reference}
 use Rattle.source.specs.Thread.{Shared, Thread}
 use Rattle.source.specs.World.{fresh_object}
 use Rattle.machine.specs.declared.answer.Given.{Given}

@@ -1,5 +1,5 @@
 -- The operands of a call give what the arguments of the source's call are.
-use Rattle.std.proofs.Common.{inl, inr, ◌≡◌, ℕ, zero, suc, ◌+◌, ◌-◌, List, [], ◌∷◌, ◌++◌, length, Option, Some, None, refl, sym, ap, ◌∙◌, subst, arith, length-append}
+use Rattle.std.proofs.Common.{inl, inr, ◌≡◌, ℕ, zero, suc, ◌+◌, ◌-◌, List, [], ◌∷◌, length, Option, Some, None, refl, sym, ap, ◌∙◌, subst, arith, length-append}
 use Rattle.std.specs.Prelude.{slice_get}
 use Rattle.std.specs.List.{AllZip}
 use Rattle.std.proofs.lemmas.Bool.{le-leb}
@@ -21,7 +21,7 @@ use Rattle.lower.specs.Does.{IsOperand, word_given, words_given}
 use Rattle.lower.specs.Lowered.{Lowered}
 use Rattle.machine.specs.declared.thread.Activation.{Activation}
 use Rattle.machine.specs.Agrees.{FieldAgrees, FieldsAgree, ReferencesAgree}
-use Rattle.machine.specs.Given.{held_in, operand_at, field_at, IsGiven, ReferenceIsGiven, FieldIsGiven}
+use Rattle.machine.specs.Given.{held_in, IsGiven}
 use Rattle.machine.specs.HeapAgrees.{ReferenceAgrees}
 use Rattle.machine.proofs.Calls.{slots_of, Ready}
 

@@ -1,36 +1,31 @@
 -- What the machine works out of calls is what the source's calls do.
-use Rattle.std.proofs.Common.{inl, inr, ◌≡◌, ℕ, pos, zero, suc, ◌+◌, ◌-◌, ◌<◌, ◌≤◌, ◌^◌, Bool, true, false, not, List, [], ◌∷◌, ◌++◌, length, zip, Option, Some, None, is_none, slice_get, refl, sym, ap, ◌∙◌, subst, arith, eqb, ⊎_elim}
-use Rattle.std.specs.Prelude.{◌&&◌, ◌||◌, ◌==◌, unwrap_or, FitsSigned, IsSome}
+use Rattle.std.proofs.Common.{inl, inr, ◌≡◌, ℕ, pos, zero, suc, ◌+◌, ◌-◌, ◌<◌, ◌≤◌, ◌^◌, Bool, true, false, not, List, [], ◌∷◌, ◌++◌, length, Option, Some, None, is_none, slice_get, refl, sym, ap, ◌∙◌, subst, arith, eqb, ⊎_elim}
+use Rattle.std.specs.Prelude.{◌||◌, ◌==◌, unwrap_or, FitsSigned}
 use Rattle.std.specs.Int.{w32}
-use Rattle.std.specs.List.{AllZip, list_any}
-use Rattle.std.specs.Option.{option_map, option_map_or}
+use Rattle.std.specs.List.{AllZip}
+use Rattle.std.specs.Option.{option_map_or}
 use Rattle.std.proofs.lemmas.Bool.Decides.{eqb_tells}
-use Rattle.base.specs.Bytes.{Identifier}
 use Rattle.classes.specs.BuiltIns.{class_class, has_own_making, no_class_def_found_error, no_such_field_error, string_class}
 use Rattle.classes.specs.Class.{Class, Classes, class_at, class_kind, class_named, is_plain, superclass, assignable}
 use Rattle.classes.specs.Fields.{FieldId, find_field, find_static}
-use Rattle.classes.specs.Grown.{IsGrown}
 use Rattle.classes.proofs.GrownTables.{IsOrdered, grown_is_ordered}
-use Rattle.class_table.specs.FieldViews.{field_of}
 use Rattle.class_table.specs.declared.class.FieldHandle.{FieldHandle}
 use Rattle.code.specs.Call.{Call}
 use Rattle.code.specs.Effect.{truth_word}
 use Rattle.code.specs.declared.instr.Operand.{Operand}
 use Rattle.code.specs.declared.instr.Operand.TheVariants as operand
-use Rattle.heap.specs.Heap.{Space, IsLaidOut, name_at, values_at}
+use Rattle.heap.specs.Heap.{Space, IsLaidOut, name_at}
 use Rattle.jni.specs.JniFunction.{JniFunction, FindClass, AllocObject, GetFieldID, GetStaticFieldID, GetArrayLength, GetSuperclass, GetObjectClass, IsInstanceOf, IsAssignableFrom}
 use Rattle.jni.specs.Prototype.{prototype, ParameterKind, ClassObject, FieldID, IntNumber, NonNull, TextBytes, NewLocal, GivesField}
-use Rattle.source.specs.Arguments.{Actual, ReferenceActual, TextActual, reference_given, object_given, name_or_zero, text_given, text_in_actual}
-use Rattle.source.specs.CallEffects.{CallEffect, found_class_effect, found_field_effect}
+use Rattle.source.specs.Arguments.{Actual, reference_given, object_given, name_or_zero, text_given, text_in_actual}
+use Rattle.source.specs.CallEffects.{found_class_effect, found_field_effect}
 use Rattle.source.specs.CallStep.{trap_of_call}
 use Rattle.source.specs.CallTable.{call_effect}
-use Rattle.source.specs.Checks.{is_misfit, is_missing}
 use Rattle.source.specs.Heap.{Heap, class_of, object_at, values_of, fits_class}
 use Rattle.source.specs.Object.{Object, Reference}
 use Rattle.source.specs.Reachable.{IsName}
 use Rattle.source.specs.Task.{Target}
 use Rattle.source.specs.Thread.{Shared, Thread, BuffersInUse}
-use Rattle.source.specs.Variable.{Live}
 use Rattle.source.specs.World.{World, fresh_object, loaded_objects}
 use Rattle.world.proofs.LoadedWorlds.{class_within}
 use Rattle.world.specs.SoundWorlds.{IsSound}
@@ -307,9 +302,12 @@ module _ (p : Lowered) (w : World) (store : Store) (pending : Option ℕ) (call 
       let class : class_of shared.heap first.name ≡ object.0.class = ap (λ (o : Option Object). option_map_or (λ (x : Object). x.class) o 0) object.1 in
       let there : class_of_given store.heap (at 0) ≡ object.0.class = ap (class_of_given store.heap) first.at ∙ class_is w.classes store.heap references fields shared.heap h.store_agrees.heap.blocks first.address first.name first.named ∙ class in
       let given : class_of shared.heap (object_given args 0) ≡ object.0.class = ap (λ (q : Reference). class_of shared.heap (name_or_zero q)) first.is ∙ class in
-      subst (λ (x : Answer). Does GetObjectClass x) (sym is)
-      (refl, refl, subst (λ (c : ℕ). ReferenceAgrees store.heap (class_object store.loaded.items (Some c)) (Some (class_of shared.heap (object_given args 0)))) (sym there)
-      (subst (λ (c : ℕ). ReferenceAgrees store.heap (class_object store.loaded.items (Some object.0.class)) (Some c)) (sym given) (table_of GetObjectClass h object.0.class known.low known.high)))
+      subst (λ (x : Answer). Does GetObjectClass x) (sym is) (
+        refl,
+        refl,
+        subst (λ (c : ℕ). ReferenceAgrees store.heap (class_object store.loaded.items (Some c)) (Some (class_of shared.heap (object_given args 0)))) (sym there)
+            (subst (λ (c : ℕ). ReferenceAgrees store.heap (class_object store.loaded.items (Some object.0.class)) (Some c)) (sym given) (table_of GetObjectClass h object.0.class known.low known.high)),
+      )
 
   answers_alloc : Asked AllocObject → (target : Target) → trap_of_call w.classes shared s target AllocObject args ≡ None → (answer : Answer) → Works AllocObject answer → Does AllocObject answer
   unfolding call_effect

@@ -1,6 +1,6 @@
 -- A call that the machine makes does what the source's call does.
-use Rattle.std.proofs.Common.{◌≡◌, ℕ, ◌+◌, ◌<◌, Bool, true, false, not, List, [], ◌∷◌, ◌++◌, length, Option, Some, None, is_some, refl, sym, ap, ◌∙◌, subst, arith, append-nil}
-use Rattle.std.specs.Prelude.{◌&&◌, slice_get}
+use Rattle.std.proofs.Common.{◌≡◌, ℕ, Bool, true, false, not, List, length, Option, Some, None, refl, sym, ap, ◌∙◌, subst, arith, append-nil}
+use Rattle.std.specs.Prelude.{◌&&◌}
 use Rattle.std.specs.List.{AllZip}
 use Rattle.classes.specs.Class.{Classes}
 use Rattle.heap.specs.Heap.{Space}
@@ -27,7 +27,7 @@ use Rattle.code.specs.declared.instr.Target.{Target as Destination}
 use Rattle.code.specs.declared.instr.Target.TheVariants as destination
 use Rattle.lower.specs.Does.{CallsFunction, IsOperand, OperandFits, TakesResult}
 use Rattle.lower.specs.Lowered.{Lowered}
-use Rattle.lower.specs.Slots.{Slots, Visible, visible_to}
+use Rattle.lower.specs.Slots.{Visible, visible_to}
 use Rattle.machine.specs.declared.answer.Answer.{Answer}
 use Rattle.machine.specs.declared.answer.Answer.TheVariants as answers
 use Rattle.machine.specs.declared.answer.Given.{Given}
@@ -43,14 +43,14 @@ use Rattle.machine.specs.CarriedOut.{CarriesOut, IsPossible, can_fail, pending_a
 use Rattle.machine.specs.Checked.{is_answered, puts_local}
 use Rattle.machine.specs.Frames.{has_room}
 use Rattle.machine.specs.Invoked.{AtCall}
-use Rattle.machine.specs.Received.{HasField, HasFrame, HasNumber, HasReference, HasRoom, HasTarget, Receives}
+use Rattle.machine.specs.Received.{HasFrame, HasTarget, Receives}
 use Rattle.machine.specs.Stops.{trap_view}
-use Rattle.machine.proofs.AnswerCases.{gives_it, makes_it, throws_it, writes_it}
+use Rattle.machine.proofs.AnswerCases.{gives_it, makes_it, writes_it}
 use Rattle.machine.proofs.Arguments.{all_given, none_left_after}
 use Rattle.machine.proofs.CallTraps.{room_left}
 use Rattle.machine.proofs.Calls.{Ready, agree_count, fields_count, ready, slots_of}
 use Rattle.machine.proofs.Effects.{call_cases}
-use Rattle.machine.proofs.Invocations.{Finishes, finishes, going, resumption}
+use Rattle.machine.proofs.Invocations.{finishes, going, resumption}
 use Rattle.machine.proofs.Keeping.{keeps_same}
 
 -- a function whose calls can be made is one that is answered

@@ -1,5 +1,5 @@
 -- What is checked of a call whose operands are given is what the source checks, and what is known of it then.
-use Rattle.std.proofs.Common.{inl, inr, ◌≡◌, ℕ, Bool, true, false, not, List, [], ◌∷◌, Option, Some, None, is_some, refl, sym, ap, ◌∙◌, subst}
+use Rattle.std.proofs.Common.{◌≡◌, ℕ, Bool, true, false, not, List, [], ◌∷◌, Option, Some, None, is_some, refl, ◌∙◌, subst}
 use Rattle.std.specs.Prelude.{◌&&◌, ◌||◌, IsSome}
 use Rattle.std.specs.Option.{option_map}
 use Rattle.std.specs.List.{AllZip}
@@ -14,12 +14,12 @@ use Rattle.heap.specs.Heap.{Block, Space, IsAddress, block_at, name_at}
 use Rattle.jni.specs.JniFunction.{JniFunction, is_allowed_pending}
 use Rattle.jni.specs.Prototype.{prototype}
 use Rattle.source.specs.Arguments.{Actual}
-use Rattle.source.specs.CallStep.{trap_of_call, target_element}
+use Rattle.source.specs.CallStep.{trap_of_call}
 use Rattle.source.specs.Checks.{first_trap}
 use Rattle.source.specs.Object.{Reference}
 use Rattle.source.specs.Task.{Target}
 use Rattle.source.specs.Thread.{Shared, Thread}
-use Rattle.source.specs.Value.{Trap, NullReference, ExceptionPending, WrongObject, NoCapacity}
+use Rattle.source.specs.Value.{NullReference, ExceptionPending, WrongObject, NoCapacity}
 use Rattle.source.specs.World.{World}
 use Rattle.lower.specs.Lowered.{Lowered}
 use Rattle.machine.specs.declared.store.Store.{Store}
@@ -28,7 +28,7 @@ use Rattle.machine.specs.Agrees.{FieldAgrees}
 use Rattle.machine.specs.Asked.{IsAsked}
 use Rattle.machine.specs.Checked.{fit_together, some_missing, some_misfit, puts_local, trap_found}
 use Rattle.machine.specs.Frames.{has_room}
-use Rattle.machine.specs.Given.{operand_at, field_at, AreAddresses, AreHandles, FieldIsGiven, IsGiven, ReferenceIsGiven}
+use Rattle.machine.specs.Given.{operand_at, field_at, AreAddresses, AreHandles, IsGiven}
 use Rattle.machine.specs.HeapAgrees.{ReferenceAgrees}
 use Rattle.machine.proofs.CallChecks as checks
 use Rattle.machine.proofs.Rooms.{full_where}

@@ -1,15 +1,14 @@
 -- What is carried out is what the source's call leaves.
-use Rattle.std.proofs.Common.{◌≡◌, ℕ, zero, suc, ◌+◌, ◌-◌, ◌<◌, ◌≤◌, ◌^◌, Bool, true, false, List, [], ◌∷◌, ◌++◌, length, Option, Some, None, refl, sym, ap, ◌∙◌, subst, arith, append-nil}
+use Rattle.std.proofs.Common.{◌≡◌, ℕ, zero, suc, ◌<◌, Bool, true, false, List, [], ◌∷◌, ◌++◌, length, Option, Some, refl, sym, ap, subst, arith, append-nil}
 use Rattle.std.specs.Prelude.{slice_get}
 use Rattle.std.proofs.lemmas.Option.{slice_get_within}
 use Rattle.classes.specs.Class.{Classes}
-use Rattle.heap.specs.Heap.{Space, name_at, with_value}
+use Rattle.heap.specs.Heap.{Space, with_value}
 use Rattle.heap.specs.declared.value.Value.{Value}
 use Rattle.jni.specs.Prototype.{ResultKind, NewLocal, NewGlobal, GivesFlag, GivesInt, GivesField, GivesNothing, GivesBuffer}
-use Rattle.source.specs.CallEffects.{CallResult, NoResult, ReferenceResult, CallEffect, Leaves, Throws, out_of_memory}
+use Rattle.source.specs.CallEffects.{NoResult, ReferenceResult, CallEffect, out_of_memory}
 use Rattle.source.specs.CallStep.{failure, makes_objects}
 use Rattle.source.specs.Heap.{Heap, next_name}
-use Rattle.source.specs.Object.{Object, Reference}
 use Rattle.source.specs.Thread.{Shared, Thread}
 use Rattle.source.specs.World.{World, fresh_object, loaded_objects}
 use Rattle.world.proofs.LoadedWorlds.{loaded_error}
@@ -21,7 +20,7 @@ use Rattle.machine.specs.declared.answer.Given.TheVariants as given
 use Rattle.machine.specs.declared.store.Store.{Store}
 use Rattle.machine.specs.Agrees.{StoreAgrees, Keeps}
 use Rattle.machine.specs.Answers.{GivenAgrees, IsAnswer}
-use Rattle.machine.specs.CarriedOut.{CarriesOut, IsPossible, can_fail, failed, pending_after, result_after, shared_after}
+use Rattle.machine.specs.CarriedOut.{CarriesOut, IsPossible, can_fail, failed}
 use Rattle.machine.specs.HeapAgrees.{ReferenceAgrees}
 use Rattle.machine.specs.Made.{HasMade}
 use Rattle.machine.proofs.AnswerCases.{gives_it, makes_it, throws_it, writes_it}

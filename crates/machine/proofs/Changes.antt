@@ -1,6 +1,6 @@
 -- What can be seen once a variable has changed.
 use Rattle.std.proofs.Common.{◌≡◌, ◌≢◌, ℕ, zero, suc, ℤ, pos, ◌<◌, Bool, true, false, List, [], ◌∷◌, length, replicate, Option, Some, None, refl, sym, ap, ◌∙◌, subst, arith, if◌then◌else◌}
-use Rattle.std.specs.Prelude.{is_none, slice_get, slice_set}
+use Rattle.std.specs.Prelude.{slice_get, slice_set}
 use Rattle.std.specs.Str.{bytes_eq}
 use Rattle.std.proofs.lemmas.List.{length-replicate}
 use Rattle.std.proofs.lemmas.Option.{slice_get_past, slice_get_within}
@@ -13,7 +13,7 @@ use Rattle.source.specs.Sight.{scalar, holds_null, elements_of, in_range, held_r
 use Rattle.source.specs.Thread as source
 use Rattle.source.specs.Thread.{Shared}
 use Rattle.source.specs.Value.{Value, Gives, Stuck, outcome_then, convert}
-use Rattle.source.specs.Variable.{Variable, Scalar, LocalRef, FieldHandle, Elements, LocalArray, Empty, Variables, as_static, assign}
+use Rattle.source.specs.Variable.{Variable, Scalar, LocalRef, FieldHandle, Elements, LocalArray, Empty, Variables, assign}
 use Rattle.source.specs.Task.{VariableKind, ScalarKind, ReferenceKind, FieldKind}
 use Rattle.lower.specs.Slots.{visible_to, type_of_array, kind_of_variable, OthersStay, IsSet, IsNulled, IsReferred, IsFieldSet, IsMade, IsElementSet}
 

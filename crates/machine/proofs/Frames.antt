@@ -1,5 +1,5 @@
 -- The current frame is the last.
-use Rattle.std.proofs.Common.{◌≡◌, ℕ, zero, suc, ◌+◌, ◌<◌, Bool, true, false, List, [], ◌∷◌, length, refl, ap, arith, nat_lt, slice_index_or, slice_set}
+use Rattle.std.proofs.Common.{◌≡◌, ℕ, zero, suc, ◌+◌, ◌<◌, true, List, [], ◌∷◌, length, refl, ap, arith, nat_lt, slice_index_or, slice_set}
 use Rattle.machine.specs.Frames.{Frame, has_room, with_local, with_reference}
 
 -- the last frame tells whether there is room

@@ -1,10 +1,10 @@
 -- A table that grew from the built-in classes has them all.
-use Rattle.std.proofs.Common.{Some, ◌≡◌, ℕ, suc, ◌+◌, ◌≤◌, Bool, true, false, cond, List, [], ◌∷◌, ◌++◌, length, map, refl, sym, ap, ◌∙◌, subst, arith, length-append}
+use Rattle.std.proofs.Common.{Some, ◌≡◌, ℕ, ◌+◌, ◌≤◌, cond, [], ◌∷◌, ◌++◌, length, map, refl, ◌∙◌, arith, length-append}
 use Rattle.std.specs.Prelude.{◌==◌}
 use Rattle.std.specs.List.{enumerate_from}
 use Rattle.std.proofs.lemmas.List.{length-map}
 use Rattle.std.proofs.lemmas.List.FromFn.{length-enumerate_from}
-use Rattle.classes.specs.Additions.{new_class, with_changed_class, with_class}
+use Rattle.classes.specs.Additions.{new_class, with_changed_class}
 use Rattle.classes.specs.BuiltIns.{built_ins, object_array_class}
 use Rattle.classes.specs.Class.{Class, Classes}
 use Rattle.classes.specs.Grown.{IsGrown, BuiltIns, WithClass, WithField, WithStatic}
@@ -27,5 +27,9 @@ grown_long classes (WithStatic before c field g) = omega (arith, grown_long befo
 -- the class objects are among the objects made at load
 pub classes_loaded : (w : World) → length w.classes ≤ length (loaded_objects w)
 classes_loaded w =
-    omega (arith, length-append (map (λ (c : ℕ × Class). class_object w.classes c.0) (enumerate_from 1 w.classes)) (fresh_object w.classes 11 ∷ w.objects),
-        length-map (enumerate_from 1 w.classes) (λ (c : ℕ × Class). class_object w.classes c.0), length-enumerate_from 1 w.classes)
+    omega (
+      arith,
+      length-append (map (λ (c : ℕ × Class). class_object w.classes c.0) (enumerate_from 1 w.classes)) (fresh_object w.classes 11 ∷ w.objects),
+      length-map (enumerate_from 1 w.classes) (λ (c : ℕ × Class). class_object w.classes c.0),
+      length-enumerate_from 1 w.classes,
+    )

@@ -1,13 +1,13 @@
 -- A store with a new object stands for the source's heap with it.
-use Rattle.std.proofs.Common.{◌≡◌, ℕ, ◌+◌, ◌<◌, ◌≤◌, ◌^◌, List, [], ◌∷◌, ◌++◌, length, map, Option, Some, None, refl, sym, ap, ◌∙◌, subst, arith, length-append}
+use Rattle.std.proofs.Common.{◌≡◌, ℕ, ◌+◌, ◌<◌, ◌≤◌, ◌^◌, List, [], ◌∷◌, ◌++◌, length, map, Some, refl, sym, ap, ◌∙◌, subst, arith, length-append}
 use Rattle.std.proofs.lemmas.List.{length-map}
 use Rattle.std.proofs.lemmas.List.Sums.{sum_by-append, sum_by-cons}
-use Rattle.classes.specs.Class.{Classes, FieldType, NumberField, ReferenceField}
+use Rattle.classes.specs.Class.{FieldType, NumberField, ReferenceField}
 use Rattle.classes.specs.Fields.{FieldId, layout}
 use Rattle.heap.specs.Heap.{Block, Space, IsLaidOut, end_of, left_of, name_at, with_block}
 use Rattle.heap.proofs.Layouts.{end_from-push, ends_within, LieFrom-push}
-use Rattle.source.specs.Heap.{Heap, next_name}
-use Rattle.source.specs.Object.{Object, ObjectValue, size, sizes}
+use Rattle.source.specs.Heap.{next_name}
+use Rattle.source.specs.Object.{Object, size, sizes}
 use Rattle.source.specs.Reachable.{IsName}
 use Rattle.source.specs.Thread.{Shared}
 use Rattle.source.specs.World.{World, fresh_object, initial, loaded_objects}
@@ -17,7 +17,7 @@ use Rattle.machine.specs.declared.store.Store.{Store}
 use Rattle.machine.specs.Agrees.{StoreAgrees, Keeps}
 use Rattle.machine.specs.Answers.{IsMakeable}
 use Rattle.machine.specs.HeapAgrees.{HeapAgrees, IsTable, ValueAgrees, ValuesAgree}
-use Rattle.machine.specs.Made.{HasMade, initial_value, initial_values, new_block}
+use Rattle.machine.specs.Made.{HasMade, initial_value, new_block}
 use Rattle.machine.proofs.Classed.{classed_more}
 use Rattle.machine.proofs.HeapLaws.{IsNext, IsName-more, Needs, agrees_with_block, name_kept, name_new, table_kept}
 use Rattle.machine.proofs.Keeping.{sizes_more}

@@ -5,7 +5,7 @@ use Rattle.std.specs.Option.{option_map, option_map_or}
 use Rattle.std.proofs.lemmas.Bool.Decides.{eqb_tells}
 use Rattle.std.proofs.lemmas.Option.{slice_get_within}
 use Rattle.std.proofs.Math.ListN.{length-set}
-use Rattle.heap.specs.Heap.{Block, Space, block_at, block_end, end_from, end_of, name_at, AreNamesUnique, IsLaidOut, LieFrom, with_value}
+use Rattle.heap.specs.Heap.{Block, Space, block_at, block_end, name_at, AreNamesUnique, IsLaidOut, LieFrom, with_value}
 use Rattle.heap.specs.declared.value.Value.{Value}
 use Rattle.heap.specs.declared.value.Value.TheVariants.{Number as Word, Null, Block as Address}
 use Rattle.heap.proofs.Changes.{LeavesPlace, changed, changed_elsewhere, changed_here, end_from-changed}
@@ -13,7 +13,7 @@ use Rattle.heap.proofs.Names.{AreNamesUnique-with_changed, one_address}
 use Rattle.heap.proofs.Spaces.{IsLaidOut-with_changed, part-changed}
 use Rattle.source.proofs.LiveSizes.{written_sizes}
 use Rattle.source.specs.Heap.{Heap, class_of, object_at, values_of, with_value_at}
-use Rattle.source.specs.Object.{Object, ObjectValue, Number, Refers, sizes}
+use Rattle.source.specs.Object.{Object, ObjectValue, Number, Refers}
 use Rattle.source.specs.Reachable.{from_one, IsName}
 use Rattle.source.specs.Thread.{Shared}
 use Rattle.source.specs.World.{World, loaded_objects}
@@ -21,7 +21,7 @@ use Rattle.lower.specs.Lowered.{Lowered}
 use Rattle.machine.specs.declared.store.Store.{Store}
 use Rattle.machine.specs.Agrees.{StoreAgrees, Keeps}
 use Rattle.machine.specs.Answers.{WritesAt}
-use Rattle.machine.specs.HeapAgrees.{BlockAgrees, BlocksAgree, HeapAgrees, IsTable, ReferenceAgrees, ValueAgrees, ValuesAgree}
+use Rattle.machine.specs.HeapAgrees.{BlockAgrees, BlocksAgree, ValueAgrees, ValuesAgree}
 use Rattle.machine.proofs.BlockObjects.{Named, named}
 use Rattle.machine.proofs.Changes.{get_set_same, get_set_other}
 use Rattle.machine.proofs.Classed.{classed_written}

@@ -1,5 +1,5 @@
 -- What answers are, by the effects of the source's calls.
-use Rattle.std.specs.Prelude.{◌≡◌, ℕ, ◌<◌, ◌≤◌, List, [], ◌∷◌, length, Option, Some, None, FitsSigned}
+use Rattle.std.specs.Prelude.{◌≡◌, ℕ, ◌<◌, ◌≤◌, [], ◌∷◌, length, Some, None, FitsSigned}
 use Rattle.std.specs.Int.{w32}
 use Rattle.classes.specs.BuiltIns.{class_class}
 use Rattle.classes.specs.Class.{Classes}

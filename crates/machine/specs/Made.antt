@@ -2,7 +2,7 @@
 use Rattle.std.specs.Prelude.{◌≡◌, ℕ, ◌+◌, ◌<◌, ◌≤◌, List, map, length, Option, Some, None}
 use Rattle.classes.specs.Class.{Classes, FieldType, NumberField, ReferenceField}
 use Rattle.classes.specs.Fields.{FieldId, layout}
-use Rattle.heap.specs.Heap.{Block, Space, end_of, left_of, with_block}
+use Rattle.heap.specs.Heap.{Block, end_of, left_of, with_block}
 use Rattle.heap.specs.declared.value.Value.{Value}
 use Rattle.heap.specs.declared.value.Value.TheVariants as value
 use Rattle.machine.specs.declared.store.Store.{Store}

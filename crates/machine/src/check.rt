@@ -25,11 +25,7 @@ use heap::{Addr, Heap};
 use jni::{JniFunction, ParameterKind, ResultKind};
 
 /// Whether an operand gives NULL.
-fn gives_null(
-    references: &[Option<Addr>],
-    fields: &[Option<FieldHandle>],
-    operand: Operand,
-) -> bool
+fn gives_null(references: &[Option<Addr>], fields: &[Option<FieldHandle>], operand: Operand) -> bool
     ensures { result ≡ gives_null references.now fields.now operand }
 {
     match operand {
@@ -272,7 +268,14 @@ pub fn check(
         return Some(Trap::NullReference);
     }
     if some_misfit(classes, heap, references, asked.parameters, operands)
-        || !fit_together(classes, heap, references, fields, function.function, operands)
+        || !fit_together(
+            classes,
+            heap,
+            references,
+            fields,
+            function.function,
+            operands,
+        )
     {
         return Some(Trap::WrongObject);
     }

@@ -104,12 +104,7 @@ pub fn name_there(heap: &Heap, reference: Option<Addr>) -> usize
 }
 
 /// Whether a reference fits a class, as NULL does always.
-pub fn fits_there(
-    classes: &ClassTable,
-    heap: &Heap,
-    reference: Option<Addr>,
-    class: usize,
-) -> bool
+pub fn fits_there(classes: &ClassTable, heap: &Heap, reference: Option<Addr>, class: usize) -> bool
     requires { (a : ℕ) → reference ≡ Some a → IsAddress heap.now a }
     ensures { result ≡ fits_there classes.now heap.now reference class }
 {

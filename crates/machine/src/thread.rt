@@ -218,10 +218,7 @@ fn execute(
                 call.place -= back as usize;
                 Executed::Did(Event::Quiet)
             }
-            Plain::Trap(trap, line) => Executed::Did(Event::Trapped(
-                trap_of(trap),
-                line as usize,
-            )),
+            Plain::Trap(trap, line) => Executed::Did(Event::Trapped(trap_of(trap), line as usize)),
         },
     }
 }

@@ -6,7 +6,6 @@ use Rattle.code.specs.Call.{call_view}
 use Rattle.jni.specs.Table.{function_value}
 use Rattle.jni.specs.declared.function.JniFunction.{JniFunction}
 use Rattle.machine.specs.WorkedOut.{IsWorkedOut, found_class}
-use Rattle.machine.proofs.CallInstructions as invocations
 use Rattle.machine.proofs.answer.work_out.Goals as goal
 
 pub returns-in-FindClass : goal.returns-in-FindClass

@@ -1,4 +1,4 @@
-use Rattle.std.proofs.Common.{◌≡◌, ◌+◌, ◌-◌, ◌∙◌, length, nat_lt, sym, ap, arith}
+use Rattle.std.proofs.Common.{◌-◌, ◌∙◌, length, nat_lt, sym, ap, arith}
 use Rattle.machine.specs.Frames.{Frame}
 use Rattle.machine.proofs.Frames.{last_room}
 use Rattle.machine.proofs.frame.has_room.Goals as goal

@@ -1,6 +1,6 @@
-use Rattle.std.proofs.Common.{◌≡◌, ◌<◌, ◌+◌, ◌-◌, ◌∙◌, ℕ, List, true, length, nat_lt, sym, ap, arith, slice_index_or, slice_set}
+use Rattle.std.proofs.Common.{◌≡◌, ◌+◌, ◌-◌, ◌∙◌, length, nat_lt, sym, ap, arith, slice_set}
 use Rattle.std.proofs.lemmas.Bool.{ltb-true}
-use Rattle.machine.specs.Frames.{Frame, has_room, with_reference}
+use Rattle.machine.specs.Frames.{Frame, with_reference}
 use Rattle.machine.proofs.Frames.{last_room, set_last, some_frame}
 use Rattle.machine.proofs.frame.put_local.Goals as goal
 

@@ -1,11 +1,10 @@
-use Rattle.std.proofs.Common.{◌≡◌, ℕ, Bool, true, false, List, Option, Some, None, is_some, refl, sym, ap, ◌∙◌, subst}
+use Rattle.std.proofs.Common.{◌≡◌, ℕ, Bool, true, false, List, Option, None, is_some, refl, sym, ap, ◌∙◌, subst}
 use Rattle.std.specs.Option.{option_map}
 use Rattle.classes.specs.Class.{Classes}
 use Rattle.class_table.specs.declared.class.FieldHandle.{FieldHandle}
 use Rattle.jni.specs.JniFunction.{JniFunction}
 use Rattle.jni.specs.Prototype.{ResultKind, prototype}
 use Rattle.jni.specs.Table.{Facts, function_value, result_value}
-use Rattle.source.specs.CallEffects.{CallEffect}
 use Rattle.source.specs.CallStep.{trap_of_call}
 use Rattle.source.specs.CallTable.{call_effect}
 use Rattle.source.specs.Effect.{effect_of}
@@ -24,7 +23,7 @@ use Rattle.machine.specs.declared.thread.Activation.{Activation}
 use Rattle.machine.specs.Answers.{IsAnswer}
 use Rattle.machine.specs.CarriedOut.{CarriesOut, IsPossible}
 use Rattle.machine.specs.Checked.{fit_together, is_answered, trap_found}
-use Rattle.machine.specs.Frames.{Frame, has_room}
+use Rattle.machine.specs.Frames.{has_room}
 use Rattle.machine.specs.Given.{AreAddresses, AreHandles}
 use Rattle.machine.specs.Invoked.{AtCall}
 use Rattle.machine.specs.Received.{HasFrame, Receives}
@@ -144,10 +143,17 @@ carry_out-carried-requires c =
     let same = ap (λ (x : Facts). x.prototype.result) c.prototype.ensures in
     let lent : BuffersInUse = record { copied = 0; views = 0 } in
     let it = called a.0 w c.args.store.now c.args.pending.now c.args.call.now c.args.function.now a.1 a.2 a.3 a.4 a.5 in
-    record { possible = (a.0, a.1, a.2, call_effect w.classes lent 0 a.1 a.2 it.args it.f,
+    record {
+      possible = (
+        a.0,
+        a.1,
+        a.2,
+        call_effect w.classes lent 0 a.1 a.2 it.args it.f,
         can_carry a.0 w c.args.store.now c.args.pending.now c.args.call.now c.args.function.now a.1 a.2 a.3 a.4 a.5 free kind same,
         answered a.0 w c.args.store.now c.args.pending.now c.args.call.now c.args.function.now a.1 a.2 a.3 a.4 a.5 free c.classes.ensures.sound lent 0 c.classes-2.result.now c.deref-4.result.now c.deref-5.result.now c.deref-6.result.now kind c.work_out-answer.result
-        c.classes-2.ensures.classes c.deref-4.ensures.value c.deref-5.ensures.value c.deref-6.ensures.value same c.work_out-answer.ensures) }
+            c.classes-2.ensures.classes c.deref-4.ensures.value c.deref-5.ensures.value c.deref-6.ensures.value same c.work_out-answer.ensures,
+      );
+    }
 
 pub receive-requires-clause-target : goal.receive-requires-clause-target
 receive-requires-clause-target c =

@@ -1,4 +1,4 @@
-use Rattle.std.proofs.Common.{◌≡◌, ℕ, zero, suc, [], ◌∷◌, ◌+◌, ◌<◌, ◌≤◌, List, length, map, Option, Some, None, refl, sym, ap, ◌∙◌, subst, arith}
+use Rattle.std.proofs.Common.{◌≡◌, ℕ, zero, suc, [], ◌∷◌, ◌+◌, ◌<◌, List, length, Option, Some, None, refl, sym, ap, ◌∙◌, arith}
 use Rattle.std.specs.Prelude.{slice_get, IsSome}
 use Rattle.std.specs.Option.{option_map}
 use Rattle.std.proofs.lemmas.List.{length-map}
@@ -36,10 +36,12 @@ pub loop-place-init : goal.loop-place-init
 loop-place-init c =
     let s = c.args.store.now.heap in
     let values = initial_values c.args.classes.now c.args.class in
-    let long : c.layout_len-count.result ≡ length values = c.layout_len-count.ensures.len ∙ sym (length-map (layout c.args.classes.now c.args.class) (λ (x : FieldId). initial_value x.field.type)) in
-    (c.in-Ok.ensures.block
-    ∙ ap (λ (a : ℕ). with_block s (fresh_block a c.args.class (c.args.store.now.births + 1) c.layout_len-count.result Null)) c.in-Ok.ensures.address
-    ∙ filled_fresh s c.args.class (c.args.store.now.births + 1) c.layout_len-count.result values long, refl)
+    let long : c.layout_len-count.result ≡ length values = c.layout_len-count.ensures.len ∙ sym (length-map (layout c.args.classes.now c.args.class) (λ (x : FieldId). initial_value x.field.type)) in (
+      c.in-Ok.ensures.block
+          ∙ ap (λ (a : ℕ). with_block s (fresh_block a c.args.class (c.args.store.now.births + 1) c.layout_len-count.result Null)) c.in-Ok.ensures.address
+          ∙ filled_fresh s c.args.class (c.args.store.now.births + 1) c.layout_len-count.result values long,
+      refl,
+    )
 
 pub unwrap-id-requires : goal.unwrap-id-requires
 unwrap-id-requires c = there_by c.layout_field.result (layout c.args.classes.now c.args.class) c.loop-place.place c.layout_field.ensures (omega (arith, c.layout_len-count.ensures.len, c.loop-place-test.true))
@@ -62,12 +64,14 @@ loop-place-preserved c =
     let birth = c.args.store.now.births + 1 in
     let values = initial_values c.args.classes.now c.args.class in
     let value = value_at c.args.classes.now c.args.class i c.layout_field.result c.unwrap-id.result c.initial_value.result c.layout_field.ensures c.unwrap-id.ensures c.initial_value.ensures in
-    let next : suc i ≡ i + 1 = omega arith in
-    (c.set.ensures
-    ∙ ap (λ (t : Space). with_value t c.in-Ok.addr i c.initial_value.result) c.loop-place.invariant.0
-    ∙ ap (λ (a : ℕ). with_value (with_block s (filled_block s c.args.class birth values i)) a i c.initial_value.result) c.in-Ok.ensures.address
-    ∙ filled_more s c.args.class birth values i c.initial_value.result c.count.ensures.laid_out value
-    ∙ ap (λ (k : ℕ). with_block s (filled_block s c.args.class birth values k)) next, c.loop-place.invariant.1)
+    let next : suc i ≡ i + 1 = omega arith in (
+      c.set.ensures
+          ∙ ap (λ (t : Space). with_value t c.in-Ok.addr i c.initial_value.result) c.loop-place.invariant.0
+          ∙ ap (λ (a : ℕ). with_value (with_block s (filled_block s c.args.class birth values i)) a i c.initial_value.result) c.in-Ok.ensures.address
+          ∙ filled_more s c.args.class birth values i c.initial_value.result c.count.ensures.laid_out value
+          ∙ ap (λ (k : ℕ). with_block s (filled_block s c.args.class birth values k)) next,
+      c.loop-place.invariant.1,
+    )
 
 pub returns-after-loop-place : goal.returns-after-loop-place
 returns-after-loop-place c =

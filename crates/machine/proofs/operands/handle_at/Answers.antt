@@ -1,7 +1,6 @@
 use Rattle.std.proofs.Common.{sym, ◌∙◌, ap}
 use Rattle.machine.specs.Given.{field_at}
 use Rattle.machine.proofs.CallChecks.{handle_of}
-use Rattle.machine.proofs.CallAnswers as traps
 use Rattle.machine.proofs.operands.handle_at.Goals as goal
 
 pub returns-clause-there : goal.returns-clause-there
