@@ -91,7 +91,7 @@ world_send = search (crosses, sendable) depth 60 fits 20000
 heap_send : IsSend heap.the_row
 heap_send = search (crosses, sendable) depth 60 fits 20000
 
-store_send : IsSend store.the_row
+store_send : IsSend (store.the_field).row
 store_send = search (heap_send, vec.the_send, crosses, sendable) depth 60 fits 20000
 
 frame_send : IsSend frame.the_row
