@@ -5,27 +5,27 @@ use Rattle.std.specs.List.{AllZip, list_any}
 use Rattle.base.specs.Bytes.{Identifier}
 use Rattle.base.specs.Element.{ElementType}
 use Rattle.classes.specs.BuiltIns.{has_own_making}
-use Rattle.classes.specs.Class.{Classes, class_kind, is_plain}
+use Rattle.classes.specs.Class.{Classes, FieldType, NumberField, ReferenceField, assignable, class_kind, is_plain}
 use Rattle.classes.specs.Fields.{FieldId}
 use Rattle.class_table.specs.FieldViews.{field_of}
 use Rattle.class_table.specs.declared.class.FieldHandle.{FieldHandle}
 use Rattle.code.specs.declared.instr.Operand.{Operand}
 use Rattle.code.specs.declared.instr.Operand.TheVariants as operand
 use Rattle.heap.specs.Heap.{Space, IsAddress}
-use Rattle.jni.specs.JniFunction.{JniFunction, is_allowed_pending, AllocObject, FindClass, GetFieldID, GetStaticFieldID, GetArrayLength, GetSuperclass, GetObjectClass, IsInstanceOf, IsAssignableFrom, PopLocalFrame}
+use Rattle.jni.specs.JniFunction.{JniFunction, is_allowed_pending, AllocObject, FindClass, GetFieldID, GetStaticFieldID, GetField, SetField, GetStaticField, SetStaticField, GetObjectField, SetObjectField, GetStaticObjectField, SetStaticObjectField, GetArrayLength, GetSuperclass, GetObjectClass, IsInstanceOf, IsAssignableFrom, PopLocalFrame}
 use Rattle.jni.specs.Prototype.{ParameterKind, Nullable, LocalVariable, StaticVariable, ClassObject, NumberArray, ObjectArray, StringObject, ResultKind, NewLocal, prototype}
-use Rattle.source.specs.Arguments.{Actual, ReferenceActual, FieldActual, NumberActual, TextActual, reference_given, reference_in_actual, name_or_zero}
+use Rattle.source.specs.Arguments.{Actual, ReferenceActual, FieldActual, NumberActual, TextActual, reference_given, reference_in_actual, name_or_zero, field_given, field_in_actual}
 use Rattle.source.specs.CallStep.{trap_of_call, target_element}
-use Rattle.source.specs.Checks.{is_deleted, is_missing, is_misfit, go_together, frames_after, is_full, lacks_room, first_trap, call_trap}
-use Rattle.source.specs.Heap.{Heap, class_of}
+use Rattle.source.specs.Checks.{is_deleted, is_missing, is_misfit, go_together, frames_after, is_full, lacks_room, first_trap, call_trap, fits_type, holds_number, holds_reference}
+use Rattle.source.specs.Heap.{Heap, class_of, fits_class}
 use Rattle.source.specs.Object.{Reference}
 use Rattle.source.specs.Task.{Target}
 use Rattle.source.specs.Thread.{Frame, Shared, Thread}
 use Rattle.source.specs.Value.{NullReference, ExceptionPending, WrongObject, DeletedReference, NoCapacity}
 use Rattle.source.specs.Variable.{Empty, Live, as_static}
 use Rattle.machine.specs.Agrees.{FieldAgrees}
-use Rattle.machine.specs.Checked.{is_answered, gives_null, may_be_null, some_missing, class_misfits, misfits, some_misfit, is_array_at, fit_together, puts_local, trap_found}
-use Rattle.machine.specs.Given.{operand_at, field_at, operand_of, class_there, name_there, ReferenceIsGiven, IsGiven, AreAddresses, AreHandles}
+use Rattle.machine.specs.Checked.{is_answered, gives_null, may_be_null, some_missing, class_misfits, misfits, some_misfit, is_array_at, fit_together, puts_local, trap_found, fits_type_there}
+use Rattle.machine.specs.Given.{AreAddresses, AreHandles, IsGiven, ReferenceIsGiven, class_of_given, class_there, field_at, field_there, fits_there, name_there, no_field, operand_at, operand_of}
 use Rattle.machine.specs.HeapAgrees.{ReferenceAgrees, BlocksAgree}
 use Rattle.machine.proofs.ObjectsAtAddresses.{is_object}
 
@@ -137,6 +137,31 @@ module _ (classes : Classes) (space : Space) (references : List (Option ℕ)) (f
   reference_at_place (o ∷ operands) (a ∷ args) zero h = reference_is o a h.0
   reference_at_place (o ∷ operands) (a ∷ args) (suc i) h = reference_at_place operands args i h.1
 
+  -- ---- the field of an argument
+
+  field_in : (o : Option FieldHandle) (f : Option FieldId) → FieldAgrees classes o f → field_there classes o ≡ field_in_actual (Some (FieldActual f))
+  field_in None None h = refl
+  field_in None (Some f) h = absurd h
+  field_in (Some h) None e = absurd e
+  field_in (Some h) (Some f) e = ap (λ o. unwrap_or o no_field) e
+
+  field_is : (o : Operand) (a : Actual) → IsGiven classes space references fields o a → field_there classes (field_at fields o) ≡ field_in_actual (Some a)
+  field_is operand.Number a h = sym (ap (λ b. field_in_actual (Some b)) h.1)
+  field_is operand.Text a h = sym (ap (λ b. field_in_actual (Some b)) h.1)
+  field_is operand.Null a (inl h) = sym (ap (λ b. field_in_actual (Some b)) h.is)
+  field_is operand.Null a (inr h) = field_in None h.field h.agrees ∙ sym (ap (λ b. field_in_actual (Some b)) h.is)
+  field_is (operand.Local i) a h = sym (ap (λ b. field_in_actual (Some b)) h.is)
+  field_is (operand.Static i) a h = sym (ap (λ b. field_in_actual (Some b)) h.is)
+  field_is (operand.FieldId i) a h = field_in (field_at fields (operand.FieldId i)) h.field h.agrees ∙ sym (ap (λ b. field_in_actual (Some b)) h.is)
+
+  -- the field at a place
+  pub field_at_place : (operands : List Operand) (args : List Actual) (i : ℕ) → AllZip (IsGiven classes space references fields) operands args → field_there classes (field_at fields (operand_of operands i)) ≡ field_given args i
+  field_at_place [] [] i h = refl
+  field_at_place [] (a ∷ args) i h = absurd h
+  field_at_place (o ∷ operands) [] i h = absurd h
+  field_at_place (o ∷ operands) (a ∷ args) zero h = field_is o a h.0
+  field_at_place (o ∷ operands) (a ∷ args) (suc i) h = field_at_place operands args i h.1
+
   -- ---- objects of another kind
 
   module _ (heap : Heap) (blocks : BlocksAgree space heap space.blocks) where
@@ -205,6 +230,24 @@ module _ (classes : Classes) (space : Space) (references : List (Option ℕ)) (f
     name_is (Some a) None h = absurd h
     name_is (Some a) (Some n) h = ap (λ o. unwrap_or o 0) h
 
+    -- its class
+    pub class_given_is : (o : Option ℕ) (q : Reference) → ReferenceAgrees space o q → class_of_given space o ≡ class_of heap (name_or_zero q)
+    class_given_is None None h = refl
+    class_given_is None (Some n) h = absurd h
+    class_given_is (Some a) None h = absurd h
+    class_given_is (Some a) (Some n) h = class_is a n h
+
+    -- whether it fits a class
+    pub fits_is : (o : Option ℕ) (q : Reference) (c : ℕ) → ReferenceAgrees space o q → fits_there classes space o c ≡ fits_class classes heap q c
+    fits_is None None c h = refl
+    fits_is None (Some n) c h = absurd h
+    fits_is (Some a) None c h = absurd h
+    fits_is (Some a) (Some n) c h = ap (λ d. assignable classes d c) (class_is a n h)
+
+    fits_type_is : (o : Option ℕ) (q : Reference) (type : FieldType) → ReferenceAgrees space o q → fits_type_there classes space o type ≡ fits_type classes heap q type
+    fits_type_is o q (NumberField T) h = refl
+    fits_type_is o q (ReferenceField c) h = fits_is o q c h
+
     array_is : (o : Option ℕ) (q : Reference) → ReferenceAgrees space o q → is_array_at classes space o ≡ not (is_plain (class_kind classes (class_of heap (name_or_zero q))))
     array_is None None h = refl
     array_is None (Some n) h = absurd h
@@ -224,6 +267,40 @@ module _ (classes : Classes) (space : Space) (references : List (Option ℕ)) (f
     together_is buffer operands args h GetObjectClass e = refl
     together_is buffer operands args h IsInstanceOf e = refl
     together_is buffer operands args h IsAssignableFrom e = refl
+    together_is buffer operands args h (GetField T) e =
+        let field = field_at_place operands args 1 h in
+        let class = class_given_is (operand_at references (operand_of operands 0)) (reference_given args 0) (reference_at_place operands args 0 h) in
+        λ i. (not (field i).is_static && assignable classes (class i) (field i).class) && holds_number T (field i).field.type
+    together_is buffer operands args h (SetField T) e =
+        let field = field_at_place operands args 1 h in
+        let class = class_given_is (operand_at references (operand_of operands 0)) (reference_given args 0) (reference_at_place operands args 0 h) in
+        λ i. (not (field i).is_static && assignable classes (class i) (field i).class) && holds_number T (field i).field.type
+    together_is buffer operands args h GetObjectField e =
+        let field = field_at_place operands args 1 h in
+        let class = class_given_is (operand_at references (operand_of operands 0)) (reference_given args 0) (reference_at_place operands args 0 h) in
+        λ i. (not (field i).is_static && assignable classes (class i) (field i).class) && holds_reference (field i).field.type
+    together_is buffer operands args h SetObjectField e =
+        let field = field_at_place operands args 1 h in
+        let class = class_given_is (operand_at references (operand_of operands 0)) (reference_given args 0) (reference_at_place operands args 0 h) in
+        let fit = ap (fits_type_there classes space (operand_at references (operand_of operands 2))) (ap (λ (f : FieldId). f.field.type) field) ∙ fits_type_is (operand_at references (operand_of operands 2)) (reference_given args 2) (field_given args 1).field.type (reference_at_place operands args 2 h) in
+        λ i. (not (field i).is_static && assignable classes (class i) (field i).class) && fit i
+    together_is buffer operands args h (GetStaticField T) e =
+        let field = field_at_place operands args 1 h in
+        let name = name_is (operand_at references (operand_of operands 0)) (reference_given args 0) (reference_at_place operands args 0 h) in
+        λ i. ((field i).is_static && assignable classes (name i) (field i).class) && holds_number T (field i).field.type
+    together_is buffer operands args h (SetStaticField T) e =
+        let field = field_at_place operands args 1 h in
+        let name = name_is (operand_at references (operand_of operands 0)) (reference_given args 0) (reference_at_place operands args 0 h) in
+        λ i. ((field i).is_static && assignable classes (name i) (field i).class) && holds_number T (field i).field.type
+    together_is buffer operands args h GetStaticObjectField e =
+        let field = field_at_place operands args 1 h in
+        let name = name_is (operand_at references (operand_of operands 0)) (reference_given args 0) (reference_at_place operands args 0 h) in
+        λ i. ((field i).is_static && assignable classes (name i) (field i).class) && holds_reference (field i).field.type
+    together_is buffer operands args h SetStaticObjectField e =
+        let field = field_at_place operands args 1 h in
+        let name = name_is (operand_at references (operand_of operands 0)) (reference_given args 0) (reference_at_place operands args 0 h) in
+        let fit = ap (fits_type_there classes space (operand_at references (operand_of operands 2))) (ap (λ (f : FieldId). f.field.type) field) ∙ fits_type_is (operand_at references (operand_of operands 2)) (reference_given args 2) (field_given args 1).field.type (reference_at_place operands args 2 h) in
+        λ i. ((field i).is_static && assignable classes (name i) (field i).class) && fit i
     together_is buffer operands args h f e = absurd (cc)
 
     -- ---- all of them

@@ -34,3 +34,7 @@ module _ (classes : Classes) (h : FieldHandle) (there : IsSome (field_of classes
 
   pub kind_of_field : h.is_static ≡ (unwrap_or (field_of classes h) no_field).is_static
   kind_of_field = sym (ap (λ (o : Option FieldId). (unwrap_or o no_field).is_static) found.is ∙ found.of_kind)
+
+  -- it is the field of the handle
+  pub field_of_handle : field_of classes h ≡ Some (unwrap_or (field_of classes h) no_field)
+  field_of_handle = found.is ∙ ap (λ (o : Option FieldId). Some (unwrap_or o no_field)) (sym found.is)

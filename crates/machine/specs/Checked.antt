@@ -23,6 +23,14 @@ is_answered IsAssignableFrom = true
 is_answered AllocObject = true
 is_answered GetFieldID = true
 is_answered GetStaticFieldID = true
+is_answered (GetField T) = true
+is_answered (SetField T) = true
+is_answered (GetStaticField T) = true
+is_answered (SetStaticField T) = true
+is_answered GetObjectField = true
+is_answered SetObjectField = true
+is_answered GetStaticObjectField = true
+is_answered SetStaticObjectField = true
 is_answered GetArrayLength = true
 is_answered f = false
 
