@@ -26,6 +26,7 @@ pub mod FilledBlocks
 pub mod MadeInOrder
 pub mod CallChecks
 pub mod CallTraps
+pub mod FieldValues
 pub mod CallAnswers
 pub mod CallInstructions
 pub mod Frames

@@ -2,11 +2,12 @@ use Rattle.std.proofs.Common.{◌≡◌, Bool, Option, true, false, Some, sym, a
 use Rattle.class_table.specs.declared.class.FieldHandle.{FieldHandle}
 use Rattle.machine.specs.Given.{field_there}
 use Rattle.machine.proofs.Handles.{kind_of_field}
+use Rattle.machine.proofs.CallAnswers as values
 use Rattle.machine.proofs.answer.field_place.Goals as goal
 
 -- a static is no field
 clash : {A : Type 0} (b : Bool) → b ≡ true → b ≡ false → A
-clash b yes no = absurd (cc)
+clash b one other = absurd (cc)
 
 pub returns-then-handle : goal.returns-then-handle
 returns-then-handle c is =
