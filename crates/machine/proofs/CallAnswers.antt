@@ -21,7 +21,7 @@ use Rattle.source.specs.Arguments.{Actual, reference_given, object_given, name_o
 use Rattle.source.specs.CallEffects.{found_class_effect, found_field_effect, heap_effect, CallEffect}
 use Rattle.source.specs.CallStep.{trap_of_call}
 use Rattle.source.specs.CallTable.{call_effect}
-use Rattle.source.specs.Heap.{Heap, class_of, object_at, values_of, fits_class, field_place, number_in, place_in, value_at, reference_in, static_place, with_value_at}
+use Rattle.source.specs.Heap.{Heap, class_of, object_at, values_of, field_place, number_in, place_in, value_at, reference_in, static_place, with_value_at}
 use Rattle.source.specs.Object.{Object, Reference, ObjectValue, Number, Refers}
 use Rattle.source.specs.Reachable.{IsName}
 use Rattle.source.specs.Task.{Target}
@@ -469,9 +469,10 @@ module _ (p : Lowered) (w : World) (store : Store) (pending : Option ℕ) (call 
   -- a number of an object is read
   number_read : (o : Option ℕ) (a n m i j : ℕ) → o ≡ Some a → name_at store.heap a ≡ Some n → m ≡ n → i ≡ j → StoreAgrees p w store shared → (word_in (value_there store.heap o i) ≡ word_of (Int (number_in (value_at shared.heap m j)))) × FitsSigned w32 (number_in (value_at shared.heap m j))
   number_read o a n m i j held there same place agree =
-      let word = word_there p w store shared agree a n j there in
-      ((λ k. word_in (value_there store.heap (held k) (place k))) ∙ word.word_is ∙ ap (λ (x : ℕ). word_of (Int (number_in (value_at shared.heap x j)))) (sym same),
-       subst (λ (x : ℕ). FitsSigned w32 (number_in (value_at shared.heap x j))) (sym same) word.fits)
+      let word = word_there p w store shared agree a n j there in (
+        (λ k. word_in (value_there store.heap (held k) (place k))) ∙ word.word_is ∙ ap (λ (x : ℕ). word_of (Int (number_in (value_at shared.heap x j)))) (sym same),
+        subst (λ (x : ℕ). FitsSigned w32 (number_in (value_at shared.heap x j))) (sym same) word.fits,
+      )
 
   -- a reference of an object is read
   reference_read : (o : Option ℕ) (a n m i j : ℕ) → o ≡ Some a → name_at store.heap a ≡ Some n → m ≡ n → i ≡ j → StoreAgrees p w store shared → ReferenceAgrees store.heap (address_in (value_there store.heap o i)) (reference_in (value_at shared.heap m j))

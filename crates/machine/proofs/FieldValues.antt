@@ -1,18 +1,16 @@
 -- What cells hold is what the fields of the source's objects hold, and a cell that changes is a field that does.
-use Rattle.std.proofs.Common.{◌≡◌, ℕ, zero, suc, ◌-◌, ◌≤◌, pos, Bool, true, false, cond, List, [], ◌∷◌, length, Option, Some, None, nat_lt, refl, sym, ap, ◌∙◌, subst, arith}
+use Rattle.std.proofs.Common.{◌≡◌, ℕ, zero, suc, ◌-◌, ◌≤◌, Bool, true, false, List, [], ◌∷◌, length, Option, Some, nat_lt, refl, sym, ap, ◌∙◌, subst, arith}
 use Rattle.std.specs.Prelude.{FitsSigned, slice_get, slice_set}
 use Rattle.std.specs.Int.{w32}
 use Rattle.std.specs.Option.{option_map_or}
 use Rattle.std.proofs.lemmas.Bool.{ltb-false, ltb-true}
-use Rattle.classes.specs.Class.{Classes}
 use Rattle.heap.specs.Heap.{Block, Space, name_at, values_at}
 use Rattle.heap.specs.declared.value.Value.{Value}
 use Rattle.heap.specs.declared.value.Value.TheVariants.{Number as Word, Null, Block as Address}
 use Rattle.jni.specs.Prototype.{GivesNothing}
-use Rattle.source.specs.Arguments.{name_or_zero}
 use Rattle.source.specs.CallEffects.{heap_effect}
 use Rattle.source.specs.Heap.{Heap, class_of, number_in, object_at, reference_in, value_at, value_or_zero, values_of, with_value_at}
-use Rattle.source.specs.Object.{Object, ObjectValue, Number, Refers, Reference}
+use Rattle.source.specs.Object.{Object, ObjectValue, Number, Refers}
 use Rattle.source.specs.Reachable.{IsName}
 use Rattle.source.specs.Thread.{Shared, Thread}
 use Rattle.source.specs.Value.{Int}

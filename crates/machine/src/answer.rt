@@ -14,9 +14,7 @@ ghost use Rattle.machine.specs.Given.{class_of_given, field_at, field_there, ope
 ghost use Rattle.machine.specs.WorkedOut.{address_in, class_object, count_there, found_class, held_reference, place_there, top_word, value_there, word_in, writes_there, IsFoundField, IsWorkedOut};
 ghost use Rattle.syntax.specs.Views.{element_tree};
 
-use crate::operands::{
-    class_of_given, declaring, fits_there, handle_at, name_there, reference_at,
-};
+use crate::operands::{class_of_given, declaring, fits_there, handle_at, name_there, reference_at};
 use class_table::built_ins::{NO_CLASS_DEF_FOUND_ERROR, NO_SUCH_FIELD_ERROR};
 use class_table::class::FieldHandle;
 use class_table::table::ClassTable;
@@ -117,9 +115,11 @@ pub fn work_out(
         JniFunction::SetStaticField(element) => {
             writes_there(heap, holder, static_place, stored(element, stack))
         }
-        JniFunction::GetStaticObjectField => Answer::Gives(Given::Reference(address_in(
-            value_there(heap, holder, static_place),
-        ))),
+        JniFunction::GetStaticObjectField => Answer::Gives(Given::Reference(address_in(value_there(
+            heap,
+            holder,
+            static_place,
+        )))),
         JniFunction::SetStaticObjectField => {
             writes_there(heap, holder, static_place, held_reference(third))
         }

@@ -1,8 +1,7 @@
-use Rattle.std.proofs.Common.{◌≡◌, Bool, Option, true, false, Some, sym, ap, ◌∙◌}
+use Rattle.std.proofs.Common.{◌≡◌, Bool, Option, true, false, sym, ap, ◌∙◌}
 use Rattle.class_table.specs.declared.class.FieldHandle.{FieldHandle}
 use Rattle.machine.specs.Given.{field_there}
 use Rattle.machine.proofs.Handles.{kind_of_field}
-use Rattle.machine.proofs.CallAnswers as values
 use Rattle.machine.proofs.answer.field_place.Goals as goal
 
 -- a static is no field

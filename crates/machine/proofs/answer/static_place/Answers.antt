@@ -1,4 +1,4 @@
-use Rattle.std.proofs.Common.{◌≡◌, ℕ, Option, true, Some, sym, ap, ◌∙◌, subst}
+use Rattle.std.proofs.Common.{◌≡◌, Option, true, Some, sym, ap, ◌∙◌, subst}
 use Rattle.classes.specs.Fields.{own_statics}
 use Rattle.class_table.specs.FieldViews.{place_among}
 use Rattle.class_table.specs.declared.class.FieldHandle.{FieldHandle}

@@ -1,6 +1,7 @@
-use Rattle.std.proofs.Common.{◌≡◌, ℕ, Bool, true, false, List, Option, None, is_some, refl, sym, ap, ◌∙◌, subst}
+use Rattle.std.proofs.Common.{◌+◌, slice_get, ◌≡◌, ℕ, Bool, true, false, List, Option, None, is_some, refl, sym, ap, ◌∙◌, subst}
 use Rattle.std.specs.Option.{option_map}
 use Rattle.classes.specs.Class.{Classes}
+use Rattle.classes.specs.Grown.{IsGrown}
 use Rattle.class_table.specs.declared.class.FieldHandle.{FieldHandle}
 use Rattle.jni.specs.JniFunction.{JniFunction}
 use Rattle.jni.specs.Prototype.{ResultKind, prototype}
@@ -29,6 +30,7 @@ use Rattle.machine.specs.Invoked.{AtCall}
 use Rattle.machine.specs.Received.{HasFrame, Receives}
 use Rattle.machine.specs.Stops.{trap_view}
 use Rattle.machine.specs.WorkedOut.{IsWorkedOut}
+use Rattle.machine.proofs.BlockObjects.{is_address}
 use Rattle.machine.proofs.CallAnswers.{answers}
 use Rattle.machine.proofs.CallInstructions.{CalledAs, called, r, goes_on, has_frame, has_target, possible, traps}
 use Rattle.machine.proofs.CallTraps.{found_is, handles_there, has_passed, objects_there}
@@ -108,6 +110,14 @@ returns-in-Some c p lent k shared s task rest h =
     let found = told p w c.args.store.now c.args.pending.now c.args.call.now c.args.function.now shared s task rest h c.classes.result.now c.is_some.result c.has_room.result c.deref-2.result.now c.deref-3.result.now c.check-trap.result
     c.classes.ensures.classes c.is_some.ensures (c.has_room.ensures ∙ ap has_room c.deref.ensures.value) c.deref-2.ensures.value c.deref-3.ensures.value c.check-trap.ensures in
     traps p w c.args.store.now c.args.pending.now c.args.call.now c.args.function.now shared s task rest h lent k c.in-Some.trap c.args.function.now.line refl (sym found ∙ ap (option_map trap_view) c.in-Some.is)
+
+pub work_out-answer-requires-clause-grown : goal.work_out-answer-requires-clause-grown
+work_out-answer-requires-clause-grown c = subst (λ (t : Classes). IsGrown t) (sym c.classes-2.ensures.classes) c.classes.ensures.sound.grown
+
+pub work_out-answer-requires-clause-loaded : goal.work_out-answer-requires-clause-loaded
+work_out-answer-requires-clause-loaded c i a at =
+    let shares = c.requires.at_call.5.shares in
+    is_address c.args.store.now.heap a (i + 1) (shares.table.named i a (ap (λ (l : List ℕ). slice_get l i) (sym c.deref-4.ensures.value) ∙ at))
 
 pub work_out-answer-requires-clause-objects : goal.work_out-answer-requires-clause-objects
 work_out-answer-requires-clause-objects c =
