@@ -2,5 +2,6 @@ mod PutLemmas
 mod Lists
 pub mod TaskLemmas
 pub mod CallLemmas
+mod Invocations
 mod ActivationLemmas
 pub mod RangeLemmas

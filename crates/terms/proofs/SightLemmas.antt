@@ -60,3 +60,5 @@ pub ruleset null_rules = (not_null)
 pub ruleset place_rules = (not_null)
 
 pub ruleset element_rules = (not_null)
+
+pub ruleset held_rules = (held_in_none)
