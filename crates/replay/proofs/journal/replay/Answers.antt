@@ -22,7 +22,8 @@ returns-in-Ok-write_run-clause-ok g c =
     record {
       fits = replayed.fits;
       text = _;
-      is = writes (unit_tree c.args.checked.now) c.args.world.now c.args.journal.now c.in-Ok.state c.in_ok-standings.standings.items replayed c.in_ok-standings.ensures;
+      is = writes (unit_tree c.args.checked.now) c.args.world.now c.args.journal.now c.in-Ok.state c.in_ok-standings.standings.items _ _ _ _ _ replayed c.in_ok-standings.ensures
+          c.classes.ensures.classes refl loaded (c.deref-x) c.in_ok-rows.ensures;
       written = rw (c.deref-2.ensures.value, c.classes.ensures.classes, c.deref.ensures.value) at c.in-Ok-write_run.ensures.text;
     }
 
@@ -39,6 +40,7 @@ returns-clause-err g c =
     record {
       fits = replayed.fits;
       text = _;
-      is = writes (unit_tree c.args.checked.now) c.args.world.now c.args.journal.now c.in-Ok.state c.in_ok-standings.standings.items replayed c.in_ok-standings.ensures;
+      is = writes (unit_tree c.args.checked.now) c.args.world.now c.args.journal.now c.in-Ok.state c.in_ok-standings.standings.items _ _ _ _ _ replayed c.in_ok-standings.ensures
+          c.classes.ensures.classes refl loaded (c.deref-x) c.in_ok-rows.ensures;
       stopped = rw (c.deref-2.ensures.value, c.classes.ensures.classes, c.deref.ensures.value) at c.in-Err-write_run.ensures.text;
     }

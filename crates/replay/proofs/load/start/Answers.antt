@@ -15,7 +15,6 @@ returns-clause-stands c =
     record {
       world = refl;
       shared = ap (shared_with (null_statics unit)) (sym c.in_ok-loaded_store.ensures);
-      count = ap (λ (h : Heap). length h) c.in_ok-loaded_store.ensures ∙ length-loaded w;
       threads = stand_waiting unit w.classes c.in_ok-waiting_threads.field-0.items c.args.world.now.threads c.in_ok-waiting_threads.ensures.waiting none;
       printed = sym c.new.ensures.items;
       stop = refl;
