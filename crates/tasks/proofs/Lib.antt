@@ -1,5 +1,6 @@
 mod PutLemmas
 mod Lists
+mod FieldLemmas
 pub mod TaskLemmas
 pub mod CallLemmas
 mod Invocations
