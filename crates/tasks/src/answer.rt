@@ -128,7 +128,7 @@ fn found_class<'a>(class: Option<usize>) -> Answer<'a>
 
 /// A field that was found, or else an exception.
 fn found_field(field: Option<FieldId<'_>>) -> Answer<'_>
-    ensures { answer_view result ≡ found_field (option_map field_id_view field) }
+    ensures { answer_view result ≡ found_field (option_map field_id_view field.entry) }
 {
     match field {
         Some(field) => Answer::Gives(Given::Field(Some(field))),

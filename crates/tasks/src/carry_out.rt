@@ -25,9 +25,9 @@ pub(crate) fn carry_out<'a>(
     kind: ResultKind,
     answer: Answer<'a>,
 ) -> Result<Given<'a>, AllocError>
-    ensures store { IfOk result (λ _. store.new ≡ heap_after classes.now store.old (answer_view answer)) }
-    ensures pending { IfOk result (λ _. pending.new ≡ pending_after store.old pending.old (answer_view answer)) }
-    ensures given { IfOk result (λ g. given_view g ≡ given_after store.old (result_value kind) (answer_view answer)) }
+    ensures store { IfOk result (λ _. store.new ≡ heap_after classes.now store.old (answer_view answer.entry)) }
+    ensures pending { IfOk result (λ _. pending.new ≡ pending_after store.old pending.old (answer_view answer.entry)) }
+    ensures given { IfOk result (λ g. given_view g ≡ given_after store.old (result_value kind) (answer_view answer.entry)) }
 {
     match answer {
         Answer::Gives(given) => Ok(given),
@@ -65,7 +65,7 @@ fn make(
 
 /// Whether a call makes an object, which may be refused.
 pub(crate) fn makes_object(answer: Answer<'_>) -> bool
-    ensures { result ≡ makes_object (answer_view answer) }
+    ensures { result ≡ makes_object (answer_view answer.entry) }
 {
     match answer {
         Answer::Gives(_) | Answer::Writes(_, _, _) => false,

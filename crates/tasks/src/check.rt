@@ -69,7 +69,7 @@ fn some_missing(parameters: &[ParameterKind], actuals: &[Actual<'_>]) -> bool
 
 /// Whether an argument is NULL where that isn't allowed.
 fn is_missing(parameter: ParameterKind, actual: Actual<'_>) -> bool
-    ensures { result ≡ is_missing (parameter_value parameter, actual_view actual) }
+    ensures { result ≡ is_missing (parameter_value parameter, actual_view actual.entry) }
 {
     match parameter {
         ParameterKind::Nullable => false,
@@ -111,7 +111,7 @@ fn is_misfit(
     parameter: ParameterKind,
     actual: Actual<'_>,
 ) -> bool
-    ensures { result ≡ is_misfit classes.now store.now (parameter_value parameter, actual_view actual) }
+    ensures { result ≡ is_misfit classes.now store.now (parameter_value parameter, actual_view actual.entry) }
 {
     match actual {
         Actual::Reference(_, reference) => match reference {

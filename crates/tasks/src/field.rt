@@ -13,7 +13,7 @@ use class_table::table::ClassTable;
 
 /// Whether the field is a static; NULL is none.
 pub(crate) fn is_static(field: Option<FieldId<'_>>) -> bool
-    ensures { result ≡ (given_field field).is_static }
+    ensures { result ≡ (given_field field.entry).is_static }
 {
     match field {
         Some(field) => field.is_static,
@@ -23,7 +23,7 @@ pub(crate) fn is_static(field: Option<FieldId<'_>>) -> bool
 
 /// The class that declares the field, and 0 for NULL.
 pub(crate) fn declaring(field: Option<FieldId<'_>>) -> usize
-    ensures { result ≡ (given_field field).class }
+    ensures { result ≡ (given_field field.entry).class }
 {
     match field {
         Some(field) => field.class,
@@ -33,7 +33,7 @@ pub(crate) fn declaring(field: Option<FieldId<'_>>) -> usize
 
 /// What the field holds, and numbers for NULL.
 pub(crate) fn type_of(field: Option<FieldId<'_>>) -> FieldType
-    ensures { field_type_view result ≡ (given_field field).field.type }
+    ensures { field_type_view result ≡ (given_field field.entry).field.type }
 {
     match field {
         Some(field) => field.field.field_type,
@@ -43,7 +43,7 @@ pub(crate) fn type_of(field: Option<FieldId<'_>>) -> FieldType
 
 /// The name of the field, which is empty for NULL.
 fn name_of<'a>(field: Option<FieldId<'a>>) -> &'a [u8]
-    ensures { result.now ≡ (given_field field).field.name }
+    ensures { result.now ≡ (given_field field.entry).field.name }
 {
     match field {
         Some(field) => &field.field.name,
@@ -53,7 +53,7 @@ fn name_of<'a>(field: Option<FieldId<'a>>) -> &'a [u8]
 
 /// Whether a field is that of a field ID.
 fn is_field(field: Option<FieldId<'_>>, other: FieldId<'_>) -> bool
-    ensures { result ≡ same_field (given_field field) (field_id_view other) }
+    ensures { result ≡ same_field (given_field field.entry) (field_id_view other.entry) }
 {
     declaring(field) == other.class && name_of(field) == other.field.name.as_slice()
 }
@@ -65,7 +65,7 @@ pub(crate) fn field_place(
     class: usize,
     field: Option<FieldId<'_>>,
 ) -> usize
-    ensures { result ≡ place_in (given_field field) (layout classes.now class) }
+    ensures { result ≡ place_in (given_field field.entry) (layout classes.now class) }
 {
     for place in 0..classes.layout_len(class) {
         let other = classes.layout_field(class, place).unwrap();
@@ -78,7 +78,7 @@ pub(crate) fn field_place(
 
 /// The place of the static among those of the class that declares it, and 0 where it isn't among them.
 pub(crate) fn static_place(classes: &ClassTable, field: Option<FieldId<'_>>) -> usize
-    ensures { result ≡ place_in (given_field field) (own_statics classes.now (given_field field).class) }
+    ensures { result ≡ place_in (given_field field.entry) (own_statics classes.now (given_field field.entry).class) }
 {
     let own = classes.own_statics(declaring(field));
     for (place, other) in own.iter().enumerate() {

@@ -24,7 +24,7 @@ pub(crate) fn put_local(
     kind: ResultKind,
     given: Given<'_>,
 ) -> Result<(), AllocError>
-    ensures { IfOk result (λ _. frame_view frame.new ≡ frame_with (result_value kind) (given_view given) (frame_view frame.old)) }
+    ensures { IfOk result (λ _. frame_view frame.new ≡ frame_with (result_value kind) (given_view given.entry) (frame_view frame.old)) }
 {
     match (kind, given) {
         (ResultKind::NewLocal, Given::Reference(Some(name))) => {

@@ -22,7 +22,7 @@ pub enum Given<'a> {
 
 /// Whether it is an object.
 pub(crate) fn gives_object(given: Given<'_>) -> bool
-    ensures { result ≡ gives_object given }
+    ensures { result ≡ gives_object given.entry }
 {
     matches!(given, Given::Reference(Some(_)))
 }

@@ -99,7 +99,7 @@ fn call<'a>(
     actuals: &[Actual<'a>],
 ) -> Result<Outcome<'a>, AllocError>
     requires { IsTrue (is_built_function (function_value function)) }
-    ensures step { IfOk result (λ o. MakesCall refused classes.now store.old (frame_view frame.old) pending.old line target (function_value function) (map actual_view actuals.now) o
+    ensures step { IfOk result (λ o. MakesCall refused classes.now store.old (frame_view frame.old) pending.old line target.entry (function_value function) (map actual_view actuals.now) o
         store.new (frame_view frame.new) pending.new) }
     ensures range { IfOk result OutcomeInRange }
 {

@@ -30,7 +30,7 @@ fn blank<'a>(kind: VariableKind) -> Content<'a>
 
 /// Puts what a call gave, or NULL, into a variable. In accepted programs they fit.
 fn fill<'a>(content: &mut Content<'a>, given: Given<'a>)
-    ensures { content_view content.new ≡ filled (content_view content.old) (given_view given) }
+    ensures { content_view content.new ≡ filled (content_view content.old) (given_view given.entry) }
 {
     match content {
         Content::Number(value) => match given {
@@ -59,7 +59,7 @@ fn declare<'a>(
     name: &'a Name,
     given: Given<'a>,
 ) -> Result<(), AllocError>
-    ensures { IfOk result (λ _. variables_view variables.new.items ≡ assign name.entry.now (filled (blank (kind_view kind) 1) (given_view given)) (variables_view variables.old.items)) }
+    ensures { IfOk result (λ _. variables_view variables.new.items ≡ assign name.entry.now (filled (blank (kind_view kind) 1) (given_view given.entry)) (variables_view variables.old.items)) }
 {
     let mut content = blank(kind);
     fill(&mut content, given);
@@ -74,7 +74,7 @@ fn put<'a>(
     target: Target<'a>,
     given: Given<'a>,
 ) -> Result<(), AllocError>
-    ensures { IfOk result (λ _. LeavesVariables (null_statics (unit_tree items.now)) variables.old.items (put (target_view target.entry) (given_view given)) variables.new.items) }
+    ensures { IfOk result (λ _. LeavesVariables (null_statics (unit_tree items.now)) variables.old.items (put (target_view target.entry) (given_view given.entry)) variables.new.items) }
 {
     match target {
         Target::Declared(kind, name) => declare(variables, kind, name, given),

@@ -66,7 +66,7 @@ pub fn assign<'a>(
     name: &'a Name,
     content: Content<'a>,
 ) -> Result<(), AllocError>
-    ensures { IfOk result (λ _. variables_view variables.new.items ≡ assign name.entry.now (content_view content) (variables_view variables.old.items)) }
+    ensures { IfOk result (λ _. variables_view variables.new.items ≡ assign name.entry.now (content_view content.entry) (variables_view variables.old.items)) }
 {
     let variable = Variable { name, content };
     match place_of(variables, name) {
