@@ -1,6 +1,6 @@
 -- What a call in memory does is the call's step.
-use Rattle.std.proofs.Common.{◌≡◌, ℕ, Bool, true, false, cond, List, [], ◌∷◌, ◌++◌, map, Option, Some, None, refl, sym, ap, ◌∙◌, append-nil, IfOk, Result, Ok, Err}
-use Rattle.std.specs.Prelude.{is_some}
+use Rattle.std.proofs.Common.{◌≡◌, ℕ, Bool, true, false, cond, List, [], ◌∷◌, ◌++◌, map, Option, Some, None, refl, sym, ap, ◌∙◌, subst, append-nil, IfOk, Result, Ok, Err}
+use Rattle.std.specs.Prelude.{is_some, not, zip, ◌&&◌, ◌||◌}
 use Rattle.std.specs.List.{list_any}
 use Rattle.std.specs.Option.{option_map}
 use Rattle.base.specs.Bytes.{Identifier}
@@ -9,13 +9,13 @@ use Rattle.classes.specs.BuiltIns.{no_class_def_found_error, no_such_field_error
 use Rattle.classes.specs.Class.{Classes}
 use Rattle.classes.specs.Fields.{FieldId}
 use Rattle.jni.specs.BuiltFunctions.{is_built_function}
-use Rattle.jni.specs.JniFunction.{JniFunction, FindClass, GetSuperclass, GetObjectClass, IsInstanceOf, IsAssignableFrom, AllocObject, GetFieldID, GetStaticFieldID, GetField, SetField, GetStaticField, SetStaticField, GetObjectField, SetObjectField, GetStaticObjectField, SetStaticObjectField, GetArrayLength, PopLocalFrame}
+use Rattle.jni.specs.JniFunction.{JniFunction, FindClass, GetSuperclass, GetObjectClass, IsInstanceOf, IsAssignableFrom, AllocObject, GetFieldID, GetStaticFieldID, GetField, SetField, GetStaticField, SetStaticField, GetObjectField, SetObjectField, GetStaticObjectField, SetStaticObjectField, GetArrayLength, PopLocalFrame, is_allowed_pending}
 use Rattle.jni.specs.Prototype.{ResultKind, NewLocal, NewGlobal, GivesFlag, GivesInt, GivesField, GivesNothing, GivesBuffer, prototype}
 use Rattle.source.specs.Arguments.{Actual, variable_given}
 use Rattle.source.specs.CallEffects.{CallResult, CallEffect, found_class_effect, found_field_effect, out_of_memory}
 use Rattle.source.specs.CallStep.{after_call, after_refusal, call_step, checked, completed, failure, makes_objects, put, received, target_element, tell_copy, is_zero}
 use Rattle.source.specs.CallTable.{call_effect}
-use Rattle.source.specs.Checks.{call_trap, first_trap, frames_after, go_together, is_deleted}
+use Rattle.source.specs.Checks.{call_trap, first_trap, frames_after, go_together, is_deleted, is_misfit, is_missing}
 use Rattle.source.specs.Effect.{tasks_after}
 use Rattle.source.specs.Heap.{Heap, next_name}
 use Rattle.source.specs.Object.{Object, Reference}
@@ -23,7 +23,7 @@ use Rattle.source.specs.World.{fresh_object}
 use Rattle.source.specs.Task.{Task}
 use Rattle.source.specs.Thread.{Frame, Thread, Shared, BuffersInUse, Trapped, Advance, Advances, NoAdvance}
 use Rattle.source.specs.ThreadStep.{with_tasks}
-use Rattle.source.specs.Value.{Trap, DeletedReference}
+use Rattle.source.specs.Value.{Trap, DeletedReference, ExceptionPending, NullReference, WrongObject, NoCapacity}
 use Rattle.source.specs.Variable.{Statics, Variable, Variables}
 use Rattle.tasks.specs.declared.actual.Actual.{Actual as InMemory}
 use Rattle.tasks.specs.declared.actual.Actual.TheVariants as actual
@@ -37,7 +37,7 @@ use Rattle.terms.specs.declared.trap.Trap.{Trap as TrapInMemory}
 use Rattle.tasks.specs.Actuals.{actual_view}
 use Rattle.tasks.specs.Answers.{Answer, Gives, Writes, Makes, Raises, effect_as, frame_with, given_after, given_view, heap_after, makes_object, pending_after}
 use Rattle.tasks.specs.Calls.{MakesCall}
-use Rattle.tasks.specs.Checked.{fit_together, trap_found}
+use Rattle.tasks.specs.Checked.{fit_together, lacks_room, trap_found}
 use Rattle.tasks.specs.Outcomes.{target_view}
 use Rattle.tasks.specs.Steps.{in_frame, left_by}
 use Rattle.tasks.specs.Stores.{shared_with}
@@ -102,7 +102,11 @@ trap_is : (classes : Classes) (heap : Heap) (buffer : ElementType) (args : List 
     → call_trap classes heap t buffer f (map actual_view args) ≡ trap_found classes heap frame (is_some pending) f (map actual_view args)
 unfolding call_trap
 trap_is classes heap buffer args f t frame pending built frames is =
-    rw (frames_stay f t.frames built, frames, is, none_deleted args, together classes heap buffer (map actual_view args) f built) (passed_over _ _ DeletedReference _)
+    rw (frames_stay f t.frames built, frames, is, none_deleted args, together classes heap buffer (map actual_view args) f built) (passed_over (is_some pending && not (is_allowed_pending f)) ExceptionPending DeletedReference (
+    (list_any is_missing (zip (prototype f).parameters (map actual_view args)), NullReference)
+    ∷ (list_any (is_misfit classes heap) (zip (prototype f).parameters (map actual_view args)) || not (fit_together classes heap (map actual_view args) f), WrongObject)
+    ∷ (lacks_room (prototype f).result frame, NoCapacity)
+    ∷ []))
 
 -- ---- effects
 
@@ -156,7 +160,7 @@ none_tested line (target.Assigned x) zero = refl
 none_tested line target.Dropped zero = refl
 
 -- the result goes into the frame
-in_received : (kind : ResultKind) (g : Given) (t : Thread) (frame : Frame) → t.frames ≡ frame ∷ [] → received kind (given_view g) t ≡ (record t { frames = frame_with kind (given_view g) frame ∷ [] } : Thread)
+in_received : (kind : ResultKind) (g : Given) (t : Thread) (frame : Frame) → t.frames ≡ frame ∷ [] → ◌≡◌ {A = Thread} (received kind (given_view g) t) (record t { frames = frame_with kind (given_view g) frame ∷ [] })
 in_received NewLocal given.Nothing t frame frames = ap (λ (fs : List Frame). let u : Thread = record t { frames = fs } in u) frames
 in_received NewLocal given.Null t frame frames = ap (λ (fs : List Frame). let u : Thread = record t { frames = fs } in u) frames
 in_received NewLocal (given.Number z) t frame frames = ap (λ (fs : List Frame). let u : Thread = record t { frames = fs } in u) frames
@@ -192,16 +196,13 @@ module _ (classes : Classes) (lent : BuffersInUse) (k : ℕ) (statics : Statics)
   completed_is : (t : Thread) (made : List Object) (now : Heap) (u : Thread) (g : Given) (frame : Frame) (pending : Reference) → u.frames ≡ frame ∷ [] → u.pending ≡ pending
       → completes t made now u (given_view g) ≡ put (target_view to) (given_view g) (shared (now ++ made)) (with_tasks (in_frame u (frame_with kind (given_view g) frame) pending) rest)
   completed_is t made now u g frame pending frames is =
-      ap (λ (w : Thread). let after : Thread = record w { tasks = Some (tasks_after line (target_view to) (is_zero' g) ++ rest); variables = tell_copy (variable_given args 1) (given_view g) u.variables } in put (target_view to) (given_view g) (shared (now ++ made)) after)
+      ap (λ (w : Thread). let after : Thread = record w { tasks = Some (tasks_after line (target_view to) (is_zero (given_view g)) ++ rest); variables = tell_copy (variable_given args 1) (given_view g) u.variables } in put (target_view to) (given_view g) (shared (now ++ made)) after)
       (in_received kind g u frame frames)
-      ∙ ap (λ (vs : Variables). let after : Thread = record u { tasks = Some (tasks_after line (target_view to) (is_zero' g) ++ rest); variables = vs; frames = frame_with kind (given_view g) frame ∷ [] } in put (target_view to) (given_view g) (shared (now ++ made)) after)
+      ∙ ap (λ (vs : Variables). let after : Thread = record u { tasks = Some (tasks_after line (target_view to) (is_zero (given_view g)) ++ rest); variables = vs; frames = frame_with kind (given_view g) frame ∷ [] } in put (target_view to) (given_view g) (shared (now ++ made)) after)
       (not_told (variable_given args 1) g u.variables)
       ∙ ap (λ (ts : List Task). let after : Thread = record u { tasks = Some (ts ++ rest); frames = frame_with kind (given_view g) frame ∷ [] } in put (target_view to) (given_view g) (shared (now ++ made)) after)
-      (none_tested line to (is_zero' g))
+      (none_tested line to (is_zero (given_view g)))
       ∙ ap (λ (r : Reference). let after : Thread = record u { tasks = Some rest; frames = frame_with kind (given_view g) frame ∷ []; pending = r } in put (target_view to) (given_view g) (shared (now ++ made)) after) is
-    where
-      abbrev is_zero' : Given → Bool
-      is_zero' g = is_zero (given_view g)
 
   -- so it is after each answer
   answered : (t : Thread) (a : Answer) (g : Given) (frame : Frame) (pending : Reference) → t.frames ≡ frame ∷ [] → t.pending ≡ pending → given_view g ≡ given_after heap kind a
@@ -301,3 +302,21 @@ module _ (classes : Classes) (heap : Heap) (frame : Frame) (pending : Reference)
     object_refused a g same makes failed = λ statics lent k t rest new frames is has.
         by_makes true a true makes same statics lent k t rest frames is
         ∙ refused_is classes lent k statics heap line to f actuals rest t g frame frames failed
+
+    -- the same, by what it leaves
+    pub call_made_so : (refused : Bool) (a : Answer) (g : Given) (kind : ResultKind) (heap' : Heap) (frame' : Frame) (pending' : Reference) → refused ≡ false → a ≡ worked_out classes heap actuals f → kind ≡ (prototype f).result
+        → given_view g ≡ given_after heap kind a → heap' ≡ heap_after classes heap a → frame' ≡ frame_with kind (given_view g) frame → pending' ≡ pending_after heap pending a
+        → MakesCall refused classes heap frame pending line to f actuals (outcome.Gives to g) heap' frame' pending'
+    call_made_so refused a g kind heap' frame' pending' possible same is given left framed pended =
+        subst (λ b. MakesCall b classes heap frame pending line to f actuals (outcome.Gives to g) heap' frame' pending') (sym possible)
+        (subst (λ (h : Heap). MakesCall false classes heap frame pending line to f actuals (outcome.Gives to g) h frame' pending') (sym left)
+        (subst (λ (x : Frame). MakesCall false classes heap frame pending line to f actuals (outcome.Gives to g) (heap_after classes heap a) x pending') (sym (framed ∙ ap (λ (k : ResultKind). frame_with k (given_view g) frame) is))
+        (subst (λ (r : Reference). MakesCall false classes heap frame pending line to f actuals (outcome.Gives to g) (heap_after classes heap a) (frame_with (prototype f).result (given_view g) frame) r) (sym pended)
+        (call_made a g same (given ∙ ap (λ (k : ResultKind). given_after heap k a) is)))))
+
+    pub object_refused_so : (refused : Bool) (a : Answer) (g : Given) (kind : ResultKind) (pending' : Reference) → refused ≡ true → a ≡ worked_out classes heap actuals f → makes_object a ≡ true → kind ≡ (prototype f).result
+        → given_view g ≡ failure kind → pending' ≡ Some (out_of_memory classes) → MakesCall refused classes heap frame pending line to f actuals (outcome.Gives to g) heap frame pending'
+    object_refused_so refused a g kind pending' marked same makes is failed pended =
+        subst (λ b. MakesCall b classes heap frame pending line to f actuals (outcome.Gives to g) heap frame pending') (sym marked)
+        (subst (λ (r : Reference). MakesCall true classes heap frame pending line to f actuals (outcome.Gives to g) heap frame r) (sym pended)
+        (object_refused a g same makes (failed ∙ ap failure is)))

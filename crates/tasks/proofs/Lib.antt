@@ -1,6 +1,7 @@
 mod PutLemmas
 mod Lists
 mod FieldLemmas
+mod ActualLemmas
 pub mod TaskLemmas
 pub mod CallLemmas
 mod Invocations

@@ -105,11 +105,11 @@ module _ (ss : Statics) (old new : List VariableInMemory) where
 -- a static is NULL before and after
 pub static_leaves : (unit : SourceUnit) (old : List VariableInMemory) (x : Identifier) (given : Given) → gives_object given ≡ false → lookup x (variables_view old) ≡ None → is_some (lookup x (null_statics unit)) ≡ true
     → LeavesVariables (null_statics unit) old (put (Assigned x) (given_view given)) old
-static_leaves unit old x given no none there = λ s t h.
+static_leaves unit old x given empty none there = λ s t h.
     ap (λ (vs : Variables). put_assigned x (given_view given) s t (lookup x vs)) h.variables
     ∙ ap (put_assigned x (given_view given) s t) none
     ∙ ap (λ (ss : Statics). let r : Shared = record s { statics = ss } in Advances r t Quiet)
-    (ap (λ (r : StaticReference). assign x r s.statics) (no_object given no) ∙ ap (assign x Empty) h.statics ∙ assigned_empty x (statics_of unit) there ∙ sym h.statics)
+    (ap (λ (r : StaticReference). assign x r s.statics) (no_object given empty) ∙ ap (assign x Empty) h.statics ∙ assigned_empty x (statics_of unit) there ∙ sym h.statics)
     ∙ ap (λ (vs : Variables). let u : Thread = record t { variables = vs } in Advances s u Quiet) h.variables
 
 -- nothing is done

@@ -4,7 +4,7 @@ use Rattle.classes.specs.Class.{Classes}
 use Rattle.jni.specs.JniFunction.{JniFunction}
 use Rattle.source.specs.Arguments.{Actual}
 use Rattle.source.specs.CallStep.{call_step}
-use Rattle.source.specs.Effect.{is_ready, reduce_first}
+use Rattle.source.specs.Effect.{is_given, is_ready, reduce_first}
 use Rattle.source.specs.Heap.{Heap}
 use Rattle.source.specs.Object.{Reference}
 use Rattle.source.specs.Sight.{seen}
@@ -33,6 +33,11 @@ ReducesFirst vs ss old (Some (reduction.Trapped trap)) new =
     (is_ready (map operand_view old) ≡ false) × ((heap : Heap) → reduce_first (seen vs ss heap) (map operand_view old) ≡ Traps (trap_view trap)) × (new ≡ old)
 ReducesFirst vs ss old (Some reduction.Stuck) new =
     (is_ready (map operand_view old) ≡ false) × ((heap : Heap) → reduce_first (seen vs ss heap) (map operand_view old) ≡ Stuck)
+
+-- the same of one of them, with others after it
+abbrev pub ReducesOne : Variables → Statics → Operand → Option ReductionInMemory → Operand → Type 0
+ReducesOne vs ss old None new = (is_given (operand_view old) ≡ true) × (new ≡ old)
+ReducesOne vs ss old (Some took) new = (rest : List Operand) → ReducesFirst vs ss (old ∷ rest) (Some took) (new ∷ rest)
 
 -- What was done is the call's own step, for each thread with this frame and this pending exception, or what it does with its object
 -- refused. It leaves these objects, this frame and this pending exception.

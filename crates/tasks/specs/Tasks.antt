@@ -47,6 +47,11 @@ task_view (task.Loop line test t body) = Loop line (expr_tree test.now) (term_vi
 task_view task.Return = Return
 task_view (task.ReturnValue line t) = ReturnValue line (term_view t)
 
+-- it is no call
+abbrev pub IsPlain : TaskInMemory → Type 0
+IsPlain (task.Invoke i) = ⊥
+IsPlain t = Unit {0}
+
 abbrev pub end_view : EndInMemory → Task
 end_view end.If = EndIf
 end_view (end.Turn line test body) = EndTurn line (expr_tree test.now) (block_tree body.now)

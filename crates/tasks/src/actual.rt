@@ -1,17 +1,14 @@
 //! The arguments of a call, looked up in its own step.
 
-ghost use Rattle.std.specs.Prelude.{◌≡◌, ◌++◌, IfOk, map, slice_get, zip, None};
+ghost use Rattle.std.specs.Prelude.{◌≡◌, ◌++◌, IfOk, map, slice_get, zip, None, []};
 ghost use Rattle.std.specs.Option.{option_map};
 ghost use Rattle.base.specs.Bytes.{lookup};
-ghost use Rattle.syntax.specs.Tree.{SourceUnit};
 ghost use Rattle.syntax.specs.Views.{argument_tree, expr_tree};
 ghost use Rattle.class_table.specs.FieldViews.{field_id_view};
 ghost use Rattle.jni.specs.Prototype.{ParameterKind as Kind};
 ghost use Rattle.jni.specs.Table.{function_value, parameter_value};
 ghost use Rattle.source.specs.Arguments.{actuals, field_argument, field_given, look_up, look_up_expression, mode_of, named_variable, number_given, number_in_actual, object_given, name_or_zero, reference_argument, reference_given, reference_in_actual, text_given, text_in_actual, field_in_actual};
-ghost use Rattle.source.specs.Heap.{Heap};
 ghost use Rattle.source.specs.Sight.{Sight, held_field, held_reference, seen};
-ghost use Rattle.source.specs.Start.{null_statics};
 ghost use Rattle.source.specs.Task.{Given, NumberOperand};
 ghost use Rattle.source.specs.Variable.{as_static};
 ghost use Rattle.tasks.specs.Actuals.{actual_view, mode_view, name_view, given_field};
@@ -50,14 +47,14 @@ pub enum Actual<'a> {
 
 // ---- looking up
 
-/// The arguments of a call, its numbers being worked out.
+/// The arguments of a call, its numbers being worked out. No static holds an object yet, and none of them depends on the heap.
 pub(crate) fn actuals<'a>(
     alloc: Global,
     variables: &[Variable<'a>],
     function: JniFunction,
     operands: &[Operand<'a>],
 ) -> Result<Vec<Actual<'a>>, AllocError>
-    ensures { IfOk result (λ args. (unit : SourceUnit) (heap : Heap) → map actual_view args.items ≡ actuals (seen (variables_view variables.now) (null_statics unit) heap) (function_value function) (map operand_view operands.now)) }
+    ensures { IfOk result (λ args. map actual_view args.items ≡ actuals (seen (variables_view variables.now) [] []) (function_value function) (map operand_view operands.now)) }
 {
     let mut actuals = Vec::new(alloc);
     push_actuals(
@@ -76,8 +73,8 @@ fn push_actuals<'a>(
     parameters: &[ParameterKind],
     operands: &[Operand<'a>],
 ) -> Result<(), AllocError>
-    ensures { IfOk result (λ _. (unit : SourceUnit) (heap : Heap) → map actual_view actuals.new.items
-        ≡ map actual_view actuals.old.items ++ map (look_up (seen (variables_view variables.now) (null_statics unit) heap)) (zip (map parameter_value parameters.entry.now) (map operand_view operands.entry.now))) }
+    ensures { IfOk result (λ _. map actual_view actuals.new.items
+        ≡ map actual_view actuals.old.items ++ map (look_up (seen (variables_view variables.now) [] [])) (zip (map parameter_value parameters.entry.now) (map operand_view operands.entry.now))) }
 {
     match parameters {
         [] => Ok(()),
@@ -97,7 +94,7 @@ fn look_up<'a>(
     parameter: ParameterKind,
     operand: &Operand<'a>,
 ) -> Actual<'a>
-    ensures { (unit : SourceUnit) (heap : Heap) → actual_view result ≡ look_up (seen (variables_view variables.now) (null_statics unit) heap) (parameter_value parameter, operand_view operand.now) }
+    ensures { actual_view result ≡ look_up (seen (variables_view variables.now) [] []) (parameter_value parameter, operand_view operand.now) }
 {
     match operand {
         Operand::Number(t) => number_argument(t),
@@ -121,7 +118,7 @@ fn given_argument<'a>(
     parameter: ParameterKind,
     argument: &'a Argument,
 ) -> Actual<'a>
-    ensures { (unit : SourceUnit) (heap : Heap) → actual_view result ≡ look_up (seen (variables_view variables.now) (null_statics unit) heap) (parameter_value parameter, Given (argument_tree argument.now)) }
+    ensures { actual_view result ≡ look_up (seen (variables_view variables.now) [] []) (parameter_value parameter, Given (argument_tree argument.now)) }
 {
     match argument {
         Argument::Text(bytes) => Actual::Text(bytes),
@@ -136,7 +133,7 @@ fn look_up_expression<'a>(
     parameter: ParameterKind,
     e: &'a Expr,
 ) -> Actual<'a>
-    ensures { (unit : SourceUnit) (heap : Heap) → actual_view result ≡ look_up_expression (seen (variables_view variables.now) (null_statics unit) heap) (parameter_value parameter) (expr_tree e.now) }
+    ensures { actual_view result ≡ look_up_expression (seen (variables_view variables.now) [] []) (parameter_value parameter) (expr_tree e.now) }
 {
     match parameter {
         ParameterKind::FieldID => field_argument(variables, e),
@@ -171,7 +168,7 @@ fn mode_of(e: &Expr) -> ReleaseMode
 
 /// A name or NULL where a field ID is asked for.
 fn field_argument<'a>(variables: &[Variable<'a>], e: &'a Expr) -> Actual<'a>
-    ensures { (unit : SourceUnit) (heap : Heap) → actual_view result ≡ field_argument (seen (variables_view variables.now) (null_statics unit) heap) (expr_tree e.now) }
+    ensures { actual_view result ≡ field_argument (seen (variables_view variables.now) [] []) (expr_tree e.now) }
 {
     match e {
         Expr::Variable(name) => Actual::Field(field_of(variables, name)),
@@ -194,9 +191,8 @@ fn field_of<'a>(variables: &[Variable<'a>], name: &Name) -> Option<FieldId<'a>>
 }
 
 /// A name or NULL where a reference is asked for.
-#[tactic(auto, using(terms::proofs::SightLemmas::held_rules))]
 fn reference_argument<'a>(variables: &[Variable<'a>], e: &'a Expr) -> Actual<'a>
-    ensures { (unit : SourceUnit) (heap : Heap) → actual_view result ≡ reference_argument (seen (variables_view variables.now) (null_statics unit) heap) (expr_tree e.now) }
+    ensures { actual_view result ≡ reference_argument (seen (variables_view variables.now) [] []) (expr_tree e.now) }
 {
     match e {
         Expr::Variable(name) => Actual::Reference(Some(name), object_of(variables, name)),

@@ -53,67 +53,69 @@ pub(crate) fn work_out<'a>(
     let first = object_given(actuals, 0);
     let second = object_given(actuals, 1);
     let third = reference_given(actuals, 2);
-    Ok(match function {
-        JniFunction::FindClass => found_class(classes.find(text_given(actuals, 0))),
-        JniFunction::GetSuperclass => Answer::Gives(Given::Reference(classes.superclass(first))),
+    match function {
+        JniFunction::FindClass => Ok(found_class(classes.find(text_given(actuals, 0)))),
+        JniFunction::GetSuperclass => {
+            Ok(Answer::Gives(Given::Reference(classes.superclass(first))))
+        }
         JniFunction::GetObjectClass => {
-            Answer::Gives(Given::Reference(Some(store.class_of(first))))
+            Ok(Answer::Gives(Given::Reference(Some(store.class_of(first)))))
         }
         JniFunction::IsInstanceOf => {
             let reference = reference_given(actuals, 0);
-            Answer::Gives(Given::Flag(fits_class(classes, store, reference, second)))
+            Ok(Answer::Gives(Given::Flag(fits_class(classes, store, reference, second))))
         }
         JniFunction::IsAssignableFrom => {
-            Answer::Gives(Given::Flag(classes.assignable(first, second)))
+            Ok(Answer::Gives(Given::Flag(classes.assignable(first, second))))
         }
-        JniFunction::AllocObject => Answer::Makes(first),
+        JniFunction::AllocObject => Ok(Answer::Makes(first)),
         JniFunction::GetFieldID => {
             let (name, text) = (text_given(actuals, 1), text_given(actuals, 2));
-            found_field(classes.field(first, name, text, false))
+            Ok(found_field(classes.field(first, name, text, false)))
         }
         JniFunction::GetStaticFieldID => {
             let (name, text) = (text_given(actuals, 1), text_given(actuals, 2));
-            found_field(classes.field(first, name, text, true))
+            Ok(found_field(classes.field(first, name, text, true)))
         }
         JniFunction::GetField(_) => {
             let place = place_of_field(classes, store, actuals);
-            Answer::Gives(Given::Number(number_in(store.value_at(first, place))))
+            Ok(Answer::Gives(Given::Number(number_in(store.value_at(first, place)))))
         }
         JniFunction::SetField(element) => {
             let place = place_of_field(classes, store, actuals);
             let number = convert(element, number_given(actuals, 2));
-            Answer::Writes(first, place, ObjectValue::Number(number))
+            Ok(Answer::Writes(first, place, ObjectValue::Number(number)))
         }
         JniFunction::GetObjectField => {
             let place = place_of_field(classes, store, actuals);
-            Answer::Gives(Given::Reference(reference_in(store.value_at(first, place))))
+            Ok(Answer::Gives(Given::Reference(reference_in(store.value_at(first, place)))))
         }
         JniFunction::SetObjectField => {
             let place = place_of_field(classes, store, actuals);
-            Answer::Writes(first, place, held(third)?)
+            Ok(Answer::Writes(first, place, held(third)?))
         }
         JniFunction::GetStaticField(_) => {
             let (class, place) = (declarer(actuals), place_of_static(classes, actuals));
-            Answer::Gives(Given::Number(number_in(store.value_at(class, place))))
+            Ok(Answer::Gives(Given::Number(number_in(store.value_at(class, place)))))
         }
         JniFunction::SetStaticField(element) => {
             let (class, place) = (declarer(actuals), place_of_static(classes, actuals));
             let number = convert(element, number_given(actuals, 2));
-            Answer::Writes(class, place, ObjectValue::Number(number))
+            Ok(Answer::Writes(class, place, ObjectValue::Number(number)))
         }
         JniFunction::GetStaticObjectField => {
             let (class, place) = (declarer(actuals), place_of_static(classes, actuals));
-            Answer::Gives(Given::Reference(reference_in(store.value_at(class, place))))
+            Ok(Answer::Gives(Given::Reference(reference_in(store.value_at(class, place)))))
         }
         JniFunction::SetStaticObjectField => {
             let (class, place) = (declarer(actuals), place_of_static(classes, actuals));
-            Answer::Writes(class, place, held(third)?)
+            Ok(Answer::Writes(class, place, held(third)?))
         }
         JniFunction::GetArrayLength => {
-            Answer::Gives(Given::Number(store.values_of(first).len() as i32))
+            Ok(Answer::Gives(Given::Number(store.values_of(first).len() as i32)))
         }
         _ => unreachable!(),
-    })
+    }
 }
 
 /// A class that was found, or else an exception.

@@ -80,9 +80,15 @@ pub(crate) fn field_place(
 pub(crate) fn static_place(classes: &ClassTable, field: Option<FieldId<'_>>) -> usize
     ensures { result ≡ place_in (given_field field.entry) (own_statics classes.now (given_field field.entry).class) }
 {
-    let own = classes.own_statics(declaring(field));
-    for (place, other) in own.iter().enumerate() {
-        if name_of(field) == other.name.as_slice() {
+    let class = declaring(field);
+    let own = classes.own_statics(class);
+    for place in 0..own.len() {
+        let other = FieldId {
+            class,
+            is_static: true,
+            field: &own[place],
+        };
+        if is_field(field, other) {
             return place;
         }
     }

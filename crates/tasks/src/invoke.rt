@@ -8,10 +8,10 @@ ghost use Rattle.syntax.specs.Tree.{SourceUnit};
 ghost use Rattle.syntax.specs.Views.{unit_tree};
 ghost use Rattle.tasks.specs.declared.task.Task.TheVariants as task;
 ghost use Rattle.tasks.specs.Actuals.{actual_view};
-ghost use Rattle.tasks.specs.Calls.{MakesCall, ReducesFirst};
+ghost use Rattle.tasks.specs.Calls.{MakesCall, ReducesFirst, ReducesOne};
 ghost use Rattle.tasks.specs.Steps.{Does, scene_with};
 ghost use Rattle.tasks.specs.Stores.{frame_view};
-ghost use Rattle.tasks.specs.Tasks.{OperandsInRange, OutcomeInRange};
+ghost use Rattle.tasks.specs.Tasks.{OperandInRange, OperandsInRange, OutcomeInRange};
 ghost use Rattle.terms.specs.Views.{variables_view};
 
 use crate::actual::{Actual, actuals};
@@ -73,14 +73,30 @@ fn reduce_first(
     ensures step { ReducesFirst (variables_view variables.now) (null_statics (unit_tree items.now)) operands.old result operands.new }
     ensures numbers { OperandsInRange operands.new }
 {
-    match operands {
-        [] => None,
-        [operand, operands @ ..] => match operand {
-            Operand::Given(_) => reduce_first(items, variables, operands),
-            Operand::Number(t) => match t {
-                Term::Done(_) => reduce_first(items, variables, operands),
-                t => Some(reduce(items, variables, t)),
-            },
+    for place in 0..operands.len() {
+        let reduction = reduce_one(items, variables, &mut operands[place]);
+        if reduction.is_some() {
+            return reduction;
+        }
+    }
+    None
+}
+
+/// Lets a number that isn't worked out take a step; none where there is nothing to work out.
+fn reduce_one(
+    items: &[Item],
+    variables: &[Variable<'_>],
+    operand: &mut Operand<'_>,
+) -> Option<Reduction>
+    requires { OperandInRange operand.old }
+    ensures step { ReducesOne (variables_view variables.now) (null_statics (unit_tree items.now)) operand.old result operand.new }
+    ensures numbers { OperandInRange operand.new }
+{
+    match operand {
+        Operand::Given(_) => None,
+        Operand::Number(t) => match t {
+            Term::Done(_) => None,
+            t => Some(reduce(items, variables, t)),
         },
     }
 }

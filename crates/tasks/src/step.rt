@@ -5,12 +5,11 @@ ghost use Rattle.syntax.specs.Views.{expr_tree, block_tree, unit_tree};
 ghost use Rattle.source.specs.Start.{null_statics};
 ghost use Rattle.source.specs.Task.{tasks_of};
 ghost use Rattle.source.specs.Variable.{Statics};
-ghost use Rattle.tasks.specs.declared.task.Invocation.{Invocation};
 ghost use Rattle.tasks.specs.declared.task.Task.TheVariants as task;
 ghost use Rattle.terms.specs.declared.term.Term.TheVariants as term;
 ghost use Rattle.tasks.specs.Steps.{HasEffect, Does, reduced, scene_with};
 ghost use Rattle.tasks.specs.Stores.{frame_view};
-ghost use Rattle.tasks.specs.Tasks.{branch_task, else_tree, tasks_of_statements, ExprInRange, BlockInRange, ElseInRange, StatementsInRange, TaskInRange, OutcomeInRange};
+ghost use Rattle.tasks.specs.Tasks.{branch_task, else_tree, tasks_of_statements, ExprInRange, BlockInRange, ElseInRange, StatementsInRange, TaskInRange, OutcomeInRange, IsPlain};
 ghost use Rattle.terms.specs.Views.{NumbersInRange, variables_view};
 
 use crate::frame::Frame;
@@ -242,7 +241,7 @@ fn plain_step<'a>(
     task: &mut Task<'a>,
 ) -> Outcome<'a>
     requires range { TaskInRange task.old }
-    requires plain { (i : Invocation) → task.old ≡ task.Invoke i → ⊥ }
+    requires plain { IsPlain task.old }
     ensures step { HasEffect (variables_view variables.now) (null_statics (unit_tree items.now)) task.old result task.new }
     ensures task { TaskInRange task.new }
     ensures range { OutcomeInRange result }

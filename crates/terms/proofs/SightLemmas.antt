@@ -61,4 +61,3 @@ pub ruleset place_rules = (not_null)
 
 pub ruleset element_rules = (not_null)
 
-pub ruleset held_rules = (held_in_none)
