@@ -1,18 +1,32 @@
-use Rattle.std.proofs.Common.{rules, ◌≡◌, IfOk, IfSome, IsTrue, None, map, ℕ, ◌+◌, ◌-◌, ◌*◌, ◌<◌, ◌≤◌, length, ◌/◌, ◌%◌, Bool, true, false, nat_eq, nat_lt, List, [], ◌∷◌, ◌++◌, slice_index_or, slice_set, bit_and, bit_or, Fits, w8, w32, w64, Bor, MutBor}
-use Rattle.jni.specs.BuiltFunctions.{is_built_function}
+use Rattle.std.proofs.Common.{◌≡◌, true, List, [], map, refl, sym, ap, ◌∙◌}
 use Rattle.jni.specs.Table.{function_value}
+use Rattle.source.specs.Arguments.{actuals}
+use Rattle.source.specs.Effect.{is_ready}
+use Rattle.source.specs.Sight.{seen}
 use Rattle.source.specs.Start.{null_statics}
-use Rattle.syntax.specs.Tree.{SourceUnit}
 use Rattle.syntax.specs.Views.{unit_tree}
-use Rattle.tasks.specs.declared.task.Task.TheVariants as task
+use Rattle.tasks.specs.declared.task.Invocation.{Invocation}
+use Rattle.tasks.specs.declared.task.Operand.{Operand}
 use Rattle.tasks.specs.Actuals.{actual_view}
-use Rattle.tasks.specs.Calls.{MakesCall, ReducesFirst, ReducesOne}
-use Rattle.tasks.specs.Steps.{Does, scene_with}
 use Rattle.tasks.specs.Stores.{frame_view}
-use Rattle.tasks.specs.Tasks.{OperandInRange, OperandsInRange, OutcomeInRange}
+use Rattle.tasks.specs.Tasks.{operand_view}
 use Rattle.terms.specs.Views.{variables_view}
+use Rattle.tasks.proofs.CallLemmas.{if_ok}
+use Rattle.tasks.proofs.Invocations.{call_does, same_call}
 use Rattle.tasks.proofs.invoke.invoke.Goals as goal
 
--- src/invoke.rt:34:1
 pub returns-clause-step : goal.returns-clause-step
-returns-clause-step c = ?
+returns-clause-step c =
+    let unit = unit_tree c.args.items.now in
+    let vs = variables_view c.args.variables.now in
+    let i = c.args.i.now in
+    let f = function_value i.function in
+    let first = c.in_default.ensures.step in
+    let kept : c.deref_mut.new.self.items ≡ i.operands.items = c.deref_mut.ensures.writes_back ∙ first.1 ∙ c.deref_mut.ensures.value in
+    let ready : is_ready (map operand_view i.operands.items) ≡ true = ap (λ (os : List Operand). is_ready (map operand_view os)) (sym c.deref_mut.ensures.value) ∙ first.0 in
+    let looked_up = ap (map actual_view) c.deref-2.ensures.value ∙ c.in_ok-actuals.ensures ∙ ap (λ (os : List Operand). actuals (seen vs [] []) f (map operand_view os)) (c.deref.ensures.value ∙ kept) in
+    let i' : Invocation = record i { operands = c.deref_mut.new.self } in
+    let same = same_call vs (null_statics unit) i i' refl refl refl (map operand_view i.operands.items) (ap (map operand_view) kept) in
+    if_ok c.call.result
+    (λ o makes. call_does unit c.args.classes.now c.args.store.now c.args.variables.now (frame_view c.args.frame.now) c.args.pending.now i i' c.call.new.store (frame_view c.call.new.frame) c.call.new.pending same ready (map actual_view c.deref-2.result.now) looked_up c.args.refused o makes)
+    c.call.ensures.step
