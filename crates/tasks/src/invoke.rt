@@ -51,7 +51,7 @@ pub(crate) fn invoke<'a>(
     ensures range { IfOk result OutcomeInRange }
 {
     let (line, target, function) = (i.line, i.target, i.function);
-    if let Some(reduction) = reduce_first(items, variables, &mut i.operands) {
+    if let Some(reduction) = reduce_number(items, variables, i) {
         if refused {
             return Ok(Outcome::Impossible);
         }
@@ -63,7 +63,23 @@ pub(crate) fn invoke<'a>(
     )
 }
 
-/// Lets the first number that isn't worked out take a step; none where each is.
+/// Lets the first number of a call that isn't worked out take a step; none where each is.
+fn reduce_number(
+    items: &[Item],
+    variables: &[Variable<'_>],
+    i: &mut Invocation<'_>,
+) -> Option<Reduction>
+    requires { OperandsInRange i.old.operands.items }
+    ensures step { ReducesFirst (variables_view variables.now) (null_statics (unit_tree items.now)) i.old.operands.items result i.new.operands.items }
+    ensures numbers { OperandsInRange i.new.operands.items }
+    ensures line { i.new.line ≡ i.old.line }
+    ensures target { i.new.target ≡ i.old.target }
+    ensures function { i.new.function ≡ i.old.function }
+{
+    reduce_first(items, variables, &mut i.operands)
+}
+
+/// Lets the first of these numbers that isn't worked out take a step; none where each is.
 fn reduce_first(
     items: &[Item],
     variables: &[Variable<'_>],

@@ -1,7 +1,6 @@
-use Rattle.std.proofs.Common.{◌≡◌, true, List, [], map, refl, sym, ap, ◌∙◌}
+use Rattle.std.proofs.Common.{List, [], map, ap, ◌∙◌}
 use Rattle.jni.specs.Table.{function_value}
 use Rattle.source.specs.Arguments.{actuals}
-use Rattle.source.specs.Effect.{is_ready}
 use Rattle.source.specs.Sight.{seen}
 use Rattle.source.specs.Start.{null_statics}
 use Rattle.syntax.specs.Views.{unit_tree}
@@ -22,11 +21,9 @@ returns-clause-step c =
     let i = c.args.i.now in
     let f = function_value i.function in
     let first = c.in_default.ensures.step in
-    let kept : c.deref_mut.new.self.items ≡ i.operands.items = c.deref_mut.ensures.writes_back ∙ first.1 ∙ c.deref_mut.ensures.value in
-    let ready : is_ready (map operand_view i.operands.items) ≡ true = ap (λ (os : List Operand). is_ready (map operand_view os)) (sym c.deref_mut.ensures.value) ∙ first.0 in
-    let looked_up = ap (map actual_view) c.deref-2.ensures.value ∙ c.in_ok-actuals.ensures ∙ ap (λ (os : List Operand). actuals (seen vs [] []) f (map operand_view os)) (c.deref.ensures.value ∙ kept) in
-    let i' : Invocation = record i { operands = c.deref_mut.new.self } in
-    let same = same_call vs (null_statics unit) i i' refl refl refl (map operand_view i.operands.items) (ap (map operand_view) kept) in
+    let i' : Invocation = c.reduce_number.new.i in
+    let looked_up = ap (map actual_view) c.deref-2.ensures.value ∙ c.in_ok-actuals.ensures ∙ ap (λ (os : List Operand). actuals (seen vs [] []) f (map operand_view os)) (c.deref.ensures.value ∙ first.1) in
+    let same = same_call vs (null_statics unit) i i' c.in_default.ensures.line c.in_default.ensures.target c.in_default.ensures.function (map operand_view i.operands.items) (ap (map operand_view) first.1) in
     if_ok c.call.result
-    (λ o makes. call_does unit c.args.classes.now c.args.store.now c.args.variables.now (frame_view c.args.frame.now) c.args.pending.now i i' c.call.new.store (frame_view c.call.new.frame) c.call.new.pending same ready (map actual_view c.deref-2.result.now) looked_up c.args.refused o makes)
+    (λ o makes. call_does unit c.args.classes.now c.args.store.now c.args.variables.now (frame_view c.args.frame.now) c.args.pending.now i i' c.call.new.store (frame_view c.call.new.frame) c.call.new.pending same first.0 (map actual_view c.deref-2.result.now) looked_up c.args.refused o makes)
     c.call.ensures.step
