@@ -261,11 +261,7 @@ module _ (unit : SourceUnit) (w : World) (m : StateInMemory) (s : State) (h : St
 
   -- the report of the state is written from the state in memory
   pub report_same : (standings : List ThreadStatus) (rows : List ShownRow) → map standing_view standings ≡ standings_in m → rows ≡ (report w s).objects → report w s ≡ report_with m.printed.items standings rows
+  unfolding report
   report_same standings rows is shows =
       let stood = standings_same 1 m.threads.items s.threads h.threads ∙ standings_are m.world.now.classes (ap (λ (v : World). v.classes) h.world) ∙ sym is in
-      by_parts standings rows stood shows
-    where
-      by_parts : (standings : List ThreadStatus) (rows : List ShownRow) → map (λ (t : ℕ × Thread). standing_of w.classes s t.0 t.1 s.stop) (enumerate_from 1 s.threads) ≡ map standing_view standings → rows ≡ (report w s).objects
-          → report w s ≡ report_with m.printed.items standings rows
-      unfolding report
-      by_parts standings rows stood shows = rw (shows, stood, h.printed) refl
+      rw (shows, stood, h.printed) refl
