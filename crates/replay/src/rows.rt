@@ -36,10 +36,7 @@ impl Objects for NamedObjects<'_> {
 }
 
 /// The names of the objects in the frames of threads, and of their pending exceptions, in the order of the definitions.
-pub(crate) fn root_names(
-    alloc: Global,
-    threads: &[Thread<'_>],
-) -> Result<Vec<usize>, AllocError>
+pub(crate) fn root_names(alloc: Global, threads: &[Thread<'_>]) -> Result<Vec<usize>, AllocError>
     ensures { IfOk result (λ names. names.items ≡ flat_map thread_names threads.now) }
 {
     let mut names = Vec::new(alloc);

@@ -207,7 +207,7 @@ module _ (classes : Classes) (lent : BuffersInUse) (k : ℕ) (statics : Statics)
   -- so it is after each answer
   answered : (t : Thread) (a : Answer) (g : Given) (frame : Frame) (pending : Reference) → t.frames ≡ frame ∷ [] → t.pending ≡ pending → given_view g ≡ given_after heap kind a
       → after_call classes lent k (shared heap) t line (target_view to) f args rest (effect_as classes (shared heap) t a)
-          ≡ put (target_view to) (given_view g) (shared (heap_after classes heap a)) (with_tasks (in_frame t (frame_with kind (given_view g) frame) (pending_after heap pending a)) rest)
+      ≡ put (target_view to) (given_view g) (shared (heap_after classes heap a)) (with_tasks (in_frame t (frame_with kind (given_view g) frame) (pending_after heap pending a)) rest)
   answered t (Gives c) g frame pending frames is same =
       ap (completes t [] heap t) (sym same) ∙ completed_is t [] heap t g frame pending frames is
       ∙ ap (λ (now : Heap). put (target_view to) (given_view g) (shared now) (with_tasks (in_frame t (frame_with kind (given_view g) frame) pending) rest)) (append-nil heap)

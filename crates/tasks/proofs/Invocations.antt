@@ -107,8 +107,7 @@ module _ (vs : Variables) (ss : Statics) where
       let o = is_open t none in
       (rw o.unready refl, λ heap. o.reduces (map operand_view rest) (reduce (seen vs ss heap) (term_view t)) (reduce_first (seen vs ss heap) (map operand_view rest)) ∙ ap (outcome_map (λ (w : terms.Term). source.NumberOperand w ∷ map operand_view rest)) (h heap))
   takes_first t t' rest (reduction.Trapped trap) none h =
-      let o = is_open t none in
-      (
+      let o = is_open t none in (
         rw o.unready refl,
         λ heap. o.reduces (map operand_view rest) (reduce (seen vs ss heap) (term_view t)) (reduce_first (seen vs ss heap) (map operand_view rest)) ∙ ap (outcome_map (λ (w : terms.Term). source.NumberOperand w ∷ map operand_view rest)) (h.0 heap),
         ap (λ (u : Term). operands.Number u ∷ rest) h.1,

@@ -13,9 +13,7 @@ ghost use Rattle.tasks.specs.Answers.{answer_view};
 ghost use Rattle.tasks.specs.WorkedOut.{found_class, found_field, worked_out};
 ghost use Rattle.world.specs.Views.{object_value_view};
 
-use crate::actual::{
-    Actual, field_given, number_given, object_given, reference_given, text_given,
-};
+use crate::actual::{Actual, field_given, number_given, object_given, reference_given, text_given};
 use crate::field;
 use crate::given::Given;
 use crate::store::Store;

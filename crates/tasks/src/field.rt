@@ -60,11 +60,7 @@ fn is_field(field: Option<FieldId<'_>>, other: FieldId<'_>) -> bool
 
 /// The place of the field among those of the objects of a class, and 0 where it isn't among them. The cost goes by the number of
 /// fields, each time the depth of the class.
-pub(crate) fn field_place(
-    classes: &ClassTable,
-    class: usize,
-    field: Option<FieldId<'_>>,
-) -> usize
+pub(crate) fn field_place(classes: &ClassTable, class: usize, field: Option<FieldId<'_>>) -> usize
     ensures { result ≡ place_in (given_field field.entry) (layout classes.now class) }
 {
     for place in 0..classes.layout_len(class) {

@@ -135,14 +135,7 @@ fn call<'a>(
         store.new (frame_view frame.new) pending.new) }
     ensures range { IfOk result OutcomeInRange }
 {
-    if let Some(trap) = check(
-        classes,
-        store,
-        frame,
-        pending.is_some(),
-        function,
-        actuals,
-    ) {
+    if let Some(trap) = check(classes, store, frame, pending.is_some(), function, actuals) {
         if refused {
             return Ok(Outcome::Impossible);
         }

@@ -235,11 +235,7 @@ fn return_value<'a>(
 }
 
 /// Lets a task that is no call take its next step.
-fn plain_step<'a>(
-    items: &[Item],
-    variables: &[Variable<'a>],
-    task: &mut Task<'a>,
-) -> Outcome<'a>
+fn plain_step<'a>(items: &[Item], variables: &[Variable<'a>], task: &mut Task<'a>) -> Outcome<'a>
     requires range { TaskInRange task.old }
     requires plain { IsPlain task.old }
     ensures step { HasEffect (variables_view variables.now) (null_statics (unit_tree items.now)) task.old result task.new }

@@ -15,7 +15,9 @@ ghost use Rattle.tasks.specs.Tasks.{task_view, operand_view, else_tree, Argument
 use crate::outcome::{Target, VariableKind, kind_of};
 use jni::{JniFunction, ParameterKind, function_named};
 use std::alloc::{AllocError, Global};
-use syntax::{Argument, Block, Call, Constant, ElementType, Expr, Form, Name, RightSide, Stmt, Test};
+use syntax::{
+    Argument, Block, Call, Constant, ElementType, Expr, Form, Name, RightSide, Stmt, Test,
+};
 use terms::{Term, term_of};
 
 /// A call that is to do.

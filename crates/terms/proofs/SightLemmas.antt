@@ -60,4 +60,3 @@ pub ruleset null_rules = (not_null)
 pub ruleset place_rules = (not_null)
 
 pub ruleset element_rules = (not_null)
-

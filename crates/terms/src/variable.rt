@@ -45,10 +45,7 @@ pub fn place_of(variables: &[Variable<'_>], name: &Name) -> Option<usize>
 }
 
 /// What the variable of this name holds. It compares the name with each.
-pub fn content_of<'v, 'a>(
-    variables: &'v [Variable<'a>],
-    name: &Name,
-) -> Option<&'v Content<'a>>
+pub fn content_of<'v, 'a>(variables: &'v [Variable<'a>], name: &Name) -> Option<&'v Content<'a>>
     ensures { option_map (λ c. content_view c.now) result ≡ lookup name.now (variables_view variables.now) }
 {
     for variable in variables {

@@ -47,8 +47,7 @@ loop-place-preserved c =
     let new = c.reduce_one-reduction.new.operand in
     let at = slice_get_read os (length os) c.loop-place.place o refl (omega (arith, c.loop-place-test.true, c.loop-place.auto.operands)) c.index-operands-place.is in
     let step = subst (λ (p : Operand). ReducesOne vs ss p took new) (sym c.index-operands-place.is) c.reduce_one-reduction.ensures.step in
-    let kept = none_step vs ss os c.loop-place.place o new took (sym c.is_some.ensures ∙ c.if-is_some.false) at c.loop-place.invariant.1 step in
-    (
+    let kept = none_step vs ss os c.loop-place.place o new took (sym c.is_some.ensures ∙ c.if-is_some.false) at c.loop-place.invariant.1 step in (
       kept.0 ∙ c.loop-place.invariant.0,
       subst (λ (xs : List Operand). AreGiven xs (c.loop-place.place + 1)) (sym kept.0) kept.1,
       operand_set os c.loop-place.place new c.loop-place.invariant.2 c.reduce_one-reduction.ensures.numbers,
