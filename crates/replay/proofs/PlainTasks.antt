@@ -1,5 +1,5 @@
 -- No task of a thread in memory waits for a monitor.
-use Rattle.std.proofs.Common.{◌≡◌, ℕ, ℤ, Bool, true, false, cond, List, [], ◌∷◌, ◌++◌, Option, Some, None, refl, sym, ap, ◌∙◌, subst, IsTrue}
+use Rattle.std.proofs.Common.{◌≡◌, ℕ, ℤ, Bool, true, false, cond, List, [], ◌∷◌, ◌++◌, Option, Some, None, refl, ap, ◌∙◌, IsTrue}
 use Rattle.std.specs.Prelude.{not}
 use Rattle.base.specs.Bytes.{Identifier}
 use Rattle.base.specs.Element.{JChar}
@@ -8,23 +8,22 @@ use Rattle.syntax.specs.declared.stmt.Stmt.{Stmt as StmtInMemory}
 use Rattle.syntax.specs.Parts.{call_of_right_side}
 use Rattle.syntax.specs.Tree as tree
 use Rattle.syntax.specs.Tree.{SourceUnit, Call, Expr, Block, True, False, Commit, Abort, Null}
-use Rattle.syntax.specs.Views.{stmt_tree, call_tree}
+use Rattle.syntax.specs.Views.{stmt_tree}
 use Rattle.classes.specs.Class.{Classes}
 use Rattle.types.specs.BuiltCalls.{is_built_call}
 use Rattle.jni.specs.JniFunction.{JniFunction}
 use Rattle.jni.specs.BuiltFunctions.{is_built_function}
 use Rattle.jni.specs.Prototype.{function_named}
 use Rattle.source.specs.Arguments.{Actual, actuals}
-use Rattle.source.specs.CallStep.{waits_with, call_step, after_refusal, trap_of_call}
+use Rattle.source.specs.CallStep.{waits_with}
 use Rattle.source.specs.Effect.{Effect, Becomes, Sets, SetsNull, SetsElement, MakesArray, Prints, Calls, Returns, TrapsAt, NoEffect, at_line, goes_on, with_value, print_effect, branch_effect, loop_effect, element_effect, returned_name, return_effect, effect_of, is_ready, reduce_first}
 use Rattle.source.specs.Sight.{Sight}
 use Rattle.source.specs.Task.{Task, SetScalar, SetElement, SetNull, MakeArray, Invoke, Print, Branch, EndIf, Loop, EndTurn, Return, ReturnValue, Impossible, Operand, Target, Declared, Assigned, Tested, Dropped, BufferKind, kind_of, set_task, right_side_task, invocation, call_task, task_of}
 use Rattle.source.specs.Term.{Term, Done, Number, Named, Read, Element, IsNull, Prefix, And, Or, Binary, index_of, reduce}
-use Rattle.source.specs.Thread.{Thread, Shared, BuffersInUse, NoAdvance, sight_of}
-use Rattle.source.specs.ThreadStep.{thread_step, step_within, after_refused_effect, next_effect, waits}
+use Rattle.source.specs.Thread.{Thread, Shared, sight_of}
+use Rattle.source.specs.ThreadStep.{next_effect, waits}
 use Rattle.source.specs.Value.{Value, Word, Int, Flag, Truth, Outcome, Gives, Traps, Stuck}
 use Rattle.tasks.specs.Activations.{tasks_from, tasks_around, tasks_after, tasks_left, BegunInRange}
-use Rattle.tasks.specs.Outcomes.{target_view}
 use Rattle.tasks.specs.Tasks.{task_view, end_view, tasks_of_statements, calls_built, StatementsInRange, TaskInRange}
 use Rattle.replay.specs.Threads.{ThreadStands, tasks_in, WorkInRange}
 use Rattle.tasks.specs.declared.activation.Activation.{Activation}

@@ -20,9 +20,9 @@ use Rattle.terms.specs.declared.variable.Variable.{Variable as VariableInMemory}
 use Rattle.terms.specs.Views.{content_view, variable_view, variables_view}
 use Rattle.replay.specs.declared.state.State.{State as StateInMemory}
 use Rattle.replay.specs.declared.thread.Thread.{Thread as ThreadInMemory}
-use Rattle.replay.specs.Rows.{call_names, thread_names, activation_names}
+use Rattle.replay.specs.Rows.{thread_names, activation_names}
 use Rattle.replay.specs.States.{Stands, ThreadsStand}
-use Rattle.replay.specs.Threads.{ThreadStands, WorkStands}
+use Rattle.replay.specs.Threads.{WorkStands}
 
 -- ---- no variable is a view
 

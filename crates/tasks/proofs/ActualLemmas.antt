@@ -1,5 +1,5 @@
 -- What arguments are looked up as depends on no static, since each is NULL, and not on the heap.
-use Rattle.std.proofs.Common.{◌≡◌, List, [], ◌∷◌, map, None, refl, ap, ◌∙◌}
+use Rattle.std.proofs.Common.{◌≡◌, List, [], ◌∷◌, map, refl, ap, ◌∙◌}
 use Rattle.std.specs.Prelude.{zip}
 use Rattle.base.specs.Bytes.{lookup}
 use Rattle.jni.specs.JniFunction.{JniFunction}

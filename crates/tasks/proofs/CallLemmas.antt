@@ -1,8 +1,7 @@
 -- What a call in memory does is the call's step.
-use Rattle.std.proofs.Common.{◌≡◌, ℕ, Bool, true, false, cond, List, [], ◌∷◌, ◌++◌, map, Option, Some, None, refl, sym, ap, ◌∙◌, subst, append-nil, IfOk, Result, Ok, Err}
+use Rattle.std.proofs.Common.{◌≡◌, ℕ, Bool, true, false, List, [], ◌∷◌, ◌++◌, map, Option, Some, None, refl, sym, ap, ◌∙◌, subst, append-nil, IfOk, Result, Ok, Err}
 use Rattle.std.specs.Prelude.{is_some, not, zip, ◌&&◌, ◌||◌}
 use Rattle.std.specs.List.{list_any}
-use Rattle.std.specs.Option.{option_map}
 use Rattle.base.specs.Bytes.{Identifier}
 use Rattle.base.specs.Element.{ElementType}
 use Rattle.classes.specs.BuiltIns.{no_class_def_found_error, no_such_field_error}
@@ -10,7 +9,7 @@ use Rattle.classes.specs.Class.{Classes}
 use Rattle.classes.specs.Fields.{FieldId}
 use Rattle.jni.specs.BuiltFunctions.{is_built_function}
 use Rattle.jni.specs.JniFunction.{JniFunction, FindClass, GetSuperclass, GetObjectClass, IsInstanceOf, IsAssignableFrom, AllocObject, GetFieldID, GetStaticFieldID, GetField, SetField, GetStaticField, SetStaticField, GetObjectField, SetObjectField, GetStaticObjectField, SetStaticObjectField, GetArrayLength, PopLocalFrame, is_allowed_pending}
-use Rattle.jni.specs.Prototype.{ResultKind, NewLocal, NewGlobal, GivesFlag, GivesInt, GivesField, GivesNothing, GivesBuffer, prototype}
+use Rattle.jni.specs.Prototype.{ResultKind, NewLocal, prototype}
 use Rattle.source.specs.Arguments.{Actual, variable_given}
 use Rattle.source.specs.CallEffects.{CallResult, CallEffect, found_class_effect, found_field_effect, out_of_memory}
 use Rattle.source.specs.CallStep.{after_call, after_refusal, call_step, checked, completed, failure, makes_objects, put, received, target_element, tell_copy, is_zero}
@@ -21,10 +20,10 @@ use Rattle.source.specs.Heap.{Heap, next_name}
 use Rattle.source.specs.Object.{Object, Reference}
 use Rattle.source.specs.World.{fresh_object}
 use Rattle.source.specs.Task.{Task}
-use Rattle.source.specs.Thread.{Frame, Thread, Shared, BuffersInUse, Trapped, Advance, Advances, NoAdvance}
+use Rattle.source.specs.Thread.{Frame, Thread, Shared, BuffersInUse, Trapped, Advance, Advances}
 use Rattle.source.specs.ThreadStep.{with_tasks}
 use Rattle.source.specs.Value.{Trap, DeletedReference, ExceptionPending, NullReference, WrongObject, NoCapacity}
-use Rattle.source.specs.Variable.{Statics, Variable, Variables}
+use Rattle.source.specs.Variable.{Statics, Variables}
 use Rattle.tasks.specs.declared.actual.Actual.{Actual as InMemory}
 use Rattle.tasks.specs.declared.actual.Actual.TheVariants as actual
 use Rattle.tasks.specs.declared.given.Given.{Given}
@@ -32,14 +31,13 @@ use Rattle.tasks.specs.declared.given.Given.TheVariants as given
 use Rattle.tasks.specs.declared.outcome.Outcome.TheVariants as outcome
 use Rattle.tasks.specs.declared.outcome.Target.{Target as TargetInMemory}
 use Rattle.tasks.specs.declared.outcome.Target.TheVariants as target
-use Rattle.tasks.specs.declared.task.Task.{Task as TaskInMemory}
 use Rattle.terms.specs.declared.trap.Trap.{Trap as TrapInMemory}
 use Rattle.tasks.specs.Actuals.{actual_view}
 use Rattle.tasks.specs.Answers.{Answer, Gives, Writes, Makes, Raises, effect_as, frame_with, given_after, given_view, heap_after, makes_object, pending_after}
 use Rattle.tasks.specs.Calls.{MakesCall}
 use Rattle.tasks.specs.Checked.{fit_together, lacks_room, trap_found}
 use Rattle.tasks.specs.Outcomes.{target_view}
-use Rattle.tasks.specs.Steps.{in_frame, left_by}
+use Rattle.tasks.specs.Steps.{in_frame}
 use Rattle.tasks.specs.Stores.{shared_with}
 use Rattle.tasks.specs.Tasks.{task_view}
 use Rattle.tasks.specs.WorkedOut.{found_class, found_field, worked_out}

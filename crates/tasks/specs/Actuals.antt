@@ -1,5 +1,5 @@
 -- Arguments that lie in memory, as those of the language.
-use Rattle.std.specs.Prelude.{ℕ, false, List, [], Option, Some, None}
+use Rattle.std.specs.Prelude.{false, [], Option, Some, None}
 use Rattle.std.specs.Option.{option_map}
 use Rattle.std.specs.Borrow.{Bor}
 use Rattle.base.specs.Bytes.{Identifier}

@@ -1,5 +1,5 @@
 -- What calls do, as data, and what that leaves.
-use Rattle.std.specs.Prelude.{◌≡◌, ℕ, Bool, true, false, List, [], ◌∷◌, ◌++◌, Option, Some, None}
+use Rattle.std.specs.Prelude.{ℕ, Bool, true, false, [], ◌∷◌, ◌++◌, Some}
 use Rattle.std.specs.Option.{option_map}
 use Rattle.class_table.specs.FieldViews.{field_id_view}
 use Rattle.classes.specs.Class.{Classes}
@@ -7,7 +7,7 @@ use Rattle.jni.specs.Prototype.{ResultKind, NewLocal}
 use Rattle.source.specs.CallEffects.{CallResult, NoResult, NullResult, ScalarResult, ReferenceResult, FieldResult, CallEffect, Throws, Leaves, heap_effect, new_effect}
 use Rattle.source.specs.CallStep.{failure}
 use Rattle.source.specs.Heap.{Heap, next_name, with_value_at}
-use Rattle.source.specs.Object.{Object, ObjectValue, Reference}
+use Rattle.source.specs.Object.{ObjectValue, Reference}
 use Rattle.source.specs.Thread.{Frame, Shared, Thread}
 use Rattle.source.specs.Value.{Int, Flag}
 use Rattle.source.specs.World.{fresh_object}

@@ -17,7 +17,6 @@ use Rattle.tasks.specs.declared.outcome.End.{End as EndInMemory}
 use Rattle.tasks.specs.declared.outcome.End.TheVariants as end
 use Rattle.tasks.specs.declared.outcome.Outcome.{Outcome}
 use Rattle.tasks.specs.declared.outcome.Outcome.TheVariants as outcome
-use Rattle.tasks.specs.declared.outcome.Target.{Target as TargetInMemory}
 use Rattle.tasks.specs.declared.task.Operand.{Operand as OperandInMemory}
 use Rattle.tasks.specs.declared.task.Operand.TheVariants as operands
 use Rattle.tasks.specs.declared.task.Task.{Task as TaskInMemory}

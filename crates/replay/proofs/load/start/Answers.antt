@@ -1,7 +1,5 @@
-use Rattle.std.proofs.Common.{length, refl, sym, ap, ◌∙◌}
-use Rattle.source.specs.Heap.{Heap}
+use Rattle.std.proofs.Common.{refl, sym, ap}
 use Rattle.source.specs.Start.{null_statics}
-use Rattle.source.proofs.ShownRows.{length-loaded}
 use Rattle.tasks.specs.Stores.{shared_with}
 use Rattle.syntax.specs.Views.{unit_tree}
 use Rattle.replay.proofs.LoadLemmas.{refused, no_call, not_some, stand_waiting}

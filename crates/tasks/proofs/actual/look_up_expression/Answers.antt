@@ -1,5 +1,4 @@
 use Rattle.std.proofs.Common.{◌≡◌, [], refl, sym, ◌∙◌}
-use Rattle.syntax.specs.declared.expr.Expr.{Expr as ExprInMemory}
 use Rattle.syntax.specs.Tree.{Expr}
 use Rattle.syntax.specs.Views.{expr_tree}
 use Rattle.syntax.specs.declared.declared_type.ElementType.{ElementType}

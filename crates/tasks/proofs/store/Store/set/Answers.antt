@@ -1,11 +1,10 @@
-use Rattle.std.proofs.Common.{◌≡◌, ℕ, zero, suc, ◌-◌, List, map, length, Some, refl, sym, ap, ◌∙◌, arith}
+use Rattle.std.proofs.Common.{◌≡◌, ℕ, zero, suc, ◌-◌, map, length, Some, refl, sym, ap, ◌∙◌, arith}
 use Rattle.std.proofs.lemmas.List.{map-set}
 use Rattle.std.proofs.lemmas.Option.{slice_get_read, slice_get-map}
 use Rattle.std.specs.Prelude.{slice_get, slice_set}
 use Rattle.std.specs.Option.{option_map}
 use Rattle.source.specs.Heap.{Heap, object_at, with_value_at}
 use Rattle.source.specs.Object.{Object, ObjectValue}
-use Rattle.tasks.specs.declared.store.Object.{Object as InMemory}
 use Rattle.tasks.specs.Stores.{object_view}
 use Rattle.world.specs.Views.{object_value_view}
 use Rattle.tasks.proofs.store.Store.set.Goals as goal
