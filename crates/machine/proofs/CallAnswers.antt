@@ -356,6 +356,31 @@ module _ (p : Lowered) (w : World) (store : Store) (pending : Option ℕ) (call 
       subst (λ (x : Answer). Does IsAssignableFrom x) (sym is)
       (refl, refl, ap truth_word ((λ i. assignable w.classes (name_of IsAssignableFrom h 0 i) (name_of IsAssignableFrom h 1 i))))
 
+  answers_new_local : Asked NewLocalRef → (answer : Answer) → Works NewLocalRef answer → Does NewLocalRef answer
+  unfolding call_effect
+  answers_new_local h answer is = subst (λ (x : Answer). Does NewLocalRef x) (sym is) (refl, refl, agrees NewLocalRef h 0)
+
+  -- an object has a name, so that its number isn't that of NULL
+  has_name : (o : Option ℕ) (n : ℕ) → HeapAgrees store.heap shared.heap (IsName shared.heap) → ReferenceAgrees store.heap o (Some n) → 0 < n
+  has_name None n same h = absurd h
+  has_name (Some a) n same h = (name_within store.heap shared.heap (IsName shared.heap) a n same h).0
+
+  no_null : (n : ℕ) → 0 < n → ((0 == n) ≡ false) × ((n == 0) ≡ false)
+  no_null zero low = absurd (omega (arith, low))
+  no_null (suc n) low = (refl, refl)
+
+  same_names : (o p : Option ℕ) (q r : Reference) → HeapAgrees store.heap shared.heap (IsName shared.heap) → ReferenceAgrees store.heap o q → ReferenceAgrees store.heap p r → (name_or_zero q == name_or_zero r) ≡ same_reference q r
+  same_names o p None None same h g = refl
+  same_names o p None (Some m) same h g = (no_null m (has_name p m same g)).0
+  same_names o p (Some n) None same h g = (no_null n (has_name o n same h)).1
+  same_names o p (Some n) (Some m) same h g = refl
+
+  answers_same : Asked IsSameObject → (answer : Answer) → Works IsSameObject answer → Does IsSameObject answer
+  unfolding call_effect
+  answers_same h answer is =
+      subst (λ (x : Answer). Does IsSameObject x) (sym is)
+      (refl, refl, ap truth_word ((λ i. name_of IsSameObject h 0 i == name_of IsSameObject h 1 i) ∙ same_names (at 0) (at 1) (reference_given args 0) (reference_given args 1) h.store_agrees.heap (agrees IsSameObject h 0) (agrees IsSameObject h 1)))
+
   -- the class objects are the first of the table
   answers_superclass : Asked GetSuperclass → (answer : Answer) → Works GetSuperclass answer → Does GetSuperclass answer
   unfolding call_effect
@@ -622,6 +647,8 @@ module _ (p : Lowered) (w : World) (store : Store) (pending : Option ℕ) (call 
   answers GetObjectClass h target free answer is = answers_class h target free answer is
   answers IsInstanceOf h target free answer is = answers_instance h answer is
   answers IsAssignableFrom h target free answer is = answers_assignable h answer is
+  answers NewLocalRef h target free answer is = answers_new_local h answer is
+  answers IsSameObject h target free answer is = answers_same h answer is
   answers AllocObject h target free answer is = answers_alloc h target free answer is
   answers GetFieldID h target free answer is = answers_field h answer is
   answers GetStaticFieldID h target free answer is = answers_static h answer is

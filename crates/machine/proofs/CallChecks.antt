@@ -267,6 +267,8 @@ module _ (classes : Classes) (space : Space) (references : List (Option ℕ)) (f
     together_is buffer operands args h GetObjectClass e = refl
     together_is buffer operands args h IsInstanceOf e = refl
     together_is buffer operands args h IsAssignableFrom e = refl
+    together_is buffer operands args h NewLocalRef e = refl
+    together_is buffer operands args h IsSameObject e = refl
     together_is buffer operands args h (GetField T) e =
         let field = field_at_place operands args 1 h in
         let class = class_given_is (operand_at references (operand_of operands 0)) (reference_given args 0) (reference_at_place operands args 0 h) in

@@ -120,6 +120,8 @@ module _ (classes : Classes) (space : Space) (loaded : List ℕ) (references : L
   worked_out IsInstanceOf = Gives (Number (truth_word (fits_there classes space (reference 0) (name_there space (reference 1)))))
   worked_out IsAssignableFrom = Gives (Number (truth_word (assignable classes (name_there space (reference 0)) (name_there space (reference 1)))))
   worked_out AllocObject = Makes (name_there space (reference 0))
+  worked_out NewLocalRef = Gives (Reference (reference 0))
+  worked_out IsSameObject = Gives (Number (truth_word (name_there space (reference 0) == name_there space (reference 1))))
   worked_out (GetField T) = Gives (Number (word_in (value_there space (reference 0) place)))
   worked_out (SetField T) = writes_there space (reference 0) place (stored T)
   worked_out GetObjectField = Gives (Reference (address_in (value_there space (reference 0) place)))

@@ -91,6 +91,11 @@ pub fn work_out(
             Answer::Gives(Given::Number(word_of_truth(fits)))
         }
         JniFunction::AllocObject => Answer::Makes(name_there(heap, first)),
+        JniFunction::NewLocalRef => Answer::Gives(Given::Reference(first)),
+        JniFunction::IsSameObject => {
+            let same = name_there(heap, first) == name_there(heap, second);
+            Answer::Gives(Given::Number(word_of_truth(same)))
+        }
         JniFunction::GetFieldID => {
             find_field(classes, name_there(heap, first), &function.texts, false)
         }

@@ -81,6 +81,8 @@ module _ (classes : Classes) (heap : Heap) (buffer : ElementType) (args : List A
   together GetObjectClass built = refl
   together IsInstanceOf built = refl
   together IsAssignableFrom built = refl
+  together NewLocalRef built = refl
+  together IsSameObject built = refl
   together AllocObject built = refl
   together GetFieldID built = refl
   together GetStaticFieldID built = refl
@@ -125,6 +127,8 @@ module _ (classes : Classes) (lent : BuffersInUse) (k : ℕ) (s : Shared) (t : T
   effects GetObjectClass built = refl
   effects IsInstanceOf built = refl
   effects IsAssignableFrom built = refl
+  effects NewLocalRef built = refl
+  effects IsSameObject built = refl
   effects AllocObject built = refl
   effects GetFieldID built = field_found _
   effects GetStaticFieldID built = field_found _
