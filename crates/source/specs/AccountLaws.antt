@@ -1,5 +1,5 @@
 -- What a step of one thread is, and what it leaves of the others' parts.
-use Rattle.std.specs.Prelude.{◌≡◌, ◌≢◌, ℕ, ◌∷◌, [], ◌++◌, Some, None, IsSome, false, true}
+use Rattle.std.specs.Prelude.{◌≡◌, ◌≢◌, ℕ, Bool, ◌∷◌, [], ◌++◌, Some, None, IsSome, false, true}
 use Rattle.syntax.specs.Tree.{SourceUnit}
 use Rattle.classes.specs.Class.{Classes}
 use Rattle.source.specs.declared.journal.Entry.TheVariants.{Step}
