@@ -15,10 +15,10 @@ use Rattle.code.specs.Effect.{truth_word, element_word}
 use Rattle.code.specs.declared.instr.Operand.{Operand}
 use Rattle.code.specs.declared.instr.Operand.TheVariants as operand
 use Rattle.heap.specs.Heap.{Space, IsLaidOut, name_at}
-use Rattle.jni.specs.JniFunction.{JniFunction, FindClass, AllocObject, GetFieldID, GetStaticFieldID, GetArrayLength, GetSuperclass, GetObjectClass, IsInstanceOf, IsAssignableFrom, GetField, SetField, GetObjectField, SetObjectField, GetStaticField, SetStaticField, GetStaticObjectField, SetStaticObjectField}
+use Rattle.jni.specs.JniFunction.{JniFunction, FindClass, AllocObject, NewLocalRef, IsSameObject, GetFieldID, GetStaticFieldID, GetArrayLength, GetSuperclass, GetObjectClass, IsInstanceOf, IsAssignableFrom, GetField, SetField, GetObjectField, SetObjectField, GetStaticField, SetStaticField, GetStaticObjectField, SetStaticObjectField}
 use Rattle.jni.specs.Prototype.{prototype, ParameterKind, ClassObject, FieldID, IntNumber, NonNull, TextBytes, NewLocal, GivesField, Nullable, GivesNothing}
 use Rattle.source.specs.Arguments.{Actual, reference_given, object_given, name_or_zero, text_given, text_in_actual, NumberActual, field_given, number_given, number_in_actual}
-use Rattle.source.specs.CallEffects.{found_class_effect, found_field_effect, heap_effect, CallEffect}
+use Rattle.source.specs.CallEffects.{found_class_effect, found_field_effect, heap_effect, same_reference, CallEffect}
 use Rattle.source.specs.CallStep.{trap_of_call}
 use Rattle.source.specs.CallTable.{call_effect}
 use Rattle.source.specs.Heap.{Heap, class_of, object_at, values_of, field_place, number_in, place_in, value_at, reference_in, static_place, with_value_at}
@@ -50,10 +50,10 @@ use Rattle.machine.specs.Answers.{IsAnswer, IsMakeable}
 use Rattle.machine.specs.Asked.{IsAsked}
 use Rattle.machine.specs.Checked.{gives_null, is_answered, misfits, some_misfit, some_missing, may_be_null}
 use Rattle.machine.specs.Given.{operand_at, operand_of, class_of_given, class_there, fits_there, name_there, IsGiven, field_at, field_there}
-use Rattle.machine.specs.HeapAgrees.{ReferenceAgrees, BlocksAgree, IsTable, ValueAgrees}
+use Rattle.machine.specs.HeapAgrees.{HeapAgrees, ReferenceAgrees, BlocksAgree, IsTable, ValueAgrees}
 use Rattle.machine.specs.WorkedOut.{count_there, class_object, found_class, IsFoundField, IsWorkedOut, place_there, value_there, word_in, address_in, held_reference, top_word, writes_there}
 use Rattle.machine.proofs.CallChecks.{class_given_is, class_is, field_at_place, fits_is, name_is, reference_at_place, handle_of}
-use Rattle.machine.proofs.BlockObjects.{Named, named}
+use Rattle.machine.proofs.BlockObjects.{Named, named, name_within}
 use Rattle.machine.proofs.CallTraps.{has_passed, none_lacking, none_unfit, handles_there}
 use Rattle.machine.proofs.FewValues.{few_values}
 use Rattle.machine.proofs.LongTables.{classes_loaded, grown_long}

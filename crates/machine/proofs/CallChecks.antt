@@ -12,7 +12,7 @@ use Rattle.class_table.specs.declared.class.FieldHandle.{FieldHandle}
 use Rattle.code.specs.declared.instr.Operand.{Operand}
 use Rattle.code.specs.declared.instr.Operand.TheVariants as operand
 use Rattle.heap.specs.Heap.{Space, IsAddress}
-use Rattle.jni.specs.JniFunction.{JniFunction, is_allowed_pending, AllocObject, FindClass, GetFieldID, GetStaticFieldID, GetField, SetField, GetStaticField, SetStaticField, GetObjectField, SetObjectField, GetStaticObjectField, SetStaticObjectField, GetArrayLength, GetSuperclass, GetObjectClass, IsInstanceOf, IsAssignableFrom, PopLocalFrame}
+use Rattle.jni.specs.JniFunction.{JniFunction, is_allowed_pending, AllocObject, NewLocalRef, IsSameObject, FindClass, GetFieldID, GetStaticFieldID, GetField, SetField, GetStaticField, SetStaticField, GetObjectField, SetObjectField, GetStaticObjectField, SetStaticObjectField, GetArrayLength, GetSuperclass, GetObjectClass, IsInstanceOf, IsAssignableFrom, PopLocalFrame}
 use Rattle.jni.specs.Prototype.{ParameterKind, Nullable, LocalVariable, StaticVariable, ClassObject, NumberArray, ObjectArray, StringObject, ResultKind, NewLocal, prototype}
 use Rattle.source.specs.Arguments.{Actual, ReferenceActual, FieldActual, NumberActual, TextActual, reference_given, reference_in_actual, name_or_zero, field_given, field_in_actual}
 use Rattle.source.specs.CallStep.{trap_of_call, target_element}

@@ -8,7 +8,7 @@ use Rattle.classes.specs.BuiltIns.{no_class_def_found_error, no_such_field_error
 use Rattle.classes.specs.Class.{Classes}
 use Rattle.classes.specs.Fields.{FieldId}
 use Rattle.jni.specs.BuiltFunctions.{is_built_function}
-use Rattle.jni.specs.JniFunction.{JniFunction, FindClass, GetSuperclass, GetObjectClass, IsInstanceOf, IsAssignableFrom, AllocObject, GetFieldID, GetStaticFieldID, GetField, SetField, GetStaticField, SetStaticField, GetObjectField, SetObjectField, GetStaticObjectField, SetStaticObjectField, GetArrayLength, PopLocalFrame, is_allowed_pending}
+use Rattle.jni.specs.JniFunction.{JniFunction, FindClass, GetSuperclass, GetObjectClass, IsInstanceOf, IsAssignableFrom, AllocObject, NewLocalRef, IsSameObject, GetFieldID, GetStaticFieldID, GetField, SetField, GetStaticField, SetStaticField, GetObjectField, SetObjectField, GetStaticObjectField, SetStaticObjectField, GetArrayLength, PopLocalFrame, is_allowed_pending}
 use Rattle.jni.specs.Prototype.{ResultKind, NewLocal, prototype}
 use Rattle.source.specs.Arguments.{Actual, variable_given}
 use Rattle.source.specs.CallEffects.{CallResult, CallEffect, found_class_effect, found_field_effect, out_of_memory}
