@@ -4,7 +4,7 @@ ghost use Rattle.std.specs.Prelude.{◌≡◌, IfOk, IsTrue, false, map};
 ghost use Rattle.syntax.specs.Limits.{IsTree};
 ghost use Rattle.syntax.specs.Views.{unit_tree};
 ghost use Rattle.types.specs.BuiltCalls.{calls_are_built};
-ghost use Rattle.source.specs.declared.journal.Entry.TheVariants.{Step};
+ghost use Rattle.source.specs.declared.journal.Entry.TheVariants as journal;
 ghost use Rattle.replay.specs.States.{AreInRange, TakesEntry, shown_stop, IsNoted, is_possible, standing_in, standings_in};
 ghost use Rattle.replay.specs.Threads.{ending_view};
 ghost use Rattle.report.specs.ThreadStatus.{standing_view};
@@ -91,7 +91,7 @@ fn take_turn<'a>(
     requires tree { IsTree (unit_tree items.now) }
     requires calls { IsTrue (calls_are_built (unit_tree items.now)) }
     requires range { AreInRange state.old.threads.items }
-    ensures step { IfOk result (λ possible. TakesEntry (unit_tree items.now) state.old (Step k refused) possible state.new) }
+    ensures step { IfOk result (λ possible. TakesEntry (unit_tree items.now) state.old (journal.Step k refused) possible state.new) }
     ensures range { IfOk result (λ _. AreInRange state.new.threads.items) }
 {
     if state.stop.is_some() {
