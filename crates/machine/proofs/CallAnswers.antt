@@ -4,7 +4,7 @@ use Rattle.std.specs.Prelude.{◌||◌, ◌==◌, unwrap_or, FitsSigned, ◌&&�
 use Rattle.std.specs.Int.{w32, cast_unsigned}
 use Rattle.std.specs.List.{AllZip}
 use Rattle.std.specs.Option.{option_map_or}
-use Rattle.std.proofs.lemmas.Bool.Decides.{eqb_tells}
+use Rattle.std.proofs.lemmas.Bool.Decides.{eqb_tells, nat_tests}
 use Rattle.classes.specs.BuiltIns.{class_class, has_own_making, no_class_def_found_error, no_such_field_error, string_class}
 use Rattle.classes.specs.Class.{Class, Classes, class_at, class_kind, class_named, is_plain, superclass, assignable}
 use Rattle.classes.specs.Fields.{FieldId, find_field, find_static, layout, own_statics}
@@ -366,8 +366,10 @@ module _ (p : Lowered) (w : World) (store : Store) (pending : Option ℕ) (call 
   has_name (Some a) n same h = (name_within store.heap shared.heap (IsName shared.heap) a n same h).0
 
   no_null : (n : ℕ) → 0 < n → ((0 == n) ≡ false) × ((n == 0) ≡ false)
-  no_null zero low = absurd (omega (arith, low))
-  no_null (suc n) low = (refl, refl)
+  no_null n low =
+      let first : (0 == n) ≡ false = grind (arith, nat_tests, low) in
+      let second : (n == 0) ≡ false = grind (arith, nat_tests, low) in
+      (first, second)
 
   same_names : (o p : Option ℕ) (q r : Reference) → HeapAgrees store.heap shared.heap (IsName shared.heap) → ReferenceAgrees store.heap o q → ReferenceAgrees store.heap p r → (name_or_zero q == name_or_zero r) ≡ same_reference q r
   same_names o p None None same h g = refl
