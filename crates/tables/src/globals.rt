@@ -1,0 +1,130 @@
+//! Global references.
+
+ghost use Rattle.std.specs.Prelude.{◌≡◌, ◌<◌, [], Some, IsSome, is_some, length, slice_get, ok_or, IfOk, IfErr, OnOk, OnErr};
+ghost use Rattle.tables.specs.declared.fault.TableFault.TheVariants.{Dead, Memory};
+ghost use Rattle.tables.specs.References.{address_at, AreTaken, IsPut};
+ghost use Rattle.tables.specs.Globals.{with_address, without};
+
+use crate::fault::TableFault;
+use crate::slots::{Free, Slot, free_place, take_slot, taken};
+use heap::Addr;
+use std::alloc::Global as Host;
+use std::marker::Model;
+
+/// Where a global reference is, seen as the place of its slot.
+#[derive(Clone, Copy, Debug, PartialEq, Eq)]
+pub struct Global {
+    place: usize,
+}
+
+impl Model for Global {
+    ghost use Rattle.std.specs.Prelude.{ℕ};
+
+    ghost Value = { ℕ };
+
+    ghost view = { λ g. g.place };
+
+    ghost inverse = { λ n. record { place = n } };
+}
+
+/// The global references (JNI Specification, chapter 2, "Global and Local References"), seen as the addresses in their
+/// slots.
+///
+/// Each call takes constant time, and none but `make` takes host memory.
+#[derive(Drop)]
+pub struct Globals {
+    /// All of one group, 0.
+    slots: Vec<Slot>,
+    free: Free,
+}
+
+impl Model for Globals {
+    ghost use Rattle.std.specs.Prelude.{◌≡◌, ◌<◌, ℕ, List, Option, length};
+    ghost use Rattle.tables.specs.Slots.{addresses_in, AreGlobals};
+
+    ghost Value = { List (Option ℕ) };
+
+    ghost view = { λ g. addresses_in g.slots.items };
+
+    ghost invariant = { λ g. AreGlobals g.slots.items g.free };
+}
+
+impl Globals {
+    /// No slot.
+    pub fn new(alloc: Host) -> Globals
+        ensures { result ≡ [] }
+    {
+        Globals {
+            slots: Vec::new(alloc),
+            free: Free { first: 0, count: 0 },
+        }
+    }
+
+    /// Makes a reference (JNI Specification, chapter 4, `NewGlobalRef`). Its place had no reference.
+    ///
+    /// Memory is asked of the host only where no slot is free. There is no other limit.
+    pub fn make(&mut self, addr: Addr) -> Result<Global, TableFault>
+        ensures made { IfOk result (λ key. IsPut 0 self.old key addr self.new) }
+        ensures memory { IfErr result (λ e. (e ≡ Memory) × AreTaken self.old × (self.new ≡ self.old)) }
+    {
+        if self.free.count == 0 {
+            let place = self.slots.len();
+            self.slots.push(taken(0, addr))?;
+            return Ok(Global { place });
+        }
+        let place = self.free.first;
+        self.free = take_slot(&mut self.slots, self.free, 0, addr);
+        Ok(Global { place })
+    }
+
+    /// Ends a reference (JNI Specification, chapter 4, `DeleteGlobalRef`).
+    ///
+    /// `Dead` exactly where the key's slot is free, or there is none.
+    pub fn delete(&mut self, key: Global) -> Result<(), TableFault>
+        ensures ok { OnOk result ((is_some (address_at self.old key) ≡ true) × (self.new ≡ without self.old key)) }
+        ensures dead { OnErr result ((address_at self.old key ≡ None) × (self.new ≡ self.old)) }
+        ensures err { IfErr result (λ e. e ≡ Dead) }
+    {
+        if key.place >= self.slots.len() || self.slots[key.place].address.is_none() {
+            return Err(TableFault::Dead);
+        }
+        self.free = free_place(&mut self.slots, self.free, 0, key.place);
+        Ok(())
+    }
+
+    /// The address of a reference.
+    ///
+    /// `Dead` exactly where the key's slot is free, or there is none.
+    pub fn get(&self, key: Global) -> Result<Addr, TableFault>
+        ensures { result ≡ ok_or (address_at self.now key) Dead }
+    {
+        if key.place < self.slots.len() {
+            self.slots[key.place].address.ok_or(TableFault::Dead)
+        } else {
+            Err(TableFault::Dead)
+        }
+    }
+
+    /// The number of slots.
+    pub fn len(&self) -> usize
+        ensures { result ≡ length self.now }
+    {
+        self.slots.len()
+    }
+
+    /// The address in a slot, by its place.
+    pub fn root(&self, place: usize) -> Option<Addr>
+        requires { place < length self.now }
+        ensures { slice_get self.now place ≡ Some result }
+    {
+        self.slots[place].address
+    }
+
+    /// Changes the address of a reference, by its place: its object was moved.
+    pub fn set_root(&mut self, place: usize, address: Addr)
+        requires { IsSome (address_at self.old place) }
+        ensures { self.new ≡ with_address self.old place address }
+    {
+        self.slots[place].address = Some(address);
+    }
+}
