@@ -1,12 +1,12 @@
 //! Global references.
 
-ghost use Rattle.std.specs.Prelude.{◌≡◌, ◌<◌, [], Some, IsSome, is_some, length, slice_get, ok_or, IfOk, IfErr, OnOk, OnErr};
+ghost use Rattle.std.specs.Prelude.{◌≡◌, ◌<◌, [], Some, IsSome, length, slice_get, ok_or, IfOk, IfErr, OnOk, OnErr};
 ghost use Rattle.tables.specs.declared.fault.TableFault.TheVariants.{Dead, Memory};
 ghost use Rattle.tables.specs.References.{address_at, AreTaken, IsPut};
 ghost use Rattle.tables.specs.Globals.{with_address, without};
 
 use crate::fault::TableFault;
-use crate::slots::{Free, Slot, free_place, take_slot, taken};
+use crate::slots::{Free, Slot};
 use heap::Addr;
 use std::alloc::Global as Host;
 use std::marker::Model;
@@ -65,15 +65,26 @@ impl Globals {
     /// Memory is asked of the host only where no slot is free. There is no other limit.
     pub fn make(&mut self, addr: Addr) -> Result<Global, TableFault>
         ensures made { IfOk result (λ key. IsPut 0 self.old key addr self.new) }
-        ensures memory { IfErr result (λ e. (e ≡ Memory) × AreTaken self.old × (self.new ≡ self.old)) }
+        ensures memory { IfErr result (λ e. e ≡ Memory) }
+        ensures taken { OnErr result (AreTaken self.old) }
+        ensures err { OnErr result (self.new ≡ self.old) }
     {
+        let slot = Slot {
+            address: Some(addr),
+            group: 0,
+            next: 0,
+        };
         if self.free.count == 0 {
             let place = self.slots.len();
-            self.slots.push(taken(0, addr))?;
+            self.slots.push(slot)?;
             return Ok(Global { place });
         }
         let place = self.free.first;
-        self.free = take_slot(&mut self.slots, self.free, 0, addr);
+        self.free = Free {
+            first: self.slots[place].next,
+            count: self.free.count - 1,
+        };
+        self.slots[place] = slot;
         Ok(Global { place })
     }
 
@@ -81,14 +92,23 @@ impl Globals {
     ///
     /// `Dead` exactly where the key's slot is free, or there is none.
     pub fn delete(&mut self, key: Global) -> Result<(), TableFault>
-        ensures ok { OnOk result ((is_some (address_at self.old key) ≡ true) × (self.new ≡ without self.old key)) }
-        ensures dead { OnErr result ((address_at self.old key ≡ None) × (self.new ≡ self.old)) }
-        ensures err { IfErr result (λ e. e ≡ Dead) }
+        ensures live { OnOk result (IsSome (address_at self.old key)) }
+        ensures ok { OnOk result (self.new ≡ without self.old key) }
+        ensures dead { IfErr result (λ e. (e ≡ Dead) × (address_at self.old key ≡ None)) }
+        ensures err { OnErr result (self.new ≡ self.old) }
     {
         if key.place >= self.slots.len() || self.slots[key.place].address.is_none() {
             return Err(TableFault::Dead);
         }
-        self.free = free_place(&mut self.slots, self.free, 0, key.place);
+        self.slots[key.place] = Slot {
+            address: None,
+            group: 0,
+            next: self.free.first,
+        };
+        self.free = Free {
+            first: key.place,
+            count: self.free.count + 1,
+        };
         Ok(())
     }
 

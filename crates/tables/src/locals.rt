@@ -1,12 +1,12 @@
 //! Local references.
 
-ghost use Rattle.std.specs.Prelude.{◌≡◌, ◌<◌, ◌≤◌, [], Ok, Err, Some, IsSome, is_some, length, slice_get, ok_or, IfOk, IfErr, OnOk, OnErr};
+ghost use Rattle.std.specs.Prelude.{◌≡◌, ◌≢◌, ◌<◌, ◌≤◌, true, false, [], Some, IsSome, length, slice_get, ok_or, IfOk, IfErr, OnOk, OnErr};
 ghost use Rattle.tables.specs.declared.fault.TableFault.TheVariants.{Full, Dead, Memory};
 ghost use Rattle.tables.specs.References.{address_at, AreTaken};
 ghost use Rattle.tables.specs.Locals.{IsMade, capacities, current_slots, ensured, has_room, live_in, popped, pushed, with_address, without};
 
 use crate::fault::TableFault;
-use crate::slots::{Free, Slot, free_place, take_slot, taken};
+use crate::slots::{Free, Slot};
 use heap::Addr;
 use std::alloc::Global;
 use std::marker::Model;
@@ -181,29 +181,48 @@ impl Locals {
         }
         let current = self.levels.len() - 1;
         let free = self.levels[current].free;
+        let slot = Slot {
+            address: Some(addr),
+            group: current,
+            next: 0,
+        };
         if free.count == 0 {
             let place = self.slots.len();
-            self.slots.push(taken(current, addr))?;
+            self.slots.push(slot)?;
             return Ok(Local { place });
         }
-        self.levels[current].free = take_slot(&mut self.slots, free, current, addr);
-        Ok(Local { place: free.first })
+        let place = free.first;
+        self.levels[current].free = Free {
+            first: self.slots[place].next,
+            count: free.count - 1,
+        };
+        self.slots[place] = slot;
+        Ok(Local { place })
     }
 
     /// Ends a reference, of any frame (JNI Specification, chapter 4, `DeleteLocalRef`).
     ///
     /// `Dead` exactly where the key's slot is free, or there is none.
     pub fn delete(&mut self, key: Local) -> Result<(), TableFault>
-        ensures ok { OnOk result ((is_some (address_at self.old.slots key) ≡ true) × (self.new ≡ without self.old key)) }
-        ensures dead { OnErr result ((address_at self.old.slots key ≡ None) × (self.new ≡ self.old)) }
-        ensures err { IfErr result (λ e. e ≡ Dead) }
+        ensures live { OnOk result (IsSome (address_at self.old.slots key)) }
+        ensures ok { OnOk result (self.new ≡ without self.old key) }
+        ensures dead { IfErr result (λ e. (e ≡ Dead) × (address_at self.old.slots key ≡ None)) }
+        ensures err { OnErr result (self.new ≡ self.old) }
     {
         if key.place >= self.slots.len() || self.slots[key.place].address.is_none() {
             return Err(TableFault::Dead);
         }
         let group = self.slots[key.place].group;
         let free = self.levels[group].free;
-        self.levels[group].free = free_place(&mut self.slots, free, group, key.place);
+        self.slots[key.place] = Slot {
+            address: None,
+            group,
+            next: free.first,
+        };
+        self.levels[group].free = Free {
+            first: key.place,
+            count: free.count + 1,
+        };
         Ok(())
     }
 
