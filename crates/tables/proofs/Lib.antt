@@ -1,3 +1,5 @@
 pub mod Links
 pub mod References
 pub mod GlobalSlots
+pub mod Levels
+pub mod TableViews
