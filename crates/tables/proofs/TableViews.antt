@@ -1,16 +1,17 @@
 -- What is seen of the levels and the slots, after a change.
-use Rattle.std.proofs.Common.{◌≡◌, ℕ, ◌+◌, ◌-◌, ◌<◌, ◌≤◌, List, [], ◌∷◌, ◌++◌, length, map, get_or, set, take, drop, max, Option, Some, None, refl, sym, ap, ◌∙◌, arith}
+use Rattle.std.proofs.Common.{◌≡◌, ℕ, ◌+◌, ◌-◌, ◌<◌, ◌≤◌, List, [], ◌∷◌, ◌++◌, length, map, get_or, set, take, drop, max, Option, Some, None, Bool, true, false, refl, sym, ap, ◌∙◌, subst, arith}
 use Rattle.std.specs.Prelude.{sum_by}
 use Rattle.std.proofs.Math.ListN.{get_or-map}
 use Rattle.std.proofs.Math.Seq.{map-set_same}
-use Rattle.std.proofs.lemmas.List.{map-set, map-append, take-map, length-map}
+use Rattle.std.proofs.lemmas.Bool.{ltb-true}
+use Rattle.std.proofs.lemmas.List.{get_or_read, map-set, map-append, take-map, length-map}
 use Rattle.std.proofs.lemmas.List.Sums.{sum_by-cons}
 use Rattle.tables.specs.declared.locals.Level.{Level}
 use Rattle.tables.specs.declared.slots.Slot.{Slot}
 use Rattle.tables.specs.References.{references_in}
-use Rattle.tables.specs.Locals.{Frame, LocalTable, current_frame, current_slots, live_in, pushed, popped, ensured, capacities}
+use Rattle.tables.specs.Locals.{Frame, LocalTable, current_frame, current_slots, live_in, has_room, pushed, popped, ensured, capacities}
 use Rattle.tables.specs.Slots.{addresses_in}
-use Rattle.tables.specs.Levels.{level_at, frame_of, table_in, AreLevels}
+use Rattle.tables.specs.Levels.{level_at, frame_of, table_in, IsLevel, AreLevels}
 use Rattle.tables.proofs.Levels.{no_level, live_count, capacity_of}
 
 abbrev table : List Frame → List (Option ℕ) → LocalTable
@@ -75,6 +76,41 @@ seen_ensured ls ss k capacity more l last read e =
       ∙ ap (λ n. set (map frame_of ls) (length (map frame_of ls) - 1) (record { capacity = n; first = l.first })) e
       ∙ ap (λ (f : Frame). set (map frame_of ls) (length (map frame_of ls) - 1) (record { capacity = max f.capacity (live_in (table_in ls ss) + more); first = f.first })) (sym current))
     refl
+
+-- what is known of the current level, which is the last of `n`
+pub record Top (ls : List Level) (ss : List Slot) (n : ℕ) (l : Level) : Type 0 where
+  pub last : length ls ≡ n - 1 + 1
+  pub read : l ≡ level_at ls (n - 1)
+  pub current : current_frame (table_in ls ss) ≡ frame_of l
+  pub live : l.free.count + live_in (table_in ls ss) ≡ length ss - l.first
+  pub within : l.first ≤ length ss
+
+pub some_level : (ls : List Level) (ss : List Slot) (t : LocalTable) → table_in ls ss ≡ t → 0 < length t.frames → 0 < length ls
+some_level ls ss t e some =
+    let count = length-map ls frame_of in
+    let same : length (map frame_of ls) ≡ length t.frames = ap (λ (u : LocalTable). length u.frames) e in
+    omega arith
+
+pub top : (ls : List Level) (ss : List Slot) (total n : ℕ) (l : Level) → AreLevels ls ss total → 0 < length ls → n ≡ length ls → l ≡ get_or ls (n - 1) l → Top ls ss n l
+top ls ss total n l h some count value =
+    let last : length ls ≡ n - 1 + 1 = omega arith in
+    let read = get_or_read ls (n - 1) l (omega arith) value no_level in
+    let here : IsLevel ss (n - 1) l = subst (λ (m : Level). IsLevel ss (n - 1) m) (sym read) (h.each (n - 1) (omega arith)) in
+    record {
+      last = last;
+      read = read;
+      current = seen_current ls ss (n - 1) l last read;
+      live = seen_live ls ss total (n - 1) l h last read;
+      within = here.within;
+    }
+
+some_frame : (fs : List Frame) (xs : List (Option ℕ)) → has_room (table fs xs) ≡ true → 0 < length fs
+some_frame [] xs room = absurd (omega (arith, ltb-true (live_in (table [] xs)) 0 room))
+some_frame (f ∷ fs) xs room = omega arith
+
+-- where there is room there is a level
+pub level_of_room : (ls : List Level) (ss : List Slot) (t : LocalTable) → table_in ls ss ≡ t → has_room t ≡ true → 0 < length ls
+level_of_room ls ss t e room = some_level ls ss t e (some_frame t.frames t.slots room)
 
 -- ---- the capacities together
 
