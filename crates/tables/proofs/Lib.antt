@@ -3,3 +3,4 @@ pub mod References
 pub mod GlobalSlots
 pub mod Levels
 pub mod TableViews
+pub mod Makes
