@@ -147,7 +147,7 @@ sum_of_last ls k last =
     ap (sum_by capacity_of) (e ∙ ap (λ (xs : List Level). level_at ls k ∷ xs) none) ∙ omega arith
 
 -- a lower level begins no higher
-lower_first : (ss : List Slot) (j k : ℕ) (low high : Level) → IsLevel ss j low → IsLevel ss k high → j < k → low.first ≤ high.first
+pub lower_first : (ss : List Slot) (j k : ℕ) (low high : Level) → IsLevel ss j low → IsLevel ss k high → j < k → low.first ≤ high.first
 lower_first ss j k low high h g less =
     let inside : low.first ≤ length ss = h.within in
     let back : high.first < low.first → ⊥ = λ b.

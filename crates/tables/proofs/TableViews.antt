@@ -1,18 +1,19 @@
 -- What is seen of the levels and the slots, after a change.
-use Rattle.std.proofs.Common.{◌≡◌, ℕ, ◌+◌, ◌-◌, ◌<◌, ◌≤◌, List, [], ◌∷◌, ◌++◌, length, map, get_or, set, take, drop, max, Option, Some, None, Bool, true, false, refl, sym, ap, ◌∙◌, subst, arith}
+use Rattle.std.proofs.Common.{◌≡◌, ℕ, ◌+◌, ◌-◌, ◌<◌, ◌≤◌, List, [], ◌∷◌, ◌++◌, length, map, get_or, set, take, drop, max, Option, Some, None, Bool, true, false, refl, sym, ap, ◌∙◌, subst, ⊎_elim, arith}
 use Rattle.std.specs.Prelude.{sum_by}
+use Rattle.std.proofs.Math.Nat.{lt_of_not-le}
 use Rattle.std.proofs.Math.ListN.{get_or-map}
 use Rattle.std.proofs.Math.Seq.{map-set_same}
-use Rattle.std.proofs.lemmas.Bool.{ltb-true}
-use Rattle.std.proofs.lemmas.List.{get_or_read, map-set, map-append, take-map, length-map}
+use Rattle.std.proofs.lemmas.Bool.{ltb-true, cases_lt}
+use Rattle.std.proofs.lemmas.List.{get_or_read, get_or_past, map-set, map-append, take-map, length-map}
 use Rattle.std.proofs.lemmas.List.Sums.{sum_by-cons}
 use Rattle.tables.specs.declared.locals.Level.{Level}
 use Rattle.tables.specs.declared.slots.Slot.{Slot}
 use Rattle.tables.specs.References.{references_in}
-use Rattle.tables.specs.Locals.{Frame, LocalTable, current_frame, current_slots, live_in, has_room, pushed, popped, ensured, capacities}
-use Rattle.tables.specs.Slots.{addresses_in}
+use Rattle.tables.specs.Locals.{Frame, LocalTable, frame_at, AreStacked, current_frame, current_slots, live_in, has_room, pushed, popped, ensured, capacities}
+use Rattle.tables.specs.Slots.{slot_at, addresses_in}
 use Rattle.tables.specs.Levels.{level_at, frame_of, table_in, IsLevel, AreLevels}
-use Rattle.tables.proofs.Levels.{no_level, live_count, capacity_of}
+use Rattle.tables.proofs.Levels.{no_level, live_count, capacity_of, lower_first}
 
 abbrev table : List Frame → List (Option ℕ) → LocalTable
 table frames slots = record { frames = frames; slots = slots }
@@ -112,12 +113,49 @@ some_frame (f ∷ fs) xs room = omega arith
 pub level_of_room : (ls : List Level) (ss : List Slot) (t : LocalTable) → table_in ls ss ≡ t → has_room t ≡ true → 0 < length ls
 level_of_room ls ss t e room = some_level ls ss t e (some_frame t.frames t.slots room)
 
--- ---- the capacities together
+-- ---- how the frames lie
 
-pub seen_capacities : (ls : List Level) (ss : List Slot) → capacities (table_in ls ss) ≡ sum_by capacity_of ls
-seen_capacities [] ss = refl
-seen_capacities (l ∷ ls) ss =
-    let rest = seen_capacities ls ss in
-    let both = sum_by-cons capacity_of l ls in
-    let both' = sum_by-cons (λ (f : Frame). f.capacity) (frame_of l) (map frame_of ls) in
+seen_frame : (ls : List Level) (ss : List Slot) (k : ℕ) → frame_at (table_in ls ss) k ≡ frame_of (level_at ls k)
+seen_frame ls ss k = get_or-map frame_of ls k no_level
+
+begins_within : (ls : List Level) (ss : List Slot) (total k : ℕ) → AreLevels ls ss total → (level_at ls k).first ≤ length ss
+begins_within ls ss total k h =
+    ⊎_elim
+    (λ (b : k < length ls). (h.each k b).within)
+    (λ (b : length ls ≤ k). omega (arith, ap (λ (l : Level). l.first) (get_or_past ls k no_level b)))
+    (cases_lt k (length ls))
+
+lowest_first : (ls : List Level) (ss : List Slot) (total : ℕ) → AreLevels ls ss total → (level_at ls 0).first ≡ 0
+lowest_first [] ss total h = refl
+lowest_first (l ∷ ls) ss total h =
+    let here : IsLevel ss 0 l = h.each 0 (omega arith) in
+    let not_above : 1 ≤ l.first → ⊥ = λ b.
+      let under : (slot_at ss 0).group < 0 = here.below 0 b in
+      omega arith in
+    let low : l.first < 1 = lt_of_not-le {n = 1} {m = l.first} not_above in
     omega arith
+
+no_slots : (ls : List Level) (ss : List Slot) (total : ℕ) → AreLevels ls ss total → length ls ≡ 0 → length ss ≡ 0
+no_slots ls [] total h none = refl
+no_slots ls (s ∷ ss) total h none =
+    let group : (slot_at (s ∷ ss) 0).group < length ls = h.grouped 0 (omega arith) in
+    absurd (omega arith)
+
+pub seen_stacked : (ls : List Level) (ss : List Slot) (total : ℕ) → AreLevels ls ss total → AreStacked (table_in ls ss)
+seen_stacked ls ss total h =
+    let count = length-map ls frame_of in
+    let count' = length-map ss address_of in
+    record {
+      lowest = ap (λ (f : Frame). f.first) (seen_frame ls ss 0) ∙ lowest_first ls ss total h;
+      rising = λ k b.
+        let low = ap (λ (f : Frame). f.first) (seen_frame ls ss k) in
+        let high = ap (λ (f : Frame). f.first) (seen_frame ls ss (k + 1)) in
+        let order = lower_first ss k (k + 1) (level_at ls k) (level_at ls (k + 1)) (h.each k (omega arith)) (h.each (k + 1) (omega arith)) (omega arith) in
+        omega arith;
+      within = λ k.
+        let first = ap (λ (f : Frame). f.first) (seen_frame ls ss k) in
+        omega (arith, begins_within ls ss total k h);
+      empty = λ none.
+        let no = no_slots ls ss total h (omega arith) in
+        omega arith;
+    }

@@ -1,5 +1,5 @@
 -- Local references in frames.
-use Rattle.std.specs.Prelude.{◌≡◌, ℕ, ◌+◌, ◌-◌, max, List, [], ◌∷◌, ◌++◌, length, take, drop, sum_by, slice_index_or, slice_set, Option, Some, None, Bool, nat_lt}
+use Rattle.std.specs.Prelude.{◌≡◌, ℕ, ◌+◌, ◌-◌, ◌<◌, ◌≤◌, max, List, [], ◌∷◌, ◌++◌, length, take, drop, sum_by, slice_index_or, slice_set, Option, Some, None, Bool, nat_lt}
 use Rattle.tables.specs.References.{references_in, IsPut}
 
 -- a frame: how many references it may have, and the place of its first slot
@@ -12,9 +12,20 @@ pub record LocalTable : Type 0 where
   pub frames : List Frame
   pub slots : List (Option ℕ)
 
--- the current frame, which is the highest; where there is none, a frame of no capacity
+-- the frame of a number, counted from 0; where there is none, one of no capacity
+abbrev pub frame_at : LocalTable → ℕ → Frame
+frame_at t k = slice_index_or t.frames k (record { capacity = 0; first = 0 })
+
+-- each slot is of a frame, and the frames lie one above another
+pub record AreStacked (t : LocalTable) : Type 0 where
+  pub lowest : (frame_at t 0).first ≡ 0
+  pub rising : (k : ℕ) → k + 1 < length t.frames → (frame_at t k).first ≤ (frame_at t (k + 1)).first
+  pub within : (k : ℕ) → (frame_at t k).first ≤ length t.slots
+  pub empty : length t.frames ≡ 0 → length t.slots ≡ 0
+
+-- the current frame, which is the highest
 abbrev pub current_frame : LocalTable → Frame
-current_frame t = slice_index_or t.frames (length t.frames - 1) (record { capacity = 0; first = 0 })
+current_frame t = frame_at t (length t.frames - 1)
 
 -- its slots
 abbrev pub current_slots : LocalTable → List (Option ℕ)

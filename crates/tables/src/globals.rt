@@ -1,6 +1,6 @@
 //! Global references.
 
-ghost use Rattle.std.specs.Prelude.{◌≡◌, ◌<◌, [], Some, IsSome, length, slice_get, ok_or, IfOk, IfErr, OnOk, OnErr};
+ghost use Rattle.std.specs.Prelude.{◌≡◌, ◌<◌, [], None, Some, IsSome, length, slice_get, ok_or, IfOk, IfErr, OnOk, OnErr};
 ghost use Rattle.tables.specs.declared.fault.TableFault.TheVariants.{Dead, Memory};
 ghost use Rattle.tables.specs.References.{address_at, AreTaken, IsPut};
 ghost use Rattle.tables.specs.Globals.{with_address, without};
@@ -30,7 +30,7 @@ impl Model for Global {
 /// The global references (JNI Specification, chapter 2, "Global and Local References"), seen as the addresses in their
 /// slots.
 ///
-/// Each call takes constant time, and none but `make` takes host memory.
+/// None but `make` takes host memory. Each call takes constant time, but for a vector's growth in `make`.
 #[derive(Drop)]
 pub struct Globals {
     /// All of one group, 0.

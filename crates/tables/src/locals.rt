@@ -1,9 +1,9 @@
 //! Local references.
 
-ghost use Rattle.std.specs.Prelude.{◌≡◌, ◌≢◌, ◌<◌, ◌≤◌, true, false, [], Some, IsSome, length, slice_get, ok_or, IfOk, IfErr, OnOk, OnErr};
+ghost use Rattle.std.specs.Prelude.{◌≡◌, ◌<◌, ◌≤◌, true, [], None, Some, IsSome, if◌then◌else◌, nat_lt, length, slice_get, ok_or, IfOk, IfErr, OnOk, OnErr};
 ghost use Rattle.tables.specs.declared.fault.TableFault.TheVariants.{Full, Dead, Memory};
 ghost use Rattle.tables.specs.References.{address_at, AreTaken};
-ghost use Rattle.tables.specs.Locals.{IsMade, capacities, current_slots, ensured, has_room, live_in, popped, pushed, with_address, without};
+ghost use Rattle.tables.specs.Locals.{AreStacked, IsMade, capacities, current_slots, ensured, has_room, live_in, popped, pushed, with_address, without};
 
 use crate::fault::TableFault;
 use crate::slots::{Free, Slot};
@@ -42,8 +42,8 @@ pub struct Level {
 /// The local references of one thread, in frames (JNI Specification, chapter 2, "Global and Local References" and
 /// "Implementing Local References").
 ///
-/// No call but `push` and `make` takes host memory, and no call but `pop` takes more than constant time; `pop` takes
-/// time for the slots of one frame.
+/// None but `push` and `make` takes host memory. Each call takes constant time, but for `pop`, which takes time for the
+/// slots of one frame, and for a vector's growth in `push` and `make`.
 #[derive(Drop)]
 pub struct Locals {
     levels: Vec<Level>,
@@ -78,7 +78,9 @@ impl Locals {
 
     /// The number of frames.
     pub fn frames(&self) -> usize
-        ensures { result ≡ length self.now.frames }
+        ensures count { result ≡ length self.now.frames }
+        ensures stacked { AreStacked self.now }
+        ensures limit { capacities self.now ≤ MOST_LOCALS }
     {
         self.levels.len()
     }
@@ -90,8 +92,7 @@ impl Locals {
     pub fn push(&mut self, capacity: u32) -> Result<(), TableFault>
         ensures ok { OnOk result (self.new ≡ pushed self.old capacity) }
         ensures within { OnOk result (capacities (pushed self.old capacity) ≤ MOST_LOCALS) }
-        ensures full { IfErr result (λ e. e ≡ Full → MOST_LOCALS < capacities (pushed self.old capacity)) }
-        ensures memory { IfErr result (λ e. e ≢ Full → (e ≡ Memory) × (capacities (pushed self.old capacity) ≤ MOST_LOCALS)) }
+        ensures fault { IfErr result (λ e. e ≡ (if nat_lt MOST_LOCALS (capacities (pushed self.old capacity)) then Full else Memory)) }
         ensures err { OnErr result (self.new ≡ self.old) }
     {
         if capacity > MOST_LOCALS - self.total {
@@ -172,8 +173,8 @@ impl Locals {
     pub fn make(&mut self, addr: Addr) -> Result<Local, TableFault>
         ensures made { IfOk result (λ key. IsMade self.old key addr self.new) }
         ensures room { OnOk result (has_room self.old ≡ true) }
-        ensures full { IfErr result (λ e. e ≡ Full → has_room self.old ≡ false) }
-        ensures memory { IfErr result (λ e. e ≢ Full → (e ≡ Memory) × (has_room self.old ≡ true) × AreTaken (current_slots self.old)) }
+        ensures fault { IfErr result (λ e. e ≡ (if has_room self.old then Memory else Full)) }
+        ensures taken { IfErr result (λ e. e ≡ Memory → AreTaken (current_slots self.old)) }
         ensures err { OnErr result (self.new ≡ self.old) }
     {
         if !self.has_room() {

@@ -13,15 +13,15 @@ use Rattle.tables.proofs.TableViews.{level_of_room, top}
 use Rattle.tables.proofs.Makes.{current_taken, made_end, first_of_level, made_free}
 use Rattle.tables.proofs.locals.Locals.make.Goals as goal
 
-pub returns-in_err-push-clause-memory : goal.returns-in_err-push-clause-memory
-returns-in_err-push-clause-memory c =
+pub returns-in_err-push-clause-taken : goal.returns-in_err-push-clause-taken
+returns-in_err-push-clause-taken c =
     let room : has_room c.args.self.now ≡ true = search rules in
     let some = level_of_room c.self.inside.levels.items c.self.inside.slots.items c.args.self.now c.self.view_is room in
     let here = top c.self.inside.levels.items c.self.inside.slots.items c.self.inside.total c.len-current.result c.index.result.now c.self.invariant some (c.len-current.ensures ∙ c.self.inside.levels.ok.0) c.index.ensures in
     let taken = current_taken c.self.inside.levels.items c.self.inside.slots.items c.self.inside.total c.len-current.result c.index.result.now c.self.invariant here c.if-free-eq0.true in
     let taken' : AreTaken (current_slots c.args.self.now) = subst (λ (t : LocalTable). AreTaken (current_slots t)) c.self.view_is taken in
     let p = err_from_is_err_and c.from_residual.result c.from_residual.ensures.1 in
-    rw p.1 (λ not_full. (p.2, room, taken'))
+    rw p.1 (λ memory. taken')
 
 pub invariant_of-self-then-free-eq0 : goal.invariant_of-self-then-free-eq0
 invariant_of-self-then-free-eq0 c =
