@@ -1,12 +1,12 @@
 -- The slots of global references, after a change.
-use Rattle.std.proofs.Common.{◌≡◌, ℕ, zero, suc, ◌+◌, ◌-◌, ◌<◌, ◌≤◌, List, [], ◌∷◌, ◌++◌, length, map, get_or, set, take, drop, Option, Some, None, refl, sym, ap, ◌∙◌, subst, arith, ⊎_elim, length-append}
-use Rattle.std.specs.Prelude.{sum_by, IsSome}
+use Rattle.std.proofs.Common.{◌≡◌, ℕ, ◌<◌, List, [], ◌∷◌, ◌++◌, length, set, Some, refl, sym, ap, ◌∙◌, subst, arith, ⊎_elim, length-append}
+use Rattle.std.specs.Prelude.{sum_by}
 use Rattle.std.proofs.Math.Nat.{eq-or-lt_of_le}
 use Rattle.std.proofs.Math.Seq.{get_or-append_seam}
 use Rattle.std.proofs.lemmas.List.{get_or_append_left, length-map, length-set}
 use Rattle.tables.specs.declared.slots.Slot.{Slot}
 use Rattle.tables.specs.declared.slots.Free.{Free}
-use Rattle.tables.specs.References.{address_at, references_in, AreTaken}
+use Rattle.tables.specs.References.{AreTaken}
 use Rattle.tables.specs.Slots.{taken_slot, free_slot, slot_at, addresses_in, rest_of, with_free, one_if_free, AreFree, AreGlobals}
 use Rattle.tables.proofs.Links.{no_slot, free_set, free_added, first_free, free_taken, free_freed, free_and_held}
 use Rattle.tables.proofs.References.{Held, group_set}

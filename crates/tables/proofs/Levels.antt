@@ -1,5 +1,5 @@
 -- The levels of local references, after a change.
-use Rattle.std.proofs.Common.{◌≡◌, ℕ, zero, suc, ◌+◌, ◌-◌, ◌<◌, ◌≤◌, Bool, true, false, eqb, List, [], ◌∷◌, ◌++◌, length, map, get_or, set, take, drop, Option, Some, None, refl, sym, ap, ◌∙◌, subst, arith, ⊎_elim, length-append, length-drop}
+use Rattle.std.proofs.Common.{◌≡◌, ℕ, suc, ◌+◌, ◌-◌, ◌<◌, ◌≤◌, true, false, eqb, List, [], ◌∷◌, ◌++◌, length, set, take, drop, Option, Some, refl, sym, ap, ◌∙◌, subst, arith, ⊎_elim, length-append, length-drop}
 use Rattle.std.specs.Prelude.{sum_by}
 use Rattle.std.proofs.Math.Nat.{eq-or-lt_of_le, lt_of_not-le}
 use Rattle.std.proofs.Math.Seq.{get_or-append_seam, drop-cons}
@@ -10,11 +10,10 @@ use Rattle.std.proofs.lemmas.Bool.Decides.{eqb_tells}
 use Rattle.tables.specs.declared.locals.TheConstants.{MOST_LOCALS}
 use Rattle.tables.specs.declared.locals.Level.{Level}
 use Rattle.tables.specs.declared.slots.Slot.{Slot}
-use Rattle.tables.specs.declared.slots.Free.{Free}
 use Rattle.tables.specs.References.{references_in, AreTaken}
 use Rattle.tables.specs.Slots.{taken_slot, free_slot, slot_at, addresses_in, rest_of, with_free, one_if_free, AreFree}
 use Rattle.tables.specs.Levels.{level_at, IsLevel, AreLevels}
-use Rattle.tables.proofs.Links.{no_slot, counts_other, counts_taken, sum_zero, free_set, free_added, free_cut, free_none, first_free, free_taken, free_freed, free_and_held}
+use Rattle.tables.proofs.Links.{no_slot, counts_other, sum_zero, free_set, free_added, free_cut, free_none, first_free, free_taken, free_freed, free_and_held}
 use Rattle.tables.proofs.References.{Held, group_set}
 use Rattle.tables.proofs.GlobalSlots.{group_added}
 

@@ -1,13 +1,13 @@
 -- A local reference is made.
-use Rattle.std.proofs.Common.{◌≡◌, ℕ, ◌+◌, ◌-◌, ◌<◌, ◌≤◌, List, [], ◌∷◌, ◌++◌, length, map, set, take, drop, Option, Some, None, refl, sym, ap, ◌∙◌, subst, arith}
+use Rattle.std.proofs.Common.{◌≡◌, ℕ, ◌+◌, ◌-◌, ◌<◌, ◌≤◌, List, [], ◌∷◌, ◌++◌, length, set, drop, refl, sym, ap, subst, arith}
 use Rattle.std.proofs.Math.Nat.{lt_of_not-le}
 use Rattle.std.proofs.Math.Seq.{map-set_same}
 use Rattle.tables.specs.declared.locals.Level.{Level}
 use Rattle.tables.specs.declared.slots.Slot.{Slot}
-use Rattle.tables.specs.References.{AreTaken, IsPut}
-use Rattle.tables.specs.Locals.{Frame, LocalTable, current_frame, current_slots, IsMade}
+use Rattle.tables.specs.References.{AreTaken}
+use Rattle.tables.specs.Locals.{Frame, current_frame, current_slots, IsMade}
 use Rattle.tables.specs.Slots.{taken_slot, slot_at, addresses_in, rest_of, IsFreeAt}
-use Rattle.tables.specs.Levels.{level_at, frame_of, table_in, IsLevel, AreLevels}
+use Rattle.tables.specs.Levels.{frame_of, table_in, IsLevel, AreLevels}
 use Rattle.tables.proofs.Links.{first_free}
 use Rattle.tables.proofs.References.{put_free, put_end}
 use Rattle.tables.proofs.Levels.{no_level, levels_full}

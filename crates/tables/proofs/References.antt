@@ -1,15 +1,15 @@
 -- The references in slots, after a change of slots.
-use Rattle.std.proofs.Common.{◌≡◌, ℕ, zero, suc, ◌+◌, ◌-◌, ◌<◌, ◌≤◌, Bool, true, false, List, [], ◌∷◌, ◌++◌, length, map, get_or, set, take, drop, Option, Some, None, refl, sym, ap, ◌∙◌, subst, arith, ⊎_elim, inl, inr, eqb}
-use Rattle.std.specs.Prelude.{sum_by, IsSome, slice_get}
+use Rattle.std.proofs.Common.{◌≡◌, ℕ, zero, suc, ◌<◌, ◌≤◌, true, false, List, [], ◌∷◌, ◌++◌, length, set, drop, Option, Some, None, refl, sym, ap, ◌∙◌, subst, arith, ⊎_elim, inl, inr, eqb}
+use Rattle.std.specs.Prelude.{IsSome}
 use Rattle.std.specs.Option.{option_map, option_map_or}
 use Rattle.std.proofs.lemmas.Option.{slice_get-map, slice_get-get_or}
-use Rattle.std.proofs.lemmas.List.{get_or-set_same, get_or-set_other, get_or-map, map-set, map-append, length-map, length-set}
+use Rattle.std.proofs.lemmas.List.{get_or-set_same, get_or-set_other, get_or-map, map-set, map-append, length-map}
 use Rattle.std.proofs.lemmas.Bool.Decides.{eqb_tells}
 use Rattle.tables.specs.declared.slots.Slot.{Slot}
 use Rattle.tables.specs.declared.slots.Free.{Free}
-use Rattle.tables.specs.References.{address_at, references_in, AreTaken, IsPut}
-use Rattle.tables.specs.Slots.{taken_slot, free_slot, slot_at, addresses_in, rest_of, with_free, one_if_free, AreFree, IsFreeAt, AreGlobals}
-use Rattle.tables.proofs.Links.{no_slot, free_set, free_added, first_free, free_taken, free_freed, free_and_held, counts_taken}
+use Rattle.tables.specs.References.{address_at, AreTaken, IsPut}
+use Rattle.tables.specs.Slots.{taken_slot, slot_at, addresses_in, one_if_free, AreFree}
+use Rattle.tables.proofs.Links.{no_slot, first_free}
 
 -- ---- a reference
 

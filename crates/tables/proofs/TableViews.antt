@@ -1,19 +1,17 @@
 -- What is seen of the levels and the slots, after a change.
-use Rattle.std.proofs.Common.{◌≡◌, ℕ, ◌+◌, ◌-◌, ◌<◌, ◌≤◌, List, [], ◌∷◌, ◌++◌, length, map, get_or, set, take, drop, max, Option, Some, None, Bool, true, false, refl, sym, ap, ◌∙◌, subst, ⊎_elim, arith}
-use Rattle.std.specs.Prelude.{sum_by}
+use Rattle.std.proofs.Common.{◌≡◌, ℕ, ◌+◌, ◌-◌, ◌<◌, ◌≤◌, List, [], ◌∷◌, ◌++◌, length, map, get_or, set, take, drop, max, Option, true, refl, sym, ap, ◌∙◌, subst, ⊎_elim, arith}
 use Rattle.std.proofs.Math.Nat.{lt_of_not-le}
 use Rattle.std.proofs.Math.ListN.{get_or-map}
 use Rattle.std.proofs.Math.Seq.{map-set_same}
 use Rattle.std.proofs.lemmas.Bool.{ltb-true, cases_lt}
 use Rattle.std.proofs.lemmas.List.{get_or_read, get_or_past, map-set, map-append, take-map, length-map}
-use Rattle.std.proofs.lemmas.List.Sums.{sum_by-cons}
 use Rattle.tables.specs.declared.locals.Level.{Level}
 use Rattle.tables.specs.declared.slots.Slot.{Slot}
 use Rattle.tables.specs.References.{references_in}
-use Rattle.tables.specs.Locals.{Frame, LocalTable, frame_at, AreStacked, current_frame, current_slots, live_in, has_room, pushed, popped, ensured, capacities}
+use Rattle.tables.specs.Locals.{Frame, LocalTable, frame_at, AreStacked, current_frame, live_in, has_room, pushed, popped, ensured}
 use Rattle.tables.specs.Slots.{slot_at, addresses_in}
 use Rattle.tables.specs.Levels.{level_at, frame_of, table_in, IsLevel, AreLevels}
-use Rattle.tables.proofs.Levels.{no_level, live_count, capacity_of, lower_first}
+use Rattle.tables.proofs.Levels.{no_level, live_count, lower_first}
 
 abbrev table : List Frame → List (Option ℕ) → LocalTable
 table frames slots = record { frames = frames; slots = slots }

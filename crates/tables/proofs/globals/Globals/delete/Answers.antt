@@ -1,10 +1,9 @@
-use Rattle.std.proofs.Common.{◌≡◌, ◌<◌, ◌++◌, ◌∷◌, [], length, List, Option, Some, None, ℕ, ap, sym, ◌∙◌, subst, set, refl, arith, Fits, w64, rules}
+use Rattle.std.proofs.Common.{◌<◌, length, subst, arith, rules}
 use Rattle.std.specs.Prelude.{IsSome}
 use Rattle.std.proofs.lemmas.List.{get_or_read, map-set}
 use Rattle.tables.specs.declared.slots.Slot.{Slot}
-use Rattle.tables.specs.Slots.{slot_at}
 use Rattle.tables.proofs.Links.{no_slot, fewer_free}
-use Rattle.tables.proofs.References.{held_at, Held}
+use Rattle.tables.proofs.References.{held_at}
 use Rattle.tables.proofs.GlobalSlots.{globals_freed}
 use Rattle.tables.proofs.globals.Globals.delete.Goals as goal
 

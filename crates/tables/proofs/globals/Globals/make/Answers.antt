@@ -1,12 +1,12 @@
-use Rattle.std.proofs.Common.{◌≡◌, ◌<◌, ◌++◌, ◌∷◌, [], length, List, Option, Some, ℕ, ap, sym, ◌∙◌, subst, set, refl, arith}
+use Rattle.std.proofs.Common.{◌≡◌, ◌<◌, length, List, Option, ℕ, ap, ◌∙◌, subst, set, arith}
 use Rattle.std.proofs.lemmas.List.{get_or_read}
 use Rattle.std.proofs.lemmas.Result.{err_from_is_err_and}
 use Rattle.tables.specs.declared.slots.Slot.{Slot}
 use Rattle.tables.specs.References.{AreTaken, IsPut}
-use Rattle.tables.specs.Slots.{taken_slot, slot_at, addresses_in, AreGlobals}
+use Rattle.tables.specs.Slots.{taken_slot, addresses_in}
 use Rattle.tables.proofs.Links.{no_slot, first_free}
 use Rattle.tables.proofs.References.{put_free, put_end}
-use Rattle.tables.proofs.GlobalSlots.{globals_taken, globals_added, globals_full}
+use Rattle.tables.proofs.GlobalSlots.{globals_taken, globals_full}
 use Rattle.tables.proofs.globals.Globals.make.Goals as goal
 
 pub returns-in_err-push-clause-taken : goal.returns-in_err-push-clause-taken

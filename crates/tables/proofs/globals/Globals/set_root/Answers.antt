@@ -1,4 +1,4 @@
-use Rattle.std.proofs.Common.{◌≡◌, List, Option, Some, ℕ, sym, ap, ◌∙◌, subst, set}
+use Rattle.std.proofs.Common.{List, Option, Some, ℕ, sym, ap, ◌∙◌, subst, set}
 use Rattle.std.specs.Prelude.{IsSome}
 use Rattle.std.proofs.lemmas.List.{get_or_read, map-set}
 use Rattle.tables.specs.declared.slots.Slot.{Slot}

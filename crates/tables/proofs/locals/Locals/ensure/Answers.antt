@@ -1,10 +1,9 @@
-use Rattle.std.proofs.Common.{◌≡◌, ◌∙◌, ◌-◌, ◌+◌, ◌≤◌, ℕ, List, ap, sym, subst, set, max, arith}
-use Rattle.std.proofs.lemmas.List.{get_or_read}
+use Rattle.std.proofs.Common.{◌≡◌, ◌∙◌, ◌-◌, ◌+◌, ◌≤◌, ap, sym, arith}
 use Rattle.tables.specs.declared.locals.TheConstants.{MOST_LOCALS}
 use Rattle.tables.specs.declared.locals.Level.{Level}
-use Rattle.tables.specs.Locals.{LocalTable, live_in, ensured}
-use Rattle.tables.specs.Levels.{table_in, AreLevels}
-use Rattle.tables.proofs.Levels.{no_level, levels_ensured}
+use Rattle.tables.specs.Locals.{live_in}
+use Rattle.tables.specs.Levels.{table_in}
+use Rattle.tables.proofs.Levels.{levels_ensured}
 use Rattle.tables.proofs.TableViews.{some_level, top, seen_ensured}
 use Rattle.tables.proofs.locals.Locals.ensure.Goals as goal
 

@@ -1,5 +1,5 @@
-use Rattle.std.proofs.Common.{◌≡◌, ◌∙◌, ℕ, ap, arith}
-use Rattle.tables.specs.Locals.{LocalTable, live_in}
+use Rattle.std.proofs.Common.{◌≡◌, ◌∙◌, ap, arith}
+use Rattle.tables.specs.Locals.{live_in}
 use Rattle.tables.specs.Levels.{table_in}
 use Rattle.tables.proofs.TableViews.{some_level, top}
 use Rattle.tables.proofs.locals.Locals.live.Goals as goal

@@ -1,12 +1,9 @@
-use Rattle.std.proofs.Common.{◌≡◌, ◌∙◌, ◌-◌, ◌+◌, ◌≤◌, ◌<◌, ◌++◌, ◌∷◌, [], Bool, true, false, ℕ, List, length, Some, ap, sym, subst, set, arith, rules}
+use Rattle.std.proofs.Common.{◌≡◌, ◌∙◌, ◌-◌, true, length, ap, sym, subst, arith, rules}
 use Rattle.std.proofs.lemmas.List.{get_or_read}
 use Rattle.std.proofs.lemmas.Result.{err_from_is_err_and}
-use Rattle.tables.specs.declared.locals.Level.{Level}
 use Rattle.tables.specs.declared.slots.Slot.{Slot}
 use Rattle.tables.specs.References.{AreTaken}
-use Rattle.tables.specs.Locals.{LocalTable, has_room, current_slots, IsMade}
-use Rattle.tables.specs.Slots.{taken_slot, rest_of}
-use Rattle.tables.specs.Levels.{table_in, AreLevels}
+use Rattle.tables.specs.Locals.{LocalTable, has_room, current_slots}
 use Rattle.tables.proofs.Links.{no_slot}
 use Rattle.tables.proofs.Levels.{levels_added, levels_taken}
 use Rattle.tables.proofs.TableViews.{level_of_room, top}

@@ -1,6 +1,4 @@
-use Rattle.std.proofs.Common.{◌≡◌, ◌∙◌, ◌-◌, ℕ, ap, arith}
-use Rattle.tables.specs.Locals.{LocalTable, popped}
-use Rattle.tables.specs.Levels.{table_in}
+use Rattle.std.proofs.Common.{◌∙◌, ◌-◌}
 use Rattle.tables.proofs.Levels.{levels_popped}
 use Rattle.tables.proofs.TableViews.{some_level, top, seen_popped}
 use Rattle.tables.proofs.locals.Locals.pop.Goals as goal
