@@ -57,20 +57,20 @@ levels_set ls ss total k l' x s h known within was is first capacity free =
     let total_is : total ≡ sum_by capacity_of ls = h.counted in
     record {
       each = λ j l.
-        ⊎_elim
-        (λ (t : (eqb j k ≡ true) × (j ≡ k)).
-        let here : level_at (set ls k l') k ≡ l' = get_or-set_same ls k l' no_level known in
-        let new : IsLevel (set ss x s) k l' = level_set ss k (level_at ls k) l' x s (h.each k known) within same first free in
-        let there : IsLevel (set ss x s) k (level_at (set ls k l') k) = subst (λ (m : Level). IsLevel (set ss x s) k m) (sym here) new in
-        subst (λ i. IsLevel (set ss x s) i (level_at (set ls k l') i)) (sym t.1) there)
-        (λ (t : (eqb j k ≡ false) × (j ≡ k → ⊥)).
-        let here : level_at (set ls k l') j ≡ level_at ls j = get_or-set_other ls k j l' no_level t.1 in
-        let old : IsLevel ss j (level_at ls j) = h.each j (omega arith) in
-        let before = counts_other j (slot_at ss x) (λ e. t.1 (sym e ∙ was)) in
-        let after = counts_other j s (λ e. t.1 (sym e ∙ is)) in
-        let new : IsLevel (set ss x s) j (level_at ls j) = level_set ss j (level_at ls j) (level_at ls j) x s old within same refl (free_set ss j x s (level_at ls j).free within before after old.free) in
-        subst (λ (m : Level). IsLevel (set ss x s) j m) (sym here) new)
-        (eqb_tells j k);
+          ⊎_elim
+          (λ (t : (eqb j k ≡ true) × (j ≡ k)).
+          let here : level_at (set ls k l') k ≡ l' = get_or-set_same ls k l' no_level known in
+          let new : IsLevel (set ss x s) k l' = level_set ss k (level_at ls k) l' x s (h.each k known) within same first free in
+          let there : IsLevel (set ss x s) k (level_at (set ls k l') k) = subst (λ (m : Level). IsLevel (set ss x s) k m) (sym here) new in
+          subst (λ i. IsLevel (set ss x s) i (level_at (set ls k l') i)) (sym t.1) there)
+          (λ (t : (eqb j k ≡ false) × (j ≡ k → ⊥)).
+          let here : level_at (set ls k l') j ≡ level_at ls j = get_or-set_other ls k j l' no_level t.1 in
+          let old : IsLevel ss j (level_at ls j) = h.each j (omega arith) in
+          let before = counts_other j (slot_at ss x) (λ e. t.1 (sym e ∙ was)) in
+          let after = counts_other j s (λ e. t.1 (sym e ∙ is)) in
+          let new : IsLevel (set ss x s) j (level_at ls j) = level_set ss j (level_at ls j) (level_at ls j) x s old within same refl (free_set ss j x s (level_at ls j).free within before after old.free) in
+          subst (λ (m : Level). IsLevel (set ss x s) j m) (sym here) new)
+          (eqb_tells j k);
       grouped = λ p l. subst (λ g. g < length (set ls k l')) (sym (group_set ss x s p within same)) (omega (arith, h.grouped p (omega arith)));
       counted = omega arith;
       limit = h.limit;
@@ -96,14 +96,14 @@ levels_added ls ss total k a h last =
     let count = length-append ss (taken_slot k a ∷ []) in
     record {
       each = λ j l.
-        let old : IsLevel ss j (level_at ls j) = h.each j l in
-        let inside : (level_at ls j).first ≤ length ss = old.within in
-        record {
-          free = free_added ss j (taken_slot k a) (level_at ls j).free refl old.free;
-          within = omega arith;
-          below = λ p b. subst (λ (s : Slot). s.group < j) (sym (get_or_append_left ss (taken_slot k a ∷ []) no_slot p (omega arith))) (old.below p b);
-          above = λ p b i. group_added ss (taken_slot k a) (λ q g. (level_at ls j).first ≤ q → j ≤ g) (λ q i b. old.above q b i) (λ b. omega arith) p i b;
-        };
+          let old : IsLevel ss j (level_at ls j) = h.each j l in
+          let inside : (level_at ls j).first ≤ length ss = old.within in
+          record {
+            free = free_added ss j (taken_slot k a) (level_at ls j).free refl old.free;
+            within = omega arith;
+            below = λ p b. subst (λ (s : Slot). s.group < j) (sym (get_or_append_left ss (taken_slot k a ∷ []) no_slot p (omega arith))) (old.below p b);
+            above = λ p b i. group_added ss (taken_slot k a) (λ q g. (level_at ls j).first ≤ q → j ≤ g) (λ q i b. old.above q b i) (λ b. omega arith) p i b;
+          };
       grouped = group_added ss (taken_slot k a) (λ q g. g < length ls) h.grouped (omega arith);
       counted = h.counted;
       limit = h.limit;
@@ -121,18 +121,18 @@ levels_pushed ls ss total capacity h room =
     let total_is : total ≡ sum_by capacity_of ls = h.counted in
     record {
       each = λ j i.
-        ⊎_elim
-        (λ (e : j ≡ length ls).
-        let new : IsLevel ss (length ls) (record { capacity = capacity; first = length ss; free = record { first = 0; count = 0 } }) = record {
-          free = free_none ss (length ls) (λ q b e. absurd (omega (arith, h.grouped q b)));
-          within = omega arith;
-          below = λ p b. h.grouped p b;
-          above = λ p a b. absurd (omega arith);
-        } in
-        let there = subst (λ (m : Level). IsLevel ss (length ls) m) (sym (get_or-append_seam ls (record { capacity = capacity; first = length ss; free = record { first = 0; count = 0 } }) [] no_level)) new in
-        subst (λ n. IsLevel ss n (level_at (ls ++ record { capacity = capacity; first = length ss; free = record { first = 0; count = 0 } } ∷ []) n)) (sym e) there)
-        (λ (b : j < length ls). subst (λ (m : Level). IsLevel ss j m) (sym (get_or_append_left ls (record { capacity = capacity; first = length ss; free = record { first = 0; count = 0 } } ∷ []) no_level j b)) (h.each j b))
-        (eq-or-lt_of_le {n = j} {m = length ls} (omega arith));
+          ⊎_elim
+          (λ (e : j ≡ length ls).
+          let new : IsLevel ss (length ls) (record { capacity = capacity; first = length ss; free = record { first = 0; count = 0 } }) = record {
+            free = free_none ss (length ls) (λ q b e. absurd (omega (arith, h.grouped q b)));
+            within = omega arith;
+            below = λ p b. h.grouped p b;
+            above = λ p a b. absurd (omega arith);
+          } in
+          let there = subst (λ (m : Level). IsLevel ss (length ls) m) (sym (get_or-append_seam ls (record { capacity = capacity; first = length ss; free = record { first = 0; count = 0 } }) [] no_level)) new in
+          subst (λ n. IsLevel ss n (level_at (ls ++ record { capacity = capacity; first = length ss; free = record { first = 0; count = 0 } } ∷ []) n)) (sym e) there)
+          (λ (b : j < length ls). subst (λ (m : Level). IsLevel ss j m) (sym (get_or_append_left ls (record { capacity = capacity; first = length ss; free = record { first = 0; count = 0 } } ∷ []) no_level j b)) (h.each j b))
+          (eq-or-lt_of_le {n = j} {m = length ls} (omega arith));
       grouped = λ p b. omega (arith, h.grouped p b);
       counted = omega arith;
       limit = room;
@@ -150,9 +150,9 @@ pub lower_first : (ss : List Slot) (j k : ℕ) (low high : Level) → IsLevel ss
 lower_first ss j k low high h g less =
     let inside : low.first ≤ length ss = h.within in
     let back : high.first < low.first → ⊥ = λ b.
-      let under : (slot_at ss high.first).group < j = h.below high.first b in
-      let over : k ≤ (slot_at ss high.first).group = g.above high.first (omega arith) (omega arith) in
-      omega arith in
+    let under : (slot_at ss high.first).group < j = h.below high.first b in
+    let over : k ≤ (slot_at ss high.first).group = g.above high.first (omega arith) (omega arith) in
+    omega arith in
     let less : low.first < high.first + 1 = lt_of_not-le {n = high.first + 1} {m = low.first} (λ b. back (omega arith)) in
     omega arith
 
@@ -170,16 +170,16 @@ levels_popped ls ss total k l h last read =
     let most : total ≤ MOST_LOCALS = h.limit in
     record {
       each = λ j i.
-        let here : level_at (take k ls) j ≡ level_at ls j = get_or-take k ls j no_level (omega arith) in
-        let old : IsLevel ss j (level_at ls j) = h.each j (omega arith) in
-        let lower : (level_at ls j).first ≤ l.first = lower_first ss j k (level_at ls j) l old top (omega arith) in
-        let new : IsLevel (take l.first ss) j (level_at ls j) = record {
-          free = free_cut ss j l.first (level_at ls j).free inside (λ q a b e. absurd (omega (arith, top.above q a b))) old.free;
-          within = omega arith;
-          below = λ p b. subst (λ (s : Slot). s.group < j) (sym (get_or-take l.first ss p no_slot (omega arith))) (old.below p b);
-          above = λ p a b. subst (λ (s : Slot). j ≤ s.group) (sym (get_or-take l.first ss p no_slot (omega arith))) (old.above p a (omega arith));
-        } in
-        subst (λ (m : Level). IsLevel (take l.first ss) j m) (sym here) new;
+          let here : level_at (take k ls) j ≡ level_at ls j = get_or-take k ls j no_level (omega arith) in
+          let old : IsLevel ss j (level_at ls j) = h.each j (omega arith) in
+          let lower : (level_at ls j).first ≤ l.first = lower_first ss j k (level_at ls j) l old top (omega arith) in
+          let new : IsLevel (take l.first ss) j (level_at ls j) = record {
+            free = free_cut ss j l.first (level_at ls j).free inside (λ q a b e. absurd (omega (arith, top.above q a b))) old.free;
+            within = omega arith;
+            below = λ p b. subst (λ (s : Slot). s.group < j) (sym (get_or-take l.first ss p no_slot (omega arith))) (old.below p b);
+            above = λ p a b. subst (λ (s : Slot). j ≤ s.group) (sym (get_or-take l.first ss p no_slot (omega arith))) (old.above p a (omega arith));
+          } in
+          subst (λ (m : Level). IsLevel (take l.first ss) j m) (sym here) new;
       grouped = λ p b. subst (λ (s : Slot). s.group < length (take k ls)) (sym (get_or-take l.first ss p no_slot (omega arith))) (omega (arith, top.below p (omega arith)));
       counted = omega arith;
       limit = omega arith;
@@ -194,16 +194,16 @@ levels_ensured ls ss total k capacity l h known read more room =
     let total_is : total ≡ sum_by capacity_of ls = h.counted in
     record {
       each = λ j i.
-        ⊎_elim
-        (λ (t : (eqb j k ≡ true) × (j ≡ k)).
-        let here : level_at (set ls k (record l { capacity = capacity })) k ≡ record l { capacity = capacity } = get_or-set_same ls k (record l { capacity = capacity }) no_level known in
-        let old : IsLevel ss k l = subst (λ (m : Level). IsLevel ss k m) (sym read) (h.each k known) in
-        let new : IsLevel ss k (record l { capacity = capacity }) = record { free = old.free; within = old.within; below = old.below; above = old.above } in
-        let there = subst (λ (m : Level). IsLevel ss k m) (sym here) new in
-        subst (λ n. IsLevel ss n (level_at (set ls k (record l { capacity = capacity })) n)) (sym t.1) there)
-        (λ (t : (eqb j k ≡ false) × (j ≡ k → ⊥)).
-        subst (λ (m : Level). IsLevel ss j m) (sym (get_or-set_other ls k j (record l { capacity = capacity }) no_level t.1)) (h.each j (omega arith)))
-        (eqb_tells j k);
+          ⊎_elim
+          (λ (t : (eqb j k ≡ true) × (j ≡ k)).
+          let here : level_at (set ls k (record l { capacity = capacity })) k ≡ record l { capacity = capacity } = get_or-set_same ls k (record l { capacity = capacity }) no_level known in
+          let old : IsLevel ss k l = subst (λ (m : Level). IsLevel ss k m) (sym read) (h.each k known) in
+          let new : IsLevel ss k (record l { capacity = capacity }) = record { free = old.free; within = old.within; below = old.below; above = old.above } in
+          let there = subst (λ (m : Level). IsLevel ss k m) (sym here) new in
+          subst (λ n. IsLevel ss n (level_at (set ls k (record l { capacity = capacity })) n)) (sym t.1) there)
+          (λ (t : (eqb j k ≡ false) × (j ≡ k → ⊥)).
+          subst (λ (m : Level). IsLevel ss j m) (sym (get_or-set_other ls k j (record l { capacity = capacity }) no_level t.1)) (h.each j (omega arith)))
+          (eqb_tells j k);
       grouped = λ p b. omega (arith, h.grouped p b);
       counted = omega arith;
       limit = room;
@@ -220,12 +220,12 @@ live_count ls ss total k l h last read =
     let count' = length-drop l.first ss in
     let sums = sum_by-take-drop (one_if_free k) ss l.first in
     let below = sum_zero (one_if_free k) (take l.first ss) no_slot (λ p b.
-      ap (one_if_free k) (get_or-take l.first ss p no_slot (omega arith)) ∙ counts_other k (slot_at ss p) (λ e. absurd (omega (arith, top.below p (omega arith))))) in
+    ap (one_if_free k) (get_or-take l.first ss p no_slot (omega arith)) ∙ counts_other k (slot_at ss p) (λ e. absurd (omega (arith, top.below p (omega arith))))) in
     let above : (p : ℕ) → p < length (drop l.first ss) → (slot_at (drop l.first ss) p).group ≡ k = λ p b.
-      let low : k ≤ (slot_at ss (l.first + p)).group = top.above (l.first + p) (omega arith) (omega arith) in
-      let high : (slot_at ss (l.first + p)).group < length ls = h.grouped (l.first + p) (omega arith) in
-      let here : (slot_at ss (l.first + p)).group ≡ k = omega arith in
-      ap (λ (s : Slot). s.group) (get_or-drop l.first ss p no_slot) ∙ here in
+    let low : k ≤ (slot_at ss (l.first + p)).group = top.above (l.first + p) (omega arith) (omega arith) in
+    let high : (slot_at ss (l.first + p)).group < length ls = h.grouped (l.first + p) (omega arith) in
+    let here : (slot_at ss (l.first + p)).group ≡ k = omega arith in
+    ap (λ (s : Slot). s.group) (get_or-drop l.first ss p no_slot) ∙ here in
     let both = free_and_held (drop l.first ss) k above in
     let seen : drop l.first (addresses_in ss) ≡ addresses_in (drop l.first ss) = drop-map (λ (s : Slot). s.address) l.first ss in
     let same : length (references_in (drop l.first (addresses_in ss))) ≡ length (references_in (addresses_in (drop l.first ss))) = ap (λ (xs : List (Option ℕ)). length (references_in xs)) seen in

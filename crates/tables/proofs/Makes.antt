@@ -37,9 +37,9 @@ first_of_level ls ss total n l h here some =
     let level : IsLevel ss (n - 1) l = subst (λ (m : Level). IsLevel ss (n - 1) m) (sym here.read) (h.each (n - 1) (omega arith)) in
     let free = first_free ss (n - 1) l.free some level.free in
     let not_under : l.free.first + 1 ≤ l.first → ⊥ = λ b.
-      let under : (slot_at ss l.free.first).group < n - 1 = level.below l.free.first (omega arith) in
-      let group : (slot_at ss l.free.first).group ≡ n - 1 = free.of_group in
-      omega arith in
+    let under : (slot_at ss l.free.first).group < n - 1 = level.below l.free.first (omega arith) in
+    let group : (slot_at ss l.free.first).group ≡ n - 1 = free.of_group in
+    omega arith in
     let above : l.first < l.free.first + 1 = lt_of_not-le {n = l.free.first + 1} {m = l.first} not_under in
     let first : (current_frame (table_in ls ss)).first ≡ l.first = ap (λ (f : Frame). f.first) here.current in
     record { free = free; above = omega arith }

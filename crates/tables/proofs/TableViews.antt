@@ -71,9 +71,9 @@ seen_ensured ls ss k capacity more l last read e =
     let index : k ≡ length (map frame_of ls) - 1 = omega arith in
     same_table _ _ _ _
     (map-set frame_of ls k (record l { capacity = capacity })
-      ∙ ap (λ n. set (map frame_of ls) n (record { capacity = capacity; first = l.first })) index
-      ∙ ap (λ n. set (map frame_of ls) (length (map frame_of ls) - 1) (record { capacity = n; first = l.first })) e
-      ∙ ap (λ (f : Frame). set (map frame_of ls) (length (map frame_of ls) - 1) (record { capacity = max f.capacity (live_in (table_in ls ss) + more); first = f.first })) (sym current))
+    ∙ ap (λ n. set (map frame_of ls) n (record { capacity = capacity; first = l.first })) index
+    ∙ ap (λ n. set (map frame_of ls) (length (map frame_of ls) - 1) (record { capacity = n; first = l.first })) e
+    ∙ ap (λ (f : Frame). set (map frame_of ls) (length (map frame_of ls) - 1) (record { capacity = max f.capacity (live_in (table_in ls ss) + more); first = f.first })) (sym current))
     refl
 
 -- what is known of the current level, which is the last of `n`
@@ -128,8 +128,8 @@ lowest_first [] ss total h = refl
 lowest_first (l ∷ ls) ss total h =
     let here : IsLevel ss 0 l = h.each 0 (omega arith) in
     let not_above : 1 ≤ l.first → ⊥ = λ b.
-      let under : (slot_at ss 0).group < 0 = here.below 0 b in
-      omega arith in
+    let under : (slot_at ss 0).group < 0 = here.below 0 b in
+    omega arith in
     let low : l.first < 1 = lt_of_not-le {n = 1} {m = l.first} not_above in
     omega arith
 
@@ -146,14 +146,14 @@ seen_stacked ls ss total h =
     record {
       lowest = ap (λ (f : Frame). f.first) (seen_frame ls ss 0) ∙ lowest_first ls ss total h;
       rising = λ k b.
-        let low = ap (λ (f : Frame). f.first) (seen_frame ls ss k) in
-        let high = ap (λ (f : Frame). f.first) (seen_frame ls ss (k + 1)) in
-        let order = lower_first ss k (k + 1) (level_at ls k) (level_at ls (k + 1)) (h.each k (omega arith)) (h.each (k + 1) (omega arith)) (omega arith) in
-        omega arith;
+          let low = ap (λ (f : Frame). f.first) (seen_frame ls ss k) in
+          let high = ap (λ (f : Frame). f.first) (seen_frame ls ss (k + 1)) in
+          let order = lower_first ss k (k + 1) (level_at ls k) (level_at ls (k + 1)) (h.each k (omega arith)) (h.each (k + 1) (omega arith)) (omega arith) in
+          omega arith;
       within = λ k.
-        let first = ap (λ (f : Frame). f.first) (seen_frame ls ss k) in
-        omega (arith, begins_within ls ss total k h);
+          let first = ap (λ (f : Frame). f.first) (seen_frame ls ss k) in
+          omega (arith, begins_within ls ss total k h);
       empty = λ none.
-        let no = no_slots ls ss total h (omega arith) in
-        omega arith;
+          let no = no_slots ls ss total h (omega arith) in
+          omega arith;
     }

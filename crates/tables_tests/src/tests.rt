@@ -13,7 +13,10 @@ fn local_references_come_and_go(rt: HostRuntime) -> Result<(), Fail> {
     let late = locals.make(Addr::new(7));
     assert!(rt; [early, late] == [Err(TableFault::Full), Err(TableFault::Full)]);
     locals.delete(first)?;
-    let dead = [locals.get(first), locals.delete(first).map(|_| Addr::new(0))];
+    let dead = [
+        locals.get(first),
+        locals.delete(first).map(|_| Addr::new(0)),
+    ];
     assert!(rt; dead == [Err(TableFault::Dead), Err(TableFault::Dead)]);
     let third = locals.make(Addr::new(7))?;
     if locals.len() == 2 && locals.root(1).is_some() {
@@ -31,7 +34,11 @@ fn frames_share_their_capacity(rt: HostRuntime) -> Result<(), Fail> {
     let mut locals = Locals::new(rt.alloc());
     locals.push(2)?;
     let kept = locals.make(Addr::new(5))?;
-    let too_much = [locals.ensure(1_024), locals.ensure(u32::MAX), locals.push(1_023)];
+    let too_much = [
+        locals.ensure(1_024),
+        locals.ensure(u32::MAX),
+        locals.push(1_023),
+    ];
     assert!(rt; too_much == [Err(TableFault::Full); 3]);
     locals.ensure(2)?;
     locals.push(1_021)?;
@@ -53,7 +60,10 @@ fn global_references_come_and_go(rt: HostRuntime) -> Result<(), Fail> {
     let first = globals.make(Addr::new(5))?;
     let second = globals.make(Addr::new(9))?;
     globals.delete(first)?;
-    let dead = [globals.get(first), globals.delete(first).map(|_| Addr::new(0))];
+    let dead = [
+        globals.get(first),
+        globals.delete(first).map(|_| Addr::new(0)),
+    ];
     assert!(rt; dead == [Err(TableFault::Dead), Err(TableFault::Dead)]);
     let third = globals.make(Addr::new(7))?;
     if globals.len() == 2 && globals.root(1).is_some() {
