@@ -1,11 +1,12 @@
 -- The levels of local references, after a change.
-use Rattle.std.proofs.Common.{◌≡◌, ℕ, suc, ◌+◌, ◌-◌, ◌<◌, ◌≤◌, true, false, eqb, List, [], ◌∷◌, ◌++◌, length, set, take, drop, Option, Some, refl, sym, ap, ◌∙◌, subst, arith, ⊎_elim, length-append, length-drop}
+use Rattle.std.proofs.Common.{◌≡◌, ℕ, zero, suc, ◌+◌, ◌-◌, ◌<◌, ◌≤◌, true, false, eqb, List, [], ◌∷◌, ◌++◌, length, set, take, drop, Option, Some, refl, sym, ap, ◌∙◌, subst, arith, ⊎_elim, length-append, length-drop}
 use Rattle.std.specs.Prelude.{sum_by}
 use Rattle.std.proofs.Math.Nat.{eq-or-lt_of_le, lt_of_not-le}
-use Rattle.std.proofs.Math.Seq.{get_or-append_seam, drop-cons}
+use Rattle.std.proofs.Math.Seq.{get_or-append_seam, drop-cons, take-suc}
 use Rattle.std.proofs.Math.ListN.{drop_of_length-le}
 use Rattle.std.proofs.lemmas.List.{get_or-set_same, get_or-set_other, get_or_append_left, get_or-take, get_or-drop, length-set, length-take-le, length-map, drop-map}
 use Rattle.std.proofs.lemmas.List.Sums.{sum_by-set, sum_by-append, sum_by-cons, sum_by-take-drop}
+use Rattle.std.proofs.lemmas.Bool.{cases_lt}
 use Rattle.std.proofs.lemmas.Bool.Decides.{eqb_tells}
 use Rattle.tables.specs.declared.locals.TheConstants.{MOST_LOCALS}
 use Rattle.tables.specs.declared.locals.Level.{Level}
@@ -25,8 +26,8 @@ capacity_of l = l.capacity
 
 -- ---- a slot changes
 
-level_set : (ss : List Slot) (k : ℕ) (l l' : Level) (x : ℕ) (s : Slot) → IsLevel ss k l → x < length ss → s.group ≡ (slot_at ss x).group → l'.first ≡ l.first → AreFree (set ss x s) k l'.free → IsLevel (set ss x s) k l'
-level_set ss k l l' x s h within same first free =
+level_set : (ss : List Slot) (k : ℕ) (l l' : Level) (x : ℕ) (s : Slot) → IsLevel ss k l → x < length ss → s.group ≡ (slot_at ss x).group → l'.first ≡ l.first → l'.capacity ≡ l.capacity → AreFree (set ss x s) k l'.free → IsLevel (set ss x s) k l'
+level_set ss k l l' x s h within same first capacity free =
     let count = length-set ss x s in
     let inside : l.first ≤ length ss = h.within in
     record {
@@ -34,6 +35,7 @@ level_set ss k l l' x s h within same first free =
       within = omega arith;
       below = λ p b. subst (λ g. g < k) (sym (group_set ss x s p within same)) (h.below p (omega arith));
       above = λ p a b. subst (λ g. k ≤ g) (sym (group_set ss x s p within same)) (h.above p (omega arith) (omega arith));
+      room = λ p b e. omega (arith, h.room p (omega arith) (sym (group_set ss x s p within same) ∙ e));
     }
 
 -- an object was moved: no list of free slots changes
@@ -41,7 +43,7 @@ pub levels_moved : (ls : List Level) (ss : List Slot) (total x a : ℕ) (r : Slo
 levels_moved ls ss total x a r h there read =
     let same : r.group ≡ (slot_at ss x).group = ap (λ (s : Slot). s.group) read in
     record {
-      each = λ k l. level_set ss k (level_at ls k) (level_at ls k) x (record { address = Some a; group = r.group; next = r.next }) (h.each k l) there.within same refl (free_set ss k x (record { address = Some a; group = r.group; next = r.next }) (level_at ls k).free there.within (there.counts k) refl (h.each k l).free);
+      each = λ k l. level_set ss k (level_at ls k) (level_at ls k) x (record { address = Some a; group = r.group; next = r.next }) (h.each k l) there.within same refl refl (free_set ss k x (record { address = Some a; group = r.group; next = r.next }) (level_at ls k).free there.within (there.counts k) refl (h.each k l).free);
       grouped = λ p l. subst (λ g. g < length ls) (sym (group_set ss x (record { address = Some a; group = r.group; next = r.next }) p there.within same)) (h.grouped p (omega (arith, length-set ss x (record { address = Some a; group = r.group; next = r.next }))));
       counted = h.counted;
       limit = h.limit;
@@ -60,7 +62,7 @@ levels_set ls ss total k l' x s h known within was is first capacity free =
           ⊎_elim
           (λ (t : (eqb j k ≡ true) × (j ≡ k)).
           let here : level_at (set ls k l') k ≡ l' = get_or-set_same ls k l' no_level known in
-          let new : IsLevel (set ss x s) k l' = level_set ss k (level_at ls k) l' x s (h.each k known) within same first free in
+          let new : IsLevel (set ss x s) k l' = level_set ss k (level_at ls k) l' x s (h.each k known) within same first capacity free in
           let there : IsLevel (set ss x s) k (level_at (set ls k l') k) = subst (λ (m : Level). IsLevel (set ss x s) k m) (sym here) new in
           subst (λ i. IsLevel (set ss x s) i (level_at (set ls k l') i)) (sym t.1) there)
           (λ (t : (eqb j k ≡ false) × (j ≡ k → ⊥)).
@@ -68,7 +70,7 @@ levels_set ls ss total k l' x s h known within was is first capacity free =
           let old : IsLevel ss j (level_at ls j) = h.each j (omega arith) in
           let before = counts_other j (slot_at ss x) (λ e. t.1 (sym e ∙ was)) in
           let after = counts_other j s (λ e. t.1 (sym e ∙ is)) in
-          let new : IsLevel (set ss x s) j (level_at ls j) = level_set ss j (level_at ls j) (level_at ls j) x s old within same refl (free_set ss j x s (level_at ls j).free within before after old.free) in
+          let new : IsLevel (set ss x s) j (level_at ls j) = level_set ss j (level_at ls j) (level_at ls j) x s old within same refl refl (free_set ss j x s (level_at ls j).free within before after old.free) in
           subst (λ (m : Level). IsLevel (set ss x s) j m) (sym here) new)
           (eqb_tells j k);
       grouped = λ p l. subst (λ g. g < length (set ls k l')) (sym (group_set ss x s p within same)) (omega (arith, h.grouped p (omega arith)));
@@ -91,8 +93,8 @@ levels_freed ls ss total k x l h known read there group =
 
 -- ---- a slot comes
 
-pub levels_added : (ls : List Level) (ss : List Slot) (total k a : ℕ) → AreLevels ls ss total → length ls ≡ k + 1 → AreLevels ls (ss ++ taken_slot k a ∷ []) total
-levels_added ls ss total k a h last =
+pub levels_added : (ls : List Level) (ss : List Slot) (total k a : ℕ) → AreLevels ls ss total → length ls ≡ k + 1 → length ss < (level_at ls k).first + (level_at ls k).capacity → AreLevels ls (ss ++ taken_slot k a ∷ []) total
+levels_added ls ss total k a h last room =
     let count = length-append ss (taken_slot k a ∷ []) in
     record {
       each = λ j l.
@@ -103,6 +105,7 @@ levels_added ls ss total k a h last =
             within = omega arith;
             below = λ p b. subst (λ (s : Slot). s.group < j) (sym (get_or_append_left ss (taken_slot k a ∷ []) no_slot p (omega arith))) (old.below p b);
             above = λ p b i. group_added ss (taken_slot k a) (λ q g. (level_at ls j).first ≤ q → j ≤ g) (λ q i b. old.above q b i) (λ b. omega arith) p i b;
+            room = λ p i e. group_added ss (taken_slot k a) (λ q g. g ≡ j → q < (level_at ls j).first + (level_at ls j).capacity) (λ q i e. old.room q i e) (λ e. subst (λ n. length ss < (level_at ls n).first + (level_at ls n).capacity) e room) p i e;
           };
       grouped = group_added ss (taken_slot k a) (λ q g. g < length ls) h.grouped (omega arith);
       counted = h.counted;
@@ -128,6 +131,7 @@ levels_pushed ls ss total capacity h room =
             within = omega arith;
             below = λ p b. h.grouped p b;
             above = λ p a b. absurd (omega arith);
+            room = λ p b e. absurd (omega (arith, h.grouped p b));
           } in
           let there = subst (λ (m : Level). IsLevel ss (length ls) m) (sym (get_or-append_seam ls (record { capacity = capacity; first = length ss; free = record { first = 0; count = 0 } }) [] no_level)) new in
           subst (λ n. IsLevel ss n (level_at (ls ++ record { capacity = capacity; first = length ss; free = record { first = 0; count = 0 } } ∷ []) n)) (sym e) there)
@@ -144,6 +148,19 @@ sum_of_last ls k last =
     let none : drop (suc k) ls ≡ [] = drop_of_length-le ls {i = suc k} (omega arith) in
     let both = sum_by-cons capacity_of (level_at ls k) [] in
     ap (sum_by capacity_of) (e ∙ ap (λ (xs : List Level). level_at ls k ∷ xs) none) ∙ omega arith
+
+-- a level's slots up to a place, before which no slot is of a higher group
+pub level_fits : (ss : List Slot) (k : ℕ) (l : Level) (end : ℕ) → IsLevel ss k l → end ≤ length ss → ((p : ℕ) → p < end → (slot_at ss p).group < k + 1) → end ≤ l.first + l.capacity
+level_fits ss k l end h inside lower =
+    ⊎_elim
+    (λ (b : l.first < end).
+    let low : k ≤ (slot_at ss (end - 1)).group = h.above (end - 1) (omega arith) (omega arith) in
+    let high : (slot_at ss (end - 1)).group < k + 1 = lower (end - 1) (omega arith) in
+    let group : (slot_at ss (end - 1)).group ≡ k = omega arith in
+    let last : end - 1 < l.first + l.capacity = h.room (end - 1) (omega arith) group in
+    omega arith)
+    (λ (b : end ≤ l.first). omega arith)
+    (cases_lt l.first end)
 
 -- a lower level begins no higher
 pub lower_first : (ss : List Slot) (j k : ℕ) (low high : Level) → IsLevel ss j low → IsLevel ss k high → j < k → low.first ≤ high.first
@@ -178,6 +195,7 @@ levels_popped ls ss total k l h last read =
             within = omega arith;
             below = λ p b. subst (λ (s : Slot). s.group < j) (sym (get_or-take l.first ss p no_slot (omega arith))) (old.below p b);
             above = λ p a b. subst (λ (s : Slot). j ≤ s.group) (sym (get_or-take l.first ss p no_slot (omega arith))) (old.above p a (omega arith));
+            room = λ p b e. old.room p (omega arith) (ap (λ (s : Slot). s.group) (sym (get_or-take l.first ss p no_slot (omega arith))) ∙ e);
           } in
           subst (λ (m : Level). IsLevel (take l.first ss) j m) (sym here) new;
       grouped = λ p b. subst (λ (s : Slot). s.group < length (take k ls)) (sym (get_or-take l.first ss p no_slot (omega arith))) (omega (arith, top.below p (omega arith)));
@@ -198,7 +216,7 @@ levels_ensured ls ss total k capacity l h known read more room =
           (λ (t : (eqb j k ≡ true) × (j ≡ k)).
           let here : level_at (set ls k (record l { capacity = capacity })) k ≡ record l { capacity = capacity } = get_or-set_same ls k (record l { capacity = capacity }) no_level known in
           let old : IsLevel ss k l = subst (λ (m : Level). IsLevel ss k m) (sym read) (h.each k known) in
-          let new : IsLevel ss k (record l { capacity = capacity }) = record { free = old.free; within = old.within; below = old.below; above = old.above } in
+          let new : IsLevel ss k (record l { capacity = capacity }) = record { free = old.free; within = old.within; below = old.below; above = old.above; room = λ p b e. omega (arith, old.room p b e) } in
           let there = subst (λ (m : Level). IsLevel ss k m) (sym here) new in
           subst (λ n. IsLevel ss n (level_at (set ls k (record l { capacity = capacity })) n)) (sym t.1) there)
           (λ (t : (eqb j k ≡ false) × (j ≡ k → ⊥)).
@@ -239,3 +257,54 @@ levels_full ls ss total k l h last read none =
     let count = length-drop l.first (addresses_in ss) in
     let count' = length-map ss (λ (s : Slot). s.address) in
     omega arith
+
+-- ---- how many slots there are
+
+pub lowest_first : (ls : List Level) (ss : List Slot) (total : ℕ) → AreLevels ls ss total → (level_at ls 0).first ≡ 0
+lowest_first [] ss total h = refl
+lowest_first (l ∷ ls) ss total h =
+    let here : IsLevel ss 0 l = h.each 0 (omega arith) in
+    let not_above : 1 ≤ l.first → ⊥ = λ b.
+    let under : (slot_at ss 0).group < 0 = here.below 0 b in
+    omega arith in
+    let low : l.first < 1 = lt_of_not-le {n = 1} {m = l.first} not_above in
+    omega arith
+
+pub no_slots : (ls : List Level) (ss : List Slot) (total : ℕ) → AreLevels ls ss total → length ls ≡ 0 → length ss ≡ 0
+no_slots ls [] total h none = refl
+no_slots ls (s ∷ ss) total h none =
+    let group : (slot_at (s ∷ ss) 0).group < length ls = h.grouped 0 (omega arith) in
+    absurd (omega arith)
+
+sum_more : (ls : List Level) (k : ℕ) → k < length ls → sum_by capacity_of (take (suc k) ls) ≡ sum_by capacity_of (take k ls) + (level_at ls k).capacity
+sum_more ls k b =
+    let both = sum_by-append capacity_of (take k ls) (level_at ls k ∷ []) in
+    let one = sum_by-cons capacity_of (level_at ls k) [] in
+    ap (sum_by capacity_of) (take-suc ls k no_level b) ∙ both ∙ omega arith
+
+begins_after : (ls : List Level) (ss : List Slot) (total k : ℕ) → AreLevels ls ss total → k < length ls → (level_at ls k).first ≤ sum_by capacity_of (take k ls)
+begins_after ls ss total zero h b =
+    let first = lowest_first ls ss total h in
+    omega arith
+begins_after ls ss total (suc k) h b =
+    let lower = begins_after ls ss total k h (omega arith) in
+    let low : IsLevel ss k (level_at ls k) = h.each k (omega arith) in
+    let high : IsLevel ss (suc k) (level_at ls (suc k)) = h.each (suc k) b in
+    let fits = level_fits ss k (level_at ls k) (level_at ls (suc k)).first low high.within (λ p b. omega (arith, high.below p b)) in
+    let one : sum_by capacity_of (take (suc k) ls) ≡ sum_by capacity_of (take k ls) + (level_at ls k).capacity = sum_more ls k (omega arith) in
+    omega arith
+
+pub slots_fit : (ls : List Level) (ss : List Slot) (total : ℕ) → AreLevels ls ss total → length ss ≤ MOST_LOCALS
+slots_fit ls ss total h =
+    ⊎_elim
+    (λ (b : 0 < length ls).
+    let begins = begins_after ls ss total (length ls - 1) h (omega arith) in
+    let top : IsLevel ss (length ls - 1) (level_at ls (length ls - 1)) = h.each (length ls - 1) (omega arith) in
+    let fits = level_fits ss (length ls - 1) (level_at ls (length ls - 1)) (length ss) top (omega arith) (λ p b. omega (arith, h.grouped p b)) in
+    let all = sum_by-take-drop capacity_of ls (length ls - 1) in
+    let last = sum_of_last ls (length ls - 1) (omega arith) in
+    let total_is : total ≡ sum_by capacity_of ls = h.counted in
+    let most : total ≤ MOST_LOCALS = h.limit in
+    omega arith)
+    (λ (b : length ls ≤ 0). omega (arith, no_slots ls ss total h (omega arith)))
+    (cases_lt 0 (length ls))

@@ -1,13 +1,14 @@
 -- A local reference is made.
-use Rattle.std.proofs.Common.{◌≡◌, ℕ, ◌+◌, ◌-◌, ◌<◌, ◌≤◌, List, [], ◌∷◌, ◌++◌, length, set, drop, refl, sym, ap, subst, arith}
+use Rattle.std.proofs.Common.{◌≡◌, ℕ, ◌+◌, ◌-◌, ◌<◌, ◌≤◌, List, [], ◌∷◌, ◌++◌, length, set, drop, true, refl, sym, ap, subst, arith}
 use Rattle.std.proofs.Math.Nat.{lt_of_not-le}
 use Rattle.std.proofs.Math.Seq.{map-set_same}
+use Rattle.std.proofs.lemmas.Bool.{ltb-true}
 use Rattle.tables.specs.declared.locals.Level.{Level}
 use Rattle.tables.specs.declared.slots.Slot.{Slot}
 use Rattle.tables.specs.References.{AreTaken}
-use Rattle.tables.specs.Locals.{Frame, current_frame, current_slots, IsMade}
+use Rattle.tables.specs.Locals.{Frame, current_frame, current_slots, live_in, has_room, IsMade}
 use Rattle.tables.specs.Slots.{taken_slot, slot_at, addresses_in, rest_of, IsFreeAt}
-use Rattle.tables.specs.Levels.{frame_of, table_in, IsLevel, AreLevels}
+use Rattle.tables.specs.Levels.{level_at, frame_of, table_in, IsLevel, AreLevels}
 use Rattle.tables.proofs.Links.{first_free}
 use Rattle.tables.proofs.References.{put_free, put_end}
 use Rattle.tables.proofs.Levels.{no_level, levels_full}
@@ -25,6 +26,15 @@ made_end ls ss total n a l h here none = record {
   frames = refl;
   slots = put_end ss (n - 1) (current_frame (table_in ls ss)).first a (current_taken ls ss total n l h here none);
 }
+
+-- and there is room for it
+pub room_at_end : (ls : List Level) (ss : List Slot) (n : ℕ) (l : Level) → Top ls ss n l → l.free.count ≡ 0 → has_room (table_in ls ss) ≡ true → length ss < (level_at ls (n - 1)).first + (level_at ls (n - 1)).capacity
+room_at_end ls ss n l here none room =
+    let less : live_in (table_in ls ss) < (current_frame (table_in ls ss)).capacity = ltb-true (live_in (table_in ls ss)) (current_frame (table_in ls ss)).capacity room in
+    let capacity : (current_frame (table_in ls ss)).capacity ≡ l.capacity = ap (λ (f : Frame). f.capacity) here.current in
+    let live : l.free.count + live_in (table_in ls ss) ≡ length ss - l.first = here.live in
+    let within : l.first ≤ length ss = here.within in
+    subst (λ (m : Level). length ss < m.first + m.capacity) here.read (omega arith)
 
 -- what is known of the first free slot of the current frame
 pub record FirstFree (ls : List Level) (ss : List Slot) (n : ℕ) (l : Level) : Type 0 where

@@ -1,17 +1,19 @@
 -- What is seen of the levels and the slots, after a change.
-use Rattle.std.proofs.Common.{◌≡◌, ℕ, ◌+◌, ◌-◌, ◌<◌, ◌≤◌, List, [], ◌∷◌, ◌++◌, length, map, get_or, set, take, drop, max, Option, true, refl, sym, ap, ◌∙◌, subst, ⊎_elim, arith}
-use Rattle.std.proofs.Math.Nat.{lt_of_not-le}
+use Rattle.std.proofs.Common.{◌≡◌, ℕ, ◌+◌, ◌-◌, ◌<◌, ◌≤◌, List, [], ◌∷◌, ◌++◌, length, map, get_or, set, take, drop, max, Option, Some, None, true, refl, sym, ap, ◌∙◌, subst, ⊎_elim, arith}
 use Rattle.std.proofs.Math.ListN.{get_or-map}
 use Rattle.std.proofs.Math.Seq.{map-set_same}
 use Rattle.std.proofs.lemmas.Bool.{ltb-true, cases_lt}
-use Rattle.std.proofs.lemmas.List.{get_or_read, get_or_past, map-set, map-append, take-map, length-map}
+use Rattle.std.specs.Prelude.{slice_get}
+use Rattle.std.specs.Option.{option_map, option_map_or}
+use Rattle.std.proofs.lemmas.Option.{slice_get-map, slice_get-get_or, slice_get_past}
+use Rattle.std.proofs.lemmas.List.{get_or_read, map-set, map-append, take-map, length-map}
 use Rattle.tables.specs.declared.locals.Level.{Level}
 use Rattle.tables.specs.declared.slots.Slot.{Slot}
 use Rattle.tables.specs.References.{references_in}
-use Rattle.tables.specs.Locals.{Frame, LocalTable, frame_at, AreStacked, current_frame, live_in, has_room, pushed, popped, ensured}
-use Rattle.tables.specs.Slots.{slot_at, addresses_in}
+use Rattle.tables.specs.Locals.{Frame, LocalTable, frame_at, end_of, AreStacked, current_frame, live_in, has_room, pushed, popped, ensured}
+use Rattle.tables.specs.Slots.{addresses_in}
 use Rattle.tables.specs.Levels.{level_at, frame_of, table_in, IsLevel, AreLevels}
-use Rattle.tables.proofs.Levels.{no_level, live_count, lower_first}
+use Rattle.tables.proofs.Levels.{no_level, live_count, lower_first, level_fits, lowest_first, no_slots}
 
 abbrev table : List Frame → List (Option ℕ) → LocalTable
 table frames slots = record { frames = frames; slots = slots }
@@ -83,6 +85,7 @@ pub record Top (ls : List Level) (ss : List Slot) (n : ℕ) (l : Level) : Type 0
   pub current : current_frame (table_in ls ss) ≡ frame_of l
   pub live : l.free.count + live_in (table_in ls ss) ≡ length ss - l.first
   pub within : l.first ≤ length ss
+  pub fits : length ss ≤ l.first + l.capacity
 
 pub some_level : (ls : List Level) (ss : List Slot) (t : LocalTable) → table_in ls ss ≡ t → 0 < length t.frames → 0 < length ls
 some_level ls ss t e some =
@@ -101,6 +104,7 @@ top ls ss total n l h some count value =
       current = seen_current ls ss (n - 1) l last read;
       live = seen_live ls ss total (n - 1) l h last read;
       within = here.within;
+      fits = level_fits ss (n - 1) l (length ss) here (omega arith) (λ p b. omega (arith, h.grouped p b));
     }
 
 some_frame : (fs : List Frame) (xs : List (Option ℕ)) → has_room (table fs xs) ≡ true → 0 < length fs
@@ -116,28 +120,37 @@ level_of_room ls ss t e room = some_level ls ss t e (some_frame t.frames t.slots
 seen_frame : (ls : List Level) (ss : List Slot) (k : ℕ) → frame_at (table_in ls ss) k ≡ frame_of (level_at ls k)
 seen_frame ls ss k = get_or-map frame_of ls k no_level
 
-begins_within : (ls : List Level) (ss : List Slot) (total k : ℕ) → AreLevels ls ss total → (level_at ls k).first ≤ length ss
-begins_within ls ss total k h =
+-- where a frame ends
+seen_end : (ls : List Level) (ss : List Slot) (k : ℕ) → k + 1 < length ls → end_of (table_in ls ss) k ≡ (level_at ls (k + 1)).first
+seen_end ls ss k b =
+    let here : slice_get (map frame_of ls) (k + 1) ≡ Some (frame_of (level_at ls (k + 1))) = slice_get-map frame_of ls (k + 1) ∙ ap (λ (o : Option Level). option_map frame_of o) (slice_get-get_or ls (k + 1) no_level b) in
+    ap (λ (o : Option Frame). option_map_or (λ (f : Frame). f.first) o (length (addresses_in ss))) here
+
+seen_last_end : (ls : List Level) (ss : List Slot) (k : ℕ) → length ls ≤ k + 1 → end_of (table_in ls ss) k ≡ length ss
+seen_last_end ls ss k b =
+    let here : slice_get (map frame_of ls) (k + 1) ≡ None = slice_get-map frame_of ls (k + 1) ∙ ap (λ (o : Option Level). option_map frame_of o) (slice_get_past ls (k + 1) b) in
+    ap (λ (o : Option Frame). option_map_or (λ (f : Frame). f.first) o (length (addresses_in ss))) here ∙ length-map ss address_of
+
+-- a frame begins no higher than it ends, and fits
+pub record Fits (ls : List Level) (ss : List Slot) (k : ℕ) : Type 0 where
+  pub rising : (level_at ls k).first ≤ end_of (table_in ls ss) k
+  pub fits : end_of (table_in ls ss) k ≤ (level_at ls k).first + (level_at ls k).capacity
+
+frame_fits : (ls : List Level) (ss : List Slot) (total k : ℕ) → AreLevels ls ss total → k < length ls → Fits ls ss k
+frame_fits ls ss total k h b =
+    let low : IsLevel ss k (level_at ls k) = h.each k b in
     ⊎_elim
-    (λ (b : k < length ls). (h.each k b).within)
-    (λ (b : length ls ≤ k). omega (arith, ap (λ (l : Level). l.first) (get_or_past ls k no_level b)))
-    (cases_lt k (length ls))
-
-lowest_first : (ls : List Level) (ss : List Slot) (total : ℕ) → AreLevels ls ss total → (level_at ls 0).first ≡ 0
-lowest_first [] ss total h = refl
-lowest_first (l ∷ ls) ss total h =
-    let here : IsLevel ss 0 l = h.each 0 (omega arith) in
-    let not_above : 1 ≤ l.first → ⊥ = λ b.
-    let under : (slot_at ss 0).group < 0 = here.below 0 b in
-    omega arith in
-    let low : l.first < 1 = lt_of_not-le {n = 1} {m = l.first} not_above in
-    omega arith
-
-no_slots : (ls : List Level) (ss : List Slot) (total : ℕ) → AreLevels ls ss total → length ls ≡ 0 → length ss ≡ 0
-no_slots ls [] total h none = refl
-no_slots ls (s ∷ ss) total h none =
-    let group : (slot_at (s ∷ ss) 0).group < length ls = h.grouped 0 (omega arith) in
-    absurd (omega arith)
+    (λ (more : k + 1 < length ls).
+    let high : IsLevel ss (k + 1) (level_at ls (k + 1)) = h.each (k + 1) more in
+    let order = lower_first ss k (k + 1) (level_at ls k) (level_at ls (k + 1)) low high (omega arith) in
+    let fits = level_fits ss k (level_at ls k) (level_at ls (k + 1)).first low high.within high.below in
+    let end = seen_end ls ss k more in
+    record { rising = omega arith; fits = omega arith })
+    (λ (last : length ls ≤ k + 1).
+    let fits = level_fits ss k (level_at ls k) (length ss) low (omega arith) (λ p b. omega (arith, h.grouped p b)) in
+    let end = seen_last_end ls ss k last in
+    record { rising = omega (arith, low.within); fits = omega arith })
+    (cases_lt (k + 1) (length ls))
 
 pub seen_stacked : (ls : List Level) (ss : List Slot) (total : ℕ) → AreLevels ls ss total → AreStacked (table_in ls ss)
 seen_stacked ls ss total h =
@@ -145,14 +158,8 @@ seen_stacked ls ss total h =
     let count' = length-map ss address_of in
     record {
       lowest = ap (λ (f : Frame). f.first) (seen_frame ls ss 0) ∙ lowest_first ls ss total h;
-      rising = λ k b.
-          let low = ap (λ (f : Frame). f.first) (seen_frame ls ss k) in
-          let high = ap (λ (f : Frame). f.first) (seen_frame ls ss (k + 1)) in
-          let order = lower_first ss k (k + 1) (level_at ls k) (level_at ls (k + 1)) (h.each k (omega arith)) (h.each (k + 1) (omega arith)) (omega arith) in
-          omega arith;
-      within = λ k.
-          let first = ap (λ (f : Frame). f.first) (seen_frame ls ss k) in
-          omega (arith, begins_within ls ss total k h);
+      rising = λ k b. subst (λ (f : Frame). f.first ≤ end_of (table_in ls ss) k) (sym (seen_frame ls ss k)) (frame_fits ls ss total k h (omega arith)).rising;
+      fits = λ k b. subst (λ (f : Frame). end_of (table_in ls ss) k ≤ f.first + f.capacity) (sym (seen_frame ls ss k)) (frame_fits ls ss total k h (omega arith)).fits;
       empty = λ none.
           let no = no_slots ls ss total h (omega arith) in
           omega arith;

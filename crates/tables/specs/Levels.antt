@@ -1,5 +1,5 @@
 -- How frames of local references are held.
-use Rattle.std.specs.Prelude.{◌≡◌, ℕ, ◌<◌, ◌≤◌, List, length, map, slice_index_or, sum_by}
+use Rattle.std.specs.Prelude.{◌≡◌, ℕ, ◌+◌, ◌<◌, ◌≤◌, List, length, map, slice_index_or, sum_by}
 use Rattle.tables.specs.declared.locals.TheConstants.{MOST_LOCALS}
 use Rattle.tables.specs.declared.locals.Level.{Level}
 use Rattle.tables.specs.declared.slots.Slot.{Slot}
@@ -18,12 +18,14 @@ frame_of l = record { capacity = l.capacity; first = l.first }
 abbrev pub table_in : List Level → List Slot → LocalTable
 table_in levels slots = record { frames = map frame_of levels; slots = addresses_in slots }
 
--- a level's group is its number: its slots are those from its first one on that are of no higher group
+-- a level's group is its number: its slots are those from its first one on that are of no higher group, at most as many as
+-- its capacity
 pub record IsLevel (slots : List Slot) (k : ℕ) (l : Level) : Type 0 where
   pub free : AreFree slots k l.free
   pub within : l.first ≤ length slots
   pub below : (p : ℕ) → p < l.first → (slot_at slots p).group < k
   pub above : (p : ℕ) → l.first ≤ p → p < length slots → k ≤ (slot_at slots p).group
+  pub room : (p : ℕ) → p < length slots → (slot_at slots p).group ≡ k → p < l.first + l.capacity
 
 -- each slot is of a level
 pub record AreLevels (levels : List Level) (slots : List Slot) (total : ℕ) : Type 0 where

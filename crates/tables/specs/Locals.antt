@@ -1,5 +1,6 @@
 -- Local references in frames.
-use Rattle.std.specs.Prelude.{◌≡◌, ℕ, ◌+◌, ◌-◌, ◌<◌, ◌≤◌, max, List, [], ◌∷◌, ◌++◌, length, take, drop, sum_by, slice_index_or, slice_set, Option, Some, None, Bool, nat_lt}
+use Rattle.std.specs.Prelude.{◌≡◌, ℕ, ◌+◌, ◌-◌, ◌<◌, ◌≤◌, max, List, [], ◌∷◌, ◌++◌, length, take, drop, sum_by, slice_get, slice_index_or, slice_set, Option, Some, None, Bool, nat_lt}
+use Rattle.std.specs.Option.{option_map_or}
 use Rattle.tables.specs.References.{references_in, IsPut}
 
 -- a frame: how many references it may have, and the place of its first slot
@@ -16,11 +17,15 @@ pub record LocalTable : Type 0 where
 abbrev pub frame_at : LocalTable → ℕ → Frame
 frame_at t k = slice_index_or t.frames k (record { capacity = 0; first = 0 })
 
--- each slot is of a frame, and the frames lie one above another
+-- where its slots end: where the next frame begins, or with the last slot
+abbrev pub end_of : LocalTable → ℕ → ℕ
+end_of t k = option_map_or (λ (f : Frame). f.first) (slice_get t.frames (k + 1)) (length t.slots)
+
+-- the frames lie one above another from the first slot to the last, and none has more slots than its capacity
 pub record AreStacked (t : LocalTable) : Type 0 where
   pub lowest : (frame_at t 0).first ≡ 0
-  pub rising : (k : ℕ) → k + 1 < length t.frames → (frame_at t k).first ≤ (frame_at t (k + 1)).first
-  pub within : (k : ℕ) → (frame_at t k).first ≤ length t.slots
+  pub rising : (k : ℕ) → k < length t.frames → (frame_at t k).first ≤ end_of t k
+  pub fits : (k : ℕ) → k < length t.frames → end_of t k ≤ (frame_at t k).first + (frame_at t k).capacity
   pub empty : length t.frames ≡ 0 → length t.slots ≡ 0
 
 -- the current frame, which is the highest

@@ -3,7 +3,7 @@
 ghost use Rattle.std.specs.Prelude.{◌≡◌, ◌<◌, ◌≤◌, true, [], None, Some, IsSome, if◌then◌else◌, nat_lt, length, slice_get, ok_or, IfOk, IfErr, OnOk, OnErr};
 ghost use Rattle.tables.specs.declared.fault.TableFault.TheVariants.{Full, Dead, Memory};
 ghost use Rattle.tables.specs.References.{address_at, AreTaken};
-ghost use Rattle.tables.specs.Locals.{AreStacked, IsMade, capacities, current_slots, ensured, has_room, live_in, popped, pushed, with_address, without};
+ghost use Rattle.tables.specs.Locals.{AreStacked, IsMade, capacities, current_frame, current_slots, ensured, has_room, live_in, popped, pushed, with_address, without};
 
 use crate::fault::TableFault;
 use crate::slots::{Free, Slot};
@@ -32,11 +32,11 @@ impl Model for Local {
 
 /// A frame, and which of its slots are free. Its number is the group of its slots.
 #[derive(Clone, Copy)]
-pub struct Level {
-    pub capacity: u32,
+struct Level {
+    capacity: u32,
     /// The place of its first slot.
-    pub first: usize,
-    pub free: Free,
+    first: usize,
+    free: Free,
 }
 
 /// The local references of one thread, in frames (JNI Specification, chapter 2, "Global and Local References" and
@@ -135,7 +135,7 @@ impl Locals {
         let current = self.levels.len() - 1;
         let capacity = self.levels[current].capacity;
         let most = (MOST_LOCALS - self.total + capacity) as usize;
-        if live > most || more as usize > most - live {
+        if more as usize > most - live {
             return Err(TableFault::Full);
         }
         let wanted = live as u32 + more;
@@ -149,7 +149,8 @@ impl Locals {
     /// The number of the current frame's references.
     fn live(&self) -> usize
         requires { 0 < length self.now.frames }
-        ensures { result ≡ live_in self.now }
+        ensures count { result ≡ live_in self.now }
+        ensures limit { result ≤ (current_frame self.now).capacity }
     {
         let current = self.levels.len() - 1;
         let level = self.levels[current];
@@ -242,7 +243,8 @@ impl Locals {
 
     /// The number of slots.
     pub fn len(&self) -> usize
-        ensures { result ≡ length self.now.slots }
+        ensures count { result ≡ length self.now.slots }
+        ensures limit { result ≤ MOST_LOCALS }
     {
         self.slots.len()
     }

@@ -4,10 +4,11 @@ use Rattle.std.proofs.lemmas.Result.{err_from_is_err_and}
 use Rattle.tables.specs.declared.slots.Slot.{Slot}
 use Rattle.tables.specs.References.{AreTaken}
 use Rattle.tables.specs.Locals.{LocalTable, has_room, current_slots}
+use Rattle.tables.specs.Levels.{table_in}
 use Rattle.tables.proofs.Links.{no_slot}
 use Rattle.tables.proofs.Levels.{levels_added, levels_taken}
 use Rattle.tables.proofs.TableViews.{level_of_room, top}
-use Rattle.tables.proofs.Makes.{current_taken, made_end, first_of_level, made_free}
+use Rattle.tables.proofs.Makes.{current_taken, made_end, room_at_end, first_of_level, made_free}
 use Rattle.tables.proofs.locals.Locals.make.Goals as goal
 
 pub returns-in_err-push-clause-taken : goal.returns-in_err-push-clause-taken
@@ -25,7 +26,9 @@ invariant_of-self-then-free-eq0 c =
     let room : has_room c.args.self.now ≡ true = search rules in
     let some = level_of_room c.self.inside.levels.items c.self.inside.slots.items c.args.self.now c.self.view_is room in
     let here = top c.self.inside.levels.items c.self.inside.slots.items c.self.inside.total c.len-current.result c.index.result.now c.self.invariant some (c.len-current.ensures ∙ c.self.inside.levels.ok.0) c.index.ensures in
-    rw c.in_ok-push.ensures.items (levels_added c.self.inside.levels.items c.self.inside.slots.items c.self.inside.total (c.len-current.result - 1) c.args.addr c.self.invariant here.last)
+    let room' : has_room (table_in c.self.inside.levels.items c.self.inside.slots.items) ≡ true = subst (λ (t : LocalTable). has_room t ≡ true) (sym c.self.view_is) room in
+    let at_end = room_at_end c.self.inside.levels.items c.self.inside.slots.items c.len-current.result c.index.result.now here c.if-free-eq0.true room' in
+    rw c.in_ok-push.ensures.items (levels_added c.self.inside.levels.items c.self.inside.slots.items c.self.inside.total (c.len-current.result - 1) c.args.addr c.self.invariant here.last at_end)
 
 pub returns-then-free-eq0-clause-made : goal.returns-then-free-eq0-clause-made
 returns-then-free-eq0-clause-made c =
