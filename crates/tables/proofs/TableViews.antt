@@ -112,8 +112,8 @@ some_frame [] xs room = absurd (omega (arith, ltb-true (live_in (table [] xs)) 0
 some_frame (f ∷ fs) xs room = omega arith
 
 -- where there is room there is a level
-pub level_of_room : (ls : List Level) (ss : List Slot) (t : LocalTable) → table_in ls ss ≡ t → has_room t ≡ true → 0 < length ls
-level_of_room ls ss t e room = some_level ls ss t e (some_frame t.frames t.slots room)
+pub top_of_room : (ls : List Level) (ss : List Slot) (total : ℕ) (t : LocalTable) (n : ℕ) (l : Level) → AreLevels ls ss total → table_in ls ss ≡ t → has_room t ≡ true → n ≡ length ls → l ≡ get_or ls (n - 1) l → Top ls ss n l
+top_of_room ls ss total t n l h e room count value = top ls ss total n l h (some_level ls ss t e (some_frame t.frames t.slots room)) count value
 
 -- ---- how the frames lie
 

@@ -28,7 +28,7 @@ impl Model for Global {
 }
 
 /// The global references (JNI Specification, chapter 2, "Global and Local References"), seen as the addresses in their
-/// slots.
+/// slots. A slot that was freed is used again, so there are never more slots than there were references at one time.
 ///
 /// None but `make` takes host memory. Each call takes constant time, but for a vector's growth in `make`.
 #[derive(Drop)]

@@ -40,7 +40,8 @@ struct Level {
 }
 
 /// The local references of one thread, in frames (JNI Specification, chapter 2, "Global and Local References" and
-/// "Implementing Local References").
+/// "Implementing Local References"), seen as the frames and the addresses in their slots. A slot that was freed is used
+/// again, so there are never more slots than the frames have room for.
 ///
 /// None but `push` and `make` takes host memory. Each call takes constant time, but for `pop`, which takes time for the
 /// slots of one frame, and for a vector's growth in `push` and `make`.
@@ -76,7 +77,7 @@ impl Locals {
         }
     }
 
-    /// The number of frames.
+    /// The number of frames. A frame of no capacity counts too.
     pub fn frames(&self) -> usize
         ensures count { result ≡ length self.now.frames }
         ensures stacked { AreStacked self.now }
