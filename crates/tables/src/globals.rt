@@ -39,7 +39,7 @@ pub struct Globals {
 }
 
 impl Model for Globals {
-    ghost use Rattle.std.specs.Prelude.{◌≡◌, ◌<◌, ℕ, List, Option, length};
+    ghost use Rattle.std.specs.Prelude.{ℕ, List, Option};
     ghost use Rattle.tables.specs.Slots.{addresses_in, AreGlobals};
 
     ghost Value = { List (Option ℕ) };

@@ -162,7 +162,7 @@ impl Locals {
     pub fn has_room(&self) -> bool
         ensures { result ≡ has_room self.now }
     {
-        if self.levels.len() == 0 {
+        if self.levels.is_empty() {
             return false;
         }
         let current = self.levels.len() - 1;
