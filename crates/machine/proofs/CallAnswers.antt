@@ -107,8 +107,13 @@ module _ (classes : Classes) (space : Space) (references : List (Option ℕ)) (f
   no_text operand.Number a fits h = absurd (cc)
   no_text (operand.FieldId i) a fits h = absurd (cc)
   no_text operand.Text a fits h = absurd (cc)
+  no_text (operand.Array array) a fits h = ap does.text_given h.1
+  no_text (operand.Buffer i) a fits h = ap does.text_given h.1
+  no_text (operand.Mode mode) a fits h = ap does.text_given h.1
+  no_text (operand.IsCopy i) a fits h = ap does.text_given h.1
   no_text operand.Null a fits (inl h) = ap does.text_given h.is
-  no_text operand.Null a fits (inr h) = ap does.text_given h.is
+  no_text operand.Null a fits (inr (inl h)) = ap does.text_given h.is
+  no_text operand.Null a fits (inr (inr h)) = ap does.text_given h
   no_text (operand.Local i) a fits h = ap does.text_given h.is
   no_text (operand.Static i) a fits h = ap does.text_given h.is
 
@@ -116,8 +121,11 @@ module _ (classes : Classes) (space : Space) (references : List (Option ℕ)) (f
   one_text operand.Number a fits h = absurd (cc)
   one_text (operand.FieldId i) a fits h = absurd (cc)
   one_text operand.Text a fits h = ap does.text_given h.1 ∙ ap (λ (b : Actual). text_in_actual (Some b) ∷ []) (sym h.1)
-  one_text operand.Null a (inl fits) h = absurd fits
-  one_text operand.Null a (inr fits) h = absurd (cc)
+  one_text operand.Null a fits h = absurd fits
+  one_text (operand.Array array) a fits h = absurd (let e = fits.1 in cc)
+  one_text (operand.Buffer i) a fits h = absurd (let e = fits.1 in cc)
+  one_text (operand.Mode mode) a fits h = absurd (cc)
+  one_text (operand.IsCopy i) a fits h = absurd (cc)
   one_text (operand.Local i) a fits h = absurd fits
   one_text (operand.Static i) a fits h = absurd fits
 
@@ -170,6 +178,10 @@ module _ (classes : Classes) (space : Space) (references : List (Option ℕ)) (f
   object_in p kind field operand.Number fits number text h = absurd (number fits)
   object_in p kind field (operand.FieldId i) fits number text h = absurd (field fits)
   object_in p kind field operand.Text fits number text h = absurd (text fits)
+  object_in p kind field (operand.Array array) fits number text h = absurd (subst IsReferenceKind fits.1 kind)
+  object_in p kind field (operand.Buffer i) fits number text h = absurd (subst IsReferenceKind fits.1 kind)
+  object_in p kind field (operand.Mode mode) fits number text h = absurd (subst IsReferenceKind fits kind)
+  object_in p kind field (operand.IsCopy i) fits number text h = absurd (subst IsReferenceKind fits kind)
   object_in p kind field operand.Null fits number text h = absurd (cc)
   object_in p kind field (operand.Static i) fits number text h = absurd (cc)
   object_in p kind field (operand.Local i) fits number text h = some_address (operand_at references (operand.Local i)) h
@@ -211,6 +223,10 @@ module _ (classes : Classes) (space : Space) (references : List (Option ℕ)) (f
   handle_in operand.Number fits h = absurd (cc)
   handle_in operand.Text fits h = absurd (cc)
   handle_in operand.Null fits h = absurd (cc)
+  handle_in (operand.Array array) fits h = absurd (let e = fits.1 in cc)
+  handle_in (operand.Buffer i) fits h = absurd (let e = fits.1 in cc)
+  handle_in (operand.Mode mode) fits h = absurd (cc)
+  handle_in (operand.IsCopy i) fits h = absurd (cc)
   handle_in (operand.Local i) fits h = absurd fits
   handle_in (operand.Static i) fits h = absurd fits
   handle_in (operand.FieldId i) fits h = some_handle (field_at fields (operand.FieldId i)) h
@@ -244,8 +260,11 @@ module _ (classes : Classes) (space : Space) (references : List (Option ℕ)) (f
       is_number : (o : Operand) (a : Actual) → OperandFits IntNumber o → IsGiven classes space references fields o a → (z : ℤ) × (a ≡ NumberActual z) × FitsSigned w32 z
       is_number operand.Number a fits h = h
       is_number operand.Text a fits h = absurd (cc)
-      is_number operand.Null a (inl fits) h = absurd fits
-      is_number operand.Null a (inr fits) h = absurd (cc)
+      is_number operand.Null a fits h = absurd fits
+      is_number (operand.Array array) a fits h = absurd (let e = fits.1 in cc)
+      is_number (operand.Buffer i) a fits h = absurd (let e = fits.1 in cc)
+      is_number (operand.Mode mode) a fits h = absurd (cc)
+      is_number (operand.IsCopy i) a fits h = absurd (cc)
       is_number (operand.Local i) a fits h = absurd fits
       is_number (operand.Static i) a fits h = absurd fits
       is_number (operand.FieldId i) a fits h = absurd (cc)
@@ -254,7 +273,12 @@ module _ (classes : Classes) (space : Space) (references : List (Option ℕ)) (f
       no_word operand.Number a kind fits h = absurd (subst IsReferenceKind fits kind)
       no_word operand.Text a kind fits h = ap does.word_given h.1
       no_word operand.Null a kind fits (inl h) = ap does.word_given h.is
-      no_word operand.Null a kind fits (inr h) = ap does.word_given h.is
+      no_word operand.Null a kind fits (inr (inl h)) = ap does.word_given h.is
+      no_word operand.Null a kind fits (inr (inr h)) = ap does.word_given h
+      no_word (operand.Array array) a kind fits h = ap does.word_given h.1
+      no_word (operand.Buffer i) a kind fits h = ap does.word_given h.1
+      no_word (operand.Mode mode) a kind fits h = ap does.word_given h.1
+      no_word (operand.IsCopy i) a kind fits h = ap does.word_given h.1
       no_word (operand.Local i) a kind fits h = ap does.word_given h.is
       no_word (operand.Static i) a kind fits h = ap does.word_given h.is
       no_word (operand.FieldId i) a kind fits h = ap does.word_given h.is
@@ -263,7 +287,12 @@ module _ (classes : Classes) (space : Space) (references : List (Option ℕ)) (f
       no_word_of_field operand.Number a fits h = absurd (cc)
       no_word_of_field operand.Text a fits h = absurd (cc)
       no_word_of_field operand.Null a fits (inl h) = ap does.word_given h.is
-      no_word_of_field operand.Null a fits (inr h) = ap does.word_given h.is
+      no_word_of_field operand.Null a fits (inr (inl h)) = ap does.word_given h.is
+      no_word_of_field operand.Null a fits (inr (inr h)) = ap does.word_given h
+      no_word_of_field (operand.Array array) a fits h = ap does.word_given h.1
+      no_word_of_field (operand.Buffer i) a fits h = ap does.word_given h.1
+      no_word_of_field (operand.Mode mode) a fits h = ap does.word_given h.1
+      no_word_of_field (operand.IsCopy i) a fits h = ap does.word_given h.1
       no_word_of_field (operand.Local i) a fits h = absurd fits
       no_word_of_field (operand.Static i) a fits h = absurd fits
       no_word_of_field (operand.FieldId i) a fits h = ap does.word_given h.is

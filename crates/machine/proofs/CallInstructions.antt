@@ -200,6 +200,7 @@ module _ (p : Lowered) (w : World) (store : Store) (pending : Option ℕ) (call 
           answered = answered_there f c.built;
           count = c.count;
           kinds = subst (λ (x : Call). AllZip OperandFits (prototype f).parameters x.operands) same c.kinds;
+          fit = c.fit;
           given = given;
           words = c.words;
           texts = ap (λ (x : Call). x.texts) (sym same) ∙ c.texts;
