@@ -13,6 +13,7 @@ use Rattle.classes.specs.Class.{Classes}
 use Rattle.classes.specs.Mangling.{unmangle}
 use Rattle.jni.specs.Prototype.{function_named}
 use Rattle.types.specs.SortRules.{SortRule, sort_rule_number, IsSorted}
+use Rattle.source.specs.declared.journal.Entry.{Entry}
 use Rattle.source.specs.declared.journal.Entry.TheVariants.{Step}
 use Rattle.source.specs.declared.schedule.ScheduleWord.{ScheduleWord}
 use Rattle.source.specs.declared.schedule.ScheduleWord.TheVariants.{Turn, Collect}
