@@ -108,14 +108,7 @@ fn take_turn<'a>(
     if !is_unfinished(thread.ending) {
         return Ok(false);
     }
-    let step = take_step(
-        alloc,
-        items,
-        state.world,
-        &mut state.store,
-        refused,
-        thread,
-    )?;
+    let step = take_step(alloc, items, state.world, &mut state.store, refused, thread)?;
     let possible = note(state, k, step)?;
     Ok(possible)
 }
