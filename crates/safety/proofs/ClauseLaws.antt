@@ -21,9 +21,9 @@ use Rattle.source.specs.Term as term
 use Rattle.source.specs.Term.{Term, Done, Read, IsNull, Prefix, And, Or, Binary}
 use Rattle.source.specs.Thread.{Frame}
 use Rattle.source.specs.Variable.{Variable, LocalRef, Elements, Buffer, NoBuffer, Copy, View, StaticReference, Variables, Statics, viewed}
-use Rattle.safety.specs.Points.{Point, IsLive, IsUsable, NullTestFits, ElementsFit, ReferenceFits, HasSort, IsNumberSort, ReferenceArgumentFits, NameFits, FieldArgumentFits, ModeFits, CopyFits, TextFits, GivenFits, OperandFits, OperandsFit, is_copy, owns, owners}
+use Rattle.safety.specs.Points.{Point, AreOnce, IsLive, IsUsable, NullTestFits, ElementsFit, ReferenceFits, HasSort, IsNumberSort, ReferenceArgumentFits, NameFits, FieldArgumentFits, ModeFits, CopyFits, TextFits, GivenFits, OperandFits, OperandsFit, is_copy, owns, owners}
 use Rattle.safety.specs.StepSafe.{MayMeetView, is_lent, references_at, IsAlive}
-use Rattle.safety.specs.Stands.{VariableFits, IsOf, Shows, AreOnce, Stands}
+use Rattle.safety.specs.Stands.{VariableFits, IsOf, Shows, Stands}
 use Rattle.safety.specs.Used.{term_names, argument_names, operand_names, task_names}
 use Rattle.safety.specs.Wanted.{Holds, HasNoView, MeetsViews, MayReturnFrom, ReturnedFits, ReturnFits, Runs}
 use Rattle.safety.proofs.NameLaws.{front_same, front_other}

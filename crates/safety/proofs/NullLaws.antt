@@ -20,7 +20,7 @@ use Rattle.safety.specs.Points.{Point, is_copy, owns}
 use Rattle.safety.specs.Stands.{VariableFits, Shows, Stands}
 use Rattle.safety.specs.Wanted.{Holds, IsNew, MaySet, revived, DeclaresNull, AssignsNull, SetsNullThere, GoesOn, at, named}
 use Rattle.safety.proofs.NameLaws.{one_or_other, lookup_same, lookup_other, front_same, front_other, known_same, known_other}
-use Rattle.safety.proofs.SetLaws.{stands_new, stands_kept, stands_at, owners_elsewhere, sorts_named, sorts_kept}
+use Rattle.safety.proofs.SetLaws.{once_changed, stands_new, stands_kept, stands_at, owners_elsewhere, sorts_named, sorts_kept}
 use Rattle.safety.proofs.StepLaws.{Lands, null_declared}
 
 module _ (classes : Classes) (lent : BuffersInUse) (k : ℕ) (s : Shared) (t : Thread) (rest : List Task) (p : Point) (stands : Stands s.statics t.variables t.frames p) where
@@ -44,6 +44,7 @@ module _ (classes : Classes) (lent : BuffersInUse) (k : ℕ) (s : Shared) (t : T
         subst (λ (v : VariableState). Shows (assign x (Elements u NoBuffer) t.variables) v (Some (Elements u NoBuffer))) one (u, NoBuffer, refl, refl);
     sorts = sorts_named s.statics t.variables t.frames p stands x (Elements u NoBuffer) (sort.Buffer u w) (u, NoBuffer, refl);
     held = λ v b e. inl (null_buffer u v b e);
+    known_once = (new.unknown, stands.known_once);
     depth = stands.depth;
     backed = λ level n.
         let same = owners_elsewhere t.variables x (Elements u NoBuffer) level n p.regions.variables new.unknown in
@@ -65,6 +66,7 @@ module _ (classes : Classes) (lent : BuffersInUse) (k : ℕ) (s : Shared) (t : T
     shows = stands.shows;
     held = stands.held;
     once = stands.once;
+    known_once = stands.known_once;
     depth = stands.depth;
     backed = stands.backed;
   }
@@ -137,6 +139,7 @@ module _ (classes : Classes) (lent : BuffersInUse) (k : ℕ) (s : Shared) (t : T
         subst (λ (v : VariableState). Shows (assign x (LocalRef p.regions.frames None) t.variables) v (Some (LocalRef p.regions.frames None))) one (None, refl);
     sorts = sorts_kept s.statics t.variables t.frames p stands x (LocalRef p.regions.frames None) sort.Ref e (p.regions.frames, None, refl);
     held = λ u b h. absurd (ref_no_buffer p.regions.frames None u b h);
+    known_once = once_changed (λ (y : Identifier) (old : VariableState). if bytes_eq x y then revived old else old) p.regions.variables stands.known_once;
     depth = stands.depth;
     backed = λ level n. let fewer = fewer_owners x p.regions.frames level n p.regions.variables in let enough = stands.backed level n in omega (arith, fewer, enough);
   })

@@ -14,6 +14,7 @@ use Rattle.safety.specs.Points.{Point, owns, owners}
 use Rattle.safety.specs.Stands.{Shows, BufferShows, Stands}
 use Rattle.safety.specs.Wanted.{Closes, Holds, at}
 use Rattle.safety.proofs.NameLaws.{one_or_other, known_same, known_other}
+use Rattle.safety.proofs.SetLaws.{once_changed}
 
 pub stands_after : (ss : Statics) (vs : Variables) (frames : List Frame) (p q : Point) → Stands ss vs frames p → Closes p q → Stands ss vs frames q
 stands_after ss vs frames p q stands closes = record {
@@ -21,6 +22,7 @@ stands_after ss vs frames p q stands closes = record {
   shows = λ x v e. stands.shows x v (closes.known x v e);
   held = λ x u b e. elim (stands.held x u b e) [ inl none ↦ inl none | inr h ↦ inr (h.0, h.1, closes.held x h.0 h.1 h.2) ];
   once = stands.once;
+  known_once = closes.once;
   depth = stands.depth ∙ closes.frames;
   backed = λ level n. let fewer = closes.owners vs level n in let enough = stands.backed level n in omega (arith, fewer, enough);
 }
@@ -124,6 +126,7 @@ module _ (ss : Statics) (vs : Variables) (frames : List Frame) (p : Point) (stan
       | inr other ↦ elim (stands.held y u b h) [ inl none ↦ inl none | inr k ↦ inr (k.0, k.1, other_held made_free y k.0 k.1 other k.2) ]
     ];
     once = stands.once;
+    known_once = once_changed (λ (y : Identifier) (old : VariableState). if bytes_eq x y then made_free old else old) p.regions.variables stands.known_once;
     depth = stands.depth;
     backed = λ level n. let same = owners_kept vs level n x made_free p.regions (free_owns vs level n) in let enough = stands.backed level n in omega (arith, same, enough);
   }
@@ -141,6 +144,7 @@ module _ (ss : Statics) (vs : Variables) (frames : List Frame) (p : Point) (stan
       ]
     ];
     once = stands.once;
+    known_once = once_changed (λ (y : Identifier) (old : VariableState). if bytes_eq x y then made_usable old else old) p.regions.variables stands.known_once;
     depth = stands.depth;
     backed = λ level n. let same = owners_kept vs level n x made_usable p.regions (usable_owns vs level n) in let enough = stands.backed level n in omega (arith, same, enough);
   }

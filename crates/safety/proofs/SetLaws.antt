@@ -1,5 +1,5 @@
 -- A thread stands where it stood once a variable is set of which nothing is known, and where it is known newly.
-use Rattle.std.proofs.Common.{◌≡◌, ◌≢◌, ℕ, ◌≤◌, arith, Bool, true, false, ◌&&◌, ◌⊎◌, inl, inr, List, [], ◌∷◌, filter, length, Option, Some, None, refl, sym, ap, ◌∙◌, subst, if◌then◌else◌}
+use Rattle.std.proofs.Common.{◌≡◌, ◌≢◌, ℕ, ◌≤◌, arith, Bool, true, false, ◌&&◌, ◌⊎◌, inl, inr, List, [], ◌∷◌, map, filter, length, Option, Some, None, refl, sym, ap, ◌∙◌, subst, if◌then◌else◌}
 use Rattle.std.specs.Str.{bytes_eq}
 use Rattle.std.proofs.lemmas.Slice.Eq.{bytes_eq-Decides}
 use Rattle.base.specs.Bytes.{Identifier, ByName, lookup}
@@ -8,9 +8,9 @@ use Rattle.types.specs.Sorts.{Sort, sort_in, Scope}
 use Rattle.regions.specs.RegionStates.{VariableState, Free, Untested, Usable, ReferenceAt, BufferIn, state_of}
 use Rattle.source.specs.Thread.{Frame}
 use Rattle.source.specs.Variable.{Variable, Elements, LocalRef, Buffer, NoBuffer, Variables, Statics, assign}
-use Rattle.safety.specs.Points.{Point, is_copy, owns, owners}
+use Rattle.safety.specs.Points.{Point, AreOnce, is_copy, owns, owners}
 use Rattle.safety.specs.StepSafe.{references_at}
-use Rattle.safety.specs.Stands.{VariableFits, Shows, Lends, AreOnce, copies, Stands}
+use Rattle.safety.specs.Stands.{VariableFits, Shows, Lends, copies, Stands}
 use Rattle.safety.specs.Wanted.{Holds, IsNew, named}
 use Rattle.safety.proofs.NameLaws.{one_or_other, front_same, front_other, lookup_same, lookup_other}
 
@@ -26,6 +26,20 @@ once_after x w ((y, v) ∷ rest) h = by_test (bytes_eq x y) refl (once_after x w
     by_test : (b : Bool) → bytes_eq x y ≡ b → AreOnce (assign x w rest) → AreOnce (if b then (x, w) ∷ rest else (y, v) ∷ assign x w rest)
     by_test true e later = (subst (λ (z : Identifier). lookup z rest ≡ None) (sym ((bytes_eq-Decides x y).0 e)) h.0, h.1)
     by_test false e later = (lookup_other x y w rest (λ same. let t : bytes_eq x y ≡ true = (bytes_eq-Decides x y).1 (sym same) in let c : true ≡ false = sym t ∙ e in cc) ∙ h.0, later)
+
+-- what is known of each name, changed
+pub none_changed : (change : Identifier → VariableState → VariableState) (y : Identifier) (vs : ByName VariableState) → lookup y vs ≡ None → lookup y (map (λ (v : Identifier × VariableState). (v.0, change v.0 v.1)) vs) ≡ None
+none_changed change y [] e = refl
+none_changed change y ((z, v) ∷ rest) e = by_test (bytes_eq y z) e (none_changed change y rest)
+  where
+    by_test : (b : Bool) → (if b then Some v else lookup y rest) ≡ None → (lookup y rest ≡ None → lookup y (map (λ (v : Identifier × VariableState). (v.0, change v.0 v.1)) rest) ≡ None)
+        → (if b then Some (change z v) else lookup y (map (λ (v : Identifier × VariableState). (v.0, change v.0 v.1)) rest)) ≡ None
+    by_test true e later = absurd (cc)
+    by_test false e later = later e
+
+pub once_changed : (change : Identifier → VariableState → VariableState) (vs : ByName VariableState) → AreOnce vs → AreOnce (map (λ (v : Identifier × VariableState). (v.0, change v.0 v.1)) vs)
+once_changed change [] h = tt
+once_changed change ((y, v) ∷ rest) h = (none_changed change y rest h.0, once_changed change rest h.1)
 
 -- ---- owners
 
@@ -93,6 +107,7 @@ module _ (ss : Statics) (vs : Variables) (frames : List Frame) (p : Point) (stan
       | inr other ↦ stands.held y u b (sym (lookup_other x y w vs other) ∙ e)
     ];
     once = once_after x w vs stands.once;
+    known_once = stands.known_once;
     depth = stands.depth;
     backed = λ level n. let same = owners_elsewhere vs x w level n p.regions.variables none in let enough = stands.backed level n in omega (arith, same, enough);
   }
@@ -162,6 +177,7 @@ pub record SetsOne (ss : Statics) (vs : Variables) (p : Point) (x : Identifier) 
   pub here : (v : VariableState) → state_of q.regions x ≡ Some v → Shows (assign x w vs) v (Some w)
   pub sorts : (y : Identifier) (s : Sort) → sort_in q.names y ≡ Some s → VariableFits s (lookup y (assign x w vs)) (lookup y ss)
   pub held : (u : _) (b : Buffer) → w ≡ Elements u b → (b ≡ NoBuffer) ⊎ ((access : Access) × (a : Identifier) × Holds q x access a)
+  pub known_once : AreOnce q.regions.variables
   pub depth : length frames ≡ q.regions.frames
   pub backed : (level n : ℕ) → owners q.regions (assign x w vs) level n ≤ copies (references_at level frames) n
 
@@ -190,6 +206,7 @@ module _ (ss : Statics) (vs : Variables) (frames : List Frame) (p : Point) (stan
       | inr other ↦ elim (stands.held y u b (sym (lookup_other x y w vs other) ∙ e)) [ inl none ↦ inl none | inr h ↦ inr (h.0, h.1, held_there q y h.0 h.1 (one.elsewhere y other) h.2) ]
     ];
     once = once_after x w vs stands.once;
+    known_once = one.known_once;
     depth = one.depth;
     backed = one.backed;
   }

@@ -144,6 +144,7 @@ module _ (classes : Classes) (lent : BuffersInUse) (k : ℕ) (s : Shared) (t : T
       | inr other ↦ subst (λ (o : Option Variable). VariableFits r o (lookup y s.statics)) (sym (lookup_other x y (Elements u (Copy n ys)) t.variables other)) (stands.sorts y r h)
     ];
     held = λ v b h. elim (stands.held x u (Copy n zs) e) [ inl none ↦ absurd (copy_is n zs none) | inr k ↦ inr k ];
+    known_once = stands.known_once;
     depth = stands.depth;
     backed = λ level m.
         let same = owners_same t.variables (assign x (Elements u (Copy n ys)) t.variables) level m p.regions.variables (λ y. elim (one_or_other y x) [
@@ -227,6 +228,7 @@ module _ (classes : Classes) (lent : BuffersInUse) (k : ℕ) (s : Shared) (t : T
         (None, ap (λ (n : ℕ). Some (LocalRef n None)) stands.depth);
     sorts = sorts_named s.statics t.variables t.frames p stands x (LocalRef (length t.frames) None) sort.Ref (length t.frames, None, refl);
     held = λ u b e. absurd (ref_no_buffer (length t.frames) None u b e);
+    known_once = (new.unknown, stands.known_once);
     depth = stands.depth;
     backed = λ level n.
         let us = assign x (LocalRef (length t.frames) None) t.variables in

@@ -1,6 +1,6 @@
 -- What is known at a point of a function: the sorts of names, and the state of references, buffers and frames.
-use Rattle.std.specs.Prelude.{◌≡◌, ℕ, Bool, true, false, ◌&&◌, ◌==◌, List, [], ◌∷◌, length, filter, Option, Some, if◌then◌else◌}
-use Rattle.base.specs.Bytes.{Identifier, lookup}
+use Rattle.std.specs.Prelude.{◌≡◌, ℕ, Bool, true, false, ◌&&◌, ◌==◌, List, [], ◌∷◌, length, filter, Option, Some, None, if◌then◌else◌}
+use Rattle.base.specs.Bytes.{Identifier, ByName, lookup}
 use Rattle.syntax.specs.Tree as tree
 use Rattle.syntax.specs.Tree.{PrefixOp, LogicalNot, Complement, ToWord, ToInt, Expr, Argument}
 use Rattle.jni.specs.JniFunction.{Access}
@@ -21,6 +21,11 @@ pub record Point : Type 0 where
   pub regions : RegionState
 
 -- ---- names
+
+-- no name stands twice
+abbrev pub AreOnce : {A : Type 0} → ByName A → Type 0
+AreOnce [] = Unit {0}
+AreOnce ((x, v) ∷ rest) = (lookup x rest ≡ None) × AreOnce rest
 
 -- a live local reference
 abbrev pub IsLive : Point → Identifier → Type 0

@@ -18,7 +18,7 @@ use Rattle.source.specs.Task.{Task}
 use Rattle.source.specs.Thread.{Thread, Frame}
 use Rattle.source.specs.Value.{Value}
 use Rattle.source.specs.Variable.{Variable, Scalar, LocalRef, FieldHandle, Elements, LocalArray, Buffer as Buffer_, NoBuffer, Copy, View, StaticReference, Variables, Statics}
-use Rattle.safety.specs.Points.{Point, value_sort, owners}
+use Rattle.safety.specs.Points.{Point, AreOnce, value_sort, owners}
 use Rattle.safety.specs.StepSafe.{references_at, has_calls}
 use Rattle.safety.specs.Wanted.{Holds, GoesOn}
 
@@ -62,11 +62,6 @@ Shows vs (BufferIn known) v = (u : ElementType) × (b : Buffer_) × (v ≡ Some 
 abbrev pub copies : List ℕ → ℕ → ℕ
 copies names n = length (filter (λ m. n == m) names)
 
--- no name stands twice
-abbrev pub AreOnce : Variables → Type 0
-AreOnce [] = Unit {0}
-AreOnce ((x, v) ∷ rest) = (lookup x rest ≡ None) × AreOnce rest
-
 -- ---- a thread
 
 -- the thread is at this point
@@ -76,6 +71,7 @@ pub record Stands (statics : Statics) (vs : Variables) (frames : List Frame) (p 
   -- no other buffer is held
   pub held : (x : Identifier) (u : ElementType) (b : Buffer_) → lookup x vs ≡ Some (Elements u b) → (b ≡ NoBuffer) ⊎ ((access : Access) × (a : Identifier) × Holds p x access a)
   pub once : AreOnce vs
+  pub known_once : AreOnce p.regions.variables
   pub depth : length frames ≡ p.regions.frames
   -- each live reference has a copy of its own in the frame of its level
   pub backed : (level n : ℕ) → owners p.regions vs level n ≤ copies (references_at level frames) n

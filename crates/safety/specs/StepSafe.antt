@@ -1,5 +1,5 @@
 -- What no thread of an accepted unit ever does, in any replay.
-use Rattle.std.specs.Prelude.{◌≡◌, ◌≢◌, ℕ, ◌-◌, ◌==◌, Bool, true, false, List, [], ◌∷◌, length, slice_get, Option, Some, None, IsTrue}
+use Rattle.std.specs.Prelude.{◌≡◌, ◌≢◌, ℕ, ◌-◌, ◌==◌, nat_le, if◌then◌else◌, Bool, true, false, List, [], ◌∷◌, length, slice_get, Option, Some, None, IsTrue}
 use Rattle.std.specs.List.{list_any, list_all, AllByRecursion}
 use Rattle.base.specs.Bytes.{lookup}
 use Rattle.syntax.specs.Tree.{SourceUnit}
@@ -44,14 +44,14 @@ MayReturn t = (list_any (λ v. is_lent v.1) t.variables ≡ false) × (length t.
 
 -- ---- a reference
 
--- the references of the frame of a level, counted from the lowest
+-- the references of a frame, if it is there
 abbrev pub references_in : Option Frame → List ℕ
 references_in None = []
 references_in (Some frame) = frame.references
 
--- of a level, counted from the lowest
+-- of a level, counted from the lowest; none where there is no frame of that level
 abbrev pub references_at : ℕ → List Frame → List ℕ
-references_at level frames = references_in (slice_get frames (length frames - level))
+references_at level frames = if nat_le level (length frames) then references_in (slice_get frames (length frames - level)) else []
 
 -- a variable that is NULL, no local reference, or one whose frame has its name yet
 abbrev pub IsAlive : List Frame → Option Variable → Type 0

@@ -17,7 +17,7 @@ use Rattle.source.specs.Term as term
 use Rattle.source.specs.Value.{Value}
 use Rattle.source.specs.Value as value
 use Rattle.source.specs.Variable.{Variables}
-use Rattle.safety.specs.Points.{Point, IsLive, IsNumberSort, IsIndexSort, ElementsFit, HasSort, OperandsFit, owners}
+use Rattle.safety.specs.Points.{Point, AreOnce, IsLive, IsNumberSort, IsIndexSort, ElementsFit, HasSort, OperandsFit, owners}
 
 -- ---- points that follow
 
@@ -50,6 +50,7 @@ pub record Closes (inner outer : Point) : Type 0 where
   pub held : (x : Identifier) (access : Access) (a : Identifier) → Holds inner x access a → Holds outer x access a
   pub frames : inner.regions.frames ≡ outer.regions.frames
   pub owners : (vs : Variables) (level n : ℕ) → owners outer.regions vs level n ≤ owners inner.regions vs level n
+  pub once : AreOnce outer.regions.variables
 
 -- what is wanted after a block is wanted of what is left of its point
 abbrev pub Outside : (Point → Type 0) → Point → Type 0
