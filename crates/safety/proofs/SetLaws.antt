@@ -44,14 +44,14 @@ once_changed change ((y, v) ∷ rest) h = (none_changed change y rest h.0, once_
 -- ---- owners
 
 -- a name that isn't known is none of these
-not_first : (x y : Identifier) (v : VariableState) (rest : ByName VariableState) → lookup x ((y, v) ∷ rest) ≡ None → (y ≢ x) × (lookup x rest ≡ None)
+pub not_first : (x y : Identifier) (v : VariableState) (rest : ByName VariableState) → lookup x ((y, v) ∷ rest) ≡ None → (y ≢ x) × (lookup x rest ≡ None)
 not_first x y v rest h = by_test (bytes_eq x y) refl h
   where
     by_test : (b : Bool) → bytes_eq x y ≡ b → (if b then Some v else lookup x rest) ≡ None → (y ≢ x) × (lookup x rest ≡ None)
     by_test true e g = absurd (cc)
     by_test false e g = (λ same. let t : bytes_eq x y ≡ true = (bytes_eq-Decides x y).1 (sym same) in let c : true ≡ false = sym t ∙ e in cc, g)
 
-one_owns : (vs us : Variables) (level n : ℕ) (y : Identifier) (v : VariableState) → lookup y us ≡ lookup y vs → owns us level n (y, v) ≡ owns vs level n (y, v)
+pub one_owns : (vs us : Variables) (level n : ℕ) (y : Identifier) (v : VariableState) → lookup y us ≡ lookup y vs → owns us level n (y, v) ≡ owns vs level n (y, v)
 one_owns vs us level n y (ReferenceAt l live) e = ap (λ (o : Option Variable). live && is_copy level n o) e
 one_owns vs us level n y (BufferIn b) e = refl
 

@@ -1,0 +1,87 @@
+-- One reference more in the current frame.
+use Rattle.std.proofs.Common.{◌≡◌, ℕ, zero, suc, ◌+◌, ◌-◌, ◌≤◌, arith, Bool, true, false, ◌&&◌, List, [], ◌∷◌, filter, length, refl, sym, ap, ◌∙◌, subst, if◌then◌else◌}
+use Rattle.std.specs.Prelude.{◌==◌, nat_le, slice_get}
+use Rattle.std.proofs.lemmas.Bool.Decides.{Decides-eqb, nat_tests}
+use Rattle.source.specs.CallEffects.{with_local}
+use Rattle.source.specs.Thread.{Frame}
+use Rattle.safety.specs.StepSafe.{references_in, references_at}
+use Rattle.safety.specs.Stands.{copies}
+
+-- ---- counting
+
+-- one, where it holds
+abbrev pub one_if : Bool → ℕ
+one_if b = if b then 1 else 0
+
+pub counted_here : {A : Type 0} (b : Bool) (e : A) (l : List A) → length (if b then e ∷ l else l) ≡ one_if b + length l
+counted_here true e l = omega arith
+counted_here false e l = omega arith
+
+pub both_true : (a b : Bool) → (a && b) ≡ true → (a ≡ true) × (b ≡ true)
+both_true true true h = (refl, refl)
+both_true true false h = absurd (cc)
+both_true false b h = absurd (cc)
+
+pub pair_same : (a b c d : ℕ) → (a == b && c == d) ≡ true → (a ≡ b) × (c ≡ d)
+pair_same a b c d h = let both = both_true (a == b) (c == d) h in ((Decides-eqb a b).0 both.0, (Decides-eqb c d).0 both.1)
+
+pub same_number : (n : ℕ) → (n == n) ≡ true
+same_number n = (Decides-eqb n n).1 refl
+
+-- ---- a frame more or less
+
+pub local_length : (n : ℕ) (frames : List Frame) → length (with_local n frames) ≡ length frames
+local_length n [] = refl
+local_length n (frame ∷ below) = refl
+
+-- a frame with one reference more
+abbrev pub with_reference : ℕ → Frame → Frame
+with_reference n frame = record frame { references = n ∷ frame.references }
+
+more_in_list : (b : Bool) (n : ℕ) (l : List ℕ) → length l ≤ length (if b then n ∷ l else l)
+more_in_list true n l = omega arith
+more_in_list false n l = omega arith
+
+more_at : (b : Bool) (i n m : ℕ) (frame : Frame) (below : List Frame) → copies (if b then references_in (slice_get (frame ∷ below) i) else []) m ≤ copies (if b then references_in (slice_get (with_reference n frame ∷ below) i) else []) m
+more_at true zero n m frame below = more_in_list (m == n) n (filter (λ j. m == j) frame.references)
+more_at true (suc i) n m frame below = omega arith
+more_at false i n m frame below = omega arith
+
+-- no level has fewer references
+pub more_copies : (level n m : ℕ) (frames : List Frame) → copies (references_at level frames) m ≤ copies (references_at level (with_local n frames)) m
+more_copies level n m [] = omega arith
+more_copies level n m (frame ∷ below) = more_at (nat_le level (suc (length below))) (suc (length below) - level) n m frame below
+
+top_at : (b : Bool) (i : ℕ) (frame : Frame) (below : List Frame) → b ≡ true → i ≡ 0 → (if b then references_in (slice_get (frame ∷ below) i) else []) ≡ frame.references
+top_at true zero frame below e f = refl
+top_at true (suc i) frame below e f = absurd (omega (arith, f))
+top_at false i frame below e f = absurd (cc)
+
+is_within : (a b : ℕ) → a ≤ b → nat_le a b ≡ true
+is_within a b h = grind (arith, nat_tests, h)
+
+-- the current frame is the one of the highest level
+pub top_references : (top : ℕ) (frame : Frame) (below : List Frame) → top ≡ suc (length below) → references_at top (frame ∷ below) ≡ frame.references
+top_references top frame below e = top_at (nat_le top (suc (length below))) (suc (length below) - top) frame below (is_within top (suc (length below)) (omega (arith, e))) (omega (arith, e))
+
+-- the current one has one more
+pub copies_grow : (top n level m : ℕ) (frame : Frame) (below : List Frame) → top ≡ suc (length below)
+    → copies (references_at level (frame ∷ below)) m + one_if (top == level && n == m) ≤ copies (references_at level (with_local n (frame ∷ below))) m
+copies_grow top n level m frame below e = by_test (top == level && n == m) refl
+  where
+    first_counted : copies (n ∷ frame.references) n ≡ suc (copies frame.references n)
+    first_counted = ap (λ (b : Bool). length (if b then n ∷ filter (λ j. n == j) frame.references else filter (λ j. n == j) frame.references)) (same_number n)
+
+    at_top : copies (references_at top (frame ∷ below)) n + 1 ≤ copies (references_at top (with_local n (frame ∷ below))) n
+    at_top =
+        let old : copies (references_at top (frame ∷ below)) n ≡ copies frame.references n = ap (λ (l : List ℕ). copies l n) (top_references top frame below e) in
+        let new : copies (references_at top (with_local n (frame ∷ below))) n ≡ copies (n ∷ frame.references) n = ap (λ (l : List ℕ). copies l n) (top_references top (with_reference n frame) below e) in
+        let first = first_counted in
+        omega (arith, old, new, first)
+
+    by_test : (b : Bool) → (top == level && n == m) ≡ b → copies (references_at level (frame ∷ below)) m + one_if b ≤ copies (references_at level (with_local n (frame ∷ below))) m
+    by_test true h =
+        let same = pair_same top level n m h in
+        subst (λ (l : ℕ). copies (references_at l (frame ∷ below)) m + 1 ≤ copies (references_at l (with_local n (frame ∷ below))) m) same.0
+        (subst (λ (j : ℕ). copies (references_at top (frame ∷ below)) j + 1 ≤ copies (references_at top (with_local n (frame ∷ below))) j) same.1 at_top)
+    by_test false h = let more = more_copies level n m (frame ∷ below) in omega (arith, more)
