@@ -1,5 +1,5 @@
 -- One reference more in the current frame.
-use Rattle.std.proofs.Common.{◌≡◌, ℕ, zero, suc, ◌+◌, ◌-◌, ◌≤◌, arith, Bool, true, false, ◌&&◌, List, [], ◌∷◌, filter, length, refl, sym, ap, ◌∙◌, subst, if◌then◌else◌}
+use Rattle.std.proofs.Common.{◌≡◌, ℕ, zero, suc, ◌+◌, ◌-◌, ◌≤◌, arith, Bool, true, false, ◌&&◌, List, [], ◌∷◌, map, filter, length, Option, Some, None, refl, sym, ap, ◌∙◌, subst, if◌then◌else◌}
 use Rattle.std.specs.Prelude.{◌==◌, nat_le, slice_get}
 use Rattle.std.proofs.lemmas.Bool.Decides.{Decides-eqb, nat_tests}
 use Rattle.source.specs.CallEffects.{with_local}
@@ -85,3 +85,49 @@ copies_grow top n level m frame below e = by_test (top == level && n == m) refl
         subst (λ (l : ℕ). copies (references_at l (frame ∷ below)) m + 1 ≤ copies (references_at l (with_local n (frame ∷ below))) m) same.0
         (subst (λ (j : ℕ). copies (references_at top (frame ∷ below)) j + 1 ≤ copies (references_at top (with_local n (frame ∷ below))) j) same.1 at_top)
     by_test false h = let more = more_copies level n m (frame ∷ below) in omega (arith, more)
+
+-- ---- frames with the same references
+
+-- the references of each frame
+abbrev pub references_of : List Frame → List (List ℕ)
+references_of frames = map (λ (frame : Frame). frame.references) frames
+
+-- a list of references, if it is there
+abbrev list_or_none : Option (List ℕ) → List ℕ
+list_or_none None = []
+list_or_none (Some l) = l
+
+-- the references of a level, by those of each frame
+abbrev listed_at : ℕ → List (List ℕ) → List ℕ
+listed_at level lists = if nat_le level (length lists) then list_or_none (slice_get lists (length lists - level)) else []
+
+listed_length : (frames : List Frame) → length (references_of frames) ≡ length frames
+listed_length [] = refl
+listed_length (frame ∷ below) = ap suc (listed_length below)
+
+listed_place : (frames : List Frame) (i : ℕ) → list_or_none (slice_get (references_of frames) i) ≡ references_in (slice_get frames i)
+listed_place [] i = refl
+listed_place (frame ∷ below) zero = refl
+listed_place (frame ∷ below) (suc i) = listed_place below i
+
+listed_is : (level : ℕ) (frames : List Frame) → listed_at level (references_of frames) ≡ references_at level frames
+listed_is level frames =
+    ap (λ (n : ℕ). if nat_le level n then list_or_none (slice_get (references_of frames) (n - level)) else []) (listed_length frames)
+    ∙ ap (λ (l : List ℕ). if nat_le level (length frames) then l else []) (listed_place frames (length frames - level))
+
+-- what else a frame has doesn't count
+pub same_references : (level : ℕ) (after before : List Frame) → references_of after ≡ references_of before → references_at level after ≡ references_at level before
+same_references level after before e = sym (listed_is level after) ∙ ap (listed_at level) e ∙ listed_is level before
+
+pub same_length : (after before : List Frame) → references_of after ≡ references_of before → length after ≡ length before
+same_length after before e = sym (listed_length after) ∙ ap (λ (l : List (List ℕ)). length l) e ∙ listed_length before
+
+-- there is a current frame
+abbrev pub HasFrame : List Frame → Type 0
+HasFrame [] = ⊥
+HasFrame (frame ∷ below) = Unit {0}
+
+pub frame_again : (after before : List Frame) → references_of after ≡ references_of before → HasFrame before → HasFrame after
+frame_again after [] e h = absurd h
+frame_again [] (frame ∷ below) e h = absurd (cc)
+frame_again (frame' ∷ below') (frame ∷ below) e h = tt

@@ -19,10 +19,11 @@ use Rattle.source.specs.Value.{Value, Int, Flag}
 use Rattle.source.specs.Variable.{Variable, Scalar, LocalRef, FieldHandle, Elements, Buffer, StaticReference}
 use Rattle.safety.specs.Points.{Point}
 use Rattle.safety.specs.Stands.{VariableFits, Stands}
-use Rattle.safety.specs.Wanted.{DeclaresResult, AssignsResult, ResultGoes, GoesOn, named}
+use Rattle.regions.specs.RegionStates.{with_changed}
+use Rattle.safety.specs.Wanted.{revived, DeclaresResult, AssignsResult, ResultGoes, GoesOn, at, named}
 use Rattle.safety.proofs.SetLaws.{stands_new, stands_kept}
 use Rattle.safety.proofs.StepLaws.{Lands}
-use Rattle.safety.proofs.NullLaws.{null_lands, assigned_lands, stands_static, statics_stay}
+use Rattle.safety.proofs.NullLaws.{nulled, null_lands, assigned_lands, stands_static, statics_stay}
 
 -- the results of a kind that put no reference into a frame and no buffer into a variable
 pub data Simple : ResultKind → CallResult → Type 0 where
@@ -33,6 +34,7 @@ pub data Simple : ResultKind → CallResult → Type 0 where
   AGlobal : (r : Reference) → Simple NewGlobal (ReferenceResult r)
   NoGlobal : Simple NewGlobal NullResult
   NoLocal : Simple NewLocal NullResult
+  NullLocal : Simple NewLocal (ReferenceResult None)
   NoResultThere : Simple GivesNothing NoResult
 
 module _ (classes : Classes) (lent : BuffersInUse) (k : ℕ) (s : Shared) (t : Thread) (rest : List Task) (p : Point) (stands : Stands s.statics t.variables t.frames p) where
@@ -60,6 +62,7 @@ module _ (classes : Classes) (lent : BuffersInUse) (k : ℕ) (s : Shared) (t : T
       ((named p x sort.FieldId, stands_new s.statics t.variables t.frames p stands x (FieldHandle f) sort.FieldId new (f, refl) (λ u b c. absurd (field_no_buffer f u b c)), g), stay)
   declared FieldKind x result given get NoField h = null_lands classes lent k s t rest p stands (Declared FieldKind x) h
   declared ReferenceKind x result given get NoLocal h = null_lands classes lent k s t rest p stands (Declared ReferenceKind x) h
+  declared ReferenceKind x result given get NullLocal h = null_lands classes lent k s t rest p stands (Declared ReferenceKind x) h
   declared (BufferKind u) x result given get (AnInt z) h = absurd h
   declared (BufferKind u) x result given get (AFlag b) h = absurd h
   declared (BufferKind u) x result given get (AField f) h = absurd h
@@ -67,6 +70,7 @@ module _ (classes : Classes) (lent : BuffersInUse) (k : ℕ) (s : Shared) (t : T
   declared (BufferKind u) x result given get (AGlobal r) h = absurd h
   declared (BufferKind u) x result given get NoGlobal h = absurd h
   declared (BufferKind u) x result given get NoLocal h = absurd h
+  declared (BufferKind u) x result given get NullLocal h = absurd h
   declared (BufferKind u) x result given get NoResultThere h = absurd h
   declared kind x result given get simple h = absurd h
 
@@ -91,6 +95,9 @@ module _ (classes : Classes) (lent : BuffersInUse) (k : ℕ) (s : Shared) (t : T
   assigned x (Some sort.FieldId) result given get e (AField f) g = field_put x f (lookup x t.variables) e refl (stands.sorts x sort.FieldId e) g
   assigned x (Some sort.FieldId) result given get e NoField g = assigned_lands classes lent k s t rest p stands x (Some sort.FieldId) e g
   assigned x (Some sort.Ref) result given get e NoLocal h = assigned_lands classes lent k s t rest p stands x (Some sort.Ref) e h
+  assigned x (Some sort.Ref) result given get e NullLocal (may, g) =
+      let shown = stands.shows x _ may.known in
+      subst (λ (v : Option Variable). Lands s.statics (put_assigned x (ReferenceResult None) s (with_tasks t rest) v)) (sym shown.1) ((at p (with_changed p.regions x revived), nulled classes lent k s t rest p stands x may e, g), stay)
   assigned x (Some sort.Global) result given get e (AGlobal r) g = static_put x (ReferenceResult r) (lookup x t.variables) ((stands.sorts x sort.Global e).0) g
   assigned x (Some sort.Global) result given get e NoGlobal g = static_put x NullResult (lookup x t.variables) ((stands.sorts x sort.Global e).0) g
   assigned x (Some (sort.Buffer u w)) result given get e (AnInt z) h = absurd h
@@ -100,6 +107,7 @@ module _ (classes : Classes) (lent : BuffersInUse) (k : ℕ) (s : Shared) (t : T
   assigned x (Some (sort.Buffer u w)) result given get e (AGlobal r) h = absurd h
   assigned x (Some (sort.Buffer u w)) result given get e NoGlobal h = absurd h
   assigned x (Some (sort.Buffer u w)) result given get e NoLocal h = absurd h
+  assigned x (Some (sort.Buffer u w)) result given get e NullLocal h = absurd h
   assigned x (Some (sort.Buffer u w)) result given get e NoResultThere h = absurd h
   assigned x o result given get e simple g = absurd g
 
