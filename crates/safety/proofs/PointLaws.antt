@@ -99,7 +99,7 @@ usable_shows vs g o (BufferIn known) e h =
     (usable_buffer vs h.0 h.1 known (is_buffer h.1 h.0 (subst (λ (v : Option Variable). holds_null v g ≡ Gives false) h.2 e)) h.3)
 
 module _ (ss : Statics) (vs : Variables) (frames : List Frame) (p : Point) (stands : Stands ss vs frames p) (x : Identifier) (g : Option StaticReference) where
-  shows_changed : (f : VariableState → VariableState) → ((w : VariableState) → Shows vs w (lookup x vs) → Shows vs (f w) (lookup x vs)) → (y : Identifier) (v : VariableState) → state_of (with_changed p.regions x f) y ≡ Some v → Shows vs v (lookup y vs)
+  pub shows_changed : (f : VariableState → VariableState) → ((w : VariableState) → Shows vs w (lookup x vs) → Shows vs (f w) (lookup x vs)) → (y : Identifier) (v : VariableState) → state_of (with_changed p.regions x f) y ≡ Some v → Shows vs v (lookup y vs)
   shows_changed f own y v e = elim (one_or_other y x) [
     | inl same ↦
         let there : state_of (with_changed p.regions x f) x ≡ Some v = subst (λ (z : Identifier). state_of (with_changed p.regions x f) z ≡ Some v) same e in
@@ -108,7 +108,7 @@ module _ (ss : Statics) (vs : Variables) (frames : List Frame) (p : Point) (stan
     | inr other ↦ stands.shows y v (sym (known_other p.regions x y f other) ∙ e)
   ]
 
-  other_held : (f : VariableState → VariableState) (y : Identifier) (access : Access) (a : Identifier) → y ≢ x → Holds p y access a → Holds (at p (with_changed p.regions x f)) y access a
+  pub other_held : (f : VariableState → VariableState) (y : Identifier) (access : Access) (a : Identifier) → y ≢ x → Holds p y access a → Holds (at p (with_changed p.regions x f)) y access a
   other_held f y access a other (inl e) = inl (known_other p.regions x y f other ∙ e)
   other_held f y access a other (inr e) = inr (known_other p.regions x y f other ∙ e)
 

@@ -76,7 +76,7 @@ module _ (t : Thread) (line : ℕ) (rest : List Task) where
   received_is kind given NullLocal = refl
   received_is kind given NoResultThere = refl
 
-  told : (x : Identifier) (vs : Variables) (kind : ResultKind) (given : CallResult) → Simple kind given → tell_copy x given vs ≡ vs
+  pub told : (x : Identifier) (vs : Variables) (kind : ResultKind) (given : CallResult) → Simple kind given → tell_copy x given vs ≡ vs
   told [] vs kind given simple = refl
   told (c ∷ x) vs kind given (AnInt z) = refl
   told (c ∷ x) vs kind given (AFlag b) = refl
@@ -113,27 +113,7 @@ module _ (t : Thread) (line : ℕ) (rest : List Task) where
       ap (λ (tasks : List Task). record t { frames = with_local n t.frames; tasks = Some tasks; variables = tell_copy x (ReferenceResult (Some n)) t.variables }) (nothing_after target false h)
       ∙ ap (λ (vs : Variables). record t { frames = with_local n t.frames; tasks = Some rest; variables = vs }) (local_told x n t.variables)
 
-module _ (classes : Classes) (lent : BuffersInUse) (k : ℕ) (s : Shared) (t : Thread) (line : ℕ) (target : Target) (f : JniFunction) (args : List Actual) (rest : List Task) (p : Point) (stands : Stands s.statics t.variables t.frames p) where
-  -- the thread at its point, where a call has left its variables, its references and the statics as they were
-  stands_again : (s' : Shared) (t' : Thread) → t'.variables ≡ t.variables → references_of t'.frames ≡ references_of t.frames → s'.statics ≡ s.statics → Stands s'.statics t'.variables t'.frames p
-  stands_again s' t' vs fs ss =
-      subst (λ (statics : Statics). Stands statics t'.variables t'.frames p) (sym ss) (subst (λ (variables : Variables). Stands s.statics variables t'.frames p) (sym vs) (record {
-        sorts = stands.sorts;
-        shows = stands.shows;
-        held = stands.held;
-        once = stands.once;
-        known_once = stands.known_once;
-        depth = same_length t'.frames t.frames fs ∙ stands.depth;
-        backed = λ level n. subst (λ (l : List ℕ). owners p.regions t.variables level n ≤ copies l n) (sym (same_references level t'.frames t.frames fs)) (stands.backed level n);
-      }))
-
-  pub completed_lands : (made : List Object) (s' : Shared) (t' : Thread) (given : CallResult) (get : _) → IsNoTest target → t'.variables ≡ t.variables → references_of t'.frames ≡ references_of t.frames → s'.statics ≡ s.statics → Simple (prototype f).result given → ResultGoes target (prototype f).result get (GoesOn rest) p
-      → Lands s'.statics (completed classes lent k s t line target f args rest made s' t' given)
-  completed_lands made s' t' given get away vs fs ss simple h =
-      let shared : Shared = record s' { heap = s'.heap ++ made } in
-      subst (λ (r : Thread). Lands s'.statics (put target given shared r)) (sym (resumed_is t' line rest target (variable_given args 1) (prototype f).result given away simple))
-      (result_lands classes lent k shared t' rest p (stands_again s' t' vs fs ss) target (prototype f).result given get simple h)
-
+module _ (classes : Classes) (lent : BuffersInUse) (k : ℕ) (s : Shared) (t : Thread) (line : ℕ) (target : Target) (f : JniFunction) (args : List Actual) (rest : List Task) (p : Point) where
   -- a local reference goes into a frame that is there
   local_completed : (shared : Shared) (t' : Thread) (n : ℕ) (get : _) (frames : List Frame) → t'.frames ≡ frames → HasFrame frames → Stands shared.statics t'.variables t'.frames p → ResultGoes target NewLocal get (GoesOn rest) p
       → Lands shared.statics (put target (ReferenceResult (Some n)) shared (record t' { frames = with_local n t'.frames; tasks = Some rest }))
@@ -156,6 +136,27 @@ module _ (classes : Classes) (lent : BuffersInUse) (k : ℕ) (s : Shared) (t : T
       (subst (λ (r : Thread). Lands s'.statics (put target (ReferenceResult (Some n)) shared r)) (sym (resumed_local t' line rest target (variable_given args 1) n away))
       (local_completed shared t' n get t'.frames refl (room refl) there h))
 
+module _ (classes : Classes) (lent : BuffersInUse) (k : ℕ) (s : Shared) (t : Thread) (line : ℕ) (target : Target) (f : JniFunction) (args : List Actual) (rest : List Task) (p : Point) (stands : Stands s.statics t.variables t.frames p) where
+  -- the thread at its point, where a call has left its variables, its references and the statics as they were
+  stands_again : (s' : Shared) (t' : Thread) → t'.variables ≡ t.variables → references_of t'.frames ≡ references_of t.frames → s'.statics ≡ s.statics → Stands s'.statics t'.variables t'.frames p
+  stands_again s' t' vs fs ss =
+      subst (λ (statics : Statics). Stands statics t'.variables t'.frames p) (sym ss) (subst (λ (variables : Variables). Stands s.statics variables t'.frames p) (sym vs) (record {
+        sorts = stands.sorts;
+        shows = stands.shows;
+        held = stands.held;
+        once = stands.once;
+        known_once = stands.known_once;
+        depth = same_length t'.frames t.frames fs ∙ stands.depth;
+        backed = λ level n. subst (λ (l : List ℕ). owners p.regions t.variables level n ≤ copies l n) (sym (same_references level t'.frames t.frames fs)) (stands.backed level n);
+      }))
+
+  pub completed_lands : (made : List Object) (s' : Shared) (t' : Thread) (given : CallResult) (get : _) → IsNoTest target → t'.variables ≡ t.variables → references_of t'.frames ≡ references_of t.frames → s'.statics ≡ s.statics → Simple (prototype f).result given → ResultGoes target (prototype f).result get (GoesOn rest) p
+      → Lands s'.statics (completed classes lent k s t line target f args rest made s' t' given)
+  completed_lands made s' t' given get away vs fs ss simple h =
+      let shared : Shared = record s' { heap = s'.heap ++ made } in
+      subst (λ (r : Thread). Lands s'.statics (put target given shared r)) (sym (resumed_is t' line rest target (variable_given args 1) (prototype f).result given away simple))
+      (result_lands classes lent k shared t' rest p (stands_again s' t' vs fs ss) target (prototype f).result given get simple h)
+
   -- such a call leads to a point again
   pub quiet_lands : (get : _) (e : CallEffect) → IsNoTest target → Goes s.statics t t.tasks → ((prototype f).result ≡ NewLocal → HasFrame t.frames) → IsQuiet s t (prototype f).result e → ResultGoes target (prototype f).result get (GoesOn rest) p
       → Lands s.statics (after_call classes lent k s t line target f args rest e)
@@ -163,7 +164,7 @@ module _ (classes : Classes) (lent : BuffersInUse) (k : ℕ) (s : Shared) (t : T
   quiet_lands get (Halts trap) away whole room quiet h = (whole, λ x r e. (r, e))
   quiet_lands get (Leaves made s' t' given) away whole room quiet h =
       subst (λ (ss : Statics). Lands ss (completed classes lent k s t line target f args rest made s' t' given)) quiet.2
-      (given_lands (prototype f).result made s' t' given get refl away (λ e. frame_again t'.frames t.frames quiet.1 (room e)) (stands_again s' t' quiet.0 quiet.1 quiet.2) quiet.3 h)
+      (given_lands classes lent k s t line target f args rest p (prototype f).result made s' t' given get refl away (λ e. frame_again t'.frames t.frames quiet.1 (room e)) (stands_again s' t' quiet.0 quiet.1 quiet.2) quiet.3 h)
 
   -- and so does one whose allocation is refused, if it has one
   pub refused_lands : (get : _) (makes : Bool) → IsNoTest target → Simple (prototype f).result (failure (prototype f).result) → ResultGoes target (prototype f).result get (GoesOn rest) p
