@@ -27,7 +27,7 @@ module _ (vs : Variables) (x : Identifier) (l m : ℕ) where
   dead_owns y (ReferenceAt level live) = refl
   dead_owns y (BufferIn b) = refl
 
-  fewer : (known : ByName VariableState) → length (filter (owns vs l m) (dead_in x known)) ≤ length (filter (owns vs l m) known)
+  pub fewer : (known : ByName VariableState) → length (filter (owns vs l m) (dead_in x known)) ≤ length (filter (owns vs l m) known)
   fewer [] = omega arith
   fewer ((y, v) ∷ known) = by_test (bytes_eq x y) (fewer known)
     where

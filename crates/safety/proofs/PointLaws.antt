@@ -78,7 +78,7 @@ is_buffer NoBuffer u e h = absurd (cc)
 is_buffer (Copy n zs) u e h = cc
 is_buffer (View n) u e h = cc
 
-mapped_some : (f : VariableState → VariableState) (o : Option VariableState) (v : VariableState) → option_map f o ≡ Some v → (w : VariableState) × (o ≡ Some w) × (f w ≡ v)
+pub mapped_some : (f : VariableState → VariableState) (o : Option VariableState) (v : VariableState) → option_map f o ≡ Some v → (w : VariableState) × (o ≡ Some w) × (f w ≡ v)
 mapped_some f None v e = absurd (cc)
 mapped_some f (Some w) v e = (w, refl, cc)
 
