@@ -55,7 +55,7 @@ pub owners_kept : (vs : Variables) (level n : ℕ) (x : Identifier) (f : Variabl
     → owners (with_changed regions x f) vs level n ≡ owners regions vs level n
 owners_kept vs level n x f regions same = owners_list vs level n x f regions.variables same
 
-free_owns : (vs : Variables) (level n : ℕ) (y : Identifier) (v : VariableState) → owns vs level n (y, made_free v) ≡ owns vs level n (y, v)
+pub free_owns : (vs : Variables) (level n : ℕ) (y : Identifier) (v : VariableState) → owns vs level n (y, made_free v) ≡ owns vs level n (y, v)
 free_owns vs level n y (ReferenceAt l live) = refl
 free_owns vs level n y (BufferIn b) = refl
 

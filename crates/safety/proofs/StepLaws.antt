@@ -111,12 +111,12 @@ module _ (classes : Classes) (lent : BuffersInUse) (k : ℕ) (s : Shared) (t : T
       (u, Copy n ys, refl, (m, level, same a m level at_a ∙ at_a, lends_again (is_critical access) m n zs ys (subst (IsOf (is_critical access) m) d is)))
 
   -- a variable that is no reference is no buffer's array
-  apart_buffer : (x : Identifier) (u : ElementType) (b : Buffer) → lookup x t.variables ≡ Some (Elements u b) → (a : Identifier) (m level : ℕ) → lookup a t.variables ≡ Some (LocalRef level (Some m)) → a ≢ x
+  pub apart_buffer : (x : Identifier) (u : ElementType) (b : Buffer) → lookup x t.variables ≡ Some (Elements u b) → (a : Identifier) (m level : ℕ) → lookup a t.variables ≡ Some (LocalRef level (Some m)) → a ≢ x
   apart_buffer x u b e a m level h same =
       let c : lookup x t.variables ≡ Some (LocalRef level (Some m)) = subst (λ (z : Identifier). lookup z t.variables ≡ Some (LocalRef level (Some m))) same h in
       let d : Some (Elements u b) ≡ Some (LocalRef level (Some m)) = sym e ∙ c in cc
 
-  sort_of_buffer : (r : Sort) (o : Option Variable) (g : Option StaticReference) (u : ElementType) (b c : Buffer) → o ≡ Some (Elements u b) → VariableFits r o g → VariableFits r (Some (Elements u c)) g
+  pub sort_of_buffer : (r : Sort) (o : Option Variable) (g : Option StaticReference) (u : ElementType) (b c : Buffer) → o ≡ Some (Elements u b) → VariableFits r o g → VariableFits r (Some (Elements u c)) g
   sort_of_buffer sort.Ref o g u b c e (level, q, h) = absurd (let d : Some (Elements u b) ≡ Some (LocalRef level q) = sym e ∙ h in cc)
   sort_of_buffer sort.Global o g u b c e (none, h) = absurd (none_some o (Elements u b) none e)
   sort_of_buffer sort.FieldId o g u b c e (f, h) = absurd (let d : Some (Elements u b) ≡ Some (FieldHandle f) = sym e ∙ h in cc)
@@ -127,7 +127,7 @@ module _ (classes : Classes) (lent : BuffersInUse) (k : ℕ) (s : Shared) (t : T
   sort_of_buffer sort.Jint o g u b c e (v, h, f) = absurd (let d : Some (Elements u b) ≡ Some (Scalar v) = sym e ∙ h in cc)
   sort_of_buffer sort.Flag o g u b c e (v, h, f) = absurd (let d : Some (Elements u b) ≡ Some (Scalar v) = sym e ∙ h in cc)
 
-  buffer_no_copy : (level n : ℕ) (u : ElementType) (b c : Buffer) (o : Option Variable) → o ≡ Some (Elements u b) → is_copy level n (Some (Elements u c)) ≡ is_copy level n o
+  pub buffer_no_copy : (level n : ℕ) (u : ElementType) (b c : Buffer) (o : Option Variable) → o ≡ Some (Elements u b) → is_copy level n (Some (Elements u c)) ≡ is_copy level n o
   buffer_no_copy level n u b c o e = subst (λ (v : Option Variable). false ≡ is_copy level n v) (sym e) refl
 
   copy_set : (x : Identifier) (u : ElementType) (n : ℕ) (zs ys : List ℤ) → lookup x t.variables ≡ Some (Elements u (Copy n zs)) → Stands s.statics (assign x (Elements u (Copy n ys)) t.variables) t.frames p
