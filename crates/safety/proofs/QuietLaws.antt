@@ -88,7 +88,7 @@ module _ (t : Thread) (line : ℕ) (rest : List Task) where
   told (c ∷ x) vs kind given NullLocal = refl
   told (c ∷ x) vs kind given NoResultThere = refl
 
-  nothing_after : (target : Target) (zero : Bool) → IsNoTest target → tasks_after line target zero ++ rest ≡ rest
+  pub nothing_after : (target : Target) (zero : Bool) → IsNoTest target → tasks_after line target zero ++ rest ≡ rest
   nothing_after (Declared kind x) zero h = refl
   nothing_after (Assigned x) zero h = refl
   nothing_after (Tested a b) zero h = absurd h
