@@ -1,5 +1,5 @@
 -- The steps of the calls that delete a global reference, or fill a local array.
-use Rattle.std.proofs.Common.{◌≡◌, ◌≢◌, ℕ, ◌+◌, arith, Bool, true, false, inl, inr, List, [], ◌∷◌, length, take, drop, Option, Some, None, refl, sym, ap, ◌∙◌, subst, if◌then◌else◌}
+use Rattle.std.proofs.Common.{◌≡◌, ℕ, ◌+◌, Bool, true, false, List, [], ◌∷◌, length, take, drop, Option, Some, None, refl, sym, ap, ◌∙◌, subst, if◌then◌else◌}
 use Rattle.std.specs.Prelude.{ℤ, pos, negsuc, nat_le}
 use Rattle.std.specs.Str.{bytes_eq}
 use Rattle.std.proofs.lemmas.Bool.{cond_both}
@@ -10,23 +10,22 @@ use Rattle.syntax.specs.Tree as tree
 use Rattle.classes.specs.Class.{Classes}
 use Rattle.classes.specs.BuiltIns.{array_index_out_of_bounds, string_index_out_of_bounds}
 use Rattle.jni.specs.JniFunction.{JniFunction, DeleteGlobalRef, GetArrayRegion, GetStringRegion, PushLocalFrame}
-use Rattle.jni.specs.Prototype.{ResultKind, NewLocal, GivesNothing, ParameterKind, NumberArray, StringObject, IntNumber, ArrayVariable, prototype}
+use Rattle.jni.specs.Prototype.{ResultKind, NewLocal, GivesNothing, NumberArray, StringObject, IntNumber, ArrayVariable, prototype}
 use Rattle.types.specs.Sorts.{Sort, sort_in}
 use Rattle.types.specs.Sorts as sort
-use Rattle.regions.specs.RegionStates.{get_of}
 use Rattle.source.specs.Arguments.{Actual, actuals, object_given, reference_given, number_given, variable_given}
-use Rattle.source.specs.CallEffects.{CallEffect, Throws, Halts, Leaves, NoResult, delete_global_effect, without_one, at_region, get_region_effect, begun_with, overwritten, local_array}
+use Rattle.source.specs.CallEffects.{CallEffect, Throws, NoResult, delete_global_effect, without_one, at_region, get_region_effect, begun_with, overwritten, local_array}
 use Rattle.source.specs.CallStep.{trap_of_call, failure, checked, after_call, call_step}
 use Rattle.source.specs.CallTable.{call_effect}
 use Rattle.source.specs.Heap.{values_of, numbers_of}
 use Rattle.source.specs.Object.{Reference}
-use Rattle.source.specs.Task.{Task, Target, Declared, Assigned, Tested, Dropped, Operand, NumberOperand, Given, Invoke}
+use Rattle.source.specs.Task.{Task, Target, Declared, Assigned, Tested, Dropped, Operand, Given, Invoke}
 use Rattle.source.specs.Thread.{Thread, Shared, BuffersInUse, Advance, Advances, NoAdvance, sight_of}
 use Rattle.source.specs.Value.{Trap}
-use Rattle.source.specs.Variable.{Variable, LocalRef, Elements, LocalArray, Buffer, StaticReference, Variables, Statics, Deleted, assign, change}
+use Rattle.source.specs.Variable.{LocalRef, Elements, LocalArray, Buffer, StaticReference, Variables, Statics, Deleted, assign, change}
 use Rattle.safety.specs.Points.{Point, OperandsFit}
 use Rattle.safety.specs.Stands.{Goes, Stands}
-use Rattle.safety.specs.Wanted.{Runs, ResultGoes, GoesOn, call_seen}
+use Rattle.safety.specs.Wanted.{Runs, ResultGoes, GoesOn}
 use Rattle.safety.proofs.NullLaws.{stands_static, statics_stay}
 use Rattle.safety.proofs.QuietLaws.{Plainly, IsNoTest, given_lands, quiet_lands}
 use Rattle.safety.proofs.ResultLaws.{Simple, NoResultThere}
@@ -59,7 +58,7 @@ module _ (classes : Classes) (lent : BuffersInUse) (k : ℕ) (s : Shared) (t : T
   global_deleted target args get x (Some n) away goes =
       lands_from s.statics (assign x Deleted s.statics) _ (statics_stay classes lent k s t rest p stands x Deleted)
       (given_lands classes lent k s t line target DeleteGlobalRef args rest p GivesNothing [] (record s { globals = without_one n s.globals; statics = assign x Deleted s.statics }) t NoResult get refl away (λ c. absurd (cc))
-        (stands_static classes lent k s t rest p stands x Deleted) (Plainly NoResultThere) goes)
+      (stands_static classes lent k s t rest p stands x Deleted) (Plainly NoResultThere) goes)
 
   global_is : (args : List Actual) → call_effect classes lent k s t args DeleteGlobalRef ≡ delete_global_effect s t (variable_given args 0) (reference_given args 0)
   unfolding call_effect
@@ -94,7 +93,7 @@ module _ (classes : Classes) (lent : BuffersInUse) (k : ℕ) (s : Shared) (t : T
       let there = stands.sorts x (sort.Array u size) e in
       subst (λ (vs : Variables). Stands s.statics vs t.frames p) (sym (changed_is x (begun_with new) (LocalArray u there.0) t.variables there.1))
       (stands_kept s.statics t.variables t.frames p stands x (LocalArray u (overwritten there.0 0 new)) (sort.Array u size) (LocalArray u there.0) e there.1 (array_no_ref u there.0) (array_no_buffer u there.0) (overwritten there.0 0 new, refl)
-        (λ v b c. absurd (array_no_buffer u (overwritten there.0 0 new) v b c)))
+      (λ v b c. absurd (array_no_buffer u (overwritten there.0 0 new) v b c)))
 
   module _ (f : JniFunction) (nothing : (prototype f).result ≡ GivesNothing) (target : Target) (away : IsNoTest target) (args : List Actual) (get : _) (goes : ResultGoes target GivesNothing get (GoesOn rest) p) where
     thrown : (c : ℕ) → Lands s.statics (after_call classes lent k s t line target f args rest (Throws c))
@@ -108,7 +107,7 @@ module _ (classes : Classes) (lent : BuffersInUse) (k : ℕ) (s : Shared) (t : T
     region_got u size object x i n e =
         cond_both (nat_le n (length (local_array (lookup x t.variables)))) _ _ (λ (e : CallEffect). Lands s.statics (after_call classes lent k s t line target f args rest e))
         (λ c. given_lands classes lent k s t line target f args rest p GivesNothing [] s (record t { variables = change x (begun_with (take n (drop i (numbers_of s.heap object)))) t.variables }) NoResult get nothing away (λ c. absurd (cc))
-          (stands_filled u size x (take n (drop i (numbers_of s.heap object))) e) (Plainly NoResultThere) goes)
+        (stands_filled u size x (take n (drop i (numbers_of s.heap object))) e) (Plainly NoResultThere) goes)
         (λ c. (whole, λ x r g. (r, g)))
 
     pub region_lands : (u : ElementType) (size object : ℕ) (x : Identifier) (c count : ℕ) (z l : ℤ) → sort_in p.names x ≡ Some (sort.Array u size)

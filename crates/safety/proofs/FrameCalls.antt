@@ -1,32 +1,31 @@
 -- The steps of the calls that end a reference, or begin or end a frame.
-use Rattle.std.proofs.Common.{◌≡◌, ℕ, ◌+◌, ◌<◌, ◌≤◌, arith, Bool, true, false, ◌&&◌, inl, inr, List, [], ◌∷◌, ◌++◌, length, Option, Some, None, refl, sym, ap, ◌∙◌, subst}
-use Rattle.std.specs.Prelude.{ℤ, pos, negsuc, nat_le, drop, slice_get, ◌==◌}
+use Rattle.std.proofs.Common.{◌≡◌, ℕ, ◌+◌, ◌≤◌, arith, Bool, true, false, ◌&&◌, inl, inr, List, [], ◌∷◌, length, Option, Some, None, refl, sym, ap, ◌∙◌, subst}
+use Rattle.std.specs.Prelude.{ℤ, pos, negsuc, nat_le, drop, ◌==◌}
 use Rattle.std.proofs.lemmas.Bool.{cond_both}
 use Rattle.base.specs.Bytes.{Identifier, lookup}
 use Rattle.syntax.specs.Tree as tree
 use Rattle.syntax.specs.Tree.{Block}
 use Rattle.classes.specs.Class.{Classes}
-use Rattle.jni.specs.JniFunction.{JniFunction, DeleteLocalRef, PushLocalFrame, PopLocalFrame}
-use Rattle.jni.specs.Prototype.{ResultKind, NewLocal, GivesInt, GivesNothing, LocalVariable, prototype}
+use Rattle.jni.specs.JniFunction.{DeleteLocalRef, PushLocalFrame, PopLocalFrame}
+use Rattle.jni.specs.Prototype.{NewLocal, GivesInt, GivesNothing, LocalVariable}
 use Rattle.regions.specs.RegionStates as states
 use Rattle.regions.specs.RegionStates.{ReferenceAt, state_of, with_changed, killed, after_pop, get_of}
 use Rattle.source.specs.Arguments.{Actual, ReferenceActual, actuals, reference_in_actual, reference_given, number_given, variable_given}
-use Rattle.source.specs.CallEffects.{CallResult, ScalarResult, ReferenceResult, NoResult, CallEffect, Leaves, delete_local_effect, push_effect, without_local}
-use Rattle.source.specs.CallStep.{trap_of_call, target_element, checked, after_call, call_step, is_zero, tell_copy, completed}
+use Rattle.source.specs.CallEffects.{ScalarResult, ReferenceResult, NoResult, CallEffect, Leaves, delete_local_effect, push_effect, without_local}
+use Rattle.source.specs.CallStep.{trap_of_call, target_element, checked, after_call, call_step, is_zero, completed}
 use Rattle.source.specs.CallTable.{call_effect}
-use Rattle.source.specs.Checks.{frames_after, is_full}
 use Rattle.source.specs.Object.{Reference}
 use Rattle.source.specs.Sight.{held_reference}
-use Rattle.source.specs.Task.{Task, Target, Declared, Assigned, Tested, Dropped, Operand, NumberOperand, Given, Invoke, Branch}
+use Rattle.source.specs.Task.{Task, Target, Declared, Assigned, Tested, Dropped, Operand, Given, Invoke, Branch}
 use Rattle.source.specs.Term.{Done}
-use Rattle.source.specs.Thread.{Frame, Thread, Shared, BuffersInUse, capacities, sight_of}
+use Rattle.source.specs.Thread.{Thread, Shared, BuffersInUse, capacities, sight_of}
 use Rattle.source.specs.Value.{Int, Truth, Trap}
 use Rattle.source.specs.Variable.{Variable, LocalRef, Variables}
-use Rattle.safety.specs.Points.{Point, OperandsFit, owners}
+use Rattle.safety.specs.Points.{Point, OperandsFit}
 use Rattle.safety.specs.StepSafe.{references_at}
 use Rattle.safety.specs.Stands.{copies, Goes, Stands}
 use Rattle.safety.specs.Wanted.{Outside, Runs, RunsBlock, ResultGoes, GoesOn, IsTrueNow, IsFalseNow, call_seen, at}
-use Rattle.safety.proofs.FrameLaws.{one_if, same_number, HasFrame, level_there, no_references, copies_deleted, deleted_length}
+use Rattle.safety.proofs.FrameLaws.{one_if, same_number, level_there, no_references, copies_deleted, deleted_length}
 use Rattle.safety.proofs.KilledLaws.{fewer, killed_owners, stands_killed}
 use Rattle.safety.proofs.PoppedLaws.{stands_popped, stands_pushed}
 use Rattle.safety.proofs.QuietLaws.{Gives, Plainly, ALocal, IsNoTest, told, given_lands}
@@ -59,10 +58,10 @@ module _ (classes : Classes) (lent : BuffersInUse) (k : ℕ) (s : Shared) (t : T
   deleted x level (Some n) target args get away e h goes =
       given_lands classes lent k s t line target DeleteLocalRef args rest (at p (with_changed p.regions x killed)) GivesNothing [] s (record t { frames = without_local level n t.frames }) NoResult get refl away (λ c. absurd (cc))
       (stands_killed s.statics t.variables t.frames p stands x (without_local level n t.frames) (deleted_length level n t.frames) (λ l m.
-          let less = killed_owners t.variables x l m level n p.regions.variables e h in
-          let one = copies_deleted level n l m t.frames (level_within x level n e h) in
-          let enough = stands.backed l m in
-          omega (arith, less, one, enough)))
+      let less = killed_owners t.variables x l m level n p.regions.variables e h in
+      let one = copies_deleted level n l m t.frames (level_within x level n e h) in
+      let enough = stands.backed l m in
+      omega (arith, less, one, enough)))
       (Plainly NoResultThere) goes
 
   -- what the call deletes, looked up
@@ -170,8 +169,8 @@ module _ (classes : Classes) (lent : BuffersInUse) (k : ℕ) (s : Shared) (t : T
   pop_at target args get away goes None e =
       subst (λ (e : CallEffect). Lands s.statics (after_call classes lent k s t line target PopLocalFrame args rest e)) (sym (pop_is args))
       (given_lands classes lent k s t line target PopLocalFrame args rest (at p (after_pop p.regions)) NewLocal [] s (record t { frames = drop 1 t.frames }) (ReferenceResult (reference_given args 0)) get refl away
-        (λ is. has_frame (drop 1 t.frames) (has_room classes s.heap t (target_element t.variables target) PopLocalFrame args e refl))
-        (stands_popped s.statics t.variables t.frames p stands) (gives_any (reference_given args 0)) goes)
+      (λ is. has_frame (drop 1 t.frames) (has_room classes s.heap t (target_element t.variables target) PopLocalFrame args e refl))
+      (stands_popped s.statics t.variables t.frames p stands) (gives_any (reference_given args 0)) goes)
   pop_at target args get away goes (Some trap) e = (whole, λ x r g. (r, g))
 
   -- PopLocalFrame

@@ -1,20 +1,19 @@
 -- The steps of the calls that get a buffer.
 use Rattle.std.proofs.Common.{◌≡◌, ◌≢◌, ℕ, ◌+◌, ◌≤◌, arith, Bool, true, false, ◌⊎◌, inl, inr, List, [], ◌∷◌, ◌++◌, map, filter, length, Option, Some, None, refl, sym, ap, ◌∙◌, subst, if◌then◌else◌}
-use Rattle.std.specs.Prelude.{ℤ, IsTrue, nat_le, nat_lt, zip, ◌||◌, ◌&&◌, not, is_some, slice_get}
+use Rattle.std.specs.Prelude.{ℤ, nat_le, nat_lt, zip, ◌||◌, ◌&&◌, not, is_some, slice_get}
 use Rattle.std.specs.List.{list_any}
 use Rattle.std.specs.Option.{option_map}
 use Rattle.std.specs.Str.{bytes_eq}
-use Rattle.std.proofs.lemmas.Bool.{cond_both}
 use Rattle.base.specs.Bytes.{Identifier, ByName, lookup}
 use Rattle.base.specs.Element.{ElementType}
 use Rattle.syntax.specs.Tree as tree
 use Rattle.classes.specs.Class.{Classes}
 use Rattle.jni.specs.JniFunction.{Access, ElementsCopy, ArrayView, CharsCopy, CharsView, JniFunction, GetBuffer, PushLocalFrame, is_critical, is_allowed_pending}
-use Rattle.jni.specs.Prototype.{ResultKind, GivesBuffer, ParameterKind, owner, IsCopy, prototype}
+use Rattle.jni.specs.Prototype.{GivesBuffer, owner, IsCopy, prototype}
 use Rattle.types.specs.Sorts.{Sort, sort_in}
 use Rattle.types.specs.Sorts as sort
 use Rattle.regions.specs.RegionStates.{get_of, VariableState, BufferState, Free, Untested, ReferenceAt, BufferIn, state_of, with_new, with_changed}
-use Rattle.source.specs.Object.{Object, Reference}
+use Rattle.source.specs.Object.{Reference}
 use Rattle.source.specs.Arguments.{Actual, ReferenceActual, look_up, actuals, variable_given, variable_in_actual, reference_in_actual, name_or_zero}
 use Rattle.source.specs.CallEffects.{CallEffect, Leaves, BufferResult}
 use Rattle.source.specs.CallStep.{put, put_assigned, tell_copy, trap_of_call, target_element, checked, after_call, call_step}
@@ -28,10 +27,10 @@ use Rattle.source.specs.Thread.{Thread, Shared, BuffersInUse, Frame, sight_of}
 use Rattle.source.specs.ThreadStep.{with_tasks}
 use Rattle.source.specs.Value.{Flag, Value, Trap, ExceptionPending, DeletedReference, NullReference, WrongObject, NoCapacity}
 use Rattle.source.specs.Variable.{Variable, Scalar, LocalRef, Elements, Buffer, NoBuffer, Copy, View, Variables, Statics, assign}
-use Rattle.safety.specs.Points.{Point, OperandFits, OperandsFit, is_copy, owns, owners}
+use Rattle.safety.specs.Points.{Point, OperandFits, OperandsFit, is_copy, owns}
 use Rattle.safety.specs.Stands.{VariableFits, IsOf, Lends, Shows, Goes, Stands}
 use Rattle.safety.specs.Wanted.{Holds, IsNew, DeclaresResult, AssignsResult, ResultGoes, Runs, GoesOn, CallKeeps, call_seen, operand_argument, at, named}
-use Rattle.safety.proofs.FrameLaws.{one_if, counted_here}
+use Rattle.safety.proofs.FrameLaws.{counted_here}
 use Rattle.safety.proofs.NameLaws.{one_or_other, front_same, front_other, lookup_same, lookup_other, known_same, known_other}
 use Rattle.safety.proofs.QuietLaws.{IsNoTest, nothing_after}
 use Rattle.safety.proofs.SetLaws.{none_some, once_changed, owners_elsewhere, owners_same, sorts_named, stands_at, stands_kept}

@@ -1,12 +1,12 @@
 -- A thread stands where a reference is known to be dead.
-use Rattle.std.proofs.Common.{◌≡◌, ◌≢◌, ℕ, ◌+◌, ◌<◌, ◌≤◌, arith, Bool, true, false, ◌&&◌, ◌⊎◌, inl, inr, List, [], ◌∷◌, map, filter, length, Option, Some, None, refl, sym, ap, ◌∙◌, subst, if◌then◌else◌}
+use Rattle.std.proofs.Common.{◌≡◌, ℕ, ◌+◌, ◌≤◌, arith, Bool, true, false, ◌&&◌, ◌⊎◌, inl, inr, List, [], ◌∷◌, map, filter, length, Option, Some, None, refl, sym, ap, ◌∙◌, subst, if◌then◌else◌}
 use Rattle.std.specs.Prelude.{◌==◌}
 use Rattle.std.specs.Option.{option_map}
 use Rattle.std.specs.Str.{bytes_eq}
 use Rattle.std.proofs.lemmas.Slice.Eq.{bytes_eq-Decides}
 use Rattle.base.specs.Bytes.{Identifier, ByName, lookup}
 use Rattle.jni.specs.JniFunction.{Access}
-use Rattle.regions.specs.RegionStates.{VariableState, ReferenceAt, BufferIn, state_of, with_changed, killed}
+use Rattle.regions.specs.RegionStates.{VariableState, ReferenceAt, BufferIn, with_changed, killed}
 use Rattle.source.specs.Thread.{Frame}
 use Rattle.source.specs.Variable.{Variable, LocalRef, Variables, Statics}
 use Rattle.safety.specs.Points.{Point, is_copy, owns, owners}

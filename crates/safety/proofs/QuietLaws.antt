@@ -1,5 +1,5 @@
 -- Calls that change no variable, no static and no reference of a frame, and give no buffer.
-use Rattle.std.proofs.Common.{◌≡◌, ℕ, ◌≤◌, Bool, true, false, None, List, [], ◌∷◌, ◌++◌, Some, refl, sym, ap, ◌∙◌, subst}
+use Rattle.std.proofs.Common.{◌≡◌, ℕ, ◌≤◌, Bool, true, false, List, [], ◌∷◌, ◌++◌, Some, refl, sym, ap, ◌∙◌, subst}
 use Rattle.base.specs.Bytes.{Identifier}
 use Rattle.classes.specs.Class.{Classes}
 use Rattle.syntax.specs.Tree.{Argument}

@@ -1,5 +1,5 @@
 -- A thread stands at the point after a new local reference, which is in its current frame and goes to a target.
-use Rattle.std.proofs.Common.{◌≡◌, ◌≢◌, ℕ, suc, ◌+◌, ◌≤◌, arith, Bool, true, false, ◌&&◌, inl, inr, List, [], ◌∷◌, map, filter, length, Option, Some, None, refl, sym, ap, ◌∙◌, subst, if◌then◌else◌}
+use Rattle.std.proofs.Common.{◌≡◌, ◌≢◌, ℕ, suc, ◌+◌, ◌≤◌, arith, Bool, true, false, ◌&&◌, List, [], ◌∷◌, map, filter, length, Option, Some, None, refl, sym, ap, ◌∙◌, subst, if◌then◌else◌}
 use Rattle.std.specs.Prelude.{◌==◌}
 use Rattle.std.specs.Option.{option_map}
 use Rattle.std.specs.Str.{bytes_eq}
@@ -15,11 +15,10 @@ use Rattle.regions.specs.RegionStates.{VariableState, ReferenceAt, BufferIn, wit
 use Rattle.source.specs.Task.{Task, Target, Declared, Assigned, Tested, Dropped, VariableKind, ScalarKind, ReferenceKind, FieldKind, BufferKind}
 use Rattle.source.specs.Thread.{Thread, Shared, Frame}
 use Rattle.source.specs.Variable.{Variable, LocalRef, Elements, Buffer, Variables, Statics, assign}
-use Rattle.safety.specs.Points.{Point, AreOnce, is_copy, owns, owners}
-use Rattle.safety.specs.StepSafe.{references_at}
-use Rattle.safety.specs.Stands.{Shows, copies, Stands}
+use Rattle.safety.specs.Points.{Point, AreOnce, is_copy, owns}
+use Rattle.safety.specs.Stands.{Shows, Stands}
 use Rattle.safety.specs.Wanted.{Holds, IsNew, MaySet, revived, DeclaresResult, AssignsResult, ResultGoes, GoesOn, at, named}
-use Rattle.safety.proofs.FrameLaws.{one_if, counted_here, more_copies, copies_grow, local_length}
+use Rattle.safety.proofs.FrameLaws.{one_if, counted_here, more_copies, copies_grow}
 use Rattle.safety.proofs.NameLaws.{lookup_same, lookup_other, front_same, front_other, known_same, known_other}
 use Rattle.safety.proofs.SetLaws.{once_changed, stands_at, owners_elsewhere, sorts_named, sorts_kept, not_first, one_owns}
 use Rattle.safety.proofs.StepLaws.{Lands, same_statics}

@@ -1,13 +1,13 @@
 -- The steps of the calls that release a buffer.
-use Rattle.std.proofs.Common.{◌≡◌, ◌≢◌, ℕ, arith, Bool, true, false, inl, inr, List, [], ◌∷◌, map, Option, Some, None, refl, sym, ap, ◌∙◌, subst, if◌then◌else◌}
+use Rattle.std.proofs.Common.{◌≡◌, ℕ, arith, Bool, true, false, inl, inr, List, [], ◌∷◌, map, Option, Some, None, refl, sym, ap, ◌∙◌, subst, if◌then◌else◌}
 use Rattle.std.specs.Option.{option_map}
 use Rattle.std.specs.Str.{bytes_eq}
 use Rattle.base.specs.Bytes.{Identifier, lookup}
 use Rattle.syntax.specs.Tree as tree
 use Rattle.classes.specs.Class.{Classes}
-use Rattle.jni.specs.JniFunction.{Access, ElementsCopy, ArrayView, CharsCopy, CharsView, JniFunction, ReleaseBuffer, PushLocalFrame, is_critical}
-use Rattle.jni.specs.Prototype.{ResultKind, GivesNothing, owner, release_mode, Mode, BufferVariable, prototype}
-use Rattle.types.specs.Sorts.{Sort, sort_in}
+use Rattle.jni.specs.JniFunction.{Access, ElementsCopy, ArrayView, CharsCopy, CharsView, ReleaseBuffer, PushLocalFrame, is_critical}
+use Rattle.jni.specs.Prototype.{GivesNothing, release_mode, Mode, prototype}
+use Rattle.types.specs.Sorts.{sort_in}
 use Rattle.regions.specs.RegionStates as states
 use Rattle.regions.specs.RegionStates.{VariableState, Free, Usable, BufferIn, state_of, with_changed, made_free, has_commit}
 use Rattle.source.specs.Arguments.{Actual, look_up, actuals, object_given, mode_in_actual}
@@ -79,7 +79,7 @@ module _ (classes : Classes) (lent : BuffersInUse) (k : ℕ) (s : Shared) (t : T
     freed_lands s' same goes =
         subst (λ (ss : Statics). Lands ss (after_call classes lent k s t line target (ReleaseBuffer access) args rest (Leaves [] s' (with_freed t x) NoResult))) same
         (given_lands classes lent k s t line target (ReleaseBuffer access) args rest (freed_point x) GivesNothing [] s' (with_freed t x) NoResult get refl away (λ c. absurd (cc))
-          (subst (λ (ss : Statics). Stands ss (change x freed t.variables) t.frames (freed_point x)) (sym same) (stands_freed x access a usable)) (Plainly NoResultThere) goes)
+        (subst (λ (ss : Statics). Stands ss (change x freed t.variables) t.frames (freed_point x)) (sym same) (stands_freed x access a usable)) (Plainly NoResultThere) goes)
 
     -- with the buffer kept
     kept_lands : (s' : Shared) → s'.statics ≡ s.statics → ResultGoes target GivesNothing get (GoesOn rest) p → Lands s.statics (after_call classes lent k s t line target (ReleaseBuffer access) args rest (Leaves [] s' t NoResult))

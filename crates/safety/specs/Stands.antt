@@ -1,5 +1,5 @@
 -- How a thread stands at a point: its variables are of their sorts, and hold what is known of them.
-use Rattle.std.specs.Prelude.{◌≡◌, ℕ, ◌≤◌, ◌==◌, Bool, true, false, ◌⊎◌, ℤ, List, [], ◌∷◌, length, Option, Some, None, IsTrue, filter}
+use Rattle.std.specs.Prelude.{◌≡◌, ℕ, ◌≤◌, ◌==◌, Bool, true, false, ◌⊎◌, ℤ, List, [], length, Option, Some, None, IsTrue, filter}
 use Rattle.std.specs.List.{list_all, AllByRecursion}
 use Rattle.base.specs.Bytes.{Identifier, lookup}
 use Rattle.base.specs.Element.{ElementType}
