@@ -10,10 +10,10 @@ use Rattle.source.specs.Arguments.{Actual, ReleaseMode, CopyBackAndFree, CopyBac
 use Rattle.source.specs.CallEffects.{CallEffect, delete_local_effect, delete_global_effect, push_effect, release_effect}
 use Rattle.source.specs.CallStep.{trap_of_call, checked, makes_objects, after_refusal, call_step}
 use Rattle.source.specs.CallTable.{call_effect}
-use Rattle.source.specs.Effect.{Effect, Becomes, Sets, SetsNull, SetsElement, MakesArray, Prints, Calls, Returns, TrapsAt, NoEffect, effect_of}
+use Rattle.source.specs.Effect.{Effect, Calls, effect_of}
 use Rattle.source.specs.Object.{Reference}
 use Rattle.source.specs.Task.{Task, Target, Declared, Assigned, Tested, Dropped, Operand, Invoke}
-use Rattle.source.specs.Thread.{Thread, Shared, BuffersInUse, Frame, capacities, sight_of}
+use Rattle.source.specs.Thread.{Thread, Shared, BuffersInUse, capacities, sight_of}
 use Rattle.source.specs.ThreadStep.{after_refused_effect, step_within}
 use Rattle.source.specs.Value.{Trap}
 use Rattle.source.specs.Variable.{Variable}
