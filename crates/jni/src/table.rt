@@ -51,7 +51,7 @@ static FUNCTIONS: [Prototype; 77] = rows! {
     b"DeleteLocalRef"      [LocalVariable]            => GivesNothing, Deletes, true,  false;
     b"DeleteGlobalRef"     [StaticVariable]           => GivesNothing, Other,   true,  false;
     b"IsSameObject"        [Nullable, Nullable]       => GivesFlag,    Other,   false, true;
-    b"EnsureLocalCapacity" [IntNumber]                => GivesInt,     Other,   false, false;
+    b"EnsureLocalCapacity" [IntNumber]                => GivesInt,     Other,   false, true;
     b"PushLocalFrame"      [IntNumber]                => GivesInt,     Other,   true,  false;
     b"PopLocalFrame"       [Nullable]                 => NewLocal,     Pops,    true,  false;
     // fields of references, arrays of objects, and the length of any array
