@@ -27,7 +27,7 @@ depths_then a b d m e h k = depths-append a b d ∙ ap (option_and_then (depths 
 
 -- ---- where jumps lead
 
--- a place of the piece, or the one after it, with so many words where it begins with `entry`
+-- a place of the piece, or the one after it, with this number of words where it begins with `entry`
 pub record Reaches (code : List Instr) (entry place depth : ℕ) : Type 0 where
   pub inside : place ≤ length code
   pub words : depths (take place code) entry ≡ Some depth
@@ -88,7 +88,7 @@ lands_right a b entry middle place depth i k h = tt
 
 -- ---- places of two pieces
 
--- a property of the places of a piece that begins with so many words
+-- a property of the places of a piece that begins with this number of words
 abbrev pub At : Type 1
 At = (place depth : ℕ) → Instr → Type 0
 

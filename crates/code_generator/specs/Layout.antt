@@ -62,7 +62,7 @@ with_name x s l = record { known = (x, new_slot s l) ∷ l.known; slots = slots_
 abbrev pub with_static : Static → Known → Known
 with_static s statics = (s.name, record { sort = Global; index = length statics }) ∷ statics
 
--- the slot of a parameter, where so many are taken
+-- the slot of a parameter, where this number of slots is taken
 abbrev pub parameter_slot : ParameterType → (numbers references : ℕ) → Slot
 parameter_slot IntParameter n r = record { sort = Jint; index = n }
 parameter_slot (ReferenceParameter type) n r = record { sort = Ref; index = r }

@@ -154,7 +154,7 @@ impl<'a> Names<'a> {
     }
 }
 
-/// A parameter after others that took so many slots.
+/// A parameter after others that took this number of slots.
 fn add_parameter<'a>(
     known: &mut Vec<Known<'a>>,
     numbers: &mut u32,

@@ -15,7 +15,7 @@ from_line (suc line) (byte ∷ text) = if byte == 10 then from_line line text el
 abbrev pub shown_byte : ℕ → ℕ
 shown_byte byte = if nat_le 32 byte && nat_le byte 126 then byte else (if byte == 9 then 32 else 63)
 
--- the first line of the text as it is shown, or so many bytes of it
+-- the first line of the text as it is shown, or its beginning of this number of bytes
 unfoldable pub shown_line : (most : ℕ) → List ℕ → List ℕ
 shown_line zero text = []
 shown_line (suc most) [] = []

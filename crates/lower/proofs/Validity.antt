@@ -107,7 +107,7 @@ term_piece known line (Binary op a b) s d sorted u h =
     piece_append (term_code known line a) (term_code known line b ++ last) d (suc d) (suc d) (term_piece known line a sorted.0 d sorted.2 u.0 (omega arith))
     (piece_append (term_code known line b) last (suc d) (suc (suc d)) (suc d) right (operator_piece line (is_signed known a) op d))
 
--- an expression with so many words in front of it
+-- an expression with this number of words in front of it
 number_piece : (known : Known) (line : ℕ) (t : Term) (s : Sort) (d : ℕ) → NumberFits known t s → d ≤ 31 → IsPiece (term_code known line t) d (suc d)
 number_piece known line t s d h few = let low = h.low in term_piece known line t s d h.sort h.untouched (omega arith)
 

@@ -114,7 +114,7 @@ pub record IsFieldSet (old : Visible) (x : Identifier) (f : Option source.FieldI
   pub kind : new.kind x ≡ Some FieldKind
   pub others : OthersStay old new x
 
--- a local array has so many zeros
+-- a local array has this number of zeros
 pub record IsMade (old : Visible) (t : ElementType) (x : Identifier) (size : ℕ) (new : Visible) : Type 0 where
   pub array_type : new.array_type x ≡ Some t
   pub zeros : (i : ℕ) → i < size → new.sight.element x i ≡ Gives (pos 0)

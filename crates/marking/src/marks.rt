@@ -28,7 +28,7 @@ impl Model for Marks {
 }
 
 impl Marks {
-    /// No marks on so many places.
+    /// No marks on this number of places.
     pub fn new(alloc: Global, places: usize) -> Result<Marks, AllocError>
         ensures { IfOk result (λ m. m ≡ replicate places false) }
     {

@@ -10,7 +10,7 @@ use Rattle.source.proofs.ReachableLemmas.{In, contains_in, to_contains, in_appen
 use Rattle.marking.specs.Marks.{is_marked}
 use Rattle.reached.specs.Names.{IsWithin, within, AreRoots}
 
--- ---- a name among so many
+-- ---- a name among this number of names
 
 pub within_yes : (count n : ℕ) → IsWithin count n → within count (Some n) ≡ Some n
 within_yes count n h = ap (λ (b : Bool). cond b (Some n) None) (both (nat_lt 0 n) (nat_le n count) (low n h.0) (high n count h.1))

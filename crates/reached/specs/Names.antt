@@ -8,11 +8,11 @@ use Rattle.source.specs.State.{State}
 use Rattle.source.specs.World.{World}
 use Rattle.marking.specs.Marks.{is_marked}
 
--- the name of one of so many objects
+-- the name of one of this number of objects
 abbrev pub IsWithin : (count : ℕ) → ℕ → Type 0
 IsWithin count n = (0 < n) × (n ≤ count)
 
--- a reference to one of so many objects
+-- a reference to one of this number of objects
 abbrev pub within : (count : ℕ) → Reference → Reference
 within count None = None
 within count (Some n) = if nat_lt 0 n && nat_le n count then Some n else None
@@ -21,7 +21,7 @@ within count (Some n) = if nat_lt 0 n && nat_le n count then Some n else None
 abbrev pub references_in : Heap → ℕ → List (Option ℕ)
 references_in heap n = map (λ (v : ObjectValue). within (length heap) (reference_in v)) (values_of heap n)
 
--- A state has this heap, made so many objects at load, and besides them has these roots.
+-- A state has this heap, made this number of objects at load, and besides them has these roots.
 pub record HasRoots (table : Classes) (objects : Heap) (loaded : ℕ) (names : List ℕ) (w : World) (s : State) : Type 0 where
   pub classes : w.classes ≡ table
   pub heap : s.shared.heap ≡ objects
@@ -29,7 +29,7 @@ pub record HasRoots (table : Classes) (objects : Heap) (loaded : ℕ) (names : L
 
 -- ---- marks
 
--- of so many objects just the roots are marked
+-- of this number of objects just the roots are marked
 pub record AreRoots (count : ℕ) (IsRoot : ℕ → Type 0) (marks : List Bool) : Type 0 where
   pub counted : length marks ≡ count + 1
   pub sound : (n : ℕ) → is_marked marks n ≡ true → IsWithin count n × IsRoot n

@@ -9,7 +9,7 @@ use Rattle.source.specs.World.{World}
 use Rattle.marking.specs.Marks.{is_marked}
 use Rattle.reached.specs.Names.{HasRoots}
 
--- so many numbers from one on
+-- this number of numbers, from one on
 abbrev pub count_from : ℕ → ℕ → List ℕ
 count_from k zero = []
 count_from k (suc c) = k ∷ count_from (suc k) c

@@ -34,7 +34,7 @@ impl<O: Objects> Graph for Names<'_, O> {
     }
 }
 
-/// The name, where it is that of one of so many objects.
+/// The name, where it is that of one of this number of objects.
 pub(crate) fn within(count: usize, name: usize) -> Option<usize>
     ensures { result ≡ within count (Some name) }
 {

@@ -8,7 +8,7 @@ use crate::names::within;
 use marking::Marks;
 use std::alloc::{AllocError, Global};
 
-/// Marks the roots among so many objects: those made at load, which have the first names, and these.
+/// Marks the roots among this number of objects: those made at load, which have the first names, and these.
 pub(crate) fn marked_roots(
     alloc: Global,
     count: usize,

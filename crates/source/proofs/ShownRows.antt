@@ -92,7 +92,7 @@ reachable_all w s count =
 
 -- ---- their rows
 
--- so many numbers from one on
+-- this number of numbers, from one on
 numbers_from : (from count : ℕ) → List ℕ
 numbers_from from zero = []
 numbers_from from (suc k) = from ∷ numbers_from (from + 1) k

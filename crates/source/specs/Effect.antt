@@ -21,7 +21,7 @@ pub data Effect : Type 0 where
   SetsNull : Target → Effect
   -- an element of a buffer or an array, within its range, is this number, converted to the element type
   SetsElement : Identifier → (index : ℕ) → ℤ → Effect
-  -- a local array of so many zeros
+  -- a local array of this number of zeros
   MakesArray : ElementType → Identifier → (size : ℕ) → Effect
   -- a number is printed
   Prints : ℤ → Effect

@@ -143,7 +143,7 @@ module _ {W : Type 0} (known : W → Bool) (times : W → ℕ) (number count : �
   unfolding allowed_words
   ok_allowed o ws e k f = let n : nat_le (count + sum_by times ws) 1000000 ≡ true = grind (arith, nat_tests, f) in ap (allowed_words known times number count) e ∙ rw (k, n) refl
 
--- what was read of these lines, after so many words
+-- what was read of these lines, after this number of words
 pub record AreWords {W : Type 0} (spelled : List ℕ → Option W) (known : W → Bool) (times : W → ℕ) (count : ℕ) (lines : List (List ℕ)) (ws : List W) : Type 0 where
   pub formed : formed_words spelled (flat_map (parts_of 32) lines) ≡ Some ws
   pub all_known : list_all known ws ≡ true

@@ -11,7 +11,7 @@ use Rattle.texts.specs.Words.{words_of, is_thread}
 abbrev pub has_thread : ℕ → Entry → Bool
 has_thread threads (Step k refused) = is_thread threads k
 
--- the journal that a text means, for a world of so many threads
+-- the journal that a text means, for a world of this number of threads
 pub record IsJournalText (threads : ℕ) (text : List ℕ) (journal : Journal) : Type 0 where
   pub spelled : words_of text ≡ map entry_text journal
   pub threads_known : IsTrue (list_all (has_thread threads) journal)

@@ -26,7 +26,7 @@ allowed_words known times number count (Some words) =
     then (if nat_le (count + sum_by times words) MOST_WORDS then Ok words else refused Limit number)
     else refused Name number
 
--- the words of the line of this number, after so many words
+-- the words of the line of this number, after this number of words
 abbrev pub line_words : {W : Type 0} → (List ℕ → Option W) → (W → Bool) → (W → ℕ) → ℕ → ℕ → List ℕ → Result (List W) TextFault
 line_words spelled known times number count line =
     allowed_words known times number count (formed_words spelled (parts_of 32 line))

@@ -31,7 +31,7 @@ abbrev pub is_count : Option ℕ → Bool
 is_count None = true
 is_count (Some n) = nat_le 1 n && nat_le n 1000000
 
--- the schedule that a text means, for a world of so many threads (8 at most)
+-- the schedule that a text means, for a world of this number of threads (8 at most)
 pub record IsScheduleText (threads : ℕ) (text : List ℕ) (schedule : Schedule) : Type 0 where
   pub words : List (ScheduleWord × Option ℕ)
   pub spelled : words_of text ≡ map schedule_word words

@@ -45,7 +45,7 @@ impl Word for Entry {
     }
 }
 
-/// The journal that the text means, for a world of so many threads.
+/// The journal that the text means, for a world of this number of threads.
 ///
 /// Fault 81: a word has no form. 82: an entry of a thread that the world lacks. 83: more than 1,000,000 entries.
 /// Of one line the least of these, and of several lines that of the first.

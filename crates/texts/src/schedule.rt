@@ -13,7 +13,7 @@ use source::ScheduleWord;
 use std::alloc::Global;
 use std::marker::Model;
 
-/// A word, so many times in a row.
+/// A word, and how many times in a row.
 #[derive(Clone, Copy, Debug, PartialEq, Eq)]
 pub struct Repetition {
     pub word: ScheduleWord,
@@ -93,7 +93,7 @@ fn turn_of(name: u8) -> Option<ScheduleWord>
     }
 }
 
-/// The schedule that the text means, for a world of so many threads.
+/// The schedule that the text means, for a world of this number of threads.
 ///
 /// Fault 81: a word has no form. 82: a turn of a thread that the world lacks. 83: more than 1,000,000 words, each
 /// counted as often as it is repeated. Of one line the least of these, and of several lines that of the first.

@@ -18,7 +18,7 @@ pub const MOST_WORDS: u64 = 1_000_000;
 pub trait Word: Drop {
     /// The word that the bytes spell, if they spell one.
     ghost spelled: { List ℕ → Option Self };
-    /// Whether the word names only what is there, with so many threads.
+    /// Whether the word names only what is there, with this number of threads.
     ghost known: { ℕ → Self → Bool };
     /// How many words it stands for.
     ghost times: { Self → ℕ };
@@ -67,7 +67,7 @@ fn all_known<W: Word>(words: &[W], threads: u8) -> bool
     words.iter().all(|word| word.is_known(threads))
 }
 
-/// The words of a line, after so many words before it.
+/// The words of a line, after this number of words before it.
 fn read_line<W: Word>(
     alloc: Global,
     line: &[u8],

@@ -6,7 +6,7 @@ use Rattle.source.specs.Object.{ObjectValue, Number, Refers}
 use Rattle.source.specs.World.{Invocation}
 use Rattle.world.specs.WorldRules.{is_in_range}
 
--- a number in the range of jint, NULL, or one of so many objects, counted from 1
+-- a number in the range of jint, NULL, or one of this number of objects, counted from 1
 abbrev pub is_argument : (made : ℕ) → ObjectValue → Bool
 is_argument made (Number z) = is_in_range JInt z
 is_argument made (Refers None) = true

@@ -15,7 +15,7 @@ use Rattle.world_text.proofs.LineWords.{spaced_parts, parts_spaced}
 use Rattle.world_text.proofs.ReadValues.{decimal_word}
 use Rattle.world_text.proofs.Tests.{both, mapped, same_bytes, later_number}
 
--- the line of a heap of so many cells
+-- the line of a heap of this number of cells
 abbrev pub heap_text : ℕ → List ℕ
 heap_text cells = spaced (codes "heap" ∷ decimal cells ∷ [])
 

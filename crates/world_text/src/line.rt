@@ -210,7 +210,7 @@ fn line_of_kind<'a>(
     }
 }
 
-/// The bytes after so many, and none where there are fewer.
+/// The bytes after this number of them, and none where there are fewer.
 fn bytes_after(bytes: &[u8], count: usize) -> &[u8]
     ensures { result.now ≡ drop count bytes.now }
 {

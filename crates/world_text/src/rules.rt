@@ -161,7 +161,7 @@ fn is_text(text: &[u8]) -> bool
     text.iter().all(|byte| is_text_byte(*byte))
 }
 
-/// Whether an object of a class has so many values as the class has fields, where it is a class of which objects are made.
+/// Whether an object of a class has as many values as the class has fields, where it is a class of which objects are made.
 fn has_values(classes: &ClassTable, class: &[u8], count: usize) -> bool
     ensures { result ≡ (not (is_object_class classes.now class.now) || (count == length (layout_types classes.now (class_number classes.now class.now)))) }
 {
