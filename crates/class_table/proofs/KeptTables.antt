@@ -2,7 +2,7 @@
 use Rattle.std.proofs.Common.{not, map, append_assoc, unwrap_or, ◌≡◌, ℕ, zero, suc, ◌+◌, ◌<◌, ◌≤◌, Bool, true, false, cond, List, [], ◌∷◌, ◌++◌, length, Option, Some, None, slice_get, nat_lt, refl, sym, ap, ◌∙◌, arith, length-append}
 use Rattle.std.specs.Prelude.{◌==◌, ◌&&◌, ◌||◌}
 use Rattle.std.specs.Option.{option_map, option_map_or}
-use Rattle.std.specs.List.{list_all, enumerate_from, prefix_len}
+use Rattle.std.specs.List.{list_all, list_any, enumerate_from, prefix_len}
 use Rattle.std.proofs.lemmas.Bool.Decides.{nat_tests}
 use Rattle.std.proofs.lemmas.List.Folds.{list_all-append}
 use Rattle.base.specs.Bytes.{Identifier, first_passes}
@@ -17,11 +17,12 @@ use Rattle.base.specs.Options.{some_passes}
 use Rattle.std.specs.Str.{bytes_eq}
 use Rattle.classes.specs.Mangling.{is_class_name}
 use Rattle.class_table.specs.Refusals.{first_broken}
-use Rattle.class_table.specs.Tables.{names_differ, is_named_by_kind, has_few_fields, IsTable}
+use Rattle.class_table.specs.Tables.{names_differ, is_named_by_kind, has_few_fields, field_names_differ, declares_once, IsTable}
 use Rattle.class_table.proofs.AddedClasses.{named, no-array, added-elements}
 use Rattle.class_table.proofs.ArrayNames.{no_array, either-append, listed-elements}
 use Rattle.class_table.proofs.ChangedClasses.{from, names-kept, declared-elements}
-use Rattle.class_table.proofs.DistinctNames.{has_name, both, unnamed, differ-more}
+use Rattle.class_table.proofs.DistinctNames.{has_name, both, neither, was_false, unnamed, differ-more}
+use Rattle.class_table.proofs.Places.{same_bytes}
 
 -- ---- no rule is broken
 
@@ -52,7 +53,8 @@ few_declared T c name text h =
 
 pub all-differ : (list : List BuiltIn) → is_class_list list ≡ true → names_differ (listed_classes list) ≡ true
 all-differ list h =
-    let p = both _ (list_all has_few_fields (listed_classes list)) h in
+    let o = both _ (list_all declares_once (listed_classes list)) h in
+    let p = both _ (list_all has_few_fields (listed_classes list)) o.0 in
     let q = both _ (nat_lt (length (listed_classes list)) 257) p.0 in
     (both (list_all (λ b. is_class_name b.name.now) list) (names_differ (listed_classes list)) q.0).1
 
@@ -73,10 +75,11 @@ listed-named list =
 
 pub listed-table : (list : List BuiltIn) → is_class_list list ≡ true → IsTable (listed_classes list)
 listed-table list h =
-    let p = both _ (list_all has_few_fields (listed_classes list)) h in
+    let o = both _ (list_all declares_once (listed_classes list)) h in
+    let p = both _ (list_all has_few_fields (listed_classes list)) o.0 in
     let q = both _ (nat_lt (length (listed_classes list)) 257) p.0 in
     let r = both (list_all (λ b. is_class_name b.name.now) list) _ q.0 in
-    record { elements = listed-elements list r.0; differ = all-differ list h; named = listed-named list; few = (let t = q.1 in grind (arith, nat_tests)); few_fields = p.1 }
+    record { elements = listed-elements list r.0; differ = all-differ list h; named = listed-named list; few = (let t = q.1 in grind (arith, nat_tests)); few_fields = p.1; declared_once = o.1 }
 
 -- ---- a class more
 
@@ -99,6 +102,7 @@ added-table T name superclass s is h t =
       named = list_all-append is_named_by_kind T two ∙ ap (λ b. b && true) t.named;
       few = omega (arith, few_classes T name superclass h, length-append T two);
       few_fields = list_all-append has_few_fields T two ∙ ap (λ b. b && list_all has_few_fields two) t.few_fields;
+      declared_once = list_all-append declares_once T two ∙ ap (λ b. b && list_all declares_once two) t.declared_once;
     }
 
 -- ---- a field more
@@ -125,43 +129,88 @@ module _ (change : Class → Class) where
   same_count c n [] = refl
   same_count c n (d ∷ T) = ap suc (same_count c (n + 1) T)
 
-  few_kept : (c n : ℕ) (T : Classes) → ((i : ℕ) (d : Class) → slice_get T i ≡ Some d → n + i ≡ c → has_few_fields d ≡ true → has_few_fields (change d) ≡ true) → list_all has_few_fields T ≡ true → list_all has_few_fields (from change c n T) ≡ true
-  few_kept c n [] own h = refl
-  few_kept c n (d ∷ T) own h =
-      let p = both (has_few_fields d) (list_all has_few_fields T) h in
-      step (n == c) refl p.0 (few_kept c (n + 1) T (λ i e at place. own (suc i) e at (omega (arith, place))) p.1) (own zero d refl)
+  -- what holds of each class holds still
+  all_kept : (holds : Class → Bool) (c n : ℕ) (T : Classes) → ((i : ℕ) (d : Class) → slice_get T i ≡ Some d → n + i ≡ c → holds d ≡ true → holds (change d) ≡ true) → list_all holds T ≡ true → list_all holds (from change c n T) ≡ true
+  all_kept holds c n [] own h = refl
+  all_kept holds c n (d ∷ T) own h =
+      let p = both (holds d) (list_all holds T) h in
+      step (n == c) refl p.0 (all_kept holds c (n + 1) T (λ i e at place. own (suc i) e at (omega (arith, place))) p.1) (own zero d refl)
     where
-      step : (b : Bool) → (n == c) ≡ b → has_few_fields d ≡ true → list_all has_few_fields (from change c (n + 1) T) ≡ true → (n + 0 ≡ c → has_few_fields d ≡ true → has_few_fields (change d) ≡ true)
-          → (has_few_fields (cond b (change d) d) && list_all has_few_fields (from change c (n + 1) T)) ≡ true
-      step true e few rest mine = let is : n + 0 ≡ c = grind (arith, nat_tests) in ap (λ b. b && list_all has_few_fields (from change c (n + 1) T)) (mine is few) ∙ rest
-      step false e few rest mine = ap (λ b. b && list_all has_few_fields (from change c (n + 1) T)) few ∙ rest
+      step : (b : Bool) → (n == c) ≡ b → holds d ≡ true → list_all holds (from change c (n + 1) T) ≡ true → (n + 0 ≡ c → holds d ≡ true → holds (change d) ≡ true)
+          → (holds (cond b (change d) d) && list_all holds (from change c (n + 1) T)) ≡ true
+      step true e here rest mine = let is : n + 0 ≡ c = grind (arith, nat_tests) in ap (λ b. b && list_all holds (from change c (n + 1) T)) (mine is here) ∙ rest
+      step false e here rest mine = ap (λ b. b && list_all holds (from change c (n + 1) T)) here ∙ rest
 
-pub declared-table : (T : Classes) (c : ℕ) (field : Field) (name : Identifier) (text : List ℕ) (is_static : Bool) → 0 < c → first_broken (λ rule. field_breaks rule T (Some c) name text) ≡ None → IsTable T → IsTable (with_declared T (Some c) field is_static)
-declared-table T c field name text true low h t =
+-- a name that the class doesn't declare
+
+abbrev pub has_field : List Field → Identifier → Bool
+has_field fields name = list_any (λ (f : Field). bytes_eq f.name name) fields
+
+fields_differ_more : (fields : List Field) (f : Field) → field_names_differ fields ≡ true → has_field fields f.name ≡ false → field_names_differ (fields ++ f ∷ []) ≡ true
+fields_differ_more [] f h new = refl
+fields_differ_more (g ∷ fields) f h new =
+    let p = both (not (has_field fields g.name)) (field_names_differ fields) h in
+    let q = neither (bytes_eq g.name f.name) (has_field fields f.name) new in
+    (λ i. not (absent fields (was_false (has_field fields g.name) p.0) i) && field_names_differ (fields ++ f ∷ [])) ∙ fields_differ_more fields f p.1 q.1
+  where
+    absent : (others : List Field) → has_field others g.name ≡ false → has_field (others ++ f ∷ []) g.name ≡ false
+    absent [] e = ap (λ b. b || false) (same_bytes f.name g.name ∙ (neither (bytes_eq g.name f.name) (has_field fields f.name) new).0)
+    absent (x ∷ others) e = let r = neither (bytes_eq x.name g.name) (has_field others g.name) e in (λ i. r.0 i || has_field (others ++ f ∷ []) g.name) ∙ absent others r.1
+
+in_neither : (fields statics : List Field) (name : Identifier) → has_field (fields ++ statics) name ≡ false → (has_field fields name ≡ false) × (has_field statics name ≡ false)
+in_neither [] statics name h = (refl, h)
+in_neither (f ∷ fields) statics name h =
+    let p = neither (bytes_eq f.name name) (has_field (fields ++ statics) name) h in
+    let q = in_neither fields statics name p.1 in
+    ((λ i. p.0 i || has_field fields name) ∙ q.0, q.1)
+
+class_here : (T : Classes) (c i : ℕ) (d : Class) → slice_get T i ≡ Some d → 1 + i ≡ c → class_at T c ≡ Some d
+class_here T c i d at place = let e : c ≡ suc i = omega (arith, place) in ap (class_at T) e ∙ at
+
+-- the name is new among the fields of the class, and among its statics
+is_new : (T : Classes) (c : ℕ) (name : Identifier) (text : List ℕ) → first_broken (λ rule. field_breaks rule T (Some c) name text) ≡ None → (i : ℕ) (d : Class) → slice_get T i ≡ Some d → 1 + i ≡ c
+    → (has_field d.fields name ≡ false) × (has_field d.statics name ≡ false)
+is_new T c name text h i d at place =
+    let q = (chain (field_breaks NameTaken T (Some c) name text) false (field_breaks BadSignature T (Some c) name text) (field_breaks TooMany T (Some c) name text) h).first in
+    in_neither d.fields d.statics name (sym (ap (λ (o : Option Class). has_field (option_map_or (λ (x : Class). x.fields ++ x.statics) o []) name) (class_here T c i d at place)) ∙ q)
+
+pub declared-table : (T : Classes) (c : ℕ) (field : Field) (name : Identifier) (text : List ℕ) (is_static : Bool) → 0 < c → field.name ≡ name → first_broken (λ rule. field_breaks rule T (Some c) name text) ≡ None → IsTable T → IsTable (with_declared T (Some c) field is_static)
+declared-table T c field name text true low named h t =
     let change : Class → Class = λ d. record d { statics = d.statics ++ field ∷ [] } in
     record {
       elements = declared-elements T (Some c) field true t.elements;
       differ = differ_kept change (λ d. refl) (λ d. refl) c 1 T ∙ t.differ;
       named = named_kept change (λ d. refl) (λ d. refl) c 1 T ∙ t.named;
       few = omega (arith, t.few, same_count change c 1 T);
-      few_fields = few_kept change c 1 T (λ i d at place few. few) t.few_fields;
+      few_fields = all_kept change has_few_fields c 1 T (λ i d at place few. few) t.few_fields;
+      declared_once = all_kept change declares_once c 1 T (λ i d at place once. once_more i d at place once) t.declared_once;
     }
-declared-table T c field name text false low h t =
+  where
+    once_more : (i : ℕ) (d : Class) → slice_get T i ≡ Some d → 1 + i ≡ c → declares_once d ≡ true → (field_names_differ d.fields && field_names_differ (d.statics ++ field ∷ [])) ≡ true
+    once_more i d at place once =
+        let p = both (field_names_differ d.fields) (field_names_differ d.statics) once in
+        let new = ap (has_field d.statics) named ∙ (is_new T c name text h i d at place).1 in
+        ap (λ b. b && field_names_differ (d.statics ++ field ∷ [])) p.0 ∙ fields_differ_more d.statics field p.1 new
+declared-table T c field name text false low named h t =
     let change : Class → Class = λ d. record d { fields = d.fields ++ field ∷ [] } in
     record {
       elements = declared-elements T (Some c) field false t.elements;
       differ = differ_kept change (λ d. refl) (λ d. refl) c 1 T ∙ t.differ;
       named = named_kept change (λ d. refl) (λ d. refl) c 1 T ∙ t.named;
       few = omega (arith, t.few, same_count change c 1 T);
-      few_fields = few_kept change c 1 T (λ i d at place few. one_more i d at place) t.few_fields;
+      few_fields = all_kept change has_few_fields c 1 T (λ i d at place few. one_more i d at place) t.few_fields;
+      declared_once = all_kept change declares_once c 1 T (λ i d at place once. once_more i d at place once) t.declared_once;
     }
   where
-    here : (i : ℕ) (d : Class) → slice_get T i ≡ Some d → 1 + i ≡ c → class_at T c ≡ Some d
-    here i d at place = let e : c ≡ suc i = omega (arith, place) in ap (class_at T) e ∙ at
+    once_more : (i : ℕ) (d : Class) → slice_get T i ≡ Some d → 1 + i ≡ c → declares_once d ≡ true → (field_names_differ (d.fields ++ field ∷ []) && field_names_differ d.statics) ≡ true
+    once_more i d at place once =
+        let p = both (field_names_differ d.fields) (field_names_differ d.statics) once in
+        let new = ap (has_field d.fields) named ∙ (is_new T c name text h i d at place).0 in
+        ap (λ b. b && field_names_differ d.statics) (fields_differ_more d.fields field p.0 new) ∙ p.1
 
     one_more : (i : ℕ) (d : Class) → slice_get T i ≡ Some d → 1 + i ≡ c → nat_lt (length (d.fields ++ field ∷ [])) 65 ≡ true
     one_more i d at place =
-        let own = ap (λ (o : Option Class). length (option_map_or (λ (x : Class). x.fields ++ x.statics) o [])) (here i d at place) in
+        let own = ap (λ (o : Option Class). length (option_map_or (λ (x : Class). x.fields ++ x.statics) o [])) (class_here T c i d at place) in
         let few = few_declared T (Some c) name text h in
         let some = length-append d.fields d.statics in
         let more = length-append d.fields (field ∷ []) in

@@ -9,3 +9,5 @@ pub mod ChangedClasses
 pub mod FieldTypes
 pub mod KeptTables
 pub mod Layouts
+pub mod HandledFields
+pub mod FieldPlaces

@@ -8,7 +8,7 @@ use Rattle.class_table.specs.declared.built_ins.BuiltInField.{BuiltInField}
 use Rattle.classes.specs.Class.{Field, Plain, ArrayOfNumbers, Class, Classes}
 use Rattle.classes.specs.BuiltIns.{array_class, number_array_classes, object_array_class}
 use Rattle.classes.specs.Mangling.{is_class_name}
-use Rattle.class_table.specs.Tables.{names_differ, has_few_fields}
+use Rattle.class_table.specs.Tables.{names_differ, has_few_fields, declares_once}
 use Rattle.class_table.specs.Views.{element_view, field_type_view}
 
 abbrev pub listed_field : BuiltInField → Field
@@ -29,10 +29,12 @@ array_classes plain = map object_array_class (enumerate_from 1 plain)
 abbrev pub listed_classes : List BuiltIn → Classes
 listed_classes list = map listed_class list ++ number_array_classes ++ array_classes (map listed_class list)
 
--- a list of which a table can be made: it has names of classes and each name once, and no more classes and fields than there may be
+-- a list of which a table can be made: it has names of classes, each name once, of classes and of the fields of each, and no more
+-- classes and fields than there may be
 abbrev pub is_class_list : List BuiltIn → Bool
 is_class_list list =
     list_all (λ b. is_class_name b.name.now) list
     && names_differ (listed_classes list)
     && nat_lt (length (listed_classes list)) 257
     && list_all has_few_fields (listed_classes list)
+    && list_all declares_once (listed_classes list)

@@ -1,14 +1,15 @@
 -- Fields that were found in a table in memory, and fields that are added to one.
-use Rattle.std.specs.Prelude.{◌≡◌, ℕ, Bool, List, [], Option, None, Some, Result, Ok, Err, unwrap_or, if◌then◌else◌}
+use Rattle.std.specs.Prelude.{◌≡◌, ℕ, Bool, List, [], Option, None, Some, Result, Ok, Err, unwrap_or, position, slice_get, if◌then◌else◌}
 use Rattle.std.specs.Option.{option_map_or}
 use Rattle.base.specs.Bytes.{Identifier}
 use Rattle.base.specs.Element.{JInt}
+use Rattle.class_table.specs.declared.class.FieldHandle.{FieldHandle}
 use Rattle.class_table.specs.declared.fields.FieldId.{FieldId as IdInMemory}
 use Rattle.class_table.specs.declared.fault.FieldError.{FieldError}
 use Rattle.class_table.specs.declared.fault.FieldError.TheVariants as errors
 use Rattle.classes.specs.Additions.{ClassRule, with_field, with_static}
 use Rattle.classes.specs.Class.{NumberField, Field, Class, Classes, class_at}
-use Rattle.classes.specs.Fields.{FieldId, find_field, find_static, type_of_signature}
+use Rattle.classes.specs.Fields.{FieldId, same_field, own_fields, own_statics, find_field, find_static, type_of_signature}
 use Rattle.class_table.specs.Refusals.{rule_view}
 use Rattle.class_table.specs.Views.{field_view}
 
@@ -37,3 +38,13 @@ AnswersField broken class (Ok x) = (broken ≡ None) × ((c : ℕ) × (class ≡
 AnswersField broken class (Err errors.Memory) = broken ≡ None
 AnswersField broken class (Err errors.NoClass) = (broken ≡ None) × (class ≡ None)
 AnswersField broken class (Err (errors.Refused rule)) = broken ≡ Some (rule_view rule)
+
+-- ---- handles
+
+-- the field, or the static, at a place among those that a class declares itself
+abbrev pub field_of : Classes → FieldHandle → Option FieldId
+field_of classes h = slice_get (if h.is_static then own_statics classes h.class else own_fields classes h.class) h.place
+
+-- the place of a field among these, and 0 where it isn't there
+abbrev pub place_among : FieldId → List FieldId → ℕ
+place_among f fields = option_map_or (λ i. i) (position (same_field f) fields) 0

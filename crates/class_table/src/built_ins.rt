@@ -46,6 +46,12 @@ pub const LINKAGE_ERROR: usize = 6;
 /// The number of `java/lang/IncompatibleClassChangeError`.
 pub const INCOMPATIBLE_CLASS_CHANGE_ERROR: usize = 7;
 
+/// The number of `java/lang/NoSuchFieldError`.
+pub const NO_SUCH_FIELD_ERROR: usize = 8;
+
+/// The number of `java/lang/NoClassDefFoundError`.
+pub const NO_CLASS_DEF_FOUND_ERROR: usize = 9;
+
 /// The number of `java/lang/VirtualMachineError`.
 pub const VIRTUAL_MACHINE_ERROR: usize = 10;
 

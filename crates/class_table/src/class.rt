@@ -38,6 +38,15 @@ pub struct Field {
     pub field_type: FieldType,
 }
 
+/// A field or static, by the class that declares it and its place, counted from 0, among the fields, or the statics, that
+/// the class declares.
+#[derive(Clone, Copy, Debug, PartialEq, Eq)]
+pub struct FieldHandle {
+    pub class: usize,
+    pub place: usize,
+    pub is_static: bool,
+}
+
 /// A class but for its name.
 #[derive(Drop)]
 pub(crate) struct Entry {

@@ -86,7 +86,7 @@ fn is_number_signature(element: ElementType, text: &[u8]) -> bool
 
 impl ClassTable {
     /// Whether the text is the signature of fields of this type.
-    fn has_signature(&self, field_type: FieldType, text: &[u8]) -> bool
+    pub(crate) fn has_signature(&self, field_type: FieldType, text: &[u8]) -> bool
         ensures { result ≡ bytes_eq (signature self.now (field_type_view field_type)) text.now }
     {
         match field_type {

@@ -7,5 +7,6 @@ pub mod class;
 mod entries;
 pub mod fault;
 pub mod fields;
+mod handles;
 mod layout;
 pub mod table;

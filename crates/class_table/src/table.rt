@@ -125,7 +125,7 @@ impl ClassTable {
     }
 
     /// Whether the first is the second or below it. The cost goes by the depth of the first.
-    fn is_subclass(&self, class: usize, other: usize) -> bool
+    pub(crate) fn is_subclass(&self, class: usize, other: usize) -> bool
         ensures { result ≡ is_subclass self.now class other }
     {
         let mut ancestor = class;

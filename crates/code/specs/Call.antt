@@ -1,5 +1,5 @@
 -- Calls as instructions have them.
-use Rattle.std.specs.Prelude.{ℕ, List}
+use Rattle.std.specs.Prelude.{ℕ, List, map}
 use Rattle.jni.specs.JniFunction.{JniFunction}
 use Rattle.jni.specs.Table.{function_value}
 use Rattle.code.specs.declared.instr.Call.{Call as InMemory}
@@ -12,7 +12,9 @@ pub record Call : Type 0 where
   pub target : Target
   pub function : JniFunction
   pub operands : List Operand
+  -- the texts among the arguments
+  pub texts : List (List ℕ)
 
 -- a call in memory
 abbrev pub call_view : InMemory → Call
-call_view c = record { line = c.line; target = c.target; function = function_value c.function; operands = c.operands.items }
+call_view c = record { line = c.line; target = c.target; function = function_value c.function; operands = c.operands.items; texts = map (λ text. text.items) c.texts.items }

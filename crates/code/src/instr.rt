@@ -105,7 +105,7 @@ pub enum NullableVariable {
 /// Where a call finds an argument, by its kind. Slots of each kind, and statics, are counted from 0.
 #[derive(Clone, Copy, Debug, PartialEq, Eq)]
 pub enum Operand {
-    /// `NULL` for a reference.
+    /// `NULL` for a reference or a field ID.
     Null,
     /// The local reference in this slot.
     Local(u32),
@@ -113,6 +113,10 @@ pub enum Operand {
     Static(u32),
     /// The topmost word of the stack that no later operand takes: a `jint`.
     Number,
+    /// The field ID in this slot.
+    FieldId(u32),
+    /// The first text of the call that no earlier operand takes.
+    Text,
 }
 
 /// Where a call's result goes.
@@ -122,6 +126,10 @@ pub enum Target {
     Dropped,
     /// Into this number slot.
     Number(u32),
+    /// Into this slot of local references.
+    Local(u32),
+    /// Into this slot of field IDs.
+    FieldId(u32),
 }
 
 /// A call of a function of the JNI, in a statement on this line (JNI Specification, chapter 4).
@@ -133,6 +141,8 @@ pub struct Call {
     pub function: JniFunction,
     /// The arguments after `env`, in order.
     pub operands: Vec<Operand>,
+    /// The texts among them, in order.
+    pub texts: Vec<Vec<u8>>,
 }
 
 /// A call in host memory of its own, so that an instruction stays small however many arguments there are.

@@ -199,7 +199,7 @@ fn store_element(
 }
 
 /// What is left of a `jint` in an element (6.3.1.3), read again as a `jint`.
-fn element_word(element: ElementType, word: u32) -> u32
+pub fn element_word(element: ElementType, word: u32) -> u32
     ensures { result ≡ element_word element word }
 {
     match element {

@@ -72,6 +72,8 @@ fn target_within(target: Target, slots: SlotCounts) -> bool
     match target {
         Target::Dropped => true,
         Target::Number(slot) => slot < slots.numbers,
+        Target::Local(slot) => slot < slots.references,
+        Target::FieldId(slot) => slot < slots.field_ids,
     }
 }
 
@@ -87,9 +89,10 @@ fn operand_within(operand: Operand, slots: SlotCounts) -> bool
     ensures { result ≡ operand_within slots operand }
 {
     match operand {
-        Operand::Null | Operand::Number => true,
+        Operand::Null | Operand::Number | Operand::Text => true,
         Operand::Local(slot) => slot < slots.references,
         Operand::Static(index) => index < slots.statics,
+        Operand::FieldId(slot) => slot < slots.field_ids,
     }
 }
 

@@ -1,6 +1,6 @@
 //! The operand stack.
 
-ghost use Rattle.std.specs.Prelude.{◌≡◌, ◌≤◌, ◌<◌, ℕ, List, [], ◌∷◌, length};
+ghost use Rattle.std.specs.Prelude.{◌≡◌, ◌==◌, ◌≤◌, ◌<◌, ℕ, List, [], ◌∷◌, length};
 
 use arrayvec::ArrayVec;
 use std::marker::Model;
@@ -37,6 +37,13 @@ impl Stack {
         ensures { self.new ≡ word ∷ self.old }
     {
         self.words.push(word);
+    }
+
+    /// Whether there is no word.
+    pub fn is_empty(&self) -> bool
+        ensures { result ≡ (length self.now == 0) }
+    {
+        self.words.is_empty()
     }
 
     /// The topmost word.

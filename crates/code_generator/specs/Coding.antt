@@ -20,7 +20,7 @@ use Rattle.code.specs.declared.instr.NullableVariable.{NullableVariable}
 use Rattle.code.specs.declared.instr.NullableVariable.TheVariants as nullable
 use Rattle.code.specs.declared.instr.ReferenceOperand.TheVariants.{Null, Local}
 use Rattle.code.specs.declared.instr.Target.{Target}
-use Rattle.code.specs.declared.instr.Target.TheVariants.{Dropped, Number}
+use Rattle.code.specs.declared.instr.Target.TheVariants as target
 use Rattle.code.specs.declared.instr.Instr.{Instr}
 use Rattle.code.specs.declared.instr.Instr.TheVariants.{Push, Load, Store, Convert, Operate, OperateOrTrap, JumpIfFalseOrPop, JumpIfTrueOrPop, JumpIfFalse, Jump, JumpBack, LoadElement, StoreElement, ClearArray, TestNull, StoreNull, PutJint, Call, Return, ReturnJint, ReturnReference}
 use Rattle.code.specs.declared.instr.Instr.TheVariants as instr
@@ -158,20 +158,23 @@ expr_code known line e = term_code known line (term_of e)
 
 -- ---- calls
 
--- a local reference or a static
-abbrev pub reference_operand : Sort → ℕ → Operand
-reference_operand Ref i = operand.Local i
-reference_operand Global i = operand.Static i
-reference_operand s i = operand.Null
+-- a local reference, a static or a field ID
+abbrev pub variable_operand : Sort → ℕ → Operand
+variable_operand Ref i = operand.Local i
+variable_operand Global i = operand.Static i
+variable_operand FieldId i = operand.FieldId i
+variable_operand s i = operand.Null
 
--- where the reference of a name is
+-- where the reference or the field ID of a name is
 abbrev pub operand_of : Option Slot → Operand
 operand_of None = operand.Null
-operand_of (Some s) = reference_operand s.sort s.index
+operand_of (Some s) = variable_operand s.sort s.index
 
--- where an argument is found: a number is on the stack, and all else is a reference today
+-- where an argument is found: a number is on the stack, a text is the call's own, and all else is a reference or a field ID
+-- today
 abbrev pub operand_code : Known → ParameterKind × Argument → Operand
 operand_code known (IntNumber, tree.Value e) = operand.Number
+operand_code known (p, tree.Text bytes) = operand.Text
 operand_code known (p, tree.Value (tree.Variable x)) = operand_of (lookup x known)
 operand_code known (p, a) = operand.Null
 
@@ -184,11 +187,26 @@ argument_code known line (p, a) = []
 abbrev pub arguments_code : Known → (line : ℕ) → List (ParameterKind × Argument) → List Instr
 arguments_code known line given = flat_map (argument_code known line) given
 
+-- the text of an argument
+abbrev pub argument_text : Argument → List (List ℕ)
+argument_text (tree.Text bytes) = bytes ∷ []
+argument_text a = []
+
+-- those of several, in order
+abbrev pub arguments_texts : List Argument → List (List ℕ)
+arguments_texts arguments = flat_map argument_text arguments
+
+-- where a result for a variable of this sort goes
+abbrev pub result_target : Sort → ℕ → Target
+result_target Ref i = target.Local i
+result_target FieldId i = target.FieldId i
+result_target s i = target.Number i
+
 -- a call of a function, whose result goes there
 abbrev pub call_code : Known → (line : ℕ) → Target → JniFunction → List Argument → List Instr
 call_code known line target f arguments =
     let given = zip (prototype f).parameters arguments in
-    arguments_code known line given ++ Call (record { line = line; target = target; function = f; operands = map (operand_code known) given }) ∷ []
+    arguments_code known line given ++ Call (record { line = line; target = target; function = f; operands = map (operand_code known) given; texts = arguments_texts arguments }) ∷ []
 
 -- the same, if the function is known
 abbrev pub named_call_code : Known → (line : ℕ) → Target → Option JniFunction → List Argument → List Instr
@@ -205,7 +223,7 @@ value_code known line s e = expr_code known line e ++ Store s.index ∷ []
 -- a right side
 abbrev pub right_code : Known → (line : ℕ) → Slot → RightSide → List Instr
 right_code known line s (FromExpr e) = value_code known line s e
-right_code known line s (FromCall c) = named_call_code known line (Number s.index) (function_named c.function) c.arguments
+right_code known line s (FromCall c) = named_call_code known line (result_target s.sort s.index) (function_named c.function) c.arguments
 
 -- a right side for a name that is known
 abbrev pub assign_code : Known → (line : ℕ) → Option Slot → RightSide → List Instr
@@ -257,7 +275,7 @@ abbrev mutual
   stmt_code l (tree.DeclareArray line t x size) = ClearArray (record { start = l.slots.numbers; len = size }) ∷ []
   stmt_code l (tree.Assign line x r) = assign_code l.known line (lookup x l.known) r
   stmt_code l (tree.AssignElement line x i e) = expr_code l.known line i ++ (expr_code l.known line e ++ of_slot (write_code line) (lookup x l.known))
-  stmt_code l (tree.Perform line c) = named_call_code l.known line Dropped (function_named c.function) c.arguments
+  stmt_code l (tree.Perform line c) = named_call_code l.known line target.Dropped (function_named c.function) c.arguments
   stmt_code l (tree.PutJint line e) = expr_code l.known line e ++ PutJint ∷ []
   stmt_code l (tree.If line test then') = if_code l.known line test (block_code l then') []
   stmt_code l (tree.IfElse line test then' else') = if_code l.known line test (block_code l then') (block_code (closed l (block_layout l then')) else')

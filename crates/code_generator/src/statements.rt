@@ -8,7 +8,7 @@ ghost use Rattle.jni.specs.Table.{parameter_value};
 ghost use Rattle.types.specs.SortRules.{variable_sort};
 ghost use Rattle.source.specs.Term.{term_of};
 ghost use Rattle.code_generator.specs.Layout.{closed, layout_after, block_layout, with_name, new_slot};
-ghost use Rattle.code_generator.specs.Coding.{operand_code, argument_code, arguments_code, reference_operand, named_call_code, right_code, assign_code, write_code, of_slot, return_code, returned_code, test_code, first_code, loop_code, expr_code, stmt_code, block_code};
+ghost use Rattle.code_generator.specs.Coding.{operand_code, argument_code, arguments_code, arguments_texts, variable_operand, result_target, named_call_code, right_code, assign_code, write_code, of_slot, return_code, returned_code, test_code, first_code, loop_code, expr_code, stmt_code, block_code};
 ghost use Rattle.code_generator.specs.Names.{sort_view, slot_view};
 
 use crate::emitting::{counted, emit, replace};
@@ -264,7 +264,18 @@ fn emit_right(
             emit_expr(code, names, line, value)?;
             emit(code, Instr::Store(slot.index))
         }
-        RightSide::Call(call) => emit_call(code, names, line, Target::Number(slot.index), call),
+        RightSide::Call(call) => emit_call(code, names, line, result_target(slot), call),
+    }
+}
+
+/// Where a call's result for the variable of a slot goes.
+fn result_target(slot: Slot) -> Target
+    ensures { result ≡ result_target (sort_view slot.sort) slot.index }
+{
+    match slot.sort {
+        Sort::Reference => Target::Local(slot.index),
+        Sort::FieldId => Target::FieldId(slot.index),
+        _ => Target::Number(slot.index),
     }
 }
 
@@ -341,11 +352,14 @@ fn emit_call(
     emit_arguments(code, names, line, parameters, &call.arguments)?;
     let mut operands = Vec::new(alloc);
     push_operands(&mut operands, names, parameters, &call.arguments)?;
+    let mut texts = Vec::new(alloc);
+    push_texts(alloc, &mut texts, &call.arguments)?;
     let call = instr::Call {
         line,
         target,
         function,
         operands,
+        texts,
     };
     emit(code, Instr::Call(BoxedCall::of(alloc, call)?))
 }
@@ -417,22 +431,42 @@ fn operand_of(names: &Names<'_>, parameter: ParameterKind, argument: &Argument) 
 {
     match (parameter, argument) {
         (ParameterKind::IntNumber, Argument::Value(_)) => Operand::Number,
+        (_, Argument::Text(_)) => Operand::Text,
         (_, Argument::Value(Expr::Variable(name))) => match names.slot_of(name) {
-            Some(Slot { sort, index }) => reference_operand(sort, index),
+            Some(Slot { sort, index }) => variable_operand(sort, index),
             None => Operand::Null,
         },
         _ => Operand::Null,
     }
 }
 
-/// A local reference or a static.
-fn reference_operand(sort: Sort, index: u32) -> Operand
-    ensures { result ≡ reference_operand (sort_view sort) index }
+/// A local reference, a static or a field ID.
+fn variable_operand(sort: Sort, index: u32) -> Operand
+    ensures { result ≡ variable_operand (sort_view sort) index }
 {
     match sort {
         Sort::Reference => Operand::Local(index),
         Sort::Static => Operand::Static(index),
+        Sort::FieldId => Operand::FieldId(index),
         _ => Operand::Null,
+    }
+}
+
+/// Copies of the texts among the arguments of a call, in order.
+fn push_texts(
+    alloc: Global,
+    texts: &mut Vec<Vec<u8>>,
+    arguments: &[Argument],
+) -> Result<(), AllocError>
+    ensures { OnOk result (map (λ text. text.items) texts.new.items ≡ map (λ text. text.items) texts.old.items ++ arguments_texts (map argument_tree arguments.now)) }
+{
+    match arguments {
+        [] => Ok(()),
+        [Argument::Text(bytes), arguments @ ..] => {
+            texts.push(Vec::from_slice(alloc, bytes)?)?;
+            push_texts(alloc, texts, arguments)
+        }
+        [_, arguments @ ..] => push_texts(alloc, texts, arguments),
     }
 }
 

@@ -32,6 +32,7 @@ fn code_keeps_its_instructions(rt: HostRuntime) -> Result<(), Fail> {
             target: Target::Number(0),
             function: JniFunction::GetArrayLength,
             operands: vec![in rt.alloc(); Operand::Local(1)]?,
+            texts: Vec::new(rt.alloc()),
         },
     )?;
     let instrs = vec![in rt.alloc();

@@ -19,7 +19,7 @@ use Rattle.source.specs.Journal.{Journal}
 use Rattle.source.specs.World.{World}
 use Rattle.world.specs.WorldRules.{IsWorldText}
 use Rattle.source.specs.State.{State}
-use Rattle.source.specs.Run.{Over, Collects, Waits, Steps, Follows, JournalFollows, UnmarkedFit, MarkedAreFair, replay}
+use Rattle.source.specs.Run.{Over, Collects, Waits, Steps, Follows, JournalFollows, UnmarkedFit, replay}
 use Rattle.report.specs.RunText.{Writes}
 use Rattle.source.specs.Start.{start}
 use Rattle.lower.specs.declared.fault.LowerFault.{LowerFault}
@@ -27,14 +27,16 @@ use Rattle.lower.specs.declared.fault.LowerFault.TheVariants as lowering
 use Rattle.lower.specs.Length.{IsTooLong}
 use Rattle.machine.specs.declared.fault.LoadFault.{LoadFault}
 use Rattle.machine.specs.declared.fault.LoadFault.TheVariants as loading
+use Rattle.machine.specs.declared.fault.ReportFault.{ReportFault}
+use Rattle.machine.specs.declared.fault.ReportFault.TheVariants as reporting
 use Rattle.machine.specs.Loading.{IsLoadFault}
-use Rattle.machine.specs.Run.{Run, IsUnstarted, RunsAlong, RunsInto, WritesRun, StoppedBy, replay_of}
+use Rattle.machine.specs.Run.{Run, IsUnstarted, RunsAlong, RunsInto, ReportsRun, StoppedBy, replay_of}
 use Rattle.machine.specs.declared.stop.Stop.{Stop}
 use Rattle.machine.specs.Stops.{stop_view}
 use Rattle.jnirun.specs.declared.fault.Text.TheVariants as which
 use Rattle.jnirun.specs.declared.fault.RunError.{RunError}
 use Rattle.jnirun.specs.declared.fault.RunError.TheVariants.{Memory, File, Fault, Writer}
-use Rattle.jnirun.specs.Errors.{of_lower, of_reading, of_load}
+use Rattle.jnirun.specs.Errors.{of_lower, of_reading, of_load, of_report}
 use Rattle.jnirun.specs.Passes.{IsRefusal}
 use Rattle.jnirun.specs.Programs.{IsProgram}
 use Rattle.jnirun.specs.Checks.{PassesCheck, ChecksText}
@@ -60,9 +62,14 @@ never_full items meant begun ended words un into few full =
     absurd (omega (arith, ap length steps, short, parts))
 
 -- what a report answered is what the run answers
-abbrev pub as_run : {T E : Type 0} → Option TrapAt → Result T E → Result (Option TrapAt) RunError
+abbrev pub as_run : {T : Type 0} → Option TrapAt → Result T ReportFault → Result (Option TrapAt) RunError
 as_run trap (Ok x) = Ok trap
-as_run trap (Err e) = Err Writer
+as_run trap (Err fault) = Err (of_report fault)
+
+-- memory or the writer refused
+pub report_fails : (f : ReportFault) → IsRunOrFails (Err (of_report f))
+report_fails reporting.Memory = tt
+report_fails reporting.Sink = tt
 
 -- a trap that is held in memory, as it is told
 told : (stop : Option Stop) → option_map trap_at (option_map stop_view stop) ≡ option_map (λ s. trap_at (stop_view s)) stop
@@ -132,8 +139,8 @@ module _ (program world schedule : List ℕ) (old : Written) where
   -- the run that a machine wrote
   abbrev is_run : (items : List Item) (meant : World) (words : Schedule) (begun ended : Run) (text : List ℕ) (is : IsProgram program (unit_tree items)) (w : world_of_text world ≡ Ok meant) (s : schedule_of schedule (length meant.threads) ≡ Ok words) (l : first_load_fault (unit_tree items) meant ≡ None)
       → IsWorldText world meant → IsScheduleText (length meant.threads) schedule words
-      → IsUnstarted items meant begun → RunsAlong begun ended words → Writes (unit_tree ended.unit) ended.world ended.journal text → UnmarkedFit (unit_tree ended.unit) ended.world ended.journal → MarkedAreFair (unit_tree ended.unit) ended.world ended.journal → IsRun program world schedule text
-  is_run items meant words begun ended text is w s l of_world of_schedule un along writes fits fair = record {
+      → IsUnstarted items meant begun → RunsAlong begun ended words → Writes (unit_tree ended.unit) ended.world ended.journal text → UnmarkedFit (unit_tree ended.unit) ended.world ended.journal → IsRun program world schedule text
+  is_run items meant words begun ended text is w s l of_world of_schedule un along writes fits = record {
     meaning = meaning_of items meant words is w s l;
     of_world = of_world;
     of_schedule = of_schedule;
@@ -141,16 +148,15 @@ module _ (program world schedule : List ℕ) (old : Written) where
     writes = subst (λ (r : Run). Writes (unit_tree r.unit) r.world ended.journal text) (same_parts items meant begun ended words un along) writes;
     follows = follows_all items meant begun ended words un along;
     fits = subst (λ (r : Run). UnmarkedFit (unit_tree r.unit) r.world ended.journal) (same_parts items meant begun ended words un along) fits;
-    fair = subst (λ (r : Run). MarkedAreFair (unit_tree r.unit) r.world ended.journal) (same_parts items meant begun ended words un along) fair;
   }
 
-  pub ran : (items : List Item) (meant : World) (words : Schedule) (begun ended : Run) (stop : Option Stop) (new : Written) {T E : Type 0} (result : Result T E) → StoppedBy ended stop → OnOk result (new.waiting ≡ 0)
+  pub ran : (items : List Item) (meant : World) (words : Schedule) (begun ended : Run) (stop : Option Stop) (new : Written) {T : Type 0} (result : Result T ReportFault) → StoppedBy ended stop → OnOk result (new.waiting ≡ 0)
       → IsProgram program (unit_tree items) → world_of_text world ≡ Ok meant → schedule_of schedule (length meant.threads) ≡ Ok words → first_load_fault (unit_tree items) meant ≡ None
       → IsWorldText world meant → IsScheduleText (length meant.threads) schedule words
-      → IsUnstarted items meant begun → RunsAlong begun ended words → WritesRun ended old new result
+      → IsUnstarted items meant begun → RunsAlong begun ended words → ReportsRun ended old new result
       → RunsTexts old new (as_run (option_map (λ s. trap_at (stop_view s)) stop) result) (EndsRun program world schedule) (AreRefused program world schedule)
   ran items meant words begun ended stop new (Ok x) halts none is w s l of_world of_schedule un along h =
-      let run : IsRun program world schedule h.text = is_run items meant words begun ended h.text is w s l of_world of_schedule un along h.is h.fits h.fair in
+      let run : IsRun program world schedule h.text = is_run items meant words begun ended h.text is w s l of_world of_schedule un along h.is h.fits in
       let there : replay_of ended ≡ Some run.writes.end = ap replay_of (same_parts items meant begun ended words un along) ∙ run.writes.replays in
       let same : run.writes.end ≡ halts.0 = cc (there, halts.1) in
       record {
@@ -159,8 +165,9 @@ module _ (program world schedule : List ℕ) (old : Written) where
         appended = h.written;
         none_waits = none;
       }
-  ran items meant words begun ended stop new (Err x) halts none is w s l of_world of_schedule un along h =
-      let run : IsRun program world schedule h.text = is_run items meant words begun ended h.text is w s l of_world of_schedule un along h.is h.fits h.fair in
+  ran items meant words begun ended stop new (Err reporting.Memory) halts none is w s l of_world of_schedule un along h = h
+  ran items meant words begun ended stop new (Err reporting.Sink) halts none is w s l of_world of_schedule un along h =
+      let run : IsRun program world schedule h.text = is_run items meant words begun ended h.text is w s l of_world of_schedule un along h.is h.fits in
       record { text = h.text; runs = (option_map trap_at run.writes.end.stop, record { run = run; stopped = refl }); stopped = h.written }
 
   -- texts that mean a run load

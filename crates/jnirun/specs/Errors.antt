@@ -20,6 +20,8 @@ use Rattle.texts.specs.declared.fault.ReadError.TheVariants as reading
 use Rattle.texts.specs.Rule.{rule_number}
 use Rattle.machine.specs.declared.fault.LoadFault.{LoadFault}
 use Rattle.machine.specs.declared.fault.LoadFault.TheVariants as loading
+use Rattle.machine.specs.declared.fault.ReportFault.{ReportFault}
+use Rattle.machine.specs.declared.fault.ReportFault.TheVariants as reporting
 use Rattle.replay.specs.declared.fault.ReplayFault.{ReplayFault}
 use Rattle.replay.specs.declared.fault.ReplayFault.TheVariants as replaying
 use Rattle.jnirun.specs.declared.fault.Place.TheVariants.{Line, Entry}
@@ -58,6 +60,10 @@ of_reading text (reading.Fault fault) = Fault (rule_number fault.rule) (Line tex
 abbrev pub of_load : LoadFault → RunError
 of_load loading.Memory = Memory
 of_load (loading.DoesNotFit line) = Fault 82 (Line which.World line)
+
+abbrev pub of_report : ReportFault → RunError
+of_report reporting.Memory = Memory
+of_report reporting.Sink = Writer
 
 abbrev pub of_replay : ReplayFault → RunError
 of_replay replaying.Memory = Memory

@@ -5,7 +5,7 @@ use Rattle.source.specs.Journal.{Journal}
 use Rattle.texts.specs.ScheduleText.{IsScheduleText}
 use Rattle.report.specs.Sink.{Written, AppendsText, StopsWithin}
 use Rattle.world.specs.WorldRules.{IsWorldText}
-use Rattle.source.specs.Run.{JournalFollows, UnmarkedFit, MarkedAreFair}
+use Rattle.source.specs.Run.{JournalFollows, UnmarkedFit}
 use Rattle.report.specs.RunText.{Writes}
 use Rattle.replay.specs.declared.trap_at.TrapAt.{TrapAt}
 use Rattle.replay.specs.TrapAt.{trap_at}
@@ -27,7 +27,6 @@ pub record IsRun (program world schedule text : List ℕ) : Type 0 where
   pub writes : Writes meaning.unit meaning.world journal text
   pub follows : JournalFollows meaning.unit meaning.world journal meaning.words
   pub fits : UnmarkedFit meaning.unit meaning.world journal
-  pub fair : MarkedAreFair meaning.unit meaning.world journal
 
 -- the same, and the trap that stopped the run, if one did
 pub record EndsRun (program world schedule : List ℕ) (trap : Option TrapAt) (text : List ℕ) : Type 0 where

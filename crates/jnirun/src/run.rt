@@ -2,7 +2,7 @@
 
 ghost use Rattle.std.specs.Prelude.{◌≡◌, ℕ, List};
 ghost use Rattle.report.specs.Sink.{CanFail};
-ghost use Rattle.jnirun.specs.Errors.{of_lower, of_reading, of_load};
+ghost use Rattle.jnirun.specs.Errors.{of_lower, of_reading, of_load, of_report};
 ghost use Rattle.jnirun.specs.Texts.{Meaning, AreRefused};
 ghost use Rattle.jnirun.specs.Runs.{RunsTexts, EndsRun, IsRunOrFails};
 ghost use Rattle.std.specs.Option.{option_map};
@@ -12,7 +12,7 @@ ghost use Rattle.replay.specs.TrapAt.{trap_at};
 use crate::fault::{Place, RunError, Text};
 use crate::program::program;
 use lower::{LowerFault, lower};
-use machine::{LoadFault, Machine, RunFault, Stop};
+use machine::{LoadFault, Machine, ReportFault, RunFault, Stop};
 use replay::TrapAt;
 use std::alloc::Global;
 use world::{ReadError, Sink, read_schedule};
@@ -46,6 +46,15 @@ fn of_load(fault: LoadFault) -> RunError
     match fault {
         LoadFault::Memory => RunError::Memory,
         LoadFault::DoesNotFit(line) => RunError::Fault(82, Place::Line(Text::World, line)),
+    }
+}
+
+fn of_report(fault: ReportFault) -> RunError
+    ensures { result ≡ of_report fault }
+{
+    match fault {
+        ReportFault::Memory => RunError::Memory,
+        ReportFault::Sink => RunError::Writer,
     }
 }
 
@@ -108,8 +117,8 @@ pub fn run_text<W: Sink>(
         Err(RunFault::Full) => unreachable!(),
     }
     let trap = trap_at(machine.stop());
-    match machine.report(out) {
+    match machine.report(alloc, out) {
         Ok(()) => Ok(trap),
-        Err(_) => Err(RunError::Writer),
+        Err(fault) => Err(of_report(fault)),
     }
 }

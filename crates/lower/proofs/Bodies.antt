@@ -9,8 +9,7 @@ use Rattle.base.specs.Bytes.{Identifier, lookup}
 use Rattle.base.specs.Element.{JChar}
 use Rattle.syntax.specs.Tree as tree
 use Rattle.syntax.specs.Tree.{Expr, Argument, RightSide, FromExpr, FromCall, Test, TestExpr, TestCall, Stmt, Block, End, Next, VariableType, BitOr, Call}
-use Rattle.jni.specs.Prototype.{ParameterKind, IntNumber, function_named, prototype}
-use Rattle.jni.specs.Prototype.{function_named}
+use Rattle.jni.specs.Prototype.{ParameterKind, FieldID, IntNumber, ResultKind, NewLocal, GivesFlag, GivesInt, GivesField, function_named, prototype}
 use Rattle.types.specs.Sorts.{Sort, Jint, Ref, Global, FieldId, Buffer, Array}
 use Rattle.types.specs.Sorts as sort
 use Rattle.types.specs.SortRules.{variable_sort}
@@ -22,13 +21,14 @@ use Rattle.code.specs.declared.instr.Instr.TheVariants as instr
 use Rattle.code.specs.Depth.{Listing}
 use Rattle.source.specs.Term as term
 use Rattle.source.specs.Term.{Term, Done, Read, Binary, term_of}
-use Rattle.source.specs.Task.{Task, SetScalar, Branch, ReturnValue, Target, Declared, Assigned, Dropped, ScalarKind, BufferKind, kind_of, set_task, invocation, call_task, right_side_task, if_task, task_of, tasks_of, operand, Given, Operand}
+use Rattle.source.specs.Task.{Task, SetScalar, Branch, ReturnValue, Target, Declared, Assigned, Dropped, VariableKind, ScalarKind, ReferenceKind, FieldKind, BufferKind, kind_of, set_task, invocation, call_task, right_side_task, if_task, task_of, tasks_of, operand, Given, Operand}
 use Rattle.code_generator.specs.Layout.{Slot, Known, Layout, new_slot, closed, layout_after, block_layout}
-use Rattle.code_generator.specs.Coding.{nullable_of, store_of, element_of, write_code, of_slot, operand_of, term_code, expr_code, value_code, right_code, assign_code, returned_code, return_code, ways_code, turn_code, loop_code, if_code, stmt_code, block_code, named_call_code, operand_code, argument_code, arguments_code}
+use Rattle.code_generator.specs.Coding.{nullable_of, store_of, element_of, write_code, of_slot, operand_of, term_code, expr_code, value_code, right_code, assign_code, returned_code, return_code, ways_code, turn_code, loop_code, if_code, stmt_code, block_code, named_call_code, operand_code, argument_code, arguments_code, argument_text, arguments_texts, result_target}
 use Rattle.lower.specs.Slots.{IsNumberSort}
-use Rattle.lower.specs.Fits.{IsUntouched, NumberFits, IndexWithin, IsLaidOut, HasRoomFor, IsReferenceKind, ArgumentFits, ValueFits, RightFits, TestFits, ReturnFits, StmtFits, BlockFits, CallFits, ReferenceFits}
-use Rattle.lower.specs.Stands.{held, IsBegun, IsUnderWay, HasAt, AreAmong, IsSlotOf, GoesTo, TargetStands, target_name, BlockStands, TasksStand, OperandStands, AreUntouched, operand_rest, operands_rest}
+use Rattle.lower.specs.Fits.{IsUntouched, NumberFits, IndexWithin, IsLaidOut, HasRoomFor, IsReferenceKind, ArgumentFits, ValueFits, RightFits, TestFits, ReturnFits, StmtFits, BlockFits, CallFits, ReferenceFits, FieldFits, ResultFits}
+use Rattle.lower.specs.Stands.{held, IsBegun, IsUnderWay, HasAt, AreAmong, IsSlotOf, kind_of_sort, GoesTo, ResultStands, ResultGoes, TargetStands, operand_text, operands_texts, target_name, BlockStands, TasksStand, OperandStands, AreUntouched, operand_rest, operands_rest}
 use Rattle.lower.proofs.SlotLaws.{known_among, all_among}
+use Rattle.lower.proofs.ArgumentKinds.{by_argument}
 use Rattle.lower.proofs.CodePlaces.{has_front, has_back}
 use Rattle.lower.proofs.TermSteps.{untouched_held, untouched_begun}
 use Rattle.lower.proofs.Layouts.{block_grows, room_before, room_at_least, index_more, laid_more, declared_slot, variable_size, laid_after, known_after_stmt}
@@ -48,10 +48,6 @@ value_is known line slot (tree.Named tree.Null) s h = absurd h.sort
 value_is known line slot e s h = refl
 
 -- ---- right sides
-
--- a variable that takes a call's result
-abbrev IsResultTarget : Target → Identifier → Type 0
-IsResultTarget target x = (target ≡ Declared ScalarKind x) ⊎ (target ≡ Assigned x)
 
 -- The names known at the place, and what comes after: the rest of the tasks, where these names are known.
 module _ (code : Listing) (known : Known) (line place : ℕ) (tail : List Task) where
@@ -110,17 +106,24 @@ module _ (code : Listing) (known : Known) (line place : ℕ) (tail : List Task) 
 
   reference_found : (p : ParameterKind) (e : Expr) → IsReferenceKind p → ReferenceFits known e → OperandStands known (operand_code known (p, tree.Value e)) (p, operand (p, tree.Value e))
   reference_found IntNumber e kind h = absurd kind
-  reference_found p (tree.Named tree.Null) kind h = record { kind = kind; is = refl }
+  reference_found p (tree.Named tree.Null) kind h = record { kind = inl kind; is = refl }
   reference_found p (tree.Variable x) kind h = reference_stands p x h.0 kind h.1 h.2
   reference_found p e kind h = absurd h
 
   number_found : (e : Expr) → NumberFits known (term_of e) Jint → OperandStands known (operand_code known (IntNumber, tree.Value e)) (IntNumber, operand (IntNumber, tree.Value e))
   number_found e h = record { kind = refl; term = term_of e; is = refl; sort = h.sort }
 
+  field_found : (e : Expr) → FieldFits known e → OperandStands known (operand_code known (FieldID, tree.Value e)) (FieldID, Given (tree.Value e))
+  field_found (tree.Named tree.Null) h = record { kind = inr refl; is = refl }
+  field_found (tree.Variable x) h =
+      let there : lookup x known ≡ Some (record { sort = FieldId; index = h.0.index }) = h.1 ∙ ap (λ (r : Sort). Some (record { sort = r; index = h.0.index })) h.2 in
+      subst (λ o. OperandStands known (operand_of o) (FieldID, Given (tree.Value (tree.Variable x)))) (sym there) (x, refl, refl, there)
+  field_found e h = absurd h
+
   argument_found : (p : ParameterKind) (a : Argument) → ArgumentFits known p a → OperandStands known (operand_code known (p, a)) (p, operand (p, a))
-  argument_found p (tree.Value e) (inl h) = subst (λ (q : ParameterKind). OperandStands known (operand_code known (q, tree.Value e)) (q, operand (q, tree.Value e))) (sym h.0) (number_found e h.1)
-  argument_found p (tree.Value e) (inr h) = reference_found p e h.0 h.1
-  argument_found p a h = absurd h
+  argument_found p a h =
+      by_argument known (λ p a. OperandStands known (operand_code known (p, a)) (p, operand (p, a))) (λ e number. number_found e number) (λ p e kind reference. reference_found p e kind reference) (λ e field. field_found e field)
+      (λ bytes. record { kind = refl; bytes = bytes; is = refl }) p a h
 
   arguments_found : (parameters : List ParameterKind) (arguments : List Argument) → AllZip (ArgumentFits known) parameters arguments
       → AllZip (OperandStands known) (map (operand_code known) (zip parameters arguments)) (zip parameters (map operand (zip parameters arguments)))
@@ -149,10 +152,23 @@ module _ (code : Listing) (known : Known) (line place : ℕ) (tail : List Task) 
   all_untouched [] [] h = tt
   all_untouched [] (a ∷ arguments) h = absurd h
   all_untouched (p ∷ parameters) [] h = absurd h
-  all_untouched (p ∷ parameters) (tree.Value e ∷ arguments) (inl h, more) =
-      subst (λ (q : ParameterKind). AreUntouched (operand (q, tree.Value e) ∷ map operand (zip parameters arguments))) (sym h.0) (h.1.untouched, all_untouched parameters arguments more)
-  all_untouched (p ∷ parameters) (tree.Value e ∷ arguments) (inr h, more) = untouched_reference p e (map operand (zip parameters arguments)) h.0 (all_untouched parameters arguments more)
-  all_untouched (p ∷ parameters) (a ∷ arguments) h = absurd h.0
+  all_untouched (p ∷ parameters) (a ∷ arguments) h =
+      let others = map operand (zip parameters arguments) in
+      let more = all_untouched parameters arguments h.1 in
+      by_argument known (λ p a. AreUntouched (operand (p, a) ∷ others)) (λ e number. (number.untouched, more)) (λ p e kind reference. untouched_reference p e others kind more) (λ e field. more) (λ bytes. more) p a h.0
+
+  -- its texts are those of its arguments
+  no_text : (p : ParameterKind) (e : Expr) → IsReferenceKind p → argument_text (tree.Value e) ≡ operand_text (operand (p, tree.Value e))
+  no_text IntNumber e kind = absurd kind
+  no_text p e kind = refl
+
+  all_texts : (parameters : List ParameterKind) (arguments : List Argument) → AllZip (ArgumentFits known) parameters arguments → arguments_texts arguments ≡ operands_texts (map operand (zip parameters arguments))
+  all_texts [] [] h = refl
+  all_texts [] (a ∷ arguments) h = absurd h
+  all_texts (p ∷ parameters) [] h = absurd h
+  all_texts (p ∷ parameters) (a ∷ arguments) h =
+      let one = by_argument known (λ p a. argument_text a ≡ operand_text (operand (p, a))) (λ e number. refl) (λ p e kind reference. no_text p e kind) (λ e field. refl) (λ bytes. refl) p a h.0 in
+      ap (λ (l : List (List ℕ)). l ++ arguments_texts arguments) one ∙ ap (λ (l : List (List ℕ)). operand_text (operand (p, a)) ++ l) (all_texts parameters arguments h.1)
 
   -- there are as many arguments as parameters
   operand_count : (parameters : List ParameterKind) (arguments : List Argument) → AllZip (ArgumentFits known) parameters arguments → length (map operand (zip parameters arguments)) ≡ length parameters
@@ -161,12 +177,12 @@ module _ (code : Listing) (known : Known) (line place : ℕ) (tail : List Task) 
   operand_count (p ∷ parameters) (a ∷ arguments) h = ap (λ n. suc n) (operand_count parameters arguments h.1)
 
   -- what is to be worked out for a call is at the place, and then its instruction, and what comes after it
-  call_stands : (target : Target) (goes : Destination) (c : Call) → CallFits known c → HasAt code.instrs place (named_call_code known line goes (function_named c.function) c.arguments)
-      → TargetStands code known (λ p names. TasksStand code names p [] tail) (place + length (named_call_code known line goes (function_named c.function) c.arguments)) goes target → TasksStand code known place [] (call_task line target c ∷ tail)
+  call_stands : (target : Target) (goes : Destination) (c : Call) → (fits : CallFits known c) → HasAt code.instrs place (named_call_code known line goes (function_named c.function) c.arguments)
+      → TargetStands code known (λ p names. TasksStand code names p [] tail) (place + length (named_call_code known line goes (function_named c.function) c.arguments)) goes (prototype fits.function).result target → TasksStand code known place [] (call_task line target c ∷ tail)
   call_stands target goes c fits at stands =
       let parameters = (prototype fits.function).parameters in
       let given = zip parameters c.arguments in
-      let call : calls.Call = record { line = line; target = goes; function = fits.function; operands = map (operand_code known) given } in
+      let call : calls.Call = record { line = line; target = goes; function = fits.function; operands = map (operand_code known) given; texts = arguments_texts c.arguments } in
       let rest : arguments_code known line given ≡ operands_rest known line (map operand given) = all_rest given in
       let here : HasAt code.instrs place (arguments_code known line given ++ instr.Call call ∷ []) = subst (λ o. HasAt code.instrs place (named_call_code known line goes o c.arguments)) fits.named at in
       let size : place + length (named_call_code known line goes (function_named c.function) c.arguments) ≡ place + length (operands_rest known line (map operand given)) + 1 =
@@ -180,34 +196,45 @@ module _ (code : Listing) (known : Known) (line place : ℕ) (tail : List Task) 
         built = fits.built;
         begun = untouched_are_begun (map operand given) untouched;
         held = sym (untouched_are_held (map operand given) untouched);
+        texts = all_texts parameters c.arguments fits.arguments;
         count = operand_count parameters c.arguments fits.arguments;
         operands_stand = arguments_found parameters c.arguments fits.arguments;
-        goes = subst (λ p. TargetStands code known (λ q names. TasksStand code names q [] tail) p goes target) size stands;
+        goes = subst (λ p. TargetStands code known (λ q names. TasksStand code names q [] tail) p goes (prototype fits.function).result target) size stands;
       })
 
-  result_stands : (p : ℕ) (target : Target) (x : Identifier) (i : ℕ) (names : Known) → IsResultTarget target x → GoesTo known (record { sort = Jint; index = i }) target → IsSlotOf code known x (record { sort = Jint; index = i }) → AreAmong names ((x, record { sort = Jint; index = i }) ∷ known) → TasksStand code names p [] tail
-      → TargetStands code known (λ q names. TasksStand code names q [] tail) p (destination.Number i) target
-  result_stands p target x i names (inl e) goes own among further = subst (TargetStands code known (λ q names. TasksStand code names q [] tail) p (destination.Number i)) (sym e) (record { own = own; further = (names, among, further) })
-  result_stands p target x i names (inr e) goes own among further =
-      subst (TargetStands code known (λ q names. TasksStand code names q [] tail) p (destination.Number i)) (sym e) (record { own = own; further = (names, among, further) }, subst (GoesTo known (record { sort = Jint; index = i })) e goes)
+  -- a variable takes the result, a new one or the one that has the slot
+  result_goes : (p : ℕ) (kind : VariableKind) (s : Slot) (target : Target) (x : Identifier) → kind_of_sort s.sort ≡ Some kind → target_name target ≡ Some x → GoesTo known s target → ResultStands code known (λ q names. TasksStand code names q [] tail) p s x
+      → ResultGoes code known (λ q names. TasksStand code names q [] tail) p s kind target
+  result_goes p kind s (Declared declared y) x is name goes stands =
+      let same : x ≡ y = cc in
+      let declared_is : declared ≡ kind = let e : Some declared ≡ Some kind = sym goes ∙ is in cc in
+      (declared_is, subst (λ (z : Identifier). ResultStands code known (λ q names. TasksStand code names q [] tail) p s z) same stands)
+  result_goes p kind s (Assigned y) x is name goes stands =
+      let same : x ≡ y = cc in
+      (subst (λ (z : Identifier). ResultStands code known (λ q names. TasksStand code names q [] tail) p s z) same stands, goes)
+  result_goes p kind s target x is name goes stands = absurd goes
 
-  pub right_stands : (target : Target) (x : Identifier) (s : Slot) (r : RightSide) (names : Known) → RightFits known s.sort r → target_name target ≡ Some x → (s.sort ≡ Jint → IsResultTarget target x) → GoesTo known s target → HasAt code.instrs place (right_code known line s r) → IsSlotOf code known x s
+  -- the slot is one of what the function gives
+  abbrev ResultComes : (p i : ℕ) → ResultKind → Target → Identifier → Sort → Type 0
+  ResultComes p i gives target x s =
+      GoesTo known (record { sort = s; index = i }) target → ResultStands code known (λ q names. TasksStand code names q [] tail) p (record { sort = s; index = i }) x
+      → TargetStands code known (λ q names. TasksStand code names q [] tail) p (result_target s i) gives target
+
+  result_comes : (p i : ℕ) (gives : ResultKind) (target : Target) (x : Identifier) (s : Sort) → target_name target ≡ Some x → ResultFits s gives → ResultComes p i gives target x s
+  result_comes p i GivesInt target x s name e = subst (ResultComes p i GivesInt target x) (sym e) (λ goes stands. (Jint, refl, result_goes p ScalarKind (record { sort = Jint; index = i }) target x refl name goes stands))
+  result_comes p i GivesFlag target x s name e = subst (ResultComes p i GivesFlag target x) (sym e) (λ goes stands. (sort.Flag, refl, result_goes p ScalarKind (record { sort = sort.Flag; index = i }) target x refl name goes stands))
+  result_comes p i NewLocal target x s name e = subst (ResultComes p i NewLocal target x) (sym e) (λ goes stands. (refl, result_goes p ReferenceKind (record { sort = Ref; index = i }) target x refl name goes stands))
+  result_comes p i GivesField target x s name e = subst (ResultComes p i GivesField target x) (sym e) (λ goes stands. (refl, result_goes p FieldKind (record { sort = FieldId; index = i }) target x refl name goes stands))
+  result_comes p i gives target x s name e = absurd e
+
+  pub right_stands : (target : Target) (x : Identifier) (s : Slot) (r : RightSide) (names : Known) → RightFits known s.sort r → target_name target ≡ Some x → GoesTo known s target → HasAt code.instrs place (right_code known line s r) → IsSlotOf code known x s
       → AreAmong names ((x, s) ∷ known) → TasksStand code names (place + length (right_code known line s r)) [] tail → TasksStand code known place [] (right_side_task line target x r ∷ tail)
-  right_stands target x s (FromExpr e) names fits name result goes at own among further = value_set target x s.sort s.index e names fits name goes at own among further
-  right_stands target x s (FromCall c) names fits name result goes at own among further =
-      let is : s ≡ record { sort = Jint; index = s.index } = ap (λ (k : Sort). record { sort = k; index = s.index }) fits.0 in
-      call_stands target (destination.Number s.index) c fits.1 at
-      (result_stands (place + length (right_code known line s (FromCall c))) target x s.index names (result fits.0) (subst (λ (k : Slot). GoesTo known k target) is goes) (subst (IsSlotOf code known x) is own) (subst (λ (k : Slot). AreAmong names ((x, k) ∷ known)) is among) further)
+  right_stands target x s (FromExpr e) names fits name goes at own among further = value_set target x s.sort s.index e names fits name goes at own among further
+  right_stands target x s (FromCall c) names fits name goes at own among further =
+      call_stands target (result_target s.sort s.index) c fits.fits at
+      (result_comes (place + length (right_code known line s (FromCall c))) s.index (prototype fits.fits.function).result target x s.sort name fits.result goes (record { own = own; further = (names, among, further) }))
 
 -- ---- statements
-
-scalar_kind : (t : VariableType) (x : Identifier) → variable_sort t ≡ Jint → IsResultTarget (Declared (kind_of t) x) x
-scalar_kind tree.UInt32 x h = inl refl
-scalar_kind tree.JIntVariable x h = inl refl
-scalar_kind tree.JSize x h = inl refl
-scalar_kind tree.JBoolean x h = inl refl
-scalar_kind tree.JFieldId x h = absurd (cc)
-scalar_kind (tree.ReferenceVariable r) x h = absurd (cc)
 
 -- a declaration's name is known after it, and what was known before
 self_among : (x : Identifier) (s : Slot) (known : Known) → AreAmong ((x, s) ∷ known) ((x, s) ∷ known)
@@ -330,20 +357,20 @@ returned_stands code line t l place tail at fits = inl (number_begins l.known t 
 
 -- a new variable is of its slot's kind
 declared_goes : (t : VariableType) (x : Identifier) (l : Layout) → GoesTo l.known (new_slot (variable_sort t) l) (Declared (kind_of t) x)
-declared_goes tree.UInt32 x l = tt
-declared_goes tree.JIntVariable x l = tt
-declared_goes tree.JSize x l = tt
-declared_goes tree.JBoolean x l = tt
-declared_goes (tree.ReferenceVariable type) x l = tt
-declared_goes tree.JFieldId x l = tt
+declared_goes tree.UInt32 x l = refl
+declared_goes tree.JIntVariable x l = refl
+declared_goes tree.JSize x l = refl
+declared_goes tree.JBoolean x l = refl
+declared_goes (tree.ReferenceVariable type) x l = refl
+declared_goes tree.JFieldId x l = refl
 
 pub stmt_begins : (code : Listing) (s : Stmt) → StmtBegins code s
 stmt_begins code (tree.Declare line t x r) l place tail at fits laid room further =
-    right_stands code l.known line place tail (Declared (kind_of t) x) x (new_slot (variable_sort t) l) r ((x, new_slot (variable_sort t) l) ∷ l.known) fits.1 refl (scalar_kind t x) (declared_goes t x l) at (declared_slot code (variable_sort t) l x (variable_size t) laid room) (self_among x (new_slot (variable_sort t) l) l.known) further
+    right_stands code l.known line place tail (Declared (kind_of t) x) x (new_slot (variable_sort t) l) r ((x, new_slot (variable_sort t) l) ∷ l.known) fits.1 refl (declared_goes t x l) at (declared_slot code (variable_sort t) l x (variable_size t) laid room) (self_among x (new_slot (variable_sort t) l) l.known) further
 stmt_begins code (tree.DeclareBuffer line t x r) l place tail at fits laid room further =
-    right_stands code l.known line place tail (Declared (BufferKind t) x) x (new_slot (Buffer t true) l) r ((x, new_slot (Buffer t true) l) ∷ l.known) fits.1 refl (λ e. absurd (cc)) tt at (declared_slot code (Buffer t true) l x tt laid room) (self_among x (new_slot (Buffer t true) l) l.known) further
+    right_stands code l.known line place tail (Declared (BufferKind t) x) x (new_slot (Buffer t true) l) r ((x, new_slot (Buffer t true) l) ∷ l.known) fits.1 refl refl at (declared_slot code (Buffer t true) l x tt laid room) (self_among x (new_slot (Buffer t true) l) l.known) further
 stmt_begins code (tree.DeclareChars line x r) l place tail at fits laid room further =
-    right_stands code l.known line place tail (Declared (BufferKind JChar) x) x (new_slot (Buffer JChar false) l) r ((x, new_slot (Buffer JChar false) l) ∷ l.known) fits.1 refl (λ e. absurd (cc)) tt at (declared_slot code (Buffer JChar false) l x tt laid room) (self_among x (new_slot (Buffer JChar false) l) l.known) further
+    right_stands code l.known line place tail (Declared (BufferKind JChar) x) x (new_slot (Buffer JChar false) l) r ((x, new_slot (Buffer JChar false) l) ∷ l.known) fits.1 refl refl at (declared_slot code (Buffer JChar false) l x tt laid room) (self_among x (new_slot (Buffer JChar false) l) l.known) further
 stmt_begins code (tree.DeclareArray line t x size) l place tail at fits laid room further = record {
   empty = refl;
   start = l.slots.numbers;
@@ -356,10 +383,10 @@ stmt_begins code (tree.Assign line x r) l place tail at fits laid room further =
     let found = fits.1 in
     let there = subst (HasAt code.instrs place) (ap (λ (o : Option Slot). assign_code l.known line o r) found) at in
     let own : IsSlotOf code l.known x slot = record { within = slot_within code l x slot found laid room; own = laid.own x slot found } in
-    right_stands code l.known line place tail (Assigned x) x slot r l.known fits.2 refl (λ e. inr refl) found there own (known_among x slot l.known found)
+    right_stands code l.known line place tail (Assigned x) x slot r l.known fits.2 refl found there own (known_among x slot l.known found)
     (subst (λ c. TasksStand code l.known (place + length c) [] tail) (ap (λ (o : Option Slot). assign_code l.known line o r) found) further)
 stmt_begins code (tree.AssignElement line x i e) l place tail at fits laid room further = element_set_stands code line x i e l place tail at fits laid room further
-stmt_begins code (tree.Perform line c) l place tail at fits laid room further = call_stands code l.known line place tail Dropped destination.Dropped c fits at further
+stmt_begins code (tree.Perform line c) l place tail at fits laid room further = call_stands code l.known line place tail Dropped destination.Dropped c fits at (refl, further)
 stmt_begins code (tree.PutJint line e) l place tail at fits laid room further =
     let size : place + length (expr_code l.known line e ++ instr.PutJint ∷ []) ≡ place + length (expr_code l.known line e) + 1 = omega (arith, length-append (expr_code l.known line e) (instr.PutJint ∷ [])) in
     ((number_begins l.known (term_of e) Jint fits, at), subst (λ p. TasksStand code l.known p [] tail) size further)

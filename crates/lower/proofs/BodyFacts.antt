@@ -1,13 +1,13 @@
 -- The body of an accepted function fits.
-use Rattle.std.proofs.Common.{◌≡◌, ◌≤◌, inl, inr, Bool, true, false, ◌&&◌, List, ◌∷◌, ◌++◌, map, refl, sym, ap, ◌∙◌, subst, arith}
+use Rattle.std.proofs.Common.{◌≡◌, ◌≤◌, inl, inr, Bool, true, false, ◌&&◌, List, ◌∷◌, ◌++◌, Some, map, refl, sym, ap, ◌∙◌, subst, arith}
 use Rattle.std.specs.List.{list_all}
 use Rattle.std.proofs.lemmas.List.Folds.{list_all-append}
 use Rattle.base.specs.Bytes.{Identifier}
 use Rattle.base.specs.Element.{JChar}
 use Rattle.syntax.specs.Limits.{height, highest, numbers_in_range, statement_height, block_height, is_end, well_formed, block_well_formed}
-use Rattle.syntax.specs.Parts.{statements_of, statements_within, own_call, own_expressions, names_declared}
+use Rattle.syntax.specs.Parts.{statements_of, statements_within, call_of_right_side, own_call, right_side_expressions, own_expressions, names_declared}
 use Rattle.syntax.specs.Tree as tree
-use Rattle.syntax.specs.Tree.{ResultType, TestCall, Stmt, Block, End, Next}
+use Rattle.syntax.specs.Tree.{ResultType, RightSide, FromExpr, FromCall, TestExpr, TestCall, Stmt, Block, End, Next}
 use Rattle.types.specs.Sorts.{Truth, Buffer, Array}
 use Rattle.types.specs.SortRules.{variable_sort, with_declared, places_within, places_of}
 use Rattle.regions.specs.RegionStates.{RegionState, state_of}
@@ -20,7 +20,7 @@ use Rattle.lower.proofs.SortFacts.{scope_of, HasNoTruth}
 use Rattle.lower.proofs.PlaceFacts.{and_left, and_right, or_left, IsKept, AreKept, own_kept, inside_kept, block_kept, ways_kept}
 use Rattle.lower.proofs.NameFacts.{AreTaken, taken_more, taken_after, known_taken, stmt_others}
 use Rattle.lower.proofs.BufferFacts.{IsBuilt, AreBuilt, first_built, both_built, inside_built, AreFree, true_free, false_free, free_after, no_free_buffer, own_not_free}
-use Rattle.lower.proofs.StatementFacts.{AreFine, are_fine, CallHolds, call_fits_name, right_fits, buffer_fits, assigned_fits, element_fits, jint_fits, truth_fits, tested_fits, returned_fits, size_fits}
+use Rattle.lower.proofs.StatementFacts.{AreFine, are_fine, called_expressions, CallHolds, call_fits_name, right_fits, buffer_fits, assigned_fits, element_fits, jint_fits, truth_fits, tested_fits, returned_fits, size_fits}
 
 -- ---- what holds of a statement and of a block
 
@@ -77,6 +77,23 @@ own_low (tree.While line test body) = omega arith
 own_low (tree.AssignElement line x i e) = omega arith
 own_low s = omega arith
 
+-- the arguments of a statement's call are among its expressions
+right_fine : (known : Known) (r : RightSide) → AreFine known (right_side_expressions r) → AreFine known (called_expressions (call_of_right_side (Some r)))
+right_fine known (FromExpr e) h = tt
+right_fine known (FromCall c) h = h
+
+called_fine : (known : Known) (s : Stmt) → AreFine known (own_expressions s) → AreFine known (called_expressions (own_call s))
+called_fine known (tree.Declare line t x r) h = right_fine known r h
+called_fine known (tree.DeclareBuffer line t x r) h = right_fine known r h
+called_fine known (tree.DeclareChars line x r) h = right_fine known r h
+called_fine known (tree.Assign line x r) h = right_fine known r h
+called_fine known (tree.Perform line c) h = h
+called_fine known (tree.If line (TestExpr e) then') h = tt
+called_fine known (tree.If line (TestCall c) then') h = h
+called_fine known (tree.IfElse line (TestExpr e) then' else') h = tt
+called_fine known (tree.IfElse line (TestCall c) then' else') h = h
+called_fine known s h = tt
+
 module _ (l : Layout) (taken : List Identifier) (returns : ResultType) (before : RegionState) (way : Way) where
   all_fine : (s : Stmt) → StmtHolds l taken returns before way s → AreFine l.known (own_expressions s)
   all_fine s h =
@@ -87,7 +104,7 @@ module _ (l : Layout) (taken : List Identifier) (returns : ResultType) (before :
   kept s h = own_kept returns (scope_of l.known) taken s h.sorted
 
   call_holds : (s : Stmt) → StmtHolds l taken returns before way s → CallHolds l.known (own_call s)
-  call_holds s h = record { built = first_built s h.calls; arguments = (kept s h).arguments; count = (kept s h).count }
+  call_holds s h = record { built = first_built s h.calls; arguments = (kept s h).arguments; count = (kept s h).count; fine = called_fine l.known s (all_fine s h) }
 
 -- ---- after a statement
 
@@ -190,7 +207,7 @@ mutual
       let s = tree.AssignElement line x i e in
       let fine = all_fine l taken returns before way s h in
       element_fits l.known h.no_truth x i e (no_free_buffer l.known before x h.free (or_left (is_free (state_of before x)) false (own_not_free s before way h.keeps).0)) fine.0 fine.1.0 (kept l taken returns before way s h).fits
-  stmt_fits (tree.Perform line c) l taken returns before way h = call_fits_name l.known c (call_holds l taken returns before way (tree.Perform line c) h)
+  stmt_fits (tree.Perform line c) l taken returns before way h = call_fits_name l.known h.no_truth c (call_holds l taken returns before way (tree.Perform line c) h)
   stmt_fits (tree.PutJint line e) l taken returns before way h = jint_fits l.known h.no_truth e (all_fine l taken returns before way (tree.PutJint line e) h).0 (kept l taken returns before way (tree.PutJint line e) h).fits
   stmt_fits (tree.If line test then') l taken returns before way h =
       let s = tree.If line test then' in (

@@ -1,15 +1,14 @@
--- What holds of each function that can be called today. A function that joins them has its lines here.
-use Rattle.std.proofs.Common.{◌≡◌, true, false, List, [], ◌∷◌, Option, Some, None, refl}
+-- What holds of each function that can be called today.
+use Rattle.std.proofs.Common.{◌≡◌, Bool, true, false, List, Option, Some, None, refl}
+use Rattle.std.specs.List.{list_all}
 use Rattle.base.specs.Options.{some_passes}
 use Rattle.syntax.specs.Tree.{Argument, Call}
-use Rattle.jni.specs.JniFunction.{JniFunction, GetArrayLength}
-use Rattle.jni.specs.Prototype.{ParameterKind, function_named, prototype}
+use Rattle.jni.specs.JniFunction.{JniFunction, DeleteLocalRef, PushLocalFrame, PopLocalFrame, NewGlobalRef, GetArrayRegion, SetArrayRegion, GetBuffer, ReleaseBuffer, GetStringRegion}
+use Rattle.jni.specs.Prototype.{ParameterKind, ArrayVariable, BufferVariable, Mode, IsCopy, ResultKind, NewGlobal, GivesBuffer, function_named, prototype}
 use Rattle.jni.specs.BuiltFunctions.{is_built_function}
 use Rattle.types.specs.BuiltCalls.{is_built_call}
-use Rattle.types.specs.Sorts.{Sort, is_jint}
-use Rattle.types.specs.SortRules.{call_fits, may_be_tested}
+use Rattle.types.specs.SortRules.{may_be_tested}
 use Rattle.regions.specs.RegionStates.{RegionState, after_call, get_of}
-use Rattle.lower.specs.Fits.{IsReferenceKind}
 
 -- the function of a call, which is built
 pub record BuiltCall (c : Call) : Type 0 where
@@ -24,31 +23,50 @@ by_name c None is h = absurd (cc)
 pub built_call : (c : Call) → is_built_call c ≡ true → BuiltCall c
 built_call c h = by_name c (function_named c.function) refl h
 
--- all parameters are references
-abbrev pub AreReferences : List ParameterKind → Type 0
-AreReferences [] = Unit {0}
-AreReferences (p ∷ parameters) = IsReferenceKind p × AreReferences parameters
+-- an argument for such a parameter is a reference, a field ID, a number or a text
+abbrev pub is_passed : ParameterKind → Bool
+is_passed (ArrayVariable t) = false
+is_passed (BufferVariable a) = false
+is_passed Mode = false
+is_passed IsCopy = false
+is_passed p = true
 
-pub takes_references : (f : JniFunction) → is_built_function f ≡ true → AreReferences (prototype f).parameters
-takes_references GetArrayLength h = (tt, tt)
-takes_references f h = absurd (cc)
+-- such a result, where there is one, is a number, a local reference or a field ID
+abbrev pub is_taken : ResultKind → Bool
+is_taken NewGlobal = false
+is_taken (GivesBuffer a) = false
+is_taken r = true
 
--- the result goes into a jint
-pub gives_jint : (f : JniFunction) → is_built_function f ≡ true → (o : Option Sort) → call_fits o (Some f) ≡ true → is_jint o ≡ true
-gives_jint GetArrayLength h o fits = fits
-gives_jint f h o fits = absurd (cc)
+-- Below each function that differs from most has a line. Those that can't be called today are absurd there.
+
+-- all arguments are references, field IDs, numbers and texts
+pub are_passed : (f : JniFunction) → is_built_function f ≡ true → list_all is_passed (prototype f).parameters ≡ true
+are_passed (GetArrayRegion t) h = absurd (cc)
+are_passed (SetArrayRegion t) h = absurd (cc)
+are_passed (GetBuffer a) h = absurd (cc)
+are_passed (ReleaseBuffer a) h = absurd (cc)
+are_passed GetStringRegion h = absurd (cc)
+are_passed f h = refl
+
+-- the result, where there is one, is a number, a local reference or a field ID
+pub result_taken : (f : JniFunction) → is_built_function f ≡ true → is_taken (prototype f).result ≡ true
+result_taken NewGlobalRef h = absurd (cc)
+result_taken (GetBuffer a) h = absurd (cc)
+result_taken f h = refl
 
 -- the call isn't the test of an `if`
 pub is_not_tested : (f : JniFunction) → is_built_function f ≡ true → may_be_tested (Some f) ≡ false
-is_not_tested GetArrayLength h = refl
-is_not_tested f h = absurd (cc)
+is_not_tested PushLocalFrame h = absurd (cc)
+is_not_tested f h = refl
 
 -- it does nothing to buffers, references and frames
 pub keeps_state : (f : JniFunction) → is_built_function f ≡ true → (state : RegionState) (arguments : List Argument) → after_call state (Some (f, arguments)) ≡ state
-keeps_state GetArrayLength h state arguments = refl
-keeps_state f h state arguments = absurd (cc)
+keeps_state (ReleaseBuffer a) h state arguments = absurd (cc)
+keeps_state DeleteLocalRef h state arguments = absurd (cc)
+keeps_state PopLocalFrame h state arguments = absurd (cc)
+keeps_state f h state arguments = refl
 
 -- and gets no buffer
 pub gets_nothing : (f : JniFunction) → is_built_function f ≡ true → (arguments : List Argument) → get_of (Some (f, arguments)) ≡ None
-gets_nothing GetArrayLength h arguments = refl
-gets_nothing f h arguments = absurd (cc)
+gets_nothing (GetBuffer a) h arguments = absurd (cc)
+gets_nothing f h arguments = refl

@@ -1,15 +1,16 @@
 -- The steps of a call: its numbers are worked out one after another, and then it is made.
 use Rattle.lower.proofs.Steps.{step_inside}
 use Rattle.lower.proofs.PlaceFacts.{and_left, and_right}
-use Rattle.std.proofs.Common.{◌≡◌, ℕ, ◌+◌, Bool, true, List, [], ◌∷◌, ◌++◌, length, refl, sym, ap, ◌∙◌, subst, arith, append_assoc, length-append, suc, false, ℤ, pos}
+use Rattle.std.proofs.Common.{◌≡◌, ℕ, ◌+◌, Bool, true, List, [], ◌∷◌, ◌++◌, length, Some, None, ◌⊎◌, inl, inr, refl, sym, ap, ◌∙◌, subst, arith, append_assoc, length-append, suc, false, ℤ, pos}
 use Rattle.std.specs.Prelude.{slice_set, IsTrue, zip, map, FitsSigned, ◌||◌}
 use Rattle.std.specs.List.{list_any, AllZip}
 use Rattle.std.specs.Int.{w32}
 use Rattle.std.proofs.lemmas.List.{append-nil}
+use Rattle.base.specs.Bytes.{Identifier, lookup}
 use Rattle.syntax.specs.Tree as tree
 use Rattle.syntax.specs.Tree.{Expr}
 use Rattle.jni.specs.JniFunction.{JniFunction}
-use Rattle.jni.specs.Prototype.{ParameterKind, FieldID, ArrayVariable, BufferVariable, Mode, IsCopy, prototype, IntNumber}
+use Rattle.jni.specs.Prototype.{ParameterKind, FieldID, ArrayVariable, BufferVariable, Mode, IsCopy, prototype, IntNumber, ResultKind, GivesInt, GivesFlag}
 use Rattle.types.specs.Sorts.{Sort, Jint, Ref, Global, FieldId, Buffer, Array}
 use Rattle.types.specs.Sorts as sort
 use Rattle.code.specs.declared.instr.Operand.{Operand as Where}
@@ -20,19 +21,20 @@ use Rattle.code.specs.declared.instr.Instr.{Instr}
 use Rattle.code.specs.declared.instr.Instr.TheVariants as instr
 use Rattle.code.specs.Depth.{Listing}
 use Rattle.source.specs.Effect.{goes_on, is_given, is_ready, call_effect_of, Calls, reduce_first}
-use Rattle.source.specs.Arguments.{reference_argument, look_up_expression, look_up, NumberActual, actuals}
+use Rattle.source.specs.Arguments.{Actual, ReferenceActual, FieldActual, NumberActual, TextActual, reference_argument, look_up_expression, look_up, actuals}
 use Rattle.source.specs.Sight.{Sight}
-use Rattle.source.specs.Task.{Task, Invoke, Target, Declared, Assigned, Dropped, ScalarKind, Operand, NumberOperand, Given, Tested}
+use Rattle.source.specs.Variable.{Empty}
+use Rattle.source.specs.Task.{Task, Invoke, Target, Declared, Assigned, Dropped, VariableKind, ScalarKind, ReferenceKind, FieldKind, Operand, NumberOperand, Given, Tested}
 use Rattle.source.specs.Term.{Term, Done, reduce}
 use Rattle.source.specs.Value.{Word, Int, Flag, Truth, Gives, Outcome, Traps, Stuck, outcome_map}
-use Rattle.code_generator.specs.Layout.{Known}
+use Rattle.code_generator.specs.Layout.{Slot, Known}
 use Rattle.code_generator.specs.Coding.{term_code}
-use Rattle.lower.specs.Slots.{word_of, Visible, Slots, Shows}
+use Rattle.lower.specs.Slots.{word_of, IsNumberSort, Visible, Slots, Shows}
 use Rattle.lower.specs.Fits.{IsReferenceKind, TermHasSort}
-use Rattle.lower.specs.Stands.{held, IsBegun, HasAt, ReferenceStands, OperandStands, TargetStands, InvokeStands, TasksStand, task_returns, operands_rest, operand_held, operands_held, AreUntouched, AreBegun}
-use Rattle.lower.specs.Does.{IsOperand, TakesResult, DoesEffect, word_given, words_given, OperandFits}
-use Rattle.lower.proofs.SlotLaws.{fewer_shown, shows_set}
-use Rattle.lower.proofs.TermSteps.{IsOpen, untouched_held, untouched_begun}
+use Rattle.lower.specs.Stands.{held, IsBegun, HasAt, operand_text, operands_texts, ResultStands, ResultGoes, number_sort, OperandStands, TargetStands, InvokeStands, TasksStand, task_returns, operands_rest, operand_held, operands_held, AreUntouched, AreBegun}
+use Rattle.lower.specs.Does.{IsOperand, TakesNumber, TakesReference, TakesField, GoesInto, TakesResult, DoesEffect, word_given, words_given, text_given, texts_given, OperandFits}
+use Rattle.lower.proofs.SlotLaws.{fewer_shown, number_below, shows_set, shows_referred, shows_field_set}
+use Rattle.lower.proofs.TermSteps.{IsOpen, untouched_held, untouched_begun, shows_number}
 
 -- ---- the number that is worked out
 
@@ -94,6 +96,12 @@ rest_with known line (Given a ∷ operands) u h = rest_with known line operands 
 rest_with known line (NumberOperand (Done v) ∷ operands) u h = rest_with known line operands u h
 rest_with known line (NumberOperand t ∷ operands) u h = refl
 
+texts_with : (operands : List Operand) (u : Term) → operands_texts (with_open operands u) ≡ operands_texts operands
+texts_with [] u = refl
+texts_with (Given a ∷ operands) u = ap (λ (l : List (List ℕ)). operand_text (Given a) ++ l) (texts_with operands u)
+texts_with (NumberOperand (Done v) ∷ operands) u = texts_with operands u
+texts_with (NumberOperand t ∷ operands) u = refl
+
 pub untouched_are_begun : (operands : List Operand) → AreUntouched operands → AreBegun operands
 untouched_are_begun [] h = tt
 untouched_are_begun (Given a ∷ operands) h = untouched_are_begun operands h
@@ -148,6 +156,8 @@ module _ (known : Known) where
   number_there operand.Null p t h = absurd (let e = h.is in cc)
   number_there (operand.Local i) p t h = absurd (let e = h.1.is in cc)
   number_there (operand.Static i) p t h = absurd (let e = h.1.is in cc)
+  number_there (operand.FieldId i) p t h = absurd (let e = h.2 in cc)
+  number_there operand.Text p t h = absurd (let e = h.is in cc)
   number_there operand.Number p t h = (refl, h.kind, let same : h.term ≡ t = let e : NumberOperand h.term ≡ NumberOperand t = sym h.is in cc in subst (λ (u : Term). TermHasSort known u Jint) same h.sort)
 
   other_number : (w : Where) (p : ParameterKind) (t u : Term) → OperandStands known w (p, NumberOperand t) → TermHasSort known u Jint → OperandStands known w (p, NumberOperand u)
@@ -190,26 +200,61 @@ returns_alike line Dropped f a b = refl
 
 -- The place, with these names known, these operands and these slots, which show what can be seen.
 module _ (code : Listing) (known : Known) (place : ℕ) (stack : List ℕ) (slots : Slots) (visible : Visible) (shows : Shows code known visible slots) where
-  takes_result : (line : ℕ) (f : JniFunction) (operands : List Operand) (goes : Destination) (target : Target) (rest : List Task) → TargetStands code known (λ p names. TasksStand code names p [] rest) (place + 1) goes target
-      → IsTrue (list_any task_returns (Invoke line target f operands ∷ rest)) → TakesResult code known place stack slots visible goes target rest
-  takes_result line f operands (destination.Number i) (Declared ScalarKind x) rest h returns = record {
-    within = omega (arith, h.own.within, shows.numbers);
+  -- ---- results
+
+  -- a number goes into its slot
+  takes_number : (s : Slot) (x : Identifier) (rest : List Task) → IsNumberSort s.sort → IsTrue (list_any task_returns rest) → ResultStands code known (λ p names. TasksStand code names p [] rest) (place + 1) s x → TakesNumber code known place stack slots visible s.sort s.index x rest
+  takes_number s x rest n returns h = record {
+    within = omega (arith, number_below code known x s n h.own, shows.numbers);
     names = h.further.0;
-    shows = λ z new fits set. fewer_shown code h.further.0 ((x, record { sort = Jint; index = i }) ∷ known) new (record slots { numbers = slice_set slots.numbers i (word_of (Int z)) }) h.further.1 (shows_set code known visible new slots x (record { sort = Jint; index = i }) (Int z) shows h.own tt (fits, refl) set);
+    shows = λ v new fits set. fewer_shown code h.further.0 ((x, s) ∷ known) new (record slots { numbers = slice_set slots.numbers s.index (word_of v) }) h.further.1 (shows_set code known visible new slots x s v shows h.own n fits set);
     stands = record { stand = h.further.2; returns = returns };
   }
-  takes_result line f operands (destination.Number i) (Assigned x) rest (h, found) returns =
-      let shown = shows.each x (record { sort = Jint; index = i }) found in (
-        record {
-          within = omega (arith, h.own.within, shows.numbers);
-          names = h.further.0;
-          shows = λ z new fits set. fewer_shown code h.further.0 ((x, record { sort = Jint; index = i }) ∷ known) new (record slots { numbers = slice_set slots.numbers i (word_of (Int z)) }) h.further.1 (shows_set code known visible new slots x (record { sort = Jint; index = i }) (Int z) shows h.own tt (fits, refl) set);
-          stands = record { stand = h.further.2; returns = returns };
-        },
-        (shown.value, shown.is),
-      )
-  takes_result line f operands destination.Dropped Dropped rest h returns = record { stand = h; returns = returns }
-  takes_result line f operands goes target rest h returns = absurd h
+
+  -- a reference
+  takes_reference : (i : ℕ) (x : Identifier) (rest : List Task) → IsTrue (list_any task_returns rest) → ResultStands code known (λ p names. TasksStand code names p [] rest) (place + 1) (record { sort = Ref; index = i }) x → TakesReference code known place stack slots visible i x rest
+  takes_reference i x rest returns h = record {
+    within = omega (arith, h.own.within, shows.references);
+    names = h.further.0;
+    shows = λ r new set. fewer_shown code h.further.0 ((x, record { sort = Ref; index = i }) ∷ known) new (record slots { references = slice_set slots.references i r }) h.further.1 (shows_referred code known visible new slots x i r shows h.own set);
+    stands = record { stand = h.further.2; returns = returns };
+  }
+
+  -- a field ID
+  takes_field : (i : ℕ) (x : Identifier) (rest : List Task) → IsTrue (list_any task_returns rest) → ResultStands code known (λ p names. TasksStand code names p [] rest) (place + 1) (record { sort = FieldId; index = i }) x → TakesField code known place stack slots visible i x rest
+  takes_field i x rest returns h = record {
+    within = omega (arith, h.own.within, shows.fields);
+    names = h.further.0;
+    shows = λ f new set. fewer_shown code h.further.0 ((x, record { sort = FieldId; index = i }) ∷ known) new (record slots { fields = slice_set slots.fields i f }) h.further.1 (shows_field_set code known visible new slots x i f shows h.own set);
+    stands = record { stand = h.further.2; returns = returns };
+  }
+
+  -- a new variable takes it, or one that is of this kind already
+  goes_into : (line : ℕ) (f : JniFunction) (operands : List Operand) (kind : VariableKind) (s : Slot) (target : Target) (rest : List Task) (Takes : Identifier → Type 0) → IsTrue (list_any task_returns (Invoke line target f operands ∷ rest))
+      → ((x : Identifier) → IsTrue (list_any task_returns rest) → ResultStands code known (λ p names. TasksStand code names p [] rest) (place + 1) s x → Takes x) → ((x : Identifier) → lookup x known ≡ Some s → visible.kind x ≡ Some kind)
+      → ResultGoes code known (λ p names. TasksStand code names p [] rest) (place + 1) s kind target → GoesInto code known place stack slots visible kind target Takes
+  goes_into line f operands kind s (Declared declared x) rest Takes returns takes shown h = (h.0, takes x returns h.1)
+  goes_into line f operands kind s (Assigned x) rest Takes returns takes shown h = (shown x h.1, takes x returns h.0)
+  goes_into line f operands kind s target rest Takes returns takes shown h = absurd h
+
+  is_number_sort : (gives : ResultKind) (s : Sort) → number_sort gives ≡ Some s → IsNumberSort s
+  is_number_sort GivesInt s e = subst IsNumberSort (let same : Jint ≡ s = cc in same) tt
+  is_number_sort GivesFlag s e = subst IsNumberSort (let same : sort.Flag ≡ s = cc in same) tt
+  is_number_sort gives s e = absurd (cc)
+
+  takes_result : (line : ℕ) (f : JniFunction) (operands : List Operand) (goes : Destination) (gives : ResultKind) (target : Target) (rest : List Task) → TargetStands code known (λ p names. TasksStand code names p [] rest) (place + 1) goes gives target
+      → IsTrue (list_any task_returns (Invoke line target f operands ∷ rest)) → TakesResult code known place stack slots visible goes gives target rest
+  takes_result line f operands (destination.Number i) gives target rest h returns =
+      let slot : Slot = record { sort = h.0; index = i } in
+      let n = is_number_sort gives h.0 h.1 in
+      (h.0, h.1, goes_into line f operands ScalarKind slot target rest (λ x. TakesNumber code known place stack slots visible h.0 i x rest) returns (λ x r stands. takes_number slot x rest n r stands) (λ x found. (shows_number known line slots visible x slot h.0 n (shows.each x slot found)).kind) h.2)
+  takes_result line f operands (destination.Local i) gives target rest h returns =
+      let slot : Slot = record { sort = Ref; index = i } in
+      (h.0, goes_into line f operands ReferenceKind slot target rest (λ x. TakesReference code known place stack slots visible i x rest) returns (λ x r stands. takes_reference i x rest r stands) (λ x found. (shows.each x slot found).kind) h.1)
+  takes_result line f operands (destination.FieldId i) gives target rest h returns =
+      let slot : Slot = record { sort = FieldId; index = i } in
+      (h.0, goes_into line f operands FieldKind slot target rest (λ x. TakesField code known place stack slots visible i x rest) returns (λ x r stands. takes_field i x rest r stands) (λ x found. (shows.each x slot found).kind) h.1)
+  takes_result line f operands destination.Dropped gives target rest h returns = (h.0, record { stand = h.1; returns = subst (λ (t : Target). IsTrue (list_any task_returns (Invoke line t f operands ∷ rest))) h.0 returns })
 
   -- ---- arguments
 
@@ -222,9 +267,6 @@ module _ (code : Listing) (known : Known) (place : ℕ) (stack : List ℕ) (slot
   looked_up IsCopy e kind = absurd kind
   looked_up p e kind = refl
 
-  is_actual : (p : ParameterKind) (given : Operand) (e : Expr) → ReferenceStands p given e → look_up visible.sight (p, given) ≡ reference_argument visible.sight e
-  is_actual p given e h = ap (λ (o : Operand). look_up visible.sight (p, o)) h.is ∙ looked_up p e h.kind
-
   -- a number that is worked out
   number_is : (p : ParameterKind) (t : Term) → is_given (NumberOperand t) ≡ true → TermHasSort known t Jint → (z : ℤ) × (look_up visible.sight (p, NumberOperand t) ≡ NumberActual z) × FitsSigned w32 z × (held t ≡ word_of (Int z) ∷ [])
   number_is p (Done (Int z)) ready h = (z, refl, h.0, refl)
@@ -233,22 +275,35 @@ module _ (code : Listing) (known : Known) (place : ℕ) (stack : List ℕ) (slot
   number_is p (Done (Truth b)) ready h = absurd (let e : Jint ≡ sort.Truth = h in cc)
   number_is p t ready h = absurd (cc)
 
-  -- an argument that is ready is found, with its word
+  -- an argument that is ready is found, with its word and its text
   record IsFound (o : Where) (p : ParameterKind) (given : Operand) : Type 0 where
     found : IsOperand code known place stack slots visible o (look_up visible.sight (p, given))
     word : operand_held given ≡ word_given (look_up visible.sight (p, given))
+    text : operand_text given ≡ text_given (look_up visible.sight (p, given))
 
-  reference_found : (o : Where) (p : ParameterKind) (given : Operand) (e : Expr) → ReferenceStands p given e → IsOperand code known place stack slots visible o (look_up visible.sight (p, given)) → word_given (reference_argument visible.sight e) ≡ [] → IsFound o p given
-  reference_found o p given e h found none = record { found = found; word = ap operand_held h.is ∙ sym none ∙ ap word_given (sym (is_actual p given e h)) }
+  found_as : (o : Where) (p : ParameterKind) (given g : Operand) (a : Actual) → given ≡ g → look_up visible.sight (p, g) ≡ a → IsOperand code known place stack slots visible o a → operand_held g ≡ word_given a → operand_text g ≡ text_given a → IsFound o p given
+  found_as o p given g a is e operand word text =
+      let same : look_up visible.sight (p, given) ≡ a = ap (λ (q : Operand). look_up visible.sight (p, q)) is ∙ e in
+      record {
+        found = subst (IsOperand code known place stack slots visible o) (sym same) operand;
+        word = ap operand_held is ∙ word ∙ ap word_given (sym same);
+        text = ap operand_text is ∙ text ∙ ap text_given (sym same);
+      }
+
+  null_found : (p : ParameterKind) (given : Operand) → given ≡ Given (tree.Value (tree.Named tree.Null)) → IsReferenceKind p ⊎ (p ≡ FieldID) → IsFound operand.Null p given
+  null_found p given is (inl kind) = found_as operand.Null p given (Given (tree.Value (tree.Named tree.Null))) (ReferenceActual [] Empty) is (looked_up p (tree.Named tree.Null) kind) (inl ([], refl)) refl refl
+  null_found p given is (inr e) = found_as operand.Null p given (Given (tree.Value (tree.Named tree.Null))) (FieldActual None) is (ap (λ (q : ParameterKind). look_up_expression visible.sight q (tree.Named tree.Null)) e) (inr refl) refl refl
 
   is_found : (o : Where) (p : ParameterKind) (given : Operand) → is_given given ≡ true → OperandStands known o (p, given) → IsFound o p given
-  is_found operand.Null p given ready h = reference_found operand.Null p given (tree.Named tree.Null) h ([], is_actual p given (tree.Named tree.Null) h) refl
-  is_found (operand.Local i) p given ready h = reference_found (operand.Local i) p given (tree.Variable h.0) h.1 (h.0, is_actual p given (tree.Variable h.0) h.1, h.2) refl
-  is_found (operand.Static i) p given ready h = reference_found (operand.Static i) p given (tree.Variable h.0) h.1 (h.0, is_actual p given (tree.Variable h.0) h.1, h.2) refl
+  is_found operand.Null p given ready h = null_found p given h.is h.kind
+  is_found (operand.Local i) p given ready h = found_as (operand.Local i) p given (Given (tree.Value (tree.Variable h.0))) (ReferenceActual h.0 (visible.sight.reference h.0)) h.1.is (looked_up p (tree.Variable h.0) h.1.kind) (h.0, refl, h.2) refl refl
+  is_found (operand.Static i) p given ready h = found_as (operand.Static i) p given (Given (tree.Value (tree.Variable h.0))) (ReferenceActual h.0 (visible.sight.reference h.0)) h.1.is (looked_up p (tree.Variable h.0) h.1.kind) (h.0, refl, h.2) refl refl
+  is_found (operand.FieldId i) p given ready h =
+      found_as (operand.FieldId i) p given (Given (tree.Value (tree.Variable h.0))) (FieldActual (visible.sight.field h.0)) h.2 (ap (λ (q : ParameterKind). look_up_expression visible.sight q (tree.Variable h.0)) h.1) (h.0, refl, h.3) refl refl
+  is_found operand.Text p given ready h = found_as operand.Text p given (Given (tree.Text h.bytes)) (TextActual h.bytes) h.is refl (h.bytes, refl) refl refl
   is_found operand.Number p given ready h =
       let number = number_is p h.term (ap is_given (sym h.is) ∙ ready) h.sort in
-      let same : look_up visible.sight (p, given) ≡ NumberActual number.0 = ap (λ (o : Operand). look_up visible.sight (p, o)) h.is ∙ number.1 in
-      record { found = (number.0, same, number.2); word = ap operand_held h.is ∙ number.3 ∙ ap word_given (sym same) }
+      found_as operand.Number p given (NumberOperand h.term) (NumberActual number.0) h.is number.1 (number.0, refl, number.2) number.3 refl
 
   both_ready : (o : Operand) (operands : List Operand) → is_ready (o ∷ operands) ≡ true → (is_given o ≡ true) × (is_ready operands ≡ true)
   both_ready o operands h = (and_left (is_given o) (is_ready operands) h, and_right (is_given o) (is_ready operands) h)
@@ -275,17 +330,24 @@ module _ (code : Listing) (known : Known) (place : ℕ) (stack : List ℕ) (slot
       ap (λ (l : List ℕ). l ++ operand_held o) (are_words found parameters operands (omega (arith, count)) both.1 h.1)
       ∙ ap (λ (l : List ℕ). words_given (map (look_up visible.sight) (zip parameters operands)) ++ l) (is_found w p o both.0 h.0).word
 
-  -- a reference is no number
-  reference_fits : (p : ParameterKind) (o : Where) → IsReferenceKind p → (o ≡ operand.Number → ⊥) → OperandFits p o
-  reference_fits IntNumber o kind other = absurd kind
-  reference_fits p operand.Number kind other = absurd (other refl)
-  reference_fits p o kind other = tt
+  are_texts : (found : List Where) (parameters : List ParameterKind) (operands : List Operand) → length operands ≡ length parameters → is_ready operands ≡ true → AllZip (OperandStands known) found (zip parameters operands)
+      → operands_texts operands ≡ texts_given (map (look_up visible.sight) (zip parameters operands))
+  are_texts found [] [] count ready h = refl
+  are_texts found [] (o ∷ operands) count ready h = absurd (omega (arith, count))
+  are_texts found (p ∷ parameters) [] count ready h = absurd (omega (arith, count))
+  are_texts [] (p ∷ parameters) (o ∷ operands) count ready h = absurd h
+  are_texts (w ∷ found) (p ∷ parameters) (o ∷ operands) count ready h =
+      let both = both_ready o operands ready in
+      ap (λ (l : List (List ℕ)). operand_text o ++ l) (are_texts found parameters operands (omega (arith, count)) both.1 h.1)
+      ∙ ap (λ (l : List (List ℕ)). l ++ texts_given (map (look_up visible.sight) (zip parameters operands))) (is_found w p o both.0 h.0).text
 
   operand_fits : (o : Where) (p : ParameterKind) (given : Operand) → OperandStands known o (p, given) → OperandFits p o
-  operand_fits operand.Null p given h = reference_fits p operand.Null h.kind (λ e. cc)
-  operand_fits (operand.Local i) p given h = reference_fits p (operand.Local i) h.1.kind (λ e. cc)
-  operand_fits (operand.Static i) p given h = reference_fits p (operand.Static i) h.1.kind (λ e. cc)
-  operand_fits operand.Number p given h = subst (λ (q : ParameterKind). OperandFits q operand.Number) (sym h.kind) tt
+  operand_fits operand.Null p given h = h.kind
+  operand_fits (operand.Local i) p given h = h.1.kind
+  operand_fits (operand.Static i) p given h = h.1.kind
+  operand_fits (operand.FieldId i) p given h = h.1
+  operand_fits operand.Text p given h = h.kind
+  operand_fits operand.Number p given h = h.kind
 
   operands_fit : (found : List Where) (parameters : List ParameterKind) (operands : List Operand) → length operands ≡ length parameters → AllZip (OperandStands known) found (zip parameters operands) → AllZip OperandFits parameters found
   operands_fit [] [] operands count h = tt
@@ -316,10 +378,11 @@ module _ (code : Listing) (known : Known) (place : ℕ) (stack : List ℕ) (slot
           same_function = c.same_function;
           built = c.built;
           words = c.held ∙ are_words c.call.operands (prototype f).parameters operands c.count ready c.operands_stand;
+          texts = c.texts ∙ are_texts c.call.operands (prototype f).parameters operands c.count ready c.operands_stand;
           count = actual_count (prototype f).parameters operands c.count;
           kinds = operands_fit c.call.operands (prototype f).parameters operands c.count c.operands_stand;
           given = are_operands c.call.operands (prototype f).parameters operands ready c.operands_stand;
-          goes = takes_result line f operands c.call.target target rest (subst (λ p. TargetStands code known (λ q names. TasksStand code names q [] rest) p c.call.target target) next c.goes) returns;
+          goes = takes_result line f operands c.call.target (prototype f).result target rest (subst (λ p. TargetStands code known (λ q names. TasksStand code names q [] rest) p c.call.target (prototype f).result target) next c.goes) returns;
         }
 
     -- a number takes its step
@@ -346,9 +409,10 @@ module _ (code : Listing) (known : Known) (place : ℕ) (stack : List ℕ) (slot
           built = c.built;
           begun = begun_with operands u unready c.begun begun;
           held = sym (held_with operands u unready c.begun);
+          texts = c.texts ∙ sym (texts_with operands u);
           count = count_same operands u ∙ c.count;
           operands_stand = stand_with known c.call.operands (prototype f).parameters operands u sorted c.operands_stand;
-          goes = subst (λ q. TargetStands code known (λ r names. TasksStand code names r [] rest) q c.call.target target) end c.goes;
+          goes = subst (λ q. TargetStands code known (λ r names. TasksStand code names r [] rest) q c.call.target (prototype f).result target) end c.goes;
         }))
 
     by_ready : (b : Bool) → is_ready operands ≡ b → DoesEffect code known place stack slots visible rest (call_effect_of visible.sight line target f operands)

@@ -15,7 +15,7 @@ use Rattle.source.specs.Value.{Int}
 use Rattle.source.specs.Variable.{Variable, Scalar, LocalRef, StaticReference}
 use Rattle.code.specs.Depth.{Listing}
 use Rattle.code_generator.specs.Layout.{Slot, Known, parameter_slot, parameter_slots, numbers_after, references_after, numbers_of, references_of, entry_names, entry_layout}
-use Rattle.lower.specs.Slots.{visible_to, Slots, ShowsSlot, Shows, ArgumentFits, ArgumentsFit, argument_word, argument_reference, EntrySlots, AreNull}
+use Rattle.lower.specs.Slots.{visible_to, kind_of_variable, Slots, ShowsSlot, Shows, ArgumentFits, ArgumentsFit, argument_word, argument_reference, EntrySlots, AreNull}
 use Rattle.lower.specs.Fits.{AreStatics}
 use Rattle.lower.proofs.CodePlaces.{get-append_seam}
 
@@ -120,13 +120,14 @@ in_both x ((y, slot) ∷ a) b o is s h =
 module _ (statics : Known) (f : Function) (code : Listing) (known : AreStatics statics) (shared : Shared) (thread : Thread) (calls : List Invocation) (class : ℕ) (arguments : List ObjectValue) (slots : Slots) (fit : ArgumentsFit f.parameters arguments) (entry : EntrySlots code class arguments slots) (null : AreNull statics shared) where
   found_shown : (x : Identifier) (s : Slot) → Found slots s (lookup x ((f.class_name, LocalRef 1 (Some class)) ∷ parameter_variables (zip f.parameters arguments))) → ShowsSlot (visible_to shared (entered thread calls f class arguments)) x slots s s.sort
   found_shown x s (inl (z, i, is, variable, fits, there)) =
-      subst (λ (t : Slot). ShowsSlot (visible_to shared (entered thread calls f class arguments)) x slots t t.sort) (sym is) (record { value = Int z; is = ap scalar variable; sort = (fits, refl); word = there })
+      subst (λ (t : Slot). ShowsSlot (visible_to shared (entered thread calls f class arguments)) x slots t t.sort) (sym is) (record { value = Int z; is = ap scalar variable; kind = ap kind_of_variable variable; sort = (fits, refl); word = there })
   found_shown x s (inr (q, i, is, variable, there)) =
       subst (λ (t : Slot). ShowsSlot (visible_to shared (entered thread calls f class arguments)) x slots t t.sort) (sym is) (record {
         reference = q;
         is = ap (λ (v : Option Variable). held_reference v (lookup x shared.statics)) variable;
         is_null = ap (λ (v : Option Variable). holds_null v (lookup x shared.statics)) variable;
         no_number = ap scalar variable;
+        kind = ap kind_of_variable variable;
         there = there;
       })
 
@@ -168,6 +169,7 @@ pub entry_shows : (statics : Known) (f : Function) (code : Listing) → AreStati
 entry_shows statics f code known shared thread calls class arguments slots fit entry null = record {
   numbers = entry.numbers;
   references = entry.references;
+  fields = entry.fields;
   each = λ x s at. either_shown statics f code known shared thread calls class arguments slots fit entry null x s (in_both x (entry_names f) statics (lookup x (entry_names f)) refl s at);
 }
 

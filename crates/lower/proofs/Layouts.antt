@@ -146,10 +146,14 @@ new_apart s l x t laid at = record {
       let below : t.index < l.slots.references = subst (λ (r : Sort). IndexWithin l.slots r t.index) e (laid.within x t at) in
       let next : next_index s l.slots ≡ l.slots.references = ap (λ (r : Sort). next_index r l.slots) e' in
       absurd (omega (arith, below, next, same));
+  fields = λ e e' same.
+      let below : t.index < l.slots.field_ids = subst (λ (r : Sort). IndexWithin l.slots r t.index) e (laid.within x t at) in
+      let next : next_index s l.slots ≡ l.slots.field_ids = ap (λ (r : Sort). next_index r l.slots) e' in
+      absurd (omega (arith, below, next, same));
 }
 
 apart_back : (s t : Slot) → AreApart s t → AreApart t s
-apart_back s t h = record { numbers = λ k p q. h.numbers k q p; references = λ e e' same. h.references e' e (sym same) }
+apart_back s t h = record { numbers = λ k p q. h.numbers k q p; references = λ e e' same. h.references e' e (sym same); fields = λ e e' same. h.fields e' e (sym same) }
 
 pub new_own : (s : Sort) (l : Layout) (x : Identifier) → IsLaidOut l.known l.slots → IsOwn l.known x (new_slot s l)
 new_own s l x laid y t at other = new_apart s l y t laid at

@@ -1,5 +1,5 @@
 -- The code of an accepted function has one instruction for each step, and a return at its end.
-use Rattle.std.proofs.Common.{◌≡◌, ℕ, ◌+◌, Bool, true, false, ◌||◌, List, [], ◌∷◌, ◌++◌, length, Option, Some, None, refl, sym, ap, ◌∙◌, subst, arith, length-append, inl, inr, map}
+use Rattle.std.proofs.Common.{◌≡◌, ℕ, ◌+◌, Bool, true, false, ◌||◌, List, [], ◌∷◌, ◌++◌, length, Option, Some, None, refl, sym, ap, ◌∙◌, subst, arith, length-append, map}
 use Rattle.std.specs.Prelude.{zip}
 use Rattle.std.specs.List.{AllZip, sum_by}
 use Rattle.std.proofs.lemmas.List.Sums.{sum_by-cons}
@@ -19,7 +19,8 @@ use Rattle.code.specs.declared.instr.Instr.TheVariants as instr
 use Rattle.source.specs.Term as term
 use Rattle.source.specs.Term.{Term, Done, Read, IsNull, Prefix, And, Or, Binary, binary_term, term_of}
 use Rattle.code_generator.specs.Layout.{Slot, Known, Layout, new_slot, closed, layout_after, block_layout}
-use Rattle.code_generator.specs.Coding.{nullable_of, test_of, store_of, null_code, element_code, write_code, of_slot, load_code, prefix_code, operator_code, is_signed, skip_code, term_code, expr_code, named_call_code, value_code, right_code, assign_code, returned_code, return_code, test_code, ways_code, if_code, turn_code, loop_code, stmt_code, block_code, argument_code, arguments_code, operand_code}
+use Rattle.code_generator.specs.Coding.{arguments_texts, result_target, nullable_of, test_of, store_of, null_code, element_code, write_code, of_slot, load_code, prefix_code, operator_code, is_signed, skip_code, term_code, expr_code, named_call_code, value_code, right_code, assign_code, returned_code, return_code, test_code, ways_code, if_code, turn_code, loop_code, stmt_code, block_code, argument_code, arguments_code, operand_code}
+use Rattle.lower.proofs.ArgumentKinds.{by_argument}
 use Rattle.lower.specs.Fits.{IsNullable, TermHasSort, NumberFits, ArgumentFits, CallFits, ValueFits, RightFits, TestFits, ReturnFits, StmtFits, BlockFits, IsReferenceKind}
 use Rattle.lower.specs.Length.{binary_steps, expr_steps, argument_steps, arguments_steps, call_steps, value_steps, right_steps, test_steps, return_steps, stmt_steps, block_steps}
 use Rattle.lower.proofs.SortFacts.{scope_of, slot_of_name}
@@ -116,9 +117,7 @@ no_steps known line IntNumber e kind = absurd kind
 no_steps known line p e kind = refl
 
 argument_length : (known : Known) (line : ℕ) (p : ParameterKind) (a : Argument) → ArgumentFits known p a → length (argument_code known line (p, a)) ≡ argument_steps (p, a)
-argument_length known line p (tree.Value e) (inl h) = subst (λ (q : ParameterKind). length (argument_code known line (q, tree.Value e)) ≡ argument_steps (q, tree.Value e)) (sym h.0) (expr_length known line e Jint h.1)
-argument_length known line p (tree.Value e) (inr h) = no_steps known line p e h.0
-argument_length known line p a h = absurd h
+argument_length known line p a h = by_argument known (λ p a. length (argument_code known line (p, a)) ≡ argument_steps (p, a)) (λ e number. expr_length known line e Jint number) (λ p e kind reference. no_steps known line p e kind) (λ e field. refl) (λ bytes. refl) p a h
 
 arguments_length : (known : Known) (line : ℕ) (parameters : List ParameterKind) (arguments : List Argument) → AllZip (ArgumentFits known) parameters arguments → length (arguments_code known line (zip parameters arguments)) ≡ sum_by argument_steps (zip parameters arguments)
 arguments_length known line [] [] h = refl
@@ -133,7 +132,7 @@ call_length : (known : Known) (line : ℕ) (target : Target) (c : Call) → Call
 call_length known line target c h =
     let given = zip (prototype h.function).parameters c.arguments in
     let steps = arguments_length known line (prototype h.function).parameters c.arguments h.arguments in
-    let call = instr.Call (record { line = line; target = target; function = h.function; operands = map (operand_code known) given }) ∷ [] in
+    let call = instr.Call (record { line = line; target = target; function = h.function; operands = map (operand_code known) given; texts = arguments_texts c.arguments }) ∷ [] in
     ap (λ o. length (named_call_code known line target o c.arguments)) h.named
     ∙ omega (arith, steps, length-append (arguments_code known line given) call)
     ∙ sym (ap (λ o. arguments_steps o c.arguments + 1) h.named)
@@ -157,7 +156,7 @@ value_length known line s i e h = absurd h
 
 right_length : (known : Known) (line : ℕ) (s : Slot) (r : RightSide) → RightFits known s.sort r → length (right_code known line s r) ≡ right_steps r
 right_length known line s (FromExpr e) h = value_length known line s.sort s.index e h
-right_length known line s (FromCall c) h = call_length known line (destination.Number s.index) c h.1
+right_length known line s (FromCall c) h = call_length known line (result_target s.sort s.index) c h.fits
 
 -- ---- returns
 

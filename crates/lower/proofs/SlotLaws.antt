@@ -1,5 +1,5 @@
 -- What the slots show once a variable is set.
-use Rattle.std.proofs.Common.{◌≡◌, ◌≢◌, ℕ, zero, suc, ℤ, pos, lit<, ◌+◌, ◌<◌, ◌≤◌, Bool, true, false, List, [], ◌∷◌, length, Some, None, refl, sym, ap, ◌∙◌, subst, arith, if◌then◌else◌}
+use Rattle.std.proofs.Common.{◌≡◌, ◌≢◌, ℕ, zero, suc, ℤ, pos, lit<, ◌+◌, ◌<◌, ◌≤◌, Bool, true, false, List, [], ◌∷◌, length, Option, Some, None, refl, sym, ap, ◌∙◌, subst, arith, if◌then◌else◌}
 use Rattle.std.specs.Prelude.{slice_get, slice_set, nat_lt, ◌==◌, FitsSigned}
 use Rattle.std.specs.Int.{w32, cast_unsigned}
 use Rattle.std.specs.Str.{bytes_eq}
@@ -11,6 +11,9 @@ use Rattle.base.specs.Bytes.{Identifier, lookup}
 use Rattle.base.specs.Element.{ElementType}
 use Rattle.types.specs.Sorts.{Sort, Jint, Ref, Global, FieldId, Buffer, Array}
 use Rattle.types.specs.Sorts as sort
+use Rattle.classes.specs.Fields as source
+use Rattle.source.specs.Object.{Reference}
+use Rattle.source.specs.Task.{VariableKind, ReferenceKind, FieldKind}
 use Rattle.source.specs.Value.{Value, convert}
 use Rattle.code.specs.declared.instr.NullableVariable.{NullableVariable}
 use Rattle.code.specs.declared.instr.NullableVariable.TheVariants as nullable
@@ -19,7 +22,7 @@ use Rattle.code.specs.Effect.{cleared}
 use Rattle.code.proofs.Arrays.{cleared_element, cleared_before, cleared_after}
 use Rattle.code_generator.specs.Layout.{Slot, Known}
 use Rattle.code_generator.specs.Coding.{nullable_of}
-use Rattle.lower.specs.Slots.{word_of, ValueHasSort, IsNumberSort, Visible, IsAsBefore, OthersStay, IsSet, IsNulled, IsMade, IsElementSet, Slots, ShowsNumber, ShowsElement, ShowsSlot, Shows, with_null}
+use Rattle.lower.specs.Slots.{word_of, ValueHasSort, IsNumberSort, Visible, IsAsBefore, OthersStay, IsSet, IsNulled, IsReferred, IsFieldSet, IsMade, IsElementSet, Slots, ShowsNumber, ShowsElement, ShowsSlot, Shows, with_null}
 use Rattle.lower.specs.Fits.{IsPlaceOf, IsOwn, IndexWithin}
 use Rattle.lower.specs.Stands.{AreAmong, IsSlotOf}
 
@@ -67,7 +70,7 @@ pub all_among : (known : Known) → AreAmong known known
 all_among known x s h = h
 
 pub fewer_shown : (code : Listing) (names known : Known) (visible : Visible) (slots : Slots) → AreAmong names known → Shows code known visible slots → Shows code names visible slots
-fewer_shown code names known visible slots among shows = record { numbers = shows.numbers; references = shows.references; each = λ x s at. shows.each x s (among x s at) }
+fewer_shown code names known visible slots among shows = record { numbers = shows.numbers; references = shows.references; fields = shows.fields; each = λ x s at. shows.each x s (among x s at) }
 
 -- ---- what stays
 
@@ -81,20 +84,20 @@ pub number_place : (s : Slot) → IsNumberSort s.sort → IsPlaceOf s s.index
 number_place s h = number_place_at s.sort s.index h
 
 module _ (old new : Visible) (x : Identifier) (slots slots' : Slots) (same : IsAsBefore old new x) where
-  number_stays : (kind : Sort) (i : ℕ) → slice_get slots'.numbers i ≡ slice_get slots.numbers i → ShowsNumber (old.sight.number x) slots.numbers (record { sort = kind; index = i }) → ShowsNumber (new.sight.number x) slots'.numbers (record { sort = kind; index = i })
-  number_stays kind i word h = record { value = h.value; is = same.number ∙ h.is; sort = h.sort; word = word ∙ h.word }
+  number_stays : (kind : Sort) (i : ℕ) → slice_get slots'.numbers i ≡ slice_get slots.numbers i → ShowsNumber old x slots.numbers (record { sort = kind; index = i }) → ShowsNumber new x slots'.numbers (record { sort = kind; index = i })
+  number_stays kind i word h = record { value = h.value; is = same.number ∙ h.is; kind = same.kind ∙ h.kind; sort = h.sort; word = word ∙ h.word }
 
-  pub slot_stays : (kind : Sort) (i : ℕ) → ((k : ℕ) → IsPlaceOf (record { sort = kind; index = i }) k → slice_get slots'.numbers k ≡ slice_get slots.numbers k) → (kind ≡ Ref → slice_get slots'.references i ≡ slice_get slots.references i)
+  pub slot_stays : (kind : Sort) (i : ℕ) → ((k : ℕ) → IsPlaceOf (record { sort = kind; index = i }) k → slice_get slots'.numbers k ≡ slice_get slots.numbers k) → (kind ≡ Ref → slice_get slots'.references i ≡ slice_get slots.references i) → (kind ≡ FieldId → slice_get slots'.fields i ≡ slice_get slots.fields i)
       → ShowsSlot old x slots (record { sort = kind; index = i }) kind → ShowsSlot new x slots' (record { sort = kind; index = i }) kind
-  slot_stays sort.Word i numbers references h = number_stays sort.Word i (numbers i (omega arith, omega arith)) h
-  slot_stays Jint i numbers references h = number_stays Jint i (numbers i (omega arith, omega arith)) h
-  slot_stays sort.Flag i numbers references h = number_stays sort.Flag i (numbers i (omega arith, omega arith)) h
-  slot_stays sort.Truth i numbers references h = tt
-  slot_stays Ref i numbers references h = record { reference = h.reference; is = same.reference ∙ h.is; is_null = same.is_null ∙ h.is_null; no_number = same.number ∙ h.no_number; there = references refl ∙ h.there }
-  slot_stays Global i numbers references h = record { is_null = same.is_null ∙ h.is_null; reference = same.reference ∙ h.reference }
-  slot_stays FieldId i numbers references h = same.is_null ∙ h
-  slot_stays (Buffer t writable) i numbers references h = same.is_null ∙ h
-  slot_stays (Array t size) i numbers references h = record {
+  slot_stays sort.Word i numbers references fields h = number_stays sort.Word i (numbers i (omega arith, omega arith)) h
+  slot_stays Jint i numbers references fields h = number_stays Jint i (numbers i (omega arith, omega arith)) h
+  slot_stays sort.Flag i numbers references fields h = number_stays sort.Flag i (numbers i (omega arith, omega arith)) h
+  slot_stays sort.Truth i numbers references fields h = tt
+  slot_stays Ref i numbers references fields h = record { reference = h.reference; is = same.reference ∙ h.is; is_null = same.is_null ∙ h.is_null; no_number = same.number ∙ h.no_number; kind = same.kind ∙ h.kind; there = references refl ∙ h.there }
+  slot_stays Global i numbers references fields h = record { is_null = same.is_null ∙ h.is_null; reference = same.reference ∙ h.reference }
+  slot_stays FieldId i numbers references fields h = record { field = h.field; is = same.field ∙ h.is; is_null = same.is_null ∙ h.is_null; no_number = same.number ∙ h.no_number; kind = same.kind ∙ h.kind; there = fields refl ∙ h.there }
+  slot_stays (Buffer t writable) i numbers references fields h = same.is_null ∙ h
+  slot_stays (Array t size) i numbers references fields h = record {
     few = h.few;
     array_type = same.array_type ∙ h.array_type;
     elements = λ k below.
@@ -105,11 +108,13 @@ module _ (old new : Visible) (x : Identifier) (slots slots' : Slots) (same : IsA
 
 -- A name has this slot, which it shows, and the others are as they were.
 module _ (code : Listing) (known : Known) (old new : Visible) (slots slots' : Slots) (x : Identifier) (s : Slot) (shows : Shows code known old slots) (own : IsOwn known x s) (others : OthersStay old new x) where
-  pub with_changed : length slots'.numbers ≡ length slots.numbers → length slots'.references ≡ length slots.references → ((k : ℕ) → (IsPlaceOf s k → ⊥) → slice_get slots'.numbers k ≡ slice_get slots.numbers k)
-      → ((i : ℕ) → (s.sort ≡ Ref → i ≢ s.index) → slice_get slots'.references i ≡ slice_get slots.references i) → ShowsSlot new x slots' s s.sort → Shows code ((x, s) ∷ known) new slots'
-  with_changed numbers references number reference here = record {
+  pub with_changed : length slots'.numbers ≡ length slots.numbers → length slots'.references ≡ length slots.references → length slots'.fields ≡ length slots.fields → ((k : ℕ) → (IsPlaceOf s k → ⊥) → slice_get slots'.numbers k ≡ slice_get slots.numbers k)
+      → ((i : ℕ) → (s.sort ≡ Ref → i ≢ s.index) → slice_get slots'.references i ≡ slice_get slots.references i)
+      → ((i : ℕ) → (s.sort ≡ FieldId → i ≢ s.index) → slice_get slots'.fields i ≡ slice_get slots.fields i) → ShowsSlot new x slots' s s.sort → Shows code ((x, s) ∷ known) new slots'
+  with_changed numbers references fields number reference field here = record {
     numbers = numbers ∙ shows.numbers;
     references = references ∙ shows.references;
+    fields = fields ∙ shows.fields;
     each = λ y t at.
         first_or_after x y s t known (ShowsSlot new y slots' t t.sort)
         (λ same is. subst (λ (z : Identifier). ShowsSlot new z slots' t t.sort) (sym same) (subst (λ (r : Slot). ShowsSlot new x slots' r r.sort) is here))
@@ -118,12 +123,13 @@ module _ (code : Listing) (known : Known) (old new : Visible) (slots slots' : Sl
         slot_stays old new y slots slots' (others y other) t.sort t.index
         (λ k p. number k (λ q. apart.numbers k p q))
         (λ e. reference t.index (λ e'. apart.references e e'))
+        (λ e. field t.index (λ e'. apart.fields e e'))
         (shows.each y t h)) at;
   }
 
 -- ---- a number variable is set
 
-number_shown : (visible : Visible) (x : Identifier) (slots : Slots) (s : Slot) (kind : Sort) → IsNumberSort kind → ShowsNumber (visible.sight.number x) slots.numbers s → ShowsSlot visible x slots s kind
+number_shown : (visible : Visible) (x : Identifier) (slots : Slots) (s : Slot) (kind : Sort) → IsNumberSort kind → ShowsNumber visible x slots.numbers s → ShowsSlot visible x slots s kind
 number_shown visible x slots s sort.Word n h = h
 number_shown visible x slots s Jint n h = h
 number_shown visible x slots s sort.Flag n h = h
@@ -143,35 +149,56 @@ pub shows_set : (code : Listing) (known : Known) (old new : Visible) (slots : Sl
 shows_set code known old new slots x s v shows own n fits set =
     let below : s.index < length slots.numbers = omega (arith, number_below code known x s n own, shows.numbers) in
     with_changed code known old new slots (record slots { numbers = slice_set slots.numbers s.index (word_of v) }) x s shows own.own set.others
-    (length-set slots.numbers s.index (word_of v)) refl
+    (length-set slots.numbers s.index (word_of v)) refl refl
     (λ k outside. get-set_other slots.numbers s.index k (word_of v) (λ e. outside (subst (IsPlaceOf s) (sym e) (number_place s n))))
-    (λ i other. refl)
-    (number_shown new x (record slots { numbers = slice_set slots.numbers s.index (word_of v) }) s s.sort n (record { value = v; is = set.is; sort = fits; word = get-set_same slots.numbers s.index (word_of v) below }))
+    (λ i other. refl) (λ i other. refl)
+    (number_shown new x (record slots { numbers = slice_set slots.numbers s.index (word_of v) }) s s.sort n (record { value = v; is = set.is; kind = set.kind; sort = fits; word = get-set_same slots.numbers s.index (word_of v) below }))
+
+-- ---- a local reference or a field ID is set
+
+pub shows_referred : (code : Listing) (known : Known) (old new : Visible) (slots : Slots) (x : Identifier) (i : ℕ) (r : Reference) → Shows code known old slots → IsSlotOf code known x (record { sort = Ref; index = i }) → IsReferred old x r new
+    → Shows code ((x, record { sort = Ref; index = i }) ∷ known) new (record slots { references = slice_set slots.references i r })
+shows_referred code known old new slots x i r shows own set =
+    let below : i < length slots.references = omega (arith, own.within, shows.references) in
+    with_changed code known old new slots (record slots { references = slice_set slots.references i r }) x (record { sort = Ref; index = i }) shows own.own set.others
+    refl (length-set slots.references i r) refl (λ k outside. refl) (λ j other. get-set_other slots.references i j r (other refl)) (λ j other. refl)
+    (record { reference = r; is = set.reference; is_null = set.is_null; no_number = set.number; kind = set.kind; there = get-set_same slots.references i r below })
+
+pub shows_field_set : (code : Listing) (known : Known) (old new : Visible) (slots : Slots) (x : Identifier) (i : ℕ) (f : Option source.FieldId) → Shows code known old slots → IsSlotOf code known x (record { sort = FieldId; index = i }) → IsFieldSet old x f new
+    → Shows code ((x, record { sort = FieldId; index = i }) ∷ known) new (record slots { fields = slice_set slots.fields i f })
+shows_field_set code known old new slots x i f shows own set =
+    let below : i < length slots.fields = omega (arith, own.within, shows.fields) in
+    with_changed code known old new slots (record slots { fields = slice_set slots.fields i f }) x (record { sort = FieldId; index = i }) shows own.own set.others
+    refl refl (length-set slots.fields i f) (λ k outside. refl) (λ j other. refl) (λ j other. get-set_other slots.fields i j f (other refl))
+    (record { field = f; is = set.field; is_null = set.is_null; no_number = set.number; kind = set.kind; there = get-set_same slots.fields i f below })
 
 -- ---- a variable is made NULL
 
-pub shows_nulled : (code : Listing) (known : Known) (old new : Visible) (slots : Slots) (x : Identifier) (kind : Sort) (i : ℕ) (variable : NullableVariable) → Shows code known old slots → IsSlotOf code known x (record { sort = kind; index = i }) → nullable_of kind i ≡ Some variable → IsNulled old x new
-    → Shows code ((x, record { sort = kind; index = i }) ∷ known) new (with_null variable slots)
-shows_nulled code known old new slots x Ref i variable shows own same set =
+-- the kind of a local reference or a field ID
+abbrev pub KindFits : Sort → Option VariableKind → Type 0
+KindFits Ref kind = kind ≡ Some ReferenceKind
+KindFits FieldId kind = kind ≡ Some FieldKind
+KindFits s kind = Unit {0}
+
+pub shows_nulled : (code : Listing) (known : Known) (old new : Visible) (slots : Slots) (x : Identifier) (s : Sort) (kind : Option VariableKind) (i : ℕ) (variable : NullableVariable) → Shows code known old slots → IsSlotOf code known x (record { sort = s; index = i }) → nullable_of s i ≡ Some variable
+    → KindFits s kind → IsNulled old kind x new → Shows code ((x, record { sort = s; index = i }) ∷ known) new (with_null variable slots)
+shows_nulled code known old new slots x Ref kind i variable shows own same e set =
     let is : nullable.Local i ≡ variable = cc in
-    let below : i < length slots.references = omega (arith, own.within, shows.references) in
     subst (λ v. Shows code ((x, record { sort = Ref; index = i }) ∷ known) new (with_null v slots)) is
-    (with_changed code known old new slots (record slots { references = slice_set slots.references i None }) x (record { sort = Ref; index = i }) shows own.own set.others
-    refl (length-set slots.references i None) (λ k outside. refl) (λ j other. get-set_other slots.references i j None (other refl))
-    (record { reference = None; is = set.reference; is_null = set.is_null; no_number = set.number; there = get-set_same slots.references i None below }))
-shows_nulled code known old new slots x Global i variable shows own same set =
+    (shows_referred code known old new slots x i None shows own (record { number = set.number; is_null = set.is_null; reference = set.reference; kind = set.same_kind ∙ e; others = set.others }))
+shows_nulled code known old new slots x Global kind i variable shows own same e set =
     let is : nullable.Static i ≡ variable = cc in
     subst (λ v. Shows code ((x, record { sort = Global; index = i }) ∷ known) new (with_null v slots)) is
-    (with_changed code known old new slots slots x (record { sort = Global; index = i }) shows own.own set.others refl refl (λ k outside. refl) (λ j other. refl) (record { is_null = set.is_null; reference = set.reference }))
-shows_nulled code known old new slots x FieldId i variable shows own same set =
+    (with_changed code known old new slots slots x (record { sort = Global; index = i }) shows own.own set.others refl refl refl (λ k outside. refl) (λ j other. refl) (λ j other. refl) (record { is_null = set.is_null; reference = set.reference }))
+shows_nulled code known old new slots x FieldId kind i variable shows own same e set =
     let is : nullable.FieldId i ≡ variable = cc in
     subst (λ v. Shows code ((x, record { sort = FieldId; index = i }) ∷ known) new (with_null v slots)) is
-    (with_changed code known old new slots slots x (record { sort = FieldId; index = i }) shows own.own set.others refl refl (λ k outside. refl) (λ j other. refl) set.is_null)
-shows_nulled code known old new slots x (Buffer t writable) i variable shows own same set =
+    (shows_field_set code known old new slots x i None shows own (record { number = set.number; is_null = set.is_null; field = set.field; kind = set.same_kind ∙ e; others = set.others }))
+shows_nulled code known old new slots x (Buffer t writable) kind i variable shows own same e set =
     let is : nullable.Buffer i ≡ variable = cc in
     subst (λ v. Shows code ((x, record { sort = Buffer t writable; index = i }) ∷ known) new (with_null v slots)) is
-    (with_changed code known old new slots slots x (record { sort = Buffer t writable; index = i }) shows own.own set.others refl refl (λ k outside. refl) (λ j other. refl) set.is_null)
-shows_nulled code known old new slots x kind i variable shows own same set = absurd (cc)
+    (with_changed code known old new slots slots x (record { sort = Buffer t writable; index = i }) shows own.own set.others refl refl refl (λ k outside. refl) (λ j other. refl) (λ j other. refl) set.is_null)
+shows_nulled code known old new slots x s kind i variable shows own same e set = absurd (cc)
 
 -- ---- a local array
 
@@ -197,9 +224,9 @@ pub shows_made : (code : Listing) (known : Known) (old new : Visible) (slots : S
 shows_made code known old new slots t x size start shows own keeps made =
     let inside : start + size ≤ length slots.numbers = omega (arith, own.within.2, shows.numbers) in
     with_changed code known old new slots (record slots { numbers = cleared (record { start = start; len = size }) slots.numbers }) x (record { sort = Array t size; index = start }) shows own.own made.others
-    keeps refl
+    keeps refl refl
     (λ k outside. cleared_outside t size start k slots.numbers inside outside (nat_lt k start) refl)
-    (λ i other. refl)
+    (λ i other. refl) (λ i other. refl)
     (record {
       few = own.within.1;
       array_type = made.array_type;
@@ -227,9 +254,9 @@ shows_element_set code known old new slots t x size start index z word shows at 
     let inside : start + index < length slots.numbers = omega (arith, own.within.2, shows.numbers, below) in
     fewer_shown code known ((x, record { sort = Array t size; index = start }) ∷ known) new (record slots { numbers = slice_set slots.numbers (start + index) word }) (known_among x (record { sort = Array t size; index = start }) known at)
     (with_changed code known old new slots (record slots { numbers = slice_set slots.numbers (start + index) word }) x (record { sort = Array t size; index = start }) shows own.own set.others
-    (length-set slots.numbers (start + index) word) refl
+    (length-set slots.numbers (start + index) word) refl refl
     (λ k outside. get-set_other slots.numbers (start + index) k word (λ e. outside (omega (arith, e), omega (arith, e, below))))
-    (λ i other. refl)
+    (λ i other. refl) (λ i other. refl)
     (record {
       few = array.few;
       array_type = set.array_type ∙ array.array_type;

@@ -1,24 +1,24 @@
 -- A statement that is sorted fits.
-use Rattle.std.proofs.Common.{◌≡◌, ℕ, ◌<◌, ◌≤◌, ◌⊎◌, inl, inr, Bool, true, false, not, ◌&&◌, ◌||◌, ◌==◌, List, [], ◌∷◌, map, flat_map, length, nat_le, Option, Some, None, is_some, refl, sym, ap, ◌∙◌, subst, arith, eqb-true, leb-true}
+use Rattle.std.proofs.Common.{◌≡◌, ℕ, ◌<◌, ◌≤◌, ◌⊎◌, inl, inr, Bool, true, false, not, ◌&&◌, ◌||◌, ◌==◌, List, [], ◌∷◌, ◌++◌, map, flat_map, length, nat_le, Option, Some, None, is_some, refl, sym, ap, ◌∙◌, subst, arith, eqb-true, leb-true}
 use Rattle.std.specs.List.{list_all, AllZip}
 use Rattle.base.specs.Bytes.{Identifier, lookup}
 use Rattle.base.specs.Element.{ElementType}
 use Rattle.base.specs.Options.{some_passes}
 use Rattle.syntax.specs.Limits.{height, highest, numbers_in_range}
-use Rattle.syntax.specs.Parts.{call_of_right_side, right_side_expressions, test_expressions, names_in}
+use Rattle.syntax.specs.Parts.{call_of_right_side, argument_expressions, call_expressions, right_side_expressions, test_expressions, names_in}
 use Rattle.syntax.specs.Tree as tree
 use Rattle.syntax.specs.Tree.{ResultType, Void, IntResult, ReferenceResult, Expr, Argument, Call, RightSide, FromExpr, FromCall, Test, TestExpr, TestCall, Stmt}
-use Rattle.jni.specs.Prototype.{ParameterKind, Nullable, NonNull, ClassObject, ObjectArray, StringObject, NumberArray, LocalVariable, StaticVariable, TextBytes, Mode, IsCopy, function_named, prototype}
-use Rattle.types.specs.Sorts.{Sort, Word, Jint, Flag, Truth, Ref, Global, FieldId, Buffer, Array, sort_in, sort_of, is_word, is_jint, is_flag, is_truth, is_index, has_elements, is_null, is_ref, is_reference, name_sort, text_fits, address_fits, argument_fits, arguments_fit, call_arguments_fit}
-use Rattle.types.specs.SortRules.{call_fits, may_be_tested, value_sets, right_side_sets, buffer_begins, test_fits, return_fits, has_wrong_count, copies_reference}
+use Rattle.jni.specs.Prototype.{ParameterKind, Nullable, NonNull, ClassObject, ObjectArray, StringObject, NumberArray, LocalVariable, StaticVariable, FieldID, IntNumber, TextBytes, ArrayVariable, BufferVariable, Mode, IsCopy, ResultKind, NewLocal, GivesFlag, GivesInt, GivesField, GivesNothing, function_named, prototype}
+use Rattle.types.specs.Sorts.{Sort, Word, Jint, Flag, Truth, Ref, Global, FieldId, Buffer, Array, sort_in, sort_of, is_word, is_jint, is_flag, is_truth, is_index, has_elements, is_null, is_ref, is_field, is_reference, name_sort, text_fits, address_fits, argument_fits, arguments_fit, call_arguments_fit}
+use Rattle.types.specs.SortRules.{result_fits, is_push, call_fits, may_be_tested, value_sets, right_side_sets, buffer_begins, test_fits, return_fits, has_wrong_count, copies_reference}
 use Rattle.source.specs.Term as term
 use Rattle.source.specs.Term.{Term, Read, term_of}
 use Rattle.regions.specs.RegionStates.{RegionState}
 use Rattle.code_generator.specs.Layout.{Slot, Known}
-use Rattle.lower.specs.Fits.{IsArray, IsIndexSort, NumberFits, IsReferenceKind, ReferenceFits, ArgumentFits, CallFits, ValueFits, RightFits, TestFits, ReturnFits}
+use Rattle.lower.specs.Fits.{IsArray, IsIndexSort, NumberFits, IsReferenceKind, ReferenceFits, FieldFits, ArgumentFits, CallFits, ResultFits, CallGives, ValueFits, RightFits, TestFits, ReturnFits}
 use Rattle.lower.proofs.SortFacts.{scope_of, slot_of_name, HasNoTruth, IsNoBuffer, IsFine, elements, indexed, index_is_value, number_fits}
 use Rattle.lower.proofs.PlaceFacts.{and_left, and_right, not_false}
-use Rattle.lower.proofs.BuiltCalls.{AreReferences, built_call, takes_references, gives_jint, is_not_tested}
+use Rattle.lower.proofs.BuiltCalls.{BuiltCall, built_call, is_passed, is_taken, are_passed, result_taken, is_not_tested}
 use Rattle.lower.proofs.BufferFacts.{IsBuilt, AreFree, AreNotFree, elements_fit, both_not_free}
 
 -- ---- sorts by their tests
@@ -42,6 +42,10 @@ truth_is o h = absurd (cc)
 pub ref_is : (o : Option Sort) → is_ref o ≡ true → o ≡ Some Ref
 ref_is (Some Ref) h = refl
 ref_is o h = absurd (cc)
+
+field_is : (o : Option Sort) → is_field o ≡ true → o ≡ Some FieldId
+field_is (Some FieldId) h = refl
+field_is o h = absurd (cc)
 
 reference_is : (o : Option Sort) → is_reference o ≡ true → (s : Sort) × (o ≡ Some s) × ((s ≡ Ref) ⊎ (s ≡ Global))
 reference_is (Some Ref) h = (Ref, refl, inl refl)
@@ -81,11 +85,21 @@ are_fine (e ∷ rest) known state free uses range low =
 
 -- ---- calls
 
+are_both : (known : Known) (front back : List Expr) → AreFine known (front ++ back) → AreFine known front × AreFine known back
+are_both known [] back h = (tt, h)
+are_both known (e ∷ front) back h = let both = are_both known front back h.1 in ((h.0, both.0), both.1)
+
+-- the expressions that are arguments of a call, where there is one
+abbrev pub called_expressions : Option Call → List Expr
+called_expressions None = []
+called_expressions (Some c) = call_expressions c
+
 -- a call, where there is one, is built, with the right arguments
 pub record CallHolds (known : Known) (call : Option Call) : Type 0 where
   pub built : IsBuilt call
   pub arguments : some_passes (λ c. not (call_arguments_fit (scope_of known) c (function_named c.function))) call ≡ false
   pub count : some_passes (λ c. has_wrong_count c (function_named c.function)) call ≡ false
+  pub fine : AreFine known (called_expressions call)
 
 or_first : (a b : Bool) → a ≡ true → (a || b) ≡ true
 or_first true b h = refl
@@ -94,17 +108,6 @@ or_first false b h = absurd (cc)
 or_second : (a b : Bool) → b ≡ true → (a || b) ≡ true
 or_second true b h = refl
 or_second false b h = h
-
--- neither text nor address is a reference
-no_text : (p : ParameterKind) → IsReferenceKind p → text_fits p ≡ true → ⊥
-no_text TextBytes kind h = kind
-no_text Mode kind h = kind
-no_text p kind h = cc
-
-no_address : (known : Known) (p : ParameterKind) (x : Identifier) → IsReferenceKind p → address_fits (scope_of known) p x ≡ true → ⊥
-no_address known IsCopy x kind h = kind
-no_address known Mode x kind h = kind
-no_address known p x kind h = cc
 
 module _ (known : Known) where
   reference_fits : (e : Expr) → (is_null e || is_reference (name_sort (scope_of known) e)) ≡ true → ReferenceFits known e
@@ -126,44 +129,95 @@ module _ (known : Known) where
   value_is_reference StaticVariable e kind h = reference_fits e (or_second (is_null e) _ (or_second (is_ref (name_sort (scope_of known) e)) _ h))
   value_is_reference p e kind h = absurd kind
 
-  one_fits : (p : ParameterKind) (a : Argument) → IsReferenceKind p → argument_fits (scope_of known) p a ≡ true → ArgumentFits known p a
-  one_fits p (tree.Value e) kind h = inr (kind, value_is_reference p e kind h)
-  one_fits p (tree.Text t) kind h = absurd (no_text p kind h)
-  one_fits p (tree.AddressOf x) kind h = absurd (no_address known p x kind h)
+  field_fits : (e : Expr) → (is_null e || is_field (name_sort (scope_of known) e)) ≡ true → FieldFits known e
+  field_fits (tree.Named tree.Null) h = tt
+  field_fits (tree.Variable x) h =
+      let at = slot_of_name x known FieldId (field_is (sort_in (scope_of known) x) h) in
+      (record { sort = FieldId; index = at.0 }, at.1, refl)
+  field_fits e h = absurd (cc)
 
-  all_fit : (parameters : List ParameterKind) (arguments : List Argument) → AreReferences parameters → arguments_fit (scope_of known) parameters arguments ≡ true → length arguments ≡ length parameters → AllZip (ArgumentFits known) parameters arguments
-  all_fit [] [] kinds h count = tt
-  all_fit [] (a ∷ arguments) kinds h count = absurd (omega (arith, count))
-  all_fit (p ∷ parameters) [] kinds h count = absurd (omega (arith, count))
-  all_fit (p ∷ parameters) (a ∷ arguments) kinds h count = (
-    one_fits p a kinds.0 (and_left (argument_fits (scope_of known) p a) (arguments_fit (scope_of known) parameters arguments) h),
-    all_fit parameters arguments kinds.1 (and_right (argument_fits (scope_of known) p a) (arguments_fit (scope_of known) parameters arguments) h) (omega (arith, count)),
-  )
+  -- neither text nor address is anything else
+  text_passed : (p : ParameterKind) → is_passed p ≡ true → text_fits p ≡ true → p ≡ TextBytes
+  text_passed TextBytes passed h = refl
+  text_passed Mode passed h = absurd (cc)
+  text_passed p passed h = absurd (cc)
 
-  pub call_fits_name : (c : Call) → CallHolds known (Some c) → CallFits known c
-  call_fits_name c holds =
-      let is = built_call c (not_false _ holds.built) in
-      let parameters = (prototype is.function).parameters in
-      let arguments : call_arguments_fit (scope_of known) c (Some is.function) ≡ true = sym (ap (call_arguments_fit (scope_of known) c) is.named) ∙ not_false (call_arguments_fit (scope_of known) c (function_named c.function)) holds.arguments in
-      let count : not (length c.arguments == length parameters) ≡ false = sym (ap (has_wrong_count c) is.named) ∙ holds.count in
-      record {
-        function = is.function;
-        named = is.named;
-        built = is.built;
-        arguments = all_fit parameters c.arguments (takes_references is.function is.built) arguments (eqb-true (length c.arguments) (length parameters) (not_false (length c.arguments == length parameters) count));
-      }
-
-  call_gives : (o : Option Sort) (c : Call) → CallHolds known (Some c) → call_fits o (function_named c.function) ≡ true → is_jint o ≡ true
-  call_gives o c holds h =
-      let is = built_call c (not_false _ holds.built) in
-      gives_jint is.function is.built o (sym (ap (call_fits o) is.named) ∙ h)
-
-  same_sort : (a b : Sort) → Some a ≡ Some b → a ≡ b
-  same_sort a b e = cc
-
-  -- ---- right sides
+  no_address : (p : ParameterKind) (x : Identifier) → is_passed p ≡ true → address_fits (scope_of known) p x ≡ true → ⊥
+  no_address IsCopy x passed h = cc
+  no_address Mode x passed h = cc
+  no_address p x passed h = cc
 
   module _ (no_truth : HasNoTruth known) where
+    value_passed : (p : ParameterKind) (e : Expr) → is_passed p ≡ true → IsFine known e → argument_fits (scope_of known) p (tree.Value e) ≡ true → ArgumentFits known p (tree.Value e)
+    value_passed IntNumber e passed fine h = inl (refl, number_fits known e Jint no_truth fine (jint_is (sort_of (scope_of known) e) h) tt)
+    value_passed FieldID e passed fine h = inr (inr (refl, field_fits e h))
+    value_passed TextBytes e passed fine h = absurd (cc)
+    value_passed (ArrayVariable t) e passed fine h = absurd (cc)
+    value_passed (BufferVariable a) e passed fine h = absurd (cc)
+    value_passed Mode e passed fine h = absurd (cc)
+    value_passed IsCopy e passed fine h = absurd (cc)
+    value_passed p e passed fine h = inr (inl (tt, value_is_reference p e tt h))
+
+    one_fits : (p : ParameterKind) (a : Argument) → is_passed p ≡ true → AreFine known (argument_expressions a) → argument_fits (scope_of known) p a ≡ true → ArgumentFits known p a
+    one_fits p (tree.Value e) passed fine h = value_passed p e passed fine.0 h
+    one_fits p (tree.Text t) passed fine h = text_passed p passed h
+    one_fits p (tree.AddressOf x) passed fine h = absurd (no_address p x passed h)
+
+    all_fit : (parameters : List ParameterKind) (arguments : List Argument) → list_all is_passed parameters ≡ true → AreFine known (flat_map argument_expressions arguments) → arguments_fit (scope_of known) parameters arguments ≡ true → length arguments ≡ length parameters → AllZip (ArgumentFits known) parameters arguments
+    all_fit [] [] passed fine h count = tt
+    all_fit [] (a ∷ arguments) passed fine h count = absurd (omega (arith, count))
+    all_fit (p ∷ parameters) [] passed fine h count = absurd (omega (arith, count))
+    all_fit (p ∷ parameters) (a ∷ arguments) passed fine h count =
+        let both = are_both known (argument_expressions a) (flat_map argument_expressions arguments) fine in (
+          one_fits p a (and_left (is_passed p) (list_all is_passed parameters) passed) both.0 (and_left (argument_fits (scope_of known) p a) (arguments_fit (scope_of known) parameters arguments) h),
+          all_fit parameters arguments (and_right (is_passed p) (list_all is_passed parameters) passed) both.1 (and_right (argument_fits (scope_of known) p a) (arguments_fit (scope_of known) parameters arguments) h) (omega (arith, count)),
+        )
+
+    -- a call of a built function
+    fits_with : (c : Call) → CallHolds known (Some c) → (is : BuiltCall c) → (fits : CallFits known c) × (fits.function ≡ is.function)
+    fits_with c holds is =
+        let parameters = (prototype is.function).parameters in
+        let arguments : call_arguments_fit (scope_of known) c (Some is.function) ≡ true = sym (ap (call_arguments_fit (scope_of known) c) is.named) ∙ not_false (call_arguments_fit (scope_of known) c (function_named c.function)) holds.arguments in
+        let count : not (length c.arguments == length parameters) ≡ false = sym (ap (has_wrong_count c) is.named) ∙ holds.count in (
+          record {
+            function = is.function;
+            named = is.named;
+            built = is.built;
+            arguments = all_fit parameters c.arguments (are_passed is.function is.built) holds.fine arguments (eqb-true (length c.arguments) (length parameters) (not_false (length c.arguments == length parameters) count));
+          },
+          refl,
+        )
+
+    pub call_fits_name : (c : Call) → CallHolds known (Some c) → CallFits known c
+    call_fits_name c holds = (fits_with c holds (built_call c (not_false _ holds.built))).0
+
+    -- the sort of what takes a result
+    result_sort : (o : Option Sort) (gives : ResultKind) → is_taken gives ≡ true → result_fits o gives ≡ true → (s : Sort) × (o ≡ Some s) × ResultFits s gives
+    result_sort o GivesInt taken h = (Jint, jint_is o h, refl)
+    result_sort o GivesFlag taken h = (Flag, flag_is o h, refl)
+    result_sort o NewLocal taken h = (Ref, ref_is o h, refl)
+    result_sort o GivesField taken h = (FieldId, field_is o h, refl)
+    result_sort o GivesNothing taken h = absurd (cc)
+    result_sort o gives taken h = absurd (cc)
+
+    call_gives : (o : Option Sort) (c : Call) → CallHolds known (Some c) → call_fits o (function_named c.function) ≡ true → (s : Sort) × (o ≡ Some s) × CallGives known s c
+    call_gives o c holds h =
+        let is = built_call c (not_false _ holds.built) in
+        let fits = fits_with c holds is in
+        let known_fits : call_fits o (Some is.function) ≡ true = sym (ap (call_fits o) is.named) ∙ h in
+        let result = result_sort o (prototype is.function).result (result_taken is.function is.built) (and_right (not (is_push is.function)) (result_fits o (prototype is.function).result) known_fits) in
+        (result.0, result.1, record { fits = fits.0; result = subst (λ f. ResultFits result.0 (prototype f).result) (sym fits.1) result.2 })
+
+    same_sort : (a b : Sort) → Some a ≡ Some b → a ≡ b
+    same_sort a b e = cc
+
+    gives_sort : (s : Sort) (c : Call) → CallHolds known (Some c) → call_fits (Some s) (function_named c.function) ≡ true → CallGives known s c
+    gives_sort s c holds h =
+        let gives = call_gives (Some s) c holds h in
+        subst (λ (t : Sort). CallGives known t c) (sym (same_sort s gives.0 gives.1)) gives.2
+
+    -- ---- right sides
+
     value_fits : (s : Sort) (e : Expr) → IsFine known e → value_sets (scope_of known) (Some s) e ≡ true → copies_reference (scope_of known) (Some s) (Some (FromExpr e)) ≡ false → ValueFits known s e
     value_fits Word e fine h k = number_fits known e Word no_truth fine (word_is (sort_of (scope_of known) e) h) tt
     value_fits Jint e fine h k = number_fits known e Jint no_truth fine (jint_is (sort_of (scope_of known) e) h) tt
@@ -176,16 +230,16 @@ module _ (known : Known) where
     pub right_fits : (s : Sort) (r : RightSide) → AreFine known (right_side_expressions r) → CallHolds known (call_of_right_side (Some r)) → right_side_sets (scope_of known) (Some s) r ≡ true → copies_reference (scope_of known) (Some s) (Some r) ≡ false
         → RightFits known s r
     right_fits s (FromExpr e) fine holds h k = value_fits s e fine.0 h k
-    right_fits s (FromCall c) fine holds h k = (same_sort s Jint (jint_is (Some s) (call_gives (Some s) c holds h)), call_fits_name c holds)
+    right_fits s (FromCall c) fine holds h k = gives_sort s c holds h
 
     pub buffer_fits : (t : ElementType) (w : Bool) (r : RightSide) → CallHolds known (call_of_right_side (Some r)) → buffer_begins (scope_of known) (Buffer t w) r ≡ true → RightFits known (Buffer t w) r
     buffer_fits t w (FromExpr e) holds h = null_is e h
-    buffer_fits t w (FromCall c) holds h = (same_sort (Buffer t w) Jint (jint_is (Some (Buffer t w)) (call_gives (Some (Buffer t w)) c holds h)), call_fits_name c holds)
+    buffer_fits t w (FromCall c) holds h = gives_sort (Buffer t w) c holds h
 
     assigned_sort : (o : Option Sort) (r : RightSide) → CallHolds known (call_of_right_side (Some r)) → right_side_sets (scope_of known) o r ≡ true → (s : Sort) × (o ≡ Some s)
     assigned_sort (Some s) r holds h = (s, refl)
     assigned_sort None (FromExpr e) holds h = absurd (cc)
-    assigned_sort None (FromCall c) holds h = absurd (let e : false ≡ true = call_gives None c holds h in cc)
+    assigned_sort None (FromCall c) holds h = absurd (let gives = call_gives None c holds h in let e : None ≡ Some gives.0 = gives.1 in cc)
 
     pub assigned_fits : (x : Identifier) (r : RightSide) → AreFine known (right_side_expressions r) → CallHolds known (call_of_right_side (Some r)) → right_side_sets (scope_of known) (sort_in (scope_of known) x) r ≡ true
         → copies_reference (scope_of known) (sort_in (scope_of known) x) (Some r) ≡ false → (s : Slot) × (lookup x known ≡ Some s) × RightFits known s.sort r

@@ -19,16 +19,16 @@ use Rattle.code.specs.Effect.{plain_of, cleared}
 use Rattle.code.proofs.Effects.{KeepsSlots, plain_keeps}
 use Rattle.source.specs.Effect.{Effect, goes_on, with_value, effect_of}
 use Rattle.source.specs.Sight.{Sight}
-use Rattle.source.specs.Task.{Task, SetScalar, SetNull, MakeArray, Print, Target, Declared, Assigned, ScalarKind, ReferenceKind, FieldKind, BufferKind}
+use Rattle.source.specs.Task.{Task, SetScalar, SetNull, MakeArray, Print, Target, Declared, Assigned, VariableKind, ScalarKind, ReferenceKind, FieldKind, BufferKind}
 use Rattle.source.specs.Term.{Term, Done, reduce}
 use Rattle.source.specs.Value.{Value, Word, Int, Flag, Truth, Gives}
 use Rattle.code_generator.specs.Layout.{Slot, Known}
 use Rattle.code_generator.specs.Coding.{nullable_of, term_code}
-use Rattle.lower.specs.Slots.{word_of, IsNumberSort, Visible, Slots, ShowsSlot, Shows}
+use Rattle.lower.specs.Slots.{word_of, Visible, Slots, ShowsSlot, Shows}
 use Rattle.lower.specs.Fits.{TermHasSort}
-use Rattle.lower.specs.Stands.{held, IsBegun, HasAt, IsUnderWay, GoesTo, TasksStand, StandsFor, task_returns}
-use Rattle.lower.specs.Does.{AtEnd, Works, CanBeNull, DoesEffect}
-use Rattle.lower.proofs.SlotLaws.{fewer_shown, number_below, shows_set, shows_nulled, shows_made}
+use Rattle.lower.specs.Stands.{held, IsBegun, HasAt, IsUnderWay, kind_of_sort, GoesTo, TasksStand, StandsFor, task_returns}
+use Rattle.lower.specs.Does.{AtEnd, Works, CanBeNull, kind_of_target, DoesEffect}
+use Rattle.lower.proofs.SlotLaws.{fewer_shown, number_below, shows_set, KindFits, shows_nulled, shows_made}
 use Rattle.lower.proofs.CodePlaces.{has_back}
 use Rattle.lower.proofs.TermSteps.{IsOpen, LeadsOver, TermGoes, TermTraps, steps_term}
 
@@ -154,23 +154,38 @@ module _ (code : Listing) (known : Known) (place : ℕ) (stack : List ℕ) (slot
   shown_null : (x : Identifier) (s : Slot) (kind : Sort) (variable : NullableVariable) → nullable_of kind s.index ≡ Some variable → ShowsSlot visible x slots s kind → (null : Bool) × (visible.sight.is_null x ≡ Gives null)
   shown_null x s Ref variable e h = (is_none h.reference, h.is_null)
   shown_null x s Global variable e h = (true, h.is_null)
-  shown_null x s FieldId variable e h = (true, h)
+  shown_null x s FieldId variable e h = (is_none h.field, h.is_null)
   shown_null x s (Buffer t writable) variable e h = (true, h)
   shown_null x s kind variable e h = absurd (cc)
 
-  no_number : (kind : Sort) (i : ℕ) (variable : NullableVariable) → nullable_of kind i ≡ Some variable → IsNumberSort kind → ⊥
-  no_number sort.Word i variable e n = cc
-  no_number Jint i variable e n = cc
-  no_number sort.Flag i variable e n = cc
-  no_number kind i variable e n = n
+  -- a variable that can be NULL is declared as no number
+  no_scalar : (s : Sort) (i : ℕ) (variable : NullableVariable) → nullable_of s i ≡ Some variable → kind_of_sort s ≡ Some ScalarKind → ⊥
+  no_scalar sort.Word i variable e h = cc
+  no_scalar s i variable e h = cc
 
   can_be_null : (target : Target) (s : Slot) (variable : NullableVariable) → nullable_of s.sort s.index ≡ Some variable → GoesTo known s target → CanBeNull code known place stack slots visible target
-  can_be_null (Declared ScalarKind x) s variable e h = no_number s.sort s.index variable e h
+  can_be_null (Declared ScalarKind x) s variable e h = no_scalar s.sort s.index variable e h
   can_be_null (Declared ReferenceKind x) s variable e h = tt
   can_be_null (Declared FieldKind x) s variable e h = tt
   can_be_null (Declared (BufferKind t) x) s variable e h = tt
   can_be_null (Assigned x) s variable e h = shown_null x s s.sort variable e (shows.each x s h)
   can_be_null target s variable e h = absurd h
+
+  -- the variable is of its slot's kind
+  declared_kind : (s : Sort) (kind : VariableKind) → kind_of_sort s ≡ Some kind → KindFits s (Some kind)
+  declared_kind Ref kind h = sym h
+  declared_kind FieldId kind h = sym h
+  declared_kind s kind h = tt
+
+  shown_kind : (x : Identifier) (s : Slot) (t : Sort) → ShowsSlot visible x slots s t → KindFits t (visible.kind x)
+  shown_kind x s Ref h = h.kind
+  shown_kind x s FieldId h = h.kind
+  shown_kind x s t h = tt
+
+  kind_fits : (target : Target) (s : Slot) → GoesTo known s target → KindFits s.sort (kind_of_target code known place stack slots visible target)
+  kind_fits (Declared kind x) s h = declared_kind s.sort kind h
+  kind_fits (Assigned x) s h = shown_kind x s s.sort (shows.each x s h)
+  kind_fits target s h = absurd h
 
   pub null_step : (target : Target) (rest : List Task) → StandsFor code known place stack (SetNull target ∷ rest) → DoesEffect code known place stack slots visible rest (effect_of visible.sight (SetNull target))
   null_step target rest h =
@@ -183,7 +198,7 @@ module _ (code : Listing) (known : Known) (place : ℕ) (stack : List ℕ) (slot
         variable = d.variable;
         at = d.at;
         names = d.further.0;
-        shows = λ new set. fewer_shown code d.further.0 ((d.name, d.slot) ∷ known) new _ d.further.1 (shows_nulled code known visible new slots d.name d.slot.sort d.slot.index d.variable shows d.own d.nullable set);
+        shows = λ new set. fewer_shown code d.further.0 ((d.name, d.slot) ∷ known) new _ d.further.1 (shows_nulled code known visible new slots d.name d.slot.sort (kind_of_target code known place stack slots visible target) d.slot.index d.variable shows d.own d.nullable (kind_fits target d.slot d.takes) set);
         stands = record { stand = d.further.2; returns = h.returns };
       }
 

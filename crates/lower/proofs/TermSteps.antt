@@ -513,7 +513,7 @@ module _ (known : Known) (line : ℕ) (slots : Slots) (visible : Visible) where
   shows_null : (x : Identifier) (s : Slot) (kind : Sort) → IsNullable kind → ShowsSlot visible x slots s kind → ShowsNull x kind s.index
   shows_null x s Ref n h = record { null = is_none h.reference; is = h.is_null; variable = nullable.Local s.index; same = refl; holds = ap (option_map is_none) h.there }
   shows_null x s Global n h = record { null = true; is = h.is_null; variable = nullable.Static s.index; same = refl; holds = refl }
-  shows_null x s FieldId n h = record { null = true; is = h; variable = nullable.FieldId s.index; same = refl; holds = refl }
+  shows_null x s FieldId n h = record { null = is_none h.field; is = h.is_null; variable = nullable.FieldId s.index; same = refl; holds = ap (option_map is_none) h.there }
   shows_null x s (Buffer t writable) n h = record { null = true; is = h; variable = nullable.Buffer s.index; same = refl; holds = refl }
   shows_null x s kind n h = absurd n
 
@@ -533,7 +533,7 @@ module _ (known : Known) (line : ℕ) (slots : Slots) (visible : Visible) where
       gives_value (IsNull false x) (Truth (not n.null)) s (instr.TestNull n.variable false) (ap (null_code false) at ∙ ap (test_of false) n.same) (ap (λ o. done (outcome_map (λ b. Truth (not b)) o)) n.is)
       (λ stack. (n.null, n.holds, refl, ap (λ (w : ℕ). w ∷ stack) (other_truth n.null))) e
 
-  read_step : (x : Identifier) (s : Slot) → lookup x known ≡ Some s → ShowsNumber (visible.sight.number x) slots.numbers s → StepsTerm (Read x) s.sort
+  read_step : (x : Identifier) (s : Slot) → lookup x known ≡ Some s → ShowsNumber visible x slots.numbers s → StepsTerm (Read x) s.sort
   read_step x s at h =
       gives_value (Read x) h.value s.sort (instr.Load s.index) (ap (of_slot load_code) at) (ap done h.is) (λ stack. ap (option_map (λ (n : ℕ). (plain.Next, n ∷ stack, slots.numbers))) h.word) h.sort
 
@@ -564,7 +564,7 @@ module _ (known : Known) (line : ℕ) (slots : Slots) (visible : Visible) where
   AllShown = (x : Identifier) (s : Slot) → lookup x known ≡ Some s → ShowsSlot visible x slots s s.sort
 
   -- a slot of a number sort shows a number
-  pub shows_number : (x : Identifier) (s : Slot) (kind : Sort) → IsNumberSort kind → ShowsSlot visible x slots s kind → ShowsNumber (visible.sight.number x) slots.numbers s
+  pub shows_number : (x : Identifier) (s : Slot) (kind : Sort) → IsNumberSort kind → ShowsSlot visible x slots s kind → ShowsNumber visible x slots.numbers s
   shows_number x s sort.Word kind h = h
   shows_number x s Jint kind h = h
   shows_number x s sort.Flag kind h = h

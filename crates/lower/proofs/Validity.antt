@@ -14,7 +14,7 @@ use Rattle.types.specs.SortRules.{variable_sort}
 use Rattle.base.specs.Element.{JChar}
 use Rattle.code.specs.declared.instr.Target.{Target}
 use Rattle.code.specs.declared.instr.Target.TheVariants as destination
-use Rattle.jni.specs.Prototype.{function_named, ParameterKind, IntNumber, prototype}
+use Rattle.jni.specs.Prototype.{function_named, ParameterKind, FieldID, IntNumber, prototype}
 use Rattle.code.specs.declared.instr.Instr.{Instr}
 use Rattle.code.specs.declared.instr.Instr.TheVariants as instr
 use Rattle.code.specs.Depth.{depth_after, words_taken}
@@ -22,7 +22,8 @@ use Rattle.code.proofs.Pieces.{IsPiece, piece_none, piece_append, piece_one, pie
 use Rattle.source.specs.Term as term
 use Rattle.source.specs.Term.{Term, Done, Read, IsNull, Prefix, And, Or, Binary, term_of}
 use Rattle.code_generator.specs.Layout.{Slot, Known, Layout, new_slot, closed, layout_after, block_layout}
-use Rattle.code_generator.specs.Coding.{nullable_of, test_of, null_code, element_of, element_code, write_code, of_slot, load_code, prefix_code, operator_code, is_signed, skip_code, term_code, expr_code, named_call_code, value_code, right_code, assign_code, returned_code, return_code, test_code, ways_code, if_code, stmt_code, block_code, argument_code, arguments_code, operand_code, operand_of, reference_operand}
+use Rattle.code_generator.specs.Coding.{nullable_of, test_of, null_code, element_of, element_code, write_code, of_slot, load_code, prefix_code, operator_code, is_signed, skip_code, term_code, expr_code, named_call_code, value_code, right_code, assign_code, returned_code, return_code, test_code, ways_code, if_code, stmt_code, block_code, argument_code, arguments_code, operand_code, operand_of, variable_operand, arguments_texts, result_target}
+use Rattle.lower.proofs.ArgumentKinds.{by_argument}
 use Rattle.lower.specs.Fits.{IsNullable, TermHasSort, IsUntouched, term_height, NumberFits, ValueFits, RightFits, TestFits, ReturnFits, StmtFits, BlockFits, CallFits, IsReferenceKind, ArgumentFits}
 use Rattle.lower.proofs.Bodies.{value_is}
 
@@ -131,9 +132,10 @@ taken_slot : (o : Option Slot) (operands : List Where) → words_taken (operand_
 taken_slot None operands = refl
 taken_slot (Some s) operands = by_sort s.sort s.index
   where
-    by_sort : (s : Sort) (i : ℕ) → words_taken (reference_operand s i ∷ operands) ≡ words_taken operands
+    by_sort : (s : Sort) (i : ℕ) → words_taken (variable_operand s i ∷ operands) ≡ words_taken operands
     by_sort Ref i = refl
     by_sort Global i = refl
+    by_sort FieldId i = refl
     by_sort s i = refl
 
 few_parameters : (f : JniFunction) → length (prototype f).parameters ≤ 4
@@ -150,12 +152,12 @@ no_number known line IntNumber parameters e d kind = absurd kind
 no_number known line p parameters e d kind = (piece_none d, refl)
 
 argument_piece : (known : Known) (line : ℕ) (p : ParameterKind) (parameters : List ParameterKind) (a : Argument) (d : ℕ) → ArgumentFits known p a → d ≤ 31 → (m : ℕ) × IsPiece (argument_code known line (p, a)) d m × (m + numbers_among parameters ≡ d + numbers_among (p ∷ parameters))
-argument_piece known line p parameters (tree.Value e) d (inl h) few =
-    subst (λ (q : ParameterKind). (m : ℕ) × IsPiece (argument_code known line (q, tree.Value e)) d m × (m + numbers_among parameters ≡ d + numbers_among (q ∷ parameters))) (sym h.0) (suc d, number_piece known line (term_of e) Jint d h.1 few, omega arith)
-argument_piece known line p parameters (tree.Value e) d (inr h) few =
-    let none = no_number known line p parameters e d h.0 in
-    (d, none.0, ap (λ n. d + n) (sym none.1))
-argument_piece known line p parameters a d h few = absurd h
+argument_piece known line p parameters a d h few =
+    by_argument known (λ p a. (m : ℕ) × IsPiece (argument_code known line (p, a)) d m × (m + numbers_among parameters ≡ d + numbers_among (p ∷ parameters)))
+    (λ e number. (suc d, number_piece known line (term_of e) Jint d number few, omega arith))
+    (λ p e kind reference. let none = no_number known line p parameters e d kind in (d, none.0, ap (λ n. d + n) (sym none.1)))
+    (λ e field. (d, piece_none d, refl))
+    (λ bytes. (d, piece_none d, refl)) p a h
 
 arguments_piece : (known : Known) (line : ℕ) (parameters : List ParameterKind) (arguments : List Argument) (d : ℕ) → AllZip (ArgumentFits known) parameters arguments → d + length parameters ≤ 31
     → IsPiece (arguments_code known line (zip parameters arguments)) d (d + numbers_among parameters)
@@ -174,29 +176,35 @@ taken_reference known IntNumber parameters e operands kind = absurd kind
 taken_reference known p parameters (tree.Variable x) operands kind = (taken_slot (lookup x known) operands, refl)
 taken_reference known p parameters e operands kind = (refl, refl)
 
+taken_field : (known : Known) (e : Expr) (operands : List Where) → words_taken (operand_code known (FieldID, tree.Value e) ∷ operands) ≡ words_taken operands
+taken_field known (tree.Variable x) operands = taken_slot (lookup x known) operands
+taken_field known e operands = refl
+
 words_are : (known : Known) (parameters : List ParameterKind) (arguments : List Argument) → AllZip (ArgumentFits known) parameters arguments → words_taken (map (operand_code known) (zip parameters arguments)) ≡ numbers_among parameters
 words_are known [] [] h = refl
 words_are known [] (a ∷ arguments) h = absurd h
 words_are known (p ∷ parameters) [] h = absurd h
-words_are known (p ∷ parameters) (tree.Value e ∷ arguments) (inl h, more) =
-    subst (λ (q : ParameterKind). words_taken (operand_code known (q, tree.Value e) ∷ map (operand_code known) (zip parameters arguments)) ≡ numbers_among (q ∷ parameters)) (sym h.0) (ap (λ n. suc n) (words_are known parameters arguments more))
-words_are known (p ∷ parameters) (tree.Value e ∷ arguments) (inr h, more) =
-    let both = taken_reference known p parameters e (map (operand_code known) (zip parameters arguments)) h.0 in
-    both.0 ∙ words_are known parameters arguments more ∙ sym both.1
-words_are known (p ∷ parameters) (a ∷ arguments) h = absurd h.0
+words_are known (p ∷ parameters) (a ∷ arguments) h =
+    let others = map (operand_code known) (zip parameters arguments) in
+    let more = words_are known parameters arguments h.1 in
+    by_argument known (λ p a. words_taken (operand_code known (p, a) ∷ others) ≡ numbers_among (p ∷ parameters))
+    (λ e number. ap (λ n. suc n) more)
+    (λ p e kind reference. let both = taken_reference known p parameters e others kind in both.0 ∙ more ∙ sym both.1)
+    (λ e field. taken_field known e others ∙ more)
+    (λ bytes. more) p a h.0
 
 -- no function has more than four parameters
-call_instr : (line : ℕ) (target : Target) (f : JniFunction) (operands : List Where) (n : ℕ) → words_taken operands ≡ n → IsPiece (instr.Call (record { line = line; target = target; function = f; operands = operands }) ∷ []) n 0
-call_instr line target f operands n same = piece_one (instr.Call _) n 0 (rw (same, le-leb n n (omega arith)) (ap (λ (m : ℕ). Some m) (let e : n - n ≡ 0 = omega arith in e))) tt
+call_instr : (line : ℕ) (target : Target) (f : JniFunction) (operands : List Where) (texts : List (List ℕ)) (n : ℕ) → words_taken operands ≡ n → IsPiece (instr.Call (record { line = line; target = target; function = f; operands = operands; texts = texts }) ∷ []) n 0
+call_instr line target f operands texts n same = piece_one (instr.Call _) n 0 (rw (same, le-leb n n (omega arith)) (ap (λ (m : ℕ). Some m) (let e : n - n ≡ 0 = omega arith in e))) tt
 
 call_piece : (known : Known) (line : ℕ) (target : Target) (c : Call) → CallFits known c → IsPiece (named_call_code known line target (function_named c.function) c.arguments) 0 0
 call_piece known line target c fits =
     let parameters = (prototype fits.function).parameters in
     let few = few_parameters fits.function in
     let given = zip parameters c.arguments in
-    let call = instr.Call (record { line = line; target = target; function = fits.function; operands = map (operand_code known) given }) ∷ [] in
+    let call = instr.Call (record { line = line; target = target; function = fits.function; operands = map (operand_code known) given; texts = arguments_texts c.arguments }) ∷ [] in
     subst (λ o. IsPiece (named_call_code known line target o c.arguments) 0 0) (sym fits.named)
-    (piece_append (arguments_code known line given) call 0 (0 + numbers_among parameters) 0 (arguments_piece known line parameters c.arguments 0 fits.arguments (omega (arith, few))) (call_instr line target fits.function (map (operand_code known) given) (0 + numbers_among parameters) (words_are known parameters c.arguments fits.arguments ∙ sym (let e : 0 + numbers_among parameters ≡ numbers_among parameters = omega arith in e))))
+    (piece_append (arguments_code known line given) call 0 (0 + numbers_among parameters) 0 (arguments_piece known line parameters c.arguments 0 fits.arguments (omega (arith, few))) (call_instr line target fits.function (map (operand_code known) given) (arguments_texts c.arguments) (0 + numbers_among parameters) (words_are known parameters c.arguments fits.arguments ∙ sym (let e : 0 + numbers_among parameters ≡ numbers_among parameters = omega arith in e))))
 
 value_piece : (known : Known) (line : ℕ) (kind : Sort) (i : ℕ) (e : Expr) → ValueFits known kind e → IsPiece (value_code known line (record { sort = kind; index = i }) e) 0 0
 value_piece known line sort.Word i e fits = subst (λ c. IsPiece c 0 0) (sym (value_is known line (record { sort = sort.Word; index = i }) e sort.Word fits)) (taken_piece known line (term_of e) sort.Word (instr.Store i) fits (piece_one (instr.Store i) 1 0 refl tt))
@@ -211,7 +219,7 @@ value_piece known line (Array t n) i e fits = absurd fits
 
 right_piece : (known : Known) (line : ℕ) (s : Slot) (r : RightSide) → RightFits known s.sort r → IsPiece (right_code known line s r) 0 0
 right_piece known line s (FromExpr e) fits = value_piece known line s.sort s.index e fits
-right_piece known line s (FromCall c) fits = call_piece known line (destination.Number s.index) c fits.1
+right_piece known line s (FromCall c) fits = call_piece known line (result_target s.sort s.index) c fits.fits
 
 return_piece : (known : Known) (line : ℕ) (t : Term) → ReturnFits known t → IsPiece (return_code known line t) 0 0
 return_piece known line (term.Named tree.Null) fits = piece_one (instr.ReturnReference _) 0 0 refl tt

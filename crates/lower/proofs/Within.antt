@@ -13,7 +13,7 @@ use Rattle.types.specs.SortRules.{variable_sort}
 use Rattle.base.specs.Element.{JChar}
 use Rattle.code.specs.declared.instr.Target.{Target}
 use Rattle.code.specs.declared.instr.Target.TheVariants as destination
-use Rattle.jni.specs.Prototype.{ParameterKind, function_named, prototype, IntNumber}
+use Rattle.jni.specs.Prototype.{ParameterKind, FieldID, IntNumber, ResultKind, NewLocal, GivesFlag, GivesInt, GivesField, function_named, prototype}
 use Rattle.code.specs.declared.instr.Instr.{Instr}
 use Rattle.code.specs.declared.instr.Instr.TheVariants as instr
 use Rattle.code.specs.declared.slots.SlotCounts.{SlotCounts}
@@ -21,8 +21,9 @@ use Rattle.code.specs.Depth.{operand_within, within_slots, target_within}
 use Rattle.source.specs.Term as term
 use Rattle.source.specs.Term.{Term, Done, Read, IsNull, Prefix, And, Or, Binary, term_of}
 use Rattle.code_generator.specs.Layout.{Slot, Known, Layout, next_index, slots_after, new_slot, closed, layout_after, block_layout}
-use Rattle.code_generator.specs.Coding.{nullable_of, test_of, null_code, element_code, write_code, of_slot, load_code, prefix_code, operator_code, is_signed, skip_code, term_code, expr_code, reference_operand, operand_of, operand_code, named_call_code, value_code, right_code, assign_code, returned_code, return_code, test_code, ways_code, turn_code, if_code, stmt_code, block_code, argument_code, arguments_code}
-use Rattle.lower.specs.Fits.{IsNullable, TermHasSort, NumberFits, IndexWithin, IsLaidOut, HasRoomFor, ArgumentFits, ValueFits, RightFits, TestFits, ReturnFits, StmtFits, BlockFits, CallFits, IsReferenceKind, ReferenceFits}
+use Rattle.code_generator.specs.Coding.{nullable_of, test_of, null_code, element_code, write_code, of_slot, load_code, prefix_code, operator_code, is_signed, skip_code, term_code, expr_code, variable_operand, operand_of, arguments_texts, result_target, operand_code, named_call_code, value_code, right_code, assign_code, returned_code, return_code, test_code, ways_code, turn_code, if_code, stmt_code, block_code, argument_code, arguments_code}
+use Rattle.lower.proofs.ArgumentKinds.{by_argument}
+use Rattle.lower.specs.Fits.{IsNullable, TermHasSort, NumberFits, IndexWithin, IsLaidOut, HasRoomFor, ArgumentFits, ValueFits, RightFits, TestFits, ReturnFits, StmtFits, BlockFits, CallFits, IsReferenceKind, ReferenceFits, FieldFits, ResultFits}
 use Rattle.lower.specs.Slots.{IsNumberSort}
 use Rattle.lower.proofs.Bodies.{value_is}
 use Rattle.lower.proofs.Layouts.{SizeFits, index_more, room_before, room_at_least, declared_slot, laid_after, laid_more, variable_size, block_grows, stmt_grows}
@@ -119,14 +120,14 @@ module _ (slots : SlotCounts) where
 
   -- ---- statements
 
-  slot_within : (s : Sort) (i : ℕ) → IndexWithin slots s i → operand_within slots (reference_operand s i) ≡ true
+  slot_within : (s : Sort) (i : ℕ) → IndexWithin slots s i → operand_within slots (variable_operand s i) ≡ true
   slot_within sort.Word i h = refl
   slot_within Jint i h = refl
   slot_within sort.Flag i h = refl
   slot_within sort.Truth i h = refl
   slot_within Ref i h = lt-ltb i slots.references h
   slot_within Global i h = lt-ltb i slots.statics h
-  slot_within FieldId i h = refl
+  slot_within FieldId i h = lt-ltb i slots.field_ids h
   slot_within (Buffer t w) i h = refl
   slot_within (Array t n) i h = refl
 
@@ -136,19 +137,20 @@ module _ (slots : SlotCounts) where
   reference_within known p (tree.Variable x) kind all h = ap (λ (o : Option Slot). operand_within slots (operand_of o)) h.1 ∙ slot_within h.0.sort h.0.index (all x h.0 h.1)
   reference_within known p e kind all h = absurd h
 
+  field_within : (known : Known) (e : Expr) → AllThere known → FieldFits known e → operand_within slots (operand_code known (FieldID, tree.Value e)) ≡ true
+  field_within known (tree.Named tree.Null) all h = refl
+  field_within known (tree.Variable x) all h = ap (λ (o : Option Slot). operand_within slots (operand_of o)) h.1 ∙ slot_within h.0.sort h.0.index (all x h.0 h.1)
+  field_within known e all h = absurd h
+
   no_code : (known : Known) (line : ℕ) (p : ParameterKind) (e : Expr) → IsReferenceKind p → argument_code known line (p, tree.Value e) ≡ []
   no_code known line IntNumber e kind = absurd kind
   no_code known line p e kind = refl
 
   operand_fits : (known : Known) (p : ParameterKind) (a : Argument) → AllThere known → ArgumentFits known p a → operand_within slots (operand_code known (p, a)) ≡ true
-  operand_fits known p (tree.Value e) all (inl h) = subst (λ (q : ParameterKind). operand_within slots (operand_code known (q, tree.Value e)) ≡ true) (sym h.0) refl
-  operand_fits known p (tree.Value e) all (inr h) = reference_within known p e h.0 all h.1
-  operand_fits known p a all h = absurd h
+  operand_fits known p a all h = by_argument known (λ p a. operand_within slots (operand_code known (p, a)) ≡ true) (λ e number. refl) (λ p e kind reference. reference_within known p e kind all reference) (λ e field. field_within known e all field) (λ bytes. refl) p a h
 
   argument_within : (known : Known) (line : ℕ) (p : ParameterKind) (a : Argument) → AllThere known → ArgumentFits known p a → AllWithin (argument_code known line (p, a))
-  argument_within known line p (tree.Value e) all (inl h) = subst (λ (q : ParameterKind). AllWithin (argument_code known line (q, tree.Value e))) (sym h.0) (term_within known line (term_of e) Jint all h.1.sort)
-  argument_within known line p (tree.Value e) all (inr h) = subst AllWithin (sym (no_code known line p e h.0)) refl
-  argument_within known line p a all h = absurd h
+  argument_within known line p a all h = by_argument known (λ p a. AllWithin (argument_code known line (p, a))) (λ e number. term_within known line (term_of e) Jint all number.sort) (λ p e kind reference. subst AllWithin (sym (no_code known line p e kind)) refl) (λ e field. refl) (λ bytes. refl) p a h
 
   operands_fit : (known : Known) (parameters : List ParameterKind) (arguments : List Argument) → AllThere known → AllZip (ArgumentFits known) parameters arguments → list_all (operand_within slots) (map (operand_code known) (zip parameters arguments)) ≡ true
   operands_fit known [] [] all h = refl
@@ -166,7 +168,7 @@ module _ (slots : SlotCounts) where
   call_within : (known : Known) (line : ℕ) (target : Target) (c : Call) → target_within slots target ≡ true → AllThere known → CallFits known c → AllWithin (named_call_code known line target (function_named c.function) c.arguments)
   call_within known line target c there all h =
       let parameters = (prototype h.function).parameters in
-      let call : AllWithin (instr.Call (record { line = line; target = target; function = h.function; operands = map (operand_code known) (zip parameters c.arguments) }) ∷ []) = rw (there, operands_fit known parameters c.arguments all h.arguments) refl in
+      let call : AllWithin (instr.Call (record { line = line; target = target; function = h.function; operands = map (operand_code known) (zip parameters c.arguments); texts = arguments_texts c.arguments }) ∷ []) = rw (there, operands_fit known parameters c.arguments all h.arguments) refl in
       subst (λ o. AllWithin (named_call_code known line target o c.arguments)) (sym h.named) (both_within (arguments_code known line (zip parameters c.arguments)) _ (arguments_within known line parameters c.arguments all h.arguments) call)
 
   value_within : (known : Known) (line : ℕ) (kind : Sort) (i : ℕ) (e : Expr) → AllThere known → IndexWithin slots kind i → ValueFits known kind e → AllWithin (value_code known line (record { sort = kind; index = i }) e)
@@ -180,9 +182,17 @@ module _ (slots : SlotCounts) where
   value_within known line (Buffer t w) i e all there fits = subst (λ (d : Expr). AllWithin (value_code known line (record { sort = Buffer t w; index = i }) d)) (sym fits) (rw (lt-ltb i slots.buffers there) refl)
   value_within known line (Array t n) i e all there fits = absurd fits
 
+  -- the slot of a result is there
+  target_there : (gives : ResultKind) (s : Sort) (i : ℕ) → ResultFits s gives → IndexWithin slots s i → target_within slots (result_target s i) ≡ true
+  target_there GivesInt s i e there = subst (λ (k : Sort). IndexWithin slots k i → target_within slots (result_target k i) ≡ true) (sym e) (λ h. lt-ltb i slots.numbers h) there
+  target_there GivesFlag s i e there = subst (λ (k : Sort). IndexWithin slots k i → target_within slots (result_target k i) ≡ true) (sym e) (λ h. lt-ltb i slots.numbers h) there
+  target_there NewLocal s i e there = subst (λ (k : Sort). IndexWithin slots k i → target_within slots (result_target k i) ≡ true) (sym e) (λ h. lt-ltb i slots.references h) there
+  target_there GivesField s i e there = subst (λ (k : Sort). IndexWithin slots k i → target_within slots (result_target k i) ≡ true) (sym e) (λ h. lt-ltb i slots.field_ids h) there
+  target_there gives s i e there = absurd e
+
   right_within : (known : Known) (line : ℕ) (s : Slot) (r : RightSide) → AllThere known → IndexWithin slots s.sort s.index → RightFits known s.sort r → AllWithin (right_code known line s r)
   right_within known line s (FromExpr e) all there fits = value_within known line s.sort s.index e all there fits
-  right_within known line s (FromCall c) all there fits = call_within known line (destination.Number s.index) c (lt-ltb s.index slots.numbers (subst (λ (k : Sort). IndexWithin slots k s.index) fits.0 there)) all fits.1
+  right_within known line s (FromCall c) all there fits = call_within known line (result_target s.sort s.index) c (target_there (prototype fits.fits.function).result s.sort s.index fits.result there) all fits.fits
 
   return_within : (known : Known) (line : ℕ) (t : Term) → AllThere known → ReturnFits known t → AllWithin (return_code known line t)
   return_within known line (term.Named tree.Null) all fits = refl

@@ -1,5 +1,5 @@
 -- What the instruction at a place does.
-use Rattle.std.specs.Prelude.{◌≡◌, ℕ, ℤ, ◌+◌, ◌-◌, ◌<◌, ◌≤◌, Bool, true, List, [], ◌∷◌, ◌++◌, length, slice_get, slice_set, Some, FitsSigned}
+use Rattle.std.specs.Prelude.{◌≡◌, ℕ, ℤ, ◌+◌, ◌-◌, ◌<◌, ◌≤◌, ◌⊎◌, Bool, true, List, [], ◌∷◌, ◌++◌, length, flat_map, slice_get, slice_set, Option, Some, None, FitsSigned}
 use Rattle.std.specs.Bool.{beq}
 use Rattle.std.specs.List.{AllZip}
 use Rattle.std.specs.Int.{w32, cast_signed}
@@ -7,11 +7,13 @@ use Rattle.base.specs.Bytes.{Identifier, lookup}
 use Rattle.base.specs.Element.{ElementType}
 use Rattle.jni.specs.JniFunction.{JniFunction}
 use Rattle.jni.specs.BuiltFunctions.{is_built_function}
-use Rattle.jni.specs.Prototype.{ParameterKind, IntNumber, prototype}
-use Rattle.types.specs.Sorts.{Ref, Global}
-use Rattle.source.specs.Arguments.{Actual, ReferenceActual, NumberActual}
+use Rattle.jni.specs.Prototype.{ParameterKind, FieldID, IntNumber, TextBytes, ResultKind, NewLocal, GivesField, prototype}
+use Rattle.types.specs.Sorts.{Sort, Ref, Global, FieldId}
+use Rattle.classes.specs.Fields as source
+use Rattle.source.specs.Object.{Reference}
+use Rattle.source.specs.Arguments.{Actual, ReferenceActual, FieldActual, NumberActual, TextActual}
 use Rattle.source.specs.Effect.{Effect, Becomes, Sets, SetsNull, SetsElement, MakesArray, Prints, Calls, Returns, TrapsAt, NoEffect}
-use Rattle.source.specs.Task.{Task, Target, Declared, Assigned, Dropped, ScalarKind}
+use Rattle.source.specs.Task.{Task, Target, Declared, Assigned, Dropped, VariableKind, ScalarKind, ReferenceKind, FieldKind}
 use Rattle.source.specs.Value.{Value, Trap, Int, Gives}
 use Rattle.source.specs.Value as value
 use Rattle.source.specs.Variable.{Empty}
@@ -30,8 +32,9 @@ use Rattle.code.specs.declared.instr.PlainTrap.TheVariants as trap
 use Rattle.code.specs.Depth.{Listing}
 use Rattle.code.specs.Effect.{truth_word, plain_of}
 use Rattle.code_generator.specs.Layout.{Known}
-use Rattle.lower.specs.Slots.{word_of, Visible, Slots, Shows, IsSet, IsNulled, IsMade, IsElementSet, holds_null, with_null}
-use Rattle.lower.specs.Stands.{target_name, StandsFor}
+use Rattle.lower.specs.Slots.{word_of, ValueHasSort, Visible, Slots, Shows, IsSet, IsNulled, IsReferred, IsFieldSet, IsMade, IsElementSet, holds_null, with_null}
+use Rattle.lower.specs.Stands.{target_name, number_sort, StandsFor}
+use Rattle.lower.specs.Fits.{IsReferenceKind}
 
 -- the instructions that leave a function
 abbrev pub IsReturn : Instr → Type 0
@@ -59,12 +62,14 @@ AtEnd P place (plain.Skip n) = P (place + 1 + n)
 AtEnd P place (plain.Back n) = (n ≤ place) × P (place - n)
 AtEnd P place (plain.Trap t line) = ⊥
 
--- an operand is a number exactly where the parameter is one
+-- an operand fits its parameter: a number, a field ID, a text, or a reference; NULL is a reference or a field ID
 abbrev pub OperandFits : ParameterKind → Where → Type 0
-OperandFits IntNumber operand.Number = Unit {0}
-OperandFits IntNumber o = ⊥
-OperandFits p operand.Number = ⊥
-OperandFits p o = Unit {0}
+OperandFits p operand.Number = p ≡ IntNumber
+OperandFits p (operand.FieldId i) = p ≡ FieldID
+OperandFits p operand.Text = p ≡ TextBytes
+OperandFits p operand.Null = IsReferenceKind p ⊎ (p ≡ FieldID)
+OperandFits p (operand.Local i) = IsReferenceKind p
+OperandFits p (operand.Static i) = IsReferenceKind p
 
 -- the word of an argument that is a number
 abbrev pub word_given : Actual → List ℕ
@@ -75,6 +80,15 @@ word_given a = []
 abbrev pub words_given : List Actual → List ℕ
 words_given [] = []
 words_given (a ∷ args) = words_given args ++ word_given a
+
+-- the text of an argument
+abbrev pub text_given : Actual → List (List ℕ)
+text_given (TextActual bytes) = bytes ∷ []
+text_given a = []
+
+-- those of several, in order
+abbrev pub texts_given : List Actual → List (List ℕ)
+texts_given args = flat_map text_given args
 
 -- The place, with these names known, these operands and these slots, where this can be seen.
 module _ (code : Listing) (known : Known) (place : ℕ) (stack : List ℕ) (slots : Slots) (visible : Visible) where
@@ -106,6 +120,12 @@ module _ (code : Listing) (known : Known) (place : ℕ) (stack : List ℕ) (slot
   CanBeNull (Assigned x) = (null : Bool) × (visible.sight.is_null x ≡ Gives null)
   CanBeNull target = ⊥
 
+  -- the kind of the variable that a target is
+  abbrev pub kind_of_target : Target → Option VariableKind
+  kind_of_target (Declared kind x) = Some kind
+  kind_of_target (Assigned x) = visible.kind x
+  kind_of_target target = None
+
   -- it makes a variable NULL, and the next place stands for these tasks
   pub record StoresNull (target : Target) (tasks : List Task) : Type 0 where
     pub empty : stack ≡ []
@@ -115,7 +135,7 @@ module _ (code : Listing) (known : Known) (place : ℕ) (stack : List ℕ) (slot
     pub variable : NullableVariable
     pub at : slice_get code.instrs place ≡ Some (instr.StoreNull variable)
     pub names : Known
-    pub shows : (new : Visible) → IsNulled visible name new → Shows code names new (with_null variable slots)
+    pub shows : (new : Visible) → IsNulled visible (kind_of_target target) name new → Shows code names new (with_null variable slots)
     pub stands : StandsFor code names (place + 1) [] tasks
 
   -- it prints the one word on the stack, which is this number
@@ -126,33 +146,52 @@ module _ (code : Listing) (known : Known) (place : ℕ) (stack : List ℕ) (slot
     pub is : cast_signed w32 word ≡ number
     pub stands : StandsFor code known (place + 1) [] tasks
 
-  -- an argument is NULL, the reference in the slot, or of the static, of a known name, or a `jint`
+  -- an argument is NULL, the reference in the slot, or of the static, of a known name, a `jint`, the field ID in the slot of a
+  -- known name, or a text
   abbrev pub IsOperand : Where → Actual → Type 0
-  IsOperand operand.Null actual = (x : Identifier) × (actual ≡ ReferenceActual x Empty)
+  IsOperand operand.Null actual = ((x : Identifier) × (actual ≡ ReferenceActual x Empty)) ⊎ (actual ≡ FieldActual None)
   IsOperand (operand.Local i) actual =
       (x : Identifier) × (actual ≡ ReferenceActual x (visible.sight.reference x)) × (lookup x known ≡ Some (record { sort = Ref; index = i }))
   IsOperand (operand.Static i) actual =
       (x : Identifier) × (actual ≡ ReferenceActual x (visible.sight.reference x)) × (lookup x known ≡ Some (record { sort = Global; index = i }))
   IsOperand operand.Number actual = (z : ℤ) × (actual ≡ NumberActual z) × FitsSigned w32 z
+  IsOperand (operand.FieldId i) actual =
+      (x : Identifier) × (actual ≡ FieldActual (visible.sight.field x)) × (lookup x known ≡ Some (record { sort = FieldId; index = i }))
+  IsOperand operand.Text actual = (bytes : List ℕ) × (actual ≡ TextActual bytes)
 
-  -- A `jint` that the call gives goes into a slot: then the slots show the variable with it, and the next place stands for
-  -- these tasks.
-  pub record TakesNumber (i : ℕ) (x : Identifier) (tasks : List Task) : Type 0 where
+  -- What the call gives goes into a slot: then the slots show the variable with it, and the next place stands for these tasks.
+  pub record TakesNumber (s : Sort) (i : ℕ) (x : Identifier) (tasks : List Task) : Type 0 where
     pub within : i < length slots.numbers
     pub names : Known
-    pub shows : (z : ℤ) (new : Visible) → FitsSigned w32 z → IsSet visible x (Int z) new → Shows code names new (record slots { numbers = slice_set slots.numbers i (word_of (Int z)) })
+    pub shows : (v : Value) (new : Visible) → ValueHasSort v s → IsSet visible x v new → Shows code names new (record slots { numbers = slice_set slots.numbers i (word_of v) })
     pub stands : StandsFor code names (place + 1) [] tasks
 
-  -- a variable is a number
-  abbrev pub IsNumber : Identifier → Type 0
-  IsNumber x = (v : Value) × (visible.sight.number x ≡ Gives v)
+  -- the same of a reference
+  pub record TakesReference (i : ℕ) (x : Identifier) (tasks : List Task) : Type 0 where
+    pub within : i < length slots.references
+    pub names : Known
+    pub shows : (r : Reference) (new : Visible) → IsReferred visible x r new → Shows code names new (record slots { references = slice_set slots.references i r })
+    pub stands : StandsFor code names (place + 1) [] tasks
 
-  -- where the result of a call goes, and what comes then; a variable that is assigned is a number already
-  abbrev pub TakesResult : Destination → Target → List Task → Type 0
-  TakesResult (destination.Number i) (Declared ScalarKind x) tasks = TakesNumber i x tasks
-  TakesResult (destination.Number i) (Assigned x) tasks = TakesNumber i x tasks × IsNumber x
-  TakesResult destination.Dropped Dropped tasks = StandsFor code known (place + 1) [] tasks
-  TakesResult goes target tasks = ⊥
+  -- the same of a field ID
+  pub record TakesField (i : ℕ) (x : Identifier) (tasks : List Task) : Type 0 where
+    pub within : i < length slots.fields
+    pub names : Known
+    pub shows : (f : Option source.FieldId) (new : Visible) → IsFieldSet visible x f new → Shows code names new (record slots { fields = slice_set slots.fields i f })
+    pub stands : StandsFor code names (place + 1) [] tasks
+
+  -- a new variable of this kind takes what is taken, or one that is of this kind already
+  abbrev pub GoesInto : VariableKind → Target → (Takes : Identifier → Type 0) → Type 0
+  GoesInto kind (Declared declared x) Takes = (declared ≡ kind) × Takes x
+  GoesInto kind (Assigned x) Takes = (visible.kind x ≡ Some kind) × Takes x
+  GoesInto kind target Takes = ⊥
+
+  -- where the result of a call goes, by what the function gives, and what comes then
+  abbrev pub TakesResult : Destination → ResultKind → Target → List Task → Type 0
+  TakesResult (destination.Number i) gives target tasks = (s : Sort) × (number_sort gives ≡ Some s) × GoesInto ScalarKind target (λ x. TakesNumber s i x tasks)
+  TakesResult (destination.Local i) gives target tasks = (gives ≡ NewLocal) × GoesInto ReferenceKind target (λ x. TakesReference i x tasks)
+  TakesResult (destination.FieldId i) gives target tasks = (gives ≡ GivesField) × GoesInto FieldKind target (λ x. TakesField i x tasks)
+  TakesResult destination.Dropped gives target tasks = (target ≡ Dropped) × StandsFor code known (place + 1) [] tasks
 
   -- it calls this function with these arguments
   pub record CallsFunction (line : ℕ) (target : Target) (f : JniFunction) (args : List Actual) (tasks : List Task) : Type 0 where
@@ -162,10 +201,11 @@ module _ (code : Listing) (known : Known) (place : ℕ) (stack : List ℕ) (slot
     pub same_function : call.function ≡ f
     pub built : is_built_function f ≡ true
     pub words : stack ≡ words_given args
+    pub texts : call.texts ≡ texts_given args
     pub count : length args ≡ length (prototype f).parameters
     pub kinds : AllZip OperandFits (prototype f).parameters call.operands
     pub given : AllZip IsOperand call.operands args
-    pub goes : TakesResult call.target target tasks
+    pub goes : TakesResult call.target (prototype f).result target tasks
 
   -- it leaves the function
   pub record LeavesCall : Type 0 where

@@ -7,7 +7,7 @@ use Rattle.syntax.specs.Tree as tree
 use Rattle.syntax.specs.Tree.{LogicalNot, Complement, ToWord, ToInt, Expr, Argument, Call, RightSide, FromExpr, FromCall, Test, TestExpr, TestCall, Stmt, Block, End, Next, Function}
 use Rattle.jni.specs.JniFunction.{JniFunction}
 use Rattle.jni.specs.BuiltFunctions.{is_built_function}
-use Rattle.jni.specs.Prototype.{ParameterKind, Nullable, NonNull, ClassObject, ObjectArray, StringObject, NumberArray, LocalVariable, StaticVariable, IntNumber, function_named, prototype}
+use Rattle.jni.specs.Prototype.{ParameterKind, Nullable, NonNull, ClassObject, ObjectArray, StringObject, NumberArray, LocalVariable, StaticVariable, FieldID, IntNumber, TextBytes, ResultKind, NewLocal, GivesFlag, GivesInt, GivesField, function_named, prototype}
 use Rattle.types.specs.Sorts.{Sort, Word, Jint, Flag, Truth, Ref, Global, FieldId, Buffer, Array, OperatorGroup, Logic, Equality, Order, OnWords, group}
 use Rattle.types.specs.SortRules.{variable_sort}
 use Rattle.code.specs.declared.slots.SlotCounts.{SlotCounts}
@@ -111,6 +111,7 @@ IsPlaceOf s k = (s.index ≤ k) × (k < s.index + width s.sort)
 pub record AreApart (s t : Slot) : Type 0 where
   pub numbers : (k : ℕ) → IsPlaceOf s k → IsPlaceOf t k → ⊥
   pub references : s.sort ≡ Ref → t.sort ≡ Ref → s.index ≢ t.index
+  pub fields : s.sort ≡ FieldId → t.sort ≡ FieldId → s.index ≢ t.index
 
 -- no known name but this has the slot
 abbrev pub IsOwn : Known → Identifier → Slot → Type 0
@@ -153,9 +154,17 @@ IsReferenceKind LocalVariable = Unit {0}
 IsReferenceKind StaticVariable = Unit {0}
 IsReferenceKind p = ⊥
 
--- an argument for a parameter: a number or a reference today
+-- NULL, or the name of a field ID
+abbrev pub FieldFits : Known → Expr → Type 0
+FieldFits known (tree.Named tree.Null) = Unit {0}
+FieldFits known (tree.Variable x) = (s : Slot) × (lookup x known ≡ Some s) × (s.sort ≡ FieldId)
+FieldFits known e = ⊥
+
+-- an argument for a parameter: a number, a reference, a field ID or a text today
 abbrev pub ArgumentFits : Known → ParameterKind → Argument → Type 0
-ArgumentFits known p (tree.Value e) = ((p ≡ IntNumber) × NumberFits known (term_of e) Jint) ⊎ (IsReferenceKind p × ReferenceFits known e)
+ArgumentFits known p (tree.Value e) =
+    ((p ≡ IntNumber) × NumberFits known (term_of e) Jint) ⊎ (IsReferenceKind p × ReferenceFits known e) ⊎ ((p ≡ FieldID) × FieldFits known e)
+ArgumentFits known p (tree.Text bytes) = p ≡ TextBytes
 ArgumentFits known p a = ⊥
 
 -- a call of a function that is built, with an argument for each parameter
@@ -174,10 +183,23 @@ ValueFits known Truth e = ⊥
 ValueFits known (Array t size) e = ⊥
 ValueFits known s e = e ≡ tree.Named tree.Null
 
+-- what a function gives fits a variable of this sort: a number, a local reference or a field ID today
+abbrev pub ResultFits : Sort → ResultKind → Type 0
+ResultFits s GivesInt = s ≡ Jint
+ResultFits s GivesFlag = s ≡ Flag
+ResultFits s NewLocal = s ≡ Ref
+ResultFits s GivesField = s ≡ FieldId
+ResultFits s gives = ⊥
+
+-- a call's result for a variable of this sort
+pub record CallGives (known : Known) (s : Sort) (c : Call) : Type 0 where
+  pub fits : CallFits known c
+  pub result : ResultFits s (prototype fits.function).result
+
 -- a right side for such a variable
 abbrev pub RightFits : Known → Sort → RightSide → Type 0
 RightFits known s (FromExpr e) = ValueFits known s e
-RightFits known s (FromCall c) = (s ≡ Jint) × CallFits known c
+RightFits known s (FromCall c) = CallGives known s c
 
 -- what an `if` tests
 abbrev pub TestFits : Known → Test → Type 0

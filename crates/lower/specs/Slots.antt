@@ -7,11 +7,13 @@ use Rattle.base.specs.Element.{ElementType}
 use Rattle.syntax.specs.Tree.{ParameterType, IntParameter, ReferenceParameter, Parameter}
 use Rattle.types.specs.Sorts.{Sort, Jint, Ref, Global, FieldId, Buffer, Array}
 use Rattle.types.specs.Sorts as sort
+use Rattle.classes.specs.Fields as source
 use Rattle.source.specs.Object.{ObjectValue, Number, Refers, Reference}
 use Rattle.source.specs.Sight.{Sight}
+use Rattle.source.specs.Task.{VariableKind, ScalarKind, ReferenceKind, FieldKind, BufferKind}
 use Rattle.source.specs.Thread.{Shared, Thread, sight_of}
 use Rattle.source.specs.Value.{Value, Word, Int, Flag, Truth, OutOfRange, Outcome, Gives, Traps, Stuck, convert}
-use Rattle.source.specs.Variable.{Variable, LocalArray, Empty, as_static}
+use Rattle.source.specs.Variable.{Variable, Scalar, LocalRef, FieldHandle, Elements, LocalArray, Empty, as_static}
 use Rattle.code.specs.declared.instr.NullableVariable.{NullableVariable}
 use Rattle.code.specs.declared.instr.NullableVariable.TheVariants as nullable
 use Rattle.code.specs.Depth.{Listing}
@@ -43,19 +45,29 @@ IsNumberSort s = ⊥
 
 -- ---- what can be seen
 
--- what can be seen, and the element types of local arrays
+-- what can be seen, the element types of local arrays, and of what kind the other variables are declared
 pub record Visible : Type 0 where
   pub sight : Sight
   pub array_type : Identifier → Option ElementType
+  pub kind : Identifier → Option VariableKind
 
 -- the element type of a local array
 abbrev pub type_of_array : Option Variable → Option ElementType
 type_of_array (Some (LocalArray t zs)) = Some t
 type_of_array v = None
 
+-- the kind of a variable that is no array
+abbrev pub kind_of_variable : Option Variable → Option VariableKind
+kind_of_variable (Some (Scalar v)) = Some ScalarKind
+kind_of_variable (Some (LocalRef level r)) = Some ReferenceKind
+kind_of_variable (Some (FieldHandle f)) = Some FieldKind
+kind_of_variable (Some (Elements t b)) = Some (BufferKind t)
+kind_of_variable (Some (LocalArray t zs)) = None
+kind_of_variable None = None
+
 -- what a thread can see
 abbrev pub visible_to : Shared → Thread → Visible
-visible_to s t = record { sight = sight_of s t; array_type = λ x. type_of_array (lookup x t.variables) }
+visible_to s t = record { sight = sight_of s t; array_type = λ x. type_of_array (lookup x t.variables); kind = λ x. kind_of_variable (lookup x t.variables) }
 
 -- a name shows what it did
 pub record IsAsBefore (old new : Visible) (x : Identifier) : Type 0 where
@@ -63,7 +75,9 @@ pub record IsAsBefore (old new : Visible) (x : Identifier) : Type 0 where
   pub is_null : new.sight.is_null x ≡ old.sight.is_null x
   pub element : (i : ℕ) → new.sight.element x i ≡ old.sight.element x i
   pub reference : new.sight.reference x ≡ old.sight.reference x
+  pub field : new.sight.field x ≡ old.sight.field x
   pub array_type : new.array_type x ≡ old.array_type x
+  pub kind : new.kind x ≡ old.kind x
 
 -- each other name shows what it did
 abbrev pub OthersStay : (old new : Visible) → Identifier → Type 0
@@ -72,13 +86,32 @@ OthersStay old new x = (y : Identifier) → y ≢ x → IsAsBefore old new y
 -- a number variable has this value
 pub record IsSet (old : Visible) (x : Identifier) (v : Value) (new : Visible) : Type 0 where
   pub is : new.sight.number x ≡ Gives v
+  pub kind : new.kind x ≡ Some ScalarKind
   pub others : OthersStay old new x
 
--- a variable that can be NULL is NULL
-pub record IsNulled (old : Visible) (x : Identifier) (new : Visible) : Type 0 where
+-- a variable that can be NULL, declared as of this kind, is NULL
+pub record IsNulled (old : Visible) (kind : Option VariableKind) (x : Identifier) (new : Visible) : Type 0 where
   pub number : new.sight.number x ≡ Stuck
   pub is_null : new.sight.is_null x ≡ Gives true
   pub reference : new.sight.reference x ≡ Empty
+  pub field : new.sight.field x ≡ None
+  pub same_kind : new.kind x ≡ kind
+  pub others : OthersStay old new x
+
+-- a local reference is NULL or refers to this object
+pub record IsReferred (old : Visible) (x : Identifier) (r : Reference) (new : Visible) : Type 0 where
+  pub number : new.sight.number x ≡ Stuck
+  pub is_null : new.sight.is_null x ≡ Gives (is_none r)
+  pub reference : new.sight.reference x ≡ as_static r
+  pub kind : new.kind x ≡ Some ReferenceKind
+  pub others : OthersStay old new x
+
+-- a field ID is NULL or that of this field
+pub record IsFieldSet (old : Visible) (x : Identifier) (f : Option source.FieldId) (new : Visible) : Type 0 where
+  pub number : new.sight.number x ≡ Stuck
+  pub is_null : new.sight.is_null x ≡ Gives (is_none f)
+  pub field : new.sight.field x ≡ f
+  pub kind : new.kind x ≡ Some FieldKind
   pub others : OthersStay old new x
 
 -- a local array has so many zeros
@@ -97,25 +130,37 @@ pub record IsElementSet (old : Visible) (t : ElementType) (x : Identifier) (inde
 
 -- ---- slots
 
--- the words of the number variables and the elements of arrays, and what the local references hold
+-- the words of the number variables and the elements of arrays, what the local references hold, and what the field IDs do
 pub record Slots : Type 0 where
   pub numbers : List ℕ
   pub references : List Reference
+  pub fields : List (Option source.FieldId)
 
 -- a number variable has a value of its sort, whose word is in its slot
-pub record ShowsNumber (given : Outcome Value) (numbers : List ℕ) (s : Slot) : Type 0 where
+pub record ShowsNumber (visible : Visible) (x : Identifier) (numbers : List ℕ) (s : Slot) : Type 0 where
   pub value : Value
-  pub is : given ≡ Gives value
+  pub is : visible.sight.number x ≡ Gives value
+  pub kind : visible.kind x ≡ Some ScalarKind
   pub sort : ValueHasSort value s.sort
   pub word : slice_get numbers s.index ≡ Some (word_of value)
 
 -- what a local reference holds is in its slot
-pub record ShowsReference (sight : Sight) (x : Identifier) (references : List Reference) (i : ℕ) : Type 0 where
+pub record ShowsReference (visible : Visible) (x : Identifier) (references : List Reference) (i : ℕ) : Type 0 where
   pub reference : Reference
-  pub is : sight.reference x ≡ as_static reference
-  pub is_null : sight.is_null x ≡ Gives (is_none reference)
-  pub no_number : sight.number x ≡ Stuck
+  pub is : visible.sight.reference x ≡ as_static reference
+  pub is_null : visible.sight.is_null x ≡ Gives (is_none reference)
+  pub no_number : visible.sight.number x ≡ Stuck
+  pub kind : visible.kind x ≡ Some ReferenceKind
   pub there : slice_get references i ≡ Some reference
+
+-- what a field ID holds is in its slot
+pub record ShowsField (visible : Visible) (x : Identifier) (fields : List (Option source.FieldId)) (i : ℕ) : Type 0 where
+  pub field : Option source.FieldId
+  pub is : visible.sight.field x ≡ field
+  pub is_null : visible.sight.is_null x ≡ Gives (is_none field)
+  pub no_number : visible.sight.number x ≡ Stuck
+  pub kind : visible.kind x ≡ Some FieldKind
+  pub there : slice_get fields i ≡ Some field
 
 -- an element is in its slot, as a `jint`
 pub record ShowsElement (given : Outcome ℤ) (numbers : List ℕ) (i : ℕ) : Type 0 where
@@ -136,15 +181,15 @@ pub record ShowsStatic (sight : Sight) (x : Identifier) : Type 0 where
   pub is_null : sight.is_null x ≡ Gives true
   pub reference : sight.reference x ≡ Empty
 
--- what the slots show of a name with a slot of this sort; field IDs and buffers hold nothing but NULL yet
+-- what the slots show of a name with a slot of this sort; buffers hold nothing but NULL yet
 abbrev pub ShowsSlot : Visible → Identifier → Slots → Slot → Sort → Type 0
-ShowsSlot visible x slots s sort.Word = ShowsNumber (visible.sight.number x) slots.numbers s
-ShowsSlot visible x slots s Jint = ShowsNumber (visible.sight.number x) slots.numbers s
-ShowsSlot visible x slots s sort.Flag = ShowsNumber (visible.sight.number x) slots.numbers s
+ShowsSlot visible x slots s sort.Word = ShowsNumber visible x slots.numbers s
+ShowsSlot visible x slots s Jint = ShowsNumber visible x slots.numbers s
+ShowsSlot visible x slots s sort.Flag = ShowsNumber visible x slots.numbers s
 ShowsSlot visible x slots s sort.Truth = Unit {0}
-ShowsSlot visible x slots s Ref = ShowsReference visible.sight x slots.references s.index
+ShowsSlot visible x slots s Ref = ShowsReference visible x slots.references s.index
 ShowsSlot visible x slots s Global = ShowsStatic visible.sight x
-ShowsSlot visible x slots s FieldId = visible.sight.is_null x ≡ Gives true
+ShowsSlot visible x slots s FieldId = ShowsField visible x slots.fields s.index
 ShowsSlot visible x slots s (Buffer t writable) = visible.sight.is_null x ≡ Gives true
 ShowsSlot visible x slots s (Array t size) = ShowsArray visible x slots.numbers t size s.index
 
@@ -152,18 +197,21 @@ ShowsSlot visible x slots s (Array t size) = ShowsArray visible x slots.numbers 
 pub record Shows (code : Listing) (known : Known) (visible : Visible) (slots : Slots) : Type 0 where
   pub numbers : length slots.numbers ≡ code.slots.numbers
   pub references : length slots.references ≡ code.slots.references
+  pub fields : length slots.fields ≡ code.slots.field_ids
   pub each : (x : Identifier) (s : Slot) → lookup x known ≡ Some s → ShowsSlot visible x slots s s.sort
 
 -- ---- NULL
 
--- whether a variable is NULL; a static, a field ID and a buffer are
+-- whether a variable is NULL; a static and a buffer are
 abbrev pub holds_null : Slots → NullableVariable → Option Bool
 holds_null slots (nullable.Local i) = option_map is_none (slice_get slots.references i)
+holds_null slots (nullable.FieldId i) = option_map is_none (slice_get slots.fields i)
 holds_null slots v = Some true
 
 -- the slots with NULL in a variable
 abbrev pub with_null : NullableVariable → Slots → Slots
 with_null (nullable.Local i) slots = record slots { references = slice_set slots.references i None }
+with_null (nullable.FieldId i) slots = record slots { fields = slice_set slots.fields i None }
 with_null v slots = slots
 
 -- ---- the entry of a function
@@ -197,6 +245,7 @@ pub record EntrySlots (code : Listing) (class : ℕ) (arguments : List ObjectVal
   pub numbers : length slots.numbers ≡ code.slots.numbers
   pub more_numbers : List ℕ
   pub words : slots.numbers ≡ filter_map argument_word arguments ++ more_numbers
+  pub fields : length slots.fields ≡ code.slots.field_ids
   pub references : length slots.references ≡ code.slots.references
   pub more_references : List Reference
   pub given : slots.references ≡ Some class ∷ filter_map argument_reference arguments ++ more_references

@@ -7,9 +7,10 @@ use Rattle.syntax.specs.Tree as tree
 use Rattle.syntax.specs.Tree.{BitOr, Expr, Stmt, Block, End, Next}
 use Rattle.jni.specs.JniFunction.{JniFunction}
 use Rattle.jni.specs.BuiltFunctions.{is_built_function}
-use Rattle.jni.specs.Prototype.{ParameterKind, IntNumber, prototype}
-use Rattle.types.specs.Sorts.{Sort, Jint, Truth, Ref, Global, Array}
-use Rattle.source.specs.Task.{Task, SetScalar, SetElement, SetNull, MakeArray, Invoke, Print, Branch, EndIf, Loop, EndTurn, Return, ReturnValue, Impossible, Target, Declared, Assigned, Tested, Dropped, ScalarKind, Operand, NumberOperand, Given}
+use Rattle.jni.specs.Prototype.{ParameterKind, FieldID, IntNumber, TextBytes, ResultKind, NewLocal, GivesFlag, GivesInt, GivesField, prototype}
+use Rattle.types.specs.Sorts.{Sort, Jint, Truth, Ref, Global, FieldId, Buffer, Array}
+use Rattle.types.specs.Sorts as sort
+use Rattle.source.specs.Task.{Task, SetScalar, SetElement, SetNull, MakeArray, Invoke, Print, Branch, EndIf, Loop, EndTurn, Return, ReturnValue, Impossible, Target, Declared, Assigned, Tested, Dropped, VariableKind, ScalarKind, ReferenceKind, FieldKind, BufferKind, Operand, NumberOperand, Given}
 use Rattle.source.specs.Term as term
 use Rattle.source.specs.Term.{Term, Done, Read, And, Or, Prefix, Binary, term_of}
 use Rattle.code.specs.Call.{Call}
@@ -114,10 +115,19 @@ target_name (Declared kind x) = Some x
 target_name (Assigned x) = Some x
 target_name target = None
 
+-- the kind of a variable of this sort; statics and arrays have none
+abbrev pub kind_of_sort : Sort → Option VariableKind
+kind_of_sort sort.Word = Some ScalarKind
+kind_of_sort Jint = Some ScalarKind
+kind_of_sort sort.Flag = Some ScalarKind
+kind_of_sort Ref = Some ReferenceKind
+kind_of_sort FieldId = Some FieldKind
+kind_of_sort (Buffer t writable) = Some (BufferKind t)
+kind_of_sort s = None
+
 -- the variable is a new one, of the slot's kind, or the one that has the slot
 abbrev pub GoesTo : Known → Slot → Target → Type 0
-GoesTo known s (Declared ScalarKind x) = IsNumberSort s.sort
-GoesTo known s (Declared kind x) = Unit {0}
+GoesTo known s (Declared kind x) = kind_of_sort s.sort ≡ Some kind
 GoesTo known s (Assigned x) = lookup x known ≡ Some s
 GoesTo known s target = ⊥
 
@@ -149,6 +159,11 @@ pub record ReferenceStands (p : ParameterKind) (given : Operand) (e : Expr) : Ty
   pub kind : IsReferenceKind p
   pub is : given ≡ Given (tree.Value e)
 
+-- NULL for a reference or a field ID
+pub record NullStands (p : ParameterKind) (given : Operand) : Type 0 where
+  pub kind : IsReferenceKind p ⊎ (p ≡ FieldID)
+  pub is : given ≡ Given (tree.Value (tree.Named tree.Null))
+
 -- an argument that is a number, on the way to its value or with it
 pub record NumberIsUnderWay (known : Known) (p : ParameterKind) (given : Operand) : Type 0 where
   pub kind : p ≡ IntNumber
@@ -156,14 +171,23 @@ pub record NumberIsUnderWay (known : Known) (p : ParameterKind) (given : Operand
   pub is : given ≡ NumberOperand term
   pub sort : TermHasSort known term Jint
 
+-- an argument that is a text
+pub record TextStands (p : ParameterKind) (given : Operand) : Type 0 where
+  pub kind : p ≡ TextBytes
+  pub bytes : List ℕ
+  pub is : given ≡ Given (tree.Text bytes)
+
 -- where the instruction finds an argument, for a parameter of this kind
 abbrev pub OperandStands : Known → Where → ParameterKind × Operand → Type 0
-OperandStands known operand.Null (p, given) = ReferenceStands p given (tree.Named tree.Null)
+OperandStands known operand.Null (p, given) = NullStands p given
 OperandStands known (operand.Local i) (p, given) =
     (x : Identifier) × ReferenceStands p given (tree.Variable x) × (lookup x known ≡ Some (record { sort = Ref; index = i }))
 OperandStands known (operand.Static i) (p, given) =
     (x : Identifier) × ReferenceStands p given (tree.Variable x) × (lookup x known ≡ Some (record { sort = Global; index = i }))
 OperandStands known operand.Number (p, given) = NumberIsUnderWay known p given
+OperandStands known (operand.FieldId i) (p, given) =
+    (x : Identifier) × (p ≡ FieldID) × (given ≡ Given (tree.Value (tree.Variable x))) × (lookup x known ≡ Some (record { sort = FieldId; index = i }))
+OperandStands known operand.Text (p, given) = TextStands p given
 
 -- the instructions of an argument that is still to be worked out
 abbrev pub operand_rest : Known → (line : ℕ) → Operand → List Instr
@@ -197,17 +221,39 @@ AreBegun (NumberOperand (Done v) ∷ operands) = AreBegun operands
 AreBegun (NumberOperand t ∷ operands) = IsBegun t × AreUntouched operands
 AreBegun (Given a ∷ operands) = AreBegun operands
 
--- a variable takes a call's result, and then this comes
-pub record ResultStands (code : Listing) (known : Known) (after : After) (place i : ℕ) (x : Identifier) : Type 0 where
-  pub own : IsSlotOf code known x (record { sort = Jint; index = i })
-  pub further : ComesAfter after place ((x, record { sort = Jint; index = i }) ∷ known)
+-- the text of an argument
+abbrev pub operand_text : Operand → List (List ℕ)
+operand_text (Given (tree.Text bytes)) = bytes ∷ []
+operand_text o = []
+
+-- those of several
+abbrev pub operands_texts : List Operand → List (List ℕ)
+operands_texts operands = flat_map operand_text operands
+
+-- a variable of a sort takes a call's result into its slot, and then this comes
+pub record ResultStands (code : Listing) (known : Known) (after : After) (place : ℕ) (s : Slot) (x : Identifier) : Type 0 where
+  pub own : IsSlotOf code known x s
+  pub further : ComesAfter after place ((x, s) ∷ known)
+
+-- a new variable takes it, or the one that has the slot
+abbrev pub ResultGoes : Listing → Known → After → (place : ℕ) → Slot → VariableKind → Target → Type 0
+ResultGoes code known after place s kind (Declared declared x) = (declared ≡ kind) × ResultStands code known after place s x
+ResultGoes code known after place s kind (Assigned x) = ResultStands code known after place s x × (lookup x known ≡ Some s)
+ResultGoes code known after place s kind target = ⊥
+
+-- the sort of a variable that takes what a function gives as a number
+abbrev pub number_sort : ResultKind → Option Sort
+number_sort GivesInt = Some Jint
+number_sort GivesFlag = Some sort.Flag
+number_sort kind = None
 
 -- where a call's result goes, as an instruction has it, and then what comes
-abbrev pub TargetStands : Listing → Known → After → (place : ℕ) → Destination → Target → Type 0
-TargetStands code known after place (destination.Number i) (Declared ScalarKind x) = ResultStands code known after place i x
-TargetStands code known after place (destination.Number i) (Assigned x) = ResultStands code known after place i x × (lookup x known ≡ Some (record { sort = Jint; index = i }))
-TargetStands code known after place destination.Dropped Dropped = after place known
-TargetStands code known after place goes target = ⊥
+abbrev pub TargetStands : Listing → Known → After → (place : ℕ) → Destination → ResultKind → Target → Type 0
+TargetStands code known after place (destination.Number i) gives target =
+    (s : Sort) × (number_sort gives ≡ Some s) × ResultGoes code known after place (record { sort = s; index = i }) ScalarKind target
+TargetStands code known after place (destination.Local i) gives target = (gives ≡ NewLocal) × ResultGoes code known after place (record { sort = Ref; index = i }) ReferenceKind target
+TargetStands code known after place (destination.FieldId i) gives target = (gives ≡ GivesField) × ResultGoes code known after place (record { sort = FieldId; index = i }) FieldKind target
+TargetStands code known after place destination.Dropped gives target = (target ≡ Dropped) × after place known
 
 -- what is left to be worked out for a call is at the place, and then its instruction, and then what comes
 pub record InvokeStands (code : Listing) (known : Known) (place : ℕ) (stack : List ℕ) (after : After) (line : ℕ) (target : Target) (f : JniFunction) (operands : List Operand) : Type 0 where
@@ -218,9 +264,10 @@ pub record InvokeStands (code : Listing) (known : Known) (place : ℕ) (stack : 
   pub built : is_built_function f ≡ true
   pub begun : AreBegun operands
   pub held : stack ≡ operands_held operands
+  pub texts : call.texts ≡ operands_texts operands
   pub count : length operands ≡ length (prototype f).parameters
   pub operands_stand : AllZip (OperandStands known) call.operands (zip (prototype f).parameters operands)
-  pub goes : TargetStands code known after (place + length (operands_rest known line operands) + 1) call.target target
+  pub goes : TargetStands code known after (place + length (operands_rest known line operands) + 1) call.target (prototype f).result target
 
 -- ---- blocks
 

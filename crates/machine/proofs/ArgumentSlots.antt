@@ -51,6 +51,10 @@ given_at test xs i x h e = passes_at test (map object_value_view xs) i (object_v
 pub counted_from_1 : (made n : ℕ) → (nat_lt 0 n && nat_le n made) ≡ true → 0 < n
 counted_from_1 made n h = grind (arith, nat_tests, (both_true (nat_lt 0 n) (nat_le n made) h).0)
 
+-- and there are no more
+pub counted_to : (made n : ℕ) → (nat_lt 0 n && nat_le n made) ≡ true → n ≤ made
+counted_to made n h = grind (arith, nat_tests, (both_true (nat_lt 0 n) (nat_le n made) h).1)
+
 -- the word of a number in range
 pub passed_word : (z : ℤ) → is_in_range JInt z ≡ true → cast_unsigned w32 (to_z w32 (cast_unsigned w32 z)) ≡ cast_unsigned w32 z
 passed_word (pos n) h =

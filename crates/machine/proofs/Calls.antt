@@ -27,7 +27,12 @@ use Rattle.lower.specs.Stands.{StandsFor}
 use Rattle.lower.specs.Does.{DoesEffect, GoesOn, Writes, StoresNull, PrintsTop, CallsFunction, LeavesCall, Stops, Works, IsReturn}
 use Rattle.lower.specs.Lowered.{Lowered, IsLowered, IsCodeOf, AreCodesOf}
 use Rattle.machine.specs.declared.thread.Activation.{Activation}
-use Rattle.machine.specs.Agrees.{CallStands, ReferencesAgree}
+use Rattle.classes.specs.Class.{Classes}
+use Rattle.classes.specs.Fields.{FieldId}
+use Rattle.class_table.specs.declared.class.FieldHandle.{FieldHandle}
+use Rattle.source.specs.Thread.{Frame}
+use Rattle.machine.specs.Frames.{Frame as FrameInMemory}
+use Rattle.machine.specs.Agrees.{CallStands, ReferencesAgree, FieldsAgree, FramesAgree}
 
 -- ---- a function's code
 
@@ -41,8 +46,8 @@ code_lowered statics (FunctionItem f ∷ items) (c ∷ codes) zero code h e = (s
 code_lowered statics (FunctionItem f ∷ items) (c ∷ codes) (suc n) code h e = code_lowered statics items codes n code h.1 e
 
 -- the slots of a call, with the names of the objects that they refer to
-abbrev pub slots_of : Activation → List Reference → Slots
-slots_of call references = record { numbers = call.numbers.items; references = references }
+abbrev pub slots_of : Activation → List Reference → List (Option FieldId) → Slots
+slots_of call references fields = record { numbers = call.numbers.items; references = references; fields = fields }
 
 -- ---- effects
 
@@ -110,22 +115,25 @@ plain_else i test store put call return return_jint return_reference = tt
 
 -- ---- what is known of the instruction at a call's place
 
-pub record Ready (p : Lowered) (space : Space) (call : Activation) (code : Listing) (visible : Visible) (task : Task) (rest : List Task) : Type 0 where
+pub record Ready (p : Lowered) (classes : Classes) (space : Space) (call : Activation) (code : Listing) (visible : Visible) (frames : List Frame) (task : Task) (rest : List Task) : Type 0 where
   pub of_function : slice_get p.codes call.function ≡ Some code
   pub valid : IsValid code
   pub known : Known
   pub references : List Reference
   pub agree : ReferencesAgree space call.references.items references
-  pub shows : Shows code known visible (slots_of call references)
+  pub fields : List (Option FieldId)
+  pub fields_agree : FieldsAgree classes call.fields.items fields
+  pub frames_agree : FramesAgree space call.frames.items frames
+  pub shows : Shows code known visible (slots_of call references fields)
   pub stands : StandsFor code known call.place call.stack (task ∷ rest)
-  pub does : DoesEffect code known call.place call.stack (slots_of call references) visible rest (effect_of visible.sight task)
+  pub does : DoesEffect code known call.place call.stack (slots_of call references fields) visible rest (effect_of visible.sight task)
   pub depth : depth_at code.instrs call.place ≡ Some (length call.stack)
 
-pub ready : (p : Lowered) (space : Space) (call : Activation) (code : Listing) (visible : Visible) (task : Task) (rest : List Task) → IsLowered p → slice_get p.codes call.function ≡ Some code → CallStands p space call visible (task ∷ rest) → Ready p space call code visible task rest
-ready p space call code visible task rest lowered at h =
+pub ready : (p : Lowered) (classes : Classes) (space : Space) (call : Activation) (code : Listing) (visible : Visible) (frames : List Frame) (task : Task) (rest : List Task) → IsLowered p → slice_get p.codes call.function ≡ Some code → CallStands p classes space call visible frames (task ∷ rest) → Ready p classes space call code visible frames task rest
+ready p classes space call code visible frames task rest lowered at h =
     let same : h.code ≡ code = cc (h.of_function) in
     let found = code_lowered [] (unit_tree p.unit).items p.codes call.function code lowered at in
-    let shows = subst (λ (k : Listing). Shows k h.known visible (slots_of call h.references)) same h.shows in
+    let shows = subst (λ (k : Listing). Shows k h.known visible (slots_of call h.references h.fields)) same h.shows in
     let stands = subst (λ (k : Listing). StandsFor k h.known call.place call.stack (task ∷ rest)) same h.stands in
     record {
       of_function = at;
@@ -133,9 +141,12 @@ ready p space call code visible task rest lowered at h =
       known = h.known;
       references = h.references;
       agree = h.agree;
+      fields = h.fields;
+      fields_agree = h.fields_agree;
+      frames_agree = h.frames_agree;
       shows = shows;
       stands = stands;
-      does = found.2.steps visible h.known (slots_of call h.references) call.place call.stack task rest shows stands;
+      does = found.2.steps visible h.known (slots_of call h.references h.fields) call.place call.stack task rest shows stands;
       depth = subst (λ (k : Listing). depth_at k.instrs call.place ≡ Some (length call.stack)) same h.depth;
     }
 
@@ -146,13 +157,22 @@ agree_count space [] (r ∷ rs) h = absurd h
 agree_count space (a ∷ addresses) [] h = absurd h
 agree_count space (a ∷ addresses) (r ∷ rs) h = ap suc (agree_count space addresses rs h.1)
 
--- the call stands at a place, with these operands, number slots and references
-pub record HasMoved (call after : Activation) (to : ℕ) (words slots : List ℕ) (addresses : List (Option ℕ)) : Type 0 where
+-- as many field IDs as handles
+pub fields_count : (classes : Classes) (handles : List (Option FieldHandle)) (fields : List (Option FieldId)) → FieldsAgree classes handles fields → length fields ≡ length handles
+fields_count classes [] [] h = refl
+fields_count classes [] (f ∷ fields) h = absurd h
+fields_count classes (a ∷ handles) [] h = absurd h
+fields_count classes (a ∷ handles) (f ∷ fields) h = ap suc (fields_count classes handles fields h.1)
+
+-- the call stands at a place, with these operands, number slots, references and field IDs, and its frames as they were
+pub record HasMoved (call after : Activation) (to : ℕ) (words slots : List ℕ) (addresses : List (Option ℕ)) (handles : List (Option FieldHandle)) : Type 0 where
   pub function : after.function ≡ call.function
   pub place : after.place ≡ to
   pub stack : after.stack ≡ words
   pub numbers : after.numbers.items ≡ slots
   pub references : after.references.items ≡ addresses
+  pub fields : after.fields.items ≡ handles
+  pub frames : after.frames.items ≡ call.frames.items
 
 some_is : {A : Type 0} (o : Option A) (x : A) → o ≡ Some x → IsSome o
 some_is None x h = absurd (cc)
@@ -162,27 +182,31 @@ some_has : {A : Type 0} (o : Option A) → IsSome o → (x : A) × (o ≡ Some x
 some_has None h = absurd (cc)
 some_has (Some x) h = (x, refl)
 
-module _ (p : Lowered) (space : Space) (call : Activation) (code : Listing) (visible : Visible) (task : Task) (rest : List Task) (r : Ready p space call code visible task rest) where
+module _ (p : Lowered) (classes : Classes) (space : Space) (call : Activation) (code : Listing) (visible : Visible) (frames : List Frame) (task : Task) (rest : List Task) (r : Ready p classes space call code visible frames task rest) where
   -- there is an instruction
   pub here : (i : Instr) × (slice_get code.instrs call.place ≡ Some i)
   here =
-      does_cases code r.known call.place call.stack (slots_of call r.references) visible rest (λ e. (i : Instr) × (slice_get code.instrs call.place ≡ Some i))
+      does_cases code r.known call.place call.stack (slots_of call r.references r.fields) visible rest (λ e. (i : Instr) × (slice_get code.instrs call.place ≡ Some i))
       (λ tasks g. (g.here, g.at)) (λ x v g. (g.here, g.at)) (λ target g. (instr.StoreNull g.variable, g.at)) (λ x i z t a g. (g.here, g.at)) (λ t x n g. (g.here, g.at))
       (λ z g. (instr.PutJint, g.at)) (λ line target f args g. (instr.Call g.call, g.at)) (λ g. (g.here, g.at)) (λ trap line g. (g.here, g.at))
       (effect_of visible.sight task) r.does
 
   -- the call stands for tasks at another place
-  pub stands_at : (after : Activation) (to : ℕ) (stack numbers : List ℕ) (addresses : List (Option ℕ)) (references : List Reference) (names : Known) (visible' : Visible) (tasks : List Task) → depth_at code.instrs to ≡ Some (length stack)
-      → HasMoved call after to stack numbers addresses → ReferencesAgree space addresses references → StandsFor code names to stack tasks → Shows code names visible' (record { numbers = numbers; references = references }) → CallStands p space after visible' tasks
-  stands_at after to stack numbers addresses references names visible' tasks d m agree stands shows = record {
+  pub stands_at : (after : Activation) (to : ℕ) (stack numbers : List ℕ) (addresses : List (Option ℕ)) (references : List Reference) (handles : List (Option FieldHandle)) (fields : List (Option FieldId)) (names : Known) (visible' : Visible) (tasks : List Task)
+      → depth_at code.instrs to ≡ Some (length stack) → HasMoved call after to stack numbers addresses handles → ReferencesAgree space addresses references → FieldsAgree classes handles fields → StandsFor code names to stack tasks
+      → Shows code names visible' (record { numbers = numbers; references = references; fields = fields }) → CallStands p classes space after visible' frames tasks
+  stands_at after to stack numbers addresses references handles fields names visible' tasks d m agree handled stands shows = record {
     code = code;
     of_function = ap (slice_get p.codes) m.function ∙ r.of_function;
     known = names;
     stands = subst (λ (n : ℕ). StandsFor code names n after.stack tasks) (sym m.place) (subst (λ (s : List ℕ). StandsFor code names to s tasks) (sym m.stack) stands);
     references = references;
     agree = subst (λ (l : List (Option ℕ)). ReferencesAgree space l references) (sym m.references) agree;
-    shows = subst (λ (ns : List ℕ). Shows code names visible' (record { numbers = ns; references = references })) (sym m.numbers) shows;
+    fields = fields;
+    fields_agree = subst (λ (l : List (Option FieldHandle)). FieldsAgree classes l fields) (sym m.fields) handled;
+    shows = subst (λ (ns : List ℕ). Shows code names visible' (record { numbers = ns; references = references; fields = fields })) (sym m.numbers) shows;
     depth = ap (depth_at code.instrs) m.place ∙ d ∙ ap (λ (s : List ℕ). Some (length s)) (sym m.stack);
+    frames_agree = subst (λ (l : List FrameInMemory). FramesAgree space l frames) (sym m.frames) r.frames_agree;
   }
 
   module _ (i : Instr) (at : slice_get code.instrs call.place ≡ Some i) where

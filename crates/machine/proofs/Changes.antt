@@ -7,12 +7,15 @@ use Rattle.std.proofs.lemmas.Option.{slice_get_past, slice_get_within}
 use Rattle.std.proofs.lemmas.Slice.Eq.{bytes_eq-Decides}
 use Rattle.base.specs.Bytes.{Identifier, ByName, lookup}
 use Rattle.base.specs.Element.{ElementType}
-use Rattle.source.specs.Sight.{scalar, holds_null, elements_of, in_range, held_reference}
+use Rattle.classes.specs.Fields.{FieldId}
+use Rattle.source.specs.Object.{Reference}
+use Rattle.source.specs.Sight.{scalar, holds_null, elements_of, in_range, held_reference, held_field}
 use Rattle.source.specs.Thread as source
 use Rattle.source.specs.Thread.{Shared}
 use Rattle.source.specs.Value.{Value, Gives, Stuck, outcome_then, convert}
-use Rattle.source.specs.Variable.{Variable, Scalar, LocalArray, Empty, Variables, assign}
-use Rattle.lower.specs.Slots.{visible_to, type_of_array, OthersStay, IsSet, IsNulled, IsMade, IsElementSet}
+use Rattle.source.specs.Variable.{Variable, Scalar, LocalRef, FieldHandle, Elements, LocalArray, Empty, Variables, assign}
+use Rattle.source.specs.Task.{VariableKind, ScalarKind, ReferenceKind, FieldKind}
+use Rattle.lower.specs.Slots.{visible_to, type_of_array, kind_of_variable, OthersStay, IsSet, IsNulled, IsReferred, IsFieldSet, IsMade, IsElementSet}
 
 -- ---- lists by name
 
@@ -57,12 +60,12 @@ assign_same {A = A} x v ((y, w) ∷ rest) at = by_test (bytes_eq x y) refl at (�
 
 -- ---- elements
 
-get_set_same : {A : Type 0} (xs : List A) (i : ℕ) (a : A) → i < length xs → slice_get (slice_set xs i a) i ≡ Some a
+pub get_set_same : {A : Type 0} (xs : List A) (i : ℕ) (a : A) → i < length xs → slice_get (slice_set xs i a) i ≡ Some a
 get_set_same [] i a below = absurd (omega arith)
 get_set_same (x ∷ xs) zero a below = refl
 get_set_same (x ∷ xs) (suc i) a below = get_set_same xs i a (omega arith)
 
-get_set_other : {A : Type 0} (xs : List A) (i j : ℕ) (a : A) → j ≢ i → slice_get (slice_set xs i a) j ≡ slice_get xs j
+pub get_set_other : {A : Type 0} (xs : List A) (i j : ℕ) (a : A) → j ≢ i → slice_get (slice_set xs i a) j ≡ slice_get xs j
 get_set_other [] i j a other = refl
 get_set_other (x ∷ xs) zero zero a other = absurd (other refl)
 get_set_other (x ∷ xs) zero (suc j) a other = refl
@@ -94,6 +97,31 @@ array_of None type h = absurd (cc)
 array_of (Some (LocalArray t zs)) type h = (zs, ap (λ (u : ElementType). Some (LocalArray u zs)) (let same : t ≡ type = cc in same))
 array_of (Some v) type h = absurd (cc)
 
+-- a variable of a kind
+pub scalar_by_kind : (o : Option Variable) → kind_of_variable o ≡ Some ScalarKind → (v : Value) × (o ≡ Some (Scalar v))
+scalar_by_kind None h = absurd (cc)
+scalar_by_kind (Some (Scalar v)) h = (v, refl)
+scalar_by_kind (Some (LocalRef level r)) h = absurd (cc)
+scalar_by_kind (Some (FieldHandle f)) h = absurd (cc)
+scalar_by_kind (Some (Elements t b)) h = absurd (cc)
+scalar_by_kind (Some (LocalArray t zs)) h = absurd (cc)
+
+pub local_by_kind : (o : Option Variable) → kind_of_variable o ≡ Some ReferenceKind → (level : ℕ) × (r : Reference) × (o ≡ Some (LocalRef level r))
+local_by_kind None h = absurd (cc)
+local_by_kind (Some (Scalar v)) h = absurd (cc)
+local_by_kind (Some (LocalRef level r)) h = (level, r, refl)
+local_by_kind (Some (FieldHandle f)) h = absurd (cc)
+local_by_kind (Some (Elements t b)) h = absurd (cc)
+local_by_kind (Some (LocalArray t zs)) h = absurd (cc)
+
+pub field_by_kind : (o : Option Variable) → kind_of_variable o ≡ Some FieldKind → (f : Option FieldId) × (o ≡ Some (FieldHandle f))
+field_by_kind None h = absurd (cc)
+field_by_kind (Some (Scalar v)) h = absurd (cc)
+field_by_kind (Some (LocalRef level r)) h = absurd (cc)
+field_by_kind (Some (FieldHandle f)) h = (f, refl)
+field_by_kind (Some (Elements t b)) h = absurd (cc)
+field_by_kind (Some (LocalArray t zs)) h = absurd (cc)
+
 -- ---- a variable is set
 
 -- the thread's variables with one of them set
@@ -109,24 +137,52 @@ module _ (shared : Shared) (s t : source.Thread) (x : Identifier) (v : Variable)
         is_null = ap (λ (o : Option Variable). holds_null o (lookup y shared.statics)) same;
         element = λ i. ap (λ (o : Option Variable). outcome_then (λ (zs : List ℤ). in_range (slice_get zs i)) (elements_of shared.heap o)) same;
         reference = ap (λ (o : Option Variable). held_reference o (lookup y shared.statics)) same;
+        field = ap held_field same;
         array_type = ap type_of_array same;
+        kind = ap kind_of_variable same;
       }
 
   element_of : (i : ℕ) → (visible_to shared t).sight.element x i ≡ outcome_then (λ (zs : List ℤ). in_range (slice_get zs i)) (elements_of shared.heap (Some v))
   element_of i = ap (λ (o : Option Variable). outcome_then (λ (zs : List ℤ). in_range (slice_get zs i)) (elements_of shared.heap o)) found
 
   -- a variable that is NULL
-  pub is_nulled : scalar (Some v) ≡ Stuck → holds_null (Some v) (lookup x shared.statics) ≡ Gives true → held_reference (Some v) (lookup x shared.statics) ≡ Empty → IsNulled (visible_to shared s) x (visible_to shared t)
-  is_nulled number null reference = record {
+  pub is_nulled : (kind : Option VariableKind) → scalar (Some v) ≡ Stuck → holds_null (Some v) (lookup x shared.statics) ≡ Gives true → held_reference (Some v) (lookup x shared.statics) ≡ Empty → held_field (Some v) ≡ None → kind_of_variable (Some v) ≡ kind → IsNulled (visible_to shared s) kind x (visible_to shared t)
+  is_nulled kind number null reference field same_kind = record {
     number = ap scalar found ∙ number;
     is_null = ap (λ (o : Option Variable). holds_null o (lookup x shared.statics)) found ∙ null;
     reference = ap (λ (o : Option Variable). held_reference o (lookup x shared.statics)) found ∙ reference;
+    field = ap held_field found ∙ field;
+    same_kind = ap kind_of_variable found ∙ same_kind;
     others = others;
   }
 
 -- a number
 pub is_set : (shared : Shared) (s t : source.Thread) (x : Identifier) (v : Value) → t.variables ≡ assign x (Scalar v) s.variables → IsSet (visible_to shared s) x v (visible_to shared t)
-is_set shared s t x v e = record { is = ap scalar (found shared s t x (Scalar v) e); others = others shared s t x (Scalar v) e }
+is_set shared s t x v e = record { is = ap scalar (found shared s t x (Scalar v) e); kind = ap kind_of_variable (found shared s t x (Scalar v) e); others = others shared s t x (Scalar v) e }
+
+-- a local reference
+pub is_referred : (shared : Shared) (s t : source.Thread) (x : Identifier) (level : ℕ) (r : Reference) → t.variables ≡ assign x (LocalRef level r) s.variables → IsReferred (visible_to shared s) x r (visible_to shared t)
+is_referred shared s t x level r e =
+    let is = found shared s t x (LocalRef level r) e in
+    record {
+      number = ap scalar is;
+      is_null = ap (λ (o : Option Variable). holds_null o (lookup x shared.statics)) is;
+      reference = ap (λ (o : Option Variable). held_reference o (lookup x shared.statics)) is;
+      kind = ap kind_of_variable is;
+      others = others shared s t x (LocalRef level r) e;
+    }
+
+-- a field ID
+pub is_field_set : (shared : Shared) (s t : source.Thread) (x : Identifier) (f : Option FieldId) → t.variables ≡ assign x (FieldHandle f) s.variables → IsFieldSet (visible_to shared s) x f (visible_to shared t)
+is_field_set shared s t x f e =
+    let is = found shared s t x (FieldHandle f) e in
+    record {
+      number = ap scalar is;
+      is_null = ap (λ (o : Option Variable). holds_null o (lookup x shared.statics)) is;
+      field = ap held_field is;
+      kind = ap kind_of_variable is;
+      others = others shared s t x (FieldHandle f) e;
+    }
 
 -- a new array
 pub is_made : (shared : Shared) (s t : source.Thread) (x : Identifier) (type : ElementType) (n : ℕ) → t.variables ≡ assign x (LocalArray type (replicate n (pos 0))) s.variables → IsMade (visible_to shared s) type x n (visible_to shared t)

@@ -24,7 +24,7 @@ use Rattle.source.specs.Effect as effects
 use Rattle.source.specs.Effect.{Effect, Becomes, Sets, SetsNull, SetsElement, MakesArray, Prints, Calls, TrapsAt, effect_of}
 use Rattle.source.specs.Task.{Task, Target}
 use Rattle.source.specs.Thread as source
-use Rattle.source.specs.Thread.{BuffersInUse, Shared, sight_of}
+use Rattle.source.specs.Thread.{BuffersInUse, Shared, sight_of, viewed_by}
 use Rattle.source.specs.ThreadStep.{with_tasks, after_effect, set_element}
 use Rattle.source.specs.Value.{Trap, convert}
 use Rattle.source.specs.Variable.{Variable, Scalar, LocalArray, assign}
@@ -39,11 +39,17 @@ use Rattle.machine.specs.declared.thread.Event.TheVariants as event
 use Rattle.machine.specs.declared.thread.Activation.{Activation}
 use Rattle.machine.specs.declared.thread.Executed.TheVariants.{Did, Returned}
 use Rattle.machine.specs.Agrees as agrees
-use Rattle.machine.specs.Agrees.{Executes, StaticsAgree, CallStands, event_view}
+use Rattle.class_table.specs.declared.class.FieldHandle.{FieldHandle as Handle}
+use Rattle.source.specs.World.{World}
+use Rattle.machine.specs.declared.store.Store.{Store}
+use Rattle.machine.specs.HeapAgrees.{ReferenceAgrees}
+use Rattle.machine.specs.Agrees.{StoreAgrees, Executes, CallStands, event_view}
 use Rattle.machine.specs.Stops.{trap_view}
-use Rattle.machine.specs.Variables.{is_null, HasSlot, with_null}
-use Rattle.machine.proofs.Calls.{does_cases, slots_of, Ready, plain_instr, plain_works, IsNullTest, no_return, agree_count, HasMoved, stands_at, runs, room, leads, depth_behind}
+use Rattle.machine.specs.Variables.{is_null, HasSlot, nulled_references, nulled_fields}
+use Rattle.machine.proofs.Views.{Viewless, assigned_viewless}
+use Rattle.machine.proofs.Calls.{does_cases, slots_of, Ready, plain_instr, plain_works, IsNullTest, no_return, agree_count, HasMoved, stands_at, runs, room, leads, depth_behind, fields_count}
 use Rattle.machine.proofs.Changes.{array_of, is_set, is_made, is_element_set}
+use Rattle.machine.proofs.Keeping.{keeps_same}
 use Rattle.machine.proofs.Elements.{SetsWhatIsThere, sets_what_is_there}
 use Rattle.machine.proofs.NullLaws.{puts_null, null_agrees, nulled_agree}
 
@@ -131,11 +137,11 @@ few_words variable equal n h = by_test (nat_lt n 64) refl h
     by_test false e k = absurd (cc (k))
 
 -- a variable of the code has its slot
-has_slot : (addresses : List (Option ℕ)) (slots : SlotCounts) (variable : NullableVariable) → length addresses ≡ slots.references → variable_within slots variable ≡ true → HasSlot addresses variable
-has_slot addresses slots (nullable.Local i) count h = let below : i < slots.references = ltb-true i slots.references h in omega (arith, below, count)
-has_slot addresses slots (nullable.Static i) count h = tt
-has_slot addresses slots (nullable.FieldId i) count h = tt
-has_slot addresses slots (nullable.Buffer i) count h = tt
+has_slot : (addresses : List (Option ℕ)) (handles : List (Option Handle)) (slots : SlotCounts) (variable : NullableVariable) → length addresses ≡ slots.references → length handles ≡ slots.field_ids → variable_within slots variable ≡ true → HasSlot addresses handles variable
+has_slot addresses handles slots (nullable.Local i) count held h = let below : i < slots.references = ltb-true i slots.references h in omega (arith, below, count)
+has_slot addresses handles slots (nullable.Static i) count held h = tt
+has_slot addresses handles slots (nullable.FieldId i) count held h = let below : i < slots.field_ids = ltb-true i slots.field_ids h in omega (arith, below, held)
+has_slot addresses handles slots (nullable.Buffer i) count held h = tt
 
 -- one word more than so many
 one_more : (n : ℕ) → IsSome (depth_after (instr.Push 0) n) → depth_after (instr.Push 0) n ≡ Some (suc n)
@@ -146,9 +152,9 @@ one_more n h = by_test (nat_lt n 64) h
     by_test false k = absurd (cc (k))
 
 -- An instruction that isn't plain has one of these effects.
-module _ (p : Lowered) (space : Space) (call : Activation) (code : Listing) (visible : Visible) (task : Task) (rest : List Task) (r : Ready p space call code visible task rest) (i : Instr) (at : slice_get code.instrs call.place ≡ Some i) where
+module _ (p : Lowered) (classes : Classes) (space : Space) (call : Activation) (code : Listing) (visible : Visible) (frames : List source.Frame) (task : Task) (rest : List Task) (r : Ready p classes space call code visible frames task rest) (i : Instr) (at : slice_get code.instrs call.place ≡ Some i) where
   abbrev slots : Slots
-  slots = slots_of call r.references
+  slots = slots_of call r.references r.fields
 
   other_cases : (P : Effect → Type 0) → (IsPlain i → ⊥) → (IsNullTest i → (tasks : List Task) → GoesOn code r.known call.place call.stack slots visible (tasks ++ rest) → P (Becomes tasks))
       → ((target : Target) (h : StoresNull code r.known call.place call.stack slots visible target rest) → i ≡ instr.StoreNull h.variable → P (SetsNull target))
@@ -185,10 +191,11 @@ module _ (p : Lowered) (space : Space) (call : Activation) (code : Listing) (vis
           by_instr j n way after w = absurd (n (plain_instr j call.stack slots.numbers (way, after, slots.numbers) w))
 
   -- the variable that is made NULL has its slot
-  pub slot_there : (variable : NullableVariable) → i ≡ instr.StoreNull variable → HasSlot call.references.items variable
+  pub slot_there : (variable : NullableVariable) → i ≡ instr.StoreNull variable → HasSlot call.references.items call.fields.items variable
   slot_there variable is =
-      let within : within_slots code.slots (instr.StoreNull variable) ≡ true = subst (λ (j : Instr). IsTrue (within_slots code.slots j)) is (runs p space call code visible task rest r i at).slots in
-      has_slot call.references.items code.slots variable (sym (agree_count space call.references.items r.references r.agree) ∙ r.shows.references) within
+      let within : within_slots code.slots (instr.StoreNull variable) ≡ true = subst (λ (j : Instr). IsTrue (within_slots code.slots j)) is (runs p classes space call code visible frames task rest r i at).slots in
+      has_slot call.references.items call.fields.items code.slots variable (sym (agree_count space call.references.items r.references r.agree) ∙ r.shows.references)
+      (sym (fields_count classes call.fields.items r.fields r.fields_agree) ∙ r.shows.fields) within
 
   -- a call's instruction calls the function of the first task
   pub call_cases : (function : Call) → i ≡ instr.Call function → (P : Effect → Type 0)
@@ -200,17 +207,24 @@ module _ (p : Lowered) (space : Space) (call : Activation) (code : Listing) (vis
 
 -- ---- what an instruction did
 
-module _ (p : Lowered) (classes : Classes) (space : Space) (lent : BuffersInUse) (k : ℕ) (shared : Shared) (statics : StaticsAgree p shared) (s : source.Thread) (call : Activation) (code : Listing) (task : Task) (rest : List Task) (r : Ready p space call code (visible_to shared s) task rest) (i : Instr) (at : slice_get code.instrs call.place ≡ Some i) where
+module _ (p : Lowered) (w : World) (store : Store) (lent : BuffersInUse) (k : ℕ) (shared : Shared) (shares : StoreAgrees p w store shared) (s : source.Thread) (pending : Option ℕ) (pends : ReferenceAgrees store.heap pending s.pending) (none : viewed_by s ≡ []) (call : Activation) (code : Listing) (task : Task) (rest : List Task)
+    (r : Ready p w.classes store.heap call code (visible_to shared s) s.frames task rest) (i : Instr) (at : slice_get code.instrs call.place ≡ Some i) where
+  abbrev classes : Classes
+  classes = w.classes
+
+  abbrev space : Space
+  space = store.heap
+
   abbrev seen : Visible
   seen = visible_to shared s
 
   abbrev held : Slots
-  held = slots_of call r.references
+  held = slots_of call r.references r.fields
 
   -- an instruction on the stack and the number slots alone
   module _ (tasks_are : s.tasks ≡ Some (task ∷ rest)) (after : Activation) (e : Event) (way : Plain) (stack numbers : List ℕ) (is : plain_of i call.stack call.numbers.items ≡ Some (way, stack, numbers))
-      (m : HasMoved call after (end_of_way call.place way) stack numbers call.references.items) (way_seen : WayIsSeen way e) where
-    becomes : IsPlain i → (tasks : List Task) → GoesOn code r.known call.place call.stack held seen (tasks ++ rest) → agrees.GoesOn p classes space lent k shared s rest after (Becomes tasks) e
+      (m : HasMoved call after (end_of_way call.place way) stack numbers call.references.items call.fields.items) (way_seen : WayIsSeen way e) where
+    becomes : IsPlain i → (tasks : List Task) → GoesOn code r.known call.place call.stack held seen (tasks ++ rest) → agrees.GoesOn p w space store lent k shared s rest after pending (Becomes tasks) false e
     becomes works tasks h =
         let same : h.here ≡ i = cc (h.at, at) in
         let plain_is : plain_of i call.stack call.numbers.items ≡ Some (h.way, h.after, call.numbers.items) = plain_works held i call.stack h.way h.after works (subst (λ (j : Instr). Works held j call.stack h.way h.after) same h.works) in
@@ -223,18 +237,22 @@ module _ (p : Lowered) (classes : Classes) (space : Space) (lent : BuffersInUse)
         record {
           next = next;
           steps = ap (λ (v : Event). source.Advances shared next (event_view v)) (sym (quiet_at_end call.place way (λ q. StandsFor code h.names q stack (tasks ++ rest)) e end way_seen));
-          work = stands_at p space call code seen task rest r after (end_of_way call.place way) stack numbers call.references.items r.references h.names (visible_to shared next) (tasks ++ rest)
-              (depth_at_end code call.place way (length stack) (λ q. StandsFor code h.names q stack (tasks ++ rest)) (leads p space call code seen task rest r i at way stack numbers is) end) m r.agree
+          work = stands_at p classes space call code seen s.frames task rest r after (end_of_way call.place way) stack numbers call.references.items r.references call.fields.items r.fields h.names (visible_to shared next) (tasks ++ rest)
+              (depth_at_end code call.place way (length stack) (λ q. StandsFor code h.names q stack (tasks ++ rest)) (leads p classes space call code seen s.frames task rest r i at way stack numbers is) end) m r.agree r.fields_agree
               (at_end call.place way (λ q. StandsFor code h.names q stack (tasks ++ rest)) end)
-              (subst (λ (ns : List ℕ). Shows code h.names (visible_to shared next) (record { numbers = ns; references = r.references })) numbers_are h.shows);
+              (subst (λ (ns : List ℕ). Shows code h.names (visible_to shared next) (record { numbers = ns; references = r.references; fields = r.fields })) numbers_are h.shows);
+          next_shared = shared;
+          store_agrees = shares;
+          keeps = keeps_same space shared;
+          pending_agrees = pends;
           calls = refl;
-          pending = refl;
           ending = refl;
+          viewless = none;
         }
 
     writes : (did : Effect) (changed : Visible → Type 0) → Writes code r.known call.place call.stack held seen changed rest → (vs : _) → after_effect classes lent k shared s rest did ≡ source.Advances shared (record s { tasks = Some rest; variables = vs }) source.Quiet
-        → changed (visible_to shared (record s { tasks = Some rest; variables = vs })) → agrees.GoesOn p classes space lent k shared s rest after did e
-    writes did changed h vs steps shown =
+        → changed (visible_to shared (record s { tasks = Some rest; variables = vs })) → Viewless vs → agrees.GoesOn p w space store lent k shared s rest after pending did false e
+    writes did changed h vs steps shown no_view =
         let same : h.here ≡ i = cc (h.at, at) in
         let plain_is : plain_of i call.stack call.numbers.items ≡ Some (plain.Next, [], h.numbers) = subst (λ (j : Instr). plain_of j call.stack call.numbers.items ≡ Some (plain.Next, [], h.numbers)) same h.plain in
         let way_is : way ≡ plain.Next = same_way _ _ _ _ _ _ (sym is ∙ plain_is) in
@@ -242,20 +260,24 @@ module _ (p : Lowered) (classes : Classes) (space : Space) (lent : BuffersInUse)
         let numbers_are : h.numbers ≡ numbers = same_numbers _ _ _ _ _ _ (sym plain_is ∙ is) in
         let quiet : e ≡ event.Quiet = subst (λ (w : Plain). WayIsSeen w e) way_is way_seen in
         let next : source.Thread = record s { tasks = Some rest; variables = vs } in
-        let end : LeadsInside code.instrs call.place plain.Next (length stack) = subst (λ (w : Plain). LeadsInside code.instrs call.place w (length stack)) way_is (leads p space call code seen task rest r i at way stack numbers is) in
+        let end : LeadsInside code.instrs call.place plain.Next (length stack) = subst (λ (w : Plain). LeadsInside code.instrs call.place w (length stack)) way_is (leads p classes space call code seen s.frames task rest r i at way stack numbers is) in
         record {
           next = next;
           steps = steps ∙ ap (λ (v : Event). source.Advances shared next (event_view v)) (sym quiet);
-          work = stands_at p space call code seen task rest r after (call.place + 1) stack numbers call.references.items r.references h.names (visible_to shared next) rest end.words
-              (subst (λ (w : Plain). HasMoved call after (end_of_way call.place w) stack numbers call.references.items) way_is m) r.agree
+          work = stands_at p classes space call code seen s.frames task rest r after (call.place + 1) stack numbers call.references.items r.references call.fields.items r.fields h.names (visible_to shared next) rest end.words
+              (subst (λ (w : Plain). HasMoved call after (end_of_way call.place w) stack numbers call.references.items call.fields.items) way_is m) r.agree r.fields_agree
               (subst (λ (st : List ℕ). StandsFor code h.names (call.place + 1) st rest) after_is h.stands)
-              (subst (λ (ns : List ℕ). Shows code h.names (visible_to shared next) (record { numbers = ns; references = r.references })) numbers_are (h.shows (visible_to shared next) shown));
+              (subst (λ (ns : List ℕ). Shows code h.names (visible_to shared next) (record { numbers = ns; references = r.references; fields = r.fields })) numbers_are (h.shows (visible_to shared next) shown));
+          next_shared = shared;
+          store_agrees = shares;
+          keeps = keeps_same space shared;
+          pending_agrees = pends;
           calls = refl;
-          pending = refl;
           ending = refl;
+          viewless = no_view;
         }
 
-    traps : (reason : Trap) (line : ℕ) → Stops code r.known call.place call.stack held seen reason line → agrees.GoesOn p classes space lent k shared s rest after (TrapsAt reason line) e
+    traps : (reason : Trap) (line : ℕ) → Stops code r.known call.place call.stack held seen reason line → agrees.GoesOn p w space store lent k shared s rest after pending (TrapsAt reason line) false e
     traps reason line h =
         let same : h.here ≡ i = cc (h.at, at) in
         let plain_is : plain_of i call.stack call.numbers.items ≡ Some (plain.Trap h.trap line, call.stack, call.numbers.items) =
@@ -265,37 +287,41 @@ module _ (p : Lowered) (classes : Classes) (space : Space) (lent : BuffersInUse)
         let numbers_are : call.numbers.items ≡ numbers = same_numbers _ _ _ _ _ _ (sym plain_is ∙ is) in
         let seen_trap : WayIsSeen (plain.Trap h.trap line) e = subst (λ (w : Plain). WayIsSeen w e) way_is way_seen in
         let trap_is : reason ≡ trap_view seen_trap.0 = sym h.is ∙ sym seen_trap.1 in
-        let stands : CallStands p space after seen (task ∷ rest) =
-        stands_at p space call code seen task rest r after call.place stack numbers call.references.items r.references r.known seen (task ∷ rest) (r.depth ∙ ap (λ (st : List ℕ). Some (length st)) after_is)
-        (subst (λ (w : Plain). HasMoved call after (end_of_way call.place w) stack numbers call.references.items) way_is m) r.agree
+        let stands : CallStands p classes space after seen s.frames (task ∷ rest) =
+        stands_at p classes space call code seen s.frames task rest r after call.place stack numbers call.references.items r.references call.fields.items r.fields r.known seen (task ∷ rest) (r.depth ∙ ap (λ (st : List ℕ). Some (length st)) after_is)
+        (subst (λ (w : Plain). HasMoved call after (end_of_way call.place w) stack numbers call.references.items call.fields.items) way_is m) r.agree r.fields_agree
         (subst (λ (st : List ℕ). StandsFor code r.known call.place st (task ∷ rest)) after_is r.stands)
-        (subst (λ (ns : List ℕ). Shows code r.known seen (record { numbers = ns; references = r.references })) numbers_are r.shows) in
+        (subst (λ (ns : List ℕ). Shows code r.known seen (record { numbers = ns; references = r.references; fields = r.fields })) numbers_are r.shows) in
         record {
           next = s;
           steps = ap (λ (t : Trap). source.Advances shared s (source.Trapped t line)) trap_is ∙ ap (λ (v : Event). source.Advances shared s (event_view v)) (sym seen_trap.2);
-          work = subst (λ (o : Option (List Task)). agrees.WorkAgrees p space seen (Some after) o) (sym tasks_are) stands;
+          work = subst (λ (o : Option (List Task)). agrees.WorkAgrees p classes space seen (Some after) s.frames o) (sym tasks_are) stands;
+          next_shared = shared;
+          store_agrees = shares;
+          keeps = keeps_same space shared;
+          pending_agrees = pends;
           calls = refl;
-          pending = refl;
           ending = refl;
+          viewless = none;
         }
 
     sets_element : (x : Identifier) (j : ℕ) (z : ℤ) (t : ElementType) → seen.array_type x ≡ Some t → Writes code r.known call.place call.stack held seen (IsElementSet seen t x j z) rest → SetsWhatIsThere seen.sight (SetsElement x j z)
-        → agrees.GoesOn p classes space lent k shared s rest after (SetsElement x j z) e
+        → agrees.GoesOn p w space store lent k shared s rest after pending (SetsElement x j z) false e
     sets_element x j z t type h there =
         let array = array_of (lookup x s.variables) t type in
         let v : Variable = LocalArray t (slice_set array.0 j (convert t z)) in
         writes (SetsElement x j z) (IsElementSet seen t x j z) h (assign x v s.variables) (ap (set_element shared (with_tasks s rest) x j z) array.1)
-        (is_element_set shared s (record s { tasks = Some rest; variables = assign x v s.variables }) x t array.0 j z there.0 array.1 there.1 refl)
+        (is_element_set shared s (record s { tasks = Some rest; variables = assign x v s.variables }) x t array.0 j z there.0 array.1 there.1 refl) (assigned_viewless x v s.variables refl none)
 
-    pub plain_executes : Executes p classes space lent k shared s rest after (effect_of (sight_of shared s) task) (Did e)
+    pub plain_executes : Executes p w space store lent k shared s rest after pending (effect_of (sight_of shared s) task) (Did e)
     plain_executes =
         let works : IsPlain i = plain_instr i call.stack call.numbers.items (way, stack, numbers) is in
-        does_cases code r.known call.place call.stack held seen rest (λ effect. SetsWhatIsThere seen.sight effect → Executes p classes space lent k shared s rest after effect (Did e))
+        does_cases code r.known call.place call.stack held seen rest (λ effect. SetsWhatIsThere seen.sight effect → Executes p w space store lent k shared s rest after pending effect (Did e))
         (λ tasks h there. becomes works tasks h)
-        (λ x v h there. writes (Sets x v) (IsSet seen x v) h (assign x (Scalar v) s.variables) refl (is_set shared s (record s { tasks = Some rest; variables = assign x (Scalar v) s.variables }) x v refl))
+        (λ x v h there. writes (Sets x v) (IsSet seen x v) h (assign x (Scalar v) s.variables) refl (is_set shared s (record s { tasks = Some rest; variables = assign x (Scalar v) s.variables }) x v refl) (assigned_viewless x (Scalar v) s.variables refl none))
         (λ target h. absurd (let same : i ≡ instr.StoreNull h.variable = cc (at, h.at) in subst IsPlain same works))
         (λ x j z t type h there. sets_element x j z t type h there)
-        (λ t x n h there. let v : Variable = LocalArray t (replicate n (pos 0)) in writes (MakesArray t x n) (IsMade seen t x n) h (assign x v s.variables) refl (is_made shared s (record s { tasks = Some rest; variables = assign x v s.variables }) x t n refl))
+        (λ t x n h there. let v : Variable = LocalArray t (replicate n (pos 0)) in writes (MakesArray t x n) (IsMade seen t x n) h (assign x v s.variables) refl (is_made shared s (record s { tasks = Some rest; variables = assign x v s.variables }) x t n refl) (assigned_viewless x v s.variables refl none))
         (λ z h. absurd (let same : i ≡ instr.PutJint = cc (at, h.at) in subst IsPlain same works))
         (λ line target f args h. absurd (let same : i ≡ instr.Call h.call = cc (at, h.at) in subst IsPlain same works))
         (λ h. absurd (no_return i (let same : h.here ≡ i = cc (at, h.at) in subst IsReturn same h.returns) works))
@@ -303,78 +329,86 @@ module _ (p : Lowered) (classes : Classes) (space : Space) (lent : BuffersInUse)
         (effect_of seen.sight task) r.does (sets_what_is_there seen.sight task)
 
   -- a test of NULL
-  pub test_executes : (variable : NullableVariable) (equal : Bool) (after : Activation) → i ≡ instr.TestNull variable equal → HasMoved call after (call.place + 1) (truth_word (beq (is_null call.references.items variable) equal) ∷ call.stack) call.numbers.items call.references.items
-      → Executes p classes space lent k shared s rest after (effect_of (sight_of shared s) task) (Did event.Quiet)
+  pub test_executes : (variable : NullableVariable) (equal : Bool) (after : Activation) → i ≡ instr.TestNull variable equal → HasMoved call after (call.place + 1) (truth_word (beq (is_null call.references.items call.fields.items variable) equal) ∷ call.stack) call.numbers.items call.references.items call.fields.items
+      → Executes p w space store lent k shared s rest after pending (effect_of (sight_of shared s) task) (Did event.Quiet)
   test_executes variable equal after is m =
-      other_cases p space call code seen task rest r i at (λ effect. Executes p classes space lent k shared s rest after effect (Did event.Quiet)) (λ plain. subst IsPlain is plain)
+      other_cases p classes space call code seen s.frames task rest r i at (λ effect. Executes p w space store lent k shared s rest after pending effect (Did event.Quiet)) (λ plain. subst IsPlain is plain)
       (λ test tasks h. goes tasks h)
       (λ target h same. absurd (let both : instr.StoreNull h.variable ≡ instr.TestNull variable equal = sym same ∙ is in cc))
       (λ z h same. absurd (let both : instr.PutJint ≡ instr.TestNull variable equal = sym same ∙ is in cc))
       (λ line target f args h same. absurd (let both : instr.Call h.call ≡ instr.TestNull variable equal = sym same ∙ is in cc))
       (λ returns. absurd (subst IsReturn is returns))
     where
-      goes : (tasks : List Task) → GoesOn code r.known call.place call.stack held seen (tasks ++ rest) → agrees.GoesOn p classes space lent k shared s rest after (Becomes tasks) event.Quiet
+      goes : (tasks : List Task) → GoesOn code r.known call.place call.stack held seen (tasks ++ rest) → agrees.GoesOn p w space store lent k shared s rest after pending (Becomes tasks) false event.Quiet
       goes tasks h =
           let same : h.here ≡ instr.TestNull variable equal = cc (h.at, at, is) in
-          let w = subst (λ (j : Instr). Works held j call.stack h.way h.after) same h.works in
-          let null : is_null call.references.items variable ≡ w.0 = null_agrees space call.references.items held variable w.0 r.agree w.1 in
-          let words : h.after ≡ truth_word (beq (is_null call.references.items variable) equal) ∷ call.stack = w.3 ∙ ap (λ (b : Bool). truth_word (beq b equal) ∷ call.stack) (sym null) in
+          let v = subst (λ (j : Instr). Works held j call.stack h.way h.after) same h.works in
+          let null : is_null call.references.items call.fields.items variable ≡ v.0 = null_agrees classes space call.references.items call.fields.items held variable v.0 r.agree r.fields_agree v.1 in
+          let words : h.after ≡ truth_word (beq (is_null call.references.items call.fields.items variable) equal) ∷ call.stack = v.3 ∙ ap (λ (b : Bool). truth_word (beq b equal) ∷ call.stack) (sym null) in
           let next : source.Thread = with_tasks s (tasks ++ rest) in
-          let stack : List ℕ = truth_word (beq (is_null call.references.items variable) equal) ∷ call.stack in
+          let stack : List ℕ = truth_word (beq (is_null call.references.items call.fields.items variable) equal) ∷ call.stack in
           let end : StandsFor code h.names (call.place + 1) stack (tasks ++ rest) =
-          subst (λ (u : Plain). AtEnd (λ q. StandsFor code h.names q stack (tasks ++ rest)) call.place u) w.2 (subst (λ (st : List ℕ). AtEnd (λ q. StandsFor code h.names q st (tasks ++ rest)) call.place h.way) words h.stands) in
+          subst (λ (u : Plain). AtEnd (λ q. StandsFor code h.names q stack (tasks ++ rest)) call.place u) v.2 (subst (λ (st : List ℕ). AtEnd (λ q. StandsFor code h.names q st (tasks ++ rest)) call.place h.way) words h.stands) in
           record {
             next = next;
             steps = refl;
-            work = stands_at p space call code seen task rest r after (call.place + 1) stack call.numbers.items call.references.items r.references h.names (visible_to shared next) (tasks ++ rest)
-                (depth_behind p space call code seen task rest r i at (length stack) (λ leaves. subst Leaves is leaves)
-                (ap (λ (j : Instr). depth_after j (length call.stack)) is ∙ one_more (length call.stack) (subst (λ (j : Instr). IsSome (depth_after j (length call.stack))) is (room p space call code seen task rest r i at)))) m r.agree end h.shows;
+            work = stands_at p classes space call code seen s.frames task rest r after (call.place + 1) stack call.numbers.items call.references.items r.references call.fields.items r.fields h.names (visible_to shared next) (tasks ++ rest)
+                (depth_behind p classes space call code seen s.frames task rest r i at (length stack) (λ leaves. subst Leaves is leaves)
+                (ap (λ (j : Instr). depth_after j (length call.stack)) is ∙ one_more (length call.stack) (subst (λ (j : Instr). IsSome (depth_after j (length call.stack))) is (room p classes space call code seen s.frames task rest r i at)))) m r.agree r.fields_agree end h.shows;
+            next_shared = shared;
+            store_agrees = shares;
+            keeps = keeps_same space shared;
+            pending_agrees = pends;
             calls = refl;
-            pending = refl;
             ending = refl;
+            viewless = none;
           }
 
   -- NULL is stored
-  pub store_executes : (variable : NullableVariable) (after : Activation) → i ≡ instr.StoreNull variable → HasMoved call after (call.place + 1) call.stack call.numbers.items (with_null variable call.references.items)
-      → Executes p classes space lent k shared s rest after (effect_of (sight_of shared s) task) (Did event.Quiet)
+  pub store_executes : (variable : NullableVariable) (after : Activation) → i ≡ instr.StoreNull variable → HasMoved call after (call.place + 1) call.stack call.numbers.items (nulled_references variable call.references.items) (nulled_fields variable call.fields.items)
+      → Executes p w space store lent k shared s rest after pending (effect_of (sight_of shared s) task) (Did event.Quiet)
   store_executes variable after is m =
-      other_cases p space call code seen task rest r i at (λ effect. Executes p classes space lent k shared s rest after effect (Did event.Quiet)) (λ plain. subst IsPlain is plain)
+      other_cases p classes space call code seen s.frames task rest r i at (λ effect. Executes p w space store lent k shared s rest after pending effect (Did event.Quiet)) (λ plain. subst IsPlain is plain)
       (λ test tasks h. absurd (subst IsNullTest is test))
       (λ target h same. stores target h (let both : instr.StoreNull h.variable ≡ instr.StoreNull variable = sym same ∙ is in cc))
       (λ z h same. absurd (let both : instr.PutJint ≡ instr.StoreNull variable = sym same ∙ is in cc))
       (λ line target f args h same. absurd (let both : instr.Call h.call ≡ instr.StoreNull variable = sym same ∙ is in cc))
       (λ returns. absurd (subst IsReturn is returns))
     where
-      stores : (target : Target) (h : StoresNull code r.known call.place call.stack held seen target rest) → h.variable ≡ variable → agrees.GoesOn p classes space lent k shared s rest after (SetsNull target) event.Quiet
+      stores : (target : Target) (h : StoresNull code r.known call.place call.stack held seen target rest) → h.variable ≡ variable → agrees.GoesOn p w space store lent k shared s rest after pending (SetsNull target) false event.Quiet
       stores target h same =
-          let null = puts_null p shared statics s rest code r.known call.place call.stack held target h.name h.is h.takes in
+          let null = puts_null p shared shares.statics s none rest code r.known call.place call.stack held target h.name h.is h.takes in
           let next : source.Thread = record s { tasks = Some rest; variables = null.variables } in
-          let nulled = nulled_agree space call.references.items held variable r.agree in
-          let m' : HasMoved call after (call.place + 1) [] (lower.with_null variable held).numbers (with_null variable call.references.items) =
-          record { function = m.function; place = m.place; stack = m.stack ∙ h.empty; numbers = m.numbers ∙ sym nulled.1; references = m.references } in
+          let nulled = nulled_agree classes space call.references.items call.fields.items held variable r.agree r.fields_agree in
+          let m' : HasMoved call after (call.place + 1) [] (lower.with_null variable held).numbers (nulled_references variable call.references.items) (nulled_fields variable call.fields.items) =
+          record { function = m.function; place = m.place; stack = m.stack ∙ h.empty; numbers = m.numbers ∙ sym nulled.numbers; references = m.references; fields = m.fields; frames = m.frames } in
           record {
             next = next;
             steps = null.steps;
-            work = stands_at p space call code seen task rest r after (call.place + 1) [] (lower.with_null variable held).numbers (with_null variable call.references.items) (lower.with_null variable held).references h.names (visible_to shared next) rest
-                (depth_behind p space call code seen task rest r i at 0 (λ leaves. subst Leaves is leaves) (ap (λ (j : Instr). depth_after j (length call.stack)) is ∙ ap (λ (st : List ℕ). Some (length st)) h.empty)) m' nulled.0 h.stands
+            work = stands_at p classes space call code seen s.frames task rest r after (call.place + 1) [] (lower.with_null variable held).numbers (nulled_references variable call.references.items) (lower.with_null variable held).references (nulled_fields variable call.fields.items) (lower.with_null variable held).fields h.names (visible_to shared next) rest
+                (depth_behind p classes space call code seen s.frames task rest r i at 0 (λ leaves. subst Leaves is leaves) (ap (λ (j : Instr). depth_after j (length call.stack)) is ∙ ap (λ (st : List ℕ). Some (length st)) h.empty)) m' nulled.references nulled.fields h.stands
                 (subst (λ (v : NullableVariable). Shows code h.names (visible_to shared next) (lower.with_null v held)) same (h.shows (visible_to shared next) null.nulled));
+            next_shared = shared;
+            store_agrees = shares;
+            keeps = keeps_same space shared;
+            pending_agrees = pends;
             calls = refl;
-            pending = refl;
             ending = refl;
+            viewless = null.viewless;
           }
 
   -- a print
-  pub put_executes : (word : ℕ) (after : Activation) (stack : List ℕ) → i ≡ instr.PutJint → call.stack ≡ word ∷ stack → HasMoved call after (call.place + 1) stack call.numbers.items call.references.items
-      → Executes p classes space lent k shared s rest after (effect_of (sight_of shared s) task) (Did (event.Printed (cast_signed w32 word)))
+  pub put_executes : (word : ℕ) (after : Activation) (stack : List ℕ) → i ≡ instr.PutJint → call.stack ≡ word ∷ stack → HasMoved call after (call.place + 1) stack call.numbers.items call.references.items call.fields.items
+      → Executes p w space store lent k shared s rest after pending (effect_of (sight_of shared s) task) (Did (event.Printed (cast_signed w32 word)))
   put_executes word after stack put top m =
-      other_cases p space call code seen task rest r i at (λ effect. Executes p classes space lent k shared s rest after effect (Did (event.Printed (cast_signed w32 word)))) (λ plain. subst IsPlain put plain)
+      other_cases p classes space call code seen s.frames task rest r i at (λ effect. Executes p w space store lent k shared s rest after pending effect (Did (event.Printed (cast_signed w32 word)))) (λ plain. subst IsPlain put plain)
       (λ test tasks h. absurd (subst IsNullTest put test))
       (λ target h same. absurd (let both : instr.StoreNull h.variable ≡ instr.PutJint = sym same ∙ put in cc))
       (λ z h same. prints z h)
       (λ line target f args h same. absurd (let both : instr.Call h.call ≡ instr.PutJint = sym same ∙ put in cc))
       (λ returns. absurd (subst IsReturn put returns))
     where
-      prints : (z : ℤ) → PrintsTop code r.known call.place call.stack held seen z rest → agrees.GoesOn p classes space lent k shared s rest after (Prints z) (event.Printed (cast_signed w32 word))
+      prints : (z : ℤ) → PrintsTop code r.known call.place call.stack held seen z rest → agrees.GoesOn p w space store lent k shared s rest after pending (Prints z) false (event.Printed (cast_signed w32 word))
       prints z h =
           let words : word ≡ h.word = cc (top, h.top) in
           let nothing : [] ≡ stack = cc (top, h.top) in
@@ -382,20 +416,24 @@ module _ (p : Lowered) (classes : Classes) (space : Space) (lent : BuffersInUse)
           record {
             next = with_tasks s rest;
             steps = ap (λ (n : ℤ). source.Advances shared (with_tasks s rest) (source.PrintedNumber n)) number;
-            work = stands_at p space call code seen task rest r after (call.place + 1) stack call.numbers.items call.references.items r.references r.known seen rest
-                (depth_behind p space call code seen task rest r i at (length stack) (λ leaves. subst Leaves put leaves) (ap (λ (j : Instr). depth_after j (length call.stack)) put ∙ ap (λ (st : List ℕ). depth_after instr.PutJint (length st)) top)) m r.agree
+            work = stands_at p classes space call code seen s.frames task rest r after (call.place + 1) stack call.numbers.items call.references.items r.references call.fields.items r.fields r.known seen rest
+                (depth_behind p classes space call code seen s.frames task rest r i at (length stack) (λ leaves. subst Leaves put leaves) (ap (λ (j : Instr). depth_after j (length call.stack)) put ∙ ap (λ (st : List ℕ). depth_after instr.PutJint (length st)) top)) m r.agree r.fields_agree
                 (subst (λ (st : List ℕ). StandsFor code r.known (call.place + 1) st rest) nothing h.stands) r.shows;
+            next_shared = shared;
+            store_agrees = shares;
+            keeps = keeps_same space shared;
+            pending_agrees = pends;
             calls = refl;
-            pending = refl;
             ending = refl;
+            viewless = none;
           }
 
   -- a return
-  pub return_executes : IsReturn i → (after : Activation) → Executes p classes space lent k shared s rest after (effect_of (sight_of shared s) task) Returned
+  pub return_executes : IsReturn i → (after : Activation) → Executes p w space store lent k shared s rest after pending (effect_of (sight_of shared s) task) Returned
   return_executes is after =
-      other_cases p space call code seen task rest r i at (λ effect. Executes p classes space lent k shared s rest after effect Returned) (no_return i is)
+      other_cases p classes space call code seen s.frames task rest r i at (λ effect. Executes p w space store lent k shared s rest after pending effect Returned) (no_return i is)
       (λ test tasks h. absurd (no_return_test i is test))
       (λ target h same. absurd (subst IsReturn same is))
       (λ z h same. absurd (subst IsReturn same is))
       (λ line target f args h same. absurd (subst IsReturn same is))
-      (λ returns. refl)
+      (λ returns. (refl, shares, refl, pends))

@@ -35,7 +35,7 @@ cells_more [] i v at = absurd (cc)
 cells_more (x ∷ vs) zero v at = let same : v ≡ x = cc in ap (λ (y : Value). y ∷ cells_so_far vs zero) same
 cells_more (x ∷ vs) (suc i) v at = ap (λ (l : List Value). x ∷ l) (cells_more vs i v at)
 
-cells_all : (vs : List Value) (i : ℕ) → length vs ≤ i → cells_so_far vs i ≡ vs
+pub cells_all : (vs : List Value) (i : ℕ) → length vs ≤ i → cells_so_far vs i ≡ vs
 cells_all [] i l = refl
 cells_all (v ∷ vs) zero l = absurd (omega arith)
 cells_all (v ∷ vs) (suc i) l = ap (λ (l : List Value). v ∷ l) (cells_all vs i (omega arith))

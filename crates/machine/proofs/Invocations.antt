@@ -1,299 +1,328 @@
--- A call of a function of the JNI does what the source's call does.
-use Rattle.std.proofs.lemmas.Bool.{le-leb}
-use Rattle.source.specs.Value.{Trap as SourceTrap}
-use Rattle.source.specs.CallEffects.{CallEffect, Leaves as Gives, Halts, Throws, ScalarResult}
-use Rattle.std.specs.List.{AllZip}
-use Rattle.std.proofs.Common.{◌≡◌, ℕ, zero, suc, true, false, List, [], ◌∷◌, ◌++◌, ◌+◌, length, Option, Some, None, Result, refl, sym, ap, ◌∙◌, subst, append-nil, ℤ, length-append, ◌-◌, arith}
-use Rattle.std.specs.Prelude.{slice_get, FitsSigned, Ok, Err, IsSome}
-use Rattle.std.specs.Option.{option_map}
-use Rattle.std.specs.Int.{w32}
+-- After a call the machine's call in progress stands for the source's thread.
+use Rattle.std.proofs.Common.{◌≡◌, ℕ, ◌+◌, List, [], ◌++◌, length, Option, Some, None, refl, sym, ap, ◌∙◌, subst}
+use Rattle.std.specs.Prelude.{slice_get, slice_set}
 use Rattle.base.specs.Bytes.{Identifier, lookup}
 use Rattle.classes.specs.Class.{Classes}
+use Rattle.classes.specs.Fields.{FieldId}
+use Rattle.class_table.specs.declared.class.FieldHandle.{FieldHandle as Handle}
+use Rattle.heap.specs.Heap.{Space}
 use Rattle.jni.specs.JniFunction.{JniFunction}
-use Rattle.jni.specs.BuiltFunctions.{is_built_function}
-use Rattle.jni.specs.Prototype.{prototype, ResultKind, NewLocal, NewGlobal, GivesFlag, GivesInt, GivesField, GivesNothing, GivesBuffer}
-use Rattle.types.specs.Sorts.{Ref, Global}
-use Rattle.heap.specs.Heap.{Block, Space, block_at, name_at, IsAddress}
+use Rattle.jni.specs.Prototype.{prototype, ResultKind, NewLocal, GivesFlag, GivesInt, GivesField}
+use Rattle.types.specs.Sorts.{Sort, Jint}
+use Rattle.types.specs.Sorts as sort
+use Rattle.source.specs.Arguments.{Actual, variable_given}
+use Rattle.source.specs.CallEffects.{CallResult, NoResult, NullResult, ScalarResult, ReferenceResult, FieldResult, BufferResult}
+use Rattle.source.specs.CallStep.{blank, filled, is_zero, put, put_assigned, received, tell_copy}
+use Rattle.source.specs.Effect.{tasks_after}
 use Rattle.source.specs.Object.{Reference}
-use Rattle.code.specs.declared.instr.Instr.{Instr}
-use Rattle.code.specs.declared.instr.Instr.TheVariants as instr
+use Rattle.source.specs.Task.{Task, Target, VariableKind, ScalarKind, ReferenceKind, FieldKind, Declared, Assigned, Tested, Dropped}
+use Rattle.source.specs.Thread as source
+use Rattle.source.specs.Thread.{Shared, viewed_by}
+use Rattle.source.specs.Value.{Value, Word, Int, Flag, Truth}
+use Rattle.source.specs.Variable.{Variable, Variables, Scalar, LocalRef, FieldHandle, assign}
+use Rattle.source.specs.World.{World}
 use Rattle.code.specs.Call.{Call}
-use Rattle.code.specs.declared.instr.Operand.{Operand}
-use Rattle.code.specs.declared.instr.Operand.TheVariants.{Null, Local, Static, Number}
+use Rattle.code.specs.Depth.{Listing, depth_after, depth_at}
+use Rattle.code.specs.declared.instr.Instr.TheVariants as instr
 use Rattle.code.specs.declared.instr.Target.{Target as Destination}
 use Rattle.code.specs.declared.instr.Target.TheVariants as destination
-use Rattle.code.specs.Depth.{Listing, depth_after, Leaves, words_taken, with_fewer}
-use Rattle.source.specs.Arguments.{Actual, ReferenceActual, variable_given}
-use Rattle.source.specs.CallStep.{call_step, put, put_assigned, is_zero, effect_of_call, after_call, received, tell_copy}
-use Rattle.source.specs.Effect.{Calls, tasks_after, effect_of}
-use Rattle.source.specs.Task.{Task, Target, ScalarKind, ReferenceKind, FieldKind, BufferKind, Declared, Assigned, Dropped, Tested}
-use Rattle.source.specs.Thread as source
-use Rattle.source.specs.Thread.{BuffersInUse, Shared}
-use Rattle.source.specs.Value.{Int}
-use Rattle.source.specs.Variable.{Variables, Scalar, assign}
 use Rattle.code_generator.specs.Layout.{Known}
-use Rattle.lower.specs.Slots.{Visible, visible_to, Shows, word_of}
-use Rattle.lower.specs.Stands.{StandsFor}
-use Rattle.lower.specs.Does.{IsOperand, TakesResult, OperandFits, word_given, words_given}
+use Rattle.lower.specs.Does.{GoesInto, TakesField, TakesNumber, TakesReference, TakesResult}
 use Rattle.lower.specs.Lowered.{Lowered}
-use Rattle.machine.specs.declared.stop.Trap.{Trap}
-use Rattle.machine.specs.declared.thread.Event.{Event}
-use Rattle.machine.specs.declared.thread.Event.TheVariants as event
+use Rattle.lower.specs.Slots.{Shows, Slots, ValueHasSort, visible_to, word_of}
+use Rattle.lower.specs.Stands.{StandsFor, number_sort}
+use Rattle.machine.specs.declared.answer.Given.{Given}
+use Rattle.machine.specs.declared.answer.Given.TheVariants as given
 use Rattle.machine.specs.declared.thread.Activation.{Activation}
-use Rattle.machine.specs.declared.thread.Executed.TheVariants.{Did}
-use Rattle.machine.specs.Agrees.{CallStands, Executes, GoesOn, ReferencesAgree, event_view}
-use Rattle.machine.specs.HeapAgrees.{ReferenceAgrees, BlocksAgree}
-use Rattle.machine.specs.Invoked.{operand_at, held_in, HasTarget, with_result, HasWord, DidCall, Invoked, IsGiven, AreAddresses, IsAnswer, ReferenceIsGiven}
-use Rattle.machine.specs.Stops.{trap_view}
-use Rattle.machine.proofs.Calls.{slots_of, Ready, HasMoved, stands_at, depth_behind}
-use Rattle.machine.proofs.Changes.{scalar_of, is_set}
-use Rattle.machine.proofs.Effects.{call_cases}
+use Rattle.machine.specs.Agrees.{CallStands, FieldAgrees, FieldsAgree, FramesAgree, Keeps, ReferencesAgree}
+use Rattle.machine.specs.Answers.{GivenAgrees}
+use Rattle.machine.specs.Frames.{Frame}
+use Rattle.machine.specs.HeapAgrees.{ReferenceAgrees}
+use Rattle.machine.specs.Received.{Receives, fields_with, numbers_with, references_with}
+use Rattle.machine.proofs.Calls.{Ready, depth_behind, slots_of}
+use Rattle.machine.proofs.Changes.{field_by_kind, is_field_set, is_referred, is_set, local_by_kind, scalar_by_kind}
+use Rattle.machine.proofs.Keeping.{frames_stay, references_stay, shows_stay}
+use Rattle.machine.proofs.Receives.{IsNoBuffer, field_put, frames_agree, frames_received, no_buffer, nothing_told, received_is, reference_put}
+use Rattle.machine.proofs.Views.{assigned_viewless}
 
--- ---- the argument
+-- ---- the source's thread
 
--- the slot of a reference
-reference_there : (space : Space) (addresses : List (Option ℕ)) (references : List Reference) (i : ℕ) (q : Reference) → ReferencesAgree space addresses references → slice_get references i ≡ Some q → ReferenceAgrees space (held_in (slice_get addresses i)) q
-reference_there space [] [] i q h e = absurd (cc)
-reference_there space [] (r ∷ rs) i q h e = absurd h
-reference_there space (a ∷ more) [] i q h e = absurd h
-reference_there space (a ∷ more) (r ∷ rs) zero q h e = let same : r ≡ q = cc in subst (λ (x : Reference). ReferenceAgrees space a x) same h.0
-reference_there space (a ∷ more) (r ∷ rs) (suc i) q h e = reference_there space more rs i q h.1 e
+-- the thread of a call of function f, with this exception pending and this given
+module _ (line : ℕ) (f : JniFunction) (args : List Actual) (rest : List Task) (s : source.Thread) (q : Reference) (c : CallResult) where
+  -- before what was given goes to its target
+  abbrev pub resumption : Target → source.Thread
+  resumption target = record (received (prototype f).result c (record s { pending = q })) { tasks = Some (tasks_after line target (is_zero c) ++ rest); variables = tell_copy (variable_given args 1) c s.variables }
 
-operand_agrees : (p : Lowered) (space : Space) (call : Activation) (code : Listing) (visible : Visible) (task : Task) (rest : List Task) (r : Ready p space call code visible task rest) (operand : Operand) (actual : Actual)
-    → IsOperand code r.known call.place call.stack (slots_of call r.references) visible operand actual → IsGiven space call.references.items operand actual
-operand_agrees p space call code visible task rest r Null actual h = record { name = h.0; reference = None; is = h.1; agrees = tt }
-operand_agrees p space call code visible task rest r (Local i) actual h =
-    let shown = r.shows.each h.0 (record { sort = Ref; index = i }) h.2 in
-    record {
-      name = h.0;
-      reference = shown.reference;
-      is = h.1 ∙ ap (ReferenceActual h.0) shown.is;
-      agrees = reference_there space call.references.items r.references i shown.reference r.agree shown.there;
-    }
-operand_agrees p space call code visible task rest r Number actual h = h
-operand_agrees p space call code visible task rest r (Static i) actual h =
-    let shown = r.shows.each h.0 (record { sort = Global; index = i }) h.2 in
-    record { name = h.0; reference = None; is = h.1 ∙ ap (ReferenceActual h.0) shown.reference; agrees = tt }
+  -- and afterwards, with these variables
+  abbrev pub going : Variables → source.Thread
+  going vs = record s { tasks = Some rest; variables = vs; frames = frames_received (prototype f).result c s.frames; pending = q }
 
--- where a reference is an address, a block is there
-pub is_address : (space : Space) (o : Option ℕ) (q : Reference) (a : ℕ) → ReferenceAgrees space o q → o ≡ Some a → IsAddress space a
-is_address space None q a h e = absurd (cc)
-is_address space (Some b) None a h e = absurd h
-is_address space (Some b) (Some n) a h e =
-    let same : b ≡ a = cc in
-    some_block (block_at space a) n (subst (λ (c : ℕ). name_at space c ≡ Some n) same h)
-  where
-    some_block : (o : Option Block) (n : ℕ) → option_map (λ (c : Block). c.birth) o ≡ Some n → IsSome o
-    some_block None n h = absurd (cc)
-    some_block (Some c) n h = refl
+  module _ (plain : IsNoBuffer c) where
+    resumed_is : (target : Target) → resumption target ≡ record (going s.variables) { tasks = Some (tasks_after line target (is_zero c) ++ rest) }
+    resumed_is target =
+        ap (λ (t : source.Thread). let r : source.Thread = record t { tasks = Some (tasks_after line target (is_zero c) ++ rest); variables = tell_copy (variable_given args 1) c s.variables } in r) (received_is (prototype f).result c (record s { pending = q }))
+        ∙ ap (λ (vs : Variables). let r : source.Thread = record (going vs) { tasks = Some (tasks_after line target (is_zero c) ++ rest) } in r) (nothing_told (variable_given args 1) c s.variables plain)
 
--- ---- the call
+    module _ (next : Shared) where
+      dropped_is : put Dropped c next (resumption Dropped) ≡ source.Advances next (going s.variables) source.Quiet
+      dropped_is = ap (put Dropped c next) (resumed_is Dropped)
 
--- a reference is no word
-no_word : (space : Space) (references : List (Option ℕ)) (o : Operand) (a : Actual) → ReferenceIsGiven space references o a → word_given a ≡ []
-no_word space references o a h = ap word_given h.is
+      declared_is : (kind : VariableKind) (x : Identifier) (v : Variable) → filled (blank kind (length (frames_received (prototype f).result c s.frames))) c ≡ v
+          → put (Declared kind x) c next (resumption (Declared kind x)) ≡ source.Advances next (going (assign x v s.variables)) source.Quiet
+      declared_is kind x v is = ap (put (Declared kind x) c next) (resumed_is (Declared kind x)) ∙ ap (λ (w : Variable). source.Advances next (going (assign x w s.variables)) source.Quiet) is
 
--- the call takes the words of its arguments
-taken_words : (space : Space) (references : List (Option ℕ)) (operands : List Operand) (args : List Actual) → AllZip (IsGiven space references) operands args → words_taken operands ≡ length (words_given args)
-taken_words space references [] [] h = refl
-taken_words space references [] (a ∷ args) h = absurd h
-taken_words space references (o ∷ operands) [] h = absurd h
-taken_words space references (Number ∷ operands) (a ∷ args) h =
-    let further = taken_words space references operands args h.1 in
-    omega (arith, further, length-append (words_given args) (word_given a), ap (λ (b : Actual). length (word_given b)) h.0.1)
-taken_words space references (Null ∷ operands) (a ∷ args) h =
-    let further = taken_words space references operands args h.1 in
-    omega (arith, further, length-append (words_given args) (word_given a), ap length (no_word space references Null a h.0))
-taken_words space references (Local i ∷ operands) (a ∷ args) h =
-    let further = taken_words space references operands args h.1 in
-    omega (arith, further, length-append (words_given args) (word_given a), ap length (no_word space references (Local i) a h.0))
-taken_words space references (Static i ∷ operands) (a ∷ args) h =
-    let further = taken_words space references operands args h.1 in
-    omega (arith, further, length-append (words_given args) (word_given a), ap length (no_word space references (Static i) a h.0))
+      assigned_is : (x : Identifier) (old v : Variable) → lookup x s.variables ≡ Some old → filled old c ≡ v
+          → put (Assigned x) c next (resumption (Assigned x)) ≡ source.Advances next (going (assign x v s.variables)) source.Quiet
+      assigned_is x old v at is =
+          ap (put (Assigned x) c next) (resumed_is (Assigned x))
+          ∙ ap (put_assigned x c next (going s.variables)) at
+          ∙ ap (λ (w : Variable). source.Advances next (going (assign x w s.variables)) source.Quiet) is
 
-none_left : (n : ℕ) → with_fewer n n ≡ Some 0
-none_left n = rw (le-leb n n (omega arith)) (ap (λ (m : ℕ). Some m) (let e : n - n ≡ 0 = omega arith in e))
+-- ---- what was given
 
-taken_is : {n m d : ℕ} → n ≡ m → d ≡ m → with_fewer n d ≡ Some 0
-taken_is {n} {m} {d} same count = subst (λ (k : ℕ). with_fewer n k ≡ Some 0) (same ∙ sym count) (none_left n)
+-- a number
+record IsNumber (g : Given) (c : CallResult) (of : Sort) : Type 0 where
+  pub value : Value
+  pub gave : c ≡ ScalarResult value
+  pub same : g ≡ given.Number (word_of value)
+  pub sorted : ValueHasSort value of
 
-module _ (p : Lowered) (space : Space) (call : Activation) (code : Listing) (visible : Visible) (task : Task) (rest : List Task) (r : Ready p space call code visible task rest) where
-  all_given : (operands : List Operand) (args : List Actual) → AllZip (IsOperand code r.known call.place call.stack (slots_of call r.references) visible) operands args → AllZip (IsGiven space call.references.items) operands args
-  all_given [] [] h = tt
-  all_given [] (a ∷ args) h = absurd h
-  all_given (o ∷ operands) [] h = absurd h
-  all_given (o ∷ operands) (a ∷ args) h = (operand_agrees p space call code visible task rest r o a h.0, all_given operands args h.1)
+-- a reference
+record IsReference (space : Space) (g : Given) (c : CallResult) : Type 0 where
+  pub address : Option ℕ
+  pub reference : Reference
+  pub same : g ≡ given.Reference address
+  pub agrees : ReferenceAgrees space address reference
+  pub fills : (level : ℕ) (old : Reference) → filled (LocalRef level old) c ≡ LocalRef level reference
 
-  -- an operand is NULL or the address of a block
-  all_there : (operands : List Operand) (args : List Actual) → AllZip (IsGiven space call.references.items) operands args → AreAddresses space call.references.items operands
-  all_there [] [] h = tt
-  all_there [] (a ∷ args) h = absurd h
-  all_there (o ∷ operands) [] h = absurd h
-  all_there (o ∷ operands) (a ∷ args) h = (one_there o a h.0, all_there operands args h.1)
-    where
-      reference_there' : (o : Operand) (a : Actual) → ReferenceIsGiven space call.references.items o a → (b : ℕ) → operand_at call.references.items o ≡ Some b → IsAddress space b
-      reference_there' o a h b e = is_address space (operand_at call.references.items o) h.reference b h.agrees e
+-- a field ID
+record IsField (classes : Classes) (g : Given) (c : CallResult) : Type 0 where
+  pub handle : Option Handle
+  pub field : Option FieldId
+  pub same : g ≡ given.FieldId handle
+  pub agrees : FieldAgrees classes handle field
+  pub fills : (old : Option FieldId) → filled (FieldHandle old) c ≡ FieldHandle field
 
-      one_there : (o : Operand) (a : Actual) → IsGiven space call.references.items o a → (b : ℕ) → operand_at call.references.items o ≡ Some b → IsAddress space b
-      one_there Number a h b e = absurd (cc)
-      one_there Null a h b e = reference_there' Null a h b e
-      one_there (Local i) a h b e = reference_there' (Local i) a h b e
-      one_there (Static i) a h b e = reference_there' (Static i) a h b e
+number_given : (classes : Classes) (space : Space) (kind : ResultKind) (g : Given) (c : CallResult) (of : Sort) → GivenAgrees classes space kind g c → number_sort kind ≡ Some of → IsNumber g c of
+number_given classes space GivesInt (given.Number word) (ScalarResult (Int z)) of h e = record { value = Int z; gave = refl; same = ap given.Number h.0; sorted = (h.1, let same : Jint ≡ of = cc in sym same) }
+number_given classes space GivesInt (given.Number word) (ScalarResult (Word n)) of h e = absurd h
+number_given classes space GivesInt (given.Number word) (ScalarResult (Flag b)) of h e = absurd h
+number_given classes space GivesInt (given.Number word) (ScalarResult (Truth b)) of h e = absurd h
+number_given classes space GivesInt (given.Number word) NoResult of h e = absurd h
+number_given classes space GivesInt (given.Number word) NullResult of h e = absurd h
+number_given classes space GivesInt (given.Number word) (ReferenceResult r) of h e = absurd h
+number_given classes space GivesInt (given.Number word) (FieldResult f) of h e = absurd h
+number_given classes space GivesInt (given.Number word) (BufferResult b) of h e = absurd h
+number_given classes space GivesInt given.Nothing c of h e = absurd h
+number_given classes space GivesInt (given.Reference a) c of h e = absurd h
+number_given classes space GivesInt (given.FieldId a) c of h e = absurd h
+number_given classes space GivesFlag (given.Number word) (ScalarResult (Flag b)) of h e = record { value = Flag b; gave = refl; same = ap given.Number h; sorted = let same : sort.Flag ≡ of = cc in sym same }
+number_given classes space GivesFlag (given.Number word) (ScalarResult (Word n)) of h e = absurd h
+number_given classes space GivesFlag (given.Number word) (ScalarResult (Int z)) of h e = absurd h
+number_given classes space GivesFlag (given.Number word) (ScalarResult (Truth b)) of h e = absurd h
+number_given classes space GivesFlag (given.Number word) NoResult of h e = absurd h
+number_given classes space GivesFlag (given.Number word) NullResult of h e = absurd h
+number_given classes space GivesFlag (given.Number word) (ReferenceResult r) of h e = absurd h
+number_given classes space GivesFlag (given.Number word) (FieldResult f) of h e = absurd h
+number_given classes space GivesFlag (given.Number word) (BufferResult b) of h e = absurd h
+number_given classes space GivesFlag given.Nothing c of h e = absurd h
+number_given classes space GivesFlag (given.Reference a) c of h e = absurd h
+number_given classes space GivesFlag (given.FieldId a) c of h e = absurd h
+number_given classes space kind g c of h e = absurd (cc)
 
-  -- at an instruction that is a call
-  module _ (i : Instr) (at : slice_get code.instrs call.place ≡ Some i) (function : Call) (is : i ≡ instr.Call function) where
-    -- the function is one that can be called
-    pub built_there : is_built_function function.function ≡ true
-    built_there =
-        call_cases p space call code visible task rest r i at function is (λ e. is_built_function function.function ≡ true)
-        (λ line target f args h.
-        let same : h.call ≡ function = let e : instr.Call h.call ≡ instr.Call function = cc (at, h.at, is) in cc in
-        ap (λ (c : Call). is_built_function c.function) (sym same) ∙ ap is_built_function h.same_function ∙ h.built)
+reference_given : (classes : Classes) (space : Space) (g : Given) (c : CallResult) → GivenAgrees classes space NewLocal g c → IsReference space g c
+reference_given classes space (given.Reference a) (ReferenceResult r) h = record { address = a; reference = r; same = refl; agrees = h; fills = λ level old. refl }
+reference_given classes space (given.Reference a) NullResult h = record { address = a; reference = None; same = refl; agrees = subst (λ (o : Option ℕ). ReferenceAgrees space o None) (sym h) tt; fills = λ level old. refl }
+reference_given classes space (given.Reference a) NoResult h = absurd h
+reference_given classes space (given.Reference a) (ScalarResult v) h = absurd h
+reference_given classes space (given.Reference a) (FieldResult f) h = absurd h
+reference_given classes space (given.Reference a) (BufferResult b) h = absurd h
+reference_given classes space given.Nothing c h = absurd h
+reference_given classes space (given.Number word) c h = absurd h
+reference_given classes space (given.FieldId a) c h = absurd h
 
-    -- each operand is NULL or the address of a block
-    pub objects_there : AreAddresses space call.references.items function.operands
-    objects_there =
-        call_cases p space call code visible task rest r i at function is (λ e. AreAddresses space call.references.items function.operands)
-        (λ line target f args h.
-        let same : h.call ≡ function = let e : instr.Call h.call ≡ instr.Call function = cc (at, h.at, is) in cc in
-        subst (λ (c : Call). AreAddresses space call.references.items c.operands) same (all_there h.call.operands args (all_given h.call.operands args h.given)))
+field_given : (classes : Classes) (space : Space) (g : Given) (c : CallResult) → GivenAgrees classes space GivesField g c → IsField classes g c
+field_given classes space (given.FieldId a) (FieldResult f) h = record { handle = a; field = f; same = refl; agrees = h; fills = λ old. refl }
+field_given classes space (given.FieldId a) NullResult h = record { handle = a; field = None; same = refl; agrees = subst (λ (o : Option Handle). FieldAgrees classes o None) (sym h) tt; fills = λ old. refl }
+field_given classes space (given.FieldId a) NoResult h = absurd h
+field_given classes space (given.FieldId a) (ScalarResult v) h = absurd h
+field_given classes space (given.FieldId a) (ReferenceResult r) h = absurd h
+field_given classes space (given.FieldId a) (BufferResult b) h = absurd h
+field_given classes space given.Nothing c h = absurd h
+field_given classes space (given.Number word) c h = absurd h
+field_given classes space (given.Reference a) c h = absurd h
 
-    -- the slot of the result is there
-    pub slot_there : HasTarget call.numbers.items function.target
-    slot_there =
-        call_cases p space call code visible task rest r i at function is (λ e. HasTarget call.numbers.items function.target)
-        (λ line target f args h.
-        let same : h.call ≡ function = let e : instr.Call h.call ≡ instr.Call function = cc (at, h.at, is) in cc in
-        within function.target target (subst (λ (c : Call). TakesResult code r.known call.place call.stack (slots_of call r.references) visible c.target target rest) same h.goes))
-      where
-        within : (d : Destination) (target : Target) → TakesResult code r.known call.place call.stack (slots_of call r.references) visible d target rest → HasTarget call.numbers.items d
-        within destination.Dropped target h = tt
-        within (destination.Number j) (Declared ScalarKind x) h = h.within
-        within (destination.Number j) (Declared ReferenceKind x) h = absurd h
-        within (destination.Number j) (Declared FieldKind x) h = absurd h
-        within (destination.Number j) (Declared (BufferKind T) x) h = absurd h
-        within (destination.Number j) (Assigned x) h = h.0.within
-        within (destination.Number j) (Tested a b) h = absurd h
-        within (destination.Number j) Dropped h = absurd h
+-- ---- the end of a call
 
-module _ (p : Lowered) (classes : Classes) (space : Space) (lent : BuffersInUse) (k : ℕ) (shared : Shared) (s : source.Thread) (call : Activation) (code : Listing) (task : Task) (rest : List Task) (r : Ready p space call code (visible_to shared s) task rest) where
-  abbrev seen : Visible
-  seen = visible_to shared s
+-- the thread goes on with the rest, and the machine's call stands for it
+pub record Finishes (p : Lowered) (w : World) (space : Space) (next : Shared) (line : ℕ) (target : Target) (f : JniFunction) (args : List Actual) (rest : List Task) (s : source.Thread) (q : Reference) (c : CallResult) (after : Activation) : Type 0 where
+  pub variables : Variables
+  pub steps : put target c next (resumption line f args rest s q c target) ≡ source.Advances next (going line f args rest s q c variables) source.Quiet
+  pub stands : CallStands p w.classes space after (visible_to next (going line f args rest s q c variables)) (frames_received (prototype f).result c s.frames) rest
+  pub viewless : viewed_by (going line f args rest s q c variables) ≡ []
 
-  module _ (i : Instr) (at : slice_get code.instrs call.place ≡ Some i) (function : Call) (is : i ≡ instr.Call function) (line : ℕ) (f : JniFunction) (args : List Actual) (taken : depth_after (instr.Call function) (length call.stack) ≡ Some 0) where
-    -- a trap stops the thread where it is
-    trapped : (target : Target) (t : Trap) (after : Activation) (e : Event) → s.tasks ≡ Some (task ∷ rest) → CallStands p space call seen (task ∷ rest)
-        → call_step classes lent k shared s line target f args rest false ≡ source.Advances shared s (source.Trapped (trap_view t) line) → function.line ≡ line → (after ≡ call) × (e ≡ event.Trapped t function.line)
-        → GoesOn p classes space lent k shared s rest after (Calls line target f args) e
-    trapped target t after e tasks stands steps same did = record {
-      next = s;
-      steps = steps ∙ ap (λ (n : ℕ). source.Advances shared s (source.Trapped (trap_view t) n)) (sym same) ∙ ap (λ (v : Event). source.Advances shared s (event_view v)) (sym did.1);
-      work = rw tasks (subst (λ (c : Activation). CallStands p space c seen (task ∷ rest)) (sym did.0) stands);
-      calls = refl;
-      pending = refl;
-      ending = refl;
-    }
+module _ (p : Lowered) (w : World) (old space : Space) (shared next : Shared) (keeps : Keeps old shared space next) (s : source.Thread) (none : viewed_by s ≡ []) (call : Activation) (code : Listing) (task : Task) (rest : List Task)
+    (r : Ready p w.classes old call code (visible_to shared s) s.frames task rest) (line : ℕ) (f : JniFunction) (args : List Actual) (q : Reference) (g : Given) (c : CallResult) (agrees : GivenAgrees w.classes space (prototype f).result g c)
+    (function : Call) (at : slice_get code.instrs call.place ≡ Some (instr.Call function)) (left : depth_after (instr.Call function) (length call.stack) ≡ Some 0) (after : Activation) where
+  abbrev kind : ResultKind
+  kind = (prototype f).result
 
-    -- the thread goes on with the rest, and with what the call gave in a variable or nowhere
-    resumes : (target : Target) (word : ℕ) (d : Destination) (after : Activation) (e : Event) (variables : Variables) (names : Known) → HasWord call d word after → e ≡ event.Quiet
-        → call_step classes lent k shared s line target f args rest false ≡ source.Advances shared (record s { tasks = Some rest; variables = variables }) source.Quiet
-        → StandsFor code names (call.place + 1) [] rest
-        → Shows code names (visible_to shared (record s { tasks = Some rest; variables = variables })) (record { numbers = with_result call.numbers.items d word; references = r.references })
-        → GoesOn p classes space lent k shared s rest after (Calls line target f args) e
-    resumes target word d after e variables names did quiet steps stands shows =
-        let next : source.Thread = record s { tasks = Some rest; variables = variables } in
-        let moved : HasMoved call after (call.place + 1) [] (with_result call.numbers.items d word) call.references.items =
-        record { function = did.0; place = did.1; stack = did.2; numbers = did.3; references = ap (λ v. v.items) did.4 } in
-        let deep : depth_after i (length call.stack) ≡ Some 0 = ap (λ (o : Instr). depth_after o (length call.stack)) is ∙ taken in
-        record {
-          next = next;
-          steps = steps ∙ ap (λ (v : Event). source.Advances shared next (event_view v)) (sym quiet);
-          work = stands_at p space call code seen task rest r after (call.place + 1) [] (with_result call.numbers.items d word) call.references.items r.references names (visible_to shared next) rest
-              (depth_behind p space call code seen task rest r i at 0 (λ leaves. subst Leaves is leaves) deep) moved r.agree stands shows;
-          calls = refl;
-          pending = refl;
-          ending = refl;
-        }
+  plain : IsNoBuffer c
+  plain = no_buffer w.classes space kind g c agrees
 
-    -- what a call does that gives a number and changes nothing else
-    abbrev given_back : Target → ℤ → source.Advance
-    given_back target z = put target (ScalarResult (Int z)) shared (record s { tasks = Some (tasks_after line target (is_zero (ScalarResult (Int z))) ++ rest) })
+  abbrev then : Variables → source.Thread
+  then vs = going line f args rest s q c vs
 
-    -- by where a number goes
-    number_goes : (target : Target) (z : ℤ) (d : Destination) (after : Activation) (e : Event) → TakesResult code r.known call.place call.stack (slots_of call r.references) seen d target rest
-        → FitsSigned w32 z → HasWord call d (word_of (Int z)) after → e ≡ event.Quiet → call_step classes lent k shared s line target f args rest false ≡ given_back target z
-        → GoesOn p classes space lent k shared s rest after (Calls line target f args) e
-    number_goes (Declared ScalarKind y) z (destination.Number j) after e goes fits did quiet steps =
-        let next : source.Thread = record s { tasks = Some rest; variables = assign y (Scalar (Int z)) s.variables } in
-        resumes (Declared ScalarKind y) (word_of (Int z)) (destination.Number j) after e (assign y (Scalar (Int z)) s.variables) goes.names did quiet steps goes.stands
-        (goes.shows z (visible_to shared next) fits (is_set shared s next y (Int z) refl))
-    number_goes (Assigned y) z (destination.Number j) after e (goes, (old, number)) fits did quiet steps =
-        let next : source.Thread = record s { tasks = Some rest; variables = assign y (Scalar (Int z)) s.variables } in
-        resumes (Assigned y) (word_of (Int z)) (destination.Number j) after e (assign y (Scalar (Int z)) s.variables) goes.names did quiet
-        (steps ∙ ap (put_assigned y (ScalarResult (Int z)) shared (record s { tasks = Some rest })) (scalar_of (lookup y s.variables) old number)) goes.stands
-        (goes.shows z (visible_to shared next) fits (is_set shared s next y (Int z) refl))
-    number_goes Dropped z destination.Dropped after e goes fits did quiet steps = resumes Dropped (word_of (Int z)) destination.Dropped after e s.variables r.known did quiet steps goes r.shows
-    number_goes Dropped z (destination.Number j) after e goes fits did quiet steps = absurd goes
-    number_goes (Declared ScalarKind y) z destination.Dropped after e goes fits did quiet steps = absurd goes
-    number_goes (Declared ReferenceKind y) z destination.Dropped after e goes fits did quiet steps = absurd goes
-    number_goes (Declared ReferenceKind y) z (destination.Number j) after e goes fits did quiet steps = absurd goes
-    number_goes (Declared FieldKind y) z destination.Dropped after e goes fits did quiet steps = absurd goes
-    number_goes (Declared FieldKind y) z (destination.Number j) after e goes fits did quiet steps = absurd goes
-    number_goes (Declared (BufferKind T) y) z destination.Dropped after e goes fits did quiet steps = absurd goes
-    number_goes (Declared (BufferKind T) y) z (destination.Number j) after e goes fits did quiet steps = absurd goes
-    number_goes (Assigned y) z destination.Dropped after e goes fits did quiet steps = absurd goes
-    number_goes (Tested a b) z destination.Dropped after e goes fits did quiet steps = absurd goes
-    number_goes (Tested a b) z (destination.Number j) after e goes fits did quiet steps = absurd goes
+  abbrev held : Slots
+  held = slots_of call r.references r.fields
 
-    -- a number is no reference, and tells nothing of a copy
-    number_received : (kind : ResultKind) (z : ℤ) (t : source.Thread) → received kind (ScalarResult (Int z)) t ≡ t
-    number_received NewLocal z t = refl
-    number_received NewGlobal z t = refl
-    number_received GivesFlag z t = refl
-    number_received GivesInt z t = refl
-    number_received GivesField z t = refl
-    number_received GivesNothing z t = refl
-    number_received (GivesBuffer a) z t = refl
+  abbrev Ends : Target → Type 0
+  Ends target = Finishes p w space next line target f args rest s q c after
 
-    nothing_told : (x : Identifier) (z : ℤ) (variables : Variables) → tell_copy x (ScalarResult (Int z)) variables ≡ variables
-    nothing_told [] z variables = refl
-    nothing_told (c ∷ cs) z variables = refl
+  same_references : ReferencesAgree space call.references.items r.references
+  same_references = references_stay old space keeps.names call.references.items r.references r.agree
 
-    number_given_back : (target : Target) (z : ℤ) (s' : Shared) (t' : source.Thread) → s' ≡ shared → t' ≡ s → after_call classes lent k shared s line target f args rest (Gives [] s' t' (ScalarResult (Int z))) ≡ given_back target z
-    number_given_back target z s' t' same_shared same =
-        rw (same_shared, same, number_received (prototype f).result z s, nothing_told (variable_given args 1) z s.variables, append-nil shared.heap) refl
+  frames_after : (d : Destination) → Receives d kind g call after → FramesAgree space after.frames.items (frames_received kind c s.frames)
+  frames_after d receives =
+      subst (λ (l : List Frame). FramesAgree space l (frames_received kind c s.frames)) (sym receives.frames)
+      (frames_agree space w.classes kind g c call.frames.items s.frames agrees (frames_stay old space keeps.names call.frames.items s.frames r.frames_agree))
 
-    -- by the source's effect
-    by_effect : (target : Target) (effect : CallEffect) (answer : Result ℕ Trap) (after : Activation) (e : Event) → effect_of_call classes lent k shared s line target f args rest ≡ effect → s.tasks ≡ Some (task ∷ rest) → CallStands p space call seen (task ∷ rest)
-        → function.line ≡ line → TakesResult code r.known call.place call.stack (slots_of call r.references) seen function.target target rest
-        → IsAnswer shared s effect answer → DidCall function.line function.target call after answer e → GoesOn p classes space lent k shared s rest after (Calls line target f args) e
-    by_effect target (Halts trap) (Err u) after e h tasks stands same goes answers did =
-        trapped target u after e tasks stands
-        (ap (after_call classes lent k shared s line target f args rest) h ∙ ap (λ (v : SourceTrap). source.Advances shared s (source.Trapped v line)) (sym answers)) same did
-    by_effect target (Gives [] s' t' (ScalarResult (Int z))) (Ok word) after e h tasks stands same goes answers did =
-        number_goes target z function.target after e goes answers.3 (subst (λ (w : ℕ). HasWord call function.target w after) answers.2 did.0) did.1
-        (ap (after_call classes lent k shared s line target f args rest) h ∙ number_given_back target z s' t' answers.0 answers.1)
-    by_effect target (Throws c) answer after e h tasks stands same goes answers did = absurd answers
-    by_effect target (Halts trap) (Ok word) after e h tasks stands same goes answers did = absurd answers
-    by_effect target (Gives (o ∷ made) s' t' given) answer after e h tasks stands same goes answers did = absurd answers
-    by_effect target (Gives [] s' t' (ScalarResult (Int z))) (Err u) after e h tasks stands same goes answers did = absurd answers
-    by_effect target (Gives [] s' t' (ScalarResult v)) answer after e h tasks stands same goes answers did = absurd answers
-    by_effect target (Gives [] s' t' given) answer after e h tasks stands same goes answers did = absurd answers
+  stands_after : (d : Destination) → Receives d kind g call after → (names : Known) (vs : Variables) (references : List Reference) (fields : List (Option FieldId)) → ReferencesAgree space after.references.items references → FieldsAgree w.classes after.fields.items fields
+      → StandsFor code names (call.place + 1) [] rest → Shows code names (visible_to shared (then vs)) (record { numbers = after.numbers.items; references = references; fields = fields })
+      → CallStands p w.classes space after (visible_to next (then vs)) (frames_received kind c s.frames) rest
+  stands_after d receives names vs references fields agree fields_agree stands shows = record {
+    code = code;
+    of_function = ap (slice_get p.codes) receives.function ∙ r.of_function;
+    known = names;
+    stands = subst (λ (n : ℕ). StandsFor code names n after.stack rest) (sym receives.place) (subst (λ (l : List ℕ). StandsFor code names (call.place + 1) l rest) (sym receives.stack) stands);
+    references = references;
+    agree = agree;
+    fields = fields;
+    fields_agree = fields_agree;
+    shows = shows_stay shared next keeps.statics (then vs) code names (record { numbers = after.numbers.items; references = references; fields = fields }) shows;
+    depth =
+        ap (depth_at code.instrs) receives.place
+        ∙ depth_behind p w.classes old call code (visible_to shared s) s.frames task rest r (instr.Call function) at 0 (λ leaves. leaves) left
+        ∙ ap (λ (l : List ℕ). Some (length l)) (sym receives.stack);
+    frames_agree = frames_after d receives;
+  }
 
-  -- a call of a function
-  pub call_executes : (i : Instr) (at : slice_get code.instrs call.place ≡ Some i) (function : Call) (is : i ≡ instr.Call function) (after : Activation) (e : Event) → s.tasks ≡ Some (task ∷ rest) → s.pending ≡ None → CallStands p space call seen (task ∷ rest) → BlocksAgree space shared.heap space.blocks
-      → Invoked classes space call function after e → Executes p classes space lent k shared s rest after (effect_of seen.sight task) (Did e)
-  call_executes i at function is after e tasks none stands blocks did =
-      call_cases p space call code seen task rest r i at function is (λ effect. Executes p classes space lent k shared s rest after effect (Did e))
-      (λ line target f args h.
-      let same : h.call ≡ function = let both : instr.Call h.call ≡ instr.Call function = cc (at, h.at, is) in cc in
-      let goes = subst (λ (c : Call). TakesResult code r.known call.place call.stack (slots_of call r.references) seen c.target target rest) same h.goes in
-      let lines : function.line ≡ line = ap (λ (c : Call). c.line) (sym same) ∙ h.same_line in
-      let functions : function.function ≡ f = ap (λ (c : Call). c.function) (sym same) ∙ h.same_function in
-      let given = all_given p space call code seen task rest r function.operands args (subst (λ (c : Call). AllZip (IsOperand code r.known call.place call.stack (slots_of call r.references) seen) c.operands args) same h.given) in
-      let count : length args ≡ length (prototype function.function).parameters = h.count ∙ ap (λ (g : JniFunction). length (prototype g).parameters) (sym functions) in
-      let kinds = subst (λ (c : Call). AllZip OperandFits (prototype c.function).parameters c.operands) same (subst (λ (g : JniFunction). AllZip OperandFits (prototype g).parameters h.call.operands) (sym h.same_function) h.kinds) in
-      let answers = did.1 lent k line shared s target args rest none blocks count kinds h.words given in
-      let taken = taken_is (taken_words space call.references.items function.operands args (all_given p space call code seen task rest r function.operands args (subst (λ (c : Call). AllZip (IsOperand code r.known call.place call.stack (slots_of call r.references) seen) c.operands args) same h.given))) (ap length h.words) in
-      by_effect i at function is line f args taken target (effect_of_call classes lent k shared s line target f args rest) did.0 after e refl tasks stands lines goes
-      (subst (λ (g : JniFunction). IsAnswer shared s (effect_of_call classes lent k shared s line target g args rest) did.0) functions answers) did.2)
+  -- ---- a number
+
+  module _ (i : ℕ) (receives : Receives (destination.Number i) kind g call after) (of : Sort) (x : Identifier) (takes : TakesNumber code r.known call.place call.stack held (visible_to shared s) of i x rest) (n : IsNumber g c of) where
+    number_stands : CallStands p w.classes space after (visible_to next (then (assign x (Scalar n.value) s.variables))) (frames_received kind c s.frames) rest
+    number_stands =
+        let vs = assign x (Scalar n.value) s.variables in
+        let numbers : after.numbers.items ≡ slice_set call.numbers.items i (word_of n.value) = receives.numbers ∙ ap (λ (h : Given). numbers_with (destination.Number i) h call.numbers.items) n.same in
+        stands_after (destination.Number i) receives takes.names vs r.references r.fields (subst (λ (l : List (Option ℕ)). ReferencesAgree space l r.references) (sym receives.references) same_references)
+        (subst (λ (l : List (Option Handle)). FieldsAgree w.classes l r.fields) (sym receives.fields) r.fields_agree) takes.stands
+        (subst (λ (l : List ℕ). Shows code takes.names (visible_to shared (then vs)) (record { numbers = l; references = r.references; fields = r.fields })) (sym numbers)
+        (takes.shows n.value (visible_to shared (then vs)) n.sorted (is_set shared s (then vs) x n.value refl)))
+
+    number_viewless : viewed_by (then (assign x (Scalar n.value) s.variables)) ≡ []
+    number_viewless = assigned_viewless x (Scalar n.value) s.variables refl none
+
+  number_finishes : (i : ℕ) (target : Target) → Receives (destination.Number i) kind g call after → (of : Sort) → IsNumber g c of → GoesInto code r.known call.place call.stack held (visible_to shared s) ScalarKind target (λ x. TakesNumber code r.known call.place call.stack held (visible_to shared s) of i x rest) → Ends target
+  number_finishes i (Declared declared x) receives of n goes = record {
+    variables = assign x (Scalar n.value) s.variables;
+    steps = declared_is line f args rest s q c plain next declared x (Scalar n.value) (ap (λ (k : VariableKind). filled (blank k (length (frames_received kind c s.frames))) c) goes.0 ∙ ap (filled (blank ScalarKind 0)) n.gave);
+    stands = number_stands i receives of x goes.1 n;
+    viewless = number_viewless i receives of x goes.1 n;
+  }
+  number_finishes i (Assigned x) receives of n goes =
+      let old = scalar_by_kind (lookup x s.variables) goes.0 in
+      record {
+        variables = assign x (Scalar n.value) s.variables;
+        steps = assigned_is line f args rest s q c plain next x (Scalar old.0) (Scalar n.value) old.1 (ap (filled (Scalar old.0)) n.gave);
+        stands = number_stands i receives of x goes.1 n;
+        viewless = number_viewless i receives of x goes.1 n;
+      }
+  number_finishes i (Tested a b) receives of n goes = absurd goes
+  number_finishes i Dropped receives of n goes = absurd goes
+
+  -- ---- a reference
+
+  module _ (i : ℕ) (receives : Receives (destination.Local i) kind g call after) (x : Identifier) (takes : TakesReference code r.known call.place call.stack held (visible_to shared s) i x rest) (n : IsReference space g c) (level : ℕ) where
+    reference_stands : CallStands p w.classes space after (visible_to next (then (assign x (LocalRef level n.reference) s.variables))) (frames_received kind c s.frames) rest
+    reference_stands =
+        let vs = assign x (LocalRef level n.reference) s.variables in
+        let references : after.references.items ≡ slice_set call.references.items i n.address = receives.references ∙ ap (λ (h : Given). references_with (destination.Local i) h call.references.items) n.same in
+        stands_after (destination.Local i) receives takes.names vs (slice_set r.references i n.reference) r.fields
+        (subst (λ (l : List (Option ℕ)). ReferencesAgree space l (slice_set r.references i n.reference)) (sym references) (reference_put space call.references.items r.references i n.address n.reference same_references n.agrees))
+        (subst (λ (l : List (Option Handle)). FieldsAgree w.classes l r.fields) (sym receives.fields) r.fields_agree) takes.stands
+        (subst (λ (l : List ℕ). Shows code takes.names (visible_to shared (then vs)) (record { numbers = l; references = slice_set r.references i n.reference; fields = r.fields })) (sym receives.numbers)
+        (takes.shows n.reference (visible_to shared (then vs)) (is_referred shared s (then vs) x level n.reference refl)))
+
+    reference_viewless : viewed_by (then (assign x (LocalRef level n.reference) s.variables)) ≡ []
+    reference_viewless = assigned_viewless x (LocalRef level n.reference) s.variables refl none
+
+  reference_finishes : (i : ℕ) (target : Target) → Receives (destination.Local i) kind g call after → IsReference space g c → GoesInto code r.known call.place call.stack held (visible_to shared s) ReferenceKind target (λ x. TakesReference code r.known call.place call.stack held (visible_to shared s) i x rest) → Ends target
+  reference_finishes i (Declared declared x) receives n goes =
+      let level = length (frames_received kind c s.frames) in
+      record {
+        variables = assign x (LocalRef level n.reference) s.variables;
+        steps = declared_is line f args rest s q c plain next declared x (LocalRef level n.reference) (ap (λ (k : VariableKind). filled (blank k level) c) goes.0 ∙ n.fills level None);
+        stands = reference_stands i receives x goes.1 n level;
+        viewless = reference_viewless i receives x goes.1 n level;
+      }
+  reference_finishes i (Assigned x) receives n goes =
+      let old = local_by_kind (lookup x s.variables) goes.0 in
+      record {
+        variables = assign x (LocalRef old.0 n.reference) s.variables;
+        steps = assigned_is line f args rest s q c plain next x (LocalRef old.0 old.1) (LocalRef old.0 n.reference) old.2 (n.fills old.0 old.1);
+        stands = reference_stands i receives x goes.1 n old.0;
+        viewless = reference_viewless i receives x goes.1 n old.0;
+      }
+  reference_finishes i (Tested a b) receives n goes = absurd goes
+  reference_finishes i Dropped receives n goes = absurd goes
+
+  -- ---- a field ID
+
+  module _ (i : ℕ) (receives : Receives (destination.FieldId i) kind g call after) (x : Identifier) (takes : TakesField code r.known call.place call.stack held (visible_to shared s) i x rest) (n : IsField w.classes g c) where
+    field_stands : CallStands p w.classes space after (visible_to next (then (assign x (FieldHandle n.field) s.variables))) (frames_received kind c s.frames) rest
+    field_stands =
+        let vs = assign x (FieldHandle n.field) s.variables in
+        let fields : after.fields.items ≡ slice_set call.fields.items i n.handle = receives.fields ∙ ap (λ (h : Given). fields_with (destination.FieldId i) h call.fields.items) n.same in
+        stands_after (destination.FieldId i) receives takes.names vs r.references (slice_set r.fields i n.field) (subst (λ (l : List (Option ℕ)). ReferencesAgree space l r.references) (sym receives.references) same_references)
+        (subst (λ (l : List (Option Handle)). FieldsAgree w.classes l (slice_set r.fields i n.field)) (sym fields) (field_put w.classes call.fields.items r.fields i n.handle n.field r.fields_agree n.agrees)) takes.stands
+        (subst (λ (l : List ℕ). Shows code takes.names (visible_to shared (then vs)) (record { numbers = l; references = r.references; fields = slice_set r.fields i n.field })) (sym receives.numbers)
+        (takes.shows n.field (visible_to shared (then vs)) (is_field_set shared s (then vs) x n.field refl)))
+
+    field_viewless : viewed_by (then (assign x (FieldHandle n.field) s.variables)) ≡ []
+    field_viewless = assigned_viewless x (FieldHandle n.field) s.variables refl none
+
+  field_finishes : (i : ℕ) (target : Target) → Receives (destination.FieldId i) kind g call after → IsField w.classes g c → GoesInto code r.known call.place call.stack held (visible_to shared s) FieldKind target (λ x. TakesField code r.known call.place call.stack held (visible_to shared s) i x rest) → Ends target
+  field_finishes i (Declared declared x) receives n goes = record {
+    variables = assign x (FieldHandle n.field) s.variables;
+    steps = declared_is line f args rest s q c plain next declared x (FieldHandle n.field) (ap (λ (k : VariableKind). filled (blank k (length (frames_received kind c s.frames))) c) goes.0 ∙ n.fills None);
+    stands = field_stands i receives x goes.1 n;
+    viewless = field_viewless i receives x goes.1 n;
+  }
+  field_finishes i (Assigned x) receives n goes =
+      let old = field_by_kind (lookup x s.variables) goes.0 in
+      record {
+        variables = assign x (FieldHandle n.field) s.variables;
+        steps = assigned_is line f args rest s q c plain next x (FieldHandle old.0) (FieldHandle n.field) old.1 (n.fills old.0);
+        stands = field_stands i receives x goes.1 n;
+        viewless = field_viewless i receives x goes.1 n;
+      }
+  field_finishes i (Tested a b) receives n goes = absurd goes
+  field_finishes i Dropped receives n goes = absurd goes
+
+  -- ---- by where it goes
+
+  pub finishes : (d : Destination) (target : Target) → TakesResult code r.known call.place call.stack held (visible_to shared s) d kind target rest → Receives d kind g call after → Ends target
+  finishes (destination.Number i) target goes receives = number_finishes i target receives goes.0 (number_given w.classes space kind g c goes.0 agrees goes.1) goes.2
+  finishes (destination.Local i) target goes receives =
+      reference_finishes i target receives (reference_given w.classes space g c (subst (λ (k : ResultKind). GivenAgrees w.classes space k g c) goes.0 agrees)) goes.1
+  finishes (destination.FieldId i) target goes receives =
+      field_finishes i target receives (field_given w.classes space g c (subst (λ (k : ResultKind). GivenAgrees w.classes space k g c) goes.0 agrees)) goes.1
+  finishes destination.Dropped target goes receives =
+      subst Ends (sym goes.0) (record {
+        variables = s.variables;
+        steps = dropped_is line f args rest s q c plain next;
+        stands = stands_after destination.Dropped receives r.known s.variables r.references r.fields (subst (λ (l : List (Option ℕ)). ReferencesAgree space l r.references) (sym receives.references) same_references)
+            (subst (λ (l : List (Option Handle)). FieldsAgree w.classes l r.fields) (sym receives.fields) r.fields_agree) goes.1
+            (subst (λ (l : List ℕ). Shows code r.known (visible_to shared (then s.variables)) (record { numbers = l; references = r.references; fields = r.fields })) (sym receives.numbers) r.shows);
+        viewless = none;
+      })

@@ -1,46 +1,54 @@
 -- The report of the state that a machine's journal leads to.
-use Rattle.std.proofs.Common.{◌≡◌, ℕ, zero, suc, ◌+◌, Bool, true, false, cond, List, [], ◌∷◌, ◌++◌, length, map, Option, Some, None, Result, refl, sym, ap, ◌∙◌, subst}
-use Rattle.std.specs.Prelude.{slice_get, ◌==◌, is_some, not, ◌||◌, ◌&&◌}
-use Rattle.std.specs.List.{list_all, enumerate_from}
+use Rattle.std.proofs.Common.{append-nil, ◌≡◌, ℕ, zero, suc, ◌+◌, Bool, false, cond, List, [], ◌∷◌, ◌++◌, length, map, Option, Some, None, Result, refl, sym, ap, ◌∙◌, subst}
+use Rattle.std.specs.Prelude.{slice_get, flat_map, ◌==◌, is_some, not, ◌||◌, ◌&&◌}
+use Rattle.std.specs.List.{list_all, enumerate_from, AllZip}
 use Rattle.std.specs.Option.{option_map}
+use Rattle.std.proofs.lemmas.List.Concat.{flat_map-cons}
 use Rattle.syntax.specs.Views.{unit_tree}
 use Rattle.classes.specs.Class.{Classes}
 use Rattle.source.specs.declared.journal.Entry.{Entry}
 use Rattle.source.specs.declared.printed.Printed.{Printed}
 use Rattle.report.specs.declared.thread_status.ThreadStatus.{ThreadStatus}
-use Rattle.report.specs.declared.thread_status.ThreadStatus.TheVariants as held
 use Rattle.source.specs.JournalText.{journal_line}
 use Rattle.source.specs.Report.{ThreadStanding, HasTrapped, ShownRow, Report}
 use Rattle.report.specs.ReportText.{report_text}
 use Rattle.report.specs.Sink as sink
 use Rattle.report.specs.Sink.{Written}
-use Rattle.source.specs.World.{World}
+use Rattle.source.specs.World.{World, loaded_objects}
 use Rattle.report.specs.Shown.{report_with}
 use Rattle.report.specs.ThreadStatus.{standing_view}
 use Rattle.source.specs.ReportOf.{standing_by_ending, standing_of, shown, shown_row, report}
 use Rattle.report.specs.RunText as run_text
 use Rattle.source.specs.State as state
-use Rattle.source.specs.State.{State}
+use Rattle.source.specs.State.{State, views}
+use Rattle.source.specs.Heap.{Heap}
+use Rattle.source.specs.Reachable.{from_one, loaded_count, thread_roots, roots}
+use Rattle.source.specs.Task.{Task}
+use Rattle.source.proofs.ShownRows.{length-loaded}
 use Rattle.source.specs.Value.{trap_number}
 use Rattle.source.specs.Step.{is_waiting, is_blocked, is_unfinished}
 use Rattle.source.specs.Thread as source
-use Rattle.source.specs.Thread.{Shared}
+use Rattle.source.specs.Thread.{Shared, Monitor, viewed_by}
 use Rattle.heap.specs.Heap.{Space, left_of}
 use Rattle.lower.specs.Lowered.{Lowered, IsLowered}
+use Rattle.lower.specs.Slots.{Visible, visible_to}
+use Rattle.reached.specs.Rows.{AreReported}
 use Rattle.machine.specs.declared.thread.Ending.{Ending}
 use Rattle.machine.specs.declared.thread.Ending.TheVariants as ending
+use Rattle.machine.specs.declared.thread.Activation.{Activation}
 use Rattle.machine.specs.declared.thread.Thread.{Thread}
 use Rattle.machine.specs.declared.stop.Stop.{Stop}
-use Rattle.machine.specs.Agrees.{ThreadsAgree, ending_view}
+use Rattle.machine.specs.Agrees.{ThreadsAgree, FramesAgree, WorkAgrees, ending_view}
 use Rattle.machine.specs.Stops as machine
 use Rattle.machine.specs.Stops.{stop_view, trap_view}
 use Rattle.machine.specs.Run as run
-use Rattle.source.specs.Run.{UnmarkedFit, MarkedAreFair}
+use Rattle.source.specs.Run.{UnmarkedFit}
+use Rattle.machine.specs.declared.store.Store.{Store}
 use Rattle.machine.specs.Run.{Run, Corresponds, WritesRun, IsFinished}
-use Rattle.source.specs.ReportOf.{loaded_rows}
-use Rattle.source.proofs.ShownRows.{shown_rows}
 use Rattle.machine.proofs.Standings.{standings}
 use Rattle.machine.proofs.Threads.{unblocked}
+use Rattle.machine.specs.Roots.{frames_of, thread_names, ThreadsAreThere}
+use Rattle.machine.proofs.RootNames.{HasRootsOf, threads_are, threads_there}
 
 -- ---- how threads stand
 
@@ -55,49 +63,46 @@ never_blocked : (p : Lowered) (classes : Classes) (space : Space) (made : ℕ) (
 never_blocked p classes space made s ts l h zero = refl
 never_blocked p classes space made s ts l h (suc i) = free_at p classes space made (suc i) s.shared ts s.threads i l h
 
-stands : (classes : Classes) (blocked : Bool) (e : Ending) (f : source.Ending) → blocked ≡ false → f ≡ ending_view e → standing_by_ending classes blocked f ≡ standing_view (machine.standing_by_ending e)
+stands : (classes : Classes) (blocked : Bool) (e : Ending) (f : source.Ending) → blocked ≡ false → f ≡ ending_view e → standing_by_ending classes blocked f ≡ machine.standing_by_ending classes e
 stands classes blocked ending.Unfinished f b e = rw (b, e) refl
 stands classes blocked ending.Ended f b e = rw (b, e) refl
+stands classes blocked (ending.Uncaught c) f b e = rw (b, e) refl
 
-trapped_or : (b : Bool) (trap : ThreadStanding) (held : ThreadStatus) (other : ThreadStanding) (kept : ThreadStatus) → trap ≡ standing_view held → other ≡ standing_view kept → cond b trap other ≡ standing_view (cond b held kept)
-trapped_or true trap held other kept h k = h
-trapped_or false trap held other kept h k = k
-
-one_stands : (classes : Classes) (s : State) (stop : Option Stop) (k : ℕ) (e : Ending) (x : source.Thread) → is_blocked classes s k ≡ false → x.ending ≡ ending_view e → standing_of classes s k x (option_map stop_view stop) ≡ standing_view (machine.standing_of stop k e)
+one_stands : (classes : Classes) (s : State) (stop : Option Stop) (k : ℕ) (e : Ending) (x : source.Thread) → is_blocked classes s k ≡ false → x.ending ≡ ending_view e → standing_of classes s k x (option_map stop_view stop) ≡ machine.standing_of classes stop k e
 one_stands classes s None k e x free same = stands classes (is_blocked classes s k) e x.ending free same
 one_stands classes s (Some stop) k e x free same =
-    trapped_or (stop.thread == k) (HasTrapped (trap_number (trap_view stop.trap)) stop.line) (held.Trapped (trap_number (trap_view stop.trap)) stop.line) (standing_by_ending classes (is_blocked classes s k) x.ending) (machine.standing_by_ending e) refl (stands classes (is_blocked classes s k) e x.ending free same)
+    ap (λ (other : ThreadStanding). cond (stop.thread == k) (HasTrapped (trap_number (trap_view stop.trap)) stop.line) other) (stands classes (is_blocked classes s k) e x.ending free same)
 
 each_stands : (p : Lowered) (classes : Classes) (space : Space) (made : ℕ) (shared : Shared) (s : State) (stop : Option Stop) (n : ℕ) (ts : List Thread) (ss : List source.Thread) → ((k : ℕ) → is_blocked classes s k ≡ false) → ThreadsAgree p classes space made shared ts ss
-    → map (λ (t : ℕ × source.Thread). standing_of classes s t.0 t.1 (option_map stop_view stop)) (enumerate_from n ss) ≡ map standing_view (standings stop n ts)
+    → map (λ (t : ℕ × source.Thread). standing_of classes s t.0 t.1 (option_map stop_view stop)) (enumerate_from n ss) ≡ standings classes stop n ts
 each_stands p classes space made shared s stop n [] [] free h = refl
 each_stands p classes space made shared s stop n [] (x ∷ ss) free h = absurd h
 each_stands p classes space made shared s stop n (t ∷ ts) [] free h = absurd h
 each_stands p classes space made shared s stop n (t ∷ ts) (x ∷ ss) free h =
     ap (λ v. v ∷ map (λ (t : ℕ × source.Thread). standing_of classes s t.0 t.1 (option_map stop_view stop)) (enumerate_from (n + 1) ss)) (one_stands classes s stop n t.ending x (free n) h.0.ending)
-    ∙ ap (λ vs. standing_view (machine.standing_of stop n t.ending) ∷ vs) (each_stands p classes space made shared s stop (n + 1) ts ss free h.1)
+    ∙ ap (λ vs. machine.standing_of classes stop n t.ending ∷ vs) (each_stands p classes space made shared s stop (n + 1) ts ss free h.1)
 
 -- ---- the report
 
-pub report_is : (p : Lowered) (world : World) (space : Space) (addresses : List ℕ) (ts : List Thread) (printed : List Printed) (stop : Option Stop) (journal : List Entry) (c : Corresponds p world space addresses ts printed stop journal)
-    → report world c.state ≡ report_with printed (standings stop 1 ts) (loaded_rows world)
+pub report_is : (p : Lowered) (world : World) (store : Store) (ts : List Thread) (printed : List Printed) (stop : Option Stop) (journal : List Entry) (c : Corresponds p world store ts printed stop journal) (shown_standings : List ThreadStatus) (rows : List ShownRow)
+    → map standing_view shown_standings ≡ standings world.classes stop 1 ts → rows ≡ map (shown_row world.classes c.state.shared.heap) (shown world c.state) → report world c.state ≡ report_with printed shown_standings rows
 unfolding report
-report_is p world space addresses ts printed stop journal c =
+report_is p world store ts printed stop journal c shown_standings rows told shows =
     let before = map (λ (t : ℕ × source.Thread). standing_of world.classes c.state t.0 t.1 c.state.stop) (enumerate_from 1 c.state.threads) in
-    let threads = map standing_view (standings stop 1 ts) in
-    let same : before ≡ threads =
+    let same : before ≡ map standing_view shown_standings =
     ap (λ (o : Option state.Stop). map (λ (t : ℕ × source.Thread). standing_of world.classes c.state t.0 t.1 o) (enumerate_from 1 c.state.threads)) c.same_stop
-    ∙ each_stands p world.classes space (length addresses) c.state.shared c.state stop 1 ts c.state.threads (never_blocked p world.classes space (length addresses) c.state ts c.lowered c.threads_agree) c.threads_agree in
-    let rows = shown_rows world c.state c.heap in
+    ∙ each_stands p world.classes store.heap (length (loaded_objects world)) c.state.shared c.state stop 1 ts c.state.threads (never_blocked p world.classes store.heap (length (loaded_objects world)) c.state ts c.lowered c.threads_agree) c.threads_agree
+    ∙ sym told in
     ap (λ (l : List Printed). let r : Report = record { printed = l; standings = before; objects = map (shown_row world.classes c.state.shared.heap) (shown world c.state) } in r) c.same_printed
     ∙ ap (λ (l : List ThreadStanding). let r : Report = record { printed = printed; standings = l; objects = map (shown_row world.classes c.state.shared.heap) (shown world c.state) } in r) same
-    ∙ ap (λ (l : List ShownRow). let r : Report = record { printed = printed; standings = threads; objects = l } in r) rows
+    ∙ ap (λ (l : List ShownRow). let r : Report = record { printed = printed; standings = map standing_view shown_standings; objects = l } in r) (sym shows)
 
 -- ---- the end
 
 one_ended : (e : Ending) (f : source.Ending) (blocked : Bool) → blocked ≡ false → f ≡ ending_view e → run.has_ended e ≡ (not (is_unfinished f) || blocked)
 one_ended ending.Unfinished f b h e = rw (h, e) refl
 one_ended ending.Ended f b h e = rw (h, e) refl
+one_ended (ending.Uncaught c) f b h e = rw (h, e) refl
 
 each_ended : (p : Lowered) (classes : Classes) (space : Space) (made : ℕ) (shared : Shared) (s : State) (n : ℕ) (ts : List Thread) (ss : List source.Thread) → ((k : ℕ) → is_blocked classes s k ≡ false) → ThreadsAgree p classes space made shared ts ss
     → list_all (λ (t : Thread). run.has_ended t.ending) ts ≡ list_all (λ (t : ℕ × source.Thread). not (is_unfinished t.1.ending) || is_blocked classes s t.0) (enumerate_from n ss)
@@ -108,13 +113,13 @@ each_ended p classes space made shared s n (t ∷ ts) (x ∷ ss) free h =
     ap (λ b. b && list_all (λ (t : Thread). run.has_ended t.ending) ts) (one_ended t.ending x.ending (is_blocked classes s n) (free n) h.0.ending)
     ∙ ap (λ b. (not (is_unfinished x.ending) || is_blocked classes s n) && b) (each_ended p classes space made shared s (n + 1) ts ss free h.1)
 
-pub is_finished : (p : Lowered) (world : World) (space : Space) (addresses : List ℕ) (ts : List Thread) (printed : List Printed) (stop : Option Stop) (journal : List Entry) (c : Corresponds p world space addresses ts printed stop journal) (now : Run)
-    → ◌≡◌ {A = Run} (record { unit = p.unit; world = world; journal = journal; left = left_of space }) now
+pub is_finished : (p : Lowered) (world : World) (store : Store) (ts : List Thread) (printed : List Printed) (stop : Option Stop) (journal : List Entry) (c : Corresponds p world store ts printed stop journal) (now : Run)
+    → ◌≡◌ {A = Run} (record { unit = p.unit; world = world; journal = journal; left = left_of store.heap }) now
     → (answer : Bool) → answer ≡ (is_some stop || list_all (λ (t : Thread). run.has_ended t.ending) ts) → IsFinished now answer
-is_finished p world space addresses ts printed stop journal c now view answer h =
-    let free = never_blocked p world.classes space (length addresses) c.state ts c.lowered c.threads_agree in
+is_finished p world store ts printed stop journal c now view answer h =
+    let free = never_blocked p world.classes store.heap (length (loaded_objects world)) c.state ts c.lowered c.threads_agree in
     let same : answer ≡ run.is_finished world.classes c.state =
-    h ∙ ap (λ b. is_some stop || b) (each_ended p world.classes space (length addresses) c.state.shared c.state 1 ts c.state.threads free c.threads_agree)
+    h ∙ ap (λ b. is_some stop || b) (each_ended p world.classes store.heap (length (loaded_objects world)) c.state.shared c.state 1 ts c.state.threads free c.threads_agree)
     ∙ ap (λ b. b || list_all (λ (t : ℕ × source.Thread). not (is_unfinished t.1.ending) || is_blocked world.classes c.state t.0) (enumerate_from 1 c.state.threads)) (has_stopped stop ∙ ap (λ (o : Option state.Stop). is_some o) (sym c.same_stop)) in
     subst (λ (r : Run). IsFinished r answer) view (c.state, c.replays, same)
   where
@@ -122,26 +127,84 @@ is_finished p world space addresses ts printed stop journal c now view answer h 
     has_stopped None = refl
     has_stopped (Some x) = refl
 
+-- ---- the rows
+
+-- the frames and the pending exception of a thread stand for those of its thread of the source
+frames_in : (p : Lowered) (classes : Classes) (space : Space) (visible : Visible) (call : Option Activation) (frames : List source.Frame) (tasks : Option (List Task)) → WorkAgrees p classes space visible call frames tasks → FramesAgree space (frames_of call) frames
+frames_in p classes space visible None frames None h = subst (λ (fs : List source.Frame). FramesAgree space [] fs) (sym h) tt
+frames_in p classes space visible None frames (Some tasks) h = absurd h
+frames_in p classes space visible (Some call) frames None h = absurd h
+frames_in p classes space visible (Some call) frames (Some tasks) h = h.frames_agree
+
+roots_of : (p : Lowered) (classes : Classes) (space : Space) (made : ℕ) (shared : Shared) (ts : List Thread) (ss : List source.Thread) → ThreadsAgree p classes space made shared ts ss → AllZip (HasRootsOf space) ts ss
+roots_of p classes space made shared [] [] h = tt
+roots_of p classes space made shared [] (s ∷ ss) h = absurd h
+roots_of p classes space made shared (t ∷ ts) [] h = absurd h
+roots_of p classes space made shared (t ∷ ts) (s ∷ ss) h = (
+  record { frames = frames_in p classes space (visible_to shared s) t.call s.frames s.tasks (h.0).work; pending = (h.0).pending },
+  roots_of p classes space made shared ts ss h.1,
+)
+
+-- no function that gives a view can be called yet
+no_views : (p : Lowered) (classes : Classes) (space : Space) (made : ℕ) (shared : Shared) (ts : List Thread) (ss : List source.Thread) → ThreadsAgree p classes space made shared ts ss → flat_map viewed_by ss ≡ []
+no_views p classes space made shared ts [] h = refl
+no_views p classes space made shared [] (s ∷ ss) h = absurd h
+no_views p classes space made shared (t ∷ ts) (s ∷ ss) h =
+    flat_map-cons viewed_by s ss
+    ∙ ap (λ (l : List ℕ). l ++ flat_map viewed_by ss) (h.0).viewless
+    ∙ no_views p classes space made shared ts ss h.1
+
+module _ (p : Lowered) (world : World) (store : Store) (ts : List Thread) (printed : List Printed) (stop : Option Stop) (journal : List Entry) (c : Corresponds p world store ts printed stop journal) where
+  roots_in : AllZip (HasRootsOf store.heap) ts c.state.threads
+  roots_in = roots_of p world.classes store.heap (length (loaded_objects world)) c.state.shared ts c.state.threads c.threads_agree
+
+  -- what threads refer to is there
+  pub roots_there : ThreadsAreThere store.heap ts
+  roots_there = threads_there store.heap ts c.state.threads roots_in
+
+  -- the state's roots are the objects made at load and what the threads refer to
+  roots_are : roots world c.state ≡ from_one (length store.loaded.items) ++ flat_map (thread_names store.heap) ts
+  roots_are =
+      let names = flat_map thread_roots c.state.threads in
+      let count : loaded_count world ≡ length store.loaded.items = sym (length-loaded world) ∙ sym c.store_agrees.table.counted in
+      let views_none : views c.state ≡ [] = no_views p world.classes store.heap (length (loaded_objects world)) c.state.shared ts c.state.threads c.threads_agree in
+      ap (λ (l : List ℕ). from_one (loaded_count world) ++ l ++ names ++ map (λ (m : Monitor). m.object) c.state.shared.monitors ++ views c.state) c.store_agrees.globals
+      ∙ ap (λ (l : List ℕ). l ++ names ++ map (λ (m : Monitor). m.object) c.state.shared.monitors ++ views c.state) (append-nil (from_one (loaded_count world)))
+      ∙ ap (λ (ms : List Monitor). from_one (loaded_count world) ++ names ++ map (λ (m : Monitor). m.object) ms ++ views c.state) c.store_agrees.monitors
+      ∙ ap (λ (l : List ℕ). l ++ views c.state) (append-nil (from_one (loaded_count world) ++ names))
+      ∙ ap (λ (l : List ℕ). from_one (loaded_count world) ++ names ++ l) views_none
+      ∙ append-nil (from_one (loaded_count world) ++ names)
+      ∙ ap (λ n. from_one n ++ names) count
+      ∙ ap (λ (l : List ℕ). from_one (length store.loaded.items) ++ l) (sym (threads_are store.heap ts c.state.threads roots_in))
+
+  -- the rows of what can be reached from them are the state's
+  pub rows_are : (classes : Classes) (objects : Heap) (loaded : ℕ) (names : List ℕ) (rows : List ShownRow)
+      → classes ≡ world.classes → objects ≡ c.state.shared.heap → loaded ≡ length store.loaded.items → names ≡ flat_map (thread_names store.heap) ts
+      → AreReported classes objects loaded names rows → rows ≡ map (shown_row world.classes c.state.shared.heap) (shown world c.state)
+  unfolding report
+  rows_are classes objects loaded names rows k h l n told =
+      let same : roots world c.state ≡ from_one loaded ++ names =
+      roots_are
+      ∙ ap (λ m. from_one m ++ flat_map (thread_names store.heap) ts) (sym l)
+      ∙ ap (λ (ns : List ℕ). from_one loaded ++ ns) (sym n) in
+      told world c.state (record { classes = sym k; heap = sym h; roots = same })
+
 -- what is written of these parts is what the run writes
-pub writes_run : {T E : Type 0} (p : Lowered) (world : World) (space : Space) (addresses : List ℕ) (ts : List Thread) (printed : List Printed) (stop : Option Stop) (journal : List Entry) (c : Corresponds p world space addresses ts printed stop journal) (now : Run)
-    → ◌≡◌ {A = Run} (record { unit = p.unit; world = world; journal = journal; left = left_of space }) now
-    → (old new : Written) (result : Result T E) (numbers : List Printed) (shown : List ThreadStatus) (rows : List ShownRow) (entries : List Entry)
-    → numbers ≡ printed → shown ≡ standings stop 1 ts → rows ≡ loaded_rows world → entries ≡ journal
-    → sink.Writes old new result (report_text (report_with numbers shown rows) ++ journal_line entries)
+pub writes_run : {T E : Type 0} (p : Lowered) (world : World) (store : Store) (ts : List Thread) (printed : List Printed) (stop : Option Stop) (journal : List Entry) (c : Corresponds p world store ts printed stop journal) (now : Run)
+    → ◌≡◌ {A = Run} (record { unit = p.unit; world = world; journal = journal; left = left_of store.heap }) now
+    → (old new : Written) (result : Result T E) (numbers : List Printed) (told : List ThreadStatus) (rows : List ShownRow) (entries : List Entry)
+    → numbers ≡ printed → map standing_view told ≡ standings world.classes stop 1 ts → rows ≡ map (shown_row world.classes c.state.shared.heap) (shown world c.state) → entries ≡ journal
+    → sink.Writes old new result (report_text (report_with numbers told rows) ++ journal_line entries)
     → WritesRun now old new result
-writes_run p world space addresses ts printed stop journal c now view old new result numbers shown rows entries n s o e h =
-    let threads = standings stop 1 ts in
-    let same : report_text (report_with numbers shown rows) ++ journal_line entries ≡ report_text (report world c.state) ++ journal_line journal =
-    ap (λ (l : List Printed). report_text (report_with l shown rows) ++ journal_line entries) n
-    ∙ ap (λ (l : List ThreadStatus). report_text (report_with printed l rows) ++ journal_line entries) s
-    ∙ ap (λ (l : List ShownRow). report_text (report_with printed threads l) ++ journal_line entries) o
-    ∙ ap (λ (l : List Entry). report_text (report_with printed threads (loaded_rows world)) ++ journal_line l) e
-    ∙ ap (λ (r : Report). report_text r ++ journal_line journal) (sym (report_is p world space addresses ts printed stop journal c)) in
-    let written : run_text.Writes (unit_tree p.unit) world journal (report_text (report_with numbers shown rows) ++ journal_line entries) = record { end = c.state; replays = c.replays; same = same } in
+writes_run p world store ts printed stop journal c now view old new result numbers told rows entries n s o e h =
+    let same : report_text (report_with numbers told rows) ++ journal_line entries ≡ report_text (report world c.state) ++ journal_line journal =
+    ap (λ (l : List Printed). report_text (report_with l told rows) ++ journal_line entries) n
+    ∙ ap (λ (l : List Entry). report_text (report_with printed told rows) ++ journal_line l) e
+    ∙ ap (λ (r : Report). report_text r ++ journal_line journal) (sym (report_is p world store ts printed stop journal c told rows s o)) in
+    let written : run_text.Writes (unit_tree p.unit) world journal (report_text (report_with numbers told rows) ++ journal_line entries) = record { end = c.state; replays = c.replays; same = same } in
     record {
-      text = report_text (report_with numbers shown rows) ++ journal_line entries;
-      is = subst (λ (r : Run). run_text.Writes (unit_tree r.unit) r.world r.journal (report_text (report_with numbers shown rows) ++ journal_line entries)) view written;
+      text = report_text (report_with numbers told rows) ++ journal_line entries;
+      is = subst (λ (r : Run). run_text.Writes (unit_tree r.unit) r.world r.journal (report_text (report_with numbers told rows) ++ journal_line entries)) view written;
       fits = subst (λ (r : Run). UnmarkedFit (unit_tree r.unit) r.world r.journal) view c.fits;
-      fair = subst (λ (r : Run). MarkedAreFair (unit_tree r.unit) r.world r.journal) view c.fair;
       written = h;
     }

@@ -1,23 +1,27 @@
 -- A thread's step is that of the source's thread.
 use Rattle.source.proofs.BuiltCalls.{waits_for_none}
-use Rattle.std.proofs.Common.{◌≡◌, ℕ, zero, suc, ◌+◌, ◌-◌, ◌<◌, ◌≤◌, Bool, true, false, List, [], ◌∷◌, ◌++◌, length, filter_map, map, replicate, Option, Some, None, refl, sym, ap, ◌∙◌, subst, arith, append_assoc, if◌then◌else◌}
-use Rattle.std.specs.Prelude.{slice_get, nat_lt, nat_le, ◌&&◌, ◌||◌, IsTrue}
+use Rattle.std.proofs.Common.{zip, ◌≡◌, ℕ, zero, suc, ◌+◌, ◌-◌, ◌<◌, ◌≤◌, Bool, true, false, List, [], ◌∷◌, ◌++◌, length, filter_map, map, reverse, replicate, cond, eqb, Option, Some, None, refl, sym, ap, ◌∙◌, subst, arith, append_assoc, if◌then◌else◌}
+use Rattle.std.specs.Prelude.{find, slice_get, nat_lt, nat_le, ◌&&◌, ◌||◌, IsTrue}
 use Rattle.std.specs.List.{list_all, list_any}
 use Rattle.std.specs.Str.{bytes_eq}
-use Rattle.std.specs.Option.{option_map}
+use Rattle.std.specs.Option.{option_map, option_map_or, option_and_then}
+use Rattle.std.proofs.lemmas.List.{length-replicate, length-reverse}
 use Rattle.std.proofs.lemmas.Bool.Decides.{nat_tests}
 use Rattle.syntax.specs.Parts.{functions_of, statics_of}
 use Rattle.syntax.specs.Tree.{Static, Function, Item, StaticItem, FunctionItem}
 use Rattle.syntax.specs.Views.{unit_tree}
 use Rattle.base.specs.Bytes.{Identifier, lookup}
 use Rattle.classes.specs.Class.{Classes}
-use Rattle.heap.specs.Heap.{Space}
+use Rattle.classes.specs.Fields.{FieldId}
+use Rattle.class_table.specs.declared.class.FieldHandle.{FieldHandle}
+use Rattle.heap.specs.Heap.{Block, Space, class_at}
 use Rattle.types.specs.Sorts.{Global}
 use Rattle.world.specs.CallArguments.{is_argument}
-use Rattle.source.specs.Object.{ObjectValue, Number, Refers, Reference}
-use Rattle.source.specs.World.{Invocation}
+use Rattle.source.specs.Object.{Object, ObjectValue, Number, Refers, Reference}
+use Rattle.source.specs.World.{Invocation, World, loaded_objects}
+use Rattle.source.specs.Heap.{Heap, class_of}
 use Rattle.code.specs.Depth.{Listing, depth_at}
-use Rattle.source.specs.Activation.{enter, entered, entered_function, entry_advance, return_step, monitors_after, calls_after}
+use Rattle.source.specs.Activation.{enter, entered, entered_function, entry_advance, return_step, monitors_after, entry_frame, named_object}
 use Rattle.source.specs.Activation as activation
 use Rattle.source.specs.CallStep.{waits_with}
 use Rattle.source.specs.Effect.{Returns, effect_of}
@@ -38,131 +42,182 @@ use Rattle.machine.specs.declared.thread.Event.TheVariants as event
 use Rattle.machine.specs.declared.thread.Thread.{Thread}
 use Rattle.machine.specs.declared.thread.PendingCall.{PendingCall}
 use Rattle.machine.specs.declared.thread.Activation.{Activation}
-use Rattle.machine.specs.Agrees.{StaticsAgree, CallAgrees, CallsAgree, CallStands, WorkAgrees, ReferencesAgree, ThreadAgrees, GoesOn, Advances, ending_view, ending_after}
-use Rattle.machine.specs.Entry.{argument_address, Begins, IsReady}
-use Rattle.machine.specs.HeapAgrees.{ReferenceAgrees, IsTable}
+use Rattle.machine.specs.Frames.{Frame}
+use Rattle.machine.specs.declared.store.Store.{Store}
+use Rattle.machine.specs.Agrees.{StoreAgrees, Keeps, FrameAgrees, FramesAgree, FieldsAgree, CallAgrees, CallsAgree, CallStands, WorkAgrees, ReferencesAgree, ThreadAgrees, GoesOn, Advances, after_any, ending_view, ending_after, calls_after}
+use Rattle.machine.proofs.Views.{parameters_viewless}
+use Rattle.machine.proofs.Keeping.{StaticsAgree, keeps_same}
+use Rattle.machine.specs.Entry.{argument_address, named_address, IsEntryFrame, Begins, IsReady}
+use Rattle.machine.specs.HeapAgrees.{ReferenceAgrees, NamesAgree, BlocksAgree, IsTable}
 use Rattle.machine.proofs.Calls.{ready, slots_of, does_cases, agree_count}
 
 -- ---- work
 
 -- the tasks that a call in progress stands for
-pub record Working (p : Lowered) (space : Space) (call : Activation) (visible : Visible) (tasks : Option (List Task)) : Type 0 where
+pub record Working (p : Lowered) (classes : Classes) (space : Space) (call : Activation) (visible : Visible) (frames : List source.Frame) (tasks : Option (List Task)) : Type 0 where
   pub task : Task
   pub rest : List Task
   pub is : tasks ≡ Some (task ∷ rest)
-  pub stands : CallStands p space call visible (task ∷ rest)
+  pub stands : CallStands p classes space call visible frames (task ∷ rest)
 
-pub working : (p : Lowered) (space : Space) (visible : Visible) (o : Option Activation) (call : Activation) (tasks : Option (List Task)) → WorkAgrees p space visible o tasks → o ≡ Some call → Working p space call visible tasks
-working p space visible None call tasks w e = absurd (cc)
-working p space visible (Some x) call None w e = absurd w
-working p space visible (Some x) call (Some []) w e = absurd (cc (w.stands.returns))
-working p space visible (Some x) call (Some (task ∷ rest)) w e = record { task = task; rest = rest; is = refl; stands = let same : x ≡ call = cc in subst (λ a. CallStands p space a visible (task ∷ rest)) same w }
+pub working : (p : Lowered) (classes : Classes) (space : Space) (visible : Visible) (frames : List source.Frame) (o : Option Activation) (call : Activation) (tasks : Option (List Task)) → WorkAgrees p classes space visible o frames tasks → o ≡ Some call → Working p classes space call visible frames tasks
+working p classes space visible frames None call tasks w e = absurd (cc)
+working p classes space visible frames (Some x) call None w e = absurd w
+working p classes space visible frames (Some x) call (Some []) w e = absurd (cc (w.stands.returns))
+working p classes space visible frames (Some x) call (Some (task ∷ rest)) w e = record { task = task; rest = rest; is = refl; stands = let same : x ≡ call = cc in subst (λ a. CallStands p classes space a visible frames (task ∷ rest)) same w }
 
 -- no call is in progress
-pub resting : (p : Lowered) (space : Space) (visible : Visible) (o : Option Activation) (tasks : Option (List Task)) → WorkAgrees p space visible o tasks → o ≡ None → tasks ≡ None
-resting p space visible None None w e = refl
-resting p space visible None (Some tasks) w e = absurd w
-resting p space visible (Some x) tasks w e = absurd (cc)
+pub resting : (p : Lowered) (classes : Classes) (space : Space) (visible : Visible) (frames : List source.Frame) (o : Option Activation) (tasks : Option (List Task)) → WorkAgrees p classes space visible o frames tasks → o ≡ None → tasks ≡ None
+resting p classes space visible frames None None w e = refl
+resting p classes space visible frames None (Some tasks) w e = absurd w
+resting p classes space visible frames (Some x) tasks w e = absurd (cc)
 
 -- no thread waits for a monitor
-never_waits : (p : Lowered) (space : Space) (classes : Classes) (k : ℕ) (shared : Shared) (s : source.Thread) (call : Activation) (task : Task) (rest : List Task) → IsLowered p → CallStands p space call (visible_to shared s) (task ∷ rest) → waits_with classes k shared s (effect_of (sight_of shared s) task) ≡ false
-never_waits p space classes k shared s call task rest l w =
-    let r = ready p space call w.code (visible_to shared s) task rest l w.of_function w in
-    does_cases w.code r.known call.place call.stack (slots_of call r.references) (visible_to shared s) rest (λ e. waits_with classes k shared s e ≡ false)
+never_waits : (p : Lowered) (space : Space) (classes : Classes) (k : ℕ) (shared : Shared) (s : source.Thread) (frames : List source.Frame) (call : Activation) (task : Task) (rest : List Task) → IsLowered p → CallStands p classes space call (visible_to shared s) frames (task ∷ rest) → waits_with classes k shared s (effect_of (sight_of shared s) task) ≡ false
+never_waits p space classes k shared s frames call task rest l w =
+    let r = ready p classes space call w.code (visible_to shared s) frames task rest l w.of_function w in
+    does_cases w.code r.known call.place call.stack (slots_of call r.references r.fields) (visible_to shared s) rest (λ e. waits_with classes k shared s e ≡ false)
     (λ tasks h. refl) (λ x v h. refl) (λ target h. refl) (λ x i z t a h. refl) (λ t x n h. refl) (λ z h. refl)
     (λ line target f args h. waits_for_none classes k shared s line target f args h.built)
     (λ h. refl) (λ trap line h. refl) (effect_of (sight_of shared s) task) r.does
 
-not_waiting : (p : Lowered) (space : Space) (classes : Classes) (k : ℕ) (shared : Shared) (s : source.Thread) (o : Option Activation) (tasks : Option (List Task)) → IsLowered p → WorkAgrees p space (visible_to shared s) o tasks → waits_with classes k shared s (next_effect shared s tasks) ≡ false
-not_waiting p space classes k shared s None None l w = refl
-not_waiting p space classes k shared s None (Some tasks) l w = absurd w
-not_waiting p space classes k shared s (Some call) None l w = absurd w
-not_waiting p space classes k shared s (Some call) (Some []) l w = refl
-not_waiting p space classes k shared s (Some call) (Some (task ∷ rest)) l w = never_waits p space classes k shared s call task rest l w
+not_waiting : (p : Lowered) (space : Space) (classes : Classes) (k : ℕ) (shared : Shared) (s : source.Thread) (frames : List source.Frame) (o : Option Activation) (tasks : Option (List Task)) → IsLowered p → WorkAgrees p classes space (visible_to shared s) o frames tasks → waits_with classes k shared s (next_effect shared s tasks) ≡ false
+not_waiting p space classes k shared s frames None None l w = refl
+not_waiting p space classes k shared s frames None (Some tasks) l w = absurd w
+not_waiting p space classes k shared s frames (Some call) None l w = absurd w
+not_waiting p space classes k shared s frames (Some call) (Some []) l w = refl
+not_waiting p space classes k shared s frames (Some call) (Some (task ∷ rest)) l w = never_waits p space classes k shared s frames call task rest l w
 
 pub unblocked : (p : Lowered) (classes : Classes) (space : Space) (made : ℕ) (k : ℕ) (shared : Shared) (t : Thread) (s : source.Thread) → IsLowered p → ThreadAgrees p classes space made shared t s → waits classes k shared s ≡ false
-unblocked p classes space made k shared t s l h = not_waiting p space classes k shared s t.call s.tasks l h.work
+unblocked p classes space made k shared t s l h = not_waiting p space classes k shared s s.frames t.call s.tasks l h.work
 
 -- ---- an instruction
 
--- One step of a thread, where no monitor is owned.
-module _ (p : Lowered) (classes : Classes) (space : Space) (made : ℕ) (lent : BuffersInUse) (k : ℕ) (shared : Shared) (none_owned : shared.monitors ≡ []) (t : Thread) (s : source.Thread) (h : ThreadAgrees p classes space made shared t s) where
+-- One step of a thread.
+module _ (p : Lowered) (w : World) (old : Space) (lent : BuffersInUse) (k : ℕ) (shared : Shared) (t : Thread) (s : source.Thread) (h : ThreadAgrees p w.classes old (length (loaded_objects w)) shared t s) where
   -- a step of the source's thread within its call
-  steps_by : (task : Task) (rest : List Task) → s.tasks ≡ Some (task ∷ rest) → thread_step (unit_tree p.unit) classes lent k shared s false ≡ after_effect classes lent k shared s rest (effect_of (sight_of shared s) task)
-  steps_by task rest tasks = ap (step_within (unit_tree p.unit) classes lent k shared s false) tasks
+  steps_by : (refused : Bool) (task : Task) (rest : List Task) → s.tasks ≡ Some (task ∷ rest) → thread_step (unit_tree p.unit) w.classes lent k shared s refused ≡ after_any w.classes lent k shared s rest refused (effect_of (sight_of shared s) task)
+  steps_by false task rest tasks = ap (step_within (unit_tree p.unit) w.classes lent k shared s false) tasks
+  steps_by true task rest tasks = ap (step_within (unit_tree p.unit) w.classes lent k shared s true) tasks
 
   -- an instruction but a return
-  pub did : (call : Activation) (e : Event) (w : Working p space call (visible_to shared s) s.tasks) (after : Activation) → GoesOn p classes space lent k shared s w.rest after (effect_of (sight_of shared s) w.task) e → Advances p classes space made lent k shared s (record t { call = Some after }) e
-  did call e w after g = record {
+  pub did : (store : Store) (refused : Bool) (e : Event) (task : Task) (rest : List Task) → s.tasks ≡ Some (task ∷ rest) → (after : Activation) (pending : Option ℕ) → GoesOn p w old store lent k shared s rest after pending (effect_of (sight_of shared s) task) refused e
+      → Advances p w old store lent k shared s (record t { call = Some after; pending = pending }) refused e
+  did store refused e task rest is after pending g = record {
+    next_shared = g.next_shared;
     next = g.next;
-    steps = steps_by w.task w.rest w.is ∙ g.steps;
+    steps = steps_by refused task rest is ∙ g.steps;
+    store_agrees = g.store_agrees;
+    keeps = g.keeps;
     agrees = record {
-      calls = subst (CallsAgree p classes made t.calls.items) (sym g.calls) h.calls;
+      calls = subst (CallsAgree p w.classes (length (loaded_objects w)) t.calls.items) (sym g.calls) h.calls;
       work = g.work;
-      pending = g.pending ∙ h.pending;
+      pending = g.pending_agrees;
       ending = g.ending ∙ h.ending;
-      busy = λ a b c. subst (λ (o : Option (List Task)). WorkAgrees p space (visible_to shared g.next) (Some after) o) b g.work;
+      busy = λ a b c. subst (λ (o : Option (List Task)). WorkAgrees p w.classes store.heap (visible_to g.next_shared g.next) (Some after) g.next.frames o) b g.work;
+      caught = λ b. absurd (subst (λ (o : Option (List Task)). WorkAgrees p w.classes store.heap (visible_to g.next_shared g.next) (Some after) g.next.frames o) b g.work);
+      viewless = g.viewless;
     };
   }
 
 -- ---- a return
 
--- how a thread stands that has these calls to come
-pub ending_of : List Invocation → source.Ending
-ending_of [] = source.Ended
-ending_of (c ∷ calls) = source.Unfinished
+-- how a thread stands that has these calls to come, with an exception of this class pending or none
+pub ending_of : Option ℕ → List Invocation → source.Ending
+ending_of (Some class) calls = source.Uncaught class
+ending_of None [] = source.Ended
+ending_of None (c ∷ calls) = source.Unfinished
 
--- a thread between its calls
-abbrev pub idle : List Invocation → source.Thread
-idle calls = record { calls = calls; tasks = None; variables = []; frames = []; pending = None; ending = ending_of calls }
+-- a thread after its call
+abbrev pub idle : Option ℕ → List Invocation → source.Thread
+idle class calls = record { calls = activation.calls_after (ending_of class calls) calls; tasks = None; variables = []; frames = []; pending = None; ending = ending_of class calls }
 
-same_monitors : (shared : Shared) (monitors : List Monitor) → monitors ≡ shared.monitors → ◌≡◌ {A = Shared} (record shared { monitors = monitors }) shared
-same_monitors shared monitors e = ap (λ (m : List Monitor). let s : Shared = record shared { monitors = m } in s) e
+no_monitors : (ending : source.Ending) (k : ℕ) (monitors : List Monitor) → monitors ≡ [] → monitors_after ending k monitors ≡ monitors
+no_monitors source.Unfinished k monitors none = refl
+no_monitors source.Ended k monitors none = ap (λ (m : List Monitor). without_owner m k) none ∙ sym none
+no_monitors (source.Uncaught c) k monitors none = ap (λ (m : List Monitor). without_owner m k) none ∙ sym none
 
--- the thread and the shared state after a return with no exception pending
-leaves : (k : ℕ) (shared : Shared) (calls : List Invocation) → shared.monitors ≡ []
-    → ◌≡◌ {A = source.Advance} (let ending = activation.ending_after shared.heap None calls in
-    source.Advances (record shared { monitors = monitors_after ending k shared.monitors })
-    (record { calls = calls_after ending calls; tasks = None; variables = []; frames = []; pending = None; ending = ending }) source.Quiet)
-    (source.Advances shared (idle calls) source.Quiet)
+source_ending : (heap : Heap) (r : Reference) (calls : List Invocation) → activation.ending_after heap r calls ≡ ending_of (option_map (class_of heap) r) calls
 unfolding ending_of
-leaves k shared [] none =
-    ap (λ (x : Shared). source.Advances x (idle []) source.Quiet) (same_monitors shared (without_owner shared.monitors k) (ap (λ (m : List Monitor). without_owner m k) none ∙ sym none))
-leaves k shared (c ∷ calls) none = refl
+source_ending heap (Some n) calls = refl
+source_ending heap None [] = refl
+source_ending heap None (c ∷ calls) = refl
 
-returns_by : (k : ℕ) (shared : Shared) (s : source.Thread) → shared.monitors ≡ [] → s.pending ≡ None → return_step k shared s ≡ source.Advances shared (idle s.calls) source.Quiet
-returns_by k shared s none pending =
-    ap (λ (r : Option ℕ). let ending = activation.ending_after shared.heap r s.calls in
-    source.Advances (record shared { monitors = monitors_after ending k shared.monitors })
-    (record { calls = calls_after ending s.calls; tasks = None; variables = []; frames = []; pending = None; ending = ending }) source.Quiet) pending
-    ∙ leaves k shared s.calls none
+returns_by : (k : ℕ) (shared : Shared) (s : source.Thread) (class : Option ℕ) → shared.monitors ≡ [] → option_map (class_of shared.heap) s.pending ≡ class → return_step k shared s ≡ source.Advances shared (idle class s.calls) source.Quiet
+returns_by k shared s class none pending =
+    let ends : activation.ending_after shared.heap s.pending s.calls ≡ ending_of class s.calls = source_ending shared.heap s.pending s.calls ∙ ap (λ (o : Option ℕ). ending_of o s.calls) pending in
+    ap (λ (ending : source.Ending). source.Advances (record shared { monitors = monitors_after ending k shared.monitors })
+    (record { calls = activation.calls_after ending s.calls; tasks = None; variables = []; frames = []; pending = None; ending = ending }) source.Quiet) ends
+    ∙ ap (λ (m : List Monitor). source.Advances (record shared { monitors = m }) (idle class s.calls) source.Quiet) (no_monitors (ending_of class s.calls) k shared.monitors none)
 
-ending_agrees : (p : Lowered) (classes : Classes) (made : ℕ) (nexts : List PendingCall) (calls : List Invocation) (ending : Ending) → CallsAgree p classes made nexts calls → ending ≡ Unfinished → ending_of calls ≡ ending_view (ending_after nexts ending)
+calls_left : (p : Lowered) (classes : Classes) (made : ℕ) (class : Option ℕ) (nexts : List PendingCall) (calls : List Invocation) → CallsAgree p classes made nexts calls → CallsAgree p classes made (calls_after class nexts) (activation.calls_after (ending_of class calls) calls)
 unfolding ending_of
-ending_agrees p classes made [] [] ending h o = refl
-ending_agrees p classes made [] (c ∷ calls) ending h o = absurd h
-ending_agrees p classes made (n ∷ nexts) [] ending h o = absurd h
-ending_agrees p classes made (n ∷ nexts) (c ∷ calls) ending h o = ap ending_view (sym o)
+calls_left p classes made (Some c) nexts calls h = tt
+calls_left p classes made None [] [] h = tt
+calls_left p classes made None [] (c ∷ calls) h = absurd h
+calls_left p classes made None (n ∷ nexts) [] h = absurd h
+calls_left p classes made None (n ∷ nexts) (c ∷ calls) h = h
 
-something_to_do : (p : Lowered) (classes : Classes) (made : ℕ) (nexts : List PendingCall) (calls : List Invocation) (ending : Ending) → CallsAgree p classes made nexts calls → ending_after nexts ending ≡ Unfinished → calls ≡ [] → ⊥
-something_to_do p classes made [] calls ending h o e = cc
-something_to_do p classes made (n ∷ nexts) [] ending h o e = h
-something_to_do p classes made (n ∷ nexts) (c ∷ calls) ending h o e = cc
+ending_agrees : (p : Lowered) (classes : Classes) (made : ℕ) (class : Option ℕ) (nexts : List PendingCall) (calls : List Invocation) (ending : Ending) → CallsAgree p classes made nexts calls → ending ≡ Unfinished → ending_of class calls ≡ ending_view (ending_after class nexts ending)
+unfolding ending_of
+ending_agrees p classes made (Some c) nexts calls ending h o = refl
+ending_agrees p classes made None [] [] ending h o = refl
+ending_agrees p classes made None [] (c ∷ calls) ending h o = absurd h
+ending_agrees p classes made None (n ∷ nexts) [] ending h o = absurd h
+ending_agrees p classes made None (n ∷ nexts) (c ∷ calls) ending h o = ap ending_view (sym o)
 
-pub returned : (p : Lowered) (classes : Classes) (space : Space) (made : ℕ) (lent : BuffersInUse) (k : ℕ) (shared : Shared) (none_owned : shared.monitors ≡ []) (t : Thread) (s : source.Thread) (h : ThreadAgrees p classes space made shared t s) (call : Activation) (w : Working p space call (visible_to shared s) s.tasks)
-    → t.ending ≡ Unfinished → effect_of (sight_of shared s) w.task ≡ Returns
-    → Advances p classes space made lent k shared s (record { calls = t.calls; call = None; ending = ending_after t.calls.items t.ending }) event.Quiet
-returned p classes space made lent k shared none_owned t s h call w o is = record {
-  next = idle s.calls;
-  steps = steps_by p classes space made lent k shared none_owned t s h w.task w.rest w.is ∙ ap (after_effect classes lent k shared s w.rest) is ∙ returns_by k shared s none_owned h.pending;
-  agrees = record {
-    calls = h.calls;
-    work = tt;
-    pending = refl;
-    ending = ending_agrees p classes made t.calls.items s.calls t.ending h.calls o;
-    busy = λ a b c. something_to_do p classes made t.calls.items s.calls t.ending h.calls a c;
-  };
-}
+something_to_do : (p : Lowered) (classes : Classes) (made : ℕ) (class : Option ℕ) (nexts : List PendingCall) (calls : List Invocation) (ending : Ending) → CallsAgree p classes made nexts calls → ending_after class nexts ending ≡ Unfinished → activation.calls_after (ending_of class calls) calls ≡ [] → ⊥
+unfolding ending_of
+something_to_do p classes made (Some c) nexts calls ending h o e = cc
+something_to_do p classes made None [] calls ending h o e = cc
+something_to_do p classes made None (n ∷ nexts) [] ending h o e = h
+something_to_do p classes made None (n ∷ nexts) (c ∷ calls) ending h o e = cc
+
+-- the class of the exception that is pending
+pub class_pending : (space : Space) (heap : Heap) (a : Option ℕ) (r : Reference) → BlocksAgree space heap space.blocks → ReferenceAgrees space a r → option_map (class_of heap) r ≡ option_and_then (class_at space) a
+class_pending space heap None None b h = refl
+class_pending space heap None (Some n) b h = absurd h
+class_pending space heap (Some a) None b h = absurd h
+class_pending space heap (Some a) (Some n) b h = found_class space.blocks b h
+  where
+    found_class : (bs : List Block) → BlocksAgree space heap bs → option_map (λ (b : Block). b.birth) (find (λ (b : Block). eqb b.address a) bs) ≡ Some n → Some (class_of heap n) ≡ option_map (λ (b : Block). b.class) (find (λ (b : Block). eqb b.address a) bs)
+    found_class [] agree e = absurd (cc)
+    found_class (b ∷ bs) agree e = by_test (eqb b.address a) (found_class bs agree.1) e
+      where
+        by_test : (t : Bool) → (option_map (λ (b : Block). b.birth) (find (λ (b : Block). eqb b.address a) bs) ≡ Some n → Some (class_of heap n) ≡ option_map (λ (b : Block). b.class) (find (λ (b : Block). eqb b.address a) bs))
+            → option_map (λ (b : Block). b.birth) (cond t (Some b) (find (λ (b : Block). eqb b.address a) bs)) ≡ Some n → Some (class_of heap n) ≡ option_map (λ (b : Block). b.class) (cond t (Some b) (find (λ (b : Block). eqb b.address a) bs))
+        by_test true later e =
+            let named : b.birth ≡ n = cc in
+            let there = agree.0 in
+            let of : class_of heap b.birth ≡ there.object.class = ap (λ (o : Option Object). option_map_or (λ (x : Object). x.class) o 0) there.is in
+            ap (λ (c : ℕ). Some c) (ap (class_of heap) (sym named) ∙ of ∙ sym there.class)
+        by_test false later e = later e
+
+module _ (p : Lowered) (w : World) (old : Space) (lent : BuffersInUse) (k : ℕ) (shared : Shared) (t : Thread) (s : source.Thread) (h : ThreadAgrees p w.classes old (length (loaded_objects w)) shared t s) where
+  pub returned : (store : Store) (pending : Option ℕ) (after : Thread) (task : Task) (rest : List Task) → s.tasks ≡ Some (task ∷ rest) → StoreAgrees p w store shared → store.heap ≡ old → ReferenceAgrees store.heap pending s.pending → t.ending ≡ Unfinished
+      → effect_of (sight_of shared s) task ≡ Returns → after.call ≡ None → after.pending ≡ None → after.calls.items ≡ calls_after (option_and_then (class_at store.heap) pending) t.calls.items
+      → after.ending ≡ ending_after (option_and_then (class_at store.heap) pending) t.calls.items t.ending
+      → Advances p w old store lent k shared s after false event.Quiet
+  returned store pending after task rest tasks shares same pends o is no_call no_pending calls ending =
+      let class : Option ℕ = option_and_then (class_at store.heap) pending in
+      let made : ℕ = length (loaded_objects w) in
+      let of : option_map (class_of shared.heap) s.pending ≡ class = class_pending store.heap shared.heap pending s.pending shares.heap.blocks pends in
+      record {
+        next_shared = shared;
+        next = idle class s.calls;
+        steps = steps_by p w old lent k shared t s h false task rest tasks ∙ ap (after_effect w.classes lent k shared s rest) is ∙ returns_by k shared s class shares.monitors of;
+        store_agrees = shares;
+        keeps = subst (λ (x : Space). Keeps x shared store.heap shared) same (keeps_same store.heap shared);
+        agrees = record {
+          calls = subst (λ (ns : List PendingCall). CallsAgree p w.classes made ns (activation.calls_after (ending_of class s.calls) s.calls)) (sym calls) (calls_left p w.classes made class t.calls.items s.calls h.calls);
+          work = subst (λ (c : Option Activation). WorkAgrees p w.classes store.heap (visible_to shared (idle class s.calls)) c [] None) (sym no_call) refl;
+          pending = subst (λ (a : Option ℕ). ReferenceAgrees store.heap a None) (sym no_pending) tt;
+          ending = ending_agrees p w.classes made class t.calls.items s.calls t.ending h.calls o ∙ ap ending_view (sym ending);
+          busy = λ a b c. something_to_do p w.classes made class t.calls.items s.calls t.ending h.calls (sym ending ∙ a) c;
+          caught = λ b. refl;
+          viewless = refl;
+        };
+      }
 
 -- ---- an entry
 
@@ -301,9 +356,48 @@ module _ (space : Space) (loaded : List ℕ) (made : ℕ) (table : IsTable space
       let w = within n b.0 in
       (made_agrees n w.0 w.1, given_agree vs k b.1)
 
+  -- the names in the first frame
+  names_given : (vs : List ObjectValue) (xs : List ℕ) → map (λ a. Some a) xs ≡ filter_map (named_address loaded) vs → list_all (is_argument made) vs ≡ true → NamesAgree space xs (filter_map named_object vs)
+  names_given [] [] e h = tt
+  names_given [] (x ∷ xs) e h = absurd (cc)
+  names_given (Number z ∷ vs) xs e h = names_given vs xs e ((both (is_argument made (Number z)) (list_all (is_argument made) vs) h).1)
+  names_given (Refers None ∷ vs) xs e h = names_given vs xs e ((both (is_argument made (Refers None)) (list_all (is_argument made) vs) h).1)
+  names_given (Refers (Some n) ∷ vs) [] e h = absurd (cc)
+  names_given (Refers (Some n) ∷ vs) (x ∷ xs) e h =
+      let b = both (is_argument made (Refers (Some n))) (list_all (is_argument made) vs) h in
+      let w = within n b.0 in
+      let first : slice_get loaded (n - 1) ≡ Some x = cc in
+      let later : map (λ a. Some a) xs ≡ filter_map (named_address loaded) vs = cc in
+      (subst (λ (o : Option ℕ). ReferenceAgrees space o (Some n)) first (made_agrees n w.0 w.1), names_given vs xs later b.1)
+
+  frame_names : (class : ℕ) (vs : List ObjectValue) (xs : List ℕ) → 0 < class → class ≤ made → map (λ a. Some a) xs ≡ slice_get loaded (class - 1) ∷ filter_map (named_address loaded) vs → list_all (is_argument made) vs ≡ true → NamesAgree space xs (class ∷ filter_map named_object vs)
+  frame_names class vs [] low high e h = absurd (cc)
+  frame_names class vs (x ∷ xs) low high e h =
+      let first : slice_get loaded (class - 1) ≡ Some x = cc in
+      let later : map (λ a. Some a) xs ≡ filter_map (named_address loaded) vs = cc in
+      (subst (λ (o : Option ℕ). ReferenceAgrees space o (Some class)) first (made_agrees class low high), names_given vs xs later h)
+
+  names_count : (xs ns : List ℕ) → NamesAgree space xs ns → length xs ≡ length ns
+  names_count [] [] h = refl
+  names_count [] (n ∷ ns) h = absurd h
+  names_count (x ∷ xs) [] h = absurd h
+  names_count (x ∷ xs) (n ∷ ns) h = ap suc (names_count xs ns h.1)
+
+  entry_frame_agrees : (class : ℕ) (vs : List ObjectValue) (f : Frame) → 0 < class → class ≤ made → list_all (is_argument made) vs ≡ true → IsEntryFrame loaded class vs f → FrameAgrees space f (entry_frame (class ∷ filter_map named_object vs))
+  entry_frame_agrees class vs f low high h e =
+      let names = frame_names class vs (reverse f.references) low high e.given h in
+      let count : length (reverse f.references) ≡ length (class ∷ filter_map named_object vs) = names_count (reverse f.references) (class ∷ filter_map named_object vs) names in
+      let turned : length (reverse f.references) ≡ length f.references = length-reverse f.references in
+      record { capacity = e.capacity ∙ ap (λ (n : ℕ). n + 16) (sym turned ∙ count); references = names }
+
+-- NULL field IDs
+no_fields : (classes : Classes) (n : ℕ) → FieldsAgree classes (replicate n None) (replicate n None)
+no_fields classes zero = tt
+no_fields classes (suc n) = (tt, no_fields classes n)
+
 -- the call stands for the function's statements
 begun : (p : Lowered) (classes : Classes) (space : Space) (loaded : List ℕ) (made : ℕ) (shared : Shared) (s : source.Thread) (rest : List Invocation) (n : PendingCall) (c : Invocation) (call : Activation) → IsLowered p → IsTable space loaded made → StaticsAgree p shared → (f : CallAgrees p classes made n c) → Begins p loaded n call
-    → CallStands p space call (visible_to shared (entered s rest f.function n.class c.arguments)) (tasks_of f.function.body)
+    → CallStands p classes space call (visible_to shared (entered s rest f.function n.class c.arguments)) (entry_frame (n.class ∷ filter_map named_object c.arguments) ∷ []) (tasks_of f.function.body)
 begun p classes space loaded made shared s rest n c call lowered table statics f b =
     let found = code_of p n.function f.function lowered f.numbered in
     let same : found.code ≡ b.code = cc (found.at, b.of_function) in
@@ -311,13 +405,15 @@ begun p classes space loaded made shared s rest n c call lowered table statics f
     let begins = b.begins in
     let words = begins.numbers in
     let slots = begins.references in
+    let fields : List (Option FieldId) = replicate b.code.slots.field_ids None in
     let references : List Reference = Some n.class ∷ filter_map argument_reference c.arguments ++ replicate slots.more None in
     let given : call.references.items ≡ slice_get loaded (n.class - 1) ∷ filter_map (argument_address loaded) c.arguments ++ replicate slots.more None =
     slots.given ∙ ap (λ (vs : List ObjectValue). slice_get loaded (n.class - 1) ∷ filter_map (argument_address loaded) vs ++ replicate slots.more None) f.arguments in
     let agree : ReferencesAgree space call.references.items references =
     subst (λ (l : List (Option ℕ)). ReferencesAgree space l references) (sym given) (made_agrees space loaded made table n.class f.class_made.0 f.class_made.1, given_agree space loaded made table c.arguments slots.more f.given) in
-    let entry : EntrySlots b.code n.class c.arguments (record { numbers = call.numbers.items; references = references }) =
+    let entry : EntrySlots b.code n.class c.arguments (record { numbers = call.numbers.items; references = references; fields = fields }) =
     record {
+      fields = length-replicate {A = Option FieldId} b.code.slots.field_ids None;
       numbers = words.counted;
       more_numbers = words.more;
       words = words.given ∙ ap (λ (vs : List ObjectValue). filter_map argument_word vs ++ words.more) f.arguments;
@@ -333,13 +429,20 @@ begun p classes space loaded made shared s rest n c call lowered table statics f
           (subst (λ (st : List ℕ). StandsFor b.code (entry_layout found.statics f.function).known 0 st (tasks_of f.function.body)) (sym begins.stack) is_code.begins);
       references = references;
       agree = agree;
-      shows = is_code.shows shared s rest n.class c.arguments (record { numbers = call.numbers.items; references = references }) f.fit entry (statics_null p shared found.statics statics found.among);
+      fields = fields;
+      fields_agree = subst (λ (l : List (Option FieldHandle)). FieldsAgree classes l fields) (sym begins.fields) (no_fields classes b.code.slots.field_ids);
+      frames_agree = subst (λ (l : List Frame). FramesAgree space l (entry_frame (n.class ∷ filter_map named_object c.arguments) ∷ [])) (sym begins.frames)
+          (entry_frame_agrees space loaded made table n.class c.arguments begins.frame f.class_made.0 f.class_made.1 f.given (subst (λ (vs : List ObjectValue). IsEntryFrame loaded n.class vs begins.frame) f.arguments begins.entry_frame), tt);
+      shows = is_code.shows shared s rest n.class c.arguments (record { numbers = call.numbers.items; references = references; fields = fields }) f.fit entry (statics_null p shared found.statics statics found.among);
       depth = ap (depth_at b.code.instrs) begins.place ∙ ap (λ (st : List ℕ). Some (length st)) (sym begins.stack);
     }
 
-pub enters : (p : Lowered) (classes : Classes) (space : Space) (loaded : List ℕ) (made : ℕ) (lent : BuffersInUse) (k : ℕ) (shared : Shared) (t after : Thread) (s : source.Thread) (n : PendingCall) (call : Activation) → IsLowered p → IsTable space loaded made → StaticsAgree p shared → ThreadAgrees p classes space made shared t s → t.call ≡ None → t.calls.items ≡ n ∷ after.calls.items
-    → after.call ≡ Some call → Begins p loaded n call → after.ending ≡ t.ending → Advances p classes space made lent k shared s after event.Quiet
-enters p classes space loaded made lent k shared t after s n call lowered table statics h none calls is begins ending =
+pub enters : (p : Lowered) (w : World) (store : Store) (lent : BuffersInUse) (k : ℕ) (shared : Shared) (t after : Thread) (s : source.Thread) (n : PendingCall) (call : Activation) → IsLowered p → StoreAgrees p w store shared → ThreadAgrees p w.classes store.heap (length (loaded_objects w)) shared t s
+    → t.call ≡ None → t.calls.items ≡ n ∷ after.calls.items → after.call ≡ Some call → Begins p store.loaded.items n call → after.pending ≡ t.pending → after.ending ≡ t.ending → Advances p w store.heap store lent k shared s after false event.Quiet
+enters p w store lent k shared t after s n call lowered shares h none calls is begins pending ending =
+    let classes : Classes = w.classes in
+    let space : Space = store.heap in
+    let made : ℕ = length (loaded_objects w) in
     let c = coming p classes made n t.calls.items after.calls.items s.calls h.calls calls in
     let f = c.function in
     let next : source.Thread = entered s c.rest f.function n.class c.call.arguments in
@@ -348,18 +451,23 @@ enters p classes space loaded made lent k shared t after s n call lowered table 
     ∙ ap (entered_function classes s c.call c.rest) f.named
     ∙ ap (option_map (λ d. entered s c.rest f.function d c.call.arguments)) f.of_class in
     record {
+      next_shared = shared;
       next = next;
-      steps = ap (step_within (unit_tree p.unit) classes lent k shared s false) (resting p space (visible_to shared s) t.call s.tasks h.work none) ∙ ap (entry_advance shared) found;
+      steps = ap (step_within (unit_tree p.unit) classes lent k shared s false) (resting p classes space (visible_to shared s) s.frames t.call s.tasks h.work none) ∙ ap (entry_advance shared) found;
+      store_agrees = shares;
+      keeps = keeps_same space shared;
       agrees = record {
         calls = c.agrees;
-        work = subst (λ a. WorkAgrees p space (visible_to shared next) a (Some (tasks_of f.function.body))) (sym is) (begun p classes space loaded made shared s c.rest n c.call call lowered table statics f begins);
-        pending = h.pending;
+        work = subst (λ a. WorkAgrees p classes space (visible_to shared next) a next.frames (Some (tasks_of f.function.body))) (sym is) (begun p classes space store.loaded.items made shared s c.rest n c.call call lowered shares.table shares.statics f begins);
+        pending = subst (λ (a : Option ℕ). ReferenceAgrees space a s.pending) (sym pending) h.pending;
         ending = h.ending ∙ ap ending_view (sym ending);
         busy = λ a b d. cc;
+        caught = λ b. absurd (cc);
+        viewless = parameters_viewless (zip f.function.parameters c.call.arguments);
       };
     }
 
 -- ---- before the first call
 
-pub before_agrees : (p : Lowered) (classes : Classes) (space : Space) (made : ℕ) (shared : Shared) (t : Thread) (calls : List Invocation) → CallsAgree p classes made t.calls.items calls → (calls ≡ [] → ⊥) → t.call ≡ None → t.ending ≡ Unfinished → ThreadAgrees p classes space made shared t (waiting_thread calls)
-before_agrees p classes space made shared t calls h some none ending = record { calls = h; work = rw none tt; pending = refl; ending = ap ending_view (sym ending); busy = λ a b c. some c }
+pub before_agrees : (p : Lowered) (classes : Classes) (space : Space) (made : ℕ) (shared : Shared) (t : Thread) (calls : List Invocation) → CallsAgree p classes made t.calls.items calls → (calls ≡ [] → ⊥) → t.call ≡ None → t.pending ≡ None → t.ending ≡ Unfinished → ThreadAgrees p classes space made shared t (waiting_thread calls)
+before_agrees p classes space made shared t calls h some none no_exception ending = record { calls = h; work = rw none refl; pending = rw no_exception tt; caught = λ b. refl; viewless = refl; ending = ap ending_view (sym ending); busy = λ a b c. some c }

@@ -1,43 +1,53 @@
 -- How the machine stands for a state of the source.
-use Rattle.std.specs.Prelude.{◌≡◌, ℕ, ◌<◌, ◌≤◌, List, [], ◌∷◌, length, map, Option, Some, None, IsTrue, slice_get, false}
-use Rattle.std.specs.List.{list_all}
+use Rattle.std.specs.Prelude.{◌≡◌, ℕ, ◌<◌, ◌≤◌, Bool, true, false, List, [], ◌∷◌, length, map, reverse, take, Option, Some, None, IsTrue, slice_get}
+use Rattle.std.specs.List.{list_all, AllZip}
 use Rattle.syntax.specs.Parts.{functions_of}
 use Rattle.syntax.specs.Tree.{Function}
 use Rattle.syntax.specs.Views.{unit_tree}
 use Rattle.classes.specs.Class.{Classes}
-use Rattle.heap.specs.Heap.{Space}
+use Rattle.classes.specs.Fields.{FieldId}
+use Rattle.class_table.specs.declared.class.FieldHandle.{FieldHandle}
+use Rattle.class_table.specs.FieldViews.{field_of}
+use Rattle.heap.specs.Heap.{Space, IsLaidOut, end_of, name_at}
 use Rattle.world.specs.CallArguments.{is_argument}
-use Rattle.source.specs.Object.{Reference}
+use Rattle.source.specs.Object.{Reference, sizes}
 use Rattle.world.specs.Views.{object_value_view}
-use Rattle.source.specs.World.{Invocation}
+use Rattle.source.specs.World.{Invocation, World, loaded_objects}
 use Rattle.code.specs.Depth.{Listing, depth_at}
 use Rattle.source.specs.Activation.{function_at, class_of_function}
 use Rattle.source.specs.Effect.{Effect, Returns}
+use Rattle.source.specs.Reachable.{IsName}
 use Rattle.source.specs.Start.{null_statics}
 use Rattle.source.specs.Task.{Task}
 use Rattle.source.specs.Thread as source
-use Rattle.source.specs.Thread.{BuffersInUse, Shared}
-use Rattle.source.specs.ThreadStep.{thread_step, after_effect}
+use Rattle.source.specs.Thread.{BuffersInUse, Shared, Advance, viewed_by}
+use Rattle.source.specs.ThreadStep.{thread_step, after_effect, after_refused_effect}
 use Rattle.code_generator.specs.Layout.{Known}
 use Rattle.lower.specs.Slots.{ArgumentsFit, Visible, visible_to, Shows}
 use Rattle.lower.specs.Stands.{StandsFor}
 use Rattle.lower.specs.Lowered.{Lowered}
 use Rattle.machine.specs.declared.thread.Ending.{Ending}
-use Rattle.machine.specs.declared.thread.Ending.TheVariants.{Unfinished, Ended}
+use Rattle.machine.specs.declared.thread.Ending.TheVariants.{Unfinished, Ended, Uncaught}
 use Rattle.machine.specs.declared.thread.Event.{Event}
 use Rattle.machine.specs.declared.thread.Event.TheVariants.{Quiet, Printed, Trapped}
+use Rattle.machine.specs.declared.thread.Advanced.{Advanced}
+use Rattle.machine.specs.declared.thread.Advanced.TheVariants as advanced
+use Rattle.machine.specs.Frames.{Frame}
 use Rattle.machine.specs.declared.thread.Thread.{Thread}
 use Rattle.machine.specs.declared.thread.PendingCall.{PendingCall}
 use Rattle.machine.specs.declared.thread.Activation.{Activation}
 use Rattle.machine.specs.declared.thread.Executed.{Executed}
-use Rattle.machine.specs.declared.thread.Executed.TheVariants.{Did, Returned}
-use Rattle.machine.specs.HeapAgrees.{ReferenceAgrees}
+use Rattle.machine.specs.declared.thread.Executed.TheVariants.{Did, Refused, Returned}
+use Rattle.machine.specs.declared.store.Store.{Store}
+use Rattle.machine.specs.Classed.{AreClassed}
+use Rattle.machine.specs.HeapAgrees.{ReferenceAgrees, NamesAgree, HeapAgrees, IsTable}
 use Rattle.machine.specs.Stops.{trap_view}
 
 -- how a thread has ended, if it has
 abbrev pub ending_view : Ending → source.Ending
 ending_view Unfinished = source.Unfinished
 ending_view Ended = source.Ended
+ending_view (Uncaught class) = source.Uncaught class
 
 -- what is seen of a thread's step by others
 abbrev pub event_view : Event → source.Event
@@ -65,11 +75,54 @@ CallsAgree p classes made [] (c ∷ calls) = ⊥
 CallsAgree p classes made (n ∷ nexts) [] = ⊥
 CallsAgree p classes made (n ∷ nexts) (c ∷ calls) = CallAgrees p classes made n c × CallsAgree p classes made nexts calls
 
--- ---- statics
+-- ---- what all threads share
 
--- what the statics hold: nothing but NULL is stored in one yet
-abbrev pub StaticsAgree : Lowered → Shared → Type 0
-StaticsAgree p shared = shared.statics ≡ null_statics (unit_tree p.unit)
+-- The store stands for the shared state of the source.
+pub record StoreAgrees (p : Lowered) (w : World) (store : Store) (shared : Shared) : Type 0 where
+  -- nothing is collected yet, so all objects are there
+  pub heap : HeapAgrees store.heap shared.heap (IsName shared.heap)
+  pub laid_out : IsLaidOut store.heap
+  pub filled : end_of store.heap ≡ sizes shared.heap
+  pub cells : store.heap.cells ≡ w.cells
+  -- the objects made at load stay for ever
+  pub table : IsTable store.heap store.loaded.items (length (loaded_objects w))
+  pub begun : length (loaded_objects w) ≤ length shared.heap
+  pub births : store.births ≡ length shared.heap
+  pub classed : AreClassed w.classes shared.heap
+  -- no call that can be made yet changes these
+  pub statics : shared.statics ≡ null_statics (unit_tree p.unit)
+  pub globals : shared.globals ≡ []
+  pub monitors : shared.monitors ≡ []
+
+-- what a step of one thread leaves as it was for the others
+pub record Keeps (space : Space) (shared : Shared) (space' : Space) (shared' : Shared) : Type 0 where
+  -- objects stay where they are
+  pub names : (a n : ℕ) → name_at space a ≡ Some n → name_at space' a ≡ Some n
+  pub statics : shared'.statics ≡ shared.statics
+  -- none is taken out, and none takes more cells or fewer
+  pub sizes : sizes (take (length shared.heap) shared'.heap) ≡ sizes shared.heap
+
+-- ---- frames and field IDs
+
+-- a frame has the capacity and the local references of a frame of the source, the last one put first
+pub record FrameAgrees (space : Space) (f : Frame) (g : source.Frame) : Type 0 where
+  pub capacity : f.capacity ≡ g.capacity
+  pub references : NamesAgree space (reverse f.references) g.references
+
+-- frame by frame
+abbrev pub FramesAgree : Space → List Frame → List source.Frame → Type 0
+FramesAgree space frames source_frames = AllZip (FrameAgrees space) (reverse frames) source_frames
+
+-- a field ID is NULL or a handle of the field
+abbrev pub FieldAgrees : Classes → Option FieldHandle → Option FieldId → Type 0
+FieldAgrees classes None None = Unit {0}
+FieldAgrees classes None (Some f) = ⊥
+FieldAgrees classes (Some h) None = ⊥
+FieldAgrees classes (Some h) (Some f) = field_of classes h ≡ Some f
+
+-- slot by slot, what field IDs hold
+abbrev pub FieldsAgree : Classes → List (Option FieldHandle) → List (Option FieldId) → Type 0
+FieldsAgree classes handles fields = AllZip (FieldAgrees classes) handles fields
 
 -- ---- threads
 
@@ -82,31 +135,38 @@ ReferencesAgree space (a ∷ addresses) (r ∷ references) = ReferenceAgrees spa
 
 -- A call in progress stands for its tasks still to do, where this can be seen. The names of the objects that its slots
 -- refer to are those that the heap has at the addresses in them.
-pub record CallStands (p : Lowered) (space : Space) (call : Activation) (visible : Visible) (tasks : List Task) : Type 0 where
+pub record CallStands (p : Lowered) (classes : Classes) (space : Space) (call : Activation) (visible : Visible) (frames : List source.Frame) (tasks : List Task) : Type 0 where
   pub code : Listing
   pub of_function : slice_get p.codes call.function ≡ Some code
   pub known : Known
   pub stands : StandsFor code known call.place call.stack tasks
   pub references : List Reference
   pub agree : ReferencesAgree space call.references.items references
-  pub shows : Shows code known visible (record { numbers = call.numbers.items; references = references })
+  pub fields : List (Option FieldId)
+  pub fields_agree : FieldsAgree classes call.fields.items fields
+  pub shows : Shows code known visible (record { numbers = call.numbers.items; references = references; fields = fields })
   pub depth : depth_at code.instrs call.place ≡ Some (length call.stack)
+  pub frames_agree : FramesAgree space call.frames.items frames
 
--- a call in progress, or none
-abbrev pub WorkAgrees : Lowered → Space → Visible → Option Activation → Option (List Task) → Type 0
-WorkAgrees p space visible None None = Unit {0}
-WorkAgrees p space visible None (Some tasks) = ⊥
-WorkAgrees p space visible (Some call) None = ⊥
-WorkAgrees p space visible (Some call) (Some tasks) = CallStands p space call visible tasks
+-- a call in progress, or none, which has no frame
+abbrev pub WorkAgrees : Lowered → Classes → Space → Visible → Option Activation → List source.Frame → Option (List Task) → Type 0
+WorkAgrees p classes space visible None frames None = frames ≡ []
+WorkAgrees p classes space visible None frames (Some tasks) = ⊥
+WorkAgrees p classes space visible (Some call) frames None = ⊥
+WorkAgrees p classes space visible (Some call) frames (Some tasks) = CallStands p classes space call visible frames tasks
 
 -- a thread stands for one of the source, with this heap, where so many objects were made at load
 pub record ThreadAgrees (p : Lowered) (classes : Classes) (space : Space) (made : ℕ) (shared : Shared) (t : Thread) (s : source.Thread) : Type 0 where
   pub calls : CallsAgree p classes made t.calls.items s.calls
-  pub work : WorkAgrees p space (visible_to shared s) t.call s.tasks
-  pub pending : s.pending ≡ None
+  pub work : WorkAgrees p classes space (visible_to shared s) t.call s.frames s.tasks
+  pub pending : ReferenceAgrees space t.pending s.pending
   pub ending : s.ending ≡ ending_view t.ending
   -- a thread with nothing to do has ended
   pub busy : t.ending ≡ Unfinished → s.tasks ≡ None → s.calls ≡ [] → ⊥
+  -- no exception is pending between two calls
+  pub caught : s.tasks ≡ None → s.pending ≡ None
+  -- no function that gives a view can be called yet
+  pub viewless : viewed_by s ≡ []
 
 -- thread by thread
 abbrev pub ThreadsAgree : Lowered → Classes → Space → (made : ℕ) → Shared → List Thread → List source.Thread → Type 0
@@ -117,28 +177,61 @@ ThreadsAgree p classes space made shared (t ∷ ts) (s ∷ ss) = ThreadAgrees p 
 
 -- ---- steps
 
--- The first task had this effect on thread k, with the rest still to do: the thread goes on within its call, and the
--- shared state is as it was.
-pub record GoesOn (p : Lowered) (classes : Classes) (space : Space) (lent : BuffersInUse) (k : ℕ) (shared : Shared) (s : source.Thread) (rest : List Task) (call : Activation) (effect : Effect) (event : Event) : Type 0 where
+-- A call in progress, with what is pending, stands for a thread's tasks, of which this is the first.
+pub record IsExecuting (p : Lowered) (w : World) (store : Store) (call : Activation) (pending : Option ℕ) (shared : Shared) (s : source.Thread) (task : Task) (rest : List Task) : Type 0 where
+  pub store_agrees : StoreAgrees p w store shared
+  pub tasks : s.tasks ≡ Some (task ∷ rest)
+  pub stands : CallStands p w.classes store.heap call (visible_to shared s) s.frames (task ∷ rest)
+  pub pending_agrees : ReferenceAgrees store.heap pending s.pending
+  pub viewless : viewed_by s ≡ []
+
+-- what an effect of the first task leaves, or the same with its allocation refused
+abbrev pub after_any : Classes → BuffersInUse → ℕ → Shared → source.Thread → List Task → (refused : Bool) → Effect → Advance
+after_any classes lent k shared s rest false effect = after_effect classes lent k shared s rest effect
+after_any classes lent k shared s rest true effect = after_refused_effect classes lent k shared s rest effect
+
+-- The first task had this effect on thread k, with the rest still to do: the thread goes on within its call.
+pub record GoesOn (p : Lowered) (w : World) (old : Space) (store : Store) (lent : BuffersInUse) (k : ℕ) (shared : Shared) (s : source.Thread) (rest : List Task) (call : Activation) (pending : Option ℕ) (effect : Effect) (refused : Bool) (event : Event) : Type 0 where
+  pub next_shared : Shared
   pub next : source.Thread
-  pub steps : after_effect classes lent k shared s rest effect ≡ source.Advances shared next (event_view event)
-  pub work : WorkAgrees p space (visible_to shared next) (Some call) next.tasks
+  pub steps : after_any w.classes lent k shared s rest refused effect ≡ source.Advances next_shared next (event_view event)
+  pub store_agrees : StoreAgrees p w store next_shared
+  pub keeps : Keeps old shared store.heap next_shared
+  pub work : WorkAgrees p w.classes store.heap (visible_to next_shared next) (Some call) next.frames next.tasks
+  pub pending_agrees : ReferenceAgrees store.heap pending next.pending
   pub calls : next.calls ≡ s.calls
-  pub pending : next.pending ≡ s.pending
   pub ending : next.ending ≡ s.ending
+  pub viewless : viewed_by next ≡ []
 
--- what an instruction did is the effect of the first of the tasks
-abbrev pub Executes : Lowered → Classes → Space → BuffersInUse → ℕ → Shared → source.Thread → (rest : List Task) → Activation → Effect → Executed → Type 0
-Executes p classes space lent k shared s rest call effect (Did event) = GoesOn p classes space lent k shared s rest call effect event
-Executes p classes space lent k shared s rest call effect Returned = effect ≡ Returns
+-- what an instruction did is the effect of the first of the tasks; a return leaves the store as it was
+abbrev pub Executes : Lowered → World → Space → Store → BuffersInUse → ℕ → Shared → source.Thread → (rest : List Task) → Activation → (pending : Option ℕ) → Effect → Executed → Type 0
+Executes p w old store lent k shared s rest call pending effect (Did event) = GoesOn p w old store lent k shared s rest call pending effect false event
+Executes p w old store lent k shared s rest call pending effect Refused = GoesOn p w old store lent k shared s rest call pending effect true Quiet
+Executes p w old store lent k shared s rest call pending effect Returned = (effect ≡ Returns) × StoreAgrees p w store shared × (store.heap ≡ old) × ReferenceAgrees store.heap pending s.pending
 
--- the thread took the step that the source's thread takes, which leaves the shared state as it was
-pub record Advances (p : Lowered) (classes : Classes) (space : Space) (made : ℕ) (lent : BuffersInUse) (k : ℕ) (shared : Shared) (s : source.Thread) (t : Thread) (event : Event) : Type 0 where
+-- the thread took the step that the source's thread takes, or the same with its allocation refused
+pub record Advances (p : Lowered) (w : World) (old : Space) (store : Store) (lent : BuffersInUse) (k : ℕ) (shared : Shared) (s : source.Thread) (t : Thread) (refused : Bool) (event : Event) : Type 0 where
+  pub next_shared : Shared
   pub next : source.Thread
-  pub steps : thread_step (unit_tree p.unit) classes lent k shared s false ≡ source.Advances shared next (event_view event)
-  pub agrees : ThreadAgrees p classes space made shared t next
+  pub steps : thread_step (unit_tree p.unit) w.classes lent k shared s refused ≡ source.Advances next_shared next (event_view event)
+  pub store_agrees : StoreAgrees p w store next_shared
+  pub keeps : Keeps old shared store.heap next_shared
+  pub agrees : ThreadAgrees p w.classes store.heap (length (loaded_objects w)) next_shared t next
 
--- how a thread with these calls to come stands after a call
-abbrev pub ending_after : List PendingCall → Ending → Ending
-ending_after [] ending = Ended
-ending_after (n ∷ rest) ending = ending
+-- the same by what is told of it
+abbrev pub AdvancesBy : Lowered → World → Space → Store → BuffersInUse → ℕ → Shared → source.Thread → Thread → Advanced → Type 0
+AdvancesBy p w old store lent k shared s t (advanced.Did event) = Advances p w old store lent k shared s t false event
+AdvancesBy p w old store lent k shared s t advanced.Refused = Advances p w old store lent k shared s t true Quiet
+
+-- ---- returns
+
+-- how a thread with these calls to come has ended after a call, with an exception of this class pending or none
+abbrev pub ending_after : Option ℕ → List PendingCall → Ending → Ending
+ending_after (Some class) calls ending = Uncaught class
+ending_after None [] ending = Ended
+ending_after None (n ∷ rest) ending = ending
+
+-- its calls that are left
+abbrev pub calls_after : Option ℕ → List PendingCall → List PendingCall
+calls_after (Some class) calls = []
+calls_after None calls = calls

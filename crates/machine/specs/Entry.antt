@@ -1,5 +1,5 @@
 -- What the slots of a call hold at its entry.
-use Rattle.std.specs.Prelude.{◌≡◌, ℕ, ◌-◌, ◌<◌, ◌≤◌, List, [], ◌∷◌, ◌++◌, length, map, filter_map, replicate, slice_get, Option, Some, None, IsTrue}
+use Rattle.std.specs.Prelude.{◌≡◌, ℕ, ◌+◌, ◌-◌, ◌<◌, ◌≤◌, List, [], ◌∷◌, ◌++◌, length, map, filter_map, replicate, reverse, slice_get, Option, Some, None, IsTrue}
 use Rattle.std.specs.List.{list_all}
 use Rattle.source.specs.Object.{ObjectValue, Number, Refers}
 use Rattle.world.specs.CallArguments.{is_argument}
@@ -8,6 +8,7 @@ use Rattle.code.specs.Depth.{Listing}
 use Rattle.lower.specs.Lowered.{Lowered}
 use Rattle.lower.specs.Slots.{argument_word, HasRoom}
 use Rattle.machine.specs.declared.thread.Activation.{Activation}
+use Rattle.machine.specs.Frames.{Frame}
 use Rattle.machine.specs.declared.thread.PendingCall.{PendingCall}
 
 -- where the object lies that an argument refers to
@@ -15,6 +16,12 @@ abbrev pub argument_address : (loaded : List ℕ) → ObjectValue → Option (Op
 argument_address loaded (Number z) = None
 argument_address loaded (Refers None) = Some None
 argument_address loaded (Refers (Some n)) = Some (slice_get loaded (n - 1))
+
+-- the same of one that isn't NULL
+abbrev pub named_address : (loaded : List ℕ) → ObjectValue → Option (Option ℕ)
+named_address loaded (Number z) = None
+named_address loaded (Refers None) = None
+named_address loaded (Refers (Some n)) = Some (slice_get loaded (n - 1))
 
 -- so many slots, the first of which hold the numbers among the arguments
 pub record IsNumbersOf (count : ℕ) (arguments : List ObjectValue) (slots : List ℕ) : Type 0 where
@@ -28,6 +35,11 @@ pub record IsReferencesOf (count : ℕ) (loaded : List ℕ) (class : ℕ) (argum
   pub more : ℕ
   pub given : slots ≡ slice_get loaded (class - 1) ∷ filter_map (argument_address loaded) arguments ++ replicate more None
 
+-- the first frame of a call, with the class and the arguments that aren't NULL, and room for 16 more
+pub record IsEntryFrame (loaded : List ℕ) (class : ℕ) (arguments : List ObjectValue) (f : Frame) : Type 0 where
+  pub given : map (λ a. Some a) (reverse f.references) ≡ slice_get loaded (class - 1) ∷ filter_map (named_address loaded) arguments
+  pub capacity : f.capacity ≡ length f.references + 16
+
 -- a call with this code before its first instruction
 pub record BeginsIn (code : Listing) (loaded : List ℕ) (next : PendingCall) (call : Activation) : Type 0 where
   pub function : call.function ≡ next.function
@@ -35,6 +47,10 @@ pub record BeginsIn (code : Listing) (loaded : List ℕ) (next : PendingCall) (c
   pub stack : call.stack ≡ []
   pub numbers : IsNumbersOf code.slots.numbers (map object_value_view next.arguments.items) call.numbers.items
   pub references : IsReferencesOf code.slots.references loaded next.class (map object_value_view next.arguments.items) call.references.items
+  pub fields : call.fields.items ≡ replicate code.slots.field_ids None
+  pub frame : Frame
+  pub frames : call.frames.items ≡ frame ∷ []
+  pub entry_frame : IsEntryFrame loaded next.class (map object_value_view next.arguments.items) frame
 
 -- a call of a program before its first instruction
 pub record Begins (p : Lowered) (loaded : List ℕ) (next : PendingCall) (call : Activation) : Type 0 where

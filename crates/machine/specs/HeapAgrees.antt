@@ -34,6 +34,13 @@ ValuesAgree space [] (v ∷ values) = ⊥
 ValuesAgree space (held ∷ rest) [] = ⊥
 ValuesAgree space (held ∷ rest) (v ∷ values) = ValueAgrees space held v × ValuesAgree space rest values
 
+-- address by address, what the objects there are named
+abbrev pub NamesAgree : Space → List ℕ → List ℕ → Type 0
+NamesAgree space [] [] = Unit {0}
+NamesAgree space [] (n ∷ names) = ⊥
+NamesAgree space (a ∷ addresses) [] = ⊥
+NamesAgree space (a ∷ addresses) (n ∷ names) = (name_at space a ≡ Some n) × NamesAgree space addresses names
+
 -- ---- blocks
 
 -- a block has the class and the values of the object of its birth number

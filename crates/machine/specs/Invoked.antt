@@ -1,109 +1,28 @@
--- What an instruction that calls a function of the JNI does.
-use Rattle.std.specs.Prelude.{◌≡◌, ℕ, ℤ, ◌+◌, ◌<◌, List, [], ◌∷◌, length, slice_get, slice_set, Option, Some, None, Result, Ok, Err, FitsSigned}
-use Rattle.std.specs.Int.{w32}
-use Rattle.std.specs.List.{AllZip}
-use Rattle.base.specs.Bytes.{Identifier}
-use Rattle.classes.specs.Class.{Classes}
-use Rattle.jni.specs.Prototype.{prototype}
-use Rattle.code.specs.Call.{Call}
-use Rattle.code.specs.declared.instr.Operand.{Operand}
-use Rattle.code.specs.declared.instr.Operand.TheVariants.{Null, Local, Static}
-use Rattle.code.specs.declared.instr.Operand.TheVariants as operand
-use Rattle.code.specs.declared.instr.Target.{Target}
-use Rattle.code.specs.declared.instr.Target.TheVariants.{Dropped, Number}
-use Rattle.heap.specs.Heap.{Space, IsAddress}
-use Rattle.source.specs.Arguments.{Actual, ReferenceActual, NumberActual}
-use Rattle.source.specs.CallEffects.{ScalarResult, CallEffect, Leaves, Halts}
-use Rattle.source.specs.CallStep.{effect_of_call}
-use Rattle.source.specs.Object.{Reference}
-use Rattle.source.specs.Task as source
-use Rattle.source.specs.Thread.{BuffersInUse, Shared, Thread}
-use Rattle.source.specs.Value.{Int}
-use Rattle.source.specs.Variable.{as_static}
-use Rattle.lower.specs.Does.{OperandFits, words_given}
-use Rattle.lower.specs.Slots.{word_of}
-use Rattle.machine.specs.declared.stop.Trap.{Trap}
+-- Where a call of a function of the JNI is made.
+use Rattle.std.specs.Prelude.{◌≡◌, ℕ, List, [], ◌∷◌, slice_get, Option, Some}
+use Rattle.code.specs.Call.{call_view}
+use Rattle.code.specs.Depth.{Listing}
+use Rattle.code.specs.declared.instr.Call.{Call as InMemory}
+use Rattle.code.specs.declared.instr.Instr.TheVariants as instr
+use Rattle.source.specs.Task.{Task}
+use Rattle.source.specs.Thread.{Shared, Thread, viewed_by}
+use Rattle.source.specs.World.{World}
+use Rattle.lower.specs.Lowered.{Lowered, IsLowered}
+use Rattle.lower.specs.Slots.{visible_to}
+use Rattle.machine.specs.declared.store.Store.{Store}
 use Rattle.machine.specs.declared.thread.Activation.{Activation}
-use Rattle.machine.specs.declared.thread.Event.{Event}
-use Rattle.machine.specs.declared.thread.Event.TheVariants.{Quiet, Trapped}
-use Rattle.machine.specs.HeapAgrees.{ReferenceAgrees, BlocksAgree}
-use Rattle.machine.specs.Stops.{trap_view}
+use Rattle.machine.specs.Agrees.{StoreAgrees, CallStands}
+use Rattle.machine.specs.HeapAgrees.{ReferenceAgrees}
 
--- ---- arguments
-
--- what a slot holds; NULL where there is none
-abbrev pub held_in : Option (Option ℕ) → Option ℕ
-held_in None = None
-held_in (Some a) = a
-
--- the address that an operand gives; nothing but NULL is stored in a static yet
-abbrev pub operand_at : List (Option ℕ) → Operand → Option ℕ
-operand_at references Null = None
-operand_at references (Local i) = held_in (slice_get references i)
-operand_at references (Static i) = None
-operand_at references operand.Number = None
-
--- an operand gives the reference that the source's argument is
-pub record ReferenceIsGiven (space : Space) (references : List (Option ℕ)) (operand : Operand) (actual : Actual) : Type 0 where
-  pub name : Identifier
-  pub reference : Reference
-  pub is : actual ≡ ReferenceActual name (as_static reference)
-  pub agrees : ReferenceAgrees space (operand_at references operand) reference
-
--- an operand gives what the source's argument is; a number is on the stack
-abbrev pub IsGiven : Space → List (Option ℕ) → Operand → Actual → Type 0
-IsGiven space references operand.Number actual = (z : ℤ) × (actual ≡ NumberActual z) × FitsSigned w32 z
-IsGiven space references operand actual = ReferenceIsGiven space references operand actual
-
--- each operand is NULL or the address of a block
-abbrev pub AreAddresses : Space → List (Option ℕ) → List Operand → Type 0
-AreAddresses space references [] = Unit {0}
-AreAddresses space references (o ∷ operands) = ((a : ℕ) → operand_at references o ≡ Some a → IsAddress space a) × AreAddresses space references operands
-
--- ---- answers
-
--- a number, with nothing else changed, or the trap that stops the machine
-abbrev pub IsAnswer : Shared → Thread → CallEffect → Result ℕ Trap → Type 0
-IsAnswer s t (Halts trap) (Err u) = trap_view u ≡ trap
-IsAnswer s t (Leaves [] s' t' (ScalarResult (Int z))) (Ok word) = (s' ≡ s) × (t' ≡ t) × (word ≡ word_of (Int z)) × FitsSigned w32 z
-IsAnswer s t effect answer = ⊥
-
--- The answer is the effect of the source's call, in each state that the heap and the operands stand for.
-abbrev pub Answers : Classes → Space → (references : List (Option ℕ)) → (stack : List ℕ) → Call → Result ℕ Trap → Type 0
-Answers classes space references stack function answer =
-    (lent : BuffersInUse) (k line : ℕ) (s : Shared) (t : Thread) (target : source.Target) (args : List Actual) (rest : List source.Task)
-    → t.pending ≡ None
-    → BlocksAgree space s.heap space.blocks
-    → length args ≡ length (prototype function.function).parameters
-    → AllZip OperandFits (prototype function.function).parameters function.operands
-    → stack ≡ words_given args
-    → AllZip (IsGiven space references) function.operands args
-    → IsAnswer s t (effect_of_call classes lent k s t line target function.function args rest) answer
-
--- ---- results
-
--- the slot of the result is there
-abbrev pub HasTarget : List ℕ → Target → Type 0
-HasTarget numbers Dropped = Unit {0}
-HasTarget numbers (Number i) = i < length numbers
-
--- the number slots with a word where a result goes
-abbrev pub with_result : List ℕ → Target → (word : ℕ) → List ℕ
-with_result numbers Dropped word = numbers
-with_result numbers (Number i) word = slice_set numbers i word
-
--- the call goes on after the instruction, with no argument on the stack and a word where it goes
-abbrev pub HasWord : Activation → Target → ℕ → Activation → Type 0
-HasWord call target word after =
-    (after.function ≡ call.function) × (after.place ≡ call.place + 1) × (after.stack ≡ [])
-    × (after.numbers.items ≡ with_result call.numbers.items target word) × (after.references ≡ call.references)
-
--- what the instruction did, by the answer
-abbrev pub DidCall : (line : ℕ) → Target → Activation → Activation → Result ℕ Trap → Event → Type 0
-DidCall line target call after (Ok n) event = HasWord call target n after × (event ≡ Quiet)
-DidCall line target call after (Err trap) event = (after ≡ call) × (event ≡ Trapped trap line)
-
--- the call of a function
-abbrev pub Invoked : Classes → Space → Activation → Call → Activation → Event → Type 0
-Invoked classes space call function after event =
-    (answer : Result ℕ Trap) × Answers classes space call.references.items call.stack function answer × DidCall function.line function.target call after answer event
+-- A thread of the source has a call as its first task, the machine is at the instruction that stands for it, and all that the
+-- call can change agrees.
+pub record AtCall (p : Lowered) (w : World) (store : Store) (pending : Option ℕ) (call : Activation) (function : InMemory) (shared : Shared) (s : Thread) (task : Task) (rest : List Task) : Type 0 where
+  pub lowered : IsLowered p
+  pub tasks : s.tasks ≡ Some (task ∷ rest)
+  pub shares : StoreAgrees p w store shared
+  pub pending_agrees : ReferenceAgrees store.heap pending s.pending
+  pub stands : CallStands p w.classes store.heap call (visible_to shared s) s.frames (task ∷ rest)
+  pub viewless : viewed_by s ≡ []
+  pub code : Listing
+  pub of_function : slice_get p.codes call.function ≡ Some code
+  pub at : slice_get code.instrs call.place ≡ Some (instr.Call (call_view function))

@@ -1,24 +1,26 @@
--- The rows of a report, read off the blocks.
-use Rattle.std.specs.Prelude.{ℕ, List, [], ◌∷◌, map}
+-- The objects that blocks stand for, read off the blocks.
+use Rattle.std.specs.Prelude.{◌≡◌, ℕ, List, [], ◌∷◌, map, Some, None, slice_get}
 use Rattle.std.specs.Option.{option_map_or}
 use Rattle.std.specs.Int.{w32, cast_signed}
-use Rattle.classes.specs.Class.{Classes, class_name}
 use Rattle.heap.specs.declared.value.Value.{Value}
 use Rattle.heap.specs.declared.value.Value.TheVariants.{Number as Word, Null, Block as Address}
 use Rattle.heap.specs.Heap.{Space, IsAddress, class_at, name_at, values_at}
-use Rattle.source.specs.Object.{Refers}
-use Rattle.source.specs.Report.{ShownValue, ShownNumber, ShownNull, ShownRow}
-use Rattle.source.specs.ReportOf.{shown_value}
+use Rattle.source.specs.Heap.{Heap}
+use Rattle.source.specs.Object.{Object, ObjectValue, Number, Refers}
 
--- what a cell holds, as it is shown: an address by the name of its object
-abbrev pub shown_cell : Classes → Space → Value → ShownValue
-shown_cell classes space (Word word) = ShownNumber (cast_signed w32 word)
-shown_cell classes space Null = ShownNull
-shown_cell classes space (Address a) = shown_value classes (Refers (name_at space a))
+-- what a cell holds: an address refers to the object of its block
+abbrev pub value_in : Space → Value → ObjectValue
+value_in space (Word word) = Number (cast_signed w32 word)
+value_in space Null = Refers None
+value_in space (Address a) = Refers (name_at space a)
 
--- what several cells hold
-abbrev pub shown_cells : Classes → Space → List Value → List ShownValue
-shown_cells classes space values = map (shown_cell classes space) values
+-- the object of the block at an address
+abbrev pub object_of : Space → ℕ → Object
+object_of space a = record { class = option_map_or (λ c. c) (class_at space a) 0; values = map (value_in space) (values_at space a) }
+
+-- the heap of the definitions, by the addresses of its objects in the order of their names
+abbrev pub heap_of : Space → List ℕ → Heap
+heap_of space addresses = map (object_of space) addresses
 
 -- an address is that of a block
 abbrev pub IsThere : Space → Value → Type 0
@@ -31,10 +33,6 @@ abbrev pub AreThere : Space → List Value → Type 0
 AreThere space [] = Unit {0}
 AreThere space (v ∷ values) = IsThere space v × AreThere space values
 
--- the row of a block
-abbrev pub block_row : Classes → Space → (name address : ℕ) → ShownRow
-block_row classes space name address = record {
-  name = name;
-  class = class_name classes (option_map_or (λ c. c) (class_at space address) 0);
-  values = shown_cells classes space (values_at space address);
-}
+-- each of these is the address of a block, and so is each among its values
+abbrev pub AreBlocks : Space → List ℕ → Type 0
+AreBlocks space addresses = (i a : ℕ) → slice_get addresses i ≡ Some a → IsAddress space a × AreThere space (values_at space a)

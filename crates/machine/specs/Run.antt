@@ -1,5 +1,5 @@
 -- A run, as its program, its world, the steps taken and the room that is left.
-use Rattle.std.specs.Prelude.{◌≡◌, ℕ, ◌<◌, ◌≤◌, Bool, true, false, List, [], ◌∷◌, ◌++◌, length, Option, Some, None, Result, IsSome, is_some, not, ◌||◌}
+use Rattle.std.specs.Prelude.{◌≡◌, ℕ, ◌<◌, ◌≤◌, Bool, true, false, List, [], ◌∷◌, ◌++◌, length, map, Option, Some, None, Result, Ok, Err, IsSome, is_some, not, ◌||◌}
 use Rattle.std.specs.Option.{option_map}
 use Rattle.std.specs.List.{list_all, enumerate_from}
 use Rattle.syntax.specs.declared.unit.Item.{Item}
@@ -14,22 +14,25 @@ use Rattle.report.specs.Sink as sink
 use Rattle.report.specs.Sink.{Written}
 use Rattle.source.specs.World.{World, loaded_objects}
 use Rattle.report.specs.RunText as run_text
-use Rattle.source.specs.Run.{replay, Follows, UnmarkedFit, MarkedAreFair}
+use Rattle.source.specs.Report.{ShownRow}
+use Rattle.source.specs.ReportOf.{shown, shown_row}
+use Rattle.source.specs.Run.{replay, Follows, UnmarkedFit}
 use Rattle.source.specs.State.{State, thread_at}
 use Rattle.source.specs.Step.{can_step, is_blocked, is_unfinished}
 use Rattle.source.specs.Thread.{Thread as SourceThread}
-use Rattle.heap.specs.Heap.{Space}
 use Rattle.lower.specs.Lowered.{Lowered, IsLowered}
 use Rattle.machine.specs.declared.thread.Thread.{Thread}
 use Rattle.machine.specs.declared.thread.Ending.{Ending}
-use Rattle.machine.specs.declared.thread.Ending.TheVariants.{Unfinished, Ended}
+use Rattle.machine.specs.declared.thread.Ending.TheVariants.{Unfinished, Ended, Uncaught}
 use Rattle.machine.specs.declared.thread.Event.{Event}
 use Rattle.machine.specs.declared.thread.Event.TheVariants as event
+use Rattle.machine.specs.declared.fault.ReportFault.{ReportFault}
+use Rattle.machine.specs.declared.fault.ReportFault.TheVariants as reporting
 use Rattle.machine.specs.declared.turn.Turn.{Turn as Answer}
 use Rattle.machine.specs.declared.turn.Turn.TheVariants as turn
 use Rattle.machine.specs.declared.stop.Stop.{Stop}
-use Rattle.machine.specs.Agrees.{StaticsAgree, ThreadsAgree}
-use Rattle.machine.specs.HeapAgrees.{AgreesAtLoad}
+use Rattle.machine.specs.declared.store.Store.{Store}
+use Rattle.machine.specs.Agrees.{StoreAgrees, ThreadsAgree}
 use Rattle.machine.specs.Stops.{stop_view}
 
 -- a program's items, the world, the steps taken, and the cells after the heap's highest block
@@ -50,21 +53,16 @@ pub record IsUnstarted (unit : List Item) (world : World) (r : Run) : Type 0 whe
   pub unstarted : r.journal ≡ []
 
 -- The machine stands for the state that its journal leads to.
-pub record Corresponds (p : Lowered) (world : World) (space : Space) (addresses : List ℕ) (threads : List Thread) (printed : List Printed) (stop : Option Stop) (journal : List Entry) : Type 0 where
+pub record Corresponds (p : Lowered) (world : World) (store : Store) (threads : List Thread) (printed : List Printed) (stop : Option Stop) (journal : List Entry) : Type 0 where
   pub lowered : IsLowered p
   pub state : State
   pub replays : replay (unit_tree p.unit) world journal ≡ Some state
-  pub threads_agree : ThreadsAgree p world.classes space (length addresses) state.shared threads state.threads
+  pub store_agrees : StoreAgrees p world store state.shared
+  pub threads_agree : ThreadsAgree p world.classes store.heap (length (loaded_objects world)) state.shared threads state.threads
   pub same_printed : state.printed ≡ printed
   pub same_stop : state.stop ≡ option_map stop_view stop
-  pub statics : StaticsAgree p state.shared
-  -- no instruction allocates or enters a monitor yet
-  pub heap : state.shared.heap ≡ loaded_objects world
-  pub blocks : AgreesAtLoad space addresses world
-  pub monitors : state.shared.monitors ≡ []
-  -- the steps that made objects had room, and no step was refused an allocation that had
+  -- the steps that made objects had room
   pub fits : UnmarkedFit (unit_tree p.unit) world journal
-  pub fair : MarkedAreFair (unit_tree p.unit) world journal
   pub count : length threads ≡ length world.threads
   pub few : length threads ≤ 8
 
@@ -173,6 +171,7 @@ pub record RunsInto (old new : Run) (schedule : Schedule) : Type 0 where
 abbrev pub has_ended : Ending → Bool
 has_ended Unfinished = false
 has_ended Ended = true
+has_ended (Uncaught class) = true
 
 -- the trap that stopped the run, as it is held in memory
 abbrev pub StoppedBy : Run → Option Stop → Type 0
@@ -184,10 +183,19 @@ IsFinished r answer = InState r (λ s. answer ≡ is_finished r.world.classes s)
 
 -- ---- reports
 
+-- the rows of the objects that are shown of the state that the journal leads to
+abbrev pub ShowsObjects : Run → List ShownRow → Type 0
+ShowsObjects r rows = InState r (λ s. rows ≡ map (shown_row r.world.classes s.shared.heap) (shown r.world s))
+
 -- what a run writes in all was written, or a beginning of it
 pub record WritesRun {T E : Type 0} (r : Run) (old new : Written) (result : Result T E) : Type 0 where
   pub text : List ℕ
   pub is : run_text.Writes (unit_tree r.unit) r.world r.journal text
   pub fits : UnmarkedFit (unit_tree r.unit) r.world r.journal
-  pub fair : MarkedAreFair (unit_tree r.unit) r.world r.journal
   pub written : sink.Writes old new result text
+
+-- nothing was written where memory was refused, and else what the run writes in all, or a beginning of it
+abbrev pub ReportsRun : {T : Type 0} → Run → Written → Written → Result T ReportFault → Type 0
+ReportsRun {T = T} r old new (Ok x) = WritesRun {T = T} {E = ReportFault} r old new (Ok x)
+ReportsRun r old new (Err reporting.Memory) = new ≡ old
+ReportsRun {T = T} r old new (Err reporting.Sink) = WritesRun {T = T} {E = ReportFault} r old new (Err reporting.Sink)

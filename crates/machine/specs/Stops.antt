@@ -1,14 +1,14 @@
 -- Why and where the machine has stopped, as it is held in memory.
 use Rattle.std.specs.Prelude.{ℕ, ◌==◌, if◌then◌else◌, Option, Some, None}
-use Rattle.report.specs.declared.thread_status.ThreadStatus.{ThreadStatus}
-use Rattle.report.specs.declared.thread_status.ThreadStatus.TheVariants as standing
+use Rattle.classes.specs.Class.{Classes, class_name}
+use Rattle.source.specs.Report.{ThreadStanding, HasTrapped, HasEnded, IsUncaught, IsRunning}
 use Rattle.source.specs.State as state
 use Rattle.source.specs.Value as source
 use Rattle.machine.specs.declared.stop.Trap.{Trap}
 use Rattle.machine.specs.declared.stop.Trap.TheVariants.{DivisionByZero, ShiftTooFar, OutOfRange, NullReference, ExceptionPending, WrongObject, DeletedReference, NoCapacity, Fatal}
 use Rattle.machine.specs.declared.stop.Stop.{Stop}
 use Rattle.machine.specs.declared.thread.Ending.{Ending}
-use Rattle.machine.specs.declared.thread.Ending.TheVariants.{Unfinished, Ended}
+use Rattle.machine.specs.declared.thread.Ending.TheVariants.{Unfinished, Ended, Uncaught}
 use Rattle.machine.specs.declared.thread.Event.{Event}
 use Rattle.machine.specs.declared.thread.Event.TheVariants.{Quiet, Printed, Trapped}
 
@@ -34,12 +34,13 @@ stop_after stop k Quiet = stop
 stop_after stop k (Printed z) = stop
 stop_after stop k (Trapped trap line) = Some (record { thread = k; trap = trap; line = line })
 
--- how a thread stands that didn't trap
-abbrev pub standing_by_ending : Ending → ThreadStatus
-standing_by_ending Unfinished = standing.Running
-standing_by_ending Ended = standing.Ended
+-- how a thread stands that didn't trap; none waits for a monitor yet
+abbrev pub standing_by_ending : Classes → Ending → ThreadStanding
+standing_by_ending classes Unfinished = IsRunning
+standing_by_ending classes Ended = HasEnded
+standing_by_ending classes (Uncaught class) = IsUncaught (class_name classes class)
 
 -- the same of thread k; only the one that stopped the machine trapped
-abbrev pub standing_of : Option Stop → (k : ℕ) → Ending → ThreadStatus
-standing_of None k ending = standing_by_ending ending
-standing_of (Some stop) k ending = if stop.thread == k then standing.Trapped (source.trap_number (trap_view stop.trap)) stop.line else standing_by_ending ending
+abbrev pub standing_of : Classes → Option Stop → (k : ℕ) → Ending → ThreadStanding
+standing_of classes None k ending = standing_by_ending classes ending
+standing_of classes (Some stop) k ending = if stop.thread == k then HasTrapped (source.trap_number (trap_view stop.trap)) stop.line else standing_by_ending classes ending

@@ -1,20 +1,32 @@
 -- Variables that can be NULL.
-use Rattle.std.specs.Prelude.{ℕ, ◌<◌, Bool, true, List, length, is_none, slice_get, slice_set, Option, None}
+use Rattle.std.specs.Prelude.{ℕ, ◌<◌, Bool, true, is_none, List, length, slice_get, slice_set, Option, Some, None}
+use Rattle.class_table.specs.declared.class.FieldHandle.{FieldHandle}
 use Rattle.code.specs.declared.instr.NullableVariable.{NullableVariable}
-use Rattle.code.specs.declared.instr.NullableVariable.TheVariants.{Local}
-use Rattle.machine.specs.Invoked.{held_in}
+use Rattle.code.specs.declared.instr.NullableVariable.TheVariants.{Local, FieldId}
 
--- whether a variable is NULL; nothing else is stored in statics, field IDs and buffers yet
-abbrev pub is_null : List (Option ℕ) → NullableVariable → Bool
-is_null references (Local i) = is_none (held_in (slice_get references i))
-is_null references v = true
+-- whether a slot holds NULL; so does one that isn't there
+abbrev pub holds_none : {A : Type 0} → Option (Option A) → Bool
+holds_none None = true
+holds_none (Some a) = is_none a
 
--- a local reference has its slot
-abbrev pub HasSlot : List (Option ℕ) → NullableVariable → Type 0
-HasSlot references (Local i) = i < length references
-HasSlot references v = Unit {0}
+-- whether a variable is NULL; nothing else is stored in statics and buffers yet
+abbrev pub is_null : List (Option ℕ) → List (Option FieldHandle) → NullableVariable → Bool
+is_null references fields (Local i) = holds_none (slice_get references i)
+is_null references fields (FieldId i) = holds_none (slice_get fields i)
+is_null references fields v = true
 
--- the slots with NULL in a variable
-abbrev pub with_null : NullableVariable → List (Option ℕ) → List (Option ℕ)
-with_null (Local i) references = slice_set references i None
-with_null v references = references
+-- a local reference or a field ID has its slot
+abbrev pub HasSlot : List (Option ℕ) → List (Option FieldHandle) → NullableVariable → Type 0
+HasSlot references fields (Local i) = i < length references
+HasSlot references fields (FieldId i) = i < length fields
+HasSlot references fields v = Unit {0}
+
+-- the slots of references with NULL in a variable
+abbrev pub nulled_references : NullableVariable → List (Option ℕ) → List (Option ℕ)
+nulled_references (Local i) references = slice_set references i None
+nulled_references v references = references
+
+-- the slots of field IDs with NULL in a variable
+abbrev pub nulled_fields : NullableVariable → List (Option FieldHandle) → List (Option FieldHandle)
+nulled_fields (FieldId i) fields = slice_set fields i None
+nulled_fields v fields = fields

@@ -5,8 +5,9 @@ ghost use Rattle.std.specs.List.{list_all};
 ghost use Rattle.world.specs.Views.{object_value_view};
 ghost use Rattle.world.specs.CallArguments.{is_argument};
 ghost use Rattle.lower.specs.Slots.{argument_word, HasRoom};
-ghost use Rattle.machine.specs.Entry.{argument_address, IsNumbersOf, IsReferencesOf, BeginsIn};
+ghost use Rattle.machine.specs.Entry.{argument_address, named_address, IsNumbersOf, IsReferencesOf, IsEntryFrame, BeginsIn};
 
+use crate::frame::Frame;
 use crate::thread::{Activation, PendingCall};
 use code::code::Code;
 use code::stack::Stack;
@@ -15,6 +16,10 @@ use std::alloc::{AllocError, Global};
 use std::vec::VecCloneMethods;
 use world::ObjectValue;
 
+/// How many local references more a native method may have than it is given (JNI Specification, chapter 2, "Local
+/// References").
+const MORE_LOCALS: usize = 16;
+
 /// A call before its first instruction.
 pub fn begin(
     alloc: Global,
@@ -22,12 +27,16 @@ pub fn begin(
     loaded: &[Addr],
     next: &PendingCall,
 ) -> Result<Activation, AllocError>
-    requires class { 0 < next.now.class }
+    requires class { (0 < next.now.class) × (next.now.class ≤ length loaded.now) }
     requires given { IsTrue (list_all (is_argument (length loaded.now)) (map object_value_view next.now.arguments.items)) }
     requires room { HasRoom code.now (map object_value_view next.now.arguments.items) }
     ensures { IfOk result (λ call. BeginsIn code.now loaded.now next.now call) }
 {
     let slots = code.slots();
+    let mut fields = Vec::new(alloc);
+    fields.resize(slots.field_ids as usize, None)?;
+    let mut frames = Vec::new(alloc);
+    frames.push(entry_frame(alloc, loaded, next.class, &next.arguments)?)?;
     Ok(Activation {
         function: next.function,
         place: 0,
@@ -40,6 +49,8 @@ pub fn begin(
             &next.arguments,
             slots.references as usize,
         )?,
+        fields,
+        frames,
     })
 }
 
@@ -88,6 +99,31 @@ fn reference_slots(
     }
     slots.resize(count, None)?;
     Ok(slots)
+}
+
+/// The first frame of a call: the class and the arguments that aren't NULL, the last one put first, and room for 16 more, so
+/// that none of these takes host memory.
+fn entry_frame(
+    alloc: Global,
+    loaded: &[Addr],
+    class: usize,
+    arguments: &[ObjectValue],
+) -> Result<Frame, AllocError>
+    requires class { (0 < class) × (class ≤ length loaded.now) }
+    requires given { IsTrue (list_all (is_argument (length loaded.now)) (map object_value_view arguments.now)) }
+    ensures { IfOk result (λ f. IsEntryFrame loaded.now class (map object_value_view arguments.now) f) }
+{
+    let mut references = Vec::new(alloc);
+    references.push(loaded[class - 1])?;
+    for argument in arguments {
+        match argument {
+            ObjectValue::Number(_) => {}
+            ObjectValue::Reference(None) => {}
+            ObjectValue::Reference(Some(name)) => references.push(loaded[*name as usize - 1])?,
+        }
+    }
+    references.reverse();
+    Frame::new(references, MORE_LOCALS)
 }
 
 /// The address of the object of a name.

@@ -2,6 +2,7 @@
 
 ghost use Rattle.std.specs.Prelude.{◌≡◌};
 ghost use Rattle.machine.specs.declared.fault.LoadFault.TheVariants.{Memory};
+ghost use Rattle.machine.specs.declared.fault.ReportFault.TheVariants as reporting;
 
 use std::alloc::{AllocError, AllocFailed};
 use thiserror::Error;
@@ -43,4 +44,23 @@ pub enum RunFault {
     /// Fault 9: host memory was refused.
     #[error("out of memory")]
     Memory,
+}
+
+/// Why a report was not written to its end.
+#[derive(Clone, Copy, Debug, PartialEq, Eq, Error)]
+pub enum ReportFault {
+    /// Fault 9: host memory was refused. Nothing was written.
+    #[error("out of memory")]
+    Memory,
+    /// The sink failed.
+    #[error("the sink failed")]
+    Sink,
+}
+
+impl From<AllocError> for ReportFault {
+    ghost from_gives = { λ _ e. e ≡ reporting.Memory };
+
+    fn from(_e: AllocError) -> ReportFault {
+        ReportFault::Memory
+    }
 }

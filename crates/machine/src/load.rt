@@ -72,6 +72,7 @@ fn load_thread(
     Ok(Thread {
         calls: nexts,
         call: None,
+        pending: None,
         ending: Ending::Unfinished,
     })
 }

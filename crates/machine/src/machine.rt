@@ -4,28 +4,30 @@ ghost use Rattle.std.specs.Prelude.{◌≡◌, ℕ, ◌+◌, ◌-◌, ◌<◌, �
 ghost use Rattle.std.specs.List.{list_all, enumerate_from};
 ghost use Rattle.syntax.specs.Views.{unit_tree};
 ghost use Rattle.report.specs.Sink.{CanFail};
+ghost use Rattle.report.specs.ThreadStatus.{standing_view};
 ghost use Rattle.source.specs.Load.{first_load_fault};
 ghost use Rattle.source.specs.Object.{sizes};
 ghost use Rattle.source.specs.World.{loaded_objects};
 ghost use Rattle.machine.specs.Loading.{IsLoadFault};
-ghost use Rattle.machine.specs.Run.{replay_of, IsUnstarted, CouldStep, TurnHolds, RunsAlong, RunsInto, PrintedBy, IsFinished, has_ended, WritesRun, GivesNoStep, GivesStep, StoppedBy, printed_after};
+ghost use Rattle.machine.specs.Run.{replay_of, IsUnstarted, CouldStep, TurnHolds, RunsAlong, RunsInto, PrintedBy, IsFinished, has_ended, ReportsRun, GivesNoStep, GivesStep, StoppedBy, printed_after};
 ghost use Rattle.machine.specs.Stops.{stop_after, standing_of, standing_by_ending};
 
-use crate::fault::{LoadFault, RunFault};
+use crate::fault::{LoadFault, ReportFault, RunFault};
 use crate::load::load_threads;
-use crate::objects::load_heap;
-use crate::rows::LoadedRows;
+use crate::objects::load_store;
+use crate::roots::root_names;
+use crate::rows::named_blocks;
 use crate::stop::Stop;
-use crate::thread::{Ending, Event, Thread, advance};
+use crate::store::Store;
+use crate::thread::{Advanced, Ending, Event, Thread, advance};
 use crate::turn::Turn;
 use arrayvec::ArrayVec;
-use heap::{Addr, Heap};
+use class_table::table::ClassTable;
 use lower::Program;
+use reached::reached_rows;
 use std::alloc::{AllocError, Global};
 use std::marker::Model;
-use world::{
-    Entry, Printed, Schedule, ScheduleWord, Sink, SinkFailed, ThreadStatus, World, write_run,
-};
+use world::{Entry, Printed, Schedule, ScheduleWord, Sink, ThreadStatus, World, write_run};
 
 /// How many entries a journal has at most.
 pub const MOST_ENTRIES: usize = 1_000_000;
@@ -35,9 +37,7 @@ pub const MOST_ENTRIES: usize = 1_000_000;
 pub struct Machine<'a> {
     program: Program<'a>,
     world: World,
-    heap: Heap,
-    /// The addresses of the objects made at load, by their names, counted from 1. These objects stay for ever.
-    loaded: Vec<Addr>,
+    store: Store,
     threads: Vec<Thread>,
     printed: Vec<Printed>,
     stop: Option<Stop>,
@@ -54,9 +54,9 @@ impl<'a> Model for Machine<'a> {
 
     ghost coded = { Prim.hlevel (all_codes, item.the_row.coded) };
 
-    ghost view = { λ m. record { unit = m.program.unit; world = m.world; journal = m.journal.items; left = left_of m.heap } };
+    ghost view = { λ m. record { unit = m.program.unit; world = m.world; journal = m.journal.items; left = left_of m.store.heap } };
 
-    ghost invariant = { λ m. Corresponds m.program m.world m.heap m.loaded.items m.threads.items m.printed.items m.stop m.journal.items };
+    ghost invariant = { λ m. Corresponds m.program m.world m.store m.threads.items m.printed.items m.stop m.journal.items };
 }
 
 impl<'a> Machine<'a> {
@@ -73,13 +73,12 @@ impl<'a> Machine<'a> {
         // The proof reads off these calls what is known of a program and of a world.
         let _ = program.items();
         let _ = world.threads();
-        let (heap, loaded) = load_heap(alloc, &world)?;
+        let store = load_store(alloc, &world)?;
         match load_threads(alloc, &program, &world) {
             Ok(threads) => Ok(Machine {
                 program,
                 world,
-                heap,
-                loaded,
+                store,
                 threads,
                 printed: Vec::new(alloc),
                 stop: None,
@@ -103,7 +102,7 @@ impl<'a> Machine<'a> {
     pub fn left(&self) -> usize
         ensures { result ≡ self.now.left }
     {
-        self.heap.left()
+        self.store.heap.left()
     }
 
     /// The numbers printed so far.
@@ -128,7 +127,7 @@ impl<'a> Machine<'a> {
             return Ok(Turn::Stopped);
         }
         let index = usize::from(k) - 1;
-        if self.threads[index].ending == Ending::Ended {
+        if has_ended(&self.threads[index]) {
             return Ok(Turn::Ended);
         }
         if self.journal.len() >= MOST_ENTRIES {
@@ -136,21 +135,23 @@ impl<'a> Machine<'a> {
         }
         self.journal.reserve(1)?;
         self.printed.reserve(1)?;
-        let event = advance(
+        let advanced = advance(
             &self.program,
             &self.world,
-            &self.heap,
-            &self.loaded,
+            &mut self.store,
             &mut self.threads[index],
         )?;
-        note(&mut self.printed, &mut self.stop, k, event);
-        self.journal
-            .push(Entry {
-                thread: k,
-                refused: false,
-            })
-            .unwrap();
-        Ok(Turn::Stepped)
+        match advanced {
+            Advanced::Did(event) => {
+                note(&mut self.printed, &mut self.stop, k, event);
+                write_down(&mut self.journal, k, false);
+                Ok(Turn::Stepped)
+            }
+            Advanced::Refused => {
+                write_down(&mut self.journal, k, true);
+                Ok(Turn::Short)
+            }
+        }
     }
 
     /// The thread of a schedule's word, where it is a turn of a thread that the world has.
@@ -246,26 +247,40 @@ impl<'a> Machine<'a> {
         self.stop.is_some() || all_ended(&self.threads)
     }
 
-    /// Writes the report of the run and the line of its journal, and flushes the sink. It takes no host memory.
-    pub fn report<S: Sink>(&self, sink: &mut S) -> Result<(), SinkFailed>
-        requires { CanFail (S.written sink.old) }
-        ensures run { WritesRun self.now (S.written sink.old) (S.written sink.new) result }
+    /// Writes the report of the run, with the objects that can still be reached, and the line of its journal, and flushes
+    /// the sink.
+    ///
+    /// Where memory is refused, nothing is written.
+    pub fn report<S: Sink>(&self, alloc: Global, sink: &mut S) -> Result<(), ReportFault>
+        requires can_fail { CanFail (S.written sink.old) }
+        ensures run { ReportsRun self.now (S.written sink.old) (S.written sink.new) result }
         ensures none_waits { OnOk result ((S.written sink.new).waiting ≡ 0) }
     {
-        let standings = standings_of(&self.threads, self.stop);
-        let rows = LoadedRows {
-            world: &self.world,
-            heap: &self.heap,
-            loaded: self.loaded.as_slice(),
-        };
-        write_run(
+        let classes = self.world.classes();
+        let standings = standings_of(classes, &self.threads, self.stop);
+        let heap = &self.store.heap;
+        let objects = named_blocks(alloc, heap, self.store.births)?;
+        let names = root_names(alloc, heap, &self.threads)?;
+        let rows = reached_rows(alloc, classes, &objects, self.store.loaded.len(), &names)?;
+        match write_run(
             sink,
             self.printed.as_slice(),
             standings.as_slice(),
             &rows,
             self.journal.as_slice(),
-        )
+        ) {
+            Ok(()) => Ok(()),
+            Err(_) => Err(ReportFault::Sink),
+        }
     }
+}
+
+/// Writes down a step.
+fn write_down(journal: &mut Vec<Entry>, k: u8, refused: bool)
+    requires { vec_len journal.old < vec_capacity journal.old }
+    ensures { journal.new.items ≡ journal.old.items ++ record { thread = k; refused = refused } ∷ [] }
+{
+    journal.push(Entry { thread: k, refused }).unwrap();
 }
 
 /// Writes down what a step lets others see.
@@ -298,40 +313,50 @@ fn has_ended(thread: &Thread) -> bool
 {
     match thread.ending {
         Ending::Unfinished => false,
-        Ending::Ended => true,
+        Ending::Ended | Ending::Uncaught(_) => true,
     }
 }
 
 /// The status of each thread.
-fn standings_of(threads: &[Thread], stop: Option<Stop>) -> ArrayVec<ThreadStatus, 8>
+fn standings_of<'a>(
+    classes: &'a ClassTable,
+    threads: &[Thread],
+    stop: Option<Stop>,
+) -> ArrayVec<ThreadStatus<'a>, 8>
     requires { length threads.now ≤ 8 }
-    ensures { result.items ≡ map (λ thread. standing_of stop thread.0 thread.1.ending) (enumerate_from 1 threads.now) }
+    ensures { map standing_view result.items ≡ map (λ thread. standing_of classes.now stop thread.0 thread.1.ending) (enumerate_from 1 threads.now) }
 {
     let mut standings = ArrayVec::new();
     let mut k = 0;
     for thread in threads {
         k += 1;
-        standings.push(standing_of(stop, k, thread.ending));
+        standings.push(standing_of(classes, stop, k, thread.ending));
     }
     standings
 }
 
 /// The status of thread `k`.
-fn standing_of(stop: Option<Stop>, k: u8, ending: Ending) -> ThreadStatus
-    ensures { result ≡ standing_of stop k ending }
+fn standing_of<'a>(
+    classes: &'a ClassTable,
+    stop: Option<Stop>,
+    k: u8,
+    ending: Ending,
+) -> ThreadStatus<'a>
+    ensures { standing_view result ≡ standing_of classes.now stop k ending }
 {
     match stop {
         Some(stop) if stop.thread == k => ThreadStatus::Trapped(stop.trap.number(), stop.line),
-        _ => standing_by_ending(ending),
+        _ => standing_by_ending(classes, ending),
     }
 }
 
 /// The status of a thread that didn't trap.
-fn standing_by_ending(ending: Ending) -> ThreadStatus
-    ensures { result ≡ standing_by_ending ending }
+fn standing_by_ending<'a>(classes: &'a ClassTable, ending: Ending) -> ThreadStatus<'a>
+    ensures { standing_view result ≡ standing_by_ending classes.now ending }
 {
     match ending {
         Ending::Unfinished => ThreadStatus::Running,
         Ending::Ended => ThreadStatus::Ended,
+        Ending::Uncaught(class) => ThreadStatus::Uncaught(classes.name(class)),
     }
 }

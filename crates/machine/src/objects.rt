@@ -12,6 +12,7 @@ ghost use Rattle.source.specs.World.{initial, loaded_objects};
 ghost use Rattle.world.specs.CallArguments.{is_argument};
 ghost use Rattle.world.specs.Views.{object_value_view};
 
+use crate::store::Store;
 use class_table::built_ins::{CLASS, OUT_OF_MEMORY_ERROR};
 use class_table::class::{Field, FieldType};
 use class_table::table::ClassTable;
@@ -20,10 +21,11 @@ use std::alloc::{AllocError, Global};
 use world::{ObjectValue, World};
 
 /// The heap with the objects that are made before the first step: the class objects, the OutOfMemoryError object and
-/// the world's, in this order. After it the address of each, by its name, counted from 1.
-pub fn load_heap(alloc: Global, world: &World) -> Result<(Heap, Vec<Addr>), AllocError>
-    ensures made { IfOk result (λ made. AreMade made.0 made.1.items (loaded_objects world.now)) }
-    ensures cells { IfOk result (λ made. made.0.cells ≡ world.now.cells) }
+/// the world's, in this order, with the address of each by its name, counted from 1.
+pub fn load_store(alloc: Global, world: &World) -> Result<Store, AllocError>
+    ensures made { IfOk result (λ store. AreMade store.heap store.loaded.items (loaded_objects world.now)) }
+    ensures births { IfOk result (λ store. store.births ≡ length (loaded_objects world.now)) }
+    ensures cells { IfOk result (λ store. store.heap.cells ≡ world.now.cells) }
 {
     let mut heap = Heap::new(alloc, world.cells())?;
     let mut loaded = Vec::new(alloc);
@@ -31,7 +33,14 @@ pub fn load_heap(alloc: Global, world: &World) -> Result<(Heap, Vec<Addr>), Allo
     let error = fresh_values(alloc, world.classes(), OUT_OF_MEMORY_ERROR)?;
     make(&mut heap, &mut loaded, OUT_OF_MEMORY_ERROR, &error)?;
     make_objects(&mut heap, &mut loaded, world)?;
-    Ok((heap, loaded))
+    // The proof reads off this call that there are few objects.
+    let _ = heap.cells();
+    let births = loaded.len() as u32;
+    Ok(Store {
+        heap,
+        loaded,
+        births,
+    })
 }
 
 /// Makes the class objects, which hold the statics that their classes declare.

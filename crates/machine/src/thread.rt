@@ -1,20 +1,24 @@
 //! One thread of the machine, and a step of its own.
 
-ghost use Rattle.std.specs.Prelude.{◌≡◌, ℕ, ◌<◌, Some, None, [], ◌∷◌, List, length, IfOk, OnOk, OnErr};
+ghost use Rattle.std.specs.Prelude.{◌≡◌, ℕ, ◌<◌, Option, Some, None, ◌∷◌, List, length, IfOk, OnOk, OnErr};
+ghost use Rattle.std.specs.Option.{option_and_then};
 ghost use Rattle.std.specs.VecDeque.{deque_len};
+ghost use Rattle.heap.specs.Heap.{IsAddress, class_at};
 ghost use Rattle.source.specs.Effect.{effect_of};
 ghost use Rattle.source.specs.Task.{Task};
 ghost use Rattle.source.specs.Thread.{BuffersInUse, Shared, Thread as SourceThread, sight_of};
+ghost use Rattle.source.specs.World.{loaded_objects};
 ghost use Rattle.lower.specs.Lowered.{IsLowered};
-ghost use Rattle.lower.specs.Slots.{Visible, visible_to};
-ghost use Rattle.machine.specs.Agrees.{StaticsAgree, ThreadAgrees, CallStands, Executes, Advances, ending_after};
-ghost use Rattle.machine.specs.HeapAgrees.{BlocksAgree, IsTable};
+ghost use Rattle.machine.specs.Agrees.{StoreAgrees, ThreadAgrees, IsExecuting, Executes, AdvancesBy, ending_after, calls_after};
 ghost use Rattle.machine.specs.Entry.{IsReady, Begins};
 
 use crate::entry::begin;
+use crate::frame::Frame;
 use crate::invoke::invoke;
 use crate::stop::{Trap, trap_of};
+use crate::store::Store;
 use crate::variable::{is_null, set_null};
+use class_table::class::FieldHandle;
 use code::instr::{Instr, Plain};
 use code::plain::plain;
 use code::stack::Stack;
@@ -25,10 +29,12 @@ use std::collections::VecDeque;
 use world::{ObjectValue, World};
 
 /// Whether a thread has ended.
-#[derive(Clone, Copy, PartialEq, Eq)]
+#[derive(Clone, Copy)]
 pub enum Ending {
     Unfinished,
     Ended,
+    /// Its call returned with an exception of the class of this number pending.
+    Uncaught(usize),
 }
 
 /// What is seen of a thread's step by others.
@@ -46,6 +52,8 @@ pub enum Event {
 pub struct Thread {
     pub calls: VecDeque<PendingCall>,
     pub call: Option<Activation>,
+    /// The pending exception.
+    pub pending: Option<Addr>,
     pub ending: Ending,
 }
 
@@ -58,7 +66,7 @@ pub struct PendingCall {
     pub arguments: Vec<ObjectValue>,
 }
 
-/// A call in progress: its place in its function's code, its operands, and the slots of its variables. A
+/// A call in progress: its place in its function's code, its operands, the slots of its variables, and its frames. A
 /// reference is NULL or the address of an object.
 #[derive(Drop)]
 pub struct Activation {
@@ -67,41 +75,55 @@ pub struct Activation {
     pub stack: Stack,
     pub numbers: Vec<u32>,
     pub references: Vec<Option<Addr>>,
+    pub fields: Vec<Option<FieldHandle>>,
+    /// The current frame is the last.
+    pub frames: Vec<Frame>,
 }
 
 /// What an instruction did.
 #[derive(Clone, Copy)]
 pub enum Executed {
     Did(Event),
+    /// A call's allocation was refused.
+    Refused,
     Returned,
 }
 
-/// Takes one step of a thread that has not ended. `loaded` has the addresses of the objects made at load, by their
-/// names, counted from 1. Only the entry into a call takes host memory.
+/// What a step of a thread was.
+#[derive(Clone, Copy)]
+pub enum Advanced {
+    Did(Event),
+    /// The allocation of its call was refused.
+    Refused,
+}
+
+/// Takes one step of a thread that has not ended. Only the entry into a call takes host memory.
 pub fn advance(
     program: &Program<'_>,
     world: &World,
-    heap: &Heap,
-    loaded: &[Addr],
+    store: &mut Store,
     thread: &mut Thread,
-) -> Result<Event, AllocError>
+) -> Result<Advanced, AllocError>
     requires lowered { IsLowered program.now }
-    requires agrees { (shared : Shared) × (s : SourceThread) × ThreadAgrees program.now world.now.classes heap.now (length loaded.now) shared thread.old s × (thread.old.ending ≡ Ending.Unfinished) }
-    ensures advances { IfOk result (λ event. (lent : BuffersInUse) (k : ℕ) (shared : Shared) (s : SourceThread) → shared.monitors ≡ [] → StaticsAgree program.now shared → BlocksAgree heap.now shared.heap heap.now.blocks
-        → IsTable heap.now loaded.now (length loaded.now) → ThreadAgrees program.now world.now.classes heap.now (length loaded.now) shared thread.old s
-        → Advances program.now world.now.classes heap.now (length loaded.now) lent k shared s thread.new event) }
-    ensures err { OnErr result (thread.new ≡ thread.old) }
+    requires agrees { (shared : Shared) × (s : SourceThread) × StoreAgrees program.now world.now store.old shared
+        × ThreadAgrees program.now world.now.classes store.old.heap (length (loaded_objects world.now)) shared thread.old s × (thread.old.ending ≡ Ending.Unfinished) }
+    ensures advances { IfOk result (λ advanced. (lent : BuffersInUse) (k : ℕ) (shared : Shared) (s : SourceThread) → StoreAgrees program.now world.now store.old shared
+        → ThreadAgrees program.now world.now.classes store.old.heap (length (loaded_objects world.now)) shared thread.old s
+        → AdvancesBy program.now world.now store.old.heap store.new lent k shared s thread.new advanced) }
+    ensures store { OnErr result (store.new ≡ store.old) }
+    ensures thread { OnErr result (thread.new ≡ thread.old) }
 {
     match &mut thread.call {
         None => {
-            enter(program, loaded, thread)?;
-            Ok(Event::Quiet)
+            enter(program, &store.loaded, thread)?;
+            Ok(Advanced::Did(Event::Quiet))
         }
-        Some(call) => match execute(program, world, heap, call) {
-            Executed::Did(event) => Ok(event),
+        Some(call) => match execute(program, world, store, &mut thread.pending, call) {
+            Executed::Did(event) => Ok(Advanced::Did(event)),
+            Executed::Refused => Ok(Advanced::Refused),
             Executed::Returned => {
-                leave(thread);
-                Ok(Event::Quiet)
+                leave(&store.heap, thread);
+                Ok(Advanced::Did(Event::Quiet))
             }
         },
     }
@@ -114,6 +136,7 @@ fn enter(program: &Program<'_>, loaded: &[Addr], thread: &mut Thread) -> Result<
     requires ready { (next : PendingCall) (rest : List PendingCall) → thread.old.calls.items ≡ next ∷ rest → IsReady program.now (length loaded.now) next }
     ensures calls { OnOk result ((next : PendingCall) × (call : Activation) × (thread.old.calls.items ≡ next ∷ thread.new.calls.items)
         × (thread.new.call ≡ Some call) × Begins program.now loaded.now next call) }
+    ensures pending { OnOk result (thread.new.pending ≡ thread.old.pending) }
     ensures ending { OnOk result (thread.new.ending ≡ thread.old.ending) }
     ensures err { OnErr result (thread.new ≡ thread.old) }
 {
@@ -125,39 +148,53 @@ fn enter(program: &Program<'_>, loaded: &[Addr], thread: &mut Thread) -> Result<
     Ok(())
 }
 
-/// The end of a call.
-fn leave(thread: &mut Thread)
-    ensures { thread.new ≡ record {
-      calls = thread.old.calls;
-      call = None;
-      ending = ending_after thread.old.calls.items thread.old.ending;
-    } }
+/// The end of a call. An exception that is pending ends the thread, which drops its other calls.
+fn leave(heap: &Heap, thread: &mut Thread)
+    requires { (a : ℕ) → thread.old.pending ≡ Some a → IsAddress heap.now a }
+    ensures call { thread.new.call ≡ None }
+    ensures pending { thread.new.pending ≡ None }
+    ensures calls { thread.new.calls.items ≡ calls_after (option_and_then (class_at heap.now) thread.old.pending) thread.old.calls.items }
+    ensures ending { thread.new.ending ≡ ending_after (option_and_then (class_at heap.now) thread.old.pending) thread.old.calls.items thread.old.ending }
 {
     thread.call = None;
-    if thread.calls.is_empty() {
-        thread.ending = Ending::Ended;
+    match thread.pending {
+        Some(exception) => {
+            thread.pending = None;
+            thread.calls.clear();
+            thread.ending = Ending::Uncaught(heap.class_of(exception) as usize);
+        }
+        None => {
+            if thread.calls.is_empty() {
+                thread.ending = Ending::Ended;
+            }
+        }
     }
 }
 
 /// One instruction of a call.
-fn execute(program: &Program<'_>, world: &World, heap: &Heap, call: &mut Activation) -> Executed
+fn execute(
+    program: &Program<'_>,
+    world: &World,
+    store: &mut Store,
+    pending: &mut Option<Addr>,
+    call: &mut Activation,
+) -> Executed
     requires lowered { IsLowered program.now }
-    requires stands { (visible : Visible) × (task : Task) × (rest : List Task) × CallStands program.now heap.now call.old visible (task ∷ rest) }
-    ensures { (lent : BuffersInUse) (k : ℕ) (shared : Shared) (s : SourceThread) (task : Task) (rest : List Task) → s.tasks ≡ Some (task ∷ rest) → s.pending ≡ None → StaticsAgree program.now shared
-        → BlocksAgree heap.now shared.heap heap.now.blocks → CallStands program.now heap.now call.old (visible_to shared s) (task ∷ rest)
-        → Executes program.now world.now.classes heap.now lent k shared s rest call.new (effect_of (sight_of shared s) task) result }
+    requires stands { (shared : Shared) × (s : SourceThread) × (task : Task) × (rest : List Task) × IsExecuting program.now world.now store.old call.old pending.old shared s task rest }
+    ensures { (lent : BuffersInUse) (k : ℕ) (shared : Shared) (s : SourceThread) (task : Task) (rest : List Task) → IsExecuting program.now world.now store.old call.old pending.old shared s task rest
+        → Executes program.now world.now store.old.heap store.new lent k shared s rest call.new pending.new (effect_of (sight_of shared s) task) result }
 {
     let code = program.code(call.function).unwrap();
     let instr = code.get(call.place).unwrap();
     match instr {
         Instr::TestNull { variable, equal } => {
-            let null = is_null(&call.references, *variable);
+            let null = is_null(&call.references, &call.fields, *variable);
             call.stack.push(u32::from(null == *equal));
             call.place += 1;
             Executed::Did(Event::Quiet)
         }
         Instr::StoreNull(variable) => {
-            set_null(&mut call.references, *variable);
+            set_null(&mut call.references, &mut call.fields, *variable);
             call.place += 1;
             Executed::Did(Event::Quiet)
         }
@@ -166,7 +203,7 @@ fn execute(program: &Program<'_>, world: &World, heap: &Heap, call: &mut Activat
             call.place += 1;
             Executed::Did(Event::Printed(word.cast_signed()))
         }
-        Instr::Call(boxed) => Executed::Did(invoke(world, heap, call, boxed.call())),
+        Instr::Call(boxed) => invoke(world, store, pending, call, boxed.call()),
         Instr::Return | Instr::ReturnJint | Instr::ReturnReference(_) => Executed::Returned,
         _ => match plain(instr, &mut call.stack, &mut call.numbers) {
             Plain::Next => {

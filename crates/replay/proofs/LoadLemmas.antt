@@ -11,7 +11,7 @@ use Rattle.source.specs.Start.{waiting_thread}
 use Rattle.replay.specs.declared.thread.Thread.{Thread as ThreadInMemory}
 use Rattle.replay.specs.Loading.{refused_calls, first_line, IsWaiting, AreWaiting}
 use Rattle.replay.specs.States.{ThreadsStand}
-use Rattle.replay.specs.Threads.{ThreadStands, VariablesIn, FramesIn, tasks_in, ending_in}
+use Rattle.replay.specs.Threads.{ThreadStands, WorkStands, tasks_in, ending_view}
 use Rattle.tasks.specs.declared.activation.Activation.{Activation}
 
 -- the calls of each thread
@@ -85,10 +85,8 @@ module _ (unit : SourceUnit) (classes : Classes) where
     calls = sym h.same;
     loads = subst (λ (cs : List Invocation). IsTrue (list_all (call_loads unit classes) cs)) (sym h.same) (all_pass (call_loads unit classes) calls none);
     tasks = ap tasks_in (sym h.idle);
-    variables = subst (λ (o : Option Activation). VariablesIn o []) (sym h.idle) tt;
-    frames = subst (λ (o : Option Activation). FramesIn o []) (sym h.idle) tt;
-    pending = refl;
-    ending = ap ending_in (sym h.unended);
+    work = subst (λ (o : Option Activation). WorkStands o (waiting_thread calls)) (sym h.idle) refl;
+    ending = ap ending_view (sym h.unended);
   }
 
   -- all of them

@@ -1,72 +1,90 @@
--- The text of a row, and the rows of a world.
-use Rattle.std.proofs.Common.{◌≡◌, ℕ, ◌+◌, ◌<◌, ◌≤◌, ◌^◌, List, [], ◌∷◌, ◌++◌, length, map, drop, get_or, refl, sym, ap, ◌∙◌, arith}
-use Rattle.std.specs.Prelude.{codes}
+-- The text of a row, and the rows of a store.
+use Rattle.std.proofs.Common.{◌≡◌, ℕ, zero, suc, ◌+◌, ◌-◌, ◌<◌, ◌≤◌, List, [], ◌∷◌, ◌++◌, length, map, drop, Option, Some, refl, sym, ap, ◌∙◌, subst, arith}
+use Rattle.std.specs.Prelude.{codes, slice_get}
 use Rattle.std.specs.List.{flat_map, enumerate_from}
-use Rattle.std.proofs.lemmas.List.{get_or-map, length-map}
-use Rattle.std.proofs.lemmas.List.FromFn.{length-enumerate_from, get_or-enumerate_from}
+use Rattle.std.specs.Option.{option_map_or}
+use Rattle.std.proofs.lemmas.List.{length-drop, length-map}
+use Rattle.std.proofs.lemmas.List.FromFn.{length-enumerate_from}
 use Rattle.base.specs.Bytes.{Identifier}
 use Rattle.classes.specs.Class.{Classes, class_name}
+use Rattle.source.specs.Heap.{Heap, object_at, class_of, values_of}
 use Rattle.source.specs.Object.{ObjectValue, Object}
 use Rattle.source.specs.Report.{ShownRow, ShownValue}
-use Rattle.source.specs.ReportOf.{shown_value, object_row, loaded_rows}
-use Rattle.source.specs.World.{World}
+use Rattle.source.specs.ReportOf.{shown_value, shown_row, object_row}
 use Rattle.report.specs.ReportText.{shown_text, text_line, object_line}
 use Rattle.report.specs.Shown.{row_head}
-use Rattle.report.proofs.Puts.{flat_map-at, flat_map-past}
+use Rattle.report.proofs.Puts.{flat_map-past}
 use Rattle.world.specs.declared.object.ObjectValue.{ObjectValue as InMemory}
-use Rattle.world.specs.SoundWorlds.{IsSound}
 use Rattle.world.specs.Views.{object_value_view}
-use Rattle.replay.specs.Rows.{value_text}
+use Rattle.replay.specs.Rows.{value_text, own_rows}
 
 values_are : (classes : Classes) (values : List InMemory) → flat_map (λ (v : ShownValue). codes " " ++ shown_text v) (map (shown_value classes) (map object_value_view values)) ≡ flat_map (value_text classes) values
 values_are classes [] = refl
 values_are classes (v ∷ values) = ap (λ (l : List ℕ). value_text classes v ++ l) (values_are classes values)
 
 -- the head of a row, its values and its end
-pub row_is : (classes : Classes) (n : ℕ) (o : Object) (class : Identifier) (values : List InMemory) → class ≡ class_name classes o.class → map object_value_view values ≡ o.values
-    → object_line (object_row classes (n, o)) ≡ (row_head n class ++ flat_map (value_text classes) values) ++ text_line []
-row_is classes n o class values named valued =
-    ap (λ (vs : List ObjectValue). let r : ShownRow = record { name = n; class = class_name classes o.class; values = map (shown_value classes) vs } in object_line r) (sym valued)
+pub row_is : (classes : Classes) (heap : Heap) (n : ℕ) (class : Identifier) (values : List InMemory) → class ≡ class_name classes (class_of heap n) → map object_value_view values ≡ values_of heap n
+    → object_line (shown_row classes heap n) ≡ (row_head n class ++ flat_map (value_text classes) values) ++ text_line []
+row_is classes heap n class values named valued =
+    ap (λ (vs : List ObjectValue). let r : ShownRow = record { name = n; class = class_name classes (class_of heap n); values = map (shown_value classes) vs } in object_line r) (sym valued)
     ∙ ap (λ (c : Identifier). let r : ShownRow = record { name = n; class = c; values = map (shown_value classes) (map object_value_view values) } in object_line r) (sym named)
     ∙ ap (λ (l : List ℕ). text_line (row_head n class ++ l)) (values_are classes values)
 
 -- ---- the rows of all objects
 
-module _ (w : World) where
-  abbrev first : ℕ
-  first = length w.classes + 2
+one_row : (classes : Classes) (heap : Heap) (n : ℕ) (o : Object) → object_at heap n ≡ Some o → object_row classes (n, o) ≡ shown_row classes heap n
+one_row classes heap n o at =
+    sym (ap (λ (x : Option Object). let r : ShownRow = record { name = n; class = class_name classes (option_map_or (λ (y : Object). y.class) x 0); values = map (shown_value classes) (option_map_or (λ (y : Object). y.values) x []) } in r) at)
 
-  length-rows : length (loaded_rows w) ≡ length w.objects
-  length-rows = length-map (enumerate_from first w.objects) (object_row w.classes) ∙ length-enumerate_from first w.objects
+get_dropped : (heap : Heap) (b j : ℕ) → slice_get (drop b heap) j ≡ slice_get heap (b + j)
+get_dropped heap zero j = let e : j ≡ 0 + j = omega arith in ap (slice_get heap) e
+get_dropped [] (suc b) j = refl
+get_dropped (o ∷ heap) (suc b) j = let e : suc (b + j) ≡ suc b + j = omega arith in get_dropped heap b j ∙ ap (slice_get (o ∷ heap)) e
 
-  -- the line of an object, and those after it
-  pub row_at : (i n : ℕ) (o : Object) → i < length w.objects → n ≡ length w.classes + 1 + i + 1 → get_or w.objects i o ≡ o
-      → flat_map object_line (drop i (loaded_rows w)) ≡ object_line (object_row w.classes (n, o)) ++ flat_map object_line (drop (i + 1) (loaded_rows w))
-  row_at i n o low counted is =
-      let long : i < length (enumerate_from first w.objects) = omega (arith, low, length-enumerate_from first w.objects) in
-      let number : first + i ≡ n = omega (arith, counted) in
-      let row : get_or (loaded_rows w) i (object_row w.classes (first, o)) ≡ object_row w.classes (n, o) =
-      get_or-map (object_row w.classes) (enumerate_from first w.objects) i (first, o) (object_row w.classes (first, o)) long
-      ∙ ap (object_row w.classes) (get_or-enumerate_from first w.objects i (first, o) low)
-      ∙ ap (λ (m : ℕ). object_row w.classes (m, get_or w.objects i o)) number
-      ∙ ap (λ (b : Object). object_row w.classes (n, b)) is in
-      flat_map-at object_line (loaded_rows w) i (object_row w.classes (first, o)) (omega (arith, low, length-rows))
-      ∙ ap (λ (r : ShownRow). object_line r ++ flat_map object_line (drop (i + 1) (loaded_rows w))) row
+-- the row of an object, and those after it
+pub record RowAt (classes : Classes) (rest : Heap) (n j : ℕ) : Type 0 where
+  pub object : Object
+  pub there : slice_get rest j ≡ Some object
+  pub rows : drop j (map (object_row classes) (enumerate_from n rest)) ≡ object_row classes (n + j, object) ∷ drop (j + 1) (map (object_row classes) (enumerate_from n rest))
 
-  pub rows_past : (i : ℕ) → length w.objects ≤ i → flat_map object_line (drop i (loaded_rows w)) ≡ []
-  rows_past i high = flat_map-past object_line (loaded_rows w) i (omega (arith, high, length-rows))
+row_in : (classes : Classes) (rest : Heap) (n j : ℕ) → j < length rest → RowAt classes rest n j
+row_in classes [] n j low = absurd (omega arith)
+row_in classes (o ∷ rest) n zero low =
+    let e : n ≡ n + 0 = omega arith in
+    record { object = o; there = refl; rows = ap (λ (m : ℕ). object_row classes (m, o) ∷ map (object_row classes) (enumerate_from (n + 1) rest)) e }
+row_in classes (o ∷ rest) n (suc j) low =
+    let r = row_in classes rest (n + 1) j (omega arith) in
+    let e : n + 1 + j ≡ n + suc j = omega arith in
+    let next : suc (j + 1) ≡ suc j + 1 = omega arith in
+    record {
+      object = r.object;
+      there = r.there;
+      rows =
+          r.rows
+          ∙ ap (λ (m : ℕ). object_row classes (m, r.object) ∷ drop (j + 1) (map (object_row classes) (enumerate_from (n + 1) rest))) e
+          ∙ ap (λ (m : ℕ). object_row classes (n + suc j, r.object) ∷ drop m (map (object_row classes) (enumerate_from n (o ∷ rest)))) next;
+    }
 
-  module _ (objects : List Object) (same : objects ≡ w.objects) where
-    count : length objects ≡ length w.objects
-    count = ap (λ (l : List Object). length l) same
+module _ (classes : Classes) (heap : Heap) (before place : ℕ) (is : before ≡ length classes + 1) (high : before ≤ place) where
+  -- the line of the object at a place, and those after it
+  pub row_at : place < length heap → flat_map object_line (drop (place - before) (own_rows classes heap)) ≡ object_line (shown_row classes heap (place + 1)) ++ flat_map object_line (drop (place + 1 - before) (own_rows classes heap))
+  row_at low =
+      let limit = length classes + 1 in
+      let j = place - before in
+      let r = row_in classes (drop limit heap) (length classes + 2) j (omega (arith, is, high, low, length-drop limit heap)) in
+      let named : length classes + 2 + j ≡ place + 1 = omega (arith, is, high) in
+      let counted : limit + j ≡ place = omega (arith, is, high) in
+      let next : j + 1 ≡ place + 1 - before = omega (arith, high) in
+      let suc_place : place + 1 ≡ suc place = omega arith in
+      let at : object_at heap (place + 1) ≡ Some r.object = ap (object_at heap) suc_place ∙ ap (slice_get heap) (sym counted) ∙ sym (get_dropped heap limit j) ∙ r.there in
+      ap (flat_map object_line) r.rows
+      ∙ ap (λ (m : ℕ). object_line (object_row classes (m, r.object)) ++ flat_map object_line (drop (j + 1) (own_rows classes heap))) named
+      ∙ ap (λ (x : ShownRow). object_line x ++ flat_map object_line (drop (j + 1) (own_rows classes heap))) (one_row classes heap (place + 1) r.object at)
+      ∙ ap (λ (m : ℕ). object_line (shown_row classes heap (place + 1)) ++ flat_map object_line (drop m (own_rows classes heap))) next
 
-    -- each name is below 2 to the 32
-    pub name_low : (before name i : ℕ) → IsSound w → before ≡ length w.classes + 1 → before ≤ 257 → name ≡ length w.classes + 1 + i → i < length objects → name + 1 < 2 ^ 32
-    name_low before name i sound is few named low = omega (arith, is, few, named, low, count, sound.few_objects)
-
-    -- the same by the objects and the table that were asked for
-    pub row_of : (classes : Classes) (i n : ℕ) (o : Object) → classes ≡ w.classes → i < length objects → n ≡ length w.classes + 1 + i + 1 → o ≡ get_or objects i o
-        → flat_map object_line (drop i (loaded_rows w)) ≡ object_line (object_row classes (n, o)) ++ flat_map object_line (drop (i + 1) (loaded_rows w))
-    row_of classes i n o table low named is =
-        row_at i n o (omega (arith, low, count)) named (ap (λ (l : List Object). get_or l i o) (sym same) ∙ sym is)
-        ∙ ap (λ (T : Classes). object_line (object_row T (n, o)) ++ flat_map object_line (drop (i + 1) (loaded_rows w))) (sym table)
+  -- there are none after the last
+  pub rows_past : length heap ≤ place → flat_map object_line (drop (place - before) (own_rows classes heap)) ≡ []
+  rows_past past =
+      let rest : Heap = drop (length classes + 1) heap in
+      let count : length (own_rows classes heap) ≡ length rest = length-map (enumerate_from (length classes + 2) rest) (object_row classes) ∙ length-enumerate_from (length classes + 2) rest in
+      flat_map-past object_line (own_rows classes heap) (place - before) (omega (arith, is, high, past, count, length-drop (length classes + 1) heap))

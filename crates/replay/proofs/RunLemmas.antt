@@ -1,5 +1,5 @@
 -- A journal's replay goes on by an entry, or stops before it.
-use Rattle.std.proofs.Common.{◌≡◌, ℕ, ◌+◌, ◌<◌, ◌≤◌, true, false, ◌∷◌, ◌++◌, length, drop, take, Option, Some, None, refl, sym, ap, ◌∙◌, subst, arith}
+use Rattle.std.proofs.Common.{◌≡◌, ℕ, ◌+◌, ◌<◌, ◌≤◌, true, false, List, ◌∷◌, ◌++◌, length, map, drop, take, Option, Some, None, refl, sym, ap, ◌∙◌, subst, arith}
 use Rattle.std.specs.Prelude.{slice_get, is_some}
 use Rattle.std.specs.Option.{option_and_then, option_map}
 use Rattle.std.proofs.lemmas.List.{take-append-drop, length-take-le, take_all}
@@ -21,10 +21,12 @@ use Rattle.source.proofs.RunLaws.{replay_from-append, replay_more}
 use Rattle.replay.specs.declared.fault.ReplayFault.{ReplayFault}
 use Rattle.replay.specs.declared.fault.ReplayFault.TheVariants.{DoesNotFit, Impossible, Memory, Writer}
 use Rattle.replay.specs.declared.state.State.{State as StateInMemory}
-use Rattle.replay.specs.States.{TakesEntry, AreInRange, standings_of, stop_view, shown_stop}
+use Rattle.replay.specs.States.{TakesEntry, AreInRange, standings_in, stop_view, shown_stop}
 use Rattle.replay.specs.TrapAt.{trap_at}
 use Rattle.replay.specs.declared.state.Stop.{Stop as StopInMemory}
-use Rattle.source.specs.ReportOf.{loaded_rows}
+use Rattle.report.specs.declared.thread_status.ThreadStatus.{ThreadStatus}
+use Rattle.report.specs.ThreadStatus.{standing_view}
+use Rattle.replay.specs.Rows.{own_rows}
 use Rattle.replay.specs.Replays.{IsFirstImpossible, Replayed, IsRefused, IsLoadFault, IsStoppedBy, IsReplayable, IsFromOutside, EndsBy}
 use Rattle.replay.proofs.LoadLemmas.{drop_more, take_more}
 use Rattle.replay.proofs.StateLemmas.{report_same}
@@ -110,10 +112,10 @@ ends unit w journal m h = record {
 -- ---- the text
 
 -- what is written from the state in memory is what the run writes
-pub writes : (unit : SourceUnit) (w : World) (journal : Journal) (m : StateInMemory) → Replayed unit w journal m
-    → Writes unit w journal (report_text (report_with m.printed.items (standings_of m) (loaded_rows m.world.now)) ++ journal_line journal)
-writes unit w journal m h = record {
+pub writes : (unit : SourceUnit) (w : World) (journal : Journal) (m : StateInMemory) (standings : List ThreadStatus) → Replayed unit w journal m → map standing_view standings ≡ standings_in m
+    → Writes unit w journal (report_text (report_with m.printed.items standings (own_rows m.world.now.classes m.store)) ++ journal_line journal)
+writes unit w journal m standings h is = record {
   end = h.end;
   replays = h.replays;
-  same = ap (λ (r : Report). report_text r ++ journal_line journal) (sym (report_same unit w m h.end h.stands h.range));
+  same = ap (λ (r : Report). report_text r ++ journal_line journal) (sym (report_same unit w m h.end h.stands h.range standings is));
 }

@@ -3,18 +3,19 @@ use Rattle.std.proofs.Common.{◌≡◌, ℕ, ◌+◌, ◌<◌, ◌≤◌, List,
 use Rattle.std.specs.List.{enumerate_from}
 use Rattle.std.proofs.lemmas.List.{at_drop_more, drop_all}
 use Rattle.std.proofs.lemmas.List.FromFn.{length-enumerate_from, get_or-enumerate_from}
-use Rattle.report.specs.declared.thread_status.ThreadStatus.{ThreadStatus}
+use Rattle.classes.specs.Class.{Classes}
+use Rattle.source.specs.Report.{ThreadStanding}
 use Rattle.replay.specs.declared.thread.Thread.{Thread}
 use Rattle.replay.specs.declared.state.Stop.{Stop}
-use Rattle.replay.specs.States.{standing_of}
+use Rattle.replay.specs.States.{standing_in}
 
-module _ (stop : Option Stop) (ts : List Thread) where
+module _ (classes : Classes) (stop : Option Stop) (ts : List Thread) where
   abbrev numbered : List (ℕ × Thread)
   numbered = enumerate_from 1 ts
 
   -- one thread more
-  pub standing_more : (acc : List ThreadStatus) (i k : ℕ) (x : Thread) (out : ThreadStatus) → i < length ts → k ≡ i → x ≡ get_or ts i x → out ≡ standing_of stop (k + 1, x) → map (standing_of stop) numbered ≡ acc ++ map (standing_of stop) (drop i numbered)
-      → map (standing_of stop) numbered ≡ (acc ++ out ∷ []) ++ map (standing_of stop) (drop (i + 1) numbered)
+  pub standing_more : (acc : List ThreadStanding) (i k : ℕ) (x : Thread) (out : ThreadStanding) → i < length ts → k ≡ i → x ≡ get_or ts i x → out ≡ standing_in classes stop (k + 1, x) → map (standing_in classes stop) numbered ≡ acc ++ map (standing_in classes stop) (drop i numbered)
+      → map (standing_in classes stop) numbered ≡ (acc ++ out ∷ []) ++ map (standing_in classes stop) (drop (i + 1) numbered)
   standing_more acc i k x out low counted is gives h =
       let long : i < length numbered = omega (arith, low, length-enumerate_from 1 ts) in
       let number : 1 + i ≡ k + 1 = omega (arith, counted) in
@@ -23,12 +24,12 @@ module _ (stop : Option Stop) (ts : List Thread) where
       ∙ ap (λ (n : ℕ). (n, get_or ts i x)) number
       ∙ ap (λ (t : Thread). (k + 1, t)) (sym is) in
       h
-      ∙ ap (λ (l : List ThreadStatus). acc ++ l) (at_drop_more (map (standing_of stop)) numbered i (1, x) long)
-      ∙ ap (λ (v : ℕ × Thread). acc ++ standing_of stop v ∷ map (standing_of stop) (drop (i + 1) numbered)) item
-      ∙ ap (λ (o : ThreadStatus). acc ++ o ∷ map (standing_of stop) (drop (i + 1) numbered)) (sym gives)
-      ∙ sym (append_assoc acc (out ∷ []) (map (standing_of stop) (drop (i + 1) numbered)))
+      ∙ ap (λ (l : List ThreadStanding). acc ++ l) (at_drop_more (map (standing_in classes stop)) numbered i (1, x) long)
+      ∙ ap (λ (v : ℕ × Thread). acc ++ standing_in classes stop v ∷ map (standing_in classes stop) (drop (i + 1) numbered)) item
+      ∙ ap (λ (o : ThreadStanding). acc ++ o ∷ map (standing_in classes stop) (drop (i + 1) numbered)) (sym gives)
+      ∙ sym (append_assoc acc (out ∷ []) (map (standing_in classes stop) (drop (i + 1) numbered)))
 
   -- all of them
-  pub standings_all : (acc : List ThreadStatus) (i : ℕ) → length ts ≤ i → map (standing_of stop) numbered ≡ acc ++ map (standing_of stop) (drop i numbered) → acc ≡ map (standing_of stop) numbered
+  pub standings_all : (acc : List ThreadStanding) (i : ℕ) → length ts ≤ i → map (standing_in classes stop) numbered ≡ acc ++ map (standing_in classes stop) (drop i numbered) → acc ≡ map (standing_in classes stop) numbered
   standings_all acc i past h =
-      sym (h ∙ ap (λ (l : List (ℕ × Thread)). acc ++ map (standing_of stop) l) (drop_all i numbered (omega (arith, past, length-enumerate_from 1 ts))) ∙ append-nil acc)
+      sym (h ∙ ap (λ (l : List (ℕ × Thread)). acc ++ map (standing_in classes stop) l) (drop_all i numbered (omega (arith, past, length-enumerate_from 1 ts))) ∙ append-nil acc)

@@ -11,14 +11,16 @@ use Rattle.source.specs.declared.printed.Printed.{Printed}
 use Rattle.source.specs.Report.{ThreadStanding, HasTrapped}
 use Rattle.report.specs.Shown.{report_with}
 use Rattle.report.specs.ThreadStatus.{standing_view}
-use Rattle.source.specs.World.{World, loaded_objects}
+use Rattle.source.specs.World.{World}
 use Rattle.source.specs.Value.{trap_number}
-use Rattle.report.specs.declared.thread_status.ThreadStatus.TheVariants as standing
-use Rattle.source.specs.ReportOf.{report, shown, shown_row, loaded_rows}
-use Rattle.source.specs.ReportOf as language
+use Rattle.report.specs.declared.thread_status.ThreadStatus.{ThreadStatus}
+use Rattle.source.specs.ReportOf.{report, shown, shown_row, standing_by_ending, standing_of}
+use Rattle.source.specs.Start.{null_statics}
+use Rattle.tasks.specs.Stores.{shared_with}
+use Rattle.replay.specs.Rows.{own_rows}
 use Rattle.source.specs.State.{State, thread_at, set_thread, lent, with_event, advanced}
 use Rattle.source.specs.Step.{world_step, can_step, step_of, is_blocked, is_live, is_unfinished, is_waiting}
-use Rattle.source.specs.Thread.{Thread, Shared, Unfinished, Quiet, PrintedNumber, Trapped, Advance}
+use Rattle.source.specs.Thread.{Ending, Thread, Shared, Unfinished, Ended, Uncaught, Quiet, PrintedNumber, Trapped, Advance}
 use Rattle.source.specs.ThreadStep.{thread_step}
 use Rattle.source.proofs.StepLaws.{Steps, steps, step-thread}
 use Rattle.replay.specs.declared.state.State.{State as StateInMemory}
@@ -27,10 +29,10 @@ use Rattle.replay.specs.declared.thread.Step.{Step}
 use Rattle.replay.specs.declared.thread.Step.TheVariants as step
 use Rattle.replay.specs.declared.state.Stop.{Stop as StopInMemory}
 use Rattle.terms.specs.Views.{trap_view}
-use Rattle.replay.specs.States.{ThreadsStand, AreInRange, Stands, stop_view, printed_after, stop_after, is_possible, Leads, standing_by, standing_of, standings_of}
-use Rattle.replay.specs.Threads.{ThreadStands, WorkInRange, IsAsLoaded, ending_in, StepIs, TakesStep}
+use Rattle.replay.specs.States.{ThreadsStand, AreInRange, Stands, stop_view, printed_after, stop_after, is_possible, Leads, standing_in, standings_in}
+use Rattle.replay.specs.Threads.{ThreadStands, WorkInRange, ending_view, StepIs, TakesStep}
 use Rattle.replay.proofs.PlainTasks.{refused_none, waits_none}
-use Rattle.source.proofs.ShownRows.{shown_rows}
+use Rattle.source.proofs.ShownRows.{shown_present}
 
 -- ---- one thread of several
 
@@ -95,18 +97,15 @@ middle_fails true true c e = absurd (cc)
 middle_fails true false c e = refl
 middle_fails false b c e = refl
 
+is_live_so : (e : Ending) → is_unfinished e ≡ true → e ≡ Unfinished
+is_live_so Unfinished h = refl
+is_live_so Ended h = absurd (cc)
+is_live_so (Uncaught c) h = absurd (cc)
+
 pub entry_is : (e : Entry) (k : ℕ) → e.thread ≡ k → e.refused ≡ false → e ≡ record { thread = k; refused = false }
 entry_is e k same possible = ap (λ (r : Bool). record { thread = e.thread; refused = r }) possible ∙ ap (λ (n : ℕ). record { thread = n; refused = false }) same
 
 module _ (unit : SourceUnit) (w : World) (m : StateInMemory) (s : State) (h : Stands unit w m s) (range : AreInRange m.threads.items) where
-  -- what all threads share is as at the start
-  as_loaded : IsAsLoaded unit w s.shared
-  as_loaded = record {
-    heap = ap (λ (x : Shared). x.heap) h.shared;
-    statics = ap (λ (x : Shared). x.statics) h.shared;
-    monitors = ap (λ (x : Shared). x.monitors) h.shared;
-  }
-
   stop_is : (o : Option StopInMemory) → is_some o ≡ true → is_none (option_map stop_view o) ≡ false
   stop_is None e = absurd (cc)
   stop_is (Some stop) e = refl
@@ -153,11 +152,11 @@ module _ (unit : SourceUnit) (w : World) (m : StateInMemory) (s : State) (h : St
       (ap (λ (r : Bool). step_of unit w.classes s e.thread r (thread_at s e.thread)) is ∙ refused_thread e.thread (thread_at s e.thread) refl)
 
   -- a thread that has ended
-  pub ended : (e : Entry) (i : ℕ) (t : ThreadInMemory) → e.thread ≡ suc i → slice_get m.threads.items i ≡ Some t → t.ended ≡ true → world_step unit w.classes s e ≡ None
+  pub ended : (e : Entry) (i : ℕ) (t : ThreadInMemory) → e.thread ≡ suc i → slice_get m.threads.items i ≡ Some t → is_unfinished (ending_view t.ending) ≡ false → world_step unit w.classes s e ≡ None
   unfolding world_step
   ended e i t counted at over =
       let f = found unit w.classes m.threads.items s.threads i t h.threads at in
-      let dead : is_live (thread_at s e.thread) ≡ false = ap (λ k. is_live (thread_at s k)) counted ∙ ap is_live f.is ∙ ap is_unfinished (f.stands.ending ∙ ap ending_in over) in
+      let dead : is_live (thread_at s e.thread) ≡ false = ap (λ k. is_live (thread_at s k)) counted ∙ ap is_live f.is ∙ ap is_unfinished f.stands.ending ∙ over in
       none_else (can_step w.classes s e.thread) (step_of unit w.classes s e.thread e.refused (thread_at s e.thread))
       (middle_fails (is_none s.stop) (is_live (thread_at s e.thread)) (not (is_blocked w.classes s e.thread)) dead)
 
@@ -172,22 +171,27 @@ module _ (unit : SourceUnit) (w : World) (m : StateInMemory) (s : State) (h : St
   blocked_none : (k : ℕ) → is_blocked w.classes s k ≡ false
   blocked_none k = waiting_none k (thread_at s k) refl
 
-  module _ (i : ℕ) (t after : ThreadInMemory) (at : slice_get m.threads.items i ≡ Some t) (live : t.ended ≡ false) (runs : is_some m.stop ≡ false)
-      (new : StateInMemory) (world : new.world ≡ m.world) (threads : new.threads.items ≡ slice_set m.threads.items i after) where
+  module _ (i : ℕ) (t after : ThreadInMemory) (at : slice_get m.threads.items i ≡ Some t) (live : is_unfinished (ending_view t.ending) ≡ true) (runs : is_some m.stop ≡ false)
+      (new : StateInMemory) (world : new.world ≡ m.world) (threads : new.threads.items ≡ slice_set m.threads.items i after) (count : length new.store ≡ length m.store) where
     the_thread : Found unit w.classes t s.threads i
     the_thread = found unit w.classes m.threads.items s.threads i t h.threads at
 
     unended : the_thread.source.ending ≡ Unfinished
-    unended = the_thread.stands.ending ∙ ap ending_in live
+    unended = the_thread.stands.ending ∙ is_live_so (ending_view t.ending) live
 
     steps_here : Steps w.classes s (suc i) the_thread.source
     steps_here = steps w.classes s (suc i) the_thread.source (h.stop ∙ not_stopped m.stop runs) the_thread.is unended (waits_none unit w.classes s.shared (suc i) t the_thread.source the_thread.stands (range_at m.threads.items i t range at))
 
-    the_step : Advance
-    the_step = thread_step unit w.classes (lent s) (suc i) s.shared the_thread.source false
+    abbrev after_it : Shared
+    after_it = shared_with (null_statics unit) new.store
 
-    step_is : world_step unit w.classes s (record { thread = suc i; refused = false }) ≡ advanced s (suc i) (thread_step unit w.classes (lent s) (suc i) s.shared the_thread.source false)
-    step_is = step-thread unit w.classes s (suc i) the_thread.source false steps_here
+    the_step : Advance
+    the_step = thread_step unit w.classes (lent s) (suc i) (shared_with (null_statics unit) m.store) the_thread.source false
+
+    step_is : world_step unit w.classes s (record { thread = suc i; refused = false }) ≡ advanced s (suc i) (thread_step unit w.classes (lent s) (suc i) (shared_with (null_statics unit) m.store) the_thread.source false)
+    step_is =
+        step-thread unit w.classes s (suc i) the_thread.source false steps_here
+        ∙ ap (λ (x : Shared). advanced s (suc i) (thread_step unit w.classes (lent s) (suc i) x the_thread.source false)) h.shared
 
     all_stand : (next : Thread) → ThreadStands unit w.classes after next → ThreadsStand unit w.classes new.threads.items (slice_set s.threads i next)
     all_stand next stands = rw threads (changed unit w.classes m.threads.items s.threads i after next h.threads stands)
@@ -198,89 +202,88 @@ module _ (unit : SourceUnit) (w : World) (m : StateInMemory) (s : State) (h : St
     same_stop : (o : Option StopInMemory) → new.stop ≡ o → o ≡ m.stop → s.stop ≡ option_map stop_view new.stop
     same_stop o is same = h.stop ∙ ap (option_map stop_view) (sym (is ∙ same))
 
-    by_step : (took : Step) → StepIs unit w.classes s.shared after took (thread_step unit w.classes (lent s) (suc i) s.shared the_thread.source false) → new.printed.items ≡ printed_after m.printed.items (suc i) took
+    by_step : (took : Step) → StepIs unit w.classes after_it after took (thread_step unit w.classes (lent s) (suc i) (shared_with (null_statics unit) m.store) the_thread.source false) → new.printed.items ≡ printed_after m.printed.items (suc i) took
         → new.stop ≡ stop_after m.stop (suc i) took → Leads unit w s (record { thread = suc i; refused = false }) new (is_possible took)
     by_step step.Quiet l printed stop = (
-      with_event (record s { threads = set_thread s.threads (suc i) l.next }) (suc i) Quiet,
+      with_event (record s { shared = after_it; threads = set_thread s.threads (suc i) l.next }) (suc i) Quiet,
       step_is ∙ ap (advanced s (suc i)) l.advances,
-      record { world = same_world; shared = h.shared; threads = all_stand l.next l.stands; printed = h.printed ∙ sym printed; stop = same_stop m.stop stop refl },
+      record { world = same_world; shared = refl; count = count ∙ h.count; threads = all_stand l.next l.stands; printed = h.printed ∙ sym printed; stop = same_stop m.stop stop refl },
     )
     by_step (step.Printed z) l printed stop = (
-      with_event (record s { threads = set_thread s.threads (suc i) l.next }) (suc i) (PrintedNumber z),
+      with_event (record s { shared = after_it; threads = set_thread s.threads (suc i) l.next }) (suc i) (PrintedNumber z),
       step_is ∙ ap (advanced s (suc i)) l.advances,
       record {
         world = same_world;
-        shared = h.shared;
+        shared = refl;
+        count = count ∙ h.count;
         threads = all_stand l.next l.stands;
         printed = ap (λ (ps : List Printed). ps ++ record { thread = suc i; number = z } ∷ []) h.printed ∙ sym printed;
         stop = same_stop m.stop stop refl;
       },
     )
     by_step (step.Trapped trap line) l printed stop = (
-      with_event (record s { threads = set_thread s.threads (suc i) l.next }) (suc i) (Trapped (trap_view trap) line),
+      with_event (record s { shared = after_it; threads = set_thread s.threads (suc i) l.next }) (suc i) (Trapped (trap_view trap) line),
       step_is ∙ ap (advanced s (suc i)) l.advances,
-      record { world = same_world; shared = h.shared; threads = all_stand l.next l.stands; printed = h.printed ∙ sym printed; stop = ap (option_map stop_view) (sym stop) },
+      record { world = same_world; shared = refl; count = count ∙ h.count; threads = all_stand l.next l.stands; printed = h.printed ∙ sym printed; stop = ap (option_map stop_view) (sym stop) },
     )
     by_step step.Impossible l printed stop = step_is ∙ ap (advanced s (suc i)) l
 
-    takes_at : (took : Step) → TakesStep unit w t took after → new.printed.items ≡ printed_after m.printed.items (suc i) took → new.stop ≡ stop_after m.stop (suc i) took
+    takes_at : (took : Step) → TakesStep unit w.classes m.store t took new.store after → new.printed.items ≡ printed_after m.printed.items (suc i) took → new.stop ≡ stop_after m.stop (suc i) took
         → Leads unit w s (record { thread = suc i; refused = false }) new (is_possible took)
-    takes_at took step printed stop = by_step took (step the_thread.source s.shared (lent s) (suc i) the_thread.stands unended as_loaded) printed stop
+    takes_at took step printed stop = by_step took (step the_thread.source (lent s) (suc i) the_thread.stands unended) printed stop
 
   -- an entry is possible as far as its thread's step is
-  pub takes : (e : Entry) (i : ℕ) (t after : ThreadInMemory) (took : Step) (new : StateInMemory) → e.thread ≡ suc i → e.refused ≡ false → slice_get m.threads.items i ≡ Some t → t.ended ≡ false
-      → is_some m.stop ≡ false → TakesStep unit w t took after → new.world ≡ m.world → new.threads.items ≡ slice_set m.threads.items i after
+  pub takes : (e : Entry) (i : ℕ) (t after : ThreadInMemory) (took : Step) (new : StateInMemory) → e.thread ≡ suc i → e.refused ≡ false → slice_get m.threads.items i ≡ Some t → is_unfinished (ending_view t.ending) ≡ true
+      → is_some m.stop ≡ false → TakesStep unit w.classes m.store t took new.store after → length new.store ≡ length m.store → new.world ≡ m.world → new.threads.items ≡ slice_set m.threads.items i after
       → new.printed.items ≡ printed_after m.printed.items e.thread took → new.stop ≡ stop_after m.stop e.thread took
       → Leads unit w s e new (is_possible took)
-  takes e i t after took new counted possible at live runs step world threads printed stop =
+  takes e i t after took new counted possible at live runs step count world threads printed stop =
       subst (λ x. Leads unit w s x new (is_possible took)) (sym (entry_is e (suc i) counted possible))
-      (takes_at i t after at live runs new world threads took step (printed ∙ ap (λ k. printed_after m.printed.items k took) counted) (stop ∙ ap (λ k. stop_after m.stop k took) counted))
+      (takes_at i t after at live runs new world threads count took step (printed ∙ ap (λ k. printed_after m.printed.items k took) counted) (stop ∙ ap (λ k. stop_after m.stop k took) counted))
 
   -- ---- the report
 
-  ending_same : (k : ℕ) (t : ThreadInMemory) (x : Thread) → ThreadStands unit w.classes t x → language.standing_by_ending w.classes (is_blocked w.classes s k) x.ending ≡ standing_view (standing_by t.ended)
+  ending_same : (k : ℕ) (t : ThreadInMemory) (x : Thread) → ThreadStands unit w.classes t x → standing_by_ending w.classes (is_blocked w.classes s k) x.ending ≡ standing_by_ending w.classes false (ending_view t.ending)
   ending_same k t x stands =
-      ap (λ b. language.standing_by_ending w.classes b x.ending) (blocked_none k)
-      ∙ ap (language.standing_by_ending w.classes false) stands.ending
-      ∙ by_end t.ended
-    where
-      by_end : (b : Bool) → language.standing_by_ending w.classes false (ending_in b) ≡ standing_view (standing_by b)
-      by_end true = refl
-      by_end false = refl
+      ap (λ b. standing_by_ending w.classes b x.ending) (blocked_none k)
+      ∙ ap (standing_by_ending w.classes false) stands.ending
 
-  standing_same : (k : ℕ) (t : ThreadInMemory) (x : Thread) → ThreadStands unit w.classes t x → language.standing_of w.classes s k x s.stop ≡ standing_view (standing_of m.stop (k, t))
-  standing_same k t x stands = ap (language.standing_of w.classes s k x) h.stop ∙ by_stop m.stop
+  standing_same : (k : ℕ) (t : ThreadInMemory) (x : Thread) → ThreadStands unit w.classes t x → standing_of w.classes s k x s.stop ≡ standing_in w.classes m.stop (k, t)
+  standing_same k t x stands = ap (standing_of w.classes s k x) h.stop ∙ by_stop m.stop
     where
       by_thread : (stop : StopInMemory) (b : Bool)
-          → cond b (HasTrapped (trap_number (trap_view stop.trap)) stop.line) (language.standing_by_ending w.classes (is_blocked w.classes s k) x.ending)
-          ≡ standing_view (cond b (standing.Trapped (trap_number (trap_view stop.trap)) stop.line) (standing_by t.ended))
+          → cond b (HasTrapped (trap_number (trap_view stop.trap)) stop.line) (standing_by_ending w.classes (is_blocked w.classes s k) x.ending)
+          ≡ cond b (HasTrapped (trap_number (trap_view stop.trap)) stop.line) (standing_by_ending w.classes false (ending_view t.ending))
       by_thread stop true = refl
       by_thread stop false = ending_same k t x stands
 
-      by_stop : (o : Option StopInMemory) → language.standing_of w.classes s k x (option_map stop_view o) ≡ standing_view (standing_of o (k, t))
+      by_stop : (o : Option StopInMemory) → standing_of w.classes s k x (option_map stop_view o) ≡ standing_in w.classes o (k, t)
       by_stop None = ending_same k t x stands
       by_stop (Some stop) = by_thread stop (stop.thread == k)
 
   standings_same : (n : ℕ) (ts : List ThreadInMemory) (ss : List Thread) → ThreadsStand unit w.classes ts ss
-      → map (λ (t : ℕ × Thread). language.standing_of w.classes s t.0 t.1 s.stop) (enumerate_from n ss) ≡ map standing_view (map (standing_of m.stop) (enumerate_from n ts))
+      → map (λ (t : ℕ × Thread). standing_of w.classes s t.0 t.1 s.stop) (enumerate_from n ss) ≡ map (standing_in w.classes m.stop) (enumerate_from n ts)
   standings_same n [] [] stands = refl
   standings_same n [] (x ∷ ss) stands = absurd stands
   standings_same n (t ∷ ts) [] stands = absurd stands
   standings_same n (t ∷ ts) (x ∷ ss) stands =
-      let first : language.standing_of w.classes s n x s.stop ≡ standing_view (standing_of m.stop (n, t)) = standing_same n t x stands.0 in
+      let first : standing_of w.classes s n x s.stop ≡ standing_in w.classes m.stop (n, t) = standing_same n t x stands.0 in
       let rest = standings_same (n + 1) ts ss stands.1 in
-      ap (λ (y : ThreadStanding). y ∷ map (λ (t : ℕ × Thread). language.standing_of w.classes s t.0 t.1 s.stop) (enumerate_from (n + 1) ss)) first
-      ∙ ap (λ (ys : List ThreadStanding). standing_view (standing_of m.stop (n, t)) ∷ ys) rest
+      ap (λ (y : ThreadStanding). y ∷ map (λ (t : ℕ × Thread). standing_of w.classes s t.0 t.1 s.stop) (enumerate_from (n + 1) ss)) first
+      ∙ ap (λ (ys : List ThreadStanding). standing_in w.classes m.stop (n, t) ∷ ys) rest
 
-  rows_same : (v : World) → v ≡ m.world.now → s.shared.heap ≡ loaded_objects v → map (shown_row v.classes s.shared.heap) (shown v s) ≡ loaded_rows m.world.now
-  rows_same v is heap =
-      ap (λ (u : World). map (shown_row u.classes s.shared.heap) (shown u s)) is
-      ∙ shown_rows m.world.now s (heap ∙ ap loaded_objects is)
+  standings_are : (T : Classes) → w.classes ≡ T → map (standing_in w.classes m.stop) (enumerate_from 1 m.threads.items) ≡ map (standing_in T m.stop) (enumerate_from 1 m.threads.items)
+  standings_are T same = ap (λ (U : Classes). map (standing_in U m.stop) (enumerate_from 1 m.threads.items)) same
+
+  rows_same : map (shown_row w.classes s.shared.heap) (shown w s) ≡ own_rows m.world.now.classes m.store
+  rows_same =
+      shown_present w s (ap (λ (x : Shared). length x.heap) h.shared ∙ h.count)
+      ∙ ap (λ (x : Shared). own_rows w.classes x.heap) h.shared
+      ∙ ap (λ (v : World). own_rows v.classes m.store) h.world
 
   -- the report of the state is written from the state in memory
-  pub report_same : report w s ≡ report_with m.printed.items (standings_of m) (loaded_rows m.world.now)
+  pub report_same : (standings : List ThreadStatus) → map standing_view standings ≡ standings_in m → report w s ≡ report_with m.printed.items standings (own_rows m.world.now.classes m.store)
   unfolding report
-  report_same =
-      let objects = rows_same w h.world (ap (λ (x : Shared). x.heap) h.shared) in
-      let standings = standings_same 1 m.threads.items s.threads h.threads in
-      rw (objects, standings, h.printed) refl
+  report_same standings is =
+      let stood = standings_same 1 m.threads.items s.threads h.threads ∙ standings_are m.world.now.classes (ap (λ (v : World). v.classes) h.world) ∙ sym is in
+      rw (rows_same, stood, h.printed) refl

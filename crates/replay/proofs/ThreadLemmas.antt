@@ -1,82 +1,85 @@
 -- A thread in memory steps as the thread that it stands for.
-use Rattle.std.proofs.Common.{◌≡◌, ℕ, true, false, List, [], ◌∷◌, Option, Some, None, refl, sym, ap, ◌∙◌, length, ◌==◌, IsTrue}
+use Rattle.std.proofs.Common.{◌≡◌, ℕ, true, false, List, [], ◌∷◌, Option, Some, None, refl, sym, ap, ◌∙◌, IsTrue}
 use Rattle.std.specs.List.{list_all}
 use Rattle.std.specs.Option.{option_map}
-use Rattle.source.specs.World.{Invocation, World}
+use Rattle.source.specs.World.{Invocation}
 use Rattle.source.specs.Load.{call_loads}
-use Rattle.std.proofs.Common.{subst, arith, ne_eqb}
+use Rattle.std.proofs.Common.{subst}
 use Rattle.std.proofs.lemmas.Bool.{and_parts}
 use Rattle.std.specs.Borrow.{Bor}
 use Rattle.syntax.specs.Tree.{Function, SourceUnit}
 use Rattle.source.specs.Start.{null_statics}
 use Rattle.source.specs.Task.{tasks_of}
 use Rattle.classes.specs.Class.{Classes}
-use Rattle.source.specs.Thread.{Thread, Shared, BuffersInUse, Event, Quiet, PrintedNumber, Trapped, Advances as AdvancesTo, NoAdvance, Unfinished, Ended}
-use Rattle.source.specs.Activation.{return_step, enter, entered, entry_advance, entered_function, class_of_function, function_at}
+use Rattle.source.specs.Thread.{Frame, Monitor, Thread, Shared, BuffersInUse, Event, Quiet, PrintedNumber, Trapped, Advances as AdvancesTo, NoAdvance, Ending, Unfinished, Ended, Uncaught}
+use Rattle.source.specs.Heap.{Heap}
+use Rattle.source.specs.Object.{Reference}
+use Rattle.source.specs.Activation.{named_object, entry_frame, ending_after, monitors_after, calls_after, return_step, enter, entered, entry_advance, entered_function, class_of_function, function_at}
 use Rattle.source.specs.ThreadStep.{thread_step, step_within}
 use Rattle.tasks.specs.declared.activation.Activation.{Activation}
 use Rattle.replay.specs.declared.thread.Thread.{Thread as ThreadInMemory}
 use Rattle.tasks.specs.declared.outcome.Outcome.TheVariants as outcome
-use Rattle.tasks.specs.Activations.{tasks_left, thread_in, advance_by, Advances}
+use Rattle.tasks.specs.Activations.{tasks_left, thread_in, scene_of, advance_by, Advances}
+use Rattle.tasks.specs.Stores.{frame_view, shared_with}
 use Rattle.tasks.specs.Steps.{Sees}
 use Rattle.terms.specs.Views.{variables_view, trap_view}
 use Rattle.source.specs.Activation.{parameter_variables}
 use Rattle.source.specs.Variable.{LocalRef}
-use Rattle.std.specs.Prelude.{zip}
+use Rattle.std.specs.Prelude.{filter_map, zip}
 use Rattle.tasks.specs.declared.outcome.Outcome.{Outcome}
-use Rattle.replay.specs.Threads.{ThreadStands, VariablesIn, FramesIn, IsAsLoaded, Leaves, StepIs, step_of, tasks_in, ending_in}
+use Rattle.replay.specs.Threads.{ThreadStands, WorkStands, Leaves, StepIs, step_of, tasks_in, ending_view}
 
-module _ (unit : SourceUnit) (w : World) (shared : Shared) (lent : BuffersInUse) (k : ℕ) where
-  abbrev classes : Classes
-  classes = w.classes
+-- a thread that has ended owns nothing where nobody does
+no_monitors : (e : Ending) (k : ℕ) → monitors_after e k [] ≡ []
+no_monitors Unfinished k = refl
+no_monitors Ended k = refl
+no_monitors (Uncaught c) k = refl
 
-  -- the thread after its call, with these calls to come
-  thread_after : List Invocation → Thread
-  thread_after [] = record { calls = []; tasks = None; variables = []; frames = []; pending = None; ending = Ended }
-  thread_after (c ∷ calls) = record { calls = c ∷ calls; tasks = None; variables = []; frames = []; pending = None; ending = Unfinished }
+module _ (unit : SourceUnit) (classes : Classes) (lent : BuffersInUse) (k : ℕ) where
+  abbrev shared_now : Heap → Shared
+  shared_now heap = shared_with (null_statics unit) heap
 
-  left_by : (s : Thread) (calls : List Invocation) → s.calls ≡ calls → s.pending ≡ None → shared.monitors ≡ [] → return_step k shared s ≡ AdvancesTo shared (thread_after calls) Quiet
-  unfolding thread_after
-  left_by s [] is none_pending none = rw (none_pending, is, none) refl
-  left_by s (c ∷ calls) is none_pending none = rw (none_pending, is) refl
+  -- a thread after its call that stands so, with these calls to come before
+  abbrev thread_after : Ending → List Invocation → Thread
+  thread_after e calls = record { calls = calls_after e calls; tasks = None; variables = []; frames = []; pending = None; ending = e }
 
-  some_are : (c : Invocation) (calls : List Invocation) → (length (c ∷ calls) == 0) ≡ false
-  some_are c calls = ne_eqb (length (c ∷ calls)) 0 (λ e. omega arith)
+  left_by : (heap : Heap) (s : Thread) (e : Ending) (calls : List Invocation) (pending : Reference) → s.calls ≡ calls → s.pending ≡ pending → e ≡ ending_after heap pending calls
+      → return_step k (shared_now heap) s ≡ AdvancesTo (shared_now heap) (thread_after e calls) Quiet
+  left_by heap s e calls pending is there stood =
+      let same : ending_after heap s.pending s.calls ≡ e = ap (λ (r : Reference). ending_after heap r s.calls) there ∙ ap (ending_after heap pending) is ∙ sym stood in
+      ap (λ (f : Ending). let t : Thread = thread_after f s.calls in let r : Shared = record (shared_now heap) { monitors = monitors_after f k [] } in AdvancesTo r t Quiet) same
+      ∙ ap (λ (ms : List Monitor). let t : Thread = thread_after e s.calls in let r : Shared = record (shared_now heap) { monitors = ms } in AdvancesTo r t Quiet) (no_monitors e k)
+      ∙ ap (λ (cs : List Invocation). let t : Thread = thread_after e cs in AdvancesTo (shared_now heap) t Quiet) is
 
-  -- after the call, it stands for a thread with the calls to come
-  stands_after : (t : ThreadInMemory) (calls : List Invocation) → t.calls.now ≡ calls → IsTrue (list_all (call_loads unit classes) calls)
-      → ThreadStands unit classes (record t { activation = None; ended = length calls == 0 }) (thread_after calls)
-  unfolding thread_after
-  stands_after t [] is loads = record { calls = sym is; loads = rw is loads; tasks = refl; variables = tt; frames = tt; pending = refl; ending = refl }
-  stands_after t (c ∷ calls) is loads = record { calls = sym is; loads = rw is loads; tasks = refl; variables = tt; frames = tt; pending = refl; ending = ap ending_in (sym (some_are c calls)) }
+  loads_after : (e : Ending) (calls : List Invocation) → IsTrue (list_all (call_loads unit classes) calls) → IsTrue (list_all (call_loads unit classes) (calls_after e calls))
+  loads_after Unfinished calls h = h
+  loads_after Ended calls h = refl
+  loads_after (Uncaught c) calls h = refl
 
-  module _ (t : ThreadInMemory) (a new : Activation) (s : Thread) (is : t.activation ≡ Some a) (h : ThreadStands unit classes t s) (loaded : IsAsLoaded unit w shared) where
+  module _ (heap after : Heap) (t : ThreadInMemory) (a new : Activation) (s : Thread) (is : t.activation ≡ Some a) (h : ThreadStands unit classes t s) where
     has_tasks : s.tasks ≡ Some (tasks_left a)
     has_tasks = h.tasks ∙ ap tasks_in is
 
-    sees : Sees w (variables_view a.variables.items) (null_statics unit) shared s
-    sees = record {
-      variables = subst (λ (o : Option Activation). VariablesIn o s.variables) is h.variables;
-      frames = subst (λ (o : Option Activation). FramesIn o s.frames) is h.frames;
-      pending = h.pending;
-      heap = loaded.heap;
-      statics = loaded.statics;
-    }
+    work : WorkStands (Some a) s
+    work = subst (λ (o : Option Activation). WorkStands o s) is h.work
 
-    advances_so : (o : Outcome) → Advances unit w a o new → thread_step unit classes lent k shared s false ≡ advance_by k shared s new o
-    advances_so o does = ap (step_within unit classes lent k shared s false) has_tasks ∙ does lent k shared s sees has_tasks
+    sees : Sees (scene_of unit classes heap a) s
+    sees = record { variables = work.0; frames = work.1; pending = work.2 }
+
+    advances_so : (o : Outcome) → Advances unit classes heap a o after new → thread_step unit classes lent k (shared_now heap) s false ≡ advance_by k (shared_now after) s new o
+    advances_so o does = ap (step_within unit classes lent k (shared_now heap) s false) has_tasks ∙ does lent k s sees has_tasks
 
     -- the call goes on
-    on : (event : Event) → thread_step unit classes lent k shared s false ≡ AdvancesTo shared (thread_in s new) event
-        → Leaves unit classes shared (record t { activation = Some new }) event (thread_step unit classes lent k shared s false)
+    on : (event : Event) → thread_step unit classes lent k (shared_now heap) s false ≡ AdvancesTo (shared_now after) (thread_in s new) event
+        → Leaves unit classes (shared_now after) (record t { activation = Some new }) event (thread_step unit classes lent k (shared_now heap) s false)
     on event does = record {
       next = thread_in s new;
       advances = does;
-      stands = record { calls = h.calls; loads = h.loads; tasks = refl; variables = refl; frames = sees.frames; pending = h.pending; ending = h.ending };
+      stands = record { calls = h.calls; loads = h.loads; tasks = refl; work = (refl, refl, refl); ending = h.ending };
     }
 
-    pub goes : (o : Outcome) → (o ≡ outcome.Returned → ⊥) → Advances unit w a o new
-        → StepIs unit classes shared (record t { activation = Some new }) (step_of o) (thread_step unit classes lent k shared s false)
+    pub goes : (o : Outcome) → (o ≡ outcome.Returned → ⊥) → Advances unit classes heap a o after new
+        → StepIs unit classes (shared_now after) (record t { activation = Some new }) (step_of o) (thread_step unit classes lent k (shared_now heap) s false)
     goes outcome.Stays other does = on Quiet (advances_so outcome.Stays does)
     goes (outcome.Printed z) other does = on (PrintedNumber z) (advances_so (outcome.Printed z) does)
     goes (outcome.Sets x v) other does = on Quiet (advances_so (outcome.Sets x v) does)
@@ -91,34 +94,40 @@ module _ (unit : SourceUnit) (w : World) (shared : Shared) (lent : BuffersInUse)
     goes outcome.Impossible other does = advances_so outcome.Impossible does
 
     -- the call is over
-    pub returns : Advances unit w a outcome.Returned new
-        → Leaves unit classes shared (record t { activation = None; ended = length t.calls.now == 0 }) Quiet (thread_step unit classes lent k shared s false)
-    returns does = record {
-      next = thread_after t.calls.now;
-      advances = advances_so outcome.Returned does ∙ left_by s t.calls.now h.calls h.pending loaded.monitors;
-      stands = stands_after t t.calls.now refl h.loads;
-    }
+    pub returns : (left : ThreadInMemory) → Advances unit classes heap a outcome.Returned after new → left.activation ≡ None → ending_view left.ending ≡ ending_after after a.pending t.calls.now
+        → left.calls.now ≡ calls_after (ending_view left.ending) t.calls.now → Leaves unit classes (shared_now after) left Quiet (thread_step unit classes lent k (shared_now heap) s false)
+    returns left does idle ended calls =
+        let e : Ending = ending_view left.ending in
+        record {
+          next = thread_after e t.calls.now;
+          advances = advances_so outcome.Returned does ∙ left_by after s e t.calls.now a.pending h.calls work.2 ended;
+          stands = record {
+            calls = sym calls;
+            loads = subst (λ (cs : List Invocation). IsTrue (list_all (call_loads unit classes) cs)) (sym calls) (loads_after e t.calls.now h.loads);
+            tasks = ap tasks_in (sym idle);
+            work = subst (λ (o : Option Activation). WorkStands o (thread_after e t.calls.now)) (sym idle) refl;
+            ending = refl;
+          };
+        }
 
   -- the entry into the next call
-  pub enters : (t : ThreadInMemory) (call : Invocation) (rest : List Invocation) (f : Function) (class : ℕ) (a : Activation) (s : Thread)
+  pub enters : (heap : Heap) (t : ThreadInMemory) (call : Invocation) (rest : List Invocation) (f : Function) (class : ℕ) (a : Activation) (s : Thread)
       → t.activation ≡ None → t.calls.now ≡ call ∷ rest → function_at unit call.function ≡ Some f → class_of_function classes f ≡ Some class
-      → tasks_left a ≡ tasks_of f.body → variables_view a.variables.items ≡ (f.class_name, LocalRef 1 (Some class)) ∷ parameter_variables (zip f.parameters call.arguments) → ThreadStands unit classes t s
+      → tasks_left a ≡ tasks_of f.body → variables_view a.variables.items ≡ (f.class_name, LocalRef 1 (Some class)) ∷ parameter_variables (zip f.parameters call.arguments) → frame_view a.frame ≡ entry_frame (class ∷ filter_map named_object call.arguments) → a.pending ≡ None → ThreadStands unit classes t s
       → (after : Bor (List Invocation)) → after.now ≡ rest
-      → Leaves unit classes shared (record t { calls = after; activation = Some a }) Quiet (thread_step unit classes lent k shared s false)
-  enters t call rest f class a s idle calls found its_class tasks variables h after is = record {
+      → Leaves unit classes (shared_now heap) (record t { calls = after; activation = Some a }) Quiet (thread_step unit classes lent k (shared_now heap) s false)
+  enters heap t call rest f class a s idle calls found its_class tasks variables frame none h after is = record {
     next = entered s rest f class call.arguments;
     advances =
-        ap (step_within unit classes lent k shared s false) (h.tasks ∙ ap tasks_in idle)
-        ∙ ap (λ (cs : List Invocation). entry_advance shared (enter unit classes s cs)) (h.calls ∙ calls)
-        ∙ ap (λ (o : Option Function). entry_advance shared (entered_function classes s call rest o)) found
-        ∙ ap (λ (o : Option ℕ). entry_advance shared (option_map (λ d. entered s rest f d call.arguments) o)) its_class;
+        ap (step_within unit classes lent k (shared_now heap) s false) (h.tasks ∙ ap tasks_in idle)
+        ∙ ap (λ (cs : List Invocation). entry_advance (shared_now heap) (enter unit classes s cs)) (h.calls ∙ calls)
+        ∙ ap (λ (o : Option Function). entry_advance (shared_now heap) (entered_function classes s call rest o)) found
+        ∙ ap (λ (o : Option ℕ). entry_advance (shared_now heap) (option_map (λ d. entered s rest f d call.arguments) o)) its_class;
     stands = record {
       calls = sym is;
       loads = subst (λ (cs : List Invocation). IsTrue (list_all (call_loads unit classes) cs)) (sym is) parts.1;
       tasks = ap Some (sym tasks);
-      variables = sym variables;
-      frames = refl;
-      pending = h.pending;
+      work = (sym variables, ap (λ (x : Frame). x ∷ []) (sym frame), subst (λ (o : Option Activation). WorkStands o s) idle h.work ∙ sym none);
       ending = h.ending;
     };
   }
@@ -130,24 +139,24 @@ module _ (unit : SourceUnit) (w : World) (shared : Shared) (lent : BuffersInUse)
       parts = and_parts (call_loads unit classes call) (list_all (call_loads unit classes) rest) loads
 
   -- no call is to come
-  pub no_entry : (t : ThreadInMemory) (s : Thread) → t.activation ≡ None → t.calls.now ≡ [] → ThreadStands unit classes t s → thread_step unit classes lent k shared s false ≡ NoAdvance
-  no_entry t s idle none h =
-      ap (step_within unit classes lent k shared s false) (h.tasks ∙ ap tasks_in idle)
-      ∙ ap (λ (cs : List Invocation). entry_advance shared (enter unit classes s cs)) (h.calls ∙ none)
+  pub no_entry : (heap : Heap) (t : ThreadInMemory) (s : Thread) → t.activation ≡ None → t.calls.now ≡ [] → ThreadStands unit classes t s → thread_step unit classes lent k (shared_now heap) s false ≡ NoAdvance
+  no_entry heap t s idle none h =
+      ap (step_within unit classes lent k (shared_now heap) s false) (h.tasks ∙ ap tasks_in idle)
+      ∙ ap (λ (cs : List Invocation). entry_advance (shared_now heap) (enter unit classes s cs)) (h.calls ∙ none)
 
   -- the next call's function isn't there
-  pub no_function : (t : ThreadInMemory) (call : Invocation) (rest : List Invocation) (s : Thread) → t.activation ≡ None → t.calls.now ≡ call ∷ rest → function_at unit call.function ≡ None → ThreadStands unit classes t s
-      → thread_step unit classes lent k shared s false ≡ NoAdvance
-  no_function t call rest s idle calls none h =
-      ap (step_within unit classes lent k shared s false) (h.tasks ∙ ap tasks_in idle)
-      ∙ ap (λ (cs : List Invocation). entry_advance shared (enter unit classes s cs)) (h.calls ∙ calls)
-      ∙ ap (λ (o : Option Function). entry_advance shared (entered_function classes s call rest o)) none
+  pub no_function : (heap : Heap) (t : ThreadInMemory) (call : Invocation) (rest : List Invocation) (s : Thread) → t.activation ≡ None → t.calls.now ≡ call ∷ rest → function_at unit call.function ≡ None → ThreadStands unit classes t s
+      → thread_step unit classes lent k (shared_now heap) s false ≡ NoAdvance
+  no_function heap t call rest s idle calls none h =
+      ap (step_within unit classes lent k (shared_now heap) s false) (h.tasks ∙ ap tasks_in idle)
+      ∙ ap (λ (cs : List Invocation). entry_advance (shared_now heap) (enter unit classes s cs)) (h.calls ∙ calls)
+      ∙ ap (λ (o : Option Function). entry_advance (shared_now heap) (entered_function classes s call rest o)) none
 
   -- nor its class
-  pub no_class : (t : ThreadInMemory) (call : Invocation) (rest : List Invocation) (f : Function) (s : Thread) → t.activation ≡ None → t.calls.now ≡ call ∷ rest → function_at unit call.function ≡ Some f → class_of_function classes f ≡ None → ThreadStands unit classes t s
-      → thread_step unit classes lent k shared s false ≡ NoAdvance
-  no_class t call rest f s idle calls found none h =
-      ap (step_within unit classes lent k shared s false) (h.tasks ∙ ap tasks_in idle)
-      ∙ ap (λ (cs : List Invocation). entry_advance shared (enter unit classes s cs)) (h.calls ∙ calls)
-      ∙ ap (λ (o : Option Function). entry_advance shared (entered_function classes s call rest o)) found
-      ∙ ap (λ (o : Option ℕ). entry_advance shared (option_map (λ d. entered s rest f d call.arguments) o)) none
+  pub no_class : (heap : Heap) (t : ThreadInMemory) (call : Invocation) (rest : List Invocation) (f : Function) (s : Thread) → t.activation ≡ None → t.calls.now ≡ call ∷ rest → function_at unit call.function ≡ Some f → class_of_function classes f ≡ None → ThreadStands unit classes t s
+      → thread_step unit classes lent k (shared_now heap) s false ≡ NoAdvance
+  no_class heap t call rest f s idle calls found none h =
+      ap (step_within unit classes lent k (shared_now heap) s false) (h.tasks ∙ ap tasks_in idle)
+      ∙ ap (λ (cs : List Invocation). entry_advance (shared_now heap) (enter unit classes s cs)) (h.calls ∙ calls)
+      ∙ ap (λ (o : Option Function). entry_advance (shared_now heap) (entered_function classes s call rest o)) found
+      ∙ ap (λ (o : Option ℕ). entry_advance (shared_now heap) (option_map (λ d. entered s rest f d call.arguments) o)) none

@@ -1,9 +1,10 @@
 -- Threads before their first calls, and calls that don't fit.
-use Rattle.std.specs.Prelude.{◌≡◌, ℕ, false, not, List, [], ◌∷◌, filter, map, slice_get, Option, None}
+use Rattle.std.specs.Prelude.{◌≡◌, ℕ, not, List, [], ◌∷◌, filter, map, slice_get, Option, None}
 use Rattle.syntax.specs.Tree.{SourceUnit}
 use Rattle.classes.specs.Class.{Classes}
 use Rattle.source.specs.World.{Invocation}
 use Rattle.source.specs.Load.{call_loads}
+use Rattle.replay.specs.declared.thread.Ending.TheVariants.{Unfinished}
 use Rattle.replay.specs.declared.thread.Thread.{Thread as ThreadInMemory}
 
 -- the calls that don't fit
@@ -18,7 +19,7 @@ first_line calls = slice_get (map (λ (c : Invocation). c.line) calls) 0
 pub record IsWaiting (t : ThreadInMemory) (calls : List Invocation) : Type 0 where
   pub same : t.calls.now ≡ calls
   pub idle : t.activation ≡ None
-  pub unended : t.ended ≡ false
+  pub unended : t.ending ≡ Unfinished
 
 -- each thread has
 abbrev pub AreWaiting : List ThreadInMemory → List (List Invocation) → Type 0

@@ -1,16 +1,17 @@
 -- States that lie in memory, as those of the language, and what an entry does to one.
-use Rattle.std.specs.Prelude.{◌≡◌, ℕ, ◌==◌, Bool, true, false, if◌then◌else◌, List, [], ◌∷◌, ◌++◌, map, Option, Some, None}
+use Rattle.std.specs.Prelude.{◌≡◌, ℕ, ◌==◌, Bool, true, false, if◌then◌else◌, List, [], ◌∷◌, ◌++◌, length, map, Option, Some, None}
 use Rattle.std.specs.List.{enumerate_from}
 use Rattle.std.specs.Option.{option_map}
 use Rattle.syntax.specs.Tree.{SourceUnit}
 use Rattle.classes.specs.Class.{Classes}
 use Rattle.source.specs.declared.journal.Entry.{Entry}
 use Rattle.source.specs.declared.printed.Printed.{Printed}
-use Rattle.report.specs.declared.thread_status.ThreadStatus.{ThreadStatus}
-use Rattle.report.specs.declared.thread_status.ThreadStatus.TheVariants as standing
+use Rattle.source.specs.Report.{ThreadStanding, HasTrapped}
+use Rattle.source.specs.ReportOf.{standing_by_ending}
 use Rattle.source.specs.World.{World}
 use Rattle.source.specs.Thread.{Thread}
-use Rattle.source.specs.Start.{start}
+use Rattle.source.specs.Reachable.{loaded_count}
+use Rattle.source.specs.Start.{null_statics}
 use Rattle.source.specs.State.{State, Stop}
 use Rattle.source.specs.Step.{world_step}
 use Rattle.source.specs.Value.{trap_number}
@@ -22,7 +23,8 @@ use Rattle.replay.specs.declared.state.Stop.{Stop as StopInMemory}
 use Rattle.replay.specs.declared.trap_at.TrapAt.{TrapAt}
 use Rattle.replay.specs.TrapAt.{trap_at}
 use Rattle.terms.specs.Views.{trap_view}
-use Rattle.replay.specs.Threads.{ThreadStands, WorkInRange}
+use Rattle.replay.specs.Threads.{ThreadStands, WorkInRange, ending_view}
+use Rattle.tasks.specs.Stores.{shared_with}
 
 -- each thread in memory stands for the one of the same number
 abbrev pub ThreadsStand : SourceUnit → Classes → List ThreadInMemory → List Thread → Type 0
@@ -42,11 +44,12 @@ stop_view stop = record { thread = stop.thread; trap = trap_view stop.trap; line
 abbrev pub shown_stop : Option StopInMemory → Option TrapAt
 shown_stop stop = option_map (λ s. trap_at (stop_view s)) stop
 
--- a state in memory stands for one of the language, in the world that it began in
+-- A state in memory stands for one of the language, in the world that it began in. No step makes objects today, so that there
+-- are as many as were made at load.
 pub record Stands (unit : SourceUnit) (w : World) (m : StateInMemory) (s : State) : Type 0 where
   pub world : w ≡ m.world.now
-  -- no step changes yet what all threads share
-  pub shared : s.shared ≡ (start unit w).shared
+  pub shared : s.shared ≡ shared_with (null_statics unit) m.store
+  pub count : length m.store ≡ loaded_count w
   pub threads : ThreadsStand unit w.classes m.threads.items s.threads
   pub printed : s.printed ≡ m.printed.items
   pub stop : s.stop ≡ option_map stop_view m.stop
@@ -66,6 +69,7 @@ stop_after stop k took = stop
 -- what a step of thread k did is written down, and nothing else
 pub record IsNoted (old : StateInMemory) (k : ℕ) (took : Step) (new : StateInMemory) : Type 0 where
   pub world : new.world ≡ old.world
+  pub store : new.store ≡ old.store
   pub threads : new.threads ≡ old.threads
   pub printed : new.printed.items ≡ printed_after old.printed.items k took
   pub stop : new.stop ≡ stop_after old.stop k took
@@ -86,16 +90,11 @@ TakesEntry unit old e possible new = (w : World) (s : State) → Stands unit w o
 
 -- ---- the report
 
--- the status of a thread that didn't trap
-abbrev pub standing_by : (ended : Bool) → ThreadStatus
-standing_by true = standing.Ended
-standing_by false = standing.Running
+-- how thread k stands
+abbrev pub standing_in : Classes → Option StopInMemory → ℕ × ThreadInMemory → ThreadStanding
+standing_in classes None (k, t) = standing_by_ending classes false (ending_view t.ending)
+standing_in classes (Some stop) (k, t) = if stop.thread == k then HasTrapped (trap_number (trap_view stop.trap)) stop.line else standing_by_ending classes false (ending_view t.ending)
 
--- the status of thread k
-abbrev pub standing_of : Option StopInMemory → ℕ × ThreadInMemory → ThreadStatus
-standing_of None (k, t) = standing_by t.ended
-standing_of (Some stop) (k, t) = if stop.thread == k then standing.Trapped (trap_number (trap_view stop.trap)) stop.line else standing_by t.ended
-
--- the statuses of all threads
-abbrev pub standings_of : StateInMemory → List ThreadStatus
-standings_of m = map (standing_of m.stop) (enumerate_from 1 m.threads.items)
+-- how all threads stand
+abbrev pub standings_in : StateInMemory → List ThreadStanding
+standings_in m = map (standing_in m.world.now.classes m.stop) (enumerate_from 1 m.threads.items)

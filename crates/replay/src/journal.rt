@@ -68,7 +68,10 @@ pub fn replay<W: Sink>(
         Err(fault) => return Err(fault),
     };
     let standings = standings_of(alloc, &state)?;
-    let objects = Objects { world: state.world };
+    let objects = Objects {
+        classes: state.world.classes(),
+        store: &state.store,
+    };
     match write_run(out, &state.printed, &standings, &objects, journal) {
         Ok(()) => Ok(shown_stop(state.stop)),
         Err(_) => Err(ReplayFault::Writer),

@@ -11,9 +11,10 @@ ghost use Rattle.replay.specs.Replays.{IsLoadFault};
 
 use crate::fault::ReplayFault;
 use crate::state::State;
-use crate::thread::{Thread, class_of, function_at};
+use crate::thread::{Ending, Thread, class_of, function_at};
 use std::alloc::{AllocError, Global};
 use syntax::{Function, Item, Parameter, ParameterType};
+use tasks::loaded_store;
 use world::{Call, ObjectValue, World};
 
 /// Whether a parameter can have this argument.
@@ -105,7 +106,7 @@ fn waiting_threads<'a>(alloc: Global, world: &'a World) -> Result<Vec<Thread<'a>
         threads.push(Thread {
             calls,
             activation: None,
-            ended: false,
+            ending: Ending::Unfinished,
         })?;
     }
     Ok(threads)
@@ -128,6 +129,7 @@ pub(crate) fn start<'a>(
     Ok(State {
         threads: waiting_threads(alloc, world)?,
         world,
+        store: loaded_store(alloc, world)?,
         printed: Vec::new(alloc),
         stop: None,
     })

@@ -1,24 +1,24 @@
-//! The rows of a report: the world's objects, each of which can still be reached.
+//! The rows of a report: the world's objects, each of which can still be reached, as they are made at load.
 
 ghost use Rattle.std.specs.Prelude.{◌≡◌};
 ghost use Rattle.std.specs.List.{flat_map};
 ghost use Rattle.report.specs.ReportText.{object_line};
 ghost use Rattle.report.specs.Shown.{shown_view};
 ghost use Rattle.report.specs.Sink.{CanFail, Writes};
-ghost use Rattle.source.specs.ReportOf.{shown_value, object_row};
+ghost use Rattle.source.specs.ReportOf.{shown_value, shown_row};
 ghost use Rattle.world.specs.Views.{object_value_view};
 ghost use Rattle.replay.specs.Rows.{value_text, rows_text};
 
 use class_table::table::ClassTable;
-use tasks::made_before;
-use world::{
-    Object, ObjectValue, Rows, Shown, Sink, SinkFailed, World, put_row_end, put_row_head, put_value,
-};
+use tasks::Store;
+use world::{ObjectValue, Rows, Shown, Sink, SinkFailed, put_row_end, put_row_head, put_value};
 
-/// The world's own objects. They are made at load, and so stay reachable.
+/// The objects of the store but the class objects and the OutOfMemoryError object. No function that can be called makes another,
+/// and those that are made at load stay reachable.
 #[derive(Clone, Copy)]
 pub(crate) struct Objects<'a> {
-    pub world: &'a World,
+    pub classes: &'a ClassTable,
+    pub store: &'a Store,
 }
 
 /// A value as a row shows it: a class object by its class.
@@ -67,44 +67,41 @@ fn put_values<S: Sink>(
     Ok(())
 }
 
-/// Puts the row of an object of this name.
+/// Puts the row of the object of a name.
 fn put_row<S: Sink>(
     sink: &mut S,
     classes: &ClassTable,
+    store: &Store,
     name: u32,
-    object: &Object,
 ) -> Result<(), SinkFailed>
     requires { CanFail (S.written sink.old) }
-    ensures { Writes (S.written sink.old) (S.written sink.new) result (object_line (object_row classes.now (name, object.now))) }
+    ensures { Writes (S.written sink.old) (S.written sink.new) result (object_line (shown_row classes.now store.now name)) }
 {
-    let class = classes.name(object.class());
-    let values = object.values();
+    let object = name as usize;
+    let class = classes.name(store.class_of(object));
+    let values = store.values_of(object);
     put_row_head(sink, name, class)?;
     put_values(sink, classes, values)?;
     put_row_end(sink)
 }
 
-/// Puts the rows of all objects, by rising names.
-fn put_rows<S: Sink>(sink: &mut S, world: &World) -> Result<(), SinkFailed>
+/// Puts the rows of the objects, by rising names.
+fn put_rows<S: Sink>(sink: &mut S, classes: &ClassTable, store: &Store) -> Result<(), SinkFailed>
     requires { CanFail (S.written sink.old) }
-    ensures { Writes (S.written sink.old) (S.written sink.new) result (rows_text world.now) }
+    ensures { Writes (S.written sink.old) (S.written sink.new) result (rows_text classes.now store.now) }
 {
-    let classes = world.classes();
-    let objects = world.objects();
-    let mut name = made_before(world);
-    for object in objects {
-        name += 1;
-        put_row(sink, classes, name as u32, object)?;
+    for place in classes.len() + 1..store.len() {
+        put_row(sink, classes, store, place as u32 + 1)?;
     }
     Ok(())
 }
 
 impl Rows for Objects<'_> {
-    ghost use Rattle.source.specs.ReportOf.{loaded_rows};
+    ghost use Rattle.replay.specs.Rows.{own_rows};
 
-    ghost rows = { λ o. loaded_rows o.world.now };
+    ghost rows = { λ o. own_rows o.classes.now o.store.now };
 
     fn put<S: Sink>(&self, sink: &mut S) -> Result<(), SinkFailed> {
-        put_rows(sink, self.world)
+        put_rows(sink, self.classes, self.store)
     }
 }

@@ -1,15 +1,20 @@
 //! The state of a replay, and what an entry does to it.
 
-ghost use Rattle.std.specs.Prelude.{◌≡◌, IfOk, IsTrue};
+ghost use Rattle.std.specs.Prelude.{◌≡◌, IfOk, IsTrue, false, map};
 ghost use Rattle.syntax.specs.Limits.{IsTree};
 ghost use Rattle.syntax.specs.Views.{unit_tree};
 ghost use Rattle.types.specs.BuiltCalls.{calls_are_built};
-ghost use Rattle.replay.specs.States.{AreInRange, TakesEntry, shown_stop, IsNoted, is_possible, standing_of, standings_of};
+ghost use Rattle.replay.specs.States.{AreInRange, TakesEntry, shown_stop, IsNoted, is_possible, standing_in, standings_in};
+ghost use Rattle.replay.specs.Threads.{ending_view};
+ghost use Rattle.report.specs.ThreadStatus.{standing_view};
+ghost use Rattle.source.specs.ReportOf.{standing_by_ending};
 
-use crate::thread::{Step, Thread, take_step};
+use crate::thread::{Ending, Step, Thread, is_unfinished, take_step};
 use crate::trap_at::TrapAt;
+use class_table::table::ClassTable;
 use std::alloc::{AllocError, Global};
 use syntax::Item;
+use tasks::Store;
 use terms::{Trap, trap_number};
 use world::{Entry, Printed, ThreadStatus, World};
 
@@ -23,11 +28,11 @@ pub(crate) struct Stop {
     pub line: usize,
 }
 
-/// The threads, the world that they began in, what they printed, and the trap that stopped them. Of what all threads
-/// share nothing changes yet, so that the objects are the world's.
+/// The threads, the world that they began in, what they share, what they printed, and the trap that stopped them.
 #[derive(Drop)]
 pub(crate) struct State<'a> {
     pub world: &'a World,
+    pub store: Store,
     pub threads: Vec<Thread<'a>>,
     pub printed: Vec<Printed>,
     pub stop: Option<Stop>,
@@ -84,10 +89,10 @@ pub(crate) fn take_entry<'a>(
         return Ok(false);
     }
     let thread = &mut state.threads[k - 1];
-    if thread.ended {
+    if !is_unfinished(thread.ending) {
         return Ok(false);
     }
-    let step = take_step(alloc, items, state.world, thread)?;
+    let step = take_step(alloc, items, state.world, &mut state.store, thread)?;
     let possible = note(state, entry.thread, step)?;
     Ok(possible)
 }
@@ -103,36 +108,49 @@ pub(crate) fn shown_stop(stop: Option<Stop>) -> Option<TrapAt>
     })
 }
 
+/// The status of a thread that didn't trap. None waits.
+fn standing_by(classes: &ClassTable, ending: Ending) -> ThreadStatus<'_>
+    ensures { standing_view result ≡ standing_by_ending classes.now false (ending_view ending) }
+{
+    match ending {
+        Ending::Unfinished => ThreadStatus::Running,
+        Ending::Ended => ThreadStatus::Ended,
+        Ending::Uncaught(class) => ThreadStatus::Uncaught(classes.name(class)),
+    }
+}
+
 /// The status of thread `k`.
-fn standing_of(stop: Option<Stop>, k: usize, thread: &Thread<'_>) -> ThreadStatus
-    ensures { result ≡ standing_of stop (k, thread.now) }
+fn standing_of<'c>(
+    classes: &'c ClassTable,
+    stop: Option<Stop>,
+    k: usize,
+    thread: &Thread<'_>,
+) -> ThreadStatus<'c>
+    ensures { standing_view result ≡ standing_in classes.now stop (k, thread.now) }
 {
     if let Some(stop) = stop {
         if usize::from(stop.thread) == k {
             return ThreadStatus::Trapped(trap_number(stop.trap), stop.line);
         }
     }
-    if thread.ended {
-        ThreadStatus::Ended
-    } else {
-        ThreadStatus::Running
-    }
+    standing_by(classes, thread.ending)
 }
 
 /// The statuses of the threads.
-pub(crate) fn standings_of(
+pub(crate) fn standings_of<'a>(
     alloc: Global,
-    state: &State<'_>,
-) -> Result<Vec<ThreadStatus>, AllocError>
-    ensures { IfOk result (λ standings. standings.items ≡ standings_of state.now) }
+    state: &State<'a>,
+) -> Result<Vec<ThreadStatus<'a>>, AllocError>
+    ensures { IfOk result (λ standings. map standing_view standings.items ≡ standings_in state.now) }
 {
     let stop = state.stop;
+    let classes = state.world.classes();
     let threads = state.threads.as_slice();
     let mut standings = Vec::new(alloc);
     let mut k = 0;
     for thread in threads {
         k += 1;
-        standings.push(standing_of(stop, k, thread))?;
+        standings.push(standing_of(classes, stop, k, thread))?;
     }
     Ok(standings)
 }

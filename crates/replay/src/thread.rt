@@ -1,29 +1,51 @@
 //! Threads: calls in progress and to come.
 
-ghost use Rattle.std.specs.Prelude.{◌≡◌, ◌++◌, ◌∷◌, IfOk, IsTrue, Some, None, map, zip, length, ◌==◌};
+ghost use Rattle.std.specs.Prelude.{◌≡◌, ◌++◌, ◌∷◌, IfOk, IsTrue, Some, None, filter_map, length, map, reverse, zip};
 ghost use Rattle.std.specs.Option.{option_map};
 ghost use Rattle.syntax.specs.Limits.{IsTree};
 ghost use Rattle.syntax.specs.Views.{function_tree, parameter_tree, unit_tree};
 ghost use Rattle.types.specs.BuiltCalls.{calls_are_built};
 ghost use Rattle.world.specs.Views.{object_value_view};
-ghost use Rattle.source.specs.Activation.{function_at, parameter_variables, class_of_function};
+ghost use Rattle.source.specs.Activation.{function_at, parameter_variables, class_of_function, named_object, entry_frame, ending_after, calls_after};
+ghost use Rattle.source.specs.Heap.{Heap};
+ghost use Rattle.source.specs.Step.{is_unfinished};
 ghost use Rattle.source.specs.Variable.{LocalRef};
-ghost use Rattle.replay.specs.Threads.{argument_content, TakesStep, WorkInRange, step_of};
+ghost use Rattle.replay.specs.Threads.{argument_content, ending_view, TakesStep, WorkInRange, step_of};
+ghost use Rattle.tasks.specs.Stores.{frame_view};
 ghost use Rattle.terms.specs.Views.{content_view, variables_view};
 
 use classes::mangling::unmangle;
 use std::alloc::{AllocError, Global};
 use syntax::{Function, Item, Parameter};
-use tasks::{Activation, Outcome, advance};
+use tasks::{Activation, Frame, Outcome, Store, advance};
 use terms::{Content, Trap, Value, Variable};
 use world::{Call, ObjectValue, World};
 
-/// A thread: the calls to come, the one in progress, and whether all are done.
+/// How a thread has ended, if it has.
+#[derive(Clone, Copy)]
+pub(crate) enum Ending {
+    Unfinished,
+    Ended,
+    /// Its call returned with an exception of the class of this number pending.
+    Uncaught(usize),
+}
+
+/// Whether a thread has not ended.
+pub(crate) fn is_unfinished(ending: Ending) -> bool
+    ensures { result ≡ is_unfinished (ending_view ending) }
+{
+    match ending {
+        Ending::Unfinished => true,
+        Ending::Ended | Ending::Uncaught(_) => false,
+    }
+}
+
+/// A thread: the calls to come, the one in progress, and how it has ended.
 #[derive(Drop)]
 pub(crate) struct Thread<'a> {
     pub calls: &'a [Call],
     pub activation: Option<Activation<'a>>,
-    pub ended: bool,
+    pub ending: Ending,
 }
 
 /// What a step of a thread did.
@@ -123,6 +145,36 @@ fn entry_variables<'a>(
     Ok(variables)
 }
 
+/// Puts those of the arguments that are objects into a list of local references, the first argument last.
+fn add_references(references: &mut Vec<usize>, arguments: &[ObjectValue]) -> Result<(), AllocError>
+    ensures { IfOk result (λ _. reverse references.new.items ≡ filter_map named_object (map object_value_view arguments.entry.now) ++ reverse references.old.items) }
+{
+    match arguments {
+        [] => Ok(()),
+        [argument, arguments @ ..] => {
+            add_references(references, arguments)?;
+            if let ObjectValue::Reference(Some(object)) = argument {
+                references.push(*object as usize)?;
+            }
+            Ok(())
+        }
+    }
+}
+
+/// The frame with which a call begins: the class and the arguments that are objects, and room for 16 more (JNI Specification,
+/// chapter 4, "EnsureLocalCapacity").
+fn entry_frame(alloc: Global, class: usize, arguments: &[ObjectValue]) -> Result<Frame, AllocError>
+    ensures { IfOk result (λ frame. frame_view frame ≡ entry_frame (class ∷ filter_map named_object (map object_value_view arguments.now))) }
+{
+    let mut references = Vec::new(alloc);
+    add_references(&mut references, arguments)?;
+    references.push(class)?;
+    Ok(Frame {
+        capacity: references.len() + 16,
+        references,
+    })
+}
+
 /// Puts a call, or none, in the place of the one in progress.
 fn put_activation<'a>(place: &mut Option<Activation<'a>>, activation: Option<Activation<'a>>)
     ensures { place.new ≡ activation.entry }
@@ -140,7 +192,7 @@ fn enter<'a>(
     requires tree { IsTree (unit_tree items.now) }
     requires calls { IsTrue (calls_are_built (unit_tree items.now)) }
     requires idle { thread.old.activation ≡ None }
-    ensures step { IfOk result (λ took. TakesStep (unit_tree items.now) world.now thread.old took thread.new) }
+    ensures step { IfOk result (λ took. (heap : Heap) → TakesStep (unit_tree items.now) world.now.classes heap thread.old took heap thread.new) }
     ensures range { IfOk result (λ _. WorkInRange thread.new.activation) }
 {
     let Some((call, rest)) = thread.calls.split_first() else {
@@ -153,12 +205,15 @@ fn enter<'a>(
         return Ok(Step::Impossible);
     };
     let variables = entry_variables(alloc, function, class, call.arguments())?;
+    let frame = entry_frame(alloc, class, call.arguments())?;
     thread.calls = rest;
     let activation = Activation {
         task: None,
         rest: &function.body.statements,
         outer: Vec::new(alloc),
         variables,
+        frame,
+        pending: None,
     };
     put_activation(&mut thread.activation, Some(activation));
     Ok(Step::Quiet)
@@ -179,12 +234,32 @@ fn step_of(outcome: Outcome<'_>) -> Step
     }
 }
 
-/// Ends the call in progress, and the thread where no call is to come.
-fn leave(thread: &mut Thread<'_>)
-    ensures { thread.new ≡ record thread.old { activation = None; ended = length thread.old.calls.now == 0 } }
+/// How a thread stands after its call, with this exception pending and these calls to come.
+fn ending_after(store: &Store, pending: Option<usize>, calls: &[Call]) -> Ending
+    ensures { ending_view result ≡ ending_after store.now pending calls.now }
 {
+    match pending {
+        Some(exception) => Ending::Uncaught(store.class_of(exception)),
+        None => match calls {
+            [] => Ending::Ended,
+            [_, ..] => Ending::Unfinished,
+        },
+    }
+}
+
+/// Ends the call in progress. With an exception pending, or no call to come, the thread has ended.
+fn leave(store: &Store, thread: &mut Thread<'_>, pending: Option<usize>)
+    ensures activation { thread.new.activation ≡ None }
+    ensures ending { ending_view thread.new.ending ≡ ending_after store.now pending thread.old.calls.now }
+    ensures calls { thread.new.calls.now ≡ calls_after (ending_view thread.new.ending) thread.old.calls.now }
+{
+    let ending = ending_after(store, pending, thread.calls);
     put_activation(&mut thread.activation, None);
-    thread.ended = thread.calls.is_empty();
+    thread.ending = ending;
+    match ending {
+        Ending::Unfinished => {}
+        Ending::Ended | Ending::Uncaught(_) => thread.calls = &[],
+    }
 }
 
 /// Lets a thread that has not ended take its next step.
@@ -192,20 +267,23 @@ pub(crate) fn take_step<'a>(
     alloc: Global,
     items: &'a [Item],
     world: &World,
+    store: &mut Store,
     thread: &mut Thread<'a>,
 ) -> Result<Step, AllocError>
     requires tree { IsTree (unit_tree items.now) }
     requires calls { IsTrue (calls_are_built (unit_tree items.now)) }
     requires range { WorkInRange thread.old.activation }
-    ensures step { IfOk result (λ took. TakesStep (unit_tree items.now) world.now thread.old took thread.new) }
+    ensures step { IfOk result (λ took. TakesStep (unit_tree items.now) world.now.classes store.old thread.old took store.new thread.new) }
+    ensures count { IfOk result (λ _. length store.new ≡ length store.old) }
     ensures range { IfOk result (λ _. WorkInRange thread.new.activation) }
 {
     let Some(activation) = &mut thread.activation else {
         return enter(alloc, items, world, thread);
     };
-    match advance(alloc, items, world, activation)? {
+    let pending = activation.pending;
+    match advance(alloc, items, world.classes(), store, activation)? {
         Outcome::Returned => {
-            leave(thread);
+            leave(store, thread, pending);
             Ok(Step::Quiet)
         }
         outcome => Ok(step_of(outcome)),

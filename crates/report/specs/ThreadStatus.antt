@@ -2,13 +2,14 @@
 use Rattle.std.specs.Prelude.{List, [], map}
 use Rattle.source.specs.declared.printed.Printed.{Printed}
 use Rattle.report.specs.declared.thread_status.ThreadStatus.{ThreadStatus}
-use Rattle.report.specs.declared.thread_status.ThreadStatus.TheVariants.{Trapped, Ended, Blocked, Running}
-use Rattle.source.specs.Report.{ThreadStanding, HasTrapped, HasEnded, IsBlocked, IsRunning, Report}
+use Rattle.report.specs.declared.thread_status.ThreadStatus.TheVariants.{Trapped, Ended, Uncaught, Blocked, Running}
+use Rattle.source.specs.Report.{ThreadStanding, HasTrapped, HasEnded, IsUncaught, IsBlocked, IsRunning, Report}
 
 -- what a standing in memory says
 abbrev pub standing_view : ThreadStatus → ThreadStanding
 standing_view (Trapped number line) = HasTrapped number line
 standing_view Ended = HasEnded
+standing_view (Uncaught class) = IsUncaught class.now
 standing_view Blocked = IsBlocked
 standing_view Running = IsRunning
 

@@ -13,19 +13,21 @@ use source::Printed;
 
 /// How a thread stands when the run is over.
 #[derive(Clone, Copy, Debug, PartialEq, Eq)]
-pub enum ThreadStatus {
+pub enum ThreadStatus<'a> {
     /// Its step was a trap, of this number, in a statement of this line.
     Trapped(u8, usize),
     /// It has taken all its steps.
     Ended,
+    /// Its call returned with an exception pending, of the class of this name.
+    Uncaught(&'a [u8]),
     /// It waits for a monitor.
     Blocked,
     /// It has steps left.
     Running,
 }
 
-impl Default for ThreadStatus {
-    fn default() -> ThreadStatus {
+impl<'a> Default for ThreadStatus<'a> {
+    fn default() -> ThreadStatus<'a> {
         ThreadStatus::Running
     }
 }
@@ -51,15 +53,19 @@ impl Text for Printed {
 fn put_standing<S: Sink>(
     sink: &mut S,
     thread: usize,
-    standing: ThreadStatus,
+    standing: ThreadStatus<'_>,
 ) -> Result<(), SinkFailed>
     requires { CanFail (S.written sink.old) }
-    ensures { Writes (S.written sink.old) (S.written sink.new) result (thread_line (thread, standing_view standing)) }
+    ensures { Writes (S.written sink.old) (S.written sink.new) result (thread_line (thread, standing_view standing.entry)) }
 {
     let mut name = Buffer::new();
     let name = name.format(thread);
     match standing {
         ThreadStatus::Ended => put_pieces(sink, &[b"T", name.as_bytes(), b" ended\n"]),
+        ThreadStatus::Uncaught(class) => put_pieces(
+            sink,
+            &[b"T", name.as_bytes(), b" uncaught ", class, b"\n"],
+        ),
         ThreadStatus::Blocked => put_pieces(sink, &[b"T", name.as_bytes(), b" blocked\n"]),
         ThreadStatus::Running => put_pieces(sink, &[b"T", name.as_bytes(), b" running\n"]),
         ThreadStatus::Trapped(trap, line) => {
@@ -86,7 +92,7 @@ fn put_standing<S: Sink>(
 /// Puts the lines of the threads, the first of which is T1.
 pub(crate) fn put_standings<S: Sink>(
     sink: &mut S,
-    standings: &[ThreadStatus],
+    standings: &[ThreadStatus<'_>],
 ) -> Result<(), SinkFailed>
     requires { CanFail (S.written sink.old) }
     ensures { Writes (S.written sink.old) (S.written sink.new) result

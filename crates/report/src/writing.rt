@@ -67,7 +67,7 @@ fn put_entries<S: Sink>(sink: &mut S, entries: &[Entry]) -> Result<(), SinkFaile
 pub fn write_report<S: Sink, R: Rows>(
     sink: &mut S,
     printed: &[Printed],
-    standings: &[ThreadStatus],
+    standings: &[ThreadStatus<'_>],
     rows: &R,
 ) -> Result<(), SinkFailed>
     requires { CanFail (S.written sink.old) }
@@ -95,7 +95,7 @@ pub fn write_journal<S: Sink>(sink: &mut S, entries: &[Entry]) -> Result<(), Sin
 pub fn write_run<S: Sink, R: Rows>(
     sink: &mut S,
     printed: &[Printed],
-    standings: &[ThreadStatus],
+    standings: &[ThreadStatus<'_>],
     rows: &R,
     entries: &[Entry],
 ) -> Result<(), SinkFailed>

@@ -2,7 +2,9 @@ pub mod AccountLaws
 pub mod HeapGrows
 pub mod NoObjects
 pub mod BuiltCalls
+pub mod LiveSizes
 pub mod ReachableLemmas
 pub mod RunLaws
 pub mod StepLaws
 pub mod ShownRows
+pub mod ShownNames

@@ -13,26 +13,26 @@ use Rattle.source.specs.State.{State}
 abbrev pub In : List ℕ → ℕ → Type 0
 In xs x = is_in xs x ≡ true
 
-in_head : (x : ℕ) (xs : List ℕ) → In (x ∷ xs) x
+pub in_head : (x : ℕ) (xs : List ℕ) → In (x ∷ xs) x
 in_head x xs = or_left (x == x) (is_in xs x) (eq-eqb x x refl)
 
-in_tail : (y : ℕ) (xs : List ℕ) (x : ℕ) → In xs x → In (y ∷ xs) x
+pub in_tail : (y : ℕ) (xs : List ℕ) (x : ℕ) → In xs x → In (y ∷ xs) x
 in_tail y xs x h = or_right (y == x) (is_in xs x) h
 
-in_cases : (y : ℕ) (xs : List ℕ) (x : ℕ) → In (y ∷ xs) x → (y ≡ x) ⊎ In xs x
+pub in_cases : (y : ℕ) (xs : List ℕ) (x : ℕ) → In (y ∷ xs) x → (y ≡ x) ⊎ In xs x
 in_cases y xs x h = go (or_cases (y == x) (is_in xs x) h)
   where
     go : ((y == x) ≡ true) ⊎ In xs x → (y ≡ x) ⊎ In xs x
     go (inl e) = inl (eqb-true y x e)
     go (inr k) = inr k
 
-in_append_left : (xs ys : List ℕ) (x : ℕ) → In xs x → In (xs ++ ys) x
+pub in_append_left : (xs ys : List ℕ) (x : ℕ) → In xs x → In (xs ++ ys) x
 in_append_left xs ys x h = list_any-append (λ m. m == x) xs ys ∙ or_left (is_in xs x) (is_in ys x) h
 
-in_append_right : (xs ys : List ℕ) (x : ℕ) → In ys x → In (xs ++ ys) x
+pub in_append_right : (xs ys : List ℕ) (x : ℕ) → In ys x → In (xs ++ ys) x
 in_append_right xs ys x h = list_any-append (λ m. m == x) xs ys ∙ or_right (is_in xs x) (is_in ys x) h
 
-in_append_cases : (xs ys : List ℕ) (x : ℕ) → In (xs ++ ys) x → In xs x ⊎ In ys x
+pub in_append_cases : (xs ys : List ℕ) (x : ℕ) → In (xs ++ ys) x → In xs x ⊎ In ys x
 in_append_cases xs ys x h = or_cases (is_in xs x) (is_in ys x) (sym (list_any-append (λ m. m == x) xs ys) ∙ h)
 
 kept : (p : ℕ → Bool) (y : ℕ) (ys : List ℕ) (x : ℕ) → (In ys x → In (filter p ys) x) → (y ≡ x) ⊎ In ys x → In (y ∷ filter p ys) x
@@ -209,7 +209,7 @@ closed_least (suc n) heap Q step names all x k =
 
 -- ---- order
 
-filter_agree_in : (p q : ℕ → Bool) (xs : List ℕ) → ((x : ℕ) → In xs x → p x ≡ q x) → filter p xs ≡ filter q xs
+pub filter_agree_in : (p q : ℕ → Bool) (xs : List ℕ) → ((x : ℕ) → In xs x → p x ≡ q x) → filter p xs ≡ filter q xs
 filter_agree_in p q [] h = refl
 filter_agree_in p q (y ∷ ys) h =
     let rest = filter_agree_in p q ys (λ x k. h x (in_tail y ys x k)) in
@@ -227,10 +227,10 @@ passes_if_kept p xs x k = go (p x) refl
     go true e = in_filter p xs x e k ∙ sym e
     go false e = no e (is_in (filter p xs) x) refl ∙ sym e
 
-abbrev IsRising : Heap → List ℕ → Type 0
+abbrev pub IsRising : Heap → List ℕ → Type 0
 IsRising heap r = (p : ℕ → Bool) × (r ≡ filter p (names_of heap))
 
-closed_rising : (n : ℕ) (heap : Heap) (p : ℕ → Bool) → IsRising heap (closed n heap (filter p (names_of heap)))
+pub closed_rising : (n : ℕ) (heap : Heap) (p : ℕ → Bool) → IsRising heap (closed n heap (filter p (names_of heap)))
 closed_rising zero heap p = (p, refl)
 closed_rising (suc n) heap p =
     let names : List ℕ = filter p (names_of heap) in
@@ -244,7 +244,7 @@ in_order_from heap r (p, e) =
 
 -- ---- the law
 
-to_contains : (xs : List ℕ) (x : ℕ) → In xs x → Contains xs x
+pub to_contains : (xs : List ℕ) (x : ℕ) → In xs x → Contains xs x
 to_contains [] x h = absurd (false≢true h)
 to_contains (y ∷ ys) x h = go (in_cases y ys x h) (to_contains ys x)
   where
@@ -257,7 +257,7 @@ from_contains [] x k l e = absurd (omega (arith, l))
 from_contains (y ∷ ys) x zero l e = subst (λ z. In (z ∷ ys) x) (sym e) (in_head x ys)
 from_contains (y ∷ ys) x (suc k) l e = in_tail y ys x (from_contains ys x k (omega (arith, l)) e)
 
-contains_in : (xs : List ℕ) (x : ℕ) → Contains xs x → In xs x
+pub contains_in : (xs : List ℕ) (x : ℕ) → Contains xs x → In xs x
 contains_in xs x c = from_contains xs x c.0 c.1 c.2
 
 length-from_one : (n : ℕ) → length (from_one n) ≡ n

@@ -1,11 +1,11 @@
 -- Which objects a report shows where the heap is as it was made at load.
-use Rattle.std.proofs.Common.{◌≡◌, ℕ, zero, suc, ◌+◌, ◌<◌, ◌≤◌, Bool, true, false, cond, List, [], ◌∷◌, ◌++◌, length, map, get_or, Option, Some, refl, sym, ap, ◌∙◌, subst, arith, append_assoc, length-append, Contains, ⊎_elim}
+use Rattle.std.proofs.Common.{◌≡◌, ℕ, zero, suc, ◌+◌, ◌<◌, ◌≤◌, Bool, true, false, cond, List, [], ◌∷◌, ◌++◌, length, map, take, drop, get_or, Option, Some, refl, sym, ap, ◌∙◌, subst, arith, append_assoc, length-append, Contains, ⊎_elim}
 use Rattle.std.specs.Prelude.{slice_get, filter, nat_lt, ◌==◌, ◌||◌}
 use Rattle.std.specs.List.{enumerate_from}
 use Rattle.std.specs.Option.{option_map_or}
 use Rattle.std.proofs.lemmas.Bool.{cases_lt}
 use Rattle.std.proofs.lemmas.Bool.Decides.{nat_tests}
-use Rattle.std.proofs.lemmas.List.{length-map}
+use Rattle.std.proofs.lemmas.List.{length-map, take-append-drop, length-take-le}
 use Rattle.std.proofs.lemmas.List.Elements.{filter-append, Contains-append_left, Contains-push}
 use Rattle.std.proofs.lemmas.List.FromFn.{length-enumerate_from}
 use Rattle.classes.specs.BuiltIns.{out_of_memory_error}
@@ -79,10 +79,9 @@ length-loaded w = ap length (loaded_is w) ∙ length-append (made_before w.class
 in_first : (a b c d e : List ℕ) (n : ℕ) → Contains a n → Contains (a ++ b ++ c ++ d ++ e) n
 in_first a b c d e n h = Contains-append_left (a ++ b ++ c ++ d) e n (Contains-append_left (a ++ b ++ c) d n (Contains-append_left (a ++ b) c n (Contains-append_left a b n h)))
 
-reachable_all : (w : World) (s : State) → s.shared.heap ≡ loaded_objects w → reachable w s ≡ from_one (loaded_count w)
-reachable_all w s heap =
+reachable_all : (w : World) (s : State) → length s.shared.heap ≡ loaded_count w → reachable w s ≡ from_one (loaded_count w)
+reachable_all w s count =
     let lists = reachable_lists w s in
-    let count : length s.shared.heap ≡ loaded_count w = ap (λ (h : Heap). length h) heap ∙ length-loaded w in
     lists.in_order
     ∙ ap (λ n. filter (is_in (reachable w s)) (from_one n)) count
     ∙ all_kept (is_in (reachable w s)) (loaded_count w) (λ n low high.
@@ -149,13 +148,31 @@ rows_after classes first (o ∷ rest) =
     ap (λ (r : ShownRow). r ∷ map (shown_row classes (first ++ o ∷ rest)) (numbers_from (length first + 1 + 1) (length rest))) (one_row classes (first ++ o ∷ rest) (length first + 1) o (object_after first o rest))
     ∙ ap (λ (l : List ShownRow). object_row classes (length first + 1, o) ∷ l) later
 
+-- where there are as many objects as were made at load, the report shows the world's, as they are now
+pub shown_present : (w : World) (s : State) → length s.shared.heap ≡ loaded_count w
+    → map (shown_row w.classes s.shared.heap) (shown w s) ≡ map (object_row w.classes) (enumerate_from (length w.classes + 2) (drop (length w.classes + 1) s.shared.heap))
+shown_present w s count =
+    let limit = length w.classes + 1 in
+    let first : Heap = take limit s.shared.heap in
+    let rest : Heap = drop limit s.shared.heap in
+    let whole : first ++ rest ≡ s.shared.heap = take-append-drop limit s.shared.heap in
+    let before : length first ≡ limit = length-take-le limit s.shared.heap (omega (arith, count)) in
+    let own : length rest ≡ length w.objects = omega (arith, length-append first rest, ap (λ (h : Heap). length h) whole, before, count) in
+    let names : shown w s ≡ numbers_from (length first + 1) (length rest) =
+    ap (filter (λ n. nat_lt limit n)) (reachable_all w s count) ∙ names_above limit (length w.objects) ∙ ap (λ n. numbers_from (n + 1) (length w.objects)) (sym before) ∙ ap (numbers_from (length first + 1)) (sym own) in
+    let after : length first + 1 ≡ length w.classes + 2 = omega (arith, before) in
+    ap (map (shown_row w.classes s.shared.heap)) names
+    ∙ ap (λ (h : Heap). map (shown_row w.classes h) (numbers_from (length first + 1) (length rest))) (sym whole)
+    ∙ rows_after w.classes first rest
+    ∙ ap (λ n. map (object_row w.classes) (enumerate_from n rest)) after
+
 -- the report shows the world's objects as they were made
 pub shown_rows : (w : World) (s : State) → s.shared.heap ≡ loaded_objects w → map (shown_row w.classes s.shared.heap) (shown w s) ≡ loaded_rows w
 shown_rows w s heap =
     let limit = length w.classes + 1 in
     let before = length-before w.classes in
     let names : shown w s ≡ numbers_from (length (made_before w.classes) + 1) (length w.objects) =
-    ap (filter (λ n. nat_lt limit n)) (reachable_all w s heap) ∙ names_above limit (length w.objects) ∙ ap (λ n. numbers_from (n + 1) (length w.objects)) (sym before) in
+    ap (filter (λ n. nat_lt limit n)) (reachable_all w s (ap (λ (h : Heap). length h) heap ∙ length-loaded w)) ∙ names_above limit (length w.objects) ∙ ap (λ n. numbers_from (n + 1) (length w.objects)) (sym before) in
     let first : length (made_before w.classes) + 1 ≡ length w.classes + 2 = omega arith in
     ap (map (shown_row w.classes s.shared.heap)) names
     ∙ ap (λ (h : Heap). map (shown_row w.classes h) (numbers_from (length (made_before w.classes) + 1) (length w.objects))) (heap ∙ loaded_is w)

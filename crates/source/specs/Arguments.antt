@@ -45,9 +45,14 @@ abbrev pub reference_argument : Sight → Expr → Actual
 reference_argument sight (tree.Variable x) = ReferenceActual x (sight.reference x)
 reference_argument sight e = ReferenceActual [] Empty
 
+-- a name or NULL where a field ID is asked for
+abbrev pub field_argument : Sight → Expr → Actual
+field_argument sight (tree.Variable x) = FieldActual (sight.field x)
+field_argument sight e = FieldActual None
+
 -- an argument that is neither number nor text
 abbrev pub look_up_expression : Sight → ParameterKind → Expr → Actual
-look_up_expression sight FieldID e = FieldActual (sight.field (named_variable e))
+look_up_expression sight FieldID e = field_argument sight e
 look_up_expression sight (ArrayVariable T) e = VariableActual (named_variable e)
 look_up_expression sight (BufferVariable access) e = VariableActual (named_variable e)
 look_up_expression sight Mode e = ModeActual (mode_of e)

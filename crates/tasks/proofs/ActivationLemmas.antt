@@ -1,5 +1,5 @@
 -- A call in progress takes the step of its first task.
-use Rattle.std.proofs.Common.{◌≡◌, ℕ, false, List, [], ◌∷◌, ◌++◌, Option, Some, None, refl, sym, ap, ◌∙◌, subst, append_assoc}
+use Rattle.std.proofs.Common.{◌≡◌, ℕ, false, List, [], ◌∷◌, ◌++◌, length, Option, Some, None, refl, sym, ap, ◌∙◌, subst, append_assoc}
 use Rattle.std.specs.Borrow.{Bor}
 use Rattle.std.specs.Global.{Vec}
 use Rattle.syntax.specs.declared.expr.Expr.{Expr}
@@ -7,12 +7,14 @@ use Rattle.syntax.specs.declared.stmt.Block.{Block}
 use Rattle.syntax.specs.declared.stmt.Stmt.{Stmt}
 use Rattle.syntax.specs.Tree.{SourceUnit}
 use Rattle.syntax.specs.Views.{expr_tree, block_tree}
-use Rattle.source.specs.World.{World}
+use Rattle.classes.specs.Class.{Classes}
+use Rattle.source.specs.Heap.{Heap}
+use Rattle.source.specs.Object.{Reference}
 use Rattle.source.specs.Start.{null_statics}
 use Rattle.source.specs.Task.{Task, Loop}
 use Rattle.source.specs.Term as tree
 use Rattle.source.specs.Term.{term_of}
-use Rattle.source.specs.Thread.{Thread, Shared, BuffersInUse, Event, Quiet, PrintedNumber, Trapped, Advance, NoAdvance}
+use Rattle.source.specs.Thread.{Frame, Thread, Shared, BuffersInUse, Event, Quiet, PrintedNumber, Trapped, Advance, NoAdvance}
 use Rattle.source.specs.Thread as thread
 use Rattle.source.specs.ThreadStep.{step_within, with_tasks}
 use Rattle.tasks.specs.declared.activation.Activation.{Activation}
@@ -25,9 +27,11 @@ use Rattle.tasks.specs.declared.task.Task.{Task as TaskInMemory}
 use Rattle.tasks.specs.declared.task.Task.TheVariants as task
 use Rattle.terms.specs.declared.term.Term.{Term}
 use Rattle.terms.specs.declared.variable.Variable.{Variable as VariableInMemory}
-use Rattle.tasks.specs.Activations.{tasks_from, tasks_around, tasks_after, tasks_left, thread_in, advance_by, Advances, AreSet, BegunInRange, OuterInRange, IsInRange}
+use Rattle.tasks.specs.Activations.{tasks_from, tasks_around, tasks_after, tasks_left, thread_in, scene_of, advance_by, Advances, KeepsScene, AreSet, BegunInRange, OuterInRange, IsInRange}
 use Rattle.tasks.specs.Outcomes.{variable_step, Holds, LeavesVariables, LeavesIf}
-use Rattle.tasks.specs.Steps.{Sees, Does, left_by}
+use Rattle.tasks.specs.declared.frame.Frame.{Frame as FrameInMemory}
+use Rattle.tasks.specs.Steps.{Scene, Sees, Does, left_by}
+use Rattle.tasks.specs.Stores.{frame_view, shared_with}
 use Rattle.tasks.specs.Tasks.{task_view, end_view, tasks_of_statements, EndInRange, StatementsInRange, TaskInRange, OutcomeInRange}
 use Rattle.terms.specs.Views.{variables_view, trap_view, term_view}
 
@@ -52,12 +56,14 @@ left_is a o rest os begun rest_of outer =
     ∙ ap (λ (b : List Stmt). tasks_from o (tasks_after b a.outer.items)) rest_of
     ∙ ap (λ (ps : List Outer). tasks_from o (tasks_after rest ps)) outer
 
--- a thread with other tasks, and the variables that it has
-thread_is : (s : Shared) (t : Thread) (a : Activation) (event : Event) (tasks : List Task) (vs : List VariableInMemory) → tasks_left a ≡ tasks → a.variables.items ≡ vs
+-- a thread with other tasks, and what it has of the call
+thread_is : (s : Shared) (t : Thread) (a : Activation) (event : Event) (tasks : List Task) (vs : List VariableInMemory) → tasks_left a ≡ tasks → a.variables.items ≡ vs → t.frames ≡ frame_view a.frame ∷ [] → t.pending ≡ a.pending
     → thread.Advances s (record t { tasks = Some tasks; variables = variables_view vs }) event ≡ thread.Advances s (thread_in t a) event
-thread_is s t a event tasks vs left same =
+thread_is s t a event tasks vs left same frames pending =
     ap (λ (ts : List Task). let u : Thread = record t { tasks = Some ts; variables = variables_view vs } in thread.Advances s u event) (sym left)
     ∙ ap (λ (us : List VariableInMemory). let u : Thread = record t { tasks = Some (tasks_left a); variables = variables_view us } in thread.Advances s u event) (sym same)
+    ∙ ap (λ (fs : List Frame). let u : Thread = record t { tasks = Some (tasks_left a); variables = variables_view a.variables.items; frames = fs } in thread.Advances s u event) frames
+    ∙ ap (λ (r : Reference). let u : Thread = record t { tasks = Some (tasks_left a); variables = variables_view a.variables.items; frames = frame_view a.frame ∷ []; pending = r } in thread.Advances s u event) pending
 
 abbrev with_event : Event → Advance → Advance
 with_event event (thread.Advances s t other) = thread.Advances s t event
@@ -65,81 +71,87 @@ with_event event NoAdvance = NoAdvance
 
 -- ---- the next statement is begun
 
--- a thread that sees the variables sees them then too
-seen_begun : (unit : SourceUnit) (w : World) (old begun : Activation) → begun.variables ≡ old.variables → (s : Shared) (t : Thread) → Sees w (variables_view old.variables.items) (null_statics unit) s t
-    → Sees w (variables_view begun.variables.items) (null_statics unit) s t
-seen_begun unit w old begun same s t sees = record {
-  variables = sees.variables ∙ ap (λ (v : Vec VariableInMemory). variables_view v.items) (sym same);
-  frames = sees.frames;
-  pending = sees.pending;
-  heap = sees.heap;
-  statics = sees.statics;
+-- a thread that is so is so then too
+pub seen_begun : (unit : SourceUnit) (classes : Classes) (heap : Heap) (old begun : Activation) → KeepsScene old begun → (t : Thread) → Sees (scene_of unit classes heap old) t → Sees (scene_of unit classes heap begun) t
+seen_begun unit classes heap old begun kept t sees = record {
+  variables = sees.variables ∙ ap (λ (v : Vec VariableInMemory). variables_view v.items) (sym kept.variables);
+  frames = sees.frames ∙ ap (λ (f : FrameInMemory). frame_view f ∷ []) (sym kept.frame);
+  pending = sees.pending ∙ sym kept.pending;
 }
 
 -- it takes the same step then
-pub begun_before : (unit : SourceUnit) (w : World) (old begun : Activation) (took : Outcome) (new : Activation) → tasks_left begun ≡ tasks_left old → begun.variables ≡ old.variables → Advances unit w begun took new → Advances unit w old took new
-begun_before unit w old begun took new tasks same does = λ lent k s t sees has.
-    ap (λ (ts : List Task). step_within unit w.classes lent k s t false (Some ts)) (sym tasks)
-    ∙ does lent k s t
-    (seen_begun unit w old begun same s t sees)
+pub begun_before : (unit : SourceUnit) (classes : Classes) (heap : Heap) (old begun : Activation) (took : Outcome) (after : Heap) (new : Activation) → tasks_left begun ≡ tasks_left old → KeepsScene old begun → Advances unit classes heap begun took after new → Advances unit classes heap old took after new
+begun_before unit classes heap old begun took after new tasks kept does = λ lent k t sees has.
+    ap (λ (ts : List Task). step_within unit classes lent k (shared_with (null_statics unit) heap) t false (Some ts)) (sym tasks)
+    ∙ does lent k t
+    (seen_begun unit classes heap old begun kept t sees)
     (has ∙ ap (λ (ts : List Task). let o : Option (List Task) = Some ts in o) (sym tasks))
 
 -- ---- the step of a task
 
-module _ (unit : SourceUnit) (w : World) (old begun : Activation) (begun_task after : TaskInMemory) (variables : Vec VariableInMemory) (new : Activation)
-    (tasks : tasks_left begun ≡ tasks_left old) (same : begun.variables ≡ old.variables) (is : begun.task ≡ Some begun_task) where
+module _ (unit : SourceUnit) (classes : Classes) (heap : Heap) (old begun : Activation) (begun_task after : TaskInMemory) (variables : Vec VariableInMemory) (new : Activation)
+    (tasks : tasks_left begun ≡ tasks_left old) (kept : KeepsScene old begun) (is : begun.task ≡ Some begun_task) where
   abbrev rest : List Task
   rest = tasks_after begun.rest.now begun.outer.items
+
+  abbrev shared : Shared
+  shared = shared_with (null_statics unit) heap
+
+  abbrev scene : Scene
+  scene = scene_of unit classes heap begun
 
   first : tasks_left old ≡ task_view begun_task ∷ rest
   first = sym tasks ∙ ap (λ (o : Option TaskInMemory). tasks_from o rest) is
 
-  seen : (s : Shared) (t : Thread) → Sees w (variables_view old.variables.items) (null_statics unit) s t → Sees w (variables_view begun.variables.items) (null_statics unit) s t
-  seen = seen_begun unit w old begun same
+  seen : (t : Thread) → Sees (scene_of unit classes heap old) t → Sees scene t
+  seen = seen_begun unit classes heap old begun kept
 
-  holds : (s : Shared) (t : Thread) (ts : List Task) → Sees w (variables_view begun.variables.items) (null_statics unit) s t → Holds (null_statics unit) begun.variables.items s (with_tasks t ts)
-  holds s t ts sees = record { variables = sees.variables; frames = sees.frames; statics = sees.statics }
+  holds : (t : Thread) (ts : List Task) → Sees scene t → Holds (null_statics unit) begun.variables.items shared (with_tasks t ts)
+  holds t ts sees = record { variables = sees.variables; frames = ap (λ (fs : List Frame). length fs) sees.frames; statics = refl }
 
-  stepped : (took : Outcome) → Does w (variables_view begun.variables.items) (null_statics unit) begun_task took after
-      → ((k : ℕ) (s : Shared) (t : Thread) → Sees w (variables_view begun.variables.items) (null_statics unit) s t → left_by k s t rest took after ≡ advance_by k s t new outcome.Impossible) → Advances unit w old outcome.Impossible new
-  stepped took does left = λ lent k s t sees has.
-      ap (λ (ts : List Task). step_within unit w.classes lent k s t false (Some ts)) first
-      ∙ does lent k s t rest (seen s t sees) (has ∙ ap (λ (ts : List Task). let o : Option (List Task) = Some ts in o) first)
-      ∙ left k s t (seen s t sees)
+  stepped : (took : Outcome) → Does scene begun_task took after
+      → ((k : ℕ) (t : Thread) → Sees scene t → left_by k shared t rest took after ≡ advance_by k shared t new outcome.Impossible) → Advances unit classes heap old outcome.Impossible heap new
+  stepped took does left = λ lent k t sees has.
+      ap (λ (ts : List Task). step_within unit classes lent k shared t false (Some ts)) first
+      ∙ does lent k t rest (seen t sees) (has ∙ ap (λ (ts : List Task). let o : Option (List Task) = Some ts in o) first)
+      ∙ left k t (seen t sees)
 
   -- a step that isn't possible
-  pub fails : (took : Outcome) → Does w (variables_view begun.variables.items) (null_statics unit) begun_task took after
-      → LeavesIf (null_statics unit) begun.variables.items (variable_step took) false variables.items → Advances unit w old outcome.Impossible new
+  pub fails : (took : Outcome) → Does scene begun_task took after
+      → LeavesIf (null_statics unit) begun.variables.items (variable_step took) false variables.items → Advances unit classes heap old outcome.Impossible heap new
   fails took does none = stepped took does (by_outcome took none)
     where
       by_outcome : (took : Outcome) → LeavesIf (null_statics unit) begun.variables.items (variable_step took) false variables.items
-          → (k : ℕ) (s : Shared) (t : Thread) → Sees w (variables_view begun.variables.items) (null_statics unit) s t → left_by k s t rest took after ≡ NoAdvance
-      by_outcome outcome.Stays none k s t sees = absurd (let bad = none s (with_tasks t rest) (holds s t rest sees) in cc)
-      by_outcome (outcome.Printed z) none k s t sees = absurd (let bad = none s (with_tasks t rest) (holds s t rest sees) in cc)
-      by_outcome (outcome.Sets x v) none k s t sees = none s (with_tasks t rest) (holds s t rest sees)
-      by_outcome (outcome.SetsNull to) none k s t sees = none s (with_tasks t rest) (holds s t rest sees)
-      by_outcome (outcome.Puts to z) none k s t sees = none s (with_tasks t rest) (holds s t rest sees)
-      by_outcome (outcome.SetsElement x i z) none k s t sees = none s (with_tasks t rest) (holds s t rest sees)
-      by_outcome (outcome.Makes T x n) none k s t sees = none s (with_tasks t rest) (holds s t rest sees)
-      by_outcome (outcome.Enters statements e) none k s t sees = absurd (let bad = none s (with_tasks t rest) (holds s t rest sees) in cc)
-      by_outcome outcome.Ends none k s t sees = absurd (let bad = none s (with_tasks t rest) (holds s t rest sees) in cc)
-      by_outcome outcome.Returned none k s t sees = absurd (let bad = none s (with_tasks t rest) (holds s t rest sees) in cc)
-      by_outcome (outcome.Trapped trap line) none k s t sees = absurd (let bad = none s (with_tasks t rest) (holds s t rest sees) in cc)
-      by_outcome outcome.Impossible none k s t sees = refl
+          → (k : ℕ) (t : Thread) → Sees scene t → left_by k shared t rest took after ≡ NoAdvance
+      by_outcome outcome.Stays none k t sees = absurd (let bad = none shared (with_tasks t rest) (holds t rest sees) in cc)
+      by_outcome (outcome.Printed z) none k t sees = absurd (let bad = none shared (with_tasks t rest) (holds t rest sees) in cc)
+      by_outcome (outcome.Sets x v) none k t sees = none shared (with_tasks t rest) (holds t rest sees)
+      by_outcome (outcome.SetsNull to) none k t sees = none shared (with_tasks t rest) (holds t rest sees)
+      by_outcome (outcome.Puts to z) none k t sees = none shared (with_tasks t rest) (holds t rest sees)
+      by_outcome (outcome.SetsElement x i z) none k t sees = none shared (with_tasks t rest) (holds t rest sees)
+      by_outcome (outcome.Makes T x n) none k t sees = none shared (with_tasks t rest) (holds t rest sees)
+      by_outcome (outcome.Enters statements e) none k t sees = absurd (let bad = none shared (with_tasks t rest) (holds t rest sees) in cc)
+      by_outcome outcome.Ends none k t sees = absurd (let bad = none shared (with_tasks t rest) (holds t rest sees) in cc)
+      by_outcome outcome.Returned none k t sees = absurd (let bad = none shared (with_tasks t rest) (holds t rest sees) in cc)
+      by_outcome (outcome.Trapped trap line) none k t sees = absurd (let bad = none shared (with_tasks t rest) (holds t rest sees) in cc)
+      by_outcome outcome.Impossible none k t sees = refl
 
-  module _ (k : ℕ) (s : Shared) (t : Thread) (sees : Sees w (variables_view begun.variables.items) (null_statics unit) s t) where
-    -- the variables are those before
-    kept : (event : Event) (ts : List Task) → LeavesVariables (null_statics unit) begun.variables.items (λ s' t'. thread.Advances s' t' Quiet) variables.items → tasks_left new ≡ ts → new.variables ≡ variables
-        → thread.Advances s (with_tasks t ts) event ≡ thread.Advances s (thread_in t new) event
-    kept event ts leaves left vs =
-        ap (with_event event) (leaves s (with_tasks t ts) (holds s t ts sees))
-        ∙ thread_is s t new event ts variables.items left (ap (λ (v : Vec VariableInMemory). v.items) vs)
+  module _ (k : ℕ) (t : Thread) (sees : Sees scene t) where
+    same_frames : new.frame ≡ begun.frame → t.frames ≡ frame_view new.frame ∷ []
+    same_frames frame = sees.frames ∙ ap (λ (f : FrameInMemory). frame_view f ∷ []) (sym frame)
 
-    set : (took : Outcome) → LeavesVariables (null_statics unit) begun.variables.items (variable_step took) variables.items → tasks_left new ≡ rest → new.variables ≡ variables
-        → variable_step took s (with_tasks t rest) ≡ thread.Advances s (thread_in t new) Quiet
-    set took leaves left vs =
-        leaves s (with_tasks t rest) (holds s t rest sees)
-        ∙ thread_is s t new Quiet rest variables.items left (ap (λ (v : Vec VariableInMemory). v.items) vs)
+    -- all but the tasks is as before
+    left_alone : (event : Event) (ts : List Task) → LeavesVariables (null_statics unit) begun.variables.items (λ s' t'. thread.Advances s' t' Quiet) variables.items → tasks_left new ≡ ts → KeepsScene (record begun { task = Some after; variables = variables }) new
+        → thread.Advances shared (with_tasks t ts) event ≡ thread.Advances shared (thread_in t new) event
+    left_alone event ts leaves left same =
+        ap (with_event event) (leaves shared (with_tasks t ts) (holds t ts sees))
+        ∙ thread_is shared t new event ts variables.items left (ap (λ (v : Vec VariableInMemory). v.items) same.variables) (same_frames same.frame) (sees.pending ∙ sym same.pending)
+
+    set : (took : Outcome) → LeavesVariables (null_statics unit) begun.variables.items (variable_step took) variables.items → tasks_left new ≡ rest → KeepsScene (record begun { task = Some after; variables = variables }) new
+        → variable_step took shared (with_tasks t rest) ≡ thread.Advances shared (thread_in t new) Quiet
+    set took leaves left same =
+        leaves shared (with_tasks t rest) (holds t rest sees)
+        ∙ thread_is shared t new Quiet rest variables.items left (ap (λ (v : Vec VariableInMemory). v.items) same.variables) (same_frames same.frame) (sees.pending ∙ sym same.pending)
 
     left_with : (o : Option TaskInMemory) → new.task ≡ o → new.rest ≡ begun.rest → new.outer.items ≡ begun.outer.items → tasks_left new ≡ tasks_from o rest
     left_with o task' rest' outer' = left_is new o begun.rest.now begun.outer.items task' (ap (λ (b : Bor (List Stmt)). b.now) rest') outer'
@@ -152,27 +164,27 @@ module _ (unit : SourceUnit) (w : World) (old begun : Activation) (begun_task af
         ∙ sym (append_assoc (tasks_of_statements statements.now) (end_view e ∷ []) rest)
 
     left_in : (took : Outcome) → LeavesVariables (null_statics unit) begun.variables.items (variable_step took) variables.items → AreSet (record begun { task = Some after; variables = variables }) took new
-        → left_by k s t rest took after ≡ advance_by k s t new took
-    left_in outcome.Stays leaves a = kept Quiet (task_view after ∷ rest) leaves (left_with (Some after) a.task a.rest a.outer) a.variables
-    left_in (outcome.Printed z) leaves a = kept (PrintedNumber z) rest leaves (left_with None a.task a.rest a.outer) a.variables
-    left_in (outcome.Sets x v) leaves a = set (outcome.Sets x v) leaves (left_with None a.task a.rest a.outer) a.variables
-    left_in (outcome.SetsNull to) leaves a = set (outcome.SetsNull to) leaves (left_with None a.task a.rest a.outer) a.variables
-    left_in (outcome.Puts to z) leaves a = set (outcome.Puts to z) leaves (left_with None a.task a.rest a.outer) a.variables
-    left_in (outcome.SetsElement x i z) leaves a = set (outcome.SetsElement x i z) leaves (left_with None a.task a.rest a.outer) a.variables
-    left_in (outcome.Makes T x n) leaves a = set (outcome.Makes T x n) leaves (left_with None a.task a.rest a.outer) a.variables
-    left_in (outcome.Enters statements e) leaves a = kept Quiet ((tasks_of_statements statements.now ++ end_view e ∷ []) ++ rest) leaves (entered statements e a.task a.rest a.outer) a.variables
-    left_in outcome.Ends leaves a = kept Quiet rest leaves (left_with None a.task a.rest a.outer) a.variables
+        → left_by k shared t rest took after ≡ advance_by k shared t new took
+    left_in outcome.Stays leaves a = left_alone Quiet (task_view after ∷ rest) leaves (left_with (Some after) a.task a.rest a.outer) a.kept
+    left_in (outcome.Printed z) leaves a = left_alone (PrintedNumber z) rest leaves (left_with None a.task a.rest a.outer) a.kept
+    left_in (outcome.Sets x v) leaves a = set (outcome.Sets x v) leaves (left_with None a.task a.rest a.outer) a.kept
+    left_in (outcome.SetsNull to) leaves a = set (outcome.SetsNull to) leaves (left_with None a.task a.rest a.outer) a.kept
+    left_in (outcome.Puts to z) leaves a = set (outcome.Puts to z) leaves (left_with None a.task a.rest a.outer) a.kept
+    left_in (outcome.SetsElement x i z) leaves a = set (outcome.SetsElement x i z) leaves (left_with None a.task a.rest a.outer) a.kept
+    left_in (outcome.Makes T x n) leaves a = set (outcome.Makes T x n) leaves (left_with None a.task a.rest a.outer) a.kept
+    left_in (outcome.Enters statements e) leaves a = left_alone Quiet ((tasks_of_statements statements.now ++ end_view e ∷ []) ++ rest) leaves (entered statements e a.task a.rest a.outer) a.kept
+    left_in outcome.Ends leaves a = left_alone Quiet rest leaves (left_with None a.task a.rest a.outer) a.kept
     left_in outcome.Returned leaves a = refl
-    left_in (outcome.Trapped trap line) leaves a = kept (Trapped (trap_view trap) line) (task_view after ∷ rest) leaves (left_with (Some after) a.task a.rest a.outer) a.variables
+    left_in (outcome.Trapped trap line) leaves a = left_alone (Trapped (trap_view trap) line) (task_view after ∷ rest) leaves (left_with (Some after) a.task a.rest a.outer) a.kept
     left_in outcome.Impossible leaves a = refl
 
   -- what the task's step does is done to the call
-  pub advances : (took : Outcome) → Does w (variables_view begun.variables.items) (null_statics unit) begun_task took after
-      → LeavesVariables (null_statics unit) begun.variables.items (variable_step took) variables.items → AreSet (record begun { task = Some after; variables = variables }) took new → Advances unit w old took new
-  advances took does leaves applied = λ lent k s t sees has.
-      ap (λ (ts : List Task). step_within unit w.classes lent k s t false (Some ts)) first
-      ∙ does lent k s t rest (seen s t sees) (has ∙ ap (λ (ts : List Task). let o : Option (List Task) = Some ts in o) first)
-      ∙ left_in k s t (seen s t sees) took leaves applied
+  pub advances : (took : Outcome) → Does scene begun_task took after
+      → LeavesVariables (null_statics unit) begun.variables.items (variable_step took) variables.items → AreSet (record begun { task = Some after; variables = variables }) took new → Advances unit classes heap old took heap new
+  advances took does leaves applied = λ lent k t sees has.
+      ap (λ (ts : List Task). step_within unit classes lent k shared t false (Some ts)) first
+      ∙ does lent k t rest (seen t sees) (has ∙ ap (λ (ts : List Task). let o : Option (List Task) = Some ts in o) first)
+      ∙ left_in k t (seen t sees) took leaves applied
 
 -- ---- what is known of accepted programs
 
@@ -203,36 +215,40 @@ module _ (begun new : Activation) (after : TaskInMemory) (variables : Vec Variab
 
 -- ---- the end of a block
 
-module _ (unit : SourceUnit) (w : World) (old new : Activation) (idle : old.task ≡ None) (done : old.rest.now ≡ []) where
-  -- no task is left
-  pub nothing_to_do : old.outer.items ≡ [] → Advances unit w old outcome.Impossible new
-  nothing_to_do none = λ lent k s t sees has. ap (λ (tasks : List Task). step_within unit w.classes lent k s t false (Some tasks)) (left_is old None [] [] idle done none)
+module _ (unit : SourceUnit) (classes : Classes) (heap : Heap) (old new : Activation) (idle : old.task ≡ None) (done : old.rest.now ≡ []) where
+  abbrev shared_then : Shared
+  shared_then = shared_with (null_statics unit) heap
 
-  module _ (os : List Outer) (o : Outer) (outer : old.outer.items ≡ os ++ o ∷ []) (rest : new.rest ≡ o.rest) (rest_of : new.outer.items ≡ os) (same : new.variables ≡ old.variables) where
+  -- no task is left
+  pub nothing_to_do : old.outer.items ≡ [] → Advances unit classes heap old outcome.Impossible heap new
+  nothing_to_do none = λ lent k t sees has. ap (λ (tasks : List Task). step_within unit classes lent k shared_then t false (Some tasks)) (left_is old None [] [] idle done none)
+
+  module _ (os : List Outer) (o : Outer) (outer : old.outer.items ≡ os ++ o ∷ []) (rest : new.rest ≡ o.rest) (rest_of : new.outer.items ≡ os) (kept : KeepsScene old new) where
     abbrev after : List Task
     after = tasks_after o.rest.now os
 
     at_end : tasks_left old ≡ end_view o.end ∷ after
     at_end = left_is old None [] (os ++ o ∷ []) idle done outer ∙ around_more [] os o
 
-    goes : (tasks : List Task) (s : Shared) (t : Thread) → t.variables ≡ variables_view old.variables.items → tasks_left new ≡ tasks → thread.Advances s (with_tasks t tasks) Quiet ≡ thread.Advances s (thread_in t new) Quiet
-    goes tasks s t sees left =
-        ap (λ us. let u : Thread = record t { tasks = Some tasks; variables = us } in thread.Advances s u Quiet) sees
-        ∙ thread_is s t new Quiet tasks old.variables.items left (ap (λ (v : Vec VariableInMemory). v.items) same)
+    goes : (tasks : List Task) (t : Thread) → Sees (scene_of unit classes heap old) t → tasks_left new ≡ tasks → thread.Advances shared_then (with_tasks t tasks) Quiet ≡ thread.Advances shared_then (thread_in t new) Quiet
+    goes tasks t sees left =
+        ap (λ us. let u : Thread = record t { tasks = Some tasks; variables = us } in thread.Advances shared_then u Quiet) sees.variables
+        ∙ thread_is shared_then t new Quiet tasks old.variables.items left (ap (λ (v : Vec VariableInMemory). v.items) kept.variables)
+        (sees.frames ∙ ap (λ (f : FrameInMemory). frame_view f ∷ []) (sym kept.frame)) (sees.pending ∙ sym kept.pending)
 
     left : (p : Option TaskInMemory) → new.task ≡ p → tasks_left new ≡ tasks_from p after
     left p begun = left_is new p o.rest.now os begun (ap (λ (b : Bor (List Stmt)). b.now) rest) rest_of
 
     -- after an `if`
-    pub if_over : o.end ≡ end.If → new.task ≡ None → Advances unit w old outcome.Ends new
-    if_over is none = λ lent k s t sees has.
-        ap (λ (ts : List Task). step_within unit w.classes lent k s t false (Some ts)) (at_end ∙ ap (λ (e : End). end_view e ∷ after) is)
-        ∙ goes after s t sees.variables (left None none)
+    pub if_over : o.end ≡ end.If → new.task ≡ None → Advances unit classes heap old outcome.Ends heap new
+    if_over is none = λ lent k t sees has.
+        ap (λ (ts : List Task). step_within unit classes lent k shared_then t false (Some ts)) (at_end ∙ ap (λ (e : End). end_view e ∷ after) is)
+        ∙ goes after t sees (left None none)
 
     -- at a loop's test
     pub turn_over : (line : ℕ) (test : Bor Expr) (term : Term) (body : Bor Block) → o.end ≡ end.Turn line test body → new.task ≡ Some (task.Loop line test term body) → term_view term ≡ term_of (expr_tree test.now)
-        → Advances unit w old outcome.Stays new
-    turn_over line test term body is begun begins = λ lent k s t sees has.
-        ap (λ (ts : List Task). step_within unit w.classes lent k s t false (Some ts)) (at_end ∙ ap (λ (e : End). end_view e ∷ after) is)
-        ∙ ap (λ (u : tree.Term). let ts : List Task = Loop line (expr_tree test.now) u (block_tree body.now) ∷ after in thread.Advances s (with_tasks t ts) Quiet) (sym begins)
-        ∙ goes (task_view (task.Loop line test term body) ∷ after) s t sees.variables (left (Some (task.Loop line test term body)) begun)
+        → Advances unit classes heap old outcome.Stays heap new
+    turn_over line test term body is begun begins = λ lent k t sees has.
+        ap (λ (ts : List Task). step_within unit classes lent k shared_then t false (Some ts)) (at_end ∙ ap (λ (e : End). end_view e ∷ after) is)
+        ∙ ap (λ (u : tree.Term). let ts : List Task = Loop line (expr_tree test.now) u (block_tree body.now) ∷ after in thread.Advances shared_then (with_tasks t ts) Quiet) (sym begins)
+        ∙ goes (task_view (task.Loop line test term body) ∷ after) t sees (left (Some (task.Loop line test term body)) begun)

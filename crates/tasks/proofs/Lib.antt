@@ -1,6 +1,5 @@
 mod PutLemmas
-pub mod LoadedObjects
-mod HeapLemmas
+mod Lists
 pub mod TaskLemmas
 pub mod CallLemmas
 mod ActivationLemmas

@@ -10,7 +10,6 @@ use Rattle.syntax.specs.declared.stmt.Stmt.{Stmt as StmtInMemory}
 use Rattle.syntax.specs.Tree.{Block}
 use Rattle.syntax.specs.Views.{constant_tree, expr_tree, block_tree}
 use Rattle.syntax.proofs.Blocks.{block_is}
-use Rattle.source.specs.World.{World}
 use Rattle.source.specs.Effect.{Effect, Becomes, Sets, SetsElement, at_line, goes_on, with_value, print_effect, branch_effect, loop_effect, element_effect, returned_name, return_effect, effect_of}
 use Rattle.source.specs.Heap.{Heap}
 use Rattle.source.specs.Sight.{Sight, seen, elements_of, in_range}
@@ -31,48 +30,51 @@ use Rattle.terms.specs.declared.sight.Indexed.{Indexed}
 use Rattle.terms.specs.declared.value.Value.{Value as ValueInMemory}
 use Rattle.terms.specs.declared.value.Value.TheVariants as value
 use Rattle.tasks.specs.declared.task.Task.{Task as TaskInMemory}
-use Rattle.tasks.specs.Steps.{effect_by, HasEffect, Sees, left_by, Does, reduced}
+use Rattle.tasks.specs.Steps.{effect_by, HasEffect, Scene, shared_in, Sees, left_by, Does, reduced}
 use Rattle.tasks.specs.declared.task.Task.TheVariants as task
 use Rattle.tasks.specs.Tasks.{task_view, branch_task, else_tree, tasks_of_statements}
 use Rattle.terms.specs.Views.{value_view, indexed_view, term_view, trap_view, place_in, Reduces}
 use Rattle.tasks.proofs.RangeLemmas.{tasks_of-statements}
 
--- what a thread can see, where these are its variables
-pub sees_so : (w : World) (vs : Variables) (ss : Statics) (s : Shared) (t : Thread) → Sees w vs ss s t → sight_of s t ≡ seen vs ss s.heap
-sees_so w vs ss s t sees = rw (sees.variables, sees.statics) refl
+-- what a thread can see, where it is so
+pub sees_so : (scene : Scene) (t : Thread) → Sees scene t → sight_of (shared_in scene) t ≡ seen scene.variables scene.statics scene.heap
+sees_so scene t sees = rw sees.variables refl
 
 -- a thread that has these tasks
 pub same_thread : (t : Thread) (tasks : List Task) → t.tasks ≡ Some tasks → t ≡ with_tasks t tasks
 same_thread t tasks has = ap (λ (o : Option (List Task)). let u : Thread = record t { tasks = o } in u) has
 
-module _ (w : World) (vs : Variables) (ss : Statics) (old new : TaskInMemory) where
-  by_effect : (took : Outcome) → ((heap : Heap) → effect_of (seen vs ss heap) (task_view old) ≡ effect_by took new)
-      → ((lent : BuffersInUse) (k : ℕ) (s : Shared) (t : Thread) (rest : List Task) → t.tasks ≡ Some (task_view old ∷ rest) → after_effect w.classes lent k s t rest (effect_by took new) ≡ left_by k s t rest took new) → Does w vs ss old took new
-  by_effect took h left = λ lent k s t rest sees has.
-      ap (λ (sight : Sight). after_effect w.classes lent k s t rest (effect_of sight (task_view old))) (sees_so w vs ss s t sees)
-      ∙ ap (after_effect w.classes lent k s t rest) (h s.heap)
-      ∙ left lent k s t rest has
+module _ (scene : Scene) (old new : TaskInMemory) where
+  abbrev shared : Shared
+  shared = shared_in scene
+
+  by_effect : (took : Outcome) → ((heap : Heap) → effect_of (seen scene.variables scene.statics heap) (task_view old) ≡ effect_by took new)
+      → ((lent : BuffersInUse) (k : ℕ) (t : Thread) (rest : List Task) → t.tasks ≡ Some (task_view old ∷ rest) → after_effect scene.classes lent k shared t rest (effect_by took new) ≡ left_by k shared t rest took new) → Does scene old took new
+  by_effect took h left = λ lent k t rest sees has.
+      ap (λ (sight : Sight). after_effect scene.classes lent k shared t rest (effect_of sight (task_view old))) (sees_so scene t sees)
+      ∙ ap (after_effect scene.classes lent k shared t rest) (h scene.heap)
+      ∙ left lent k t rest has
 
   -- a task does what its effect does
-  pub does : (took : Outcome) → HasEffect vs ss old took new → Does w vs ss old took new
-  does outcome.Stays h = by_effect outcome.Stays h (λ lent k s t rest has. refl)
-  does (outcome.Printed z) h = by_effect (outcome.Printed z) h (λ lent k s t rest has. refl)
-  does (outcome.Sets x v) h = by_effect (outcome.Sets x v) h (λ lent k s t rest has. refl)
-  does (outcome.SetsNull to) h = by_effect (outcome.SetsNull to) h (λ lent k s t rest has. refl)
+  pub does : (took : Outcome) → HasEffect scene.variables scene.statics old took new → Does scene old took new
+  does outcome.Stays h = by_effect outcome.Stays h (λ lent k t rest has. refl)
+  does (outcome.Printed z) h = by_effect (outcome.Printed z) h (λ lent k t rest has. refl)
+  does (outcome.Sets x v) h = by_effect (outcome.Sets x v) h (λ lent k t rest has. refl)
+  does (outcome.SetsNull to) h = by_effect (outcome.SetsNull to) h (λ lent k t rest has. refl)
   does (outcome.Puts to z) h = absurd h
-  does (outcome.SetsElement x i z) h = by_effect (outcome.SetsElement x i z) h (λ lent k s t rest has. refl)
-  does (outcome.Makes T x n) h = by_effect (outcome.Makes T x n) h (λ lent k s t rest has. refl)
-  does (outcome.Enters statements e) h = by_effect (outcome.Enters statements e) h (λ lent k s t rest has. refl)
-  does outcome.Ends h = by_effect outcome.Ends h (λ lent k s t rest has. refl)
-  does outcome.Returned h = by_effect outcome.Returned h (λ lent k s t rest has. refl)
-  does (outcome.Trapped trap line) h = by_effect (outcome.Trapped trap line) h.0 (λ lent k s t rest has.
-      ap (λ (u : Thread). Advances s u (Trapped (trap_view trap) line)) (same_thread t (task_view old ∷ rest) has)
-      ∙ ap (λ (u : TaskInMemory). Advances s (with_tasks t (task_view u ∷ rest)) (Trapped (trap_view trap) line)) (sym h.1))
-  does outcome.Impossible h = by_effect outcome.Impossible h (λ lent k s t rest has. refl)
+  does (outcome.SetsElement x i z) h = by_effect (outcome.SetsElement x i z) h (λ lent k t rest has. refl)
+  does (outcome.Makes T x n) h = by_effect (outcome.Makes T x n) h (λ lent k t rest has. refl)
+  does (outcome.Enters statements e) h = by_effect (outcome.Enters statements e) h (λ lent k t rest has. refl)
+  does outcome.Ends h = by_effect outcome.Ends h (λ lent k t rest has. refl)
+  does outcome.Returned h = by_effect outcome.Returned h (λ lent k t rest has. refl)
+  does (outcome.Trapped trap line) h = by_effect (outcome.Trapped trap line) h.0 (λ lent k t rest has.
+      ap (λ (u : Thread). Advances shared u (Trapped (trap_view trap) line)) (same_thread t (task_view old ∷ rest) has)
+      ∙ ap (λ (u : TaskInMemory). Advances shared (with_tasks t (task_view u ∷ rest)) (Trapped (trap_view trap) line)) (sym h.1))
+  does outcome.Impossible h = by_effect outcome.Impossible h (λ lent k t rest has. refl)
 
 -- the same of a task that is written another way
-pub does_as : (w : World) (vs : Variables) (ss : Statics) (old written new : TaskInMemory) (took : Outcome) → old ≡ written → HasEffect vs ss written took new → Does w vs ss old took new
-does_as w vs ss old written new took same h = subst (λ (u : TaskInMemory). Does w vs ss u took new) (sym same) (does w vs ss written new took h)
+pub does_as : (scene : Scene) (old written new : TaskInMemory) (took : Outcome) → old ≡ written → HasEffect scene.variables scene.statics written took new → Does scene old took new
+does_as scene old written new took same h = subst (λ (u : TaskInMemory). Does scene u took new) (sym same) (does scene written new took h)
 
 -- ---- a term that has no value yet
 

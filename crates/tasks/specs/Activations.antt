@@ -3,8 +3,9 @@ use Rattle.std.specs.Prelude.{◌≡◌, ℕ, false, List, [], ◌∷◌, ◌++�
 use Rattle.std.specs.Borrow.{Bor}
 use Rattle.syntax.specs.declared.stmt.Stmt.{Stmt as StmtInMemory}
 use Rattle.syntax.specs.Tree.{SourceUnit}
-use Rattle.source.specs.World.{World}
+use Rattle.classes.specs.Class.{Classes}
 use Rattle.source.specs.Activation.{return_step}
+use Rattle.source.specs.Heap.{Heap}
 use Rattle.source.specs.Start.{null_statics}
 use Rattle.source.specs.Task.{Task}
 use Rattle.source.specs.Thread.{Thread, Shared, BuffersInUse, Quiet, PrintedNumber, Trapped, Advance, NoAdvance}
@@ -15,7 +16,8 @@ use Rattle.tasks.specs.declared.activation.Outer.{Outer}
 use Rattle.tasks.specs.declared.outcome.Outcome.{Outcome}
 use Rattle.tasks.specs.declared.outcome.Outcome.TheVariants as outcome
 use Rattle.tasks.specs.declared.task.Task.{Task as TaskInMemory}
-use Rattle.tasks.specs.Steps.{Sees}
+use Rattle.tasks.specs.Steps.{Scene, scene_with, Sees}
+use Rattle.tasks.specs.Stores.{frame_view, shared_with}
 use Rattle.tasks.specs.Tasks.{task_view, end_view, tasks_of_statements, StatementsInRange, TaskInRange, EndInRange}
 use Rattle.terms.specs.Views.{variables_view, trap_view}
 
@@ -53,9 +55,13 @@ pub record IsInRange (a : Activation) : Type 0 where
 
 -- ---- a step
 
--- the thread with the tasks and the variables of a call in progress
+-- the thread with a call in progress
 abbrev pub thread_in : Thread → Activation → Thread
-thread_in t a = record t { tasks = Some (tasks_left a); variables = variables_view a.variables.items }
+thread_in t a = record t { tasks = Some (tasks_left a); variables = variables_view a.variables.items; frames = frame_view a.frame ∷ []; pending = a.pending }
+
+-- what its step depends on, but its tasks
+abbrev pub scene_of : SourceUnit → Classes → Heap → Activation → Scene
+scene_of unit classes heap a = scene_with unit classes heap a.variables.items (frame_view a.frame) a.pending
 
 -- what a step leaves of thread k, whose call is then as it is in memory
 abbrev pub advance_by : (k : ℕ) → Shared → Thread → Activation → Outcome → Advance
@@ -65,11 +71,17 @@ advance_by k s t a (outcome.Trapped trap line) = thread.Advances s (thread_in t 
 advance_by k s t a outcome.Impossible = NoAdvance
 advance_by k s t a took = thread.Advances s (thread_in t a) Quiet
 
--- what a step in memory did is the step of each thread that has these tasks and sees these variables
-abbrev pub Advances : SourceUnit → World → Activation → Outcome → Activation → Type 0
-Advances unit w old took new =
-    (lent : BuffersInUse) (k : ℕ) (s : Shared) (t : Thread) → Sees w (variables_view old.variables.items) (null_statics unit) s t → t.tasks ≡ Some (tasks_left old)
-    → step_within unit w.classes lent k s t false (Some (tasks_left old)) ≡ advance_by k s t new took
+-- What a step in memory did is the step of each thread that has these tasks and is so. It leaves these objects.
+abbrev pub Advances : SourceUnit → Classes → Heap → Activation → Outcome → Heap → Activation → Type 0
+Advances unit classes heap old took after new =
+    (lent : BuffersInUse) (k : ℕ) (t : Thread) → Sees (scene_of unit classes heap old) t → t.tasks ≡ Some (tasks_left old)
+    → step_within unit classes lent k (shared_with (null_statics unit) heap) t false (Some (tasks_left old)) ≡ advance_by k (shared_with (null_statics unit) after) t new took
+
+-- all but the tasks is as it was
+pub record KeepsScene (old new : Activation) : Type 0 where
+  pub variables : new.variables ≡ old.variables
+  pub frame : new.frame ≡ old.frame
+  pub pending : new.pending ≡ old.pending
 
 -- the task that is begun, after a step
 abbrev pub task_after : Option TaskInMemory → Outcome → Option TaskInMemory
@@ -89,9 +101,9 @@ abbrev pub outer_after : Bor (List StmtInMemory) → List Outer → Outcome → 
 outer_after rest outer (outcome.Enters statements e) = outer ++ record { end = e; rest = rest } ∷ []
 outer_after rest outer took = outer
 
--- what a step did to its task was done to a call in progress, but for its variables
+-- what a step did to its task was done to a call in progress, and nothing else
 pub record AreSet (old : Activation) (took : Outcome) (new : Activation) : Type 0 where
   pub task : new.task ≡ task_after old.task took
   pub rest : new.rest ≡ rest_after old.rest took
   pub outer : new.outer.items ≡ outer_after old.rest old.outer.items took
-  pub variables : new.variables ≡ old.variables
+  pub kept : KeepsScene old new

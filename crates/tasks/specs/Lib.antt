@@ -1,3 +1,4 @@
+pub mod Stores
 pub mod Objects
 pub mod Outcomes
 pub mod Tasks

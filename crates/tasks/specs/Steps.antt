@@ -2,15 +2,17 @@
 use Rattle.std.specs.Prelude.{◌≡◌, ℕ, pos, List, [], ◌∷◌, ◌++◌, length, Option, Some, None}
 use Rattle.syntax.specs.declared.call.Argument.{Argument as ArgumentInMemory}
 use Rattle.syntax.specs.declared.call.Argument.TheVariants as argument
-use Rattle.syntax.specs.Tree.{Expr}
+use Rattle.syntax.specs.Tree.{Expr, SourceUnit}
 use Rattle.syntax.specs.Views.{expr_tree, element_tree}
-use Rattle.source.specs.World.{World, loaded_objects}
+use Rattle.classes.specs.Class.{Classes}
 use Rattle.source.specs.Activation.{return_step}
 use Rattle.source.specs.Effect.{Effect, Becomes, Sets, SetsNull, SetsElement, MakesArray, Prints, Returns, TrapsAt, NoEffect, effect_of}
 use Rattle.source.specs.Heap.{Heap}
+use Rattle.source.specs.Object.{Reference}
 use Rattle.source.specs.Sight.{seen}
+use Rattle.source.specs.Start.{null_statics}
 use Rattle.source.specs.Task.{Task}
-use Rattle.source.specs.Thread.{Thread, Shared, BuffersInUse, Quiet, PrintedNumber, Trapped, Advance, Advances, NoAdvance, sight_of}
+use Rattle.source.specs.Thread.{Frame, Thread, Shared, BuffersInUse, Quiet, PrintedNumber, Trapped, Advance, Advances, NoAdvance, sight_of}
 use Rattle.source.specs.ThreadStep.{after_effect, with_tasks}
 use Rattle.source.specs.Variable.{Variables, Statics}
 use Rattle.tasks.specs.declared.outcome.Outcome.{Outcome}
@@ -21,8 +23,10 @@ use Rattle.terms.specs.declared.reduction.Reduction.TheVariants as reduction
 use Rattle.tasks.specs.declared.task.Task.{Task as TaskInMemory}
 use Rattle.terms.specs.declared.trap.Trap.TheVariants as trap
 use Rattle.tasks.specs.Outcomes.{target_view, variable_step}
+use Rattle.tasks.specs.Stores.{shared_with}
 use Rattle.tasks.specs.Tasks.{task_view, end_view, tasks_of_statements}
-use Rattle.terms.specs.Views.{value_view, trap_view}
+use Rattle.terms.specs.declared.variable.Variable.{Variable as VariableInMemory}
+use Rattle.terms.specs.Views.{value_view, variables_view, trap_view}
 
 -- the first argument of a call, where it is an expression
 abbrev pub first_expression : List ArgumentInMemory → Option Expr
@@ -62,13 +66,28 @@ HasEffect vs ss old (outcome.Puts to z) new = ⊥
 HasEffect vs ss old (outcome.Trapped trap line) new = ((heap : Heap) → effect_of (seen vs ss heap) (task_view old) ≡ TrapsAt (trap_view trap) line) × (new ≡ old)
 HasEffect vs ss old took new = (heap : Heap) → effect_of (seen vs ss heap) (task_view old) ≡ effect_by took new
 
--- a thread in its first frame sees these variables and statics, and a world's objects as they are made at load
-pub record Sees (w : World) (vs : Variables) (ss : Statics) (s : Shared) (t : Thread) : Type 0 where
-  pub variables : t.variables ≡ vs
-  pub frames : length t.frames ≡ 1
-  pub pending : t.pending ≡ None
-  pub heap : s.heap ≡ loaded_objects w
-  pub statics : s.statics ≡ ss
+-- what a step of a call in progress depends on, but its tasks
+pub record Scene : Type 0 where
+  pub classes : Classes
+  pub heap : Heap
+  pub statics : Statics
+  pub variables : Variables
+  pub frame : Frame
+  pub pending : Reference
+
+-- the same, with what lies in memory
+abbrev pub scene_with : SourceUnit → Classes → Heap → List VariableInMemory → Frame → Reference → Scene
+scene_with unit classes heap vs frame pending = record { classes = classes; heap = heap; statics = null_statics unit; variables = variables_view vs; frame = frame; pending = pending }
+
+-- what all threads share then
+abbrev pub shared_in : Scene → Shared
+shared_in scene = shared_with scene.statics scene.heap
+
+-- a thread in its first frame has these variables, this frame and this pending exception
+pub record Sees (scene : Scene) (t : Thread) : Type 0 where
+  pub variables : t.variables ≡ scene.variables
+  pub frames : t.frames ≡ scene.frame ∷ []
+  pub pending : t.pending ≡ scene.pending
 
 -- what a step leaves of thread k that has this task and then the rest to do
 abbrev pub left_by : (k : ℕ) → Shared → Thread → List Task → Outcome → TaskInMemory → Advance
@@ -82,7 +101,7 @@ left_by k s t rest outcome.Impossible new = NoAdvance
 left_by k s t rest took new = variable_step took s (with_tasks t rest)
 
 -- what a step in memory did is what the task's step does to each thread that it stands in
-abbrev pub Does : World → Variables → Statics → TaskInMemory → Outcome → TaskInMemory → Type 0
-Does w vs ss old took new =
-    (lent : BuffersInUse) (k : ℕ) (s : Shared) (t : Thread) (rest : List Task) → Sees w vs ss s t → t.tasks ≡ Some (task_view old ∷ rest)
-    → after_effect w.classes lent k s t rest (effect_of (sight_of s t) (task_view old)) ≡ left_by k s t rest took new
+abbrev pub Does : Scene → TaskInMemory → Outcome → TaskInMemory → Type 0
+Does scene old took new =
+    (lent : BuffersInUse) (k : ℕ) (t : Thread) (rest : List Task) → Sees scene t → t.tasks ≡ Some (task_view old ∷ rest)
+    → after_effect scene.classes lent k (shared_in scene) t rest (effect_of (sight_of (shared_in scene) t) (task_view old)) ≡ left_by k (shared_in scene) t rest took new

@@ -1,19 +1,22 @@
 //! Activations: calls in progress.
 
-ghost use Rattle.std.specs.Prelude.{◌≡◌, IfOk, None, []};
+ghost use Rattle.std.specs.Prelude.{◌≡◌, IfOk, None, [], length};
 ghost use Rattle.syntax.specs.Tree.{SourceUnit};
 ghost use Rattle.syntax.specs.Views.{unit_tree};
-ghost use Rattle.source.specs.World.{World as WorldOfTree};
-ghost use Rattle.tasks.specs.Activations.{tasks_left, IsInRange, AreSet, Advances};
+ghost use Rattle.classes.specs.Class.{Classes};
+ghost use Rattle.source.specs.Heap.{Heap};
+ghost use Rattle.tasks.specs.Activations.{tasks_left, IsInRange, AreSet, Advances, KeepsScene};
 
+use crate::frame::Frame;
 use crate::outcome::{End, Outcome};
 use crate::put::set_variables;
 use crate::step::step;
+use crate::store::Store;
 use crate::task::{Task, task_of};
+use class_table::table::ClassTable;
 use std::alloc::{AllocError, Global};
 use syntax::{Item, Stmt};
 use terms::{Variable, term_of};
-use world::World;
 
 /// What is still to do around a block: what comes at the block's end, and the statements after it.
 #[derive(Clone, Copy)]
@@ -23,13 +26,16 @@ pub struct Outer<'a> {
 }
 
 /// A call in progress: the task that is begun, the statements after it in its block, what is to do around the block,
-/// the outermost first, and the variables, in the order in which they came to be.
+/// the outermost first, the variables, in the order in which they came to be, the frame of local references, and the pending
+/// exception. No function that can be called makes another frame.
 #[derive(Drop)]
 pub struct Activation<'a> {
     pub task: Option<Task<'a>>,
     pub rest: &'a [Stmt],
     pub outer: Vec<Outer<'a>>,
     pub variables: Vec<Variable<'a>>,
+    pub frame: Frame,
+    pub pending: Option<usize>,
 }
 
 /// Puts a task in the place of the one that is begun.
@@ -44,7 +50,7 @@ fn begin<'a>(alloc: Global, activation: &mut Activation<'a>) -> Result<(), Alloc
     requires { IsInRange activation.old }
     ensures tasks { IfOk result (λ _. tasks_left activation.new ≡ tasks_left activation.old) }
     ensures range { IfOk result (λ _. IsInRange activation.new) }
-    ensures variables { IfOk result (λ _. activation.new.variables ≡ activation.old.variables) }
+    ensures kept { IfOk result (λ _. KeepsScene activation.old activation.new) }
     ensures begun { IfOk result (λ _. activation.new.task ≡ None → activation.new.rest.now ≡ []) }
 {
     if activation.task.is_some() {
@@ -67,7 +73,7 @@ fn leave_block<'a>(
     requires range { IsInRange activation.old }
     requires task { activation.old.task ≡ None }
     requires rest { activation.old.rest.now ≡ [] }
-    ensures step { IfOk result (λ o. (unit : SourceUnit) (w : WorldOfTree) → Advances unit w activation.old o activation.new) }
+    ensures step { IfOk result (λ o. (unit : SourceUnit) (classes : Classes) (heap : Heap) → Advances unit classes heap activation.old o heap activation.new) }
     ensures range { IfOk result (λ _. IsInRange activation.new) }
 {
     let Some(outer) = activation.outer.pop() else {
@@ -110,22 +116,25 @@ fn set_tasks<'a>(activation: &mut Activation<'a>, outcome: Outcome<'a>) -> Resul
     Ok(())
 }
 
-/// Lets an activation take its next step.
+/// Lets an activation take its next step. No function that can be called makes an object.
 pub fn advance<'a>(
     alloc: Global,
     items: &'a [Item],
-    world: &World,
+    classes: &ClassTable,
+    store: &mut Store,
     activation: &mut Activation<'a>,
 ) -> Result<Outcome<'a>, AllocError>
     requires { IsInRange activation.old }
-    ensures step { IfOk result (λ o. Advances (unit_tree items.now) world.now activation.old o activation.new) }
+    ensures step { IfOk result (λ o. Advances (unit_tree items.now) classes.now store.old activation.old o store.new activation.new) }
+    ensures count { IfOk result (λ _. length store.new ≡ length store.old) }
     ensures range { IfOk result (λ _. IsInRange activation.new) }
 {
     begin(alloc, activation)?;
     let Some(task) = &mut activation.task else {
         return leave_block(alloc, activation);
     };
-    let outcome = step(items, world, &activation.variables, task)?;
+    let pending = activation.pending;
+    let outcome = step(items, classes, store, &activation.variables, pending, task)?;
     let done = set_variables(alloc, items, &mut activation.variables, outcome)?;
     if !done {
         return Ok(Outcome::Impossible);

@@ -2,14 +2,18 @@
 #![tactic(auto)]
 
 mod activation;
-mod heap;
+mod frame;
 mod invoke;
+mod loaded;
 mod outcome;
 mod put;
 mod step;
+mod store;
 mod task;
 
 pub use activation::{Activation, Outer, advance};
-pub use heap::made_before;
+pub use frame::Frame;
+pub use loaded::{loaded_store, made_before};
 pub use outcome::{End, Outcome, Target, VariableKind};
+pub use store::Store;
 pub use task::{Choice, Invocation, Task};

@@ -4,23 +4,25 @@ ghost use Rattle.std.specs.Prelude.{◌≡◌, IfOk, ℕ};
 ghost use Rattle.syntax.specs.Views.{expr_tree, block_tree, unit_tree};
 ghost use Rattle.source.specs.Start.{null_statics};
 ghost use Rattle.source.specs.Task.{tasks_of};
+ghost use Rattle.source.specs.Thread.{Frame};
 ghost use Rattle.source.specs.Variable.{Statics};
 ghost use Rattle.tasks.specs.declared.task.Task.TheVariants as task;
 ghost use Rattle.terms.specs.declared.term.Term.TheVariants as term;
-ghost use Rattle.tasks.specs.Steps.{HasEffect, Does, reduced};
+ghost use Rattle.tasks.specs.Steps.{HasEffect, Does, reduced, scene_with};
 ghost use Rattle.tasks.specs.Tasks.{branch_task, else_tree, tasks_of_statements, ExprInRange, BlockInRange, ElseInRange, StatementsInRange, TaskInRange, OutcomeInRange};
 ghost use Rattle.terms.specs.Views.{NumbersInRange, variables_view};
 
 use crate::invoke::invoke;
 use crate::outcome::{End, Outcome};
+use crate::store::Store;
 use crate::task::Task;
+use class_table::table::ClassTable;
 use std::alloc::AllocError;
 use syntax::{Block, Expr, Item, Name, Stmt};
 use terms::{
     Evaluated, Indexed, Reduction, Term, Value, Variable, constant, number_in, place_in, put_term,
     reduce,
 };
-use world::World;
 
 /// What a step does that reduces a term, which has no value yet.
 fn reduced<'a>(line: usize, reduction: Reduction) -> Outcome<'a>
@@ -234,12 +236,14 @@ fn return_value<'a>(
 /// Lets a task take its next step.
 pub(crate) fn step<'a>(
     items: &[Item],
-    world: &World,
+    classes: &ClassTable,
+    store: &Store,
     variables: &[Variable<'_>],
+    pending: Option<usize>,
     task: &mut Task<'a>,
 ) -> Result<Outcome<'a>, AllocError>
     requires { TaskInRange task.old }
-    ensures step { IfOk result (λ o. Does world.now (variables_view variables.now) (null_statics (unit_tree items.now)) task.old o task.new) }
+    ensures step { IfOk result (λ o. (frame : Frame) → Does (scene_with (unit_tree items.now) classes.now store.now variables.now frame pending) task.old o task.new) }
     ensures task { IfOk result (λ _. TaskInRange task.new) }
     ensures range { IfOk result OutcomeInRange }
 {
@@ -251,7 +255,7 @@ pub(crate) fn step<'a>(
         }
         Task::SetNull(target) => Ok(Outcome::SetsNull(*target)),
         Task::MakeArray(kind, name, size) => Ok(Outcome::Makes(*kind, name, *size)),
-        Task::Invoke(i) => invoke(world, variables, i.line, i.target, i.call),
+        Task::Invoke(i) => { invoke(classes, store, variables, pending, i) },
         Task::Branch(c) => {
             let (line, block, otherwise) = (c.line, c.block, c.otherwise);
             Ok(branch(items, variables, line, &mut c.test, block, otherwise))

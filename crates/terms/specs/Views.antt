@@ -7,7 +7,7 @@ use Rattle.syntax.specs.Limits.{number_limit}
 use Rattle.source.specs.Heap.{Heap}
 use Rattle.source.specs.Sight.{seen, in_range}
 use Rattle.source.specs.Term.{Term, Done, Number, Named, Read, Element, IsNull, Prefix, And, Or, Binary, Reduction, binary_term, done, reduce}
-use Rattle.source.specs.Value.{Value, Word, Int, Flag, Truth, Trap, DivisionByZero, ShiftTooFar, OutOfRange, NullReference, WrongObject, Outcome, Gives, Traps, Stuck, outcome_then, outcome_map, convert}
+use Rattle.source.specs.Value.{Value, Word, Int, Flag, Truth, Trap, DivisionByZero, ShiftTooFar, OutOfRange, NullReference, ExceptionPending, WrongObject, DeletedReference, NoCapacity, Outcome, Gives, Traps, Stuck, outcome_then, outcome_map, convert}
 use Rattle.source.specs.Variable.{Variable, Scalar, LocalRef, FieldHandle, Elements, LocalArray, NoBuffer, Variables, Statics}
 use Rattle.terms.specs.declared.reduction.Reduction.{Reduction as ReductionInMemory}
 use Rattle.terms.specs.declared.reduction.Reduction.TheVariants as reduction
@@ -30,7 +30,10 @@ trap_view trap.DivisionByZero = DivisionByZero
 trap_view trap.ShiftTooFar = ShiftTooFar
 trap_view trap.OutOfRange = OutOfRange
 trap_view trap.NullReference = NullReference
+trap_view trap.ExceptionPending = ExceptionPending
 trap_view trap.WrongObject = WrongObject
+trap_view trap.DeletedReference = DeletedReference
+trap_view trap.NoCapacity = NoCapacity
 
 abbrev pub value_view : ValueInMemory → Value
 value_view (value.Word n) = Word n

@@ -14,8 +14,14 @@ pub enum Trap {
     OutOfRange,
     /// NULL where an object is asked for.
     NullReference,
+    /// An exception is pending.
+    ExceptionPending,
     /// An object of another kind than is asked for.
     WrongObject,
+    /// A deleted global reference.
+    DeletedReference,
+    /// The current frame can hold no more local references.
+    NoCapacity,
 }
 
 /// The number under which a trap is reported.
@@ -27,6 +33,9 @@ pub fn trap_number(trap: Trap) -> u8
         Trap::ShiftTooFar => 2,
         Trap::OutOfRange => 3,
         Trap::NullReference => 4,
+        Trap::ExceptionPending => 5,
         Trap::WrongObject => 6,
+        Trap::DeletedReference => 7,
+        Trap::NoCapacity => 8,
     }
 }

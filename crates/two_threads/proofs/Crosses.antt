@@ -38,6 +38,8 @@ use Rattle.code.specs.contracts.instr.BoxedCall as boxed-call
 use Rattle.code.specs.contracts.instr.BoxedCall.TheInside as boxed-call-inside
 use Rattle.world.specs.contracts.world.World as world
 use Rattle.heap.specs.contracts.heap.Heap as heap
+use Rattle.machine.specs.contracts.frame.Frame as frame
+use Rattle.machine.specs.contracts.store.Store as store
 use Rattle.machine.specs.contracts.thread.Thread as thread
 use Rattle.machine.specs.contracts.machine.Machine as machine
 use Rattle.two_threads.specs.contracts.desk.Desk as desk
@@ -89,12 +91,18 @@ world_send = search (crosses, sendable) depth 60 fits 20000
 heap_send : IsSend heap.the_row
 heap_send = search (crosses, sendable) depth 60 fits 20000
 
+store_send : IsSend (store.the_field).row
+store_send = search (heap_send, vec.the_send, crosses, sendable) depth 60 fits 20000
+
+frame_send : IsSend frame.the_row
+frame_send = search (crosses, sendable) depth 60 fits 20000
+
 thread_send : IsSend thread.the_row
-thread_send = search (crosses, sendable) depth 60 fits 20000
+thread_send = search (frame_send, vec.the_send, crosses, sendable) depth 60 fits 20000
 
 pub machine_send : (k : _) → IsSend (machine.the_row k)
 machine_send k = view_send (machine-inside.the_row k) _ _ _ _ (recorded_send (machine-inside.the_field k).row _ _ (machine-inside.the_type k).to_one (struct_send (shape (machine-inside.the_type k))
-    (program_send k, (world_send, (heap_send, (search (crosses, sendable) depth 60 fits 20000, (Vec-send thread.the_row thread_send, (search (crosses, sendable) depth 60 fits 20000, (search (crosses, sendable) depth 60 fits 20000, (search (crosses, sendable) depth 60 fits 20000, tt))))))))))
+    (program_send k, (world_send, (store_send, (Vec-send thread.the_row thread_send, (search (crosses, sendable) depth 60 fits 20000, (search (crosses, sendable) depth 60 fits 20000, (search (crosses, sendable) depth 60 fits 20000, tt)))))))))
 
 -- and what lies under the lock, which two threads may share then
 desk_send : (k : _) (J : RattleType) (g : _) → IsSend J → IsSend (desk.the_row k J g)

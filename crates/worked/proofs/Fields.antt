@@ -431,6 +431,30 @@ a_field_id_of_null-run : IsWorkedRun a_field_id_of_null (codes "heap 512\nclass 
 unfolding opened
 a_field_id_of_null-run = worked-run a_field_id_of_null a_field_id_of_null-world ((Turn 1, Some 4) ∷ []) [] a_field_id_of_null-accepted a_field_id_of_null-means refl refl refl refl
 
+-- NULL as a field id
+-- JNIEXPORT void JNICALL Java_A_f(JNIEnv *env, jclass cls, jobject o) {
+-- jint v = (*env)->GetIntField(env, o, NULL);
+-- return;
+-- }
+abbrev pub null_as_a_field_id : SourceUnit
+null_as_a_field_id =
+    unit_of
+    (native 1 Void (codes "Java_A_f") (reference_parameter JObject (codes "o") ∷ [])
+    (Declare 2 JIntVariable (codes "v") (FromCall (call (codes "GetIntField") (given (codes "o") ∷ Value (Named Null) ∷ [])))
+    ∷ Return 3
+    ∷ [])
+    4
+    ∷ [])
+
+null_as_a_field_id-accepted : IsAccepted null_as_a_field_id
+unfolding opened
+null_as_a_field_id-accepted = accepted null_as_a_field_id refl refl refl
+
+null_as_a_field_id-run : IsWorkedRun null_as_a_field_id (codes "heap 512\nclass A\nfield A n I\nobject @o A 1\nthread Java_A_f @o\n") (codes "1*4\n")
+    (codes "T1 trap 4 line 2\n#46 A 1\njournal 1 1\n")
+unfolding opened
+null_as_a_field_id-run = worked-run null_as_a_field_id a_field_id_of_null-world ((Turn 1, Some 4) ∷ []) [] null_as_a_field_id-accepted a_field_id_of_null-means refl refl refl refl
+
 -- a field of another type
 -- JNIEXPORT void JNICALL Java_A_f(JNIEnv *env, jclass cls, jobject o) {
 -- jfieldID i = (*env)->GetFieldID(env, cls, "n", "I");

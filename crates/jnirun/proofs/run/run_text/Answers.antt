@@ -1,7 +1,7 @@
 use Rattle.std.proofs.Common.{◌≡◌, length, ap, Ok, Err}
 use Rattle.std.proofs.lemmas.List.{length-map}
 use Rattle.syntax.specs.Views.{unit_tree}
-use Rattle.jnirun.proofs.RunLemmas.{refused_program, refused_length, refused_world, refused_schedule, refused_load, passing, ran, loads_or_fails, never_full}
+use Rattle.jnirun.proofs.RunLemmas.{refused_program, refused_length, refused_world, refused_schedule, refused_load, passing, ran, loads_or_fails, report_fails, never_full}
 use Rattle.jnirun.proofs.run.run_text.Goals as goal
 
 pub returns-in-Err-clause-run : goal.returns-in-Err-clause-run
@@ -49,7 +49,10 @@ returns-in-Ok-report-clause-run g c =
 pub returns-clause-run : goal.returns-clause-run
 returns-clause-run g c =
     let count : length c.threads.result.now ≡ length c.in-Ok-read_world.world.threads = simp length-map at (ap length c.threads.ensures.calls) in
-    ran c.args.program_text.now c.args.world_text.now c.args.schedule_text.now (g.W.Sink.written c.args.out.now) c.in-Ok.checked c.in-Ok-read_world.world c.in-Ok-read_schedule.schedule c.in-Ok-load.machine c.run.new.self c.stop.result (g.W.Sink.written c.report.new.sink) (Err c.in-Err-report.field-0) c.stop.ensures c.in-Err-report.ensures.none_waits
+    rw c.of_report.ensures (ran c.args.program_text.now c.args.world_text.now c.args.schedule_text.now (g.W.Sink.written c.args.out.now) c.in-Ok.checked c.in-Ok-read_world.world c.in-Ok-read_schedule.schedule c.in-Ok-load.machine c.run.new.self c.stop.result (g.W.Sink.written c.report.new.sink) (Err c.in-Err-report.fault) c.stop.ensures c.in-Err-report.ensures.none_waits
     c.in-Ok.ensures.program c.in-Ok-read_world.ensures.read (rw count at c.in-Ok-read_schedule.ensures.read) (rw c.in-Ok-lower.ensures.ok at c.in-Ok-load.ensures.fits)
     c.in-Ok-read_world.ensures.means (rw count at c.in-Ok-read_schedule.ensures.means)
-    (rw c.in-Ok-lower.ensures.ok at c.in-Ok-load.ensures.ok) c.in-Ok-run.ensures.ok c.in-Err-report.ensures.run
+    (rw c.in-Ok-lower.ensures.ok at c.in-Ok-load.ensures.ok) c.in-Ok-run.ensures.ok c.in-Err-report.ensures.run)
+
+pub returns-clause-accepted : goal.returns-clause-accepted
+returns-clause-accepted g c = λ m. rw c.of_report.ensures (report_fails c.in-Err-report.fault)

@@ -1,22 +1,227 @@
-use Rattle.std.proofs.Common.{ℕ, List, Result, Option, refl, ap, subst, ◌∙◌}
-use Rattle.std.specs.Prelude.{Ok, Err}
-use Rattle.std.proofs.lemmas.List.{with_items_is}
+use Rattle.std.proofs.Common.{◌+◌, slice_get, ◌≡◌, ℕ, Bool, true, false, List, Option, None, is_some, refl, sym, ap, ◌∙◌, subst}
+use Rattle.std.specs.Option.{option_map}
+use Rattle.classes.specs.Class.{Classes}
+use Rattle.classes.specs.Grown.{IsGrown}
+use Rattle.class_table.specs.declared.class.FieldHandle.{FieldHandle}
+use Rattle.jni.specs.JniFunction.{JniFunction}
+use Rattle.jni.specs.Prototype.{ResultKind, prototype}
+use Rattle.jni.specs.Table.{Facts, function_value, result_value}
+use Rattle.source.specs.CallStep.{trap_of_call}
+use Rattle.source.specs.CallTable.{call_effect}
+use Rattle.source.specs.Effect.{effect_of}
+use Rattle.source.specs.Task.{Task}
+use Rattle.source.specs.Thread.{BuffersInUse, Shared, Thread, sight_of}
+use Rattle.source.specs.Value.{Trap as SourceTrap}
+use Rattle.source.specs.World.{World}
+use Rattle.world.specs.SoundWorlds.{IsSound}
 use Rattle.code.specs.Call.{call_view}
+use Rattle.code.specs.declared.instr.Call.{Call}
+use Rattle.lower.specs.Lowered.{Lowered}
+use Rattle.machine.specs.declared.answer.Answer.{Answer}
 use Rattle.machine.specs.declared.stop.Trap.{Trap}
-use Rattle.machine.specs.Invoked.{Answers, with_result}
+use Rattle.machine.specs.declared.store.Store.{Store}
+use Rattle.machine.specs.declared.thread.Activation.{Activation}
+use Rattle.machine.specs.Answers.{IsAnswer}
+use Rattle.machine.specs.CarriedOut.{CarriesOut, IsPossible}
+use Rattle.machine.specs.Checked.{fit_together, is_answered, trap_found}
+use Rattle.machine.specs.Frames.{has_room}
+use Rattle.machine.specs.Given.{AreAddresses, AreHandles}
+use Rattle.machine.specs.Invoked.{AtCall}
+use Rattle.machine.specs.Received.{HasFrame, Receives}
+use Rattle.machine.specs.Stops.{trap_view}
+use Rattle.machine.specs.WorkedOut.{IsWorkedOut}
+use Rattle.machine.proofs.BlockObjects.{is_address}
+use Rattle.machine.proofs.CallAnswers.{answers}
+use Rattle.machine.proofs.CallInstructions.{CalledAs, called, r, goes_on, has_frame, has_target, possible, traps}
+use Rattle.machine.proofs.CallTraps.{found_is, handles_there, has_passed, objects_there}
 use Rattle.machine.proofs.invoke.invoke.Goals as goal
 
-pub returns-in-Ok : goal.returns-in-Ok
-returns-in-Ok c =
-    let classes = c.args.world.now.classes in
-    let function = call_view c.args.function.now in
-    let answered : Answers classes c.args.heap.now c.args.call.now.references.items c.args.call.now.stack function c.answer.result = subst (λ (l : List (Option ℕ)). Answers classes c.args.heap.now l c.args.call.now.stack function c.answer.result) c.deref.ensures.value c.answer.ensures in
-    let numbers = with_items_is c.args.call.now.numbers c.put.new.numbers (c.put.ensures.kept ∙ c.deref_mut.ensures.len) ∙ c.put.ensures.put ∙ ap (λ (l : List ℕ). with_result l function.target c.in-Ok.word) c.deref_mut.ensures.value in
-    (Ok c.in-Ok.word, subst (λ (r : Result ℕ Trap). Answers classes c.args.heap.now c.args.call.now.references.items c.args.call.now.stack function r) c.in-Ok.is answered, ((refl, refl, c.clear.ensures, numbers, refl), refl))
+-- the machine is at a call
+module _ (p : Lowered) (w : World) (store : Store) (pending : Option ℕ) (call : Activation) (function : Call) (shared : Shared) (s : Thread) (task : Task) (rest : List Task) (h : AtCall p w store pending call function shared s task rest) where
+  abbrev it : CalledAs p w store pending call h.code (call_view function) shared s task rest (r p w store pending call function shared s task rest h) (effect_of (sight_of shared s) task)
+  it = called p w store pending call function shared s task rest h
 
-pub returns-in-Err : goal.returns-in-Err
-returns-in-Err c =
-    let classes = c.args.world.now.classes in
-    let function = call_view c.args.function.now in
-    let answered : Answers classes c.args.heap.now c.args.call.now.references.items c.args.call.now.stack function c.answer.result = subst (λ (l : List (Option ℕ)). Answers classes c.args.heap.now l c.args.call.now.stack function c.answer.result) c.deref.ensures.value c.answer.ensures in
-    (Err c.in-Err.trap, subst (λ (r : Result ℕ Trap). Answers classes c.args.heap.now c.args.call.now.references.items c.args.call.now.stack function r) c.in-Err.is answered, (refl, refl))
+  -- the trap that was found is the source's
+  told : (classes : Classes) (is_pending room : Bool) (references : List (Option ℕ)) (fields : List (Option FieldHandle)) (o : Option Trap) → classes ≡ w.classes → is_pending ≡ is_some pending → room ≡ has_room call.frames.items → references ≡ call.references.items → fields ≡ call.fields.items
+      → option_map trap_view o ≡ trap_found classes store.heap is_pending room references fields (function_value function.function) function.operands.items
+      → option_map trap_view o ≡ trap_of_call w.classes shared s it.target it.f it.args
+  told classes is_pending room references fields o same_classes same_pending same_room same_references same_fields found =
+      found
+      ∙ (λ i. trap_found (same_classes i) store.heap (same_pending i) (same_room i) (same_references i) (same_fields i) (it.asked.same_function i) function.operands.items)
+      ∙ found_is p w store pending call (call_view function) shared s it.f it.args it.asked it.target
+
+  there : (references : List (Option ℕ)) → references ≡ call.references.items → AreAddresses store.heap references function.operands.items
+  there references same = subst (λ (l : List (Option ℕ)). AreAddresses store.heap l function.operands.items) (sym same) (objects_there p w store pending call (call_view function) shared s it.f it.args it.asked)
+
+  handled : (classes : Classes) (fields : List (Option FieldHandle)) → classes ≡ w.classes → fields ≡ call.fields.items → AreHandles classes fields function.operands.items
+  handled classes fields same_classes same =
+      subst (λ (t : Classes). AreHandles t fields function.operands.items) (sym same_classes)
+      (subst (λ (l : List (Option FieldHandle)). AreHandles w.classes l function.operands.items) (sym same) (handles_there p w store pending call (call_view function) shared s it.f it.args it.asked))
+
+  is_answered_there : is_answered (function_value function.function) ≡ true
+  is_answered_there = ap is_answered it.asked.same_function ∙ it.asked.answered
+
+  -- the kind of its result
+  kind_is : (kind : ResultKind) → kind ≡ (prototype (function_value function.function)).result → kind ≡ (prototype it.f).result
+  kind_is kind same = same ∙ ap (λ (f : JniFunction). (prototype f).result) it.asked.same_function
+
+  module _ (free : trap_of_call w.classes shared s it.target it.f it.args ≡ None) where
+    passes : (classes : Classes) (references : List (Option ℕ)) (fields : List (Option FieldHandle)) → classes ≡ w.classes → references ≡ call.references.items → fields ≡ call.fields.items
+        → fit_together classes store.heap references fields function.operands.items (function_value function.function) ≡ true
+    passes classes references fields same_classes same_references same_fields =
+        (λ i. fit_together (same_classes i) store.heap (same_references i) (same_fields i) function.operands.items (it.asked.same_function i))
+        ∙ has_passed p w store pending call (call_view function) shared s it.f it.args it.asked it.target free
+
+    answered : (sound : IsSound w) (lent : BuffersInUse) (k : ℕ) (classes : Classes) (loaded : List ℕ) (references : List (Option ℕ)) (fields : List (Option FieldHandle)) (kind : ResultKind) (answer : Answer) → classes ≡ w.classes → loaded ≡ store.loaded.items → references ≡ call.references.items → fields ≡ call.fields.items
+        → kind ≡ (prototype (function_value function.function)).result → IsWorkedOut classes store.heap loaded references fields call.stack (call_view function) (function_value function.function) answer
+        → IsAnswer w.classes store.heap kind shared s answer (call_effect w.classes lent k shared s it.args it.f)
+    answered sound lent k classes loaded references fields kind answer same_classes same_loaded same_references same_fields same_kind works =
+        subst (λ (x : ResultKind). IsAnswer w.classes store.heap x shared s answer (call_effect w.classes lent k shared s it.args it.f)) (sym (kind_is kind same_kind))
+        (answers p w store pending call (call_view function) shared s sound lent k it.args it.f it.asked it.target free answer
+        (subst (λ (x : JniFunction). IsWorkedOut w.classes store.heap store.loaded.items call.references.items call.fields.items call.stack (call_view function) x answer) it.asked.same_function
+        (subst (λ (l : List (Option FieldHandle)). IsWorkedOut w.classes store.heap store.loaded.items call.references.items l call.stack (call_view function) (function_value function.function) answer) same_fields
+        (subst (λ (l : List (Option ℕ)). IsWorkedOut w.classes store.heap store.loaded.items l fields call.stack (call_view function) (function_value function.function) answer) same_references
+        (subst (λ (l : List ℕ). IsWorkedOut w.classes store.heap l references fields call.stack (call_view function) (function_value function.function) answer) same_loaded
+        (subst (λ (t : Classes). IsWorkedOut t store.heap loaded references fields call.stack (call_view function) (function_value function.function) answer) same_classes works))))))
+
+    can_carry : (kind : ResultKind) → kind ≡ (prototype (function_value function.function)).result → IsPossible p w store pending kind shared s
+    can_carry kind same = subst (λ (x : ResultKind). IsPossible p w store pending x shared s) (sym (kind_is kind same)) (possible p w store pending call function shared s task rest h)
+
+    framed : (kind : ResultKind) → kind ≡ (prototype (function_value function.function)).result → HasFrame kind call
+    framed kind same = subst (λ (x : ResultKind). HasFrame x call) (sym (kind_is kind same)) (has_frame p w store pending call function shared s task rest h free)
+
+-- none was found
+no_trap : (o : Option Trap) (t : Option SourceTrap) → option_map trap_view o ≡ t → o ≡ None → t ≡ None
+no_trap o t same none = sym same ∙ ap (option_map trap_view) none
+
+pub check-trap-requires-clause-objects : goal.check-trap-requires-clause-objects
+check-trap-requires-clause-objects c =
+    let a = c.requires.at_call in
+    there a.0 c.args.world.now c.args.store.now c.args.pending.now c.args.call.now c.args.function.now a.1 a.2 a.3 a.4 a.5 c.deref-2.result.now c.deref-2.ensures.value
+
+pub check-trap-requires-clause-handles : goal.check-trap-requires-clause-handles
+check-trap-requires-clause-handles c =
+    let a = c.requires.at_call in
+    handled a.0 c.args.world.now c.args.store.now c.args.pending.now c.args.call.now c.args.function.now a.1 a.2 a.3 a.4 a.5 c.classes.result.now c.deref-3.result.now c.classes.ensures.classes c.deref-3.ensures.value
+
+pub returns-in-Some : goal.returns-in-Some
+returns-in-Some c p lent k shared s task rest h =
+    let w = c.args.world.now in
+    let found = told p w c.args.store.now c.args.pending.now c.args.call.now c.args.function.now shared s task rest h c.classes.result.now c.is_some.result c.has_room.result c.deref-2.result.now c.deref-3.result.now c.check-trap.result
+    c.classes.ensures.classes c.is_some.ensures (c.has_room.ensures ∙ ap has_room c.deref.ensures.value) c.deref-2.ensures.value c.deref-3.ensures.value c.check-trap.ensures in
+    traps p w c.args.store.now c.args.pending.now c.args.call.now c.args.function.now shared s task rest h lent k c.in-Some.trap c.args.function.now.line refl (sym found ∙ ap (option_map trap_view) c.in-Some.is)
+
+pub work_out-answer-requires-clause-grown : goal.work_out-answer-requires-clause-grown
+work_out-answer-requires-clause-grown c = subst (λ (t : Classes). IsGrown t) (sym c.classes-2.ensures.classes) c.classes.ensures.sound.grown
+
+pub work_out-answer-requires-clause-loaded : goal.work_out-answer-requires-clause-loaded
+work_out-answer-requires-clause-loaded c i a at =
+    let shares = c.requires.at_call.5.shares in
+    is_address c.args.store.now.heap a (i + 1) (shares.table.named i a (ap (λ (l : List ℕ). slice_get l i) (sym c.deref-4.ensures.value) ∙ at))
+
+pub work_out-answer-requires-clause-objects : goal.work_out-answer-requires-clause-objects
+work_out-answer-requires-clause-objects c =
+    let a = c.requires.at_call in
+    there a.0 c.args.world.now c.args.store.now c.args.pending.now c.args.call.now c.args.function.now a.1 a.2 a.3 a.4 a.5 c.deref-5.result.now c.deref-5.ensures.value
+
+pub work_out-answer-requires-clause-handles : goal.work_out-answer-requires-clause-handles
+work_out-answer-requires-clause-handles c =
+    let a = c.requires.at_call in
+    handled a.0 c.args.world.now c.args.store.now c.args.pending.now c.args.call.now c.args.function.now a.1 a.2 a.3 a.4 a.5 c.classes-2.result.now c.deref-6.result.now c.classes-2.ensures.classes c.deref-6.ensures.value
+
+pub work_out-answer-requires-clause-answered : goal.work_out-answer-requires-clause-answered
+work_out-answer-requires-clause-answered c =
+    let a = c.requires.at_call in
+    is_answered_there a.0 c.args.world.now c.args.store.now c.args.pending.now c.args.call.now c.args.function.now a.1 a.2 a.3 a.4 a.5
+
+pub work_out-answer-requires-clause-passed : goal.work_out-answer-requires-clause-passed
+work_out-answer-requires-clause-passed c =
+    let a = c.requires.at_call in
+    let w = c.args.world.now in
+    let found = told a.0 w c.args.store.now c.args.pending.now c.args.call.now c.args.function.now a.1 a.2 a.3 a.4 a.5 c.classes.result.now c.is_some.result c.has_room.result c.deref-2.result.now c.deref-3.result.now c.check-trap.result
+    c.classes.ensures.classes c.is_some.ensures (c.has_room.ensures ∙ ap has_room c.deref.ensures.value) c.deref-2.ensures.value c.deref-3.ensures.value c.check-trap.ensures in
+    passes a.0 w c.args.store.now c.args.pending.now c.args.call.now c.args.function.now a.1 a.2 a.3 a.4 a.5 (no_trap c.check-trap.result _ found c.in_default.is) c.classes-2.result.now c.deref-5.result.now c.deref-6.result.now c.classes-2.ensures.classes c.deref-5.ensures.value c.deref-6.ensures.value
+
+pub carry_out-carried-requires : goal.carry_out-carried-requires
+carry_out-carried-requires c =
+    let a = c.requires.at_call in
+    let w = c.args.world.now in
+    let found = told a.0 w c.args.store.now c.args.pending.now c.args.call.now c.args.function.now a.1 a.2 a.3 a.4 a.5 c.classes.result.now c.is_some.result c.has_room.result c.deref-2.result.now c.deref-3.result.now c.check-trap.result
+    c.classes.ensures.classes c.is_some.ensures (c.has_room.ensures ∙ ap has_room c.deref.ensures.value) c.deref-2.ensures.value c.deref-3.ensures.value c.check-trap.ensures in
+    let free = no_trap c.check-trap.result _ found c.in_default.is in
+    let kind = result_value c.prototype.result.now.result in
+    let same = ap (λ (x : Facts). x.prototype.result) c.prototype.ensures in
+    let lent : BuffersInUse = record { copied = 0; views = 0 } in
+    let it = called a.0 w c.args.store.now c.args.pending.now c.args.call.now c.args.function.now a.1 a.2 a.3 a.4 a.5 in
+    record {
+      possible = (
+        a.0,
+        a.1,
+        a.2,
+        call_effect w.classes lent 0 a.1 a.2 it.args it.f,
+        can_carry a.0 w c.args.store.now c.args.pending.now c.args.call.now c.args.function.now a.1 a.2 a.3 a.4 a.5 free kind same,
+        answered a.0 w c.args.store.now c.args.pending.now c.args.call.now c.args.function.now a.1 a.2 a.3 a.4 a.5 free c.classes.ensures.sound lent 0 c.classes-2.result.now c.deref-4.result.now c.deref-5.result.now c.deref-6.result.now kind c.work_out-answer.result
+            c.classes-2.ensures.classes c.deref-4.ensures.value c.deref-5.ensures.value c.deref-6.ensures.value same c.work_out-answer.ensures,
+      );
+    }
+
+pub receive-requires-clause-target : goal.receive-requires-clause-target
+receive-requires-clause-target c =
+    let a = c.requires.at_call in
+    has_target a.0 c.args.world.now c.args.store.now c.args.pending.now c.args.call.now c.args.function.now a.1 a.2 a.3 a.4 a.5
+
+pub receive-requires-clause-frame : goal.receive-requires-clause-frame
+receive-requires-clause-frame c =
+    let a = c.requires.at_call in
+    let w = c.args.world.now in
+    let found = told a.0 w c.args.store.now c.args.pending.now c.args.call.now c.args.function.now a.1 a.2 a.3 a.4 a.5 c.classes.result.now c.is_some.result c.has_room.result c.deref-2.result.now c.deref-3.result.now c.check-trap.result
+    c.classes.ensures.classes c.is_some.ensures (c.has_room.ensures ∙ ap has_room c.deref.ensures.value) c.deref-2.ensures.value c.deref-3.ensures.value c.check-trap.ensures in
+    framed a.0 w c.args.store.now c.args.pending.now c.args.call.now c.args.function.now a.1 a.2 a.3 a.4 a.5 (no_trap c.check-trap.result _ found c.in_default.is) (result_value c.prototype.result.now.result) (ap (λ (x : Facts). x.prototype.result) c.prototype.ensures)
+
+pub returns-then-carried : goal.returns-then-carried
+returns-then-carried c p lent k shared s task rest h =
+    let w = c.args.world.now in
+    let store = c.args.store.now in
+    let pending = c.args.pending.now in
+    let call = c.args.call.now in
+    let function = c.args.function.now in
+    let it = called p w store pending call function shared s task rest h in
+    let found = told p w store pending call function shared s task rest h c.classes.result.now c.is_some.result c.has_room.result c.deref-2.result.now c.deref-3.result.now c.check-trap.result
+    c.classes.ensures.classes c.is_some.ensures (c.has_room.ensures ∙ ap has_room c.deref.ensures.value) c.deref-2.ensures.value c.deref-3.ensures.value c.check-trap.ensures in
+    let free = no_trap c.check-trap.result (trap_of_call w.classes shared s it.target it.f it.args) found c.in_default.is in
+    let kind = result_value c.prototype.result.now.result in
+    let same : kind ≡ (prototype (function_value function.function)).result = ap (λ (x : Facts). x.prototype.result) c.prototype.ensures in
+    let effect = call_effect w.classes lent k shared s it.args it.f in
+    let is = kind_is p w store pending call function shared s task rest h kind same in
+    let answer = answered p w store pending call function shared s task rest h free c.classes.ensures.sound lent k c.classes-2.result.now c.deref-4.result.now c.deref-5.result.now c.deref-6.result.now kind c.work_out-answer.result
+    c.classes-2.ensures.classes c.deref-4.ensures.value c.deref-5.ensures.value c.deref-6.ensures.value same c.work_out-answer.ensures in
+    let carried = c.carry_out-carried.ensures p shared s effect (can_carry p w store pending call function shared s task rest h free kind same) answer in
+    let told_refused = subst (λ (b : Bool). CarriesOut p w store.heap kind shared s effect b c.carry_out-carried.new.store c.carry_out-carried.new.pending c.carry_out-carried.result.given) c.if-carried.true carried in
+    goes_on p w store pending call function shared s task rest h lent k true c.carry_out-carried.new.store c.carry_out-carried.new.pending c.carry_out-carried.result.given c.receive.new.call c.work_out-answer.result free
+    (subst (λ (x : ResultKind). IsAnswer w.classes store.heap x shared s c.work_out-answer.result effect) is answer)
+    (subst (λ (x : ResultKind). CarriesOut p w store.heap x shared s effect true c.carry_out-carried.new.store c.carry_out-carried.new.pending c.carry_out-carried.result.given) is told_refused)
+    (subst (λ (x : ResultKind). Receives function.target x c.carry_out-carried.result.given call c.receive.new.call) is c.receive.ensures)
+
+pub returns-else-carried : goal.returns-else-carried
+returns-else-carried c p lent k shared s task rest h =
+    let w = c.args.world.now in
+    let store = c.args.store.now in
+    let pending = c.args.pending.now in
+    let call = c.args.call.now in
+    let function = c.args.function.now in
+    let it = called p w store pending call function shared s task rest h in
+    let found = told p w store pending call function shared s task rest h c.classes.result.now c.is_some.result c.has_room.result c.deref-2.result.now c.deref-3.result.now c.check-trap.result
+    c.classes.ensures.classes c.is_some.ensures (c.has_room.ensures ∙ ap has_room c.deref.ensures.value) c.deref-2.ensures.value c.deref-3.ensures.value c.check-trap.ensures in
+    let free = no_trap c.check-trap.result (trap_of_call w.classes shared s it.target it.f it.args) found c.in_default.is in
+    let kind = result_value c.prototype.result.now.result in
+    let same : kind ≡ (prototype (function_value function.function)).result = ap (λ (x : Facts). x.prototype.result) c.prototype.ensures in
+    let effect = call_effect w.classes lent k shared s it.args it.f in
+    let is = kind_is p w store pending call function shared s task rest h kind same in
+    let answer = answered p w store pending call function shared s task rest h free c.classes.ensures.sound lent k c.classes-2.result.now c.deref-4.result.now c.deref-5.result.now c.deref-6.result.now kind c.work_out-answer.result
+    c.classes-2.ensures.classes c.deref-4.ensures.value c.deref-5.ensures.value c.deref-6.ensures.value same c.work_out-answer.ensures in
+    let carried = c.carry_out-carried.ensures p shared s effect (can_carry p w store pending call function shared s task rest h free kind same) answer in
+    let told_refused = subst (λ (b : Bool). CarriesOut p w store.heap kind shared s effect b c.carry_out-carried.new.store c.carry_out-carried.new.pending c.carry_out-carried.result.given) c.if-carried.false carried in
+    goes_on p w store pending call function shared s task rest h lent k false c.carry_out-carried.new.store c.carry_out-carried.new.pending c.carry_out-carried.result.given c.receive.new.call c.work_out-answer.result free
+    (subst (λ (x : ResultKind). IsAnswer w.classes store.heap x shared s c.work_out-answer.result effect) is answer)
+    (subst (λ (x : ResultKind). CarriesOut p w store.heap x shared s effect false c.carry_out-carried.new.store c.carry_out-carried.new.pending c.carry_out-carried.result.given) is told_refused)
+    (subst (λ (x : ResultKind). Receives function.target x c.carry_out-carried.result.given call c.receive.new.call) is c.receive.ensures)

@@ -1,42 +1,104 @@
-use Rattle.std.proofs.Common.{length, sym, subst}
+use Rattle.std.proofs.Common.{◌≡◌, ℕ, true, false, List, Option, Some, None, length, sym, ap, ◌∙◌, subst, refl}
+use Rattle.std.specs.Prelude.{IsSome}
+use Rattle.std.specs.Option.{option_map}
+use Rattle.heap.specs.Heap.{Block, Space, IsAddress, block_at}
+use Rattle.source.specs.Effect.{effect_of}
+use Rattle.source.specs.Object.{Reference}
+use Rattle.source.specs.Thread as source
+use Rattle.source.specs.Thread.{Shared, sight_of}
+use Rattle.source.specs.World.{World, loaded_objects}
+use Rattle.lower.specs.Lowered.{Lowered}
 use Rattle.lower.specs.Slots.{visible_to}
-use Rattle.machine.specs.declared.thread.Event.TheVariants.{Quiet}
+use Rattle.machine.specs.declared.store.Store.{Store}
+use Rattle.machine.specs.declared.thread.Activation.{Activation}
 use Rattle.machine.specs.declared.thread.Thread.{Thread}
-use Rattle.machine.specs.Agrees.{Advances}
-use Rattle.machine.proofs.Threads.{working, did, returned, enters, coming, ready_to_begin}
+use Rattle.machine.specs.declared.thread.Event.TheVariants.{Quiet}
+use Rattle.machine.specs.Agrees.{StoreAgrees, ThreadAgrees, IsExecuting, Executes}
+use Rattle.machine.specs.declared.thread.Executed.{Executed}
+use Rattle.machine.specs.HeapAgrees.{ReferenceAgrees}
+use Rattle.machine.specs.Entry.{IsReady, Begins}
+use Rattle.machine.proofs.Threads.{Working, working, did, returned, enters, coming, ready_to_begin}
 use Rattle.machine.proofs.thread.advance.Goals as goal
+
+-- a call in progress stands for the thread's tasks
+works : (p : Lowered) (w : World) (store : Store) (shared : Shared) (t : Thread) (s : source.Thread) (call : Activation) → ThreadAgrees p w.classes store.heap (length (loaded_objects w)) shared t s → t.call ≡ Some call → Working p w.classes store.heap call (visible_to shared s) s.frames s.tasks
+works p w store shared t s call h is = working p w.classes store.heap (visible_to shared s) s.frames t.call call s.tasks h.work is
+
+executing : (p : Lowered) (w : World) (store : Store) (shared : Shared) (t : Thread) (s : source.Thread) (call : Activation) → StoreAgrees p w store shared → (h : ThreadAgrees p w.classes store.heap (length (loaded_objects w)) shared t s) (is : t.call ≡ Some call)
+    → IsExecuting p w store call t.pending shared s (works p w store shared t s call h is).task (works p w store shared t s call h is).rest
+executing p w store shared t s call shares h is =
+    let k = works p w store shared t s call h is in
+    record { store_agrees = shares; tasks = k.is; stands = k.stands; pending_agrees = h.pending; viewless = h.viewless }
 
 pub execute-requires-clause-stands : goal.execute-requires-clause-stands
 execute-requires-clause-stands c =
     let a = c.requires.agrees in
-    let visible = visible_to a.0 a.1 in
-    let w = working c.args.program.now c.args.heap.now visible c.args.thread.now.call c.in-Some.call a.1.tasks a.2.work c.in-Some.is in
-    (visible, w.task, w.rest, w.stands)
+    let k = works c.args.program.now c.args.world.now c.args.store.now a.0 c.args.thread.now a.1 c.in-Some.call a.3 c.in-Some.is in
+    (a.0, a.1, k.task, k.rest, executing c.args.program.now c.args.world.now c.args.store.now a.0 c.args.thread.now a.1 c.in-Some.call a.2 a.3 c.in-Some.is)
 
 pub enter-requires-clause-ready : goal.enter-requires-clause-ready
 enter-requires-clause-ready c next rest is =
     let a = c.requires.agrees in
-    let n = coming c.args.program.now c.args.world.now.classes (length c.args.loaded.now) next c.args.thread.now.calls.items rest a.1.calls a.2.calls is in
-    ready_to_begin c.args.program.now c.args.world.now.classes (length c.args.loaded.now) next n.call c.requires.lowered n.function
-
-pub returns-in_ok-enter-in-None-clause-advances : goal.returns-in_ok-enter-in-None-clause-advances
-returns-in_ok-enter-in-None-clause-advances c lent k shared s monitors statics blocks table h =
-    let e = c.in_ok-enter-in-None.ensures.calls in
-    enters c.args.program.now c.args.world.now.classes c.args.heap.now c.args.loaded.now (length c.args.loaded.now) lent k shared c.args.thread.now c.enter.new.thread s e.0 e.1 c.requires.lowered table statics h c.in-None.is e.2 e.3 e.4 c.in_ok-enter-in-None.ensures.ending
-
-pub returns-in-Did-clause-advances : goal.returns-in-Did-clause-advances
-returns-in-Did-clause-advances c lent k shared s monitors statics blocks table h =
-    let classes = c.args.world.now.classes in
-    let w = working c.args.program.now c.args.heap.now (visible_to shared s) c.args.thread.now.call c.in-Some.call s.tasks h.work c.in-Some.is in
-    did c.args.program.now classes c.args.heap.now (length c.args.loaded.now) lent k shared monitors c.args.thread.now s h c.in-Some.call c.in-Did.event w c.execute.new.call
-    (c.in-Did.ensures lent k shared s w.task w.rest w.is h.pending statics blocks w.stands)
-
-pub returns-in-Returned-clause-advances : goal.returns-in-Returned-clause-advances
-returns-in-Returned-clause-advances c lent k shared s monitors statics blocks table h =
     let p = c.args.program.now in
     let classes = c.args.world.now.classes in
-    let space = c.args.heap.now in
-    let made = length c.args.loaded.now in
-    let w = working p space (visible_to shared s) c.args.thread.now.call c.in-Some.call s.tasks h.work c.in-Some.is in
-    subst (λ (t : Thread). Advances p classes space made lent k shared s t Quiet) (sym c.leave.ensures)
-    (returned p classes space made lent k shared monitors c.args.thread.now s h c.in-Some.call w c.requires.agrees.3 (c.in-Returned.ensures lent k shared s w.task w.rest w.is h.pending statics blocks w.stands))
+    let made : ℕ = length (loaded_objects c.args.world.now) in
+    let n = coming p classes made next c.args.thread.now.calls.items rest a.1.calls a.3.calls is in
+    subst (λ (m : ℕ). IsReady p m next) (sym (ap length c.deref.ensures.value ∙ a.2.table.counted)) (ready_to_begin p classes made next n.call c.requires.lowered n.function)
+
+pub returns-in_ok-enter-in-None-clause-advances : goal.returns-in_ok-enter-in-None-clause-advances
+returns-in_ok-enter-in-None-clause-advances c lent k shared s shares h =
+    let e = c.in_ok-enter-in-None.ensures.calls in
+    let begins = subst (λ (l : List ℕ). Begins c.args.program.now l e.0 e.1) c.deref.ensures.value e.4 in
+    enters c.args.program.now c.args.world.now c.args.store.now lent k shared c.args.thread.now c.enter.new.thread s e.0 e.1 c.requires.lowered shares h c.in-None.is e.2 e.3 begins c.in_ok-enter-in-None.ensures.pending c.in_ok-enter-in-None.ensures.ending
+
+pub returns-in-Did-clause-advances : goal.returns-in-Did-clause-advances
+returns-in-Did-clause-advances c lent k shared s shares h =
+    let p = c.args.program.now in
+    let w = c.args.world.now in
+    let old = c.args.store.now in
+    let b = works p w old shared c.args.thread.now s c.in-Some.call h c.in-Some.is in
+    let executed = c.execute.ensures lent k shared s b.task b.rest (executing p w old shared c.args.thread.now s c.in-Some.call shares h c.in-Some.is) in
+    let goes = subst (λ (x : Executed). Executes p w old.heap c.execute.new.store lent k shared s b.rest c.execute.new.call c.execute.new.pending (effect_of (sight_of shared s) b.task) x) c.in-Did.is executed in
+    did p w old.heap lent k shared c.args.thread.now s h c.execute.new.store false c.in-Did.event b.task b.rest b.is c.execute.new.call c.execute.new.pending goes
+
+pub returns-in-Refused-clause-advances : goal.returns-in-Refused-clause-advances
+returns-in-Refused-clause-advances c lent k shared s shares h =
+    let p = c.args.program.now in
+    let w = c.args.world.now in
+    let old = c.args.store.now in
+    let b = works p w old shared c.args.thread.now s c.in-Some.call h c.in-Some.is in
+    let executed = c.execute.ensures lent k shared s b.task b.rest (executing p w old shared c.args.thread.now s c.in-Some.call shares h c.in-Some.is) in
+    let goes = subst (λ (x : Executed). Executes p w old.heap c.execute.new.store lent k shared s b.rest c.execute.new.call c.execute.new.pending (effect_of (sight_of shared s) b.task) x) c.in-Refused.is executed in
+    did p w old.heap lent k shared c.args.thread.now s h c.execute.new.store true Quiet b.task b.rest b.is c.execute.new.call c.execute.new.pending goes
+
+-- an address with a name is that of a block
+there_is : (o : Option Block) (n : ℕ) → option_map (λ (b : Block). b.birth) o ≡ Some n → IsSome o
+there_is None n e = absurd (cc)
+there_is (Some b) n e = refl
+
+named : (space : Space) (o : Option ℕ) (r : Reference) (a : ℕ) → ReferenceAgrees space o r → o ≡ Some a → IsAddress space a
+named space None r a h e = absurd (cc)
+named space (Some b) None a h e = absurd h
+named space (Some b) (Some n) a h e = let same : b ≡ a = cc in subst (IsAddress space) same (there_is (block_at space b) n h)
+
+pub leave-requires : goal.leave-requires
+leave-requires c a is =
+    let p = c.args.program.now in
+    let w = c.args.world.now in
+    let old = c.args.store.now in
+    let r = c.requires.agrees in
+    let lent : source.BuffersInUse = record { copied = 0; views = 0 } in
+    let b = works p w old r.0 c.args.thread.now r.1 c.in-Some.call r.3 c.in-Some.is in
+    let executed = c.execute.ensures lent 0 r.0 r.1 b.task b.rest (executing p w old r.0 c.args.thread.now r.1 c.in-Some.call r.2 r.3 c.in-Some.is) in
+    let left = subst (λ (x : Executed). Executes p w old.heap c.execute.new.store lent 0 r.0 r.1 b.rest c.execute.new.call c.execute.new.pending (effect_of (sight_of r.0 r.1) b.task) x) c.in-Returned.is executed in
+    named c.execute.new.store.heap c.execute.new.pending r.1.pending a left.3 is
+
+pub returns-in-Returned-clause-advances : goal.returns-in-Returned-clause-advances
+returns-in-Returned-clause-advances c lent k shared s shares h =
+    let p = c.args.program.now in
+    let w = c.args.world.now in
+    let old = c.args.store.now in
+    let b = works p w old shared c.args.thread.now s c.in-Some.call h c.in-Some.is in
+    let executed = c.execute.ensures lent k shared s b.task b.rest (executing p w old shared c.args.thread.now s c.in-Some.call shares h c.in-Some.is) in
+    let left = subst (λ (x : Executed). Executes p w old.heap c.execute.new.store lent k shared s b.rest c.execute.new.call c.execute.new.pending (effect_of (sight_of shared s) b.task) x) c.in-Returned.is executed in
+    returned p w old.heap lent k shared c.args.thread.now s h c.execute.new.store c.execute.new.pending c.leave.new.thread b.task b.rest b.is left.1 left.2 left.3 c.requires.agrees.4 left.0 c.leave.ensures.call c.leave.ensures.pending c.leave.ensures.calls c.leave.ensures.ending

@@ -24,7 +24,7 @@ unwrap-code-requires c =
 pub begin-requires-clause-class : goal.begin-requires-clause-class
 begin-requires-clause-class c =
     let f = in_front c.args.thread.now.calls.items c.front.result c.unwrap-next.result c.unwrap-next.ensures c.front.ensures.item.3 in
-    (c.requires.ready c.unwrap-next.result.now f.0 f.1).class.0
+    (c.requires.ready c.unwrap-next.result.now f.0 f.1).class
 
 pub begin-requires-clause-given : goal.begin-requires-clause-given
 begin-requires-clause-given c =

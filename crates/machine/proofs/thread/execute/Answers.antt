@@ -24,11 +24,18 @@ use Rattle.lower.specs.Lowered.{Lowered, IsLowered}
 use Rattle.machine.specs.declared.thread.Activation.{Activation}
 use Rattle.machine.specs.declared.thread.Event.TheVariants.{Quiet, Printed, Trapped}
 use Rattle.machine.specs.declared.thread.Executed.TheVariants.{Did}
-use Rattle.machine.specs.Agrees.{CallStands, Executes}
-use Rattle.machine.specs.Variables.{is_null, HasSlot, with_null}
+use Rattle.std.specs.Prelude.{◌<◌, ◌^◌, None, OnSome}
+use Rattle.classes.specs.Class.{Classes}
+use Rattle.class_table.specs.declared.class.FieldHandle.{FieldHandle}
+use Rattle.source.specs.Thread.{Frame, Shared, Thread}
+use Rattle.machine.specs.Agrees.{CallStands, IsExecuting, Executes}
+use Rattle.source.specs.World.{World}
+use Rattle.code.specs.declared.instr.Call.{Call as CallInMemory}
+use Rattle.machine.specs.declared.store.Store.{Store}
+use Rattle.machine.specs.Invoked.{AtCall}
+use Rattle.machine.specs.Variables.{is_null, HasSlot, nulled_references, nulled_fields}
 use Rattle.machine.proofs.Calls.{Ready, ready, here, room, is_there, positive}
 use Rattle.machine.proofs.Effects.{Answer, few_words, slot_there as variable_there, plain_executes, test_executes, store_executes, put_executes, return_executes}
-use Rattle.machine.proofs.Invocations.{built_there, objects_there, call_executes}
 use Rattle.machine.proofs.thread.execute.Goals as goal
 use Rattle.machine.proofs.thread.execute.Goals.{After-unwrap-instr}
 
@@ -47,8 +54,8 @@ fetched c = record {
   at = sym c.get.ensures.instr ∙ ap option_copied c.unwrap-instr.ensures;
 }
 
-ready_for : (p : Lowered) (space : Space) (call : Activation) (i : Instr) (f : Fetched p call i) (visible : Visible) (task : Task) (rest : List Task) → CallStands p space call visible (task ∷ rest) → Ready p space call f.code visible task rest
-ready_for p space call i f visible task rest h = ready p space call f.code visible task rest f.lowered f.of_function h
+ready_for : (p : Lowered) (classes : Classes) (space : Space) (call : Activation) (i : Instr) (f : Fetched p call i) (visible : Visible) (frames : List Frame) (task : Task) (rest : List Task) → CallStands p classes space call visible frames (task ∷ rest) → Ready p classes space call f.code visible frames task rest
+ready_for p classes space call i f visible frames task rest h = ready p classes space call f.code visible frames task rest f.lowered f.of_function h
 
 returns_is : (i : Instr) → (i ≡ instr.Return) ⊎ ((i ≡ instr.ReturnJint) ⊎ ((o : ReferenceOperand) × (i ≡ instr.ReturnReference o))) → IsReturn i
 returns_is i h = ⊎_elim (λ e. subst IsReturn (sym e) tt) (λ rest. ⊎_elim (λ e. subst IsReturn (sym e) tt) (λ e. subst IsReturn (sym e.1) tt) rest) h
@@ -57,7 +64,7 @@ pub unwrap-instr-requires : goal.unwrap-instr-requires
 unwrap-instr-requires c =
     let s = c.requires.stands in
     let code_at = sym c.code.ensures.code ∙ ap option_copied c.unwrap-code.ensures in
-    let h = here c.args.program.now c.args.heap.now c.args.call.now c.unwrap-code.result.now s.0 s.1 s.2 (ready _ _ _ _ s.0 s.1 s.2 c.requires.lowered code_at s.3) in
+    let h = here c.args.program.now c.args.world.now.classes c.args.store.now.heap c.args.call.now c.unwrap-code.result.now (visible_to s.0 s.1) s.1.frames s.2 s.3 (ready _ _ _ _ _ (visible_to s.0 s.1) s.1.frames s.2 s.3 c.requires.lowered code_at s.4.stands) in
     is_there c.get.result h.0 (c.get.ensures.instr ∙ h.1)
 
 pub push-requires : goal.push-requires
@@ -65,41 +72,56 @@ push-requires c =
     let s = c.requires.stands in
     let f = fetched (goal.at.push-requires c).After-unwrap-instr in
     few_words c.in-TestNull.variable c.in-TestNull.equal (length c.args.call.now.stack)
-    (room _ _ _ f.code s.0 s.1 s.2 (ready_for _ c.args.heap.now _ _ f s.0 s.1 s.2 s.3) (instr.TestNull c.in-TestNull.variable c.in-TestNull.equal) (f.at ∙ ap (λ i. Some i) c.in-TestNull.is))
+    (room _ _ _ _ f.code (visible_to s.0 s.1) s.1.frames s.2 s.3 (ready_for _ c.args.world.now.classes c.args.store.now.heap _ _ f (visible_to s.0 s.1) s.1.frames s.2 s.3 s.4.stands) (instr.TestNull c.in-TestNull.variable c.in-TestNull.equal) (f.at ∙ ap (λ i. Some i) c.in-TestNull.is))
 
 pub set_null-requires : goal.set_null-requires
 set_null-requires c =
     let s = c.requires.stands in
     let f = fetched (goal.at.set_null-requires c).After-unwrap-instr in
-    subst (λ (l : List (Option ℕ)). HasSlot l c.in-StoreNull.variable) (sym c.deref_mut.ensures.value)
-    (variable_there _ c.args.heap.now _ f.code s.0 s.1 s.2 (ready_for _ c.args.heap.now _ _ f s.0 s.1 s.2 s.3) c.unwrap-instr.result.now f.at c.in-StoreNull.variable c.in-StoreNull.is)
+    let there = variable_there _ c.args.world.now.classes c.args.store.now.heap _ f.code (visible_to s.0 s.1) s.1.frames s.2 s.3 (ready_for _ c.args.world.now.classes c.args.store.now.heap _ _ f (visible_to s.0 s.1) s.1.frames s.2 s.3 s.4.stands) c.unwrap-instr.result.now f.at c.in-StoreNull.variable c.in-StoreNull.is in
+    subst (λ (l : List (Option ℕ)). HasSlot l c.deref_mut-in-StoreNull.result.now c.in-StoreNull.variable) (sym c.deref_mut.ensures.value)
+    (subst (λ (l : List (Option FieldHandle)). HasSlot c.args.call.now.references.items l c.in-StoreNull.variable) (sym c.deref_mut-in-StoreNull.ensures.value) there)
 
 pub pop-word-requires : goal.pop-word-requires
 pop-word-requires c =
     let s = c.requires.stands in
     let f = fetched (goal.at.pop-word-requires c).After-unwrap-instr in
-    positive (length c.args.call.now.stack) (room _ _ _ f.code s.0 s.1 s.2 (ready_for _ c.args.heap.now _ _ f s.0 s.1 s.2 s.3) instr.PutJint (f.at ∙ ap (λ i. Some i) c.in-PutJint.is))
+    positive (length c.args.call.now.stack) (room _ _ _ _ f.code (visible_to s.0 s.1) s.1.frames s.2 s.3 (ready_for _ c.args.world.now.classes c.args.store.now.heap _ _ f (visible_to s.0 s.1) s.1.frames s.2 s.3 s.4.stands) instr.PutJint (f.at ∙ ap (λ i. Some i) c.in-PutJint.is))
 
-pub invoke-requires-clause-built : goal.invoke-requires-clause-built
-invoke-requires-clause-built c =
-    let s = c.requires.stands in
-    let f = fetched (goal.at.invoke-requires-clause-built c).After-unwrap-instr in
-    built_there c.args.program.now c.args.heap.now c.args.call.now f.code s.0 s.1 s.2 (ready_for _ c.args.heap.now _ _ f s.0 s.1 s.2 s.3) c.unwrap-instr.result.now f.at (call_view c.call.result.now) (c.in-Call.is ∙ ap (λ (x : Call). instr.Call x) (sym c.call.ensures))
+-- the machine is at the instruction of a call
+at_call : (p : Lowered) (w : World) (store : Store) (pending : Option ℕ) (call : Activation) (i : Instr) (f : Fetched p call i) (function : CallInMemory) → i ≡ instr.Call (call_view function) → (shared : Shared) (s : Thread) (task : Task) (rest : List Task)
+    → IsExecuting p w store call pending shared s task rest → AtCall p w store pending call function shared s task rest
+at_call p w store pending call i f function is shared s task rest e = record {
+  lowered = f.lowered;
+  tasks = e.tasks;
+  shares = e.store_agrees;
+  pending_agrees = e.pending_agrees;
+  stands = e.stands;
+  viewless = e.viewless;
+  code = f.code;
+  of_function = f.of_function;
+  at = f.at ∙ ap (λ j. Some j) is;
+}
 
-pub invoke-requires-clause-objects : goal.invoke-requires-clause-objects
-invoke-requires-clause-objects c =
+-- what holds where something is there
+limit_of : {A : Type 0} (o : Option A) (x : A) (P : Type 0) → OnSome o P → o ≡ Some x → P
+limit_of None x P h e = absurd (cc)
+limit_of (Some y) x P h e = h
+
+pub invoke-requires : goal.invoke-requires
+invoke-requires c =
     let s = c.requires.stands in
-    let f = fetched (goal.at.invoke-requires-clause-objects c).After-unwrap-instr in
-    objects_there c.args.program.now c.args.heap.now c.args.call.now f.code s.0 s.1 s.2 (ready_for _ c.args.heap.now _ _ f s.0 s.1 s.2 s.3) c.unwrap-instr.result.now f.at (call_view c.call.result.now) (c.in-Call.is ∙ ap (λ (x : Call). instr.Call x) (sym c.call.ensures))
+    let f = fetched (goal.at.invoke-requires c).After-unwrap-instr in
+    record { at_call = (c.args.program.now, s.0, s.1, s.2, s.3, at_call c.args.program.now c.args.world.now c.args.store.now c.args.pending.now c.args.call.now c.unwrap-instr.result.now f c.call.result.now (c.in-Call.is ∙ ap (λ (x : Call). instr.Call x) (sym c.call.ensures)) s.0 s.1 s.2 s.3 s.4); place = limit_of c.get.result c.unwrap-instr.result (c.args.call.now.place + 1 < 2 ^ 64) c.get.ensures.limit c.unwrap-instr.ensures }
 
 pub returns-in-TestNull : goal.returns-in-TestNull
-returns-in-TestNull c lent k shared s task rest tasks none statics blocks h =
+returns-in-TestNull c lent k shared s task rest e =
     let f = fetched (goal.at.returns-in-TestNull c).After-unwrap-instr in
-    let classes = c.args.world.now.classes in
     let after : Activation = record c.args.call.now { place = c.args.call.now.place + 1; stack = c.push.new.self } in
-    let null : c.is_null-null.result ≡ is_null c.args.call.now.references.items c.in-TestNull.variable = c.is_null-null.ensures ∙ ap (λ (l : List (Option ℕ)). is_null l c.in-TestNull.variable) c.deref.ensures.value in
+    let null : c.is_null-null.result ≡ is_null c.args.call.now.references.items c.args.call.now.fields.items c.in-TestNull.variable =
+    c.is_null-null.ensures ∙ ap (λ (l : List (Option ℕ)). is_null l c.deref-in-TestNull.result.now c.in-TestNull.variable) c.deref.ensures.value ∙ ap (λ (l : List (Option FieldHandle)). is_null c.args.call.now.references.items l c.in-TestNull.variable) c.deref-in-TestNull.ensures.value in
     let word : c.from.result ≡ truth_word (beq c.is_null-null.result c.in-TestNull.equal) = c.from.ensures in
-    test_executes c.args.program.now classes c.args.heap.now lent k shared statics s c.args.call.now f.code task rest (ready_for _ c.args.heap.now _ _ f (visible_to shared s) task rest h) c.unwrap-instr.result.now f.at
+    test_executes c.args.program.now c.args.world.now c.args.store.now lent k shared e.store_agrees s c.args.pending.now e.pending_agrees e.viewless c.args.call.now f.code task rest (ready_for _ c.args.world.now.classes c.args.store.now.heap _ _ f (visible_to shared s) s.frames task rest e.stands) c.unwrap-instr.result.now f.at
     c.in-TestNull.variable c.in-TestNull.equal after c.in-TestNull.is
     (record {
       function = refl;
@@ -107,104 +129,101 @@ returns-in-TestNull c lent k shared s task rest tasks none statics blocks h =
       stack = c.push.ensures ∙ ap (λ (w : ℕ). w ∷ c.args.call.now.stack) (word ∙ ap (λ (b : Bool). truth_word (beq b c.in-TestNull.equal)) null);
       numbers = refl;
       references = refl;
+      fields = refl;
+      frames = refl;
     })
 
 pub returns-in-StoreNull : goal.returns-in-StoreNull
-returns-in-StoreNull c lent k shared s task rest tasks none statics blocks h =
+returns-in-StoreNull c lent k shared s task rest e =
     let f = fetched (goal.at.returns-in-StoreNull c).After-unwrap-instr in
-    let classes = c.args.world.now.classes in
-    let after : Activation = record c.args.call.now { place = c.args.call.now.place + 1; references = with_items c.args.call.now.references c.set_null.new.references } in
-    store_executes c.args.program.now classes c.args.heap.now lent k shared statics s c.args.call.now f.code task rest (ready_for _ c.args.heap.now _ _ f (visible_to shared s) task rest h) c.unwrap-instr.result.now f.at
+    let after : Activation = record c.args.call.now { place = c.args.call.now.place + 1; references = with_items c.args.call.now.references c.set_null.new.references; fields = with_items c.args.call.now.fields c.set_null.new.fields } in
+    store_executes c.args.program.now c.args.world.now c.args.store.now lent k shared e.store_agrees s c.args.pending.now e.pending_agrees e.viewless c.args.call.now f.code task rest (ready_for _ c.args.world.now.classes c.args.store.now.heap _ _ f (visible_to shared s) s.frames task rest e.stands) c.unwrap-instr.result.now f.at
     c.in-StoreNull.variable after c.in-StoreNull.is
     (record {
       function = refl;
       place = refl;
       stack = refl;
       numbers = refl;
-      references = with_items_is c.args.call.now.references c.set_null.new.references (search (rules, places)) ∙ c.set_null.ensures ∙ ap (λ (l : List (Option ℕ)). with_null c.in-StoreNull.variable l) c.deref_mut.ensures.value;
+      references = with_items_is c.args.call.now.references c.set_null.new.references (search (rules, places)) ∙ c.set_null.ensures.references ∙ ap (λ (l : List (Option ℕ)). nulled_references c.in-StoreNull.variable l) c.deref_mut.ensures.value;
+      fields = with_items_is c.args.call.now.fields c.set_null.new.fields (search (rules, places)) ∙ c.set_null.ensures.fields ∙ ap (λ (l : List (Option FieldHandle)). nulled_fields c.in-StoreNull.variable l) c.deref_mut-in-StoreNull.ensures.value;
+      frames = refl;
     })
 
 pub returns-in-PutJint : goal.returns-in-PutJint
-returns-in-PutJint c lent k shared s task rest tasks none statics blocks h =
+returns-in-PutJint c lent k shared s task rest e =
     let f = fetched (goal.at.returns-in-PutJint c).After-unwrap-instr in
     let number : cast_signed w32 (cast_unsigned w32 c.cast_signed.result) ≡ cast_signed w32 c.pop-word.result = to_z-of_z {w = w32} (record { sfits = c.cast_signed.type_inv }) ∙ c.cast_signed.ensures in
-    let classes = c.args.world.now.classes in
     let after : Activation = record c.args.call.now { place = c.args.call.now.place + 1; stack = c.pop-word.new.self } in
-    subst (λ (z : ℤ). Executes c.args.program.now classes c.args.heap.now lent k shared s rest after (effect_of (sight_of shared s) task) (Did (Printed z))) (sym number)
-    (put_executes c.args.program.now classes c.args.heap.now lent k shared statics s c.args.call.now f.code task rest (ready_for _ c.args.heap.now _ _ f (visible_to shared s) task rest h) c.unwrap-instr.result.now f.at
+    subst (λ (z : ℤ). Executes c.args.program.now c.args.world.now c.args.store.now.heap c.args.store.now lent k shared s rest after c.args.pending.now (effect_of (sight_of shared s) task) (Did (Printed z))) (sym number)
+    (put_executes c.args.program.now c.args.world.now c.args.store.now lent k shared e.store_agrees s c.args.pending.now e.pending_agrees e.viewless c.args.call.now f.code task rest (ready_for _ c.args.world.now.classes c.args.store.now.heap _ _ f (visible_to shared s) s.frames task rest e.stands) c.unwrap-instr.result.now f.at
     c.pop-word.result after c.pop-word.new.self c.in-PutJint.is c.pop-word.ensures.words
-    (record { function = refl; place = refl; stack = refl; numbers = refl; references = refl }))
+    (record { function = refl; place = refl; stack = refl; numbers = refl; references = refl; fields = refl; frames = refl }))
 
 pub returns-in-Call : goal.returns-in-Call
-returns-in-Call c lent k shared s task rest tasks none statics blocks h =
+returns-in-Call c lent k shared s task rest e =
     let f = fetched (goal.at.returns-in-Call c).After-unwrap-instr in
-    let classes = c.args.world.now.classes in
-    call_executes c.args.program.now classes c.args.heap.now lent k shared s c.args.call.now f.code task rest (ready_for _ c.args.heap.now _ _ f (visible_to shared s) task rest h) c.unwrap-instr.result.now f.at (call_view c.call.result.now) (c.in-Call.is ∙ ap (λ (x : Call). instr.Call x) (sym c.call.ensures))
-    c.invoke.new.call c.invoke.result tasks none h blocks c.invoke.ensures
+    c.invoke.ensures c.args.program.now lent k shared s task rest
+    (at_call c.args.program.now c.args.world.now c.args.store.now c.args.pending.now c.args.call.now c.unwrap-instr.result.now f c.call.result.now (c.in-Call.is ∙ ap (λ (x : Call). instr.Call x) (sym c.call.ensures)) shared s task rest e)
 
 pub returns-in-Return : goal.returns-in-Return
-returns-in-Return c lent k shared s task rest tasks none statics blocks h =
+returns-in-Return c lent k shared s task rest e =
     let f = fetched (goal.at.returns-in-Return c).After-unwrap-instr in
-    return_executes _ c.args.world.now.classes c.args.heap.now lent k shared statics s _ f.code task rest (ready_for _ c.args.heap.now _ _ f (visible_to shared s) task rest h) c.unwrap-instr.result.now f.at (returns_is _ c.in-Return.is) c.args.call.now
+    return_executes _ c.args.world.now c.args.store.now lent k shared e.store_agrees s c.args.pending.now e.pending_agrees e.viewless _ f.code task rest (ready_for _ c.args.world.now.classes c.args.store.now.heap _ _ f (visible_to shared s) s.frames task rest e.stands) c.unwrap-instr.result.now f.at (returns_is _ c.in-Return.is) c.args.call.now
 
 pub returns-in-Return-2 : goal.returns-in-Return-2
-returns-in-Return-2 c lent k shared s task rest tasks none statics blocks h =
+returns-in-Return-2 c lent k shared s task rest e =
     let f = fetched (goal.at.returns-in-Return-2 c).After-unwrap-instr in
-    return_executes _ c.args.world.now.classes c.args.heap.now lent k shared statics s _ f.code task rest (ready_for _ c.args.heap.now _ _ f (visible_to shared s) task rest h) c.unwrap-instr.result.now f.at (returns_is _ c.in-Return.is) c.args.call.now
+    return_executes _ c.args.world.now c.args.store.now lent k shared e.store_agrees s c.args.pending.now e.pending_agrees e.viewless _ f.code task rest (ready_for _ c.args.world.now.classes c.args.store.now.heap _ _ f (visible_to shared s) s.frames task rest e.stands) c.unwrap-instr.result.now f.at (returns_is _ c.in-Return.is) c.args.call.now
 
 pub returns-in-Return-3 : goal.returns-in-Return-3
-returns-in-Return-3 c lent k shared s task rest tasks none statics blocks h =
+returns-in-Return-3 c lent k shared s task rest e =
     let f = fetched (goal.at.returns-in-Return-3 c).After-unwrap-instr in
-    return_executes _ c.args.world.now.classes c.args.heap.now lent k shared statics s _ f.code task rest (ready_for _ c.args.heap.now _ _ f (visible_to shared s) task rest h) c.unwrap-instr.result.now f.at (returns_is _ c.in-Return.is) c.args.call.now
+    return_executes _ c.args.world.now c.args.store.now lent k shared e.store_agrees s c.args.pending.now e.pending_agrees e.viewless _ f.code task rest (ready_for _ c.args.world.now.classes c.args.store.now.heap _ _ f (visible_to shared s) s.frames task rest e.stands) c.unwrap-instr.result.now f.at (returns_is _ c.in-Return.is) c.args.call.now
 
 pub returns-in-Next : goal.returns-in-Next
-returns-in-Next c lent k shared s task rest tasks none statics blocks h =
+returns-in-Next c lent k shared s task rest e =
     let f = fetched (goal.at.returns-in-Next c).After-unwrap-instr in
-    let classes = c.args.world.now.classes in
     let i = c.unwrap-instr.result.now in
     let stack = c.args.call.now.stack in
     let is : ◌≡◌ {A = Answer} (plain_of i stack c.args.call.now.numbers.items) (Some (plain.Next, c.plain.new.stack, c.plain.new.numbers)) =
     ap (plain_of i stack) (sym c.deref_mut-in_default.ensures.value) ∙ c.plain.ensures ∙ ap (λ (o : Plain). let x : Answer = Some (o, c.plain.new.stack, c.plain.new.numbers) in x) c.in-Next.is in
     let after : Activation = record c.args.call.now { place = c.args.call.now.place + 1; stack = c.plain.new.stack; numbers = with_items c.args.call.now.numbers c.plain.new.numbers } in
-    plain_executes c.args.program.now classes c.args.heap.now lent k shared statics s c.args.call.now f.code task rest (ready_for _ c.args.heap.now _ _ f (visible_to shared s) task rest h) i f.at tasks
+    plain_executes c.args.program.now c.args.world.now c.args.store.now lent k shared e.store_agrees s c.args.pending.now e.pending_agrees e.viewless c.args.call.now f.code task rest (ready_for _ c.args.world.now.classes c.args.store.now.heap _ _ f (visible_to shared s) s.frames task rest e.stands) i f.at e.tasks
     after Quiet plain.Next c.plain.new.stack c.plain.new.numbers is
-    (record { function = refl; place = refl; stack = refl; numbers = with_items_is c.args.call.now.numbers c.plain.new.numbers (search (rules, places)); references = refl }) refl
+    (record { function = refl; place = refl; stack = refl; numbers = with_items_is c.args.call.now.numbers c.plain.new.numbers (search (rules, places)); references = refl; fields = refl; frames = refl }) refl
 
 pub returns-in-Skip : goal.returns-in-Skip
-returns-in-Skip c lent k shared s task rest tasks none statics blocks h =
+returns-in-Skip c lent k shared s task rest e =
     let f = fetched (goal.at.returns-in-Skip c).After-unwrap-instr in
-    let classes = c.args.world.now.classes in
     let i = c.unwrap-instr.result.now in
     let stack = c.args.call.now.stack in
     let is : ◌≡◌ {A = Answer} (plain_of i stack c.args.call.now.numbers.items) (Some (plain.Skip c.in-Skip.skipped, c.plain.new.stack, c.plain.new.numbers)) =
     ap (plain_of i stack) (sym c.deref_mut-in_default.ensures.value) ∙ c.plain.ensures ∙ ap (λ (o : Plain). let x : Answer = Some (o, c.plain.new.stack, c.plain.new.numbers) in x) c.in-Skip.is in
     let after : Activation = record c.args.call.now { place = c.args.call.now.place + (1 + c.in-Skip.skipped); stack = c.plain.new.stack; numbers = with_items c.args.call.now.numbers c.plain.new.numbers } in
-    plain_executes c.args.program.now classes c.args.heap.now lent k shared statics s c.args.call.now f.code task rest (ready_for _ c.args.heap.now _ _ f (visible_to shared s) task rest h) i f.at tasks
+    plain_executes c.args.program.now c.args.world.now c.args.store.now lent k shared e.store_agrees s c.args.pending.now e.pending_agrees e.viewless c.args.call.now f.code task rest (ready_for _ c.args.world.now.classes c.args.store.now.heap _ _ f (visible_to shared s) s.frames task rest e.stands) i f.at e.tasks
     after Quiet (plain.Skip c.in-Skip.skipped) c.plain.new.stack c.plain.new.numbers is
-    (record { function = refl; place = omega arith; stack = refl; numbers = with_items_is c.args.call.now.numbers c.plain.new.numbers (search (rules, places)); references = refl }) refl
+    (record { function = refl; place = omega arith; stack = refl; numbers = with_items_is c.args.call.now.numbers c.plain.new.numbers (search (rules, places)); references = refl; fields = refl; frames = refl }) refl
 
 pub returns-in-Back : goal.returns-in-Back
-returns-in-Back c lent k shared s task rest tasks none statics blocks h =
+returns-in-Back c lent k shared s task rest e =
     let f = fetched (goal.at.returns-in-Back c).After-unwrap-instr in
-    let classes = c.args.world.now.classes in
     let i = c.unwrap-instr.result.now in
     let stack = c.args.call.now.stack in
     let is : ◌≡◌ {A = Answer} (plain_of i stack c.args.call.now.numbers.items) (Some (plain.Back c.in-Back.back, c.plain.new.stack, c.plain.new.numbers)) =
     ap (plain_of i stack) (sym c.deref_mut-in_default.ensures.value) ∙ c.plain.ensures ∙ ap (λ (o : Plain). let x : Answer = Some (o, c.plain.new.stack, c.plain.new.numbers) in x) c.in-Back.is in
     let after : Activation = record c.args.call.now { place = c.args.call.now.place - c.in-Back.back; stack = c.plain.new.stack; numbers = with_items c.args.call.now.numbers c.plain.new.numbers } in
-    plain_executes c.args.program.now classes c.args.heap.now lent k shared statics s c.args.call.now f.code task rest (ready_for _ c.args.heap.now _ _ f (visible_to shared s) task rest h) i f.at tasks
+    plain_executes c.args.program.now c.args.world.now c.args.store.now lent k shared e.store_agrees s c.args.pending.now e.pending_agrees e.viewless c.args.call.now f.code task rest (ready_for _ c.args.world.now.classes c.args.store.now.heap _ _ f (visible_to shared s) s.frames task rest e.stands) i f.at e.tasks
     after Quiet (plain.Back c.in-Back.back) c.plain.new.stack c.plain.new.numbers is
-    (record { function = refl; place = refl; stack = refl; numbers = with_items_is c.args.call.now.numbers c.plain.new.numbers (search (rules, places)); references = refl }) refl
+    (record { function = refl; place = refl; stack = refl; numbers = with_items_is c.args.call.now.numbers c.plain.new.numbers (search (rules, places)); references = refl; fields = refl; frames = refl }) refl
 
 pub returns-in-Trap : goal.returns-in-Trap
-returns-in-Trap c lent k shared s task rest tasks none statics blocks h =
+returns-in-Trap c lent k shared s task rest e =
     let f = fetched (goal.at.returns-in-Trap c).After-unwrap-instr in
-    let classes = c.args.world.now.classes in
     let i = c.unwrap-instr.result.now in
     let stack = c.args.call.now.stack in
     let is : ◌≡◌ {A = Answer} (plain_of i stack c.args.call.now.numbers.items) (Some (plain.Trap c.in-Trap.trap c.in-Trap.line, c.plain.new.stack, c.plain.new.numbers)) =
     ap (plain_of i stack) (sym c.deref_mut-in_default.ensures.value) ∙ c.plain.ensures ∙ ap (λ (o : Plain). let x : Answer = Some (o, c.plain.new.stack, c.plain.new.numbers) in x) c.in-Trap.is in
     let after : Activation = record c.args.call.now { stack = c.plain.new.stack; numbers = with_items c.args.call.now.numbers c.plain.new.numbers } in
-    plain_executes c.args.program.now classes c.args.heap.now lent k shared statics s c.args.call.now f.code task rest (ready_for _ c.args.heap.now _ _ f (visible_to shared s) task rest h) i f.at tasks
+    plain_executes c.args.program.now c.args.world.now c.args.store.now lent k shared e.store_agrees s c.args.pending.now e.pending_agrees e.viewless c.args.call.now f.code task rest (ready_for _ c.args.world.now.classes c.args.store.now.heap _ _ f (visible_to shared s) s.frames task rest e.stands) i f.at e.tasks
     after (Trapped c.trap_of.result c.in-Trap.line) (plain.Trap c.in-Trap.trap c.in-Trap.line) c.plain.new.stack c.plain.new.numbers is
-    (record { function = refl; place = refl; stack = refl; numbers = with_items_is c.args.call.now.numbers c.plain.new.numbers (search (rules, places)); references = refl }) (c.trap_of.result, c.trap_of.ensures, refl)
+    (record { function = refl; place = refl; stack = refl; numbers = with_items_is c.args.call.now.numbers c.plain.new.numbers (search (rules, places)); references = refl; fields = refl; frames = refl }) (c.trap_of.result, c.trap_of.ensures, refl)

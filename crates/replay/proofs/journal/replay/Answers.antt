@@ -22,8 +22,8 @@ returns-in-Ok-write_run-clause-ok g c =
     record {
       fits = replayed.fits;
       text = _;
-      is = writes (unit_tree c.args.checked.now) c.args.world.now c.args.journal.now c.in-Ok.state replayed;
-      written = rw (c.deref-2.ensures.value, c.in_ok-standings.ensures, c.deref.ensures.value) at c.in-Ok-write_run.ensures.text;
+      is = writes (unit_tree c.args.checked.now) c.args.world.now c.args.journal.now c.in-Ok.state c.in_ok-standings.standings.items replayed c.in_ok-standings.ensures;
+      written = rw (c.deref-2.ensures.value, c.classes.ensures.classes, c.deref.ensures.value) at c.in-Ok-write_run.ensures.text;
     }
 
 pub returns-in-Ok-write_run-clause-trap : goal.returns-in-Ok-write_run-clause-trap
@@ -39,6 +39,6 @@ returns-clause-err g c =
     record {
       fits = replayed.fits;
       text = _;
-      is = writes (unit_tree c.args.checked.now) c.args.world.now c.args.journal.now c.in-Ok.state replayed;
-      stopped = rw (c.deref-2.ensures.value, c.in_ok-standings.ensures, c.deref.ensures.value) at c.in-Err-write_run.ensures.text;
+      is = writes (unit_tree c.args.checked.now) c.args.world.now c.args.journal.now c.in-Ok.state c.in_ok-standings.standings.items replayed c.in_ok-standings.ensures;
+      stopped = rw (c.deref-2.ensures.value, c.classes.ensures.classes, c.deref.ensures.value) at c.in-Err-write_run.ensures.text;
     }

@@ -1,4 +1,8 @@
-use Rattle.std.proofs.Common.{refl, sym}
+use Rattle.std.proofs.Common.{length, refl, sym, ap, ◌∙◌}
+use Rattle.source.specs.Heap.{Heap}
+use Rattle.source.specs.Start.{null_statics}
+use Rattle.source.proofs.ShownRows.{length-loaded}
+use Rattle.tasks.specs.Stores.{shared_with}
 use Rattle.syntax.specs.Views.{unit_tree}
 use Rattle.replay.proofs.LoadLemmas.{refused, no_call, not_some, stand_waiting}
 use Rattle.replay.proofs.load.start.Goals as goal
@@ -10,7 +14,8 @@ returns-clause-stands c =
     let none = no_call (refused unit w.classes w.threads) c.in_ok-line.field-0 c.in_ok-line.ensures (not_some c.in_ok-line.field-0 c.in_default.not-Some) in
     record {
       world = refl;
-      shared = refl;
+      shared = ap (shared_with (null_statics unit)) (sym c.in_ok-loaded_store.ensures);
+      count = ap (λ (h : Heap). length h) c.in_ok-loaded_store.ensures ∙ length-loaded w;
       threads = stand_waiting unit w.classes c.in_ok-waiting_threads.field-0.items c.args.world.now.threads c.in_ok-waiting_threads.ensures.waiting none;
       printed = sym c.new.ensures.items;
       stop = refl;

@@ -1,6 +1,7 @@
 use Rattle.std.proofs.Common.{◌≡◌, ℕ, ◌-◌, ◌≤◌, length, get_or, Some, refl, sym, ap, ◌∙◌, subst, arith}
 use Rattle.std.specs.Prelude.{Vec as RawVec, slice_get, vec_len}
 use Rattle.std.specs.Global.{Vec}
+use Rattle.source.specs.Heap.{Heap}
 use Rattle.source.specs.World.{World}
 use Rattle.std.proofs.lemmas.Option.{slice_get_read}
 use Rattle.syntax.specs.Views.{unit_tree}
@@ -27,10 +28,10 @@ returns-then-len-k-clause-step c = λ w s h.
 thread_there : {A : Type 0} (v : RawVec Thread A) (n k : ℕ) (t : Thread) → (n ≡ 0 → ⊥) → n ≤ k → k ≡ vec_len v → t ≡ get_or v.items (n - 1) t → slice_get v.items (n - 1) ≡ Some t
 thread_there v n k t low high all h = slice_get_read v.items (length v.items) (n - 1) t refl (omega arith) h
 
-pub returns-then-thread-clause-step : goal.returns-then-thread-clause-step
-returns-then-thread-clause-step c = λ w s h.
+pub returns-then-not-is_unfinished-clause-step : goal.returns-then-not-is_unfinished-clause-step
+returns-then-not-is_unfinished-clause-step c = λ w s h.
     let at = thread_there c.args.state.now.threads c.from-k.result c.len.result c.index_mut-thread.result.now c.if-k-eq0.false c.if-len-k.false c.len.ensures c.index_mut-thread.ensures.value in
-    ended (unit_tree c.args.items.now) w c.args.state.now s h c.requires.range c.args.entry (c.from-k.result - 1) c.index_mut-thread.result.now (omega arith) at c.if-thread.true
+    ended (unit_tree c.args.items.now) w c.args.state.now s h c.requires.range c.args.entry (c.from-k.result - 1) c.index_mut-thread.result.now (omega arith) at (sym c.is_unfinished.ensures ∙ c.if-not-is_unfinished.true)
 
 pub take_step-requires-clause-range : goal.take_step-requires-clause-range
 take_step-requires-clause-range c =
@@ -40,10 +41,15 @@ take_step-requires-clause-range c =
 pub returns-clause-step : goal.returns-clause-step
 returns-clause-step c = λ w s h.
     let at = thread_there c.args.state.now.threads c.from-k.result c.len.result c.index_mut-thread.result.now c.if-k-eq0.false c.if-len-k.false c.len.ensures c.index_mut-thread.ensures.value in
-    let step = subst (λ (v : World). TakesStep (unit_tree c.args.items.now) v c.index_mut-thread.result.now c.in_ok-step.step c.take_step.new.thread) (sym h.world) c.in_ok-step.ensures.step in
-    rw c.in_ok-possible.ensures.possible (takes (unit_tree c.args.items.now) w c.args.state.now s h c.requires.range c.args.entry (c.from-k.result - 1) c.index_mut-thread.result.now c.take_step.new.thread c.in_ok-step.step c.note.new.state
-    (omega arith) c.if-entry.false at c.if-thread.false (sym c.is_some.ensures ∙ c.if-is_some.false) step
-    c.in_ok-possible.ensures.noted.world (ap (λ (v : Vec Thread). v.items) c.in_ok-possible.ensures.noted.threads) c.in_ok-possible.ensures.noted.printed c.in_ok-possible.ensures.noted.stop)
+    let unit = unit_tree c.args.items.now in
+    let m = c.args.state.now in
+    let noted = c.in_ok-possible.ensures.noted in
+    let step = subst (λ (v : World). TakesStep unit v.classes m.store c.index_mut-thread.result.now c.in_ok-step.step c.note.new.state.store c.take_step.new.thread) (sym h.world)
+    (subst (λ (heap : Heap). TakesStep unit m.world.now.classes m.store c.index_mut-thread.result.now c.in_ok-step.step heap c.take_step.new.thread) (sym noted.store) c.in_ok-step.ensures.step) in
+    let count = ap (λ (heap : Heap). length heap) noted.store ∙ c.in_ok-step.ensures.count in
+    rw c.in_ok-possible.ensures.possible (takes unit w m s h c.requires.range c.args.entry (c.from-k.result - 1) c.index_mut-thread.result.now c.take_step.new.thread c.in_ok-step.step c.note.new.state
+    (omega arith) c.if-entry.false at (sym c.is_unfinished.ensures ∙ c.if-not-is_unfinished.false) (sym c.is_some.ensures ∙ c.if-is_some.false) step count
+    noted.world (ap (λ (v : Vec Thread). v.items) noted.threads) noted.printed noted.stop)
 
 pub returns-clause-range : goal.returns-clause-range
 returns-clause-range c =

@@ -1,16 +1,32 @@
+use Rattle.std.proofs.Common.{subst}
+use Rattle.classes.specs.Class.{Classes}
 use Rattle.syntax.specs.Views.{unit_tree}
+use Rattle.tasks.specs.Activations.{Advances}
+use Rattle.tasks.specs.declared.outcome.Outcome.{Outcome}
 use Rattle.replay.proofs.ThreadLemmas.{goes, returns}
 use Rattle.replay.proofs.thread.take_step.Goals as goal
 
 pub returns-in-Returned-clause-step : goal.returns-in-Returned-clause-step
-returns-in-Returned-clause-step c = λ s shared lent k h live loaded.
-    rw c.leave.ensures (returns (unit_tree c.args.items.now) c.args.world.now shared lent k c.args.thread.now c.in-Some.activation c.advance.new.activation s c.in-Some.is h loaded
-    (rw c.in-Returned.is at c.in_ok-outcome.ensures.step))
+returns-in-Returned-clause-step c = λ s lent k h live.
+    let unit = unit_tree c.args.items.now in
+    let heap = c.args.store.now in
+    let after = c.advance.new.store in
+    let a = c.in-Some.activation in
+    let new = c.advance.new.activation in
+    let does = subst (λ (T : Classes). Advances unit T heap a c.in_ok-outcome.outcome after new) c.classes.ensures.classes c.in_ok-outcome.ensures.step in
+    returns unit c.args.world.now.classes lent k heap after c.args.thread.now a new s c.in-Some.is h c.leave.new.thread
+    (subst (λ (o : Outcome). Advances unit c.args.world.now.classes heap a o after new) c.in-Returned.is does) c.leave.ensures.activation c.leave.ensures.ending c.leave.ensures.calls
 
 pub returns-in_default-2 : goal.returns-in_default-2
 returns-in_default-2 c = record {
-  step = λ s shared lent k h live loaded.
-      rw c.step_of.ensures (goes (unit_tree c.args.items.now) c.args.world.now shared lent k c.args.thread.now c.in-Some.activation c.advance.new.activation s c.in-Some.is h loaded
-      c.in_ok-outcome.outcome c.in_default-2.not-Returned c.in_ok-outcome.ensures.step);
+  step = λ s lent k h live.
+      let unit = unit_tree c.args.items.now in
+      let heap = c.args.store.now in
+      let after = c.advance.new.store in
+      let a = c.in-Some.activation in
+      let new = c.advance.new.activation in
+      let does = subst (λ (T : Classes). Advances unit T heap a c.in_ok-outcome.outcome after new) c.classes.ensures.classes c.in_ok-outcome.ensures.step in
+      rw c.step_of.ensures (goes unit c.args.world.now.classes lent k heap after c.args.thread.now a new s c.in-Some.is h c.in_ok-outcome.outcome c.in_default-2.not-Returned does);
+  count = c.in_ok-outcome.ensures.count;
   range = c.in_ok-outcome.ensures.range;
 }

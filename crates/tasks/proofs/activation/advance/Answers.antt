@@ -3,36 +3,43 @@ use Rattle.syntax.specs.Views.{unit_tree}
 use Rattle.source.specs.Start.{null_statics}
 use Rattle.terms.specs.declared.variable.Variable.{Variable}
 use Rattle.tasks.specs.Outcomes.{variable_step, LeavesIf}
-use Rattle.tasks.specs.Steps.{Does}
-use Rattle.terms.specs.Views.{variables_view}
+use Rattle.tasks.specs.Steps.{Does, scene_with}
+use Rattle.tasks.specs.Stores.{frame_view}
 use Rattle.tasks.proofs.ActivationLemmas.{begun_before, fails, advances, range_after}
 use Rattle.tasks.proofs.CallLemmas.{if_ok}
 use Rattle.tasks.proofs.activation.advance.Goals as goal
 
 pub returns-in_default-clause-step : goal.returns-in_default-clause-step
 returns-in_default-clause-step c =
+    let unit = unit_tree c.args.items.now in
+    let classes = c.args.classes.now in
+    let heap = c.args.store.now in
     if_ok c.leave_block.result
-    (λ o does. begun_before (unit_tree c.args.items.now) c.args.world.now c.args.activation.now c.begin.new.activation o c.leave_block.new.activation c.in_ok-begin.ensures.tasks c.in_ok-begin.ensures.variables
-    (does (unit_tree c.args.items.now) c.args.world.now))
+    (λ o does. begun_before unit classes heap c.args.activation.now c.begin.new.activation o heap c.leave_block.new.activation c.in_ok-begin.ensures.tasks c.in_ok-begin.ensures.kept
+    (does unit classes heap))
     c.leave_block.ensures.step
 
 pub returns-then-not-done-clause-step : goal.returns-then-not-done-clause-step
 returns-then-not-done-clause-step c =
     let unit = unit_tree c.args.items.now in
-    let w = c.args.world.now in
+    let classes = c.args.classes.now in
+    let heap = c.args.store.now in
     let begun = c.begin.new.activation in
-    let does = subst (λ (vs : List Variable). Does w (variables_view vs) (null_statics unit) c.in-Some.task c.in_ok-outcome.outcome c.step.new.task) c.deref.ensures.value c.in_ok-outcome.ensures.step in
+    let frame = frame_view begun.frame in
+    let does = subst (λ (vs : List Variable). Does (scene_with unit classes heap vs frame begun.pending) c.in-Some.task c.in_ok-outcome.outcome c.step.new.task) c.deref.ensures.value (c.in_ok-outcome.ensures.step frame) in
     let none = subst (λ (b : Bool). LeavesIf (null_statics unit) begun.variables.items (variable_step c.in_ok-outcome.outcome) b c.set_variables.new.variables.items) c.if-not-done.true c.in_ok-done.ensures in
-    fails unit w c.args.activation.now begun c.in-Some.task c.step.new.task c.set_variables.new.variables begun c.in_ok-begin.ensures.tasks c.in_ok-begin.ensures.variables c.in-Some.is c.in_ok-outcome.outcome does none
+    fails unit classes heap c.args.activation.now begun c.in-Some.task c.step.new.task c.set_variables.new.variables begun c.in_ok-begin.ensures.tasks c.in_ok-begin.ensures.kept c.in-Some.is c.in_ok-outcome.outcome does none
 
 pub returns-clause-step : goal.returns-clause-step
 returns-clause-step c =
     let unit = unit_tree c.args.items.now in
-    let w = c.args.world.now in
+    let classes = c.args.classes.now in
+    let heap = c.args.store.now in
     let begun = c.begin.new.activation in
-    let does = subst (λ (vs : List Variable). Does w (variables_view vs) (null_statics unit) c.in-Some.task c.in_ok-outcome.outcome c.step.new.task) c.deref.ensures.value c.in_ok-outcome.ensures.step in
+    let frame = frame_view begun.frame in
+    let does = subst (λ (vs : List Variable). Does (scene_with unit classes heap vs frame begun.pending) c.in-Some.task c.in_ok-outcome.outcome c.step.new.task) c.deref.ensures.value (c.in_ok-outcome.ensures.step frame) in
     let leaves = subst (λ (b : Bool). LeavesIf (null_statics unit) begun.variables.items (variable_step c.in_ok-outcome.outcome) b c.set_variables.new.variables.items) c.if-not-done.false c.in_ok-done.ensures in
-    advances unit w c.args.activation.now begun c.in-Some.task c.step.new.task c.set_variables.new.variables c.set_tasks.new.activation c.in_ok-begin.ensures.tasks c.in_ok-begin.ensures.variables c.in-Some.is
+    advances unit classes heap c.args.activation.now begun c.in-Some.task c.step.new.task c.set_variables.new.variables c.set_tasks.new.activation c.in_ok-begin.ensures.tasks c.in_ok-begin.ensures.kept c.in-Some.is
     c.in_ok-outcome.outcome does leaves c.in_ok-set_tasks.ensures
 
 pub returns-clause-range : goal.returns-clause-range

@@ -12,10 +12,10 @@ term_of-requires c =
     turn.0
 
 pub returns-in-If-clause-step : goal.returns-in-If-clause-step
-returns-in-If-clause-step c = λ unit w.
+returns-in-If-clause-step c = λ unit classes heap.
     let old = c.args.activation.now in
     let new : Activation = record old { rest = c.in-Some.outer.rest; outer = c.pop.new.self } in
-    if_over unit w old new c.requires.task c.requires.rest c.pop.new.self.items c.in-Some.outer c.in-Some.ensures.items refl refl refl c.in-If.is c.requires.task
+    if_over unit classes heap old new c.requires.task c.requires.rest c.pop.new.self.items c.in-Some.outer c.in-Some.ensures.items refl refl (record { variables = refl; frame = refl; pending = refl }) c.in-If.is c.requires.task
 
 pub returns-in-If-clause-range : goal.returns-in-If-clause-range
 returns-in-If-clause-range c =
@@ -23,10 +23,10 @@ returns-in-If-clause-range c =
     record { begun = c.requires.range.begun; rest = parts.2; outer = parts.0 }
 
 pub returns-in_ok-term-in-Turn-clause-step : goal.returns-in_ok-term-in-Turn-clause-step
-returns-in_ok-term-in-Turn-clause-step c = λ unit w.
+returns-in_ok-term-in-Turn-clause-step c = λ unit classes heap.
     let old = c.args.activation.now in
     let new : Activation = record old { task = c.put_task.new.place; rest = c.in-Some.outer.rest; outer = c.pop.new.self } in
-    turn_over unit w old new c.requires.task c.requires.rest c.pop.new.self.items c.in-Some.outer c.in-Some.ensures.items refl refl refl
+    turn_over unit classes heap old new c.requires.task c.requires.rest c.pop.new.self.items c.in-Some.outer c.in-Some.ensures.items refl refl (record { variables = refl; frame = refl; pending = refl })
     c.in-Turn.line c.in-Turn.test c.in_ok-term-in-Turn.term c.in-Turn.body c.in-Turn.is c.put_task.ensures c.in_ok-term-in-Turn.ensures.view
 
 pub returns-in_ok-term-in-Turn-clause-range : goal.returns-in_ok-term-in-Turn-clause-range

@@ -16,7 +16,7 @@ invariant_of-self-2 c =
     let broken = λ (t : Classes) (o : Option ℕ). first_broken (λ rule. field_breaks rule t o c.args.name.now c.args.signature.now) in
     let right = ap (λ t. broken t (Some ((c.in-Some.class - 1) + 1))) c.self.view_is ∙ ap (λ n. broken c.args.self.now (Some n)) place ∙ ap (broken c.args.self.now) (sym c.in-Some.is) ∙ c.in_ok-field_type.ensures.0 in
     subst IsTable (sym c.in_ok-put_field.ensures)
-    (declared-table T ((c.in-Some.class - 1) + 1) (field_view (record { name = c.in_ok-name.name; field_type = c.in_ok-field_type.field_type })) c.args.name.now c.args.signature.now c.args.is_static (omega arith) right c.self.invariant)
+    (declared-table T ((c.in-Some.class - 1) + 1) (field_view (record { name = c.in_ok-name.name; field_type = c.in_ok-field_type.field_type })) c.args.name.now c.args.signature.now c.args.is_static (omega arith) c.in_ok-name.ensures.items right c.self.invariant)
 
 pub returns-clause-grown : goal.returns-clause-grown
 returns-clause-grown c = λ g.

@@ -1,32 +1,38 @@
 use Rattle.std.proofs.Common.{◌≡◌, ℕ, suc, ◌-◌, ◌<◌, ◌≤◌, true, false, Option, Some, None, [], ◌∷◌, ◌++◌, List, length, get_or, refl, sym, ap, ◌∙◌, subst, arith}
 use Rattle.std.specs.Prelude.{slice_get, is_some, Result, Ok, Err, OnErr}
 use Rattle.std.proofs.lemmas.Option.{slice_get_read}
-use denote.Enum.Bare.{sameb}
 use Rattle.source.specs.declared.journal.Entry.{Entry}
 use Rattle.heap.specs.Heap.{left_of}
 use Rattle.machine.specs.declared.thread.Ending.{Ending}
-use Rattle.machine.specs.declared.thread.Ending.TheVariants.{Unfinished, Ended}
-use Rattle.machine.specs.contracts.thread.Ending.{the_type}
+use Rattle.machine.specs.declared.thread.Ending.TheVariants.{Unfinished, Ended, Uncaught}
 use Rattle.machine.specs.declared.stop.Stop.{Stop}
 use Rattle.machine.specs.declared.thread.Thread.{Thread}
-use Rattle.machine.specs.Run.{Run, InState, CouldStep, replay_of, entry_of, printed_after, can_turn, stepped}
-use Rattle.machine.specs.Agrees.{ThreadAgrees}
-use Rattle.machine.proofs.Steps.{AdvancesAlways, the_thread, can_turn_here, has_ended, steps_on}
+use Rattle.machine.specs.Run.{has_ended as ended, Run, InState, CouldStep, replay_of, entry_of, refused_entry_of, printed_after, can_turn, stepped, refused}
+use Rattle.source.specs.Thread.{BuffersInUse, Shared, Thread as SourceThread}
+use Rattle.source.specs.World.{World, loaded_objects}
+use Rattle.lower.specs.Lowered.{Lowered}
+use Rattle.machine.specs.declared.store.Store.{Store}
+use Rattle.machine.specs.declared.thread.Advanced.{Advanced}
+use Rattle.machine.specs.declared.thread.Event.TheVariants.{Quiet}
+use Rattle.machine.specs.Agrees.{StoreAgrees, ThreadAgrees, AdvancesBy}
+use Rattle.machine.proofs.Steps.{the_thread, can_turn_here, has_ended, steps_on}
 use Rattle.machine.proofs.machine.Machine.step.Goals as goal
-use Rattle.machine.proofs.machine.Machine.step.Goals.{After-eq}
+use Rattle.machine.proofs.machine.Machine.step.Goals.{After-has_ended}
 
 -- the machine hasn't stopped
 goes_on : (o : Option Stop) → is_some o ≡ false → o ≡ None
 goes_on None h = refl
 goes_on (Some x) h = absurd (cc)
 
-is_live : (e : Ending) → false ≡ sameb the_type e Ended → e ≡ Unfinished
+is_live : (e : Ending) → ended e ≡ false → e ≡ Unfinished
 is_live Unfinished h = refl
 is_live Ended h = absurd (cc)
+is_live (Uncaught class) h = absurd (cc)
 
-is_ended : (e : Ending) → true ≡ sameb the_type e Ended → e ≡ Ended
-is_ended Unfinished h = absurd (cc)
-is_ended Ended h = refl
+is_over : (e : Ending) → ended e ≡ true → e ≡ Unfinished → ⊥
+is_over Unfinished h same = absurd (cc)
+is_over Ended h same = cc
+is_over (Uncaught class) h same = cc
 
 -- thread k is the one at k - 1
 thread_there : (ts : List Thread) (k n count : ℕ) (t : Thread) → n ≡ k → 0 < k → k ≤ count → length ts ≡ count → t ≡ get_or ts (n - 1) t → slice_get ts (n - 1) ≡ Some t
@@ -41,35 +47,35 @@ threads_of a b threads h e = h ∙ ap (λ (r : Run). length r.world.threads) e
 
 -- ---- what is known once thread k was looked at
 
-there : (c : After-eq) (t : Thread) → t ≡ get_or c.self.inside.threads.items (c.from-index.result - 1) t → slice_get c.self.inside.threads.items (c.from-index.result - 1) ≡ Some t
+there : (c : After-has_ended) (t : Thread) → t ≡ get_or c.self.inside.threads.items (c.from-index.result - 1) t → slice_get c.self.inside.threads.items (c.from-index.result - 1) ≡ Some t
 there c t h = thread_there c.self.inside.threads.items c.args.k c.from-index.result _ t c.from-index.ensures c.requires.counted c.requires.is_thread (threads_of _ _ _ c.self.invariant.count c.self.view_is) h
 
-number : (c : After-eq) → c.args.k ≡ suc (c.from-index.result - 1)
+number : (c : After-has_ended) → c.args.k ≡ suc (c.from-index.result - 1)
 number c = counted c.args.k c.from-index.result c.from-index.ensures c.requires.counted
 
-running : (c : After-eq) → c.self.inside.stop ≡ None
+running : (c : After-has_ended) → c.self.inside.stop ≡ None
 running c = goes_on c.self.inside.stop (sym c.is_some.ensures ∙ c.if-is_some.false)
 
-replays : (c : After-eq) → replay_of c.args.self.now ≡ Some c.self.invariant.state
+replays : (c : After-has_ended) → replay_of c.args.self.now ≡ Some c.self.invariant.state
 replays c = subst (λ (r : Run). replay_of r ≡ Some c.self.invariant.state) c.self.view_is c.self.invariant.replays
 
 -- it can step where it hasn't ended
-can_step : (c : After-eq) → c.index.result.now.ending ≡ Unfinished → InState c.args.self.now (λ s. can_turn c.args.self.now s c.args.k ≡ true)
+can_step : (c : After-has_ended) → c.index.result.now.ending ≡ Unfinished → InState c.args.self.now (λ s. can_turn c.args.self.now s c.args.k ≡ true)
 can_step c live = (
   c.self.invariant.state,
   replays c,
   subst (λ (r : Run). can_turn r c.self.invariant.state c.args.k ≡ true) c.self.view_is
-      (can_turn_here _ _ _ _ _ _ _ _ c.self.invariant c.args.k (c.from-index.result - 1) c.index.result.now (number c) (there c c.index.result.now c.index.ensures) (running c) live),
+      (can_turn_here _ _ _ _ _ _ _ c.self.invariant c.args.k (c.from-index.result - 1) c.index.result.now (number c) (there c c.index.result.now c.index.ensures) (running c) live),
 )
 
-pub returns-then-eq-clause-turn : goal.returns-then-eq-clause-turn
-returns-then-eq-clause-turn c =
-    let a = (goal.at.returns-then-eq-clause-turn c).After-eq in (
+pub returns-then-has_ended-clause-turn : goal.returns-then-has_ended-clause-turn
+returns-then-has_ended-clause-turn c =
+    let a = (goal.at.returns-then-has_ended-clause-turn c).After-has_ended in (
       refl,
       (
         c.self.invariant.state,
         replays a,
-        has_ended _ _ _ _ _ _ _ _ c.self.invariant c.args.k (c.from-index.result - 1) c.index.result.now (number a) (there a c.index.result.now c.index.ensures) (running a) (is_ended _ c.if-eq.ensures),
+        has_ended _ _ _ _ _ _ _ c.self.invariant c.args.k (c.from-index.result - 1) c.index.result.now (number a) (there a c.index.result.now c.index.ensures) (running a) (is_over _ (sym c.has_ended.ensures ∙ c.if-has_ended.true)),
       ),
     )
 
@@ -78,31 +84,35 @@ returns-then-len-ge-MOST_ENTRIES-clause-turn c =
     let full : 1000000 ≤ length c.self.inside.journal.items = omega (arith, c.len.ensures) in (
       refl,
       subst (λ (r : Run). 1000000 ≤ length r.journal) c.self.view_is full,
-      can_step (goal.at.returns-then-len-ge-MOST_ENTRIES-clause-turn c).After-eq (is_live _ c.if-eq.ensures),
+      can_step (goal.at.returns-then-len-ge-MOST_ENTRIES-clause-turn c).After-has_ended (is_live _ (sym c.has_ended.ensures ∙ c.if-has_ended.false)),
     )
 
 -- ---- where the journal has room
 
-could_step : (c : After-eq) → length c.self.inside.journal.items < 1000000 → c.index.result.now.ending ≡ Unfinished → CouldStep c.args.self.now c.args.k
+could_step : (c : After-has_ended) → length c.self.inside.journal.items < 1000000 → c.index.result.now.ending ≡ Unfinished → CouldStep c.args.self.now c.args.k
 could_step c room live = (subst (λ (r : Run). length r.journal < 1000000) c.self.view_is room, can_step c live)
 
 -- the thread could step, and with this journal the machine is seen as it was
-err_so : {T E : Type 0} (c : After-eq) (journal : List Entry) (r : Result T E) → journal ≡ c.self.inside.journal.items → length c.self.inside.journal.items < 1000000 → c.index.result.now.ending ≡ Unfinished
-    → OnErr r ((◌≡◌ {A = Run} (record { unit = c.self.inside.program.unit; world = c.self.inside.world; journal = journal; left = left_of c.self.inside.heap }) c.args.self.now) × CouldStep c.args.self.now c.args.k)
-err_so c journal (Ok x) same room live = tt
-err_so c journal (Err e) same room live = (ap (λ (j : List Entry). let r : Run = record { unit = c.self.inside.program.unit; world = c.self.inside.world; journal = j; left = left_of c.self.inside.heap } in r) same ∙ c.self.view_is, could_step c room live)
+err_so : {T E : Type 0} (c : After-has_ended) (journal : List Entry) (store : Store) (r : Result T E) → journal ≡ c.self.inside.journal.items → store ≡ c.self.inside.store → length c.self.inside.journal.items < 1000000 → c.index.result.now.ending ≡ Unfinished
+    → OnErr r ((◌≡◌ {A = Run} (record { unit = c.self.inside.program.unit; world = c.self.inside.world; journal = journal; left = left_of store.heap }) c.args.self.now) × CouldStep c.args.self.now c.args.k)
+err_so c journal store (Ok x) same kept room live = tt
+err_so c journal store (Err e) same kept room live = (
+  ap (λ (j : List Entry). let r : Run = record { unit = c.self.inside.program.unit; world = c.self.inside.world; journal = j; left = left_of store.heap } in r) same
+      ∙ ap (λ (h : Store). let r : Run = record { unit = c.self.inside.program.unit; world = c.self.inside.world; journal = c.self.inside.journal.items; left = left_of h.heap } in r) kept ∙ c.self.view_is,
+  could_step c room live,
+)
 
 pub returns-in_err-reserve-clause-err : goal.returns-in_err-reserve-clause-err
 returns-in_err-reserve-clause-err c =
-    err_so (goal.at.returns-in_err-reserve-clause-err c).After-eq _ _ c.reserve.ensures.items (omega (arith, c.len.ensures, c.if-len-ge-MOST_ENTRIES.false)) (is_live _ c.if-eq.ensures)
+    err_so (goal.at.returns-in_err-reserve-clause-err c).After-has_ended _ c.self.inside.store _ c.reserve.ensures.items refl (omega (arith, c.len.ensures, c.if-len-ge-MOST_ENTRIES.false)) (is_live _ (sym c.has_ended.ensures ∙ c.if-has_ended.false))
 
 pub returns-in_err-reserve-2-clause-err : goal.returns-in_err-reserve-2-clause-err
 returns-in_err-reserve-2-clause-err c =
-    err_so (goal.at.returns-in_err-reserve-2-clause-err c).After-eq _ _ c.reserve.ensures.items (omega (arith, c.len.ensures, c.if-len-ge-MOST_ENTRIES.false)) (is_live _ c.if-eq.ensures)
+    err_so (goal.at.returns-in_err-reserve-2-clause-err c).After-has_ended _ c.self.inside.store _ c.reserve.ensures.items refl (omega (arith, c.len.ensures, c.if-len-ge-MOST_ENTRIES.false)) (is_live _ (sym c.has_ended.ensures ∙ c.if-has_ended.false))
 
-pub returns-in_err-event-clause-err : goal.returns-in_err-event-clause-err
-returns-in_err-event-clause-err c =
-    err_so (goal.at.returns-in_err-event-clause-err c).After-eq _ _ c.reserve.ensures.items (omega (arith, c.len.ensures, c.if-len-ge-MOST_ENTRIES.false)) (is_live _ c.if-eq.ensures)
+pub returns-in_err-advanced-clause-err : goal.returns-in_err-advanced-clause-err
+returns-in_err-advanced-clause-err c =
+    err_so (goal.at.returns-in_err-advanced-clause-err c).After-has_ended _ c.advance.new.store _ c.reserve.ensures.items c.in_err-advanced.ensures.store (omega (arith, c.len.ensures, c.if-len-ge-MOST_ENTRIES.false)) (is_live _ (sym c.has_ended.ensures ∙ c.if-has_ended.false))
 
 -- the thread that steps is the one that was looked at
 same_thread : (ts : List Thread) (i : ℕ) (a b : Thread) → slice_get ts i ≡ Some a → slice_get ts i ≡ Some b → a.ending ≡ Unfinished → b.ending ≡ Unfinished
@@ -110,34 +120,67 @@ same_thread ts i a b e f live = let same : a ≡ b = cc in ap (λ (t : Thread). 
 
 pub advance-requires-clause-agrees : goal.advance-requires-clause-agrees
 advance-requires-clause-agrees c =
-    let a = (goal.at.advance-requires-clause-agrees c).After-eq in
+    let a = (goal.at.advance-requires-clause-agrees c).After-has_ended in
     let seen = there a c.index.result.now c.index.ensures in
     let at = there a c.index_mut.result.now c.index_mut.ensures.value in
-    let f = the_thread _ _ _ _ _ _ _ _ c.self.invariant c.args.k (c.from-index.result - 1) c.index_mut.result.now (number a) at in
-    let agrees = subst (λ (l : List ℕ). ThreadAgrees c.self.inside.program c.self.inside.world.classes c.self.inside.heap (length l) c.self.invariant.state.shared c.index_mut.result.now f.source) (sym c.deref.ensures.value) f.agrees in
-    (c.self.invariant.state.shared, f.source, agrees, same_thread c.self.inside.threads.items (c.from-index.result - 1) _ _ seen at (is_live _ c.if-eq.ensures))
+    let f = the_thread _ _ _ _ _ _ _ c.self.invariant c.args.k (c.from-index.result - 1) c.index_mut.result.now (number a) at in
+    (c.self.invariant.state.shared, f.source, c.self.invariant.store_agrees, f.agrees, same_thread c.self.inside.threads.items (c.from-index.result - 1) _ _ seen at (is_live _ (sym c.has_ended.ensures ∙ c.if-has_ended.false)))
+
+-- what the thread did, whatever state it stands for
+abbrev Always : Lowered → World → (store store' : Store) → Thread → Thread → Advanced → Type 0
+Always p w store store' t after x =
+    (lent : BuffersInUse) (k : ℕ) (shared : Shared) (s : SourceThread) → StoreAgrees p w store shared → ThreadAgrees p w.classes store.heap (length (loaded_objects w)) shared t s
+    → AdvancesBy p w store.heap store' lent k shared s after x
 
 -- the journal has one more entry
-one_more : (c : goal.After-unwrap) → c.push.new.self.items ≡ c.self.inside.journal.items ++ entry_of c.args.k ∷ []
-one_more c = (rw c.unwrap.ensures at c.push.ensures.items) ∙ ap (λ (j : List Entry). j ++ entry_of c.args.k ∷ []) c.reserve.ensures.items
+one_more : (old before after : List Entry) (e : Entry) → after ≡ before ++ e ∷ [] → before ≡ old → after ≡ old ++ e ∷ []
+one_more old before after e written kept = written ∙ ap (λ (j : List Entry). j ++ e ∷ []) kept
 
-pub invariant_of-self-2 : goal.invariant_of-self-2
-invariant_of-self-2 c =
-    let a = (goal.at.invariant_of-self-2 c).After-eq in
+pub invariant_of-self-in-Did : goal.invariant_of-self-in-Did
+invariant_of-self-in-Did c =
+    let a = (goal.at.invariant_of-self-in-Did c).After-has_ended in
+    let i = c.self.inside in
     let seen = there a c.index.result.now c.index.ensures in
     let at = there a c.index_mut.result.now c.index_mut.ensures.value in
-    let advances = subst (λ (l : List ℕ). AdvancesAlways c.self.inside.program c.self.inside.world.classes c.self.inside.heap l c.index_mut.result.now c.advance.new.thread c.in_ok-event.event) c.deref.ensures.value c.in_ok-event.ensures.advances in
-    let live = same_thread c.self.inside.threads.items (c.from-index.result - 1) _ _ seen at (is_live _ c.if-eq.ensures) in
-    let s = steps_on _ _ _ _ _ _ _ _ c.self.invariant c.args.k (c.from-index.result - 1) c.index_mut.result.now (number a) at c.advance.new.thread c.in_ok-event.event (running a) live advances in
-    let printed : c.note.new.printed.items ≡ printed_after c.self.inside.printed.items c.args.k c.in_ok-event.event = c.note.ensures.printed ∙ ap (λ l. printed_after l c.args.k c.in_ok-event.event) c.reserve-2.ensures.items in
-    rw (printed, c.note.ensures.stop, one_more c) s
+    let live = same_thread i.threads.items (c.from-index.result - 1) _ _ seen at (is_live _ (sym c.has_ended.ensures ∙ c.if-has_ended.false)) in
+    let always = subst (λ (x : Advanced). Always i.program i.world i.store c.advance.new.store c.index_mut.result.now c.advance.new.thread x) c.in-Did.is c.in_ok-advanced.ensures.advances in
+    let s = steps_on _ _ _ _ _ _ _ c.self.invariant c.args.k (c.from-index.result - 1) c.index_mut.result.now (number a) at c.advance.new.store c.advance.new.thread false c.in-Did.event (running a) live always in
+    let printed : c.note.new.printed.items ≡ printed_after i.printed.items c.args.k c.in-Did.event = c.note.ensures.printed ∙ ap (λ l. printed_after l c.args.k c.in-Did.event) c.reserve-2.ensures.items in
+    let journal = one_more i.journal.items c.reserve.new.self.items c.write_down.new.journal.items (entry_of c.args.k) c.write_down.ensures c.reserve.ensures.items in
+    rw (printed, c.note.ensures.stop, journal) s
 
-pub returns-clause-turn : goal.returns-clause-turn
-returns-clause-turn c =
-    let i = c.self.inside in (
-      subst (λ (r : Run). ◌≡◌ {A = Run} (record { unit = i.program.unit; world = i.world; journal = c.push.new.self.items; left = left_of i.heap }) (stepped r c.args.k (left_of i.heap))) c.self.view_is (ap (λ (j : List Entry). let r : Run = record { unit = i.program.unit; world = i.world; journal = j; left = left_of i.heap } in r) (one_more c)),
-      could_step (goal.at.returns-clause-turn c).After-eq (omega (arith, c.len.ensures, c.if-len-ge-MOST_ENTRIES.false)) (is_live _ c.if-eq.ensures),
+pub invariant_of-self-in-Refused : goal.invariant_of-self-in-Refused
+invariant_of-self-in-Refused c =
+    let a = (goal.at.invariant_of-self-in-Refused c).After-has_ended in
+    let i = c.self.inside in
+    let seen = there a c.index.result.now c.index.ensures in
+    let at = there a c.index_mut.result.now c.index_mut.ensures.value in
+    let live = same_thread i.threads.items (c.from-index.result - 1) _ _ seen at (is_live _ (sym c.has_ended.ensures ∙ c.if-has_ended.false)) in
+    let always = subst (λ (x : Advanced). Always i.program i.world i.store c.advance.new.store c.index_mut.result.now c.advance.new.thread x) c.in-Refused.is c.in_ok-advanced.ensures.advances in
+    let s = steps_on _ _ _ _ _ _ _ c.self.invariant c.args.k (c.from-index.result - 1) c.index_mut.result.now (number a) at c.advance.new.store c.advance.new.thread true Quiet (running a) live always in
+    let journal = one_more i.journal.items c.reserve.new.self.items c.write_down-in-Refused.new.journal.items (refused_entry_of c.args.k) c.write_down-in-Refused.ensures c.reserve.ensures.items in
+    rw (c.reserve-2.ensures.items, journal) s
+
+pub returns-in-Did-clause-turn : goal.returns-in-Did-clause-turn
+returns-in-Did-clause-turn c =
+    let i = c.self.inside in
+    let left : ℕ = left_of c.advance.new.store.heap in
+    let journal = one_more i.journal.items c.reserve.new.self.items c.write_down.new.journal.items (entry_of c.args.k) c.write_down.ensures c.reserve.ensures.items in (
+      subst (λ (r : Run). ◌≡◌ {A = Run} (record { unit = i.program.unit; world = i.world; journal = c.write_down.new.journal.items; left = left }) (stepped r c.args.k left)) c.self.view_is (ap (λ (j : List Entry). let r : Run = record { unit = i.program.unit; world = i.world; journal = j; left = left } in r) journal),
+      could_step (goal.at.returns-in-Did-clause-turn c).After-has_ended (omega (arith, c.len.ensures, c.if-len-ge-MOST_ENTRIES.false)) (is_live _ (sym c.has_ended.ensures ∙ c.if-has_ended.false)),
     )
 
-pub returns-clause-runs : goal.returns-clause-runs
-returns-clause-runs c = rw (invariant_of-self-2 c).replays refl
+pub returns-in-Refused-clause-turn : goal.returns-in-Refused-clause-turn
+returns-in-Refused-clause-turn c =
+    let i = c.self.inside in
+    let left : ℕ = left_of c.advance.new.store.heap in
+    let journal = one_more i.journal.items c.reserve.new.self.items c.write_down-in-Refused.new.journal.items (refused_entry_of c.args.k) c.write_down-in-Refused.ensures c.reserve.ensures.items in (
+      subst (λ (r : Run). ◌≡◌ {A = Run} (record { unit = i.program.unit; world = i.world; journal = c.write_down-in-Refused.new.journal.items; left = left }) (refused r c.args.k left)) c.self.view_is (ap (λ (j : List Entry). let r : Run = record { unit = i.program.unit; world = i.world; journal = j; left = left } in r) journal),
+      could_step (goal.at.returns-in-Refused-clause-turn c).After-has_ended (omega (arith, c.len.ensures, c.if-len-ge-MOST_ENTRIES.false)) (is_live _ (sym c.has_ended.ensures ∙ c.if-has_ended.false)),
+    )
+
+pub returns-in-Did-clause-runs : goal.returns-in-Did-clause-runs
+returns-in-Did-clause-runs c = rw (invariant_of-self-in-Did c).replays refl
+
+pub returns-in-Refused-clause-runs : goal.returns-in-Refused-clause-runs
+returns-in-Refused-clause-runs c = rw (invariant_of-self-in-Refused c).replays refl

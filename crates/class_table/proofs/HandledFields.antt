@@ -1,0 +1,69 @@
+-- Fields by handles.
+use Rattle.std.proofs.Common.{subst, ◌≡◌, ℕ, zero, suc, ◌<◌, ◌≤◌, arith, Bool, true, false, cond, List, [], ◌∷◌, length, map, drop, find, get_or, Option, Some, None, slice_get, refl, sym, ap, ◌∙◌}
+use Rattle.std.specs.Option.{option_map}
+use Rattle.std.proofs.lemmas.Option.{slice_get-map, slice_get-get_or, slice_get_past}
+use Rattle.std.proofs.lemmas.List.{length-map}
+use Rattle.base.specs.Bytes.{Identifier}
+use Rattle.classes.specs.Class.{Field, Classes}
+use Rattle.classes.specs.Fields.{FieldId}
+use Rattle.class_table.specs.declared.class.FieldHandle.{FieldHandle}
+use Rattle.class_table.specs.declared.class.Field.{Field as FieldInMemory}
+use Rattle.class_table.specs.FieldViews.{declared_as, field_of}
+use Rattle.class_table.specs.Views.{field_view, field_type_view}
+use Rattle.class_table.proofs.FoundFields.{fits, identified, found_within, found-here}
+
+-- the field of a handle is one of those that its class declares
+pub of_declared : (T : Classes) (h : FieldHandle) → field_of T h ≡ option_map (identified h.is_static h.class) (slice_get (declared_as T h.class h.is_static) h.place)
+of_declared T h = by_kind h.is_static
+  where
+    by_kind : (s : Bool) → field_of T (record h { is_static = s }) ≡ option_map (identified s h.class) (slice_get (declared_as T h.class s) h.place)
+    by_kind true = slice_get-map (identified true h.class) (declared_as T h.class true) h.place
+    by_kind false = slice_get-map (identified false h.class) (declared_as T h.class false) h.place
+
+-- where a search has come to the first that passes
+pub first_passes_at : {A : Type 0} (p : A → Bool) (xs : List A) (i : ℕ) (x : A) → slice_get xs i ≡ Some x → p x ≡ true → find p (drop i xs) ≡ find p xs → Some (slice_get xs i) ≡ option_map (λ y. Some y) (find p xs)
+first_passes_at {A} p xs i x at passes same = ap (λ o. Some o) at ∙ ap (option_map (λ y. Some y)) (sym (here xs i at) ∙ same)
+  where
+    here : (ys : List A) (j : ℕ) → slice_get ys j ≡ Some x → find p (drop j ys) ≡ Some x
+    here [] j e = absurd (cc)
+    here (y ∷ ys) zero e = let is : y ≡ x = cc in ap (λ z. cond (p z) (Some z) (find p ys)) is ∙ ap (λ b. cond b (Some x) (find p ys)) passes
+    here (y ∷ ys) (suc j) e = here ys j e
+
+-- a search goes past what doesn't pass
+pub passed_over : {A : Type 0} (p : A → Bool) (xs : List A) (i : ℕ) (x : A) → slice_get xs i ≡ Some x → p x ≡ false → find p (drop (suc i) xs) ≡ find p (drop i xs)
+passed_over p [] i x at fails = absurd (cc)
+passed_over p (y ∷ ys) zero x at fails = let is : x ≡ y = cc in sym (ap (λ b. cond b (Some y) (find p ys)) (ap p (sym is) ∙ fails))
+passed_over p (y ∷ ys) (suc i) x at fails = passed_over p ys i x at fails
+
+-- a field in memory at a place of several
+pub viewed_at : (fields : List FieldInMemory) (i : ℕ) (d : FieldInMemory) → i < length fields → slice_get (map field_view fields) i ≡ Some (field_view (get_or fields i d))
+viewed_at fields i d h = slice_get-map field_view fields i ∙ ap (option_map field_view) (slice_get-get_or fields i d h)
+
+module _ (T : Classes) (c : ℕ) (name : Identifier) (text : List ℕ) (s : Bool) where
+  -- the handle of what a class declares itself
+  pub found_own : (n place : ℕ) (o : Option FieldId) (fields : List Field) → 0 < n → fields ≡ declared_as T c s → Some (slice_get fields place) ≡ option_map (λ f. Some f) (find (fits T name text) fields) → found_within n T c name text s ≡ o
+      → Some (field_of T (record { class = c; place = place; is_static = s })) ≡ option_map (λ f. Some f) o
+  found_own n place o fields low is h found = by_field (find (fits T name text) (declared_as T c s)) refl (subst (λ fs. Some (slice_get fs place) ≡ option_map (λ f. Some f) (find (fits T name text) fs)) is h)
+    where
+      by_field : (g : Option Field) → find (fits T name text) (declared_as T c s) ≡ g → Some (slice_get (declared_as T c s) place) ≡ option_map (λ f. Some f) g → Some (field_of T (record { class = c; place = place; is_static = s })) ≡ option_map (λ f. Some f) o
+      by_field None e q = absurd (cc)
+      by_field (Some f) e q =
+          let there : slice_get (declared_as T c s) place ≡ Some f = cc in
+          let whole : o ≡ Some (identified s c f) = sym found ∙ found-here T c name text s n f low e in
+          ap (λ (g : Option FieldId). Some g) (of_declared T (record { class = c; place = place; is_static = s }) ∙ ap (option_map (identified s c)) there)
+          ∙ sym (ap (option_map (λ g. Some g)) whole)
+
+-- nothing was found
+pub none_found : {A : Type 0} (o : Option A) → None ≡ option_map {T = A} {U = Option A} (λ f. Some f) o → o ≡ None
+none_found None h = refl
+none_found (Some x) h = absurd (cc)
+
+-- the type of a field that is there, and of one that isn't
+pub type_there : (T : Classes) (h : FieldHandle) (fields : List FieldInMemory) (d : FieldInMemory) → map field_view fields ≡ declared_as T h.class h.is_static → h.place < length fields → Some (field_type_view (get_or fields h.place d).field_type) ≡ option_map (λ (f : FieldId). f.field.type) (field_of T h)
+type_there T h fields d is within =
+    sym (ap (option_map (λ (f : FieldId). f.field.type)) (of_declared T h ∙ ap (option_map (identified h.is_static h.class)) (ap (λ fs. slice_get fs h.place) (sym is) ∙ viewed_at fields h.place d within)))
+
+pub type_missing : (T : Classes) (h : FieldHandle) (fields : List FieldInMemory) → map field_view fields ≡ declared_as T h.class h.is_static → length fields ≤ h.place → None ≡ option_map (λ (f : FieldId). f.field.type) (field_of T h)
+type_missing T h fields is past =
+    let counted = length-map fields field_view in
+    sym (ap (option_map (λ (f : FieldId). f.field.type)) (of_declared T h ∙ ap (option_map (identified h.is_static h.class)) (ap (λ fs. slice_get fs h.place) (sym is) ∙ slice_get_past (map field_view fields) h.place (omega (arith, past, counted)))))

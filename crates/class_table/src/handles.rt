@@ -1,0 +1,101 @@
+//! Fields and statics by handles: what is found once, and then taken without its name.
+
+ghost use Rattle.std.specs.Prelude.{◌≡◌, ◌&&◌, Some, false, true, map, find, slice_get, IsSome};
+ghost use Rattle.std.specs.Option.{option_map};
+ghost use Rattle.std.specs.Str.{bytes_eq};
+ghost use Rattle.class_table.specs.FieldViews.{find_as, field_of, place_among};
+ghost use Rattle.class_table.specs.Views.{field_view, field_type_view};
+ghost use Rattle.classes.specs.Fields.{FieldId, signature, layout, own_statics};
+ghost use Rattle.classes.specs.Grown.{IsGrown};
+
+use crate::class::{Field, FieldHandle, FieldType};
+use crate::table::ClassTable;
+
+impl ClassTable {
+    /// Whether a field has this name and signature.
+    fn has_name_and_signature(&self, field: &Field, name: &[u8], text: &[u8]) -> bool
+        ensures { result ≡ (bytes_eq (field_view field.now).name name.now && bytes_eq (signature self.now (field_view field.now).type) text.now) }
+    {
+        field.name.as_slice() == name && self.has_signature(field.field_type, text)
+    }
+
+    /// The place of the first of these fields that has this name and signature.
+    fn place_fitting(&self, fields: &[Field], name: &[u8], text: &[u8]) -> Option<usize>
+        ensures { option_map (λ place. slice_get (map field_view fields.now) place) result
+            ≡ option_map (λ f. Some f) (find (λ f. bytes_eq f.name name.now && bytes_eq (signature self.now f.type) text.now) (map field_view fields.now)) }
+    {
+        for (place, field) in fields.iter().enumerate() {
+            if self.has_name_and_signature(field, name, text) {
+                return Some(place);
+            }
+        }
+        None
+    }
+
+    /// The handle of the field, or the static, of this name and signature: of the class itself, or else of the nearest superclass
+    /// that has one. The cost goes by the depth of the class and the fields on the way.
+    pub fn find_handle(
+        &self,
+        class: usize,
+        name: &[u8],
+        text: &[u8],
+        is_static: bool,
+    ) -> Option<FieldHandle>
+        ensures { option_map (field_of self.now) result ≡ option_map (λ f. Some f) (find_as self.now class name.now text.now is_static) }
+    {
+        let mut declarer = class;
+        for _ in 0..self.len() {
+            let own = self.declared(declarer, is_static);
+            if let Some(place) = self.place_fitting(own, name, text) {
+                return Some(FieldHandle {
+                    class: declarer,
+                    place,
+                    is_static,
+                });
+            }
+            match self.superclass(declarer) {
+                Some(above) => declarer = above,
+                None => return None,
+            }
+        }
+        None
+    }
+
+    /// What the field of a handle holds; none where there is no such field.
+    pub fn handle_type(&self, handle: FieldHandle) -> Option<FieldType>
+        ensures { option_map field_type_view result ≡ option_map (λ (f : FieldId). f.field.type) (field_of self.now handle) }
+    {
+        let own = self.declared(handle.class, handle.is_static);
+        if handle.place < own.len() {
+            Some(own[handle.place].field_type)
+        } else {
+            None
+        }
+    }
+
+    /// The place of the field of a handle among the values of the objects of a class, and 0 where these have no such field. The
+    /// cost goes by the depth of the classes.
+    pub fn field_place(&self, class: usize, handle: FieldHandle) -> usize
+        requires grown { IsGrown self.now }
+        requires there { IsSome (field_of self.now handle) }
+        requires field { handle.is_static ≡ false }
+        ensures { (f : FieldId) → field_of self.now handle ≡ Some f → result ≡ place_among f (layout self.now class) }
+    {
+        let _ = &self.classes;
+        if !self.is_subclass(class, handle.class) {
+            return 0;
+        }
+        match self.superclass(handle.class) {
+            Some(above) => self.layout_len(above) + handle.place,
+            None => handle.place,
+        }
+    }
+
+    /// The place of the static of a handle among the values of the class object of the class that declares it.
+    pub fn static_place(&self, handle: FieldHandle) -> usize
+        ensures { (f : FieldId) → field_of self.now handle ≡ Some f → handle.is_static ≡ true → result ≡ place_among f (own_statics self.now f.class) }
+    {
+        let _ = &self.classes;
+        handle.place
+    }
+}

@@ -1,0 +1,279 @@
+-- The objects that are read off the blocks are those of the heap that the blocks stand for.
+use Rattle.std.proofs.Common.{◌≡◌, ℕ, ℤ, zero, suc, ◌+◌, ◌-◌, ◌<◌, ◌≤◌, Bool, true, false, cond, eqb, List, [], ◌∷◌, length, map, set, get_or, Option, Some, None, refl, sym, ap, ◌∙◌, subst, arith, IsSome, ⊎_elim}
+use Rattle.std.specs.Prelude.{slice_get, find}
+use Rattle.std.specs.Option.{option_map, option_map_or}
+use Rattle.std.specs.Int.{w32, cast_signed}
+use Rattle.std.proofs.Math.Facts.{to_z-of_z}
+use Rattle.std.proofs.lemmas.Bool.{cases_eq}
+use Rattle.std.proofs.lemmas.List.{length-map}
+use Rattle.std.proofs.lemmas.Option.{slice_get-get_or}
+use Rattle.std.proofs.lemmas.Bool.Decides.{eqb_tells}
+use Rattle.heap.specs.declared.value.Value.{Value}
+use Rattle.heap.specs.declared.value.Value.TheVariants.{Number as Word, Null, Block as Address}
+use Rattle.heap.specs.Heap.{Block, Space, IsAddress, block_at, class_at, name_at, values_at, addresses}
+use Rattle.heap.proofs.Names.{one_address}
+use Rattle.source.specs.Object.{Object, ObjectValue, Number, Refers, Reference}
+use Rattle.source.specs.Heap.{Heap, object_at, class_of, values_of}
+use Rattle.source.specs.Reachable.{IsName}
+use Rattle.source.proofs.ShownRows.{from_one-contains}
+use Rattle.machine.specs.HeapAgrees.{ValueAgrees, ValuesAgree, BlockAgrees, BlocksAgree, HeapAgrees, IsTable, IsNamed}
+use Rattle.machine.specs.Rows.{value_in, object_of, heap_of, IsThere, AreThere, AreBlocks}
+
+-- ---- the block of a name
+
+pub record Named (s : Space) (heap : Heap) (a n : ℕ) : Type 0 where
+  pub block : Block
+  pub at : block_at s a ≡ Some block
+  pub birth : block.birth ≡ n
+  pub agrees : BlockAgrees s heap block
+
+found_agrees : (s : Space) (heap : Heap) (a : ℕ) (bs : List Block) (b : Block) → BlocksAgree s heap bs → find (λ (b : Block). eqb b.address a) bs ≡ Some b → BlockAgrees s heap b
+found_agrees s heap a [] b h e = absurd (cc)
+found_agrees s heap a (c ∷ bs) b h e = either (eqb c.address a) h.0 (λ f. found_agrees s heap a bs b h.1 f) e
+  where
+    either : (t : Bool) → BlockAgrees s heap c → (find (λ (b : Block). eqb b.address a) bs ≡ Some b → BlockAgrees s heap b) → cond t (Some c) (find (λ (b : Block). eqb b.address a) bs) ≡ Some b → BlockAgrees s heap b
+    either true k further e = let same : c ≡ b = cc in subst (BlockAgrees s heap) same k
+    either false k further e = further e
+
+pub named : (s : Space) (heap : Heap) (N : ℕ → Type 0) (a n : ℕ) → HeapAgrees s heap N → name_at s a ≡ Some n → Named s heap a n
+named s heap N a n h e = by_block (block_at s a) refl e
+  where
+    by_block : (o : Option Block) → block_at s a ≡ o → option_map (λ (b : Block). b.birth) o ≡ Some n → Named s heap a n
+    by_block None at e = absurd (cc)
+    by_block (Some b) at e = record { block = b; at = at; birth = cc; agrees = found_agrees s heap a s.blocks b h.blocks at }
+
+pub is_address : (s : Space) (a n : ℕ) → name_at s a ≡ Some n → IsAddress s a
+is_address s a n e = some (block_at s a) e
+  where
+    some : (o : Option Block) → option_map (λ (b : Block). b.birth) o ≡ Some n → IsSome o
+    some None e = absurd (cc)
+    some (Some b) e = refl
+
+get_below : (heap : Heap) (i : ℕ) (o : Object) → slice_get heap i ≡ Some o → i < length heap
+get_below [] i o e = absurd (cc)
+get_below (x ∷ heap) zero o e = omega arith
+get_below (x ∷ heap) (suc i) o e = let rest : i < length heap = get_below heap i o e in omega arith
+
+object_below : (heap : Heap) (n : ℕ) (o : Object) → object_at heap n ≡ Some o → (0 < n) × (n ≤ length heap)
+object_below heap zero o e = absurd (cc)
+object_below heap (suc i) o e = let low = get_below heap i o e in (omega arith, omega (arith, low))
+
+-- a name of a block is that of an object
+pub name_within : (s : Space) (heap : Heap) (N : ℕ → Type 0) (a n : ℕ) → HeapAgrees s heap N → name_at s a ≡ Some n → (0 < n) × (n ≤ length heap)
+name_within s heap N a n h e =
+    let b = named s heap N a n h e in
+    object_below heap n b.agrees.object (subst (λ m. object_at heap m ≡ Some b.agrees.object) b.birth b.agrees.is)
+
+-- ---- what cells hold
+
+value_is : (s : Space) (w : Value) (v : ObjectValue) → ValueAgrees s w v → value_in s w ≡ v
+value_is s (Word w) (Number z) h = ap (λ (y : ℤ). Number y) (ap (cast_signed w32) h.1 ∙ to_z-of_z {w = w32} h.0)
+value_is s (Word w) (Refers r) h = absurd h
+value_is s Null (Number z) h = absurd h
+value_is s Null (Refers None) h = refl
+value_is s Null (Refers (Some n)) h = absurd h
+value_is s (Address a) (Number z) h = absurd h
+value_is s (Address a) (Refers None) h = absurd h
+value_is s (Address a) (Refers (Some n)) h = ap (λ (r : Reference). Refers r) h
+
+values_are : (s : Space) (ws : List Value) (vs : List ObjectValue) → ValuesAgree s ws vs → map (value_in s) ws ≡ vs
+values_are s [] [] h = refl
+values_are s [] (v ∷ vs) h = absurd h
+values_are s (w ∷ ws) [] h = absurd h
+values_are s (w ∷ ws) (v ∷ vs) h =
+    ap (λ (x : ObjectValue). x ∷ map (value_in s) ws) (value_is s w v h.0)
+    ∙ ap (λ (l : List ObjectValue). v ∷ l) (values_are s ws vs h.1)
+
+value_there : (s : Space) (w : Value) (v : ObjectValue) → ValueAgrees s w v → IsThere s w
+value_there s (Word w) v h = tt
+value_there s Null v h = tt
+value_there s (Address a) (Number z) h = absurd h
+value_there s (Address a) (Refers None) h = absurd h
+value_there s (Address a) (Refers (Some n)) h = is_address s a n h
+
+values_there : (s : Space) (ws : List Value) (vs : List ObjectValue) → ValuesAgree s ws vs → AreThere s ws
+values_there s [] vs h = tt
+values_there s (w ∷ ws) [] h = absurd h
+values_there s (w ∷ ws) (v ∷ vs) h = (value_there s w v h.0, values_there s ws vs h.1)
+
+pub there_at : (s : Space) (ws : List Value) (i : ℕ) (w : Value) → AreThere s ws → slice_get ws i ≡ Some w → IsThere s w
+there_at s [] i w h at = absurd (cc)
+there_at s (x ∷ ws) zero w h at = let same : x ≡ w = cc in subst (IsThere s) same h.0
+there_at s (x ∷ ws) (suc i) w h at = there_at s ws i w h.1 at
+
+-- ---- an object
+
+object_is : (s : Space) (heap : Heap) (a n : ℕ) (o : Object) → Named s heap a n → object_at heap n ≡ Some o → object_of s a ≡ o
+object_is s heap a n o h there =
+    let b = h.block in
+    let same : h.agrees.object ≡ o = cc (sym h.agrees.is ∙ ap (object_at heap) h.birth ∙ there) in
+    let class : b.class ≡ o.class = h.agrees.class ∙ ap (λ (x : Object). x.class) same in
+    let agree : ValuesAgree s b.values o.values = subst (λ (x : Object). ValuesAgree s b.values x.values) same h.agrees.values in
+    let values : map (value_in s) b.values ≡ o.values = values_are s b.values o.values agree in
+    ap (λ (x : Option Block). let r : Object = record { class = option_map_or (λ (c : ℕ). c) (option_map (λ (b : Block). b.class) x) 0; values = map (value_in s) (option_map_or (λ (b : Block). b.values) x []) } in r) h.at
+    ∙ ap (λ (c : ℕ). let r : Object = record { class = c; values = map (value_in s) b.values } in r) class
+    ∙ ap (λ (l : List ObjectValue). let r : Object = record { class = o.class; values = l } in r) values
+
+blocks_there : (s : Space) (heap : Heap) (a n : ℕ) → Named s heap a n → AreThere s (values_at s a)
+blocks_there s heap a n h =
+    subst (AreThere s) (sym (ap (λ (x : Option Block). option_map_or (λ (b : Block). b.values) x []) h.at)) (values_there s h.block.values h.agrees.object.values h.agrees.values)
+
+-- ---- the table
+
+same_list : (xs ys : Heap) → length xs ≡ length ys → ((i : ℕ) (y : Object) → slice_get ys i ≡ Some y → slice_get xs i ≡ Some y) → xs ≡ ys
+same_list [] [] e h = refl
+same_list [] (y ∷ ys) e h = absurd (omega (arith, e))
+same_list (x ∷ xs) [] e h = absurd (omega (arith, e))
+same_list (x ∷ xs) (y ∷ ys) e h =
+    let head : Some x ≡ Some y = h 0 y refl in
+    let same : x ≡ y = cc in
+    let rest = same_list xs ys (omega (arith, e)) (λ i z at. h (suc i) z at) in
+    ap (λ (z : Object). z ∷ xs) same ∙ ap (λ (l : Heap). y ∷ l) rest
+
+length_all : (s : Space) (xs : List ℕ) → length (heap_of s xs) ≡ length xs
+length_all s [] = refl
+length_all s (x ∷ xs) = ap suc (length_all s xs)
+
+pub get_all : (s : Space) (xs : List ℕ) (i a : ℕ) → slice_get xs i ≡ Some a → slice_get (heap_of s xs) i ≡ Some (object_of s a)
+get_all s [] i a e = absurd (cc)
+get_all s (x ∷ xs) zero a e = let same : x ≡ a = cc in ap (λ n. Some (object_of s n)) same
+get_all s (x ∷ xs) (suc i) a e = get_all s xs i a e
+
+pub get_there : (xs : List ℕ) (i : ℕ) → i < length xs → (a : ℕ) × (slice_get xs i ≡ Some a)
+get_there [] i h = absurd (omega arith)
+get_there (x ∷ xs) zero h = (x, refl)
+get_there (x ∷ xs) (suc i) h = get_there xs i (omega arith)
+
+-- the objects in the order of the table are those of the heap
+pub table_is : (s : Space) (heap : Heap) (N : ℕ → Type 0) (table : List ℕ) → HeapAgrees s heap N → IsTable s table (length heap) → heap_of s table ≡ heap
+table_is s heap N table h t =
+    same_list (heap_of s table) heap (length_all s table ∙ t.counted) (λ i o at.
+    let low = get_below heap i o at in
+    let found = get_there table i (omega (arith, low, t.counted)) in
+    let name = t.named i found.0 found.1 in
+    let e : i + 1 ≡ suc i = omega arith in
+    get_all s table i found.0 found.1 ∙ ap (λ (x : Object). Some x) (object_is s heap found.0 (i + 1) o (named s heap N found.0 (i + 1) h name) (ap (object_at heap) e ∙ at)))
+
+pub table_there : (s : Space) (heap : Heap) (N : ℕ → Type 0) (table : List ℕ) → HeapAgrees s heap N → IsTable s table (length heap) → AreBlocks s table
+table_there s heap N table h t i a at =
+    let name = t.named i a at in
+    (is_address s a (i + 1) name, blocks_there s heap a (i + 1) (named s heap N a (i + 1) h name))
+
+-- ---- filling the table
+
+get_set_same : (xs : List ℕ) (i x : ℕ) → i < length xs → slice_get (set xs i x) i ≡ Some x
+get_set_same [] i x h = absurd (omega arith)
+get_set_same (y ∷ xs) zero x h = refl
+get_set_same (y ∷ xs) (suc i) x h = get_set_same xs i x (omega arith)
+
+get_set_other : (xs : List ℕ) (i j x : ℕ) → (j ≡ i → ⊥) → slice_get (set xs i x) j ≡ slice_get xs j
+get_set_other [] i j x h = refl
+get_set_other (y ∷ xs) zero zero x h = absurd (h refl)
+get_set_other (y ∷ xs) zero (suc j) x h = refl
+get_set_other (y ∷ xs) (suc i) zero x h = refl
+get_set_other (y ∷ xs) (suc i) (suc j) x h = get_set_other xs i j x (λ e. h (ap suc e))
+
+-- the blocks at the first places are in the table
+unfoldable pub ArePlaced : Space → List ℕ → ℕ → Type 0
+ArePlaced s table place = (j a n : ℕ) → j < place → slice_get (addresses s) j ≡ Some a → name_at s a ≡ Some n → slice_get table (n - 1) ≡ Some a
+
+pub placed_next : (s : Space) (heap : Heap) (N : ℕ → Type 0) (table : List ℕ) (place a n : ℕ) → HeapAgrees s heap N → length table ≡ length heap → slice_get (addresses s) place ≡ Some a → name_at s a ≡ Some n → ArePlaced s table place → ArePlaced s (set table (n - 1) a) (place + 1)
+unfolding ArePlaced
+placed_next s heap N table place a n h count here name before j b m low at named_so =
+    let w = name_within s heap N a n h name in
+    let v = name_within s heap N b m h named_so in
+    ⊎_elim
+    (λ (e : m ≡ n).
+    let same : b ≡ a = one_address s b a n h.unique (subst (λ k. name_at s b ≡ Some k) e named_so) name in
+    ap (λ k. slice_get (set table (n - 1) a) (k - 1)) e ∙ get_set_same table (n - 1) a (omega (arith, w.0, w.1, count)) ∙ ap (λ (k : ℕ). Some k) (sym same))
+    (λ (ne : m ≡ n → ⊥). ⊎_elim
+    (λ (e : j ≡ place).
+    let same : a ≡ b = cc (sym here ∙ ap (slice_get (addresses s)) (sym e) ∙ at) in
+    let one : n ≡ m = cc (sym name ∙ ap (name_at s) same ∙ named_so) in
+    absurd (ne (sym one)))
+    (λ (other : j ≡ place → ⊥).
+    get_set_other table (n - 1) (m - 1) a (λ (f : m - 1 ≡ n - 1). ne (omega (arith, f, w.0, v.0)))
+    ∙ before j b m (omega arith) at named_so)
+    (cases_eq j place))
+    (cases_eq m n)
+
+pub placed_none : (s : Space) (table : List ℕ) → ArePlaced s table 0
+unfolding ArePlaced
+placed_none s table j a n low at name = absurd (omega (arith, low))
+
+place_in : (bs : List Block) (a : ℕ) → IsSome (find (λ (b : Block). eqb b.address a) bs) → (k : ℕ) × (k < length bs) × (slice_get (map (λ (b : Block). b.address) bs) k ≡ Some a)
+place_in [] a some = absurd (cc)
+place_in (b ∷ bs) a some =
+    ⊎_elim
+    (λ (t : (eqb b.address a ≡ true) × (b.address ≡ a)). (0, omega arith, ap (λ (n : ℕ). Some n) t.1))
+    (λ (t : (eqb b.address a ≡ false) × (b.address ≡ a → ⊥)).
+    let later = place_in bs a (subst (λ (o : Option Block). IsSome o) (ap (λ (k : Bool). cond k (Some b) (find (λ (c : Block). eqb c.address a) bs)) t.0) some) in
+    let within : later.0 < length bs = later.1 in
+    (suc later.0, omega arith, later.2))
+    (eqb_tells b.address a)
+
+-- when all blocks are in the table, it has all objects
+pub table_filled : (s : Space) (heap : Heap) (table : List ℕ) (place : ℕ) → HeapAgrees s heap (IsName heap) → length table ≡ length heap → ArePlaced s table place → length s.blocks ≤ place → IsTable s table (length heap)
+unfolding ArePlaced
+table_filled s heap table place h count placed past = record {
+  counted = count;
+  named = λ i a at.
+      let low : i < length table = within table i a at in
+      let there : IsNamed s (i + 1) = h.there (i + 1) (from_one-contains (length heap) (i + 1) (omega arith) (omega (arith, low, count))) in
+      let at_place = place_in s.blocks there.0 (is_address s there.0 (i + 1) there.1) in
+      let found = placed at_place.0 there.0 (i + 1) (omega (arith, at_place.1, past)) at_place.2 there.1 in
+      let e : i + 1 - 1 ≡ i = omega arith in
+      let same : there.0 ≡ a = cc (sym found ∙ ap (slice_get table) e ∙ at) in
+      subst (λ b. name_at s b ≡ Some (i + 1)) same there.1;
+}
+  where
+    within : (xs : List ℕ) (i a : ℕ) → slice_get xs i ≡ Some a → i < length xs
+    within [] i a e = absurd (cc)
+    within (x ∷ xs) zero a e = omega arith
+    within (x ∷ xs) (suc i) a e = let rest : i < length xs = within xs i a e in omega arith
+
+-- ---- what is read of an object
+
+-- the address of a name, where the objects are seen as a heap
+pub record IsAt (s : Space) (table : List ℕ) (heap : Heap) (name a : ℕ) : Type 0 where
+  pub place : slice_get table (name - 1) ≡ Some a
+  pub object : object_at heap name ≡ Some (object_of s a)
+
+pub is_at : (s : Space) (table : List ℕ) (heap : Heap) (name a : ℕ) → heap_of s table ≡ heap → (0 < name) × (name ≤ length heap) → a ≡ get_or table (name - 1) a → IsAt s table heap name a
+is_at s table heap zero a e w read = absurd (omega (arith, w.0))
+is_at s table heap (suc i) a e w read =
+    let count : length table ≡ length heap = sym (length_all s table) ∙ ap (λ (h : Heap). length h) e in
+    let first : suc i - 1 ≡ i = omega arith in
+    let low : suc i - 1 < length table = omega (arith, w.1, count) in
+    let place : slice_get table (suc i - 1) ≡ Some a = slice_get-get_or table (suc i - 1) a low ∙ ap (λ (n : ℕ). Some n) (sym read) in
+    record {
+      place = place;
+      object = ap (λ (h : Heap). slice_get h i) (sym e) ∙ get_all s table i a (ap (slice_get table) (sym first) ∙ place);
+    }
+
+module _ (s : Space) (table : List ℕ) (heap : Heap) (name a : ℕ) (h : IsAt s table heap name a) where
+  pub class_is : (r : ℕ) → class_at s a ≡ Some r → r ≡ class_of heap name
+  class_is r class = sym (ap (λ (o : Option Object). option_map_or (λ (x : Object). x.class) o 0) h.object ∙ ap (λ (o : Option ℕ). option_map_or (λ (c : ℕ). c) o 0) class)
+
+  pub values_here : values_of heap name ≡ map (value_in s) (values_at s a)
+  values_here = ap (λ (o : Option Object). option_map_or (λ (x : Object). x.values) o []) h.object
+
+  pub count_here : length (values_of heap name) ≡ length (values_at s a)
+  count_here = ap (λ (l : List ObjectValue). length l) values_here ∙ length-map (values_at s a) (value_in s)
+
+  pub value_here : (index : ℕ) (w : Value) → slice_get (values_at s a) index ≡ Some w → slice_get (values_of heap name) index ≡ Some (value_in s w)
+  value_here index w at = ap (λ (l : List ObjectValue). slice_get l index) values_here ∙ get_map (values_at s a) index w at
+    where
+      get_map : (ws : List Value) (i : ℕ) (x : Value) → slice_get ws i ≡ Some x → slice_get (map (value_in s) ws) i ≡ Some (value_in s x)
+      get_map [] i x e = absurd (cc)
+      get_map (y ∷ ws) zero x e = let same : y ≡ x = cc in ap (λ (v : Value). Some (value_in s v)) same
+      get_map (y ∷ ws) (suc i) x e = get_map ws i x e
+
+-- a block of the order of addresses is there
+pub address_there : (s : Space) (heap : Heap) (N : ℕ → Type 0) (place a : ℕ) → HeapAgrees s heap N → slice_get (addresses s) place ≡ Some a → block_at s a ≡ slice_get s.blocks place → IsAddress s a
+address_there s heap N place a h at block = found s.blocks place at (block_at s a) block
+  where
+    found : (bs : List Block) (i : ℕ) → slice_get (map (λ (b : Block). b.address) bs) i ≡ Some a → (o : Option Block) → o ≡ slice_get bs i → IsSome o
+    found [] i e o f = absurd (cc)
+    found (b ∷ bs) zero e o f = rw f refl
+    found (b ∷ bs) (suc i) e o f = found bs i e o f

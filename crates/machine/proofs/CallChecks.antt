@@ -1,0 +1,334 @@
+-- The checks of a call in memory are those of the source.
+use Rattle.std.proofs.Common.{inl, inr, ◌≡◌, ℕ, ℤ, zero, suc, Bool, true, false, not, List, [], ◌∷◌, zip, Option, Some, None, is_none, slice_get, refl, sym, ap, ◌∙◌, subst}
+use Rattle.std.specs.Prelude.{◌&&◌, ◌||◌, unwrap_or, is_some, IsSome}
+use Rattle.std.specs.List.{AllZip, list_any}
+use Rattle.base.specs.Bytes.{Identifier}
+use Rattle.base.specs.Element.{ElementType}
+use Rattle.classes.specs.BuiltIns.{has_own_making}
+use Rattle.classes.specs.Class.{Classes, FieldType, NumberField, ReferenceField, assignable, class_kind, is_plain}
+use Rattle.classes.specs.Fields.{FieldId}
+use Rattle.class_table.specs.FieldViews.{field_of}
+use Rattle.class_table.specs.declared.class.FieldHandle.{FieldHandle}
+use Rattle.code.specs.declared.instr.Operand.{Operand}
+use Rattle.code.specs.declared.instr.Operand.TheVariants as operand
+use Rattle.heap.specs.Heap.{Space, IsAddress}
+use Rattle.jni.specs.JniFunction.{JniFunction, is_allowed_pending, AllocObject, FindClass, GetFieldID, GetStaticFieldID, GetField, SetField, GetStaticField, SetStaticField, GetObjectField, SetObjectField, GetStaticObjectField, SetStaticObjectField, GetArrayLength, GetSuperclass, GetObjectClass, IsInstanceOf, IsAssignableFrom, PopLocalFrame}
+use Rattle.jni.specs.Prototype.{ParameterKind, Nullable, LocalVariable, StaticVariable, ClassObject, NumberArray, ObjectArray, StringObject, ResultKind, NewLocal, prototype}
+use Rattle.source.specs.Arguments.{Actual, ReferenceActual, FieldActual, NumberActual, TextActual, reference_given, reference_in_actual, name_or_zero, field_given, field_in_actual}
+use Rattle.source.specs.CallStep.{trap_of_call, target_element}
+use Rattle.source.specs.Checks.{is_deleted, is_missing, is_misfit, go_together, frames_after, is_full, lacks_room, first_trap, call_trap, fits_type, holds_number, holds_reference}
+use Rattle.source.specs.Heap.{Heap, class_of, fits_class}
+use Rattle.source.specs.Object.{Reference}
+use Rattle.source.specs.Task.{Target}
+use Rattle.source.specs.Thread.{Frame, Shared, Thread}
+use Rattle.source.specs.Value.{NullReference, ExceptionPending, WrongObject, DeletedReference, NoCapacity}
+use Rattle.source.specs.Variable.{Empty, Live, as_static}
+use Rattle.machine.specs.Agrees.{FieldAgrees}
+use Rattle.machine.specs.Checked.{is_answered, gives_null, may_be_null, some_missing, class_misfits, misfits, some_misfit, is_array_at, fit_together, puts_local, trap_found, fits_type_there}
+use Rattle.machine.specs.Given.{AreAddresses, AreHandles, IsGiven, ReferenceIsGiven, class_of_given, class_there, field_at, field_there, fits_there, name_there, no_field, operand_at, operand_of}
+use Rattle.machine.specs.HeapAgrees.{ReferenceAgrees, BlocksAgree}
+use Rattle.machine.proofs.ObjectsAtAddresses.{is_object}
+
+-- an address that the operand at a place gives
+pub address_of : (space : Space) (references : List (Option ℕ)) (operands : List Operand) (i : ℕ) → AreAddresses space references operands → (a : ℕ) → operand_at references (operand_of operands i) ≡ Some a → IsAddress space a
+address_of space references [] i h a e = absurd (cc)
+address_of space references (o ∷ operands) zero h a e = h.0 a e
+address_of space references (o ∷ operands) (suc i) h a e = address_of space references operands i h.1 a e
+
+-- the handle that the operand at a place gives
+pub handle_of : (classes : Classes) (fields : List (Option FieldHandle)) (operands : List Operand) (i : ℕ) → AreHandles classes fields operands → (h : FieldHandle) → field_at fields (operand_of operands i) ≡ Some h → IsSome (field_of classes h)
+handle_of classes fields [] i are h e = absurd (cc)
+handle_of classes fields (o ∷ operands) zero are h e = are.0 h e
+handle_of classes fields (o ∷ operands) (suc i) are h e = handle_of classes fields operands i are.1 h e
+
+-- ---- NULL
+
+-- the argument is NULL
+abbrev is_null_actual : Actual → Bool
+is_null_actual (ReferenceActual x Empty) = true
+is_null_actual (FieldActual None) = true
+is_null_actual a = false
+
+missing_is : (p : ParameterKind) (a : Actual) → is_missing (p, a) ≡ (not (may_be_null p) && is_null_actual a)
+missing_is Nullable a = refl
+missing_is LocalVariable a = refl
+missing_is StaticVariable a = refl
+missing_is p (ReferenceActual x Empty) = refl
+missing_is p (FieldActual None) = refl
+missing_is p a = refl
+
+module _ (classes : Classes) (space : Space) (references : List (Option ℕ)) (fields : List (Option FieldHandle)) where
+  null_reference : (x : Identifier) (o : Option ℕ) (q : Reference) → ReferenceAgrees space o q → is_null_actual (ReferenceActual x (as_static q)) ≡ is_none o
+  null_reference x None None h = refl
+  null_reference x None (Some n) h = absurd h
+  null_reference x (Some a) None h = absurd h
+  null_reference x (Some a) (Some n) h = refl
+
+  null_field : (o : Option FieldHandle) (q : Option FieldId) → FieldAgrees classes o q → is_null_actual (FieldActual q) ≡ is_none o
+  null_field None None h = refl
+  null_field None (Some n) h = absurd h
+  null_field (Some a) None h = absurd h
+  null_field (Some a) (Some n) h = refl
+
+  null_is : (o : Operand) (a : Actual) → IsGiven classes space references fields o a → is_null_actual a ≡ gives_null references fields o
+  null_is operand.Number a h = ap is_null_actual h.1
+  null_is operand.Text a h = ap is_null_actual h.1
+  null_is operand.Null a (inl h) = ap is_null_actual h.is ∙ null_reference h.name None h.reference h.agrees
+  null_is operand.Null a (inr h) = ap is_null_actual h.is ∙ null_field None h.field h.agrees
+  null_is (operand.Local i) a h = ap is_null_actual h.is ∙ null_reference h.name (operand_at references (operand.Local i)) h.reference h.agrees
+  null_is (operand.Static i) a h = ap is_null_actual h.is ∙ null_reference h.name None h.reference h.agrees
+  null_is (operand.FieldId i) a h = ap is_null_actual h.is ∙ null_field (field_at fields (operand.FieldId i)) h.field h.agrees
+
+  all_missing : (parameters : List ParameterKind) (operands : List Operand) (args : List Actual) → AllZip (IsGiven classes space references fields) operands args
+      → some_missing references fields parameters operands ≡ list_any is_missing (zip parameters args)
+  all_missing [] operands args h = refl
+  all_missing (p ∷ parameters) [] [] h = refl
+  all_missing (p ∷ parameters) [] (a ∷ args) h = absurd h
+  all_missing (p ∷ parameters) (o ∷ operands) [] h = absurd h
+  all_missing (p ∷ parameters) (o ∷ operands) (a ∷ args) h =
+      let one : (not (may_be_null p) && gives_null references fields o) ≡ is_missing (p, a) = ap (λ b. not (may_be_null p) && b) (sym (null_is o a h.0)) ∙ sym (missing_is p a) in
+      let further = all_missing parameters operands args h.1 in
+      λ i. one i || further i
+
+  -- ---- deleted statics
+
+  whole_reference : (x : Identifier) (q : Reference) → is_deleted (ReferenceActual x (as_static q)) ≡ false
+  whole_reference x None = refl
+  whole_reference x (Some n) = refl
+
+  whole : (o : Operand) (a : Actual) → IsGiven classes space references fields o a → is_deleted a ≡ false
+  whole operand.Number a h = ap is_deleted h.1
+  whole operand.Text a h = ap is_deleted h.1
+  whole operand.Null a (inl h) = ap is_deleted h.is ∙ whole_reference h.name h.reference
+  whole operand.Null a (inr h) = ap is_deleted h.is
+  whole (operand.Local i) a h = ap is_deleted h.is ∙ whole_reference h.name h.reference
+  whole (operand.Static i) a h = ap is_deleted h.is ∙ whole_reference h.name h.reference
+  whole (operand.FieldId i) a h = ap is_deleted h.is
+
+  all_whole : (operands : List Operand) (args : List Actual) → AllZip (IsGiven classes space references fields) operands args → list_any is_deleted args ≡ false
+  all_whole [] [] h = refl
+  all_whole [] (a ∷ args) h = absurd h
+  all_whole (o ∷ operands) [] h = absurd h
+  all_whole (o ∷ operands) (a ∷ args) h = ap (λ b. b || list_any is_deleted args) (whole o a h.0) ∙ all_whole operands args h.1
+
+  -- ---- the reference of an argument
+
+  reference_itself : (x : Identifier) (q : Reference) → reference_in_actual (Some (ReferenceActual x (as_static q))) ≡ q
+  reference_itself x None = refl
+  reference_itself x (Some n) = refl
+
+  one_reference : (o : Operand) (a : Actual) → ReferenceIsGiven space references o a → ReferenceAgrees space (operand_at references o) (reference_in_actual (Some a))
+  one_reference o a h = subst (λ q. ReferenceAgrees space (operand_at references o) q) (sym (ap (λ b. reference_in_actual (Some b)) h.is ∙ reference_itself h.name h.reference)) h.agrees
+
+  reference_is : (o : Operand) (a : Actual) → IsGiven classes space references fields o a → ReferenceAgrees space (operand_at references o) (reference_in_actual (Some a))
+  reference_is operand.Number a h = subst (λ b. ReferenceAgrees space None (reference_in_actual (Some b))) (sym h.1) tt
+  reference_is operand.Text a h = subst (λ b. ReferenceAgrees space None (reference_in_actual (Some b))) (sym h.1) tt
+  reference_is operand.Null a (inl h) = one_reference operand.Null a h
+  reference_is operand.Null a (inr h) = subst (λ b. ReferenceAgrees space None (reference_in_actual (Some b))) (sym h.is) tt
+  reference_is (operand.Local i) a h = one_reference (operand.Local i) a h
+  reference_is (operand.Static i) a h = one_reference (operand.Static i) a h
+  reference_is (operand.FieldId i) a h = subst (λ b. ReferenceAgrees space None (reference_in_actual (Some b))) (sym h.is) tt
+
+  -- the reference at a place
+  pub reference_at_place : (operands : List Operand) (args : List Actual) (i : ℕ) → AllZip (IsGiven classes space references fields) operands args → ReferenceAgrees space (operand_at references (operand_of operands i)) (reference_given args i)
+  reference_at_place [] [] i h = tt
+  reference_at_place [] (a ∷ args) i h = absurd h
+  reference_at_place (o ∷ operands) [] i h = absurd h
+  reference_at_place (o ∷ operands) (a ∷ args) zero h = reference_is o a h.0
+  reference_at_place (o ∷ operands) (a ∷ args) (suc i) h = reference_at_place operands args i h.1
+
+  -- ---- the field of an argument
+
+  field_in : (o : Option FieldHandle) (f : Option FieldId) → FieldAgrees classes o f → field_there classes o ≡ field_in_actual (Some (FieldActual f))
+  field_in None None h = refl
+  field_in None (Some f) h = absurd h
+  field_in (Some h) None e = absurd e
+  field_in (Some h) (Some f) e = ap (λ o. unwrap_or o no_field) e
+
+  field_is : (o : Operand) (a : Actual) → IsGiven classes space references fields o a → field_there classes (field_at fields o) ≡ field_in_actual (Some a)
+  field_is operand.Number a h = sym (ap (λ b. field_in_actual (Some b)) h.1)
+  field_is operand.Text a h = sym (ap (λ b. field_in_actual (Some b)) h.1)
+  field_is operand.Null a (inl h) = sym (ap (λ b. field_in_actual (Some b)) h.is)
+  field_is operand.Null a (inr h) = field_in None h.field h.agrees ∙ sym (ap (λ b. field_in_actual (Some b)) h.is)
+  field_is (operand.Local i) a h = sym (ap (λ b. field_in_actual (Some b)) h.is)
+  field_is (operand.Static i) a h = sym (ap (λ b. field_in_actual (Some b)) h.is)
+  field_is (operand.FieldId i) a h = field_in (field_at fields (operand.FieldId i)) h.field h.agrees ∙ sym (ap (λ b. field_in_actual (Some b)) h.is)
+
+  -- the field at a place
+  pub field_at_place : (operands : List Operand) (args : List Actual) (i : ℕ) → AllZip (IsGiven classes space references fields) operands args → field_there classes (field_at fields (operand_of operands i)) ≡ field_given args i
+  field_at_place [] [] i h = refl
+  field_at_place [] (a ∷ args) i h = absurd h
+  field_at_place (o ∷ operands) [] i h = absurd h
+  field_at_place (o ∷ operands) (a ∷ args) zero h = field_is o a h.0
+  field_at_place (o ∷ operands) (a ∷ args) (suc i) h = field_at_place operands args i h.1
+
+  -- ---- objects of another kind
+
+  module _ (heap : Heap) (blocks : BlocksAgree space heap space.blocks) where
+    -- the class of an object by its address
+    pub class_is : (a n : ℕ) → ReferenceAgrees space (Some a) (Some n) → class_there space a ≡ class_of heap n
+    class_is a n named = ap (λ o. unwrap_or o 0) (is_object space heap a n blocks named).class
+
+    live_misfit : (p : ParameterKind) (x : Identifier) (n : ℕ) → is_misfit classes heap (p, ReferenceActual x (Live n)) ≡ class_misfits classes p (class_of heap n)
+    live_misfit ClassObject x n = refl
+    live_misfit (NumberArray T) x n = refl
+    live_misfit ObjectArray x n = refl
+    live_misfit StringObject x n = refl
+    live_misfit p x n = refl
+
+    empty_fits : (p : ParameterKind) (x : Identifier) → is_misfit classes heap (p, ReferenceActual x Empty) ≡ false
+    empty_fits ClassObject x = refl
+    empty_fits p x = refl
+
+    number_fits : (p : ParameterKind) (z : ℤ) → is_misfit classes heap (p, NumberActual z) ≡ false
+    number_fits ClassObject z = refl
+    number_fits p z = refl
+
+    text_fits : (p : ParameterKind) (bytes : List ℕ) → is_misfit classes heap (p, TextActual bytes) ≡ false
+    text_fits ClassObject bytes = refl
+    text_fits p bytes = refl
+
+    field_fits : (p : ParameterKind) (f : Option FieldId) → is_misfit classes heap (p, FieldActual f) ≡ false
+    field_fits ClassObject f = refl
+    field_fits p f = refl
+
+    reference_misfit : (p : ParameterKind) (x : Identifier) (o : Option ℕ) (q : Reference) → ReferenceAgrees space o q → misfits classes space p o ≡ is_misfit classes heap (p, ReferenceActual x (as_static q))
+    reference_misfit p x None None h = sym (empty_fits p x)
+    reference_misfit p x None (Some n) h = absurd h
+    reference_misfit p x (Some a) None h = absurd h
+    reference_misfit p x (Some a) (Some n) h = ap (class_misfits classes p) (class_is a n h) ∙ sym (live_misfit p x n)
+
+    given_misfit : (p : ParameterKind) (o : Operand) (a : Actual) → ReferenceIsGiven space references o a → misfits classes space p (operand_at references o) ≡ is_misfit classes heap (p, a)
+    given_misfit p o a h = reference_misfit p h.name (operand_at references o) h.reference h.agrees ∙ ap (λ b. is_misfit classes heap (p, b)) (sym h.is)
+
+    misfit_is : (p : ParameterKind) (o : Operand) (a : Actual) → IsGiven classes space references fields o a → misfits classes space p (operand_at references o) ≡ is_misfit classes heap (p, a)
+    misfit_is p operand.Number a h = sym (ap (λ b. is_misfit classes heap (p, b)) h.1 ∙ number_fits p h.0)
+    misfit_is p operand.Text a h = sym (ap (λ b. is_misfit classes heap (p, b)) h.1 ∙ text_fits p h.0)
+    misfit_is p operand.Null a (inl h) = given_misfit p operand.Null a h
+    misfit_is p operand.Null a (inr h) = sym (ap (λ b. is_misfit classes heap (p, b)) h.is ∙ field_fits p h.field)
+    misfit_is p (operand.Local i) a h = given_misfit p (operand.Local i) a h
+    misfit_is p (operand.Static i) a h = given_misfit p (operand.Static i) a h
+    misfit_is p (operand.FieldId i) a h = sym (ap (λ b. is_misfit classes heap (p, b)) h.is ∙ field_fits p h.field)
+
+    all_misfit : (parameters : List ParameterKind) (operands : List Operand) (args : List Actual) → AllZip (IsGiven classes space references fields) operands args
+        → some_misfit classes space references parameters operands ≡ list_any (is_misfit classes heap) (zip parameters args)
+    all_misfit [] operands args h = refl
+    all_misfit (p ∷ parameters) [] [] h = refl
+    all_misfit (p ∷ parameters) [] (a ∷ args) h = absurd h
+    all_misfit (p ∷ parameters) (o ∷ operands) [] h = absurd h
+    all_misfit (p ∷ parameters) (o ∷ operands) (a ∷ args) h =
+        let one = misfit_is p o a h.0 in
+        let further = all_misfit parameters operands args h.1 in
+        λ i. one i || further i
+
+    -- ---- what a function asks beyond that
+
+    -- the name of an object by its address
+    pub name_is : (o : Option ℕ) (q : Reference) → ReferenceAgrees space o q → name_there space o ≡ name_or_zero q
+    name_is None None h = refl
+    name_is None (Some n) h = absurd h
+    name_is (Some a) None h = absurd h
+    name_is (Some a) (Some n) h = ap (λ o. unwrap_or o 0) h
+
+    -- its class
+    pub class_given_is : (o : Option ℕ) (q : Reference) → ReferenceAgrees space o q → class_of_given space o ≡ class_of heap (name_or_zero q)
+    class_given_is None None h = refl
+    class_given_is None (Some n) h = absurd h
+    class_given_is (Some a) None h = absurd h
+    class_given_is (Some a) (Some n) h = class_is a n h
+
+    -- whether it fits a class
+    pub fits_is : (o : Option ℕ) (q : Reference) (c : ℕ) → ReferenceAgrees space o q → fits_there classes space o c ≡ fits_class classes heap q c
+    fits_is None None c h = refl
+    fits_is None (Some n) c h = absurd h
+    fits_is (Some a) None c h = absurd h
+    fits_is (Some a) (Some n) c h = ap (λ d. assignable classes d c) (class_is a n h)
+
+    fits_type_is : (o : Option ℕ) (q : Reference) (type : FieldType) → ReferenceAgrees space o q → fits_type_there classes space o type ≡ fits_type classes heap q type
+    fits_type_is o q (NumberField T) h = refl
+    fits_type_is o q (ReferenceField c) h = fits_is o q c h
+
+    array_is : (o : Option ℕ) (q : Reference) → ReferenceAgrees space o q → is_array_at classes space o ≡ not (is_plain (class_kind classes (class_of heap (name_or_zero q))))
+    array_is None None h = refl
+    array_is None (Some n) h = absurd h
+    array_is (Some a) None h = absurd h
+    array_is (Some a) (Some n) h = ap (λ c. not (is_plain (class_kind classes c))) (class_is a n h)
+
+    together_is : (buffer : ElementType) (operands : List Operand) (args : List Actual) → AllZip (IsGiven classes space references fields) operands args → (f : JniFunction) → is_answered f ≡ true
+        → fit_together classes space references fields operands f ≡ go_together classes heap buffer args f
+    unfolding go_together
+    together_is buffer operands args h GetArrayLength e = array_is (operand_at references (operand_of operands 0)) (reference_given args 0) (reference_at_place operands args 0 h)
+    together_is buffer operands args h AllocObject e =
+        ap (λ (n : ℕ). not (has_own_making classes n)) (name_is (operand_at references (operand_of operands 0)) (reference_given args 0) (reference_at_place operands args 0 h))
+    together_is buffer operands args h FindClass e = refl
+    together_is buffer operands args h GetFieldID e = refl
+    together_is buffer operands args h GetStaticFieldID e = refl
+    together_is buffer operands args h GetSuperclass e = refl
+    together_is buffer operands args h GetObjectClass e = refl
+    together_is buffer operands args h IsInstanceOf e = refl
+    together_is buffer operands args h IsAssignableFrom e = refl
+    together_is buffer operands args h (GetField T) e =
+        let field = field_at_place operands args 1 h in
+        let class = class_given_is (operand_at references (operand_of operands 0)) (reference_given args 0) (reference_at_place operands args 0 h) in
+        λ i. (not (field i).is_static && assignable classes (class i) (field i).class) && holds_number T (field i).field.type
+    together_is buffer operands args h (SetField T) e =
+        let field = field_at_place operands args 1 h in
+        let class = class_given_is (operand_at references (operand_of operands 0)) (reference_given args 0) (reference_at_place operands args 0 h) in
+        λ i. (not (field i).is_static && assignable classes (class i) (field i).class) && holds_number T (field i).field.type
+    together_is buffer operands args h GetObjectField e =
+        let field = field_at_place operands args 1 h in
+        let class = class_given_is (operand_at references (operand_of operands 0)) (reference_given args 0) (reference_at_place operands args 0 h) in
+        λ i. (not (field i).is_static && assignable classes (class i) (field i).class) && holds_reference (field i).field.type
+    together_is buffer operands args h SetObjectField e =
+        let field = field_at_place operands args 1 h in
+        let class = class_given_is (operand_at references (operand_of operands 0)) (reference_given args 0) (reference_at_place operands args 0 h) in
+        let fit = ap (fits_type_there classes space (operand_at references (operand_of operands 2))) (ap (λ (f : FieldId). f.field.type) field) ∙ fits_type_is (operand_at references (operand_of operands 2)) (reference_given args 2) (field_given args 1).field.type (reference_at_place operands args 2 h) in
+        λ i. (not (field i).is_static && assignable classes (class i) (field i).class) && fit i
+    together_is buffer operands args h (GetStaticField T) e =
+        let field = field_at_place operands args 1 h in
+        let name = name_is (operand_at references (operand_of operands 0)) (reference_given args 0) (reference_at_place operands args 0 h) in
+        λ i. ((field i).is_static && assignable classes (name i) (field i).class) && holds_number T (field i).field.type
+    together_is buffer operands args h (SetStaticField T) e =
+        let field = field_at_place operands args 1 h in
+        let name = name_is (operand_at references (operand_of operands 0)) (reference_given args 0) (reference_at_place operands args 0 h) in
+        λ i. ((field i).is_static && assignable classes (name i) (field i).class) && holds_number T (field i).field.type
+    together_is buffer operands args h GetStaticObjectField e =
+        let field = field_at_place operands args 1 h in
+        let name = name_is (operand_at references (operand_of operands 0)) (reference_given args 0) (reference_at_place operands args 0 h) in
+        λ i. ((field i).is_static && assignable classes (name i) (field i).class) && holds_reference (field i).field.type
+    together_is buffer operands args h SetStaticObjectField e =
+        let field = field_at_place operands args 1 h in
+        let name = name_is (operand_at references (operand_of operands 0)) (reference_given args 0) (reference_at_place operands args 0 h) in
+        let fit = ap (fits_type_there classes space (operand_at references (operand_of operands 2))) (ap (λ (f : FieldId). f.field.type) field) ∙ fits_type_is (operand_at references (operand_of operands 2)) (reference_given args 2) (field_given args 1).field.type (reference_at_place operands args 2 h) in
+        λ i. ((field i).is_static && assignable classes (name i) (field i).class) && fit i
+    together_is buffer operands args h f e = absurd (cc)
+
+    -- ---- all of them
+
+    room_is : (kind : ResultKind) (has_room : Bool) (frame : Option Frame) → is_full frame ≡ not has_room → (puts_local kind && not has_room) ≡ lacks_room kind frame
+    room_is NewLocal has_room frame h = sym h
+    room_is kind has_room frame h = refl
+
+    same_frames : (f : JniFunction) (frames : List Frame) → is_answered f ≡ true → frames ≡ frames_after f frames
+    same_frames PopLocalFrame frames e = absurd (cc)
+    same_frames f frames e = refl
+
+    with_deleted : (p m w r : Bool) → first_trap ((p, ExceptionPending) ∷ (m, NullReference) ∷ (w, WrongObject) ∷ (r, NoCapacity) ∷ []) ≡ first_trap ((p, ExceptionPending) ∷ (false, DeletedReference) ∷ (m, NullReference) ∷ (w, WrongObject) ∷ (r, NoCapacity) ∷ [])
+    with_deleted true m w r = refl
+    with_deleted false m w r = refl
+
+    -- the trap that is found is the source's
+    pub found_is : (is_pending has_room : Bool) (f : JniFunction) (operands : List Operand) (args : List Actual) (s : Shared) (t : Thread) (target : Target) → is_answered f ≡ true → s.heap ≡ heap → is_pending ≡ is_some t.pending
+        → is_full (slice_get t.frames 0) ≡ not has_room → AllZip (IsGiven classes space references fields) operands args
+        → trap_found classes space is_pending has_room references fields f operands ≡ trap_of_call classes s t target f args
+    unfolding call_trap
+    found_is is_pending has_room f operands args s t target built same pending room h =
+        let buffer = target_element t.variables target in
+        let deleted = sym (all_whole operands args h) in
+        let missing = all_missing (prototype f).parameters operands args h in
+        let misfit = all_misfit (prototype f).parameters operands args h in
+        let together = together_is buffer operands args h f built in
+        let lacks = room_is (prototype f).result has_room (slice_get t.frames 0) room ∙ ap (λ fs. lacks_room (prototype f).result (slice_get fs 0)) (same_frames f t.frames built) in
+        with_deleted (is_pending && not (is_allowed_pending f)) (some_missing references fields (prototype f).parameters operands) (some_misfit classes space references (prototype f).parameters operands || not (fit_together classes space references fields operands f)) (puts_local (prototype f).result && not has_room)
+        ∙ (λ i. first_trap ((pending i && not (is_allowed_pending f), ExceptionPending) ∷ (deleted i, DeletedReference) ∷ (missing i, NullReference) ∷ (misfit i || not (together i), WrongObject) ∷ (lacks i, NoCapacity) ∷ []))
+        ∙ ap (λ g. call_trap classes g t buffer f args) (sym same)

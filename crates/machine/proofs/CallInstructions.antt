@@ -1,0 +1,264 @@
+-- A call that the machine makes does what the source's call does.
+use Rattle.std.proofs.Common.{◌≡◌, ℕ, Bool, true, false, not, List, length, Option, Some, None, refl, sym, ap, ◌∙◌, subst, arith, append-nil}
+use Rattle.std.specs.Prelude.{◌&&◌}
+use Rattle.std.specs.List.{AllZip}
+use Rattle.classes.specs.Class.{Classes}
+use Rattle.heap.specs.Heap.{Space}
+use Rattle.jni.specs.BuiltFunctions.{is_built_function}
+use Rattle.jni.specs.JniFunction.{JniFunction, GetArrayLength, NewGlobalRef, GetBuffer}
+use Rattle.jni.specs.Prototype.{prototype, ResultKind, NewLocal}
+use Rattle.source.specs.Arguments.{Actual}
+use Rattle.source.specs.Object.{Object}
+use Rattle.source.specs.CallEffects.{CallEffect, CallResult, Halts, Leaves, Throws}
+use Rattle.source.specs.CallStep.{after_call, after_refusal, call_step, checked, effect_of_call, makes_objects, put, trap_of_call}
+use Rattle.source.specs.CallTable.{call_effect}
+use Rattle.source.specs.Effect.{Calls, Effect, effect_of}
+use Rattle.source.specs.Heap.{Heap}
+use Rattle.source.specs.Task.{Assigned, Declared, Dropped, Target, Task, Tested}
+use Rattle.source.specs.Thread as source
+use Rattle.source.specs.Thread.{BuffersInUse, Shared, sight_of, viewed_by}
+use Rattle.source.specs.Value.{Trap as SourceTrap}
+use Rattle.source.specs.World.{World}
+use Rattle.code.specs.Call.{Call, call_view}
+use Rattle.code.specs.Depth.{Listing, depth_after}
+use Rattle.code.specs.declared.instr.Call.{Call as InMemory}
+use Rattle.code.specs.declared.instr.Instr.TheVariants as instr
+use Rattle.code.specs.declared.instr.Target.{Target as Destination}
+use Rattle.code.specs.declared.instr.Target.TheVariants as destination
+use Rattle.lower.specs.Does.{CallsFunction, IsOperand, OperandFits, TakesResult}
+use Rattle.lower.specs.Lowered.{Lowered}
+use Rattle.lower.specs.Slots.{Visible, visible_to}
+use Rattle.machine.specs.declared.answer.Answer.{Answer}
+use Rattle.machine.specs.declared.answer.Answer.TheVariants as answers
+use Rattle.machine.specs.declared.answer.Given.{Given}
+use Rattle.machine.specs.declared.stop.Trap.{Trap}
+use Rattle.machine.specs.declared.store.Store.{Store}
+use Rattle.machine.specs.declared.thread.Activation.{Activation}
+use Rattle.machine.specs.declared.thread.Event.TheVariants as event
+use Rattle.machine.specs.declared.thread.Executed.TheVariants.{Did}
+use Rattle.machine.specs.Agrees.{Executes, GoesOn, WorkAgrees, after_any}
+use Rattle.machine.specs.Answers.{IsAnswer}
+use Rattle.machine.specs.Asked.{IsAsked}
+use Rattle.machine.specs.CarriedOut.{CarriesOut, IsPossible, can_fail, pending_after, result_after, shared_after}
+use Rattle.machine.specs.Checked.{is_answered, puts_local}
+use Rattle.machine.specs.Frames.{has_room}
+use Rattle.machine.specs.Invoked.{AtCall}
+use Rattle.machine.specs.Received.{HasFrame, HasTarget, Receives}
+use Rattle.machine.specs.Stops.{trap_view}
+use Rattle.machine.proofs.AnswerCases.{gives_it, makes_it, writes_it}
+use Rattle.machine.proofs.Arguments.{all_given, none_left_after}
+use Rattle.machine.proofs.CallTraps.{room_left}
+use Rattle.machine.proofs.Calls.{Ready, agree_count, fields_count, ready, slots_of}
+use Rattle.machine.proofs.Effects.{call_cases}
+use Rattle.machine.proofs.Invocations.{finishes, going, resumption}
+use Rattle.machine.proofs.Keeping.{keeps_same}
+
+-- a function whose calls can be made is one that is answered
+pub answered_there : (f : JniFunction) → is_built_function f ≡ true → is_answered f ≡ true
+answered_there GetArrayLength h = refl
+answered_there f h = absurd (cc)
+
+-- what is answered can fail
+pub answered_fails : (f : JniFunction) → is_answered f ≡ true → can_fail (prototype f).result ≡ true
+answered_fails NewGlobalRef h = absurd (cc)
+answered_fails (GetBuffer a) h = absurd (cc)
+answered_fails f h = refl
+
+-- ---- the source's step
+
+-- an effect that leaves the thread as it was, but for an exception
+abbrev pub StaysBut : source.Thread → CallEffect → Type 0
+StaysBut s (Throws c) = Unit {0}
+StaysBut s (Halts trap) = ⊥
+StaysBut s (Leaves made s' t' c) = t' ≡ s
+
+module _ (classes : Classes) (lent : BuffersInUse) (k : ℕ) (shared : Shared) (s : source.Thread) (line : ℕ) (target : Target) (f : JniFunction) (args : List Actual) (rest : List Task) where
+  -- what an effect leaves, or the same with its allocation refused
+  abbrev pub left_by : (refused : Bool) → CallEffect → source.Advance
+  left_by refused effect =
+      put target (result_after (prototype f).result refused effect) (shared_after classes refused shared effect)
+      (resumption line f args rest s (pending_after classes refused shared s effect) (result_after (prototype f).result refused effect) target)
+
+  pub step_leaves : (refused : Bool) (effect : CallEffect) → effect_of_call classes lent k shared s line target f args rest ≡ effect → StaysBut s effect → (refused ≡ true → makes_objects effect ≡ true)
+      → call_step classes lent k shared s line target f args rest refused ≡ left_by refused effect
+  step_leaves true effect is stays could =
+      ap (λ (e : CallEffect). after_refusal classes lent k shared s line target f args rest (makes_objects e)) is
+      ∙ ap (after_refusal classes lent k shared s line target f args rest) (could refl)
+      ∙ ap (λ (h : Heap). let r : Shared = record shared { heap = h } in put target (result_after (prototype f).result true effect) r (resumption line f args rest s (pending_after classes true shared s effect) (result_after (prototype f).result true effect) target)) (append-nil shared.heap)
+  step_leaves false (Throws c) is stays could = ap (after_call classes lent k shared s line target f args rest) is
+  step_leaves false (Halts trap) is stays could = absurd stays
+  step_leaves false (Leaves made s' t' c) is stays could =
+      ap (after_call classes lent k shared s line target f args rest) is
+      ∙ ap (λ (t : source.Thread). after_call classes lent k shared s line target f args rest (Leaves made s' t c)) stays
+      ∙ ap (λ (t : source.Thread). left_by false (Leaves made s' t c)) (sym stays)
+
+-- the thread that an effect leaves
+same_thread : {made made' : List Object} {s s' : Shared} {t t' : source.Thread} {c c' : CallResult} → Leaves made s t c ≡ Leaves made' s' t' c' → t ≡ t'
+same_thread e = cc
+
+stays_with : (classes : Classes) (space : Space) (kind : ResultKind) (shared : Shared) (s : source.Thread) (answer : Answer) (effect : CallEffect) → IsAnswer classes space kind shared s answer effect → StaysBut s effect
+stays_with classes space kind shared s answer (Throws c) h = tt
+stays_with classes space kind shared s answer (Halts trap) h = no_halt answer h
+  where
+    no_halt : (answer : Answer) → IsAnswer classes space kind shared s answer (Halts trap) → ⊥
+    no_halt (answers.Gives g) h = h
+    no_halt (answers.Writes a place v) h = h
+    no_halt (answers.Makes c) h = h
+    no_halt (answers.Throws c) h = h
+stays_with classes space kind shared s (answers.Gives g) (Leaves made s' t' c) h = same_thread (gives_it classes space kind shared s g (Leaves made s' t' c) h).is
+stays_with classes space kind shared s (answers.Writes a place v) (Leaves made s' t' c) h = same_thread (writes_it classes space kind shared s a place v (Leaves made s' t' c) h).is
+stays_with classes space kind shared s (answers.Makes class) (Leaves made s' t' c) h = same_thread (makes_it classes space kind shared s class (Leaves made s' t' c) h).is
+stays_with classes space kind shared s (answers.Throws class) (Leaves made s' t' c) h = absurd h
+
+-- ---- the place
+
+-- where the result goes is there
+module _ (p : Lowered) (classes : Classes) (space : Space) (call : Activation) (code : Listing) (visible : Visible) (frames : List source.Frame) (task : Task) (rest : List Task) (r : Ready p classes space call code visible frames task rest) where
+  target_there : (d : Destination) (kind : ResultKind) (target : Target) → TakesResult code r.known call.place call.stack (slots_of call r.references r.fields) visible d kind target rest → HasTarget d call
+  target_there destination.Dropped kind target h = (tt, tt, tt)
+  target_there (destination.Number i) kind (Declared declared x) h = (h.2.1.within, tt, tt)
+  target_there (destination.Number i) kind (Assigned x) h = (h.2.1.within, tt, tt)
+  target_there (destination.Number i) kind (Tested a b) h = absurd h.2
+  target_there (destination.Number i) kind Dropped h = absurd h.2
+  target_there (destination.Local i) kind (Declared declared x) h = (tt, omega (arith, h.1.1.within, agree_count space call.references.items r.references r.agree), tt)
+  target_there (destination.Local i) kind (Assigned x) h = (tt, omega (arith, h.1.1.within, agree_count space call.references.items r.references r.agree), tt)
+  target_there (destination.Local i) kind (Tested a b) h = absurd h.1
+  target_there (destination.Local i) kind Dropped h = absurd h.1
+  target_there (destination.FieldId i) kind (Declared declared x) h = (tt, tt, omega (arith, h.1.1.within, fields_count classes call.fields.items r.fields r.fields_agree))
+  target_there (destination.FieldId i) kind (Assigned x) h = (tt, tt, omega (arith, h.1.1.within, fields_count classes call.fields.items r.fields r.fields_agree))
+  target_there (destination.FieldId i) kind (Tested a b) h = absurd h.1
+  target_there (destination.FieldId i) kind Dropped h = absurd h.1
+
+-- a local reference has room
+frame_by : (kind : ResultKind) (call : Activation) → (puts_local kind && not (has_room call.frames.items)) ≡ false → HasFrame kind call
+frame_by NewLocal call h = by_room (has_room call.frames.items) h
+  where
+    by_room : (b : Bool) → (true && not b) ≡ false → b ≡ true
+    by_room true h = refl
+    by_room false h = absurd (cc)
+frame_by kind call h = tt
+
+-- ---- the call
+
+-- the first task is a call, whose arguments the operands give
+pub record CalledAs (p : Lowered) (w : World) (store : Store) (pending : Option ℕ) (call : Activation) (code : Listing) (function : Call) (shared : Shared) (s : source.Thread) (task : Task) (rest : List Task)
+    (r : Ready p w.classes store.heap call code (visible_to shared s) s.frames task rest) (effect : Effect) : Type 0 where
+  pub line : ℕ
+  pub target : Target
+  pub f : JniFunction
+  pub args : List Actual
+  pub is : effect ≡ Calls line target f args
+  pub asked : IsAsked p w store pending call function shared s f args
+  pub same_line : function.line ≡ line
+  pub goes : TakesResult code r.known call.place call.stack (slots_of call r.references r.fields) (visible_to shared s) function.target (prototype f).result target rest
+  pub left : depth_after (instr.Call function) (length call.stack) ≡ Some 0
+
+module _ (p : Lowered) (w : World) (store : Store) (pending : Option ℕ) (call : Activation) (in_memory : InMemory) (shared : Shared) (s : source.Thread) (task : Task) (rest : List Task) (h : AtCall p w store pending call in_memory shared s task rest) where
+  abbrev pub function : Call
+  function = call_view in_memory
+
+  pub r : Ready p w.classes store.heap call h.code (visible_to shared s) s.frames task rest
+  r = ready p w.classes store.heap call h.code (visible_to shared s) s.frames task rest h.lowered h.of_function h.stands
+
+  abbrev pub Called : Effect → Type 0
+  Called effect = CalledAs p w store pending call h.code function shared s task rest r effect
+
+  called_by : (line : ℕ) (target : Target) (f : JniFunction) (args : List Actual) → CallsFunction h.code r.known call.place call.stack (slots_of call r.references r.fields) (visible_to shared s) line target f args rest → Called (Calls line target f args)
+  called_by line target f args c =
+      let same : c.call ≡ function = let both : instr.Call c.call ≡ instr.Call function = cc (h.at, c.at) in cc in
+      let given = all_given p w.classes store.heap call h.code (visible_to shared s) s.frames task rest r function.operands args
+      (subst (λ (x : Call). AllZip (IsOperand h.code r.known call.place call.stack (slots_of call r.references r.fields) (visible_to shared s)) x.operands args) same c.given) in
+      record {
+        line = line;
+        target = target;
+        f = f;
+        args = args;
+        is = refl;
+        asked = record {
+          store_agrees = h.shares;
+          pending_agrees = h.pending_agrees;
+          frames_agree = r.frames_agree;
+          same_function = ap (λ (x : Call). x.function) (sym same) ∙ c.same_function;
+          answered = answered_there f c.built;
+          count = c.count;
+          kinds = subst (λ (x : Call). AllZip OperandFits (prototype f).parameters x.operands) same c.kinds;
+          given = given;
+          words = c.words;
+          texts = ap (λ (x : Call). x.texts) (sym same) ∙ c.texts;
+        };
+        same_line = ap (λ (x : Call). x.line) (sym same) ∙ c.same_line;
+        goes = subst (λ (x : Call). TakesResult h.code r.known call.place call.stack (slots_of call r.references r.fields) (visible_to shared s) x.target (prototype f).result target rest) same c.goes;
+        left = none_left_after w.classes store.heap call.references.items call.fields.items function.operands args call.stack given c.words;
+      }
+
+  pub called : Called (effect_of (sight_of shared s) task)
+  called = call_cases p w.classes store.heap call h.code (visible_to shared s) s.frames task rest r (instr.Call function) h.at function refl Called called_by
+
+  -- its slot is there
+  pub has_target : HasTarget in_memory.target call
+  has_target = target_there p w.classes store.heap call h.code (visible_to shared s) s.frames task rest r function.target (prototype called.f).result called.target called.goes
+
+  -- a call of it can be carried out
+  pub possible : IsPossible p w store pending (prototype called.f).result shared s
+  possible = record { store_agrees = h.shares; pending_agrees = h.pending_agrees; fails = answered_fails called.f called.asked.answered }
+
+  -- nothing was found
+  module _ (free : trap_of_call w.classes shared s called.target called.f called.args ≡ None) where
+    pub has_frame : HasFrame (prototype called.f).result call
+    has_frame = frame_by (prototype called.f).result call (room_left p w store pending call function shared s called.f called.args called.asked called.target free)
+
+    -- the effect of the source's call
+    pub effect_is : (lent : BuffersInUse) (k : ℕ) → effect_of_call w.classes lent k shared s called.line called.target called.f called.args rest ≡ call_effect w.classes lent k shared s called.args called.f
+    effect_is lent k = ap (λ (o : Option SourceTrap). checked o (call_effect w.classes lent k shared s called.args called.f)) free
+
+  module _ (lent : BuffersInUse) (k : ℕ) where
+    -- a trap stops the thread where it is
+    pub traps : (trap : Trap) (line : ℕ) → line ≡ function.line → trap_of_call w.classes shared s called.target called.f called.args ≡ Some (trap_view trap)
+        → Executes p w store.heap store lent k shared s rest call pending (effect_of (sight_of shared s) task) (Did (event.Trapped trap line))
+    traps trap line same found =
+        subst (λ (e : Effect). GoesOn p w store.heap store lent k shared s rest call pending e false (event.Trapped trap line)) (sym called.is) (record {
+          next_shared = shared;
+          next = s;
+          steps =
+              ap (after_call w.classes lent k shared s called.line called.target called.f called.args rest) (ap (λ (o : Option SourceTrap). checked o (call_effect w.classes lent k shared s called.args called.f)) found)
+              ∙ ap (λ (n : ℕ). source.Advances shared s (source.Trapped (trap_view trap) n)) (sym (same ∙ called.same_line));
+          store_agrees = h.shares;
+          keeps = keeps_same store.heap shared;
+          work = subst (λ (o : Option (List Task)). WorkAgrees p w.classes store.heap (visible_to shared s) (Some call) s.frames o) (sym h.tasks) h.stands;
+          pending_agrees = h.pending_agrees;
+          calls = refl;
+          ending = refl;
+          viewless = h.viewless;
+        })
+
+    -- a step of the call is one of the first task
+    stepped : (refused : Bool) (t : source.Thread) (next : Shared) → call_step w.classes lent k shared s called.line called.target called.f called.args rest refused ≡ source.Advances next t source.Quiet
+        → after_any w.classes lent k shared s rest refused (Calls called.line called.target called.f called.args) ≡ source.Advances next t source.Quiet
+    stepped false t next h = h
+    stepped true t next h = h
+
+    -- what was carried out and received is what the source's call leaves
+    pub goes_on : (refused : Bool) (store' : Store) (pending' : Option ℕ) (g : Given) (after : Activation) (answer : Answer) → (free : trap_of_call w.classes shared s called.target called.f called.args ≡ None)
+        → IsAnswer w.classes store.heap (prototype called.f).result shared s answer (call_effect w.classes lent k shared s called.args called.f)
+        → CarriesOut p w store.heap (prototype called.f).result shared s (call_effect w.classes lent k shared s called.args called.f) refused store' pending' g
+        → Receives function.target (prototype called.f).result g call after
+        → GoesOn p w store.heap store' lent k shared s rest after pending' (effect_of (sight_of shared s) task) refused event.Quiet
+    goes_on refused store' pending' g after answer free does carried received =
+        let effect = call_effect w.classes lent k shared s called.args called.f in
+        let next = shared_after w.classes refused shared effect in
+        let q = pending_after w.classes refused shared s effect in
+        let c = result_after (prototype called.f).result refused effect in
+        let ends = finishes p w store.heap store'.heap shared next carried.keeps s h.viewless call h.code task rest r called.line called.f called.args q g c carried.given_agrees function h.at called.left after function.target called.target called.goes received in
+        let steps = step_leaves w.classes lent k shared s called.line called.target called.f called.args rest refused effect (effect_is free lent k) (stays_with w.classes store.heap (prototype called.f).result shared s answer effect does) carried.could_refuse in
+        subst (λ (e : Effect). GoesOn p w store.heap store' lent k shared s rest after pending' e refused event.Quiet) (sym called.is) (record {
+          next_shared = next;
+          next = going called.line called.f called.args rest s q c ends.variables;
+          steps = stepped refused (going called.line called.f called.args rest s q c ends.variables) next (steps ∙ ends.steps);
+          store_agrees = carried.store_agrees;
+          keeps = carried.keeps;
+          work = ends.stands;
+          pending_agrees = carried.pending_agrees;
+          calls = refl;
+          ending = refl;
+          viewless = ends.viewless;
+        })

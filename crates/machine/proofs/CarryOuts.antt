@@ -1,0 +1,129 @@
+-- What is carried out is what the source's call leaves.
+use Rattle.std.proofs.Common.{◌≡◌, ℕ, zero, suc, ◌<◌, Bool, true, false, List, [], ◌∷◌, ◌++◌, length, Option, Some, refl, sym, ap, subst, arith, append-nil}
+use Rattle.std.specs.Prelude.{slice_get}
+use Rattle.std.proofs.lemmas.Option.{slice_get_within}
+use Rattle.classes.specs.Class.{Classes}
+use Rattle.heap.specs.Heap.{Space, with_value}
+use Rattle.heap.specs.declared.value.Value.{Value}
+use Rattle.jni.specs.Prototype.{ResultKind, NewLocal, NewGlobal, GivesFlag, GivesInt, GivesField, GivesNothing, GivesBuffer}
+use Rattle.source.specs.CallEffects.{NoResult, ReferenceResult, CallEffect, out_of_memory}
+use Rattle.source.specs.CallStep.{failure, makes_objects}
+use Rattle.source.specs.Heap.{Heap, next_name}
+use Rattle.source.specs.Thread.{Shared, Thread}
+use Rattle.source.specs.World.{World, fresh_object, loaded_objects}
+use Rattle.world.proofs.LoadedWorlds.{loaded_error}
+use Rattle.lower.specs.Lowered.{Lowered}
+use Rattle.machine.specs.declared.answer.Answer.{Answer}
+use Rattle.machine.specs.declared.answer.Answer.TheVariants as answer
+use Rattle.machine.specs.declared.answer.Given.{Given}
+use Rattle.machine.specs.declared.answer.Given.TheVariants as given
+use Rattle.machine.specs.declared.store.Store.{Store}
+use Rattle.machine.specs.Agrees.{StoreAgrees, Keeps}
+use Rattle.machine.specs.Answers.{GivenAgrees, IsAnswer}
+use Rattle.machine.specs.CarriedOut.{CarriesOut, IsPossible, can_fail, failed}
+use Rattle.machine.specs.HeapAgrees.{ReferenceAgrees}
+use Rattle.machine.specs.Made.{HasMade}
+use Rattle.machine.proofs.AnswerCases.{gives_it, makes_it, throws_it, writes_it}
+use Rattle.machine.proofs.Keeping.{keeps_same, reference_stays}
+use Rattle.machine.proofs.Makes as making
+use Rattle.machine.proofs.Writes as writing
+
+-- a call that fails gives what it gives in the source
+failed_agrees : (classes : Classes) (space : Space) (kind : ResultKind) → can_fail kind ≡ true → GivenAgrees classes space kind (failed kind) (failure kind)
+failed_agrees classes space NewLocal h = refl
+failed_agrees classes space GivesField h = refl
+failed_agrees classes space GivesFlag h = refl
+failed_agrees classes space GivesInt h = (refl, record { sfits = omega arith })
+failed_agrees classes space GivesNothing h = tt
+failed_agrees classes space NewGlobal h = absurd (cc)
+failed_agrees classes space (GivesBuffer a) h = absurd (cc)
+
+get_below : (xs : List ℕ) (i : ℕ) → i < length xs → (a : ℕ) × (slice_get xs i ≡ Some a)
+get_below [] i h = absurd (omega (arith, h))
+get_below (x ∷ xs) zero h = (x, refl)
+get_below (x ∷ xs) (suc i) h = get_below xs i (omega (arith, h))
+
+module _ (p : Lowered) (w : World) (store : Store) (pending : Option ℕ) (kind : ResultKind) (shared : Shared) (s : Thread) (h : IsPossible p w store pending kind shared s) where
+  -- what is left of an effect
+  abbrev Carries : CallEffect → Bool → Store → Option ℕ → Given → Type 0
+  Carries effect refused after pending' g = CarriesOut p w store.heap kind shared s effect refused after pending' g
+
+  -- the OutOfMemoryError object is there
+  error_there : ReferenceAgrees store.heap (slice_get store.loaded.items (length w.classes)) (Some (out_of_memory w.classes))
+  error_there =
+      let table = h.store_agrees.table in
+      let within = slice_get_within (loaded_objects w) (length w.classes) (fresh_object w.classes 11) (loaded_error w) in
+      let found = get_below store.loaded.items (length w.classes) (omega (arith, within, table.counted)) in
+      subst (λ (o : Option ℕ). ReferenceAgrees store.heap o (Some (out_of_memory w.classes))) (sym found.1) (table.named (length w.classes) found.0 found.1)
+
+  -- the allocation was refused
+  refuses : (effect : CallEffect) → makes_objects effect ≡ true → Carries effect true store (slice_get store.loaded.items (length w.classes)) (failed kind)
+  refuses effect makes = record {
+    store_agrees = h.store_agrees;
+    keeps = keeps_same store.heap shared;
+    pending_agrees = error_there;
+    given_agrees = failed_agrees w.classes store.heap kind h.fails;
+    could_refuse = λ e. makes;
+  }
+
+  abbrev Does : Answer → CallEffect → Type 0
+  Does a effect = IsAnswer w.classes store.heap kind shared s a effect
+
+  pub refuses_object : (class : ℕ) (effect : CallEffect) → Does (answer.Makes class) effect → Carries effect true store (slice_get store.loaded.items (length w.classes)) (failed kind)
+  refuses_object class effect does = refuses effect (ap makes_objects (makes_it w.classes store.heap kind shared s class effect does).is)
+
+  pub refuses_exception : (class : ℕ) (effect : CallEffect) → Does (answer.Throws class) effect → Carries effect true store (slice_get store.loaded.items (length w.classes)) (failed kind)
+  refuses_exception class effect does = refuses effect (ap makes_objects (throws_it w.classes store.heap kind shared s class effect does).is)
+
+  -- nothing is added to the heap
+  same_heap : (t : Shared) → record t { heap = t.heap ++ [] } ≡ t
+  same_heap t = ap (λ (l : Heap). let r : Shared = record t { heap = l } in r) (append-nil t.heap)
+
+  pub gives : (g : Given) (effect : CallEffect) → Does (answer.Gives g) effect → Carries effect false store pending g
+  gives g effect does =
+      let it = gives_it w.classes store.heap kind shared s g effect does in
+      subst (λ (e : CallEffect). Carries e false store pending g) (sym it.is) (record {
+        store_agrees = subst (StoreAgrees p w store) (sym (same_heap shared)) h.store_agrees;
+        keeps = subst (Keeps store.heap shared store.heap) (sym (same_heap shared)) (keeps_same store.heap shared);
+        pending_agrees = h.pending_agrees;
+        given_agrees = it.agrees;
+        could_refuse = λ e. absurd (cc);
+      })
+
+  pub writes : (a place : ℕ) (v : Value) (effect : CallEffect) → Does (answer.Writes a place v) effect → Carries effect false (record store { heap = with_value store.heap a place v }) pending given.Nothing
+  writes a place v effect does =
+      let it = writes_it w.classes store.heap kind shared s a place v effect does in
+      let after : Store = record store { heap = with_value store.heap a place v } in
+      let agrees = writing.written_agrees p w store shared it.after a place v h.store_agrees it.writes in
+      let keeps = writing.written_keeps p w store shared it.after a place v h.store_agrees it.writes in
+      subst (λ (e : CallEffect). Carries e false after pending given.Nothing) (sym it.is) (record {
+        store_agrees = subst (StoreAgrees p w after) (sym (same_heap it.after)) agrees;
+        keeps = subst (Keeps store.heap shared after.heap) (sym (same_heap it.after)) keeps;
+        pending_agrees = reference_stays store.heap after.heap keeps.names pending s.pending h.pending_agrees;
+        given_agrees = subst (λ (k : ResultKind). GivenAgrees w.classes after.heap k given.Nothing NoResult) (sym it.kind_is) tt;
+        could_refuse = λ e. absurd (cc);
+      })
+
+  module _ (new : Store) (class a : ℕ) (made : HasMade w.classes store class new a) where
+    pub makes : (effect : CallEffect) → Does (answer.Makes class) effect → Carries effect false new pending (given.Reference (Some a))
+    makes effect does =
+        let it = makes_it w.classes store.heap kind shared s class effect does in
+        subst (λ (e : CallEffect). Carries e false new pending (given.Reference (Some a))) (sym it.is) (record {
+          store_agrees = making.made_agrees p w store new shared class a h.store_agrees made it.makeable;
+          keeps = making.made_keeps p w store new shared class a h.store_agrees made;
+          pending_agrees = reference_stays store.heap new.heap (making.names_stay p w store new shared class a h.store_agrees made) pending s.pending h.pending_agrees;
+          given_agrees = subst (λ (k : ResultKind). GivenAgrees w.classes new.heap k (given.Reference (Some a)) (ReferenceResult (Some (next_name shared.heap)))) (sym it.kind_is)
+              (making.made_named p w store new shared class a h.store_agrees made);
+          could_refuse = λ e. absurd (cc);
+        })
+
+    pub throws : (effect : CallEffect) → Does (answer.Throws class) effect → Carries effect false new (Some a) (failed kind)
+    throws effect does =
+        let it = throws_it w.classes store.heap kind shared s class effect does in
+        subst (λ (e : CallEffect). Carries e false new (Some a) (failed kind)) (sym it.is) (record {
+          store_agrees = making.made_agrees p w store new shared class a h.store_agrees made it.makeable;
+          keeps = making.made_keeps p w store new shared class a h.store_agrees made;
+          pending_agrees = making.made_named p w store new shared class a h.store_agrees made;
+          given_agrees = failed_agrees w.classes new.heap kind h.fails;
+          could_refuse = λ e. absurd (cc);
+        })

@@ -1,0 +1,164 @@
+-- What a step leaves as it was for the other threads, and what of them agrees with it still.
+use Rattle.std.proofs.Common.{◌≡◌, ℕ, ℤ, ◌-◌, List, [], ◌∷◌, ◌++◌, length, reverse, take, Option, Some, None, refl, sym, ap, ◌∙◌, arith}
+use Rattle.std.specs.Prelude.{slice_get, slice_set}
+use Rattle.std.specs.List.{AllZip}
+use Rattle.std.proofs.Math.ListN.{length-set}
+use Rattle.std.proofs.lemmas.List.{take_all}
+use Rattle.syntax.specs.Views.{unit_tree}
+use Rattle.classes.specs.Class.{Classes}
+use Rattle.heap.specs.Heap.{Space, name_at}
+use Rattle.source.specs.Heap.{Heap, object_at, class_of, values_of, with_value_at}
+use Rattle.source.specs.Object.{Object, ObjectValue, Reference, sizes}
+use Rattle.source.specs.Start.{null_statics}
+use Rattle.source.specs.Task.{Task}
+use Rattle.source.specs.Thread as source
+use Rattle.source.specs.Thread.{Shared}
+use Rattle.source.proofs.LiveSizes.{written_sizes}
+use Rattle.lower.specs.Lowered.{Lowered}
+use Rattle.base.specs.Bytes.{Identifier, lookup}
+use Rattle.types.specs.Sorts as sort
+use Rattle.types.specs.Sorts.{Sort}
+use Rattle.code.specs.Depth.{Listing}
+use Rattle.code_generator.specs.Layout.{Slot, Known}
+use Rattle.source.specs.Sight.{holds_null, held_reference, in_range, elements_of}
+use Rattle.source.specs.Value.{outcome_then}
+use Rattle.source.specs.Variable.{Variable, Statics}
+use Rattle.lower.specs.Slots.{Slots, Shows, ShowsSlot, visible_to}
+use Rattle.machine.proofs.Changes.{array_of}
+use Rattle.machine.specs.declared.thread.Activation.{Activation}
+use Rattle.machine.specs.Frames.{Frame}
+use Rattle.machine.specs.declared.thread.Thread.{Thread}
+use Rattle.machine.specs.HeapAgrees.{ReferenceAgrees, NamesAgree}
+use Rattle.machine.specs.Agrees.{Keeps, ReferencesAgree, FrameAgrees, FramesAgree, CallStands, WorkAgrees, ThreadAgrees, ThreadsAgree}
+
+-- nothing but NULL is in the statics yet
+abbrev pub StaticsAgree : Lowered → Shared → Type 0
+StaticsAgree p shared = shared.statics ≡ null_statics (unit_tree p.unit)
+
+-- ---- what keeps all
+
+-- nothing changes
+pub keeps_same : (space : Space) (shared : Shared) → Keeps space shared space shared
+keeps_same space shared = record { names = λ a n h. h; statics = refl; sizes = ap sizes (take_all (length shared.heap) shared.heap (omega arith)) }
+
+-- the sizes where a value of an object that is there changes
+pub sizes_written : (heap : Heap) (n i : ℕ) (v : ObjectValue) (o : Object) → object_at heap n ≡ Some o → sizes (take (length heap) (with_value_at heap n i v)) ≡ sizes heap
+sizes_written heap n i v o at =
+    let new : Object = record { class = class_of heap n; values = slice_set (values_of heap n) i v } in
+    ap sizes (take_all (length heap) (with_value_at heap n i v) (omega (arith, length-set heap (n - 1) new))) ∙ written_sizes heap n i v o at
+
+-- the sizes where there are objects more
+pub sizes_more : (heap more : Heap) → sizes (take (length heap) (heap ++ more)) ≡ sizes heap
+sizes_more heap more = ap sizes (take_front heap more)
+  where
+    take_front : (xs ys : Heap) → take (length xs) (xs ++ ys) ≡ xs
+    take_front [] ys = refl
+    take_front (x ∷ xs) ys = ap (λ (l : Heap). x ∷ l) (take_front xs ys)
+
+-- ---- what agrees still
+
+module _ (space space' : Space) (names : (a n : ℕ) → name_at space a ≡ Some n → name_at space' a ≡ Some n) where
+  pub reference_stays : (a : Option ℕ) (r : Reference) → ReferenceAgrees space a r → ReferenceAgrees space' a r
+  reference_stays None None h = h
+  reference_stays None (Some n) h = h
+  reference_stays (Some a) None h = h
+  reference_stays (Some a) (Some n) h = names a n h
+
+  pub references_stay : (xs : List (Option ℕ)) (rs : List Reference) → ReferencesAgree space xs rs → ReferencesAgree space' xs rs
+  references_stay [] [] h = h
+  references_stay [] (r ∷ rs) h = h
+  references_stay (a ∷ xs) [] h = h
+  references_stay (a ∷ xs) (r ∷ rs) h = (reference_stays a r h.0, references_stay xs rs h.1)
+
+  pub names_stay : (xs ns : List ℕ) → NamesAgree space xs ns → NamesAgree space' xs ns
+  names_stay [] [] h = h
+  names_stay [] (n ∷ ns) h = h
+  names_stay (a ∷ xs) [] h = h
+  names_stay (a ∷ xs) (n ∷ ns) h = (names a n h.0, names_stay xs ns h.1)
+
+  frame_stays : (f : Frame) (g : source.Frame) → FrameAgrees space f g → FrameAgrees space' f g
+  frame_stays f g h = record { capacity = h.capacity; references = names_stay (reverse f.references) g.references h.references }
+
+  frames_zip : (fs : List Frame) (gs : List source.Frame) → AllZip (FrameAgrees space) fs gs → AllZip (FrameAgrees space') fs gs
+  frames_zip [] [] h = h
+  frames_zip [] (g ∷ gs) h = h
+  frames_zip (f ∷ fs) [] h = h
+  frames_zip (f ∷ fs) (g ∷ gs) h = (frame_stays f g h.0, frames_zip fs gs h.1)
+
+  pub frames_stay : (fs : List Frame) (gs : List source.Frame) → FramesAgree space fs gs → FramesAgree space' fs gs
+  frames_stay fs gs h = frames_zip (reverse fs) gs h
+
+-- ---- what a thread sees
+
+-- what the slots show, where other threads left the statics as they were
+module _ (shared shared' : Shared) (statics : shared'.statics ≡ shared.statics) (s : source.Thread) where
+  nulls : (x : Identifier) → (visible_to shared' s).sight.is_null x ≡ (visible_to shared s).sight.is_null x
+  nulls x = ap (λ (ss : Statics). holds_null (lookup x s.variables) (lookup x ss)) statics
+
+  referred : (x : Identifier) → (visible_to shared' s).sight.reference x ≡ (visible_to shared s).sight.reference x
+  referred x = ap (λ (ss : Statics). held_reference (lookup x s.variables) (lookup x ss)) statics
+
+  slot_stays : (x : Identifier) (slots : Slots) (slot : Slot) (of : Sort) → ShowsSlot (visible_to shared s) x slots slot of → ShowsSlot (visible_to shared' s) x slots slot of
+  slot_stays x slots slot sort.Word h = record { value = h.value; is = h.is; kind = h.kind; sort = h.sort; word = h.word }
+  slot_stays x slots slot sort.Jint h = record { value = h.value; is = h.is; kind = h.kind; sort = h.sort; word = h.word }
+  slot_stays x slots slot sort.Flag h = record { value = h.value; is = h.is; kind = h.kind; sort = h.sort; word = h.word }
+  slot_stays x slots slot sort.Truth h = h
+  slot_stays x slots slot sort.Ref h = record { reference = h.reference; is = referred x ∙ h.is; is_null = nulls x ∙ h.is_null; no_number = h.no_number; kind = h.kind; there = h.there }
+  slot_stays x slots slot sort.Global h = record { is_null = nulls x ∙ h.is_null; reference = referred x ∙ h.reference }
+  slot_stays x slots slot sort.FieldId h = record { field = h.field; is = h.is; is_null = nulls x ∙ h.is_null; no_number = h.no_number; kind = h.kind; there = h.there }
+  slot_stays x slots slot (sort.Buffer t writable) h = nulls x ∙ h
+  slot_stays x slots slot (sort.Array t size) h =
+      let array = array_of (lookup x s.variables) t h.array_type in
+      let same : (i : ℕ) → (visible_to shared' s).sight.element x i ≡ (visible_to shared s).sight.element x i = λ i.
+      ap (λ (o : Option Variable). outcome_then (λ (zs : List ℤ). in_range (slice_get zs i)) (elements_of shared'.heap o)) array.1
+      ∙ sym (ap (λ (o : Option Variable). outcome_then (λ (zs : List ℤ). in_range (slice_get zs i)) (elements_of shared.heap o)) array.1) in
+      record {
+        few = h.few;
+        array_type = h.array_type;
+        elements = λ i below. let e = h.elements i below in record { number = e.number; is = same i ∙ e.is; fits = e.fits; word = e.word };
+        past = λ i above. same i ∙ h.past i above;
+      }
+
+  pub shows_stay : (code : Listing) (known : Known) (slots : Slots) → Shows code known (visible_to shared s) slots → Shows code known (visible_to shared' s) slots
+  shows_stay code known slots h = record { numbers = h.numbers; references = h.references; fields = h.fields; each = λ x slot at. slot_stays x slots slot slot.sort (h.each x slot at) }
+
+-- ---- the other threads
+
+module _ (p : Lowered) (classes : Classes) (made : ℕ) (space space' : Space) (shared shared' : Shared) (k : Keeps space shared space' shared') where
+  call_stays : (call : Activation) (s : source.Thread) (frames : List source.Frame) (tasks : List Task) → CallStands p classes space call (visible_to shared s) frames tasks → CallStands p classes space' call (visible_to shared' s) frames tasks
+  call_stays call s frames tasks h = record {
+    code = h.code;
+    of_function = h.of_function;
+    known = h.known;
+    stands = h.stands;
+    references = h.references;
+    agree = references_stay space space' k.names call.references.items h.references h.agree;
+    fields = h.fields;
+    fields_agree = h.fields_agree;
+    shows = shows_stay shared shared' k.statics s h.code h.known (record { numbers = call.numbers.items; references = h.references; fields = h.fields }) h.shows;
+    depth = h.depth;
+    frames_agree = frames_stay space space' k.names call.frames.items frames h.frames_agree;
+  }
+
+  work_stays : (s : source.Thread) (o : Option Activation) (frames : List source.Frame) (tasks : Option (List Task)) → WorkAgrees p classes space (visible_to shared s) o frames tasks → WorkAgrees p classes space' (visible_to shared' s) o frames tasks
+  work_stays s None frames None h = h
+  work_stays s None frames (Some tasks) h = absurd h
+  work_stays s (Some call) frames None h = absurd h
+  work_stays s (Some call) frames (Some tasks) h = call_stays call s frames tasks h
+
+  thread_stays : (t : Thread) (s : source.Thread) → ThreadAgrees p classes space made shared t s → ThreadAgrees p classes space' made shared' t s
+  thread_stays t s h = record {
+    calls = h.calls;
+    work = work_stays s t.call s.frames s.tasks h.work;
+    pending = reference_stays space space' k.names t.pending s.pending h.pending;
+    ending = h.ending;
+    busy = h.busy;
+    caught = h.caught;
+    viewless = h.viewless;
+  }
+
+  pub threads_stay : (ts : List Thread) (ss : List source.Thread) → ThreadsAgree p classes space made shared ts ss → ThreadsAgree p classes space' made shared' ts ss
+  threads_stay [] [] h = h
+  threads_stay [] (s ∷ ss) h = absurd h
+  threads_stay (t ∷ ts) [] h = absurd h
+  threads_stay (t ∷ ts) (s ∷ ss) h = (thread_stays t s h.0, threads_stay ts ss h.1)

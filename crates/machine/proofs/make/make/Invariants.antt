@@ -1,0 +1,10 @@
+use Rattle.std.proofs.Common.{◌≡◌, ◌+◌}
+use Rattle.heap.specs.Heap.{with_block}
+use Rattle.machine.specs.Made.{initial_values}
+use Rattle.machine.proofs.FilledBlocks.{filled_block}
+use Rattle.machine.proofs.make.make.Given as goal
+
+abbrev pub invariant-loop-place : goal.invariant-loop-place
+invariant-loop-place l =
+    (l.store.heap ≡ with_block l.fn.store.heap (filled_block l.fn.store.heap l.class (l.fn.store.births + 1) (initial_values l.fn.classes l.class) l.place))
+    × (l.store.loaded ≡ l.fn.store.loaded)

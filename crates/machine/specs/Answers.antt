@@ -1,0 +1,56 @@
+-- What answers are, by the effects of the source's calls.
+use Rattle.std.specs.Prelude.{◌≡◌, ℕ, ◌<◌, ◌≤◌, [], ◌∷◌, length, Some, None, FitsSigned}
+use Rattle.std.specs.Int.{w32}
+use Rattle.classes.specs.BuiltIns.{class_class}
+use Rattle.classes.specs.Class.{Classes}
+use Rattle.heap.specs.Heap.{Space, name_at, values_at}
+use Rattle.heap.specs.declared.value.Value.{Value}
+use Rattle.jni.specs.Prototype.{ResultKind, NewLocal, GivesFlag, GivesInt, GivesField, GivesNothing}
+use Rattle.source.specs.CallEffects.{CallResult, NoResult, NullResult, ScalarResult, ReferenceResult, FieldResult, CallEffect, Leaves, Throws}
+use Rattle.source.specs.Heap.{next_name, with_value_at}
+use Rattle.source.specs.Object.{ObjectValue}
+use Rattle.source.specs.Thread.{Shared, Thread}
+use Rattle.source.specs.Value.{Int, Flag}
+use Rattle.source.specs.World.{fresh_object}
+use Rattle.lower.specs.Slots.{word_of}
+use Rattle.machine.specs.declared.answer.Given.{Given}
+use Rattle.machine.specs.declared.answer.Given.TheVariants as given
+use Rattle.machine.specs.declared.answer.Answer.{Answer}
+use Rattle.machine.specs.declared.answer.Answer.TheVariants as answer
+use Rattle.machine.specs.Agrees.{FieldAgrees}
+use Rattle.machine.specs.HeapAgrees.{ReferenceAgrees, ValueAgrees}
+
+-- what a function of this kind of result gives; NULL where it failed
+abbrev pub GivenAgrees : Classes → Space → ResultKind → Given → CallResult → Type 0
+GivenAgrees classes space GivesNothing given.Nothing NoResult = Unit {0}
+GivenAgrees classes space GivesInt (given.Number word) (ScalarResult (Int z)) = (word ≡ word_of (Int z)) × FitsSigned w32 z
+GivenAgrees classes space GivesFlag (given.Number word) (ScalarResult (Flag b)) = word ≡ word_of (Flag b)
+GivenAgrees classes space NewLocal (given.Reference a) (ReferenceResult r) = ReferenceAgrees space a r
+GivenAgrees classes space NewLocal (given.Reference a) NullResult = a ≡ None
+GivenAgrees classes space GivesField (given.FieldId h) (FieldResult f) = FieldAgrees classes h f
+GivenAgrees classes space GivesField (given.FieldId h) NullResult = h ≡ None
+GivenAgrees classes space kind g c = ⊥
+
+-- objects of this class can be made
+pub record IsMakeable (classes : Classes) (c : ℕ) : Type 0 where
+  pub low : 0 < c
+  pub high : c ≤ length classes
+  pub no_class : c ≡ class_class → ⊥
+
+-- another heap of the source, where a value of the object at an address is changed
+pub record WritesAt (space : Space) (s : Shared) (s' : Shared) (a place : ℕ) (v : Value) : Type 0 where
+  pub name : ℕ
+  pub there : name_at space a ≡ Some name
+  pub value : ObjectValue
+  pub agrees : ValueAgrees space v value
+  pub within : place < length (values_at space a)
+  pub is : s' ≡ record s { heap = with_value_at s.heap name place value }
+
+-- The answer is what the call does to this state, all checks being passed.
+abbrev pub IsAnswer : Classes → Space → ResultKind → Shared → Thread → Answer → CallEffect → Type 0
+IsAnswer classes space kind s t (answer.Throws c) (Throws class) = (c ≡ class) × IsMakeable classes c
+IsAnswer classes space kind s t (answer.Gives given) (Leaves [] s' t' c) = (s' ≡ s) × (t' ≡ t) × GivenAgrees classes space kind given c
+IsAnswer classes space kind s t (answer.Writes a place v) (Leaves [] s' t' NoResult) = (t' ≡ t) × (kind ≡ GivesNothing) × WritesAt space s s' a place v
+IsAnswer classes space kind s t (answer.Makes c) (Leaves (o ∷ []) s' t' (ReferenceResult r)) =
+    (s' ≡ s) × (t' ≡ t) × (kind ≡ NewLocal) × (r ≡ Some (next_name s.heap)) × (o ≡ fresh_object classes c) × IsMakeable classes c
+IsAnswer classes space kind s t answer effect = ⊥

@@ -1,0 +1,30 @@
+-- A call of a function with the arguments that the source's call has.
+use Rattle.std.specs.Prelude.{◌≡◌, ℕ, true, List, length, Option}
+use Rattle.std.specs.List.{AllZip}
+use Rattle.code.specs.Call.{Call}
+use Rattle.jni.specs.JniFunction.{JniFunction}
+use Rattle.jni.specs.Prototype.{prototype}
+use Rattle.source.specs.Arguments.{Actual}
+use Rattle.source.specs.Thread.{Shared, Thread}
+use Rattle.source.specs.World.{World}
+use Rattle.lower.specs.Does.{OperandFits, words_given, texts_given}
+use Rattle.lower.specs.Lowered.{Lowered}
+use Rattle.machine.specs.declared.store.Store.{Store}
+use Rattle.machine.specs.declared.thread.Activation.{Activation}
+use Rattle.machine.specs.Agrees.{StoreAgrees, FramesAgree}
+use Rattle.machine.specs.Checked.{is_answered}
+use Rattle.machine.specs.Given.{IsGiven}
+use Rattle.machine.specs.HeapAgrees.{ReferenceAgrees}
+
+-- Store, frames and pending exception agree with the source's, and each operand gives what the argument at its place is.
+pub record IsAsked (p : Lowered) (w : World) (store : Store) (pending : Option ℕ) (call : Activation) (function : Call) (shared : Shared) (s : Thread) (f : JniFunction) (args : List Actual) : Type 0 where
+  pub store_agrees : StoreAgrees p w store shared
+  pub pending_agrees : ReferenceAgrees store.heap pending s.pending
+  pub frames_agree : FramesAgree store.heap call.frames.items s.frames
+  pub same_function : function.function ≡ f
+  pub answered : is_answered f ≡ true
+  pub count : length args ≡ length (prototype f).parameters
+  pub kinds : AllZip OperandFits (prototype f).parameters function.operands
+  pub given : AllZip (IsGiven w.classes store.heap call.references.items call.fields.items) function.operands args
+  pub words : call.stack ≡ words_given args
+  pub texts : function.texts ≡ texts_given args

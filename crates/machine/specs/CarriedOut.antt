@@ -1,0 +1,71 @@
+-- What carrying out an answer leaves, by the effect of the source's call.
+use Rattle.std.specs.Prelude.{◌≡◌, ℕ, ◌-◌, ◌^◌, Bool, true, false, [], ◌∷◌, ◌++◌, Option, Some, None}
+use Rattle.classes.specs.Class.{Classes}
+use Rattle.heap.specs.Heap.{Space}
+use Rattle.jni.specs.Prototype.{ResultKind, NewLocal, GivesFlag, GivesInt, GivesField, GivesNothing}
+use Rattle.source.specs.CallEffects.{CallResult, NoResult, CallEffect, Leaves, Throws, Halts, out_of_memory}
+use Rattle.source.specs.CallStep.{failure, makes_objects}
+use Rattle.source.specs.Heap.{next_name}
+use Rattle.source.specs.Object.{Reference}
+use Rattle.source.specs.Thread.{Shared, Thread}
+use Rattle.source.specs.World.{World, fresh_object}
+use Rattle.lower.specs.Lowered.{Lowered}
+use Rattle.machine.specs.declared.answer.Given.{Given}
+use Rattle.machine.specs.declared.answer.Given.TheVariants as given
+use Rattle.machine.specs.declared.store.Store.{Store}
+use Rattle.machine.specs.Agrees.{StoreAgrees, Keeps}
+use Rattle.machine.specs.Answers.{GivenAgrees}
+use Rattle.machine.specs.HeapAgrees.{ReferenceAgrees}
+
+-- the shared state after a call of this effect, or after the same with its allocation refused
+abbrev pub shared_after : Classes → (refused : Bool) → Shared → CallEffect → Shared
+shared_after classes true s effect = s
+shared_after classes false s (Leaves made s' t' given) = record s' { heap = s'.heap ++ made }
+shared_after classes false s (Throws c) = record s { heap = s.heap ++ fresh_object classes c ∷ [] }
+shared_after classes false s (Halts trap) = s
+
+-- the exception that is pending then
+abbrev pub pending_after : Classes → (refused : Bool) → Shared → Thread → CallEffect → Reference
+pending_after classes true s t effect = Some (out_of_memory classes)
+pending_after classes false s t (Leaves made s' t' given) = t'.pending
+pending_after classes false s t (Throws c) = Some (next_name s.heap)
+pending_after classes false s t (Halts trap) = t.pending
+
+-- what a call of this kind of result gives
+abbrev pub result_after : ResultKind → (refused : Bool) → CallEffect → CallResult
+result_after kind true effect = failure kind
+result_after kind false (Leaves made s' t' given) = given
+result_after kind false (Throws c) = failure kind
+result_after kind false (Halts trap) = NoResult
+
+-- The store and the exception that is pending are those that the effect leaves, and what is given is what the call gives. Only
+-- what makes objects can be refused.
+pub record CarriesOut (p : Lowered) (w : World) (old : Space) (kind : ResultKind) (shared : Shared) (s : Thread) (effect : CallEffect) (refused : Bool) (store : Store) (pending : Option ℕ) (given : Given) : Type 0 where
+  pub store_agrees : StoreAgrees p w store (shared_after w.classes refused shared effect)
+  pub keeps : Keeps old shared store.heap (shared_after w.classes refused shared effect)
+  pub pending_agrees : ReferenceAgrees store.heap pending (pending_after w.classes refused shared s effect)
+  pub given_agrees : GivenAgrees w.classes store.heap kind given (result_after kind refused effect)
+  pub could_refuse : refused ≡ true → makes_objects effect ≡ true
+
+-- what a call of this kind of result gives where it fails
+abbrev pub failed : ResultKind → Given
+failed NewLocal = given.Reference None
+failed GivesField = given.FieldId None
+failed GivesInt = given.Number (2 ^ 32 - 1)
+failed GivesFlag = given.Number 0
+failed kind = given.Nothing
+
+-- the kinds of results of the functions whose calls are worked out
+abbrev pub can_fail : ResultKind → Bool
+can_fail NewLocal = true
+can_fail GivesField = true
+can_fail GivesInt = true
+can_fail GivesFlag = true
+can_fail GivesNothing = true
+can_fail kind = false
+
+-- A call of a function of this kind of result can be carried out: the store and the exception that is pending agree with the source's.
+pub record IsPossible (p : Lowered) (w : World) (store : Store) (pending : Option ℕ) (kind : ResultKind) (shared : Shared) (s : Thread) : Type 0 where
+  pub store_agrees : StoreAgrees p w store shared
+  pub pending_agrees : ReferenceAgrees store.heap pending s.pending
+  pub fails : can_fail kind ≡ true

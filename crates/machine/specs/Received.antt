@@ -1,0 +1,68 @@
+-- What a call in progress is after what a function gives is put where it belongs.
+use Rattle.std.specs.Prelude.{◌≡◌, ℕ, ◌+◌, ◌<◌, true, List, [], length, slice_set, Option, Some}
+use Rattle.class_table.specs.declared.class.FieldHandle.{FieldHandle}
+use Rattle.code.specs.declared.instr.Target.{Target}
+use Rattle.code.specs.declared.instr.Target.TheVariants.{Number, Local, FieldId}
+use Rattle.jni.specs.Prototype.{ResultKind, NewLocal}
+use Rattle.machine.specs.declared.answer.Given.{Given}
+use Rattle.machine.specs.declared.answer.Given.TheVariants as given
+use Rattle.machine.specs.declared.thread.Activation.{Activation}
+use Rattle.machine.specs.Frames.{Frame, has_room, with_local}
+
+-- the number slots with what is given in the target
+abbrev pub numbers_with : Target → Given → List ℕ → List ℕ
+numbers_with (Number i) (given.Number word) numbers = slice_set numbers i word
+numbers_with target g numbers = numbers
+
+-- the slots of references with it
+abbrev pub references_with : Target → Given → List (Option ℕ) → List (Option ℕ)
+references_with (Local i) (given.Reference a) references = slice_set references i a
+references_with target g references = references
+
+-- the slots of field IDs with it
+abbrev pub fields_with : Target → Given → List (Option FieldHandle) → List (Option FieldHandle)
+fields_with (FieldId i) (given.FieldId h) fields = slice_set fields i h
+fields_with target g fields = fields
+
+-- the frames with it, where a function of this kind of result puts a local reference
+abbrev pub frames_with : ResultKind → Given → List Frame → List Frame
+frames_with NewLocal (given.Reference (Some a)) frames = with_local frames a
+frames_with kind g frames = frames
+
+-- the target's slot is among so many number slots
+abbrev pub HasNumber : Target → ℕ → Type 0
+HasNumber (Number i) count = i < count
+HasNumber target count = Unit {0}
+
+-- among so many slots of references
+abbrev pub HasReference : Target → ℕ → Type 0
+HasReference (Local i) count = i < count
+HasReference target count = Unit {0}
+
+-- among so many slots of field IDs
+abbrev pub HasField : Target → ℕ → Type 0
+HasField (FieldId i) count = i < count
+HasField target count = Unit {0}
+
+-- the target's slot is there
+abbrev pub HasTarget : Target → Activation → Type 0
+HasTarget target call = HasNumber target (length call.numbers.items) × HasReference target (length call.references.items) × HasField target (length call.fields.items)
+
+-- a local reference, where a function of this kind of result puts one, has room in the current frame
+abbrev pub HasRoom : ResultKind → List Frame → Type 0
+HasRoom NewLocal frames = has_room frames ≡ true
+HasRoom kind frames = Unit {0}
+
+-- the same in the frames of a call
+abbrev pub HasFrame : ResultKind → Activation → Type 0
+HasFrame kind call = HasRoom kind call.frames.items
+
+-- the call goes on after the instruction, with no words and with what is given where it belongs
+pub record Receives (target : Target) (kind : ResultKind) (g : Given) (call after : Activation) : Type 0 where
+  pub function : after.function ≡ call.function
+  pub place : after.place ≡ call.place + 1
+  pub stack : after.stack ≡ []
+  pub numbers : after.numbers.items ≡ numbers_with target g call.numbers.items
+  pub references : after.references.items ≡ references_with target g call.references.items
+  pub fields : after.fields.items ≡ fields_with target g call.fields.items
+  pub frames : after.frames.items ≡ frames_with kind g call.frames.items

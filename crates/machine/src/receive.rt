@@ -1,0 +1,75 @@
+//! Where what a function gives goes.
+
+ghost use Rattle.std.specs.Prelude.{◌≡◌, ◌<◌, ◌^◌, ◌+◌, length};
+ghost use Rattle.jni.specs.Table.{result_value};
+ghost use Rattle.machine.specs.Received.{HasTarget, HasFrame, Receives, numbers_with, references_with, fields_with, frames_with, HasNumber, HasReference, HasField, HasRoom};
+
+use crate::answer::Given;
+use crate::frame::{Frame, put_local};
+use crate::thread::Activation;
+use class_table::class::FieldHandle;
+use code::instr::Target;
+use heap::Addr;
+use jni::ResultKind;
+
+/// Puts what a function of this kind of result gives into its target, a new local reference also into the current frame, and
+/// goes on after the instruction. It takes no host memory.
+pub fn receive(call: &mut Activation, target: Target, kind: ResultKind, given: &Given)
+    requires place { call.old.place + 1 < 2 ^ 64 }
+    requires target { HasTarget target call.old }
+    requires frame { HasFrame (result_value kind) call.old }
+    ensures { Receives target (result_value kind) given.now call.old call.new }
+{
+    call.stack.clear();
+    call.place += 1;
+    put_number(&mut call.numbers, target, given);
+    put_reference(&mut call.references, target, given);
+    put_field(&mut call.fields, target, given);
+    put_frame(&mut call.frames, kind, given);
+}
+
+/// Puts a number into its slot.
+fn put_number(numbers: &mut [u32], target: Target, given: &Given)
+    requires { HasNumber target (length numbers.old) }
+    ensures { numbers.new ≡ numbers_with target given.now numbers.old }
+{
+    match (target, *given) {
+        (Target::Number(slot), Given::Number(word)) => numbers[slot as usize] = word,
+        _ => {}
+    }
+}
+
+/// Puts a reference into its slot.
+fn put_reference(references: &mut [Option<Addr>], target: Target, given: &Given)
+    requires { HasReference target (length references.old) }
+    ensures { references.new ≡ references_with target given.now references.old }
+{
+    match (target, *given) {
+        (Target::Local(slot), Given::Reference(reference)) => {
+            references[slot as usize] = reference;
+        }
+        _ => {}
+    }
+}
+
+/// Puts a field ID into its slot.
+fn put_field(fields: &mut [Option<FieldHandle>], target: Target, given: &Given)
+    requires { HasField target (length fields.old) }
+    ensures { fields.new ≡ fields_with target given.now fields.old }
+{
+    match (target, *given) {
+        (Target::FieldId(slot), Given::FieldId(field)) => fields[slot as usize] = field,
+        _ => {}
+    }
+}
+
+/// Puts a new local reference into the current frame.
+fn put_frame(frames: &mut Vec<Frame>, kind: ResultKind, given: &Given)
+    requires { HasRoom (result_value kind) frames.old.items }
+    ensures { frames.new.items ≡ frames_with (result_value kind) given.now frames.old.items }
+{
+    match (kind, *given) {
+        (ResultKind::NewLocal, Given::Reference(Some(addr))) => put_local(frames, addr),
+        _ => {}
+    }
+}

@@ -1,0 +1,83 @@
+//! What threads refer to, by name: the roots of a report beside the objects made at load.
+
+ghost use Rattle.std.specs.Prelude.{◌≡◌, ◌++◌, IfOk, flat_map};
+ghost use Rattle.machine.specs.Roots.{AreAddresses, FramesAreThere, CallIsThere, PendingIsThere, ThreadsAreThere, frame_names, frames_names, call_names, pending_names, thread_names};
+
+use crate::frame::Frame;
+use crate::thread::{Activation, Thread};
+use heap::{Addr, Heap};
+use std::alloc::{AllocError, Global};
+
+/// The names of the objects in the frames of threads, and of their pending exceptions, in the order of the definitions.
+pub fn root_names(alloc: Global, heap: &Heap, threads: &[Thread]) -> Result<Vec<usize>, AllocError>
+    requires { ThreadsAreThere heap.now threads.now }
+    ensures { IfOk result (λ names. names.items ≡ flat_map (thread_names heap.now) threads.now) }
+{
+    let mut names = Vec::new(alloc);
+    for thread in threads {
+        push_call(&mut names, heap, &thread.call)?;
+        push_pending(&mut names, heap, thread.pending)?;
+    }
+    Ok(names)
+}
+
+/// Adds the names in the frames of a call in progress.
+fn push_call(
+    names: &mut Vec<usize>,
+    heap: &Heap,
+    call: &Option<Activation>,
+) -> Result<(), AllocError>
+    requires { CallIsThere heap.now call.now }
+    ensures { IfOk result (λ _. names.new.items ≡ names.old.items ++ call_names heap.now call.now) }
+{
+    match call {
+        None => Ok(()),
+        Some(call) => push_frames(names, heap, &call.frames),
+    }
+}
+
+/// Adds the name of a pending exception.
+fn push_pending(
+    names: &mut Vec<usize>,
+    heap: &Heap,
+    pending: Option<Addr>,
+) -> Result<(), AllocError>
+    requires { PendingIsThere heap.now pending }
+    ensures { IfOk result (λ _. names.new.items ≡ names.old.items ++ pending_names heap.now pending) }
+{
+    match pending {
+        None => Ok(()),
+        Some(addr) => {
+            names.push(heap.birth_of(addr) as usize)?;
+            Ok(())
+        }
+    }
+}
+
+/// Adds the names in frames, those of the last frame first.
+fn push_frames(names: &mut Vec<usize>, heap: &Heap, frames: &[Frame]) -> Result<(), AllocError>
+    requires { FramesAreThere heap.now frames.now }
+    ensures { IfOk result (λ _. names.new.items ≡ names.old.items ++ frames_names heap.now frames.now) }
+{
+    for done in 0..frames.len() {
+        let frame = &frames[frames.len() - 1 - done];
+        push_references(names, heap, frame.references())?;
+    }
+    Ok(())
+}
+
+/// Adds the names at addresses, that at the last one first.
+fn push_references(
+    names: &mut Vec<usize>,
+    heap: &Heap,
+    references: &[Addr],
+) -> Result<(), AllocError>
+    requires { AreAddresses heap.now references.now }
+    ensures { IfOk result (λ _. names.new.items ≡ names.old.items ++ frame_names heap.now references.now) }
+{
+    for done in 0..references.len() {
+        let addr = references[references.len() - 1 - done];
+        names.push(heap.birth_of(addr) as usize)?;
+    }
+    Ok(())
+}

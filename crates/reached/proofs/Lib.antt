@@ -1,0 +1,4 @@
+pub mod PassingNames
+pub mod RowTexts
+pub mod MarkedRoots
+pub mod ReachedNames

@@ -1,0 +1,36 @@
+-- Names of objects, and what an object refers to.
+use Rattle.std.specs.Prelude.{◌≡◌, ℕ, ◌+◌, ◌<◌, ◌≤◌, nat_lt, nat_le, ◌&&◌, if◌then◌else◌, Bool, true, List, ◌++◌, map, length, Option, Some, None}
+use Rattle.classes.specs.Class.{Classes}
+use Rattle.source.specs.Heap.{Heap, reference_in, values_of}
+use Rattle.source.specs.Object.{Reference, ObjectValue}
+use Rattle.source.specs.Reachable.{from_one, roots}
+use Rattle.source.specs.State.{State}
+use Rattle.source.specs.World.{World}
+use Rattle.marking.specs.Marks.{is_marked}
+
+-- the name of one of so many objects
+abbrev pub IsWithin : (count : ℕ) → ℕ → Type 0
+IsWithin count n = (0 < n) × (n ≤ count)
+
+-- a reference to one of so many objects
+abbrev pub within : (count : ℕ) → Reference → Reference
+within count None = None
+within count (Some n) = if nat_lt 0 n && nat_le n count then Some n else None
+
+-- what the values of an object refer to, value by value
+abbrev pub references_in : Heap → ℕ → List (Option ℕ)
+references_in heap n = map (λ (v : ObjectValue). within (length heap) (reference_in v)) (values_of heap n)
+
+-- A state has this heap, made so many objects at load, and besides them has these roots.
+pub record HasRoots (table : Classes) (objects : Heap) (loaded : ℕ) (names : List ℕ) (w : World) (s : State) : Type 0 where
+  pub classes : w.classes ≡ table
+  pub heap : s.shared.heap ≡ objects
+  pub roots : roots w s ≡ from_one loaded ++ names
+
+-- ---- marks
+
+-- of so many objects just the roots are marked
+pub record AreRoots (count : ℕ) (IsRoot : ℕ → Type 0) (marks : List Bool) : Type 0 where
+  pub counted : length marks ≡ count + 1
+  pub sound : (n : ℕ) → is_marked marks n ≡ true → IsWithin count n × IsRoot n
+  pub complete : (n : ℕ) → IsWithin count n → IsRoot n → is_marked marks n ≡ true

@@ -1,0 +1,27 @@
+-- The rows of the objects that can still be reached.
+use Rattle.std.specs.Prelude.{◌≡◌, ℕ, zero, suc, ◌-◌, Bool, List, [], ◌∷◌, map, filter}
+use Rattle.classes.specs.Class.{Classes}
+use Rattle.source.specs.Heap.{Heap}
+use Rattle.source.specs.Report.{ShownRow}
+use Rattle.source.specs.ReportOf.{shown_row, report}
+use Rattle.source.specs.State.{State}
+use Rattle.source.specs.World.{World}
+use Rattle.marking.specs.Marks.{is_marked}
+use Rattle.reached.specs.Names.{HasRoots}
+
+-- so many numbers from one on
+abbrev pub count_from : ℕ → ℕ → List ℕ
+count_from k zero = []
+count_from k (suc c) = k ∷ count_from (suc k) c
+
+-- the numbers from one to before another that pass a test
+unfoldable pub passing : (ℕ → Bool) → ℕ → ℕ → List ℕ
+passing test k end = filter test (count_from k (end - k))
+
+-- the rows of the marked objects, by rising names from the first to before the end
+abbrev pub marked_rows : Classes → Heap → List Bool → (first end : ℕ) → List ShownRow
+marked_rows classes heap marks first end = map (shown_row classes heap) (passing (is_marked marks) first end)
+
+-- the rows are those of the report of each state with these roots
+abbrev pub AreReported : Classes → Heap → (loaded : ℕ) → (names : List ℕ) → List ShownRow → Type 0
+AreReported classes heap loaded names rows = (w : World) (s : State) → HasRoots classes heap loaded names w s → rows ≡ (report w s).objects
