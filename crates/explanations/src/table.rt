@@ -216,12 +216,12 @@ pub static TRAPS: [Explanation; 9] = [
     Explanation {
         number: 5,
         title: "a call while an exception is pending",
-        text: "trap 5: a call while an exception is pending\n\nOnly the functions that ask for an exception, clear it or release what is held may be called then (JNI Specification, chapter 2, \"Exceptions\"). Test for the exception after the call that may throw\nit, and return or clear it. No run earns this trap today: none of the functions that leave an exception pending can be called yet.\n",
+        text: "trap 5: a call while an exception is pending\n\nOnly the functions that ask for an exception, clear it or release what is held may be called then (JNI Specification, chapter 2, \"Exceptions\"). Test for the exception after the call that may throw\nit, and return or clear it.\n\n    JNIEXPORT void JNICALL Java_A_f(JNIEnv *env, jclass cls)\n    {\n        jclass missing = (*env)->FindClass(env, \"B\");\n        jclass above = (*env)->GetSuperclass(env, cls);\n        return;\n    }\n\n    heap 512\n    class A\n    thread Java_A_f\n\nT1 trap 5 line 4\n",
     },
     Explanation {
         number: 6,
         title: "an object isn't of the kind that is wanted",
-        text: "trap 6: an object isn't of the kind that is wanted\n\nWhat is wanted stands with each function (JNI Specification, chapter 4): an array, for GetArrayLength. Give an object of that kind.\n\n    JNIEXPORT void JNICALL Java_A_f(JNIEnv *env, jclass cls, jobject object)\n    {\n        jint length = (*env)->GetArrayLength(env, object);\n        return;\n    }\n\n    heap 512\n    class A\n    thread Java_A_f class:A\n\nT1 trap 6 line 3\n",
+        text: "trap 6: an object isn't of the kind that is wanted\n\nWhat is wanted stands with each function (JNI Specification, chapter 4): an array, for GetArrayLength; a class object, for GetSuperclass; an object that has the field, of the function's type, for\nGetIntField; a class whose objects no other function makes, for AllocObject. Give an object of that kind.\n\n    JNIEXPORT void JNICALL Java_A_f(JNIEnv *env, jclass cls, jobject object)\n    {\n        jint length = (*env)->GetArrayLength(env, object);\n        return;\n    }\n\n    heap 512\n    class A\n    thread Java_A_f class:A\n\nT1 trap 6 line 3\n",
     },
     Explanation {
         number: 7,
@@ -231,7 +231,7 @@ pub static TRAPS: [Explanation; 9] = [
     Explanation {
         number: 8,
         title: "no room for a local reference",
-        text: "trap 8: no room for a local reference\n\nA frame holds 16 local references or as many as it was made or grown for (JNI Specification, chapter 4, \"EnsureLocalCapacity\" and \"PushLocalFrame\"). Delete references that aren't used any more, or ask for\nthe room first. No run earns this trap today: no function that gives a reference can be called yet.\n",
+        text: "trap 8: no room for a local reference\n\nA frame holds 16 local references or as many as it was made or grown for (JNI Specification, chapter 4, \"EnsureLocalCapacity\" and \"PushLocalFrame\"). Delete references that aren't used any more, or ask for\nthe room first.\n\n    JNIEXPORT void JNICALL Java_A_f(JNIEnv *env, jclass cls, jobject object)\n    {\n        uint32_t i = 0u;\n        while (i < 20u) {\n            jclass class = (*env)->GetObjectClass(env, object);\n            i = i + 1u;\n        }\n        return;\n    }\n\n    heap 512\n    class A\n    object @x A\n    thread Java_A_f @x\n\nT1 trap 8 line 5\n",
     },
     Explanation {
         number: 9,

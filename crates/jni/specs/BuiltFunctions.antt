@@ -1,8 +1,24 @@
 -- Which functions of the JNI can be called today.
 use Rattle.std.specs.Prelude.{Bool, true, false}
-use Rattle.jni.specs.JniFunction.{JniFunction, GetArrayLength}
+use Rattle.jni.specs.JniFunction.{JniFunction, FindClass, GetSuperclass, GetObjectClass, IsInstanceOf, IsAssignableFrom, AllocObject, GetFieldID, GetStaticFieldID, GetField, SetField, GetStaticField, SetStaticField, GetObjectField, SetObjectField, GetStaticObjectField, SetStaticObjectField, GetArrayLength}
 
 -- the functions that can be called
 abbrev pub is_built_function : JniFunction → Bool
+is_built_function FindClass = true
+is_built_function GetSuperclass = true
+is_built_function GetObjectClass = true
+is_built_function IsInstanceOf = true
+is_built_function IsAssignableFrom = true
+is_built_function AllocObject = true
+is_built_function GetFieldID = true
+is_built_function GetStaticFieldID = true
+is_built_function (GetField T) = true
+is_built_function (SetField T) = true
+is_built_function (GetStaticField T) = true
+is_built_function (SetStaticField T) = true
+is_built_function GetObjectField = true
+is_built_function SetObjectField = true
+is_built_function GetStaticObjectField = true
+is_built_function SetStaticObjectField = true
 is_built_function GetArrayLength = true
 is_built_function f = false

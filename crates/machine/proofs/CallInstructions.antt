@@ -5,7 +5,7 @@ use Rattle.std.specs.List.{AllZip}
 use Rattle.classes.specs.Class.{Classes}
 use Rattle.heap.specs.Heap.{Space}
 use Rattle.jni.specs.BuiltFunctions.{is_built_function}
-use Rattle.jni.specs.JniFunction.{JniFunction, GetArrayLength, NewGlobalRef, GetBuffer}
+use Rattle.jni.specs.JniFunction.{JniFunction, FindClass, GetSuperclass, GetObjectClass, IsInstanceOf, IsAssignableFrom, AllocObject, GetFieldID, GetStaticFieldID, GetField, SetField, GetStaticField, SetStaticField, GetObjectField, SetObjectField, GetStaticObjectField, SetStaticObjectField, GetArrayLength, NewGlobalRef, GetBuffer}
 use Rattle.jni.specs.Prototype.{prototype, ResultKind, NewLocal}
 use Rattle.source.specs.Arguments.{Actual}
 use Rattle.source.specs.Object.{Object}
@@ -55,6 +55,22 @@ use Rattle.machine.proofs.Keeping.{keeps_same}
 
 -- a function whose calls can be made is one that is answered
 pub answered_there : (f : JniFunction) → is_built_function f ≡ true → is_answered f ≡ true
+answered_there FindClass h = refl
+answered_there GetSuperclass h = refl
+answered_there GetObjectClass h = refl
+answered_there IsInstanceOf h = refl
+answered_there IsAssignableFrom h = refl
+answered_there AllocObject h = refl
+answered_there GetFieldID h = refl
+answered_there GetStaticFieldID h = refl
+answered_there (GetField T) h = refl
+answered_there (SetField T) h = refl
+answered_there (GetStaticField T) h = refl
+answered_there (SetStaticField T) h = refl
+answered_there GetObjectField h = refl
+answered_there SetObjectField h = refl
+answered_there GetStaticObjectField h = refl
+answered_there SetStaticObjectField h = refl
 answered_there GetArrayLength h = refl
 answered_there f h = absurd (cc)
 

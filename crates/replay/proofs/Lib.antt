@@ -1,6 +1,6 @@
 mod PlainTasks
 mod ThreadLemmas
-mod RowLemmas
+mod RootLemmas
 mod StateLemmas
 mod LoadLemmas
 mod RunLemmas

@@ -1,5 +1,5 @@
--- No task of a thread in memory makes an object or waits for a monitor.
-use Rattle.std.proofs.Common.{◌≡◌, ℕ, ℤ, Bool, true, false, cond, List, [], ◌∷◌, ◌++◌, Option, Some, None, refl, sym, ap, ◌∙◌, subst, IsTrue}
+-- No task of a thread in memory waits for a monitor.
+use Rattle.std.proofs.Common.{◌≡◌, ℕ, ℤ, Bool, true, false, cond, List, [], ◌∷◌, ◌++◌, Option, Some, None, refl, ap, ◌∙◌, IsTrue}
 use Rattle.std.specs.Prelude.{not}
 use Rattle.base.specs.Bytes.{Identifier}
 use Rattle.base.specs.Element.{JChar}
@@ -8,23 +8,22 @@ use Rattle.syntax.specs.declared.stmt.Stmt.{Stmt as StmtInMemory}
 use Rattle.syntax.specs.Parts.{call_of_right_side}
 use Rattle.syntax.specs.Tree as tree
 use Rattle.syntax.specs.Tree.{SourceUnit, Call, Expr, Block, True, False, Commit, Abort, Null}
-use Rattle.syntax.specs.Views.{stmt_tree, call_tree}
+use Rattle.syntax.specs.Views.{stmt_tree}
 use Rattle.classes.specs.Class.{Classes}
 use Rattle.types.specs.BuiltCalls.{is_built_call}
 use Rattle.jni.specs.JniFunction.{JniFunction}
 use Rattle.jni.specs.BuiltFunctions.{is_built_function}
 use Rattle.jni.specs.Prototype.{function_named}
 use Rattle.source.specs.Arguments.{Actual, actuals}
-use Rattle.source.specs.CallStep.{waits_with, call_step, after_refusal, trap_of_call}
+use Rattle.source.specs.CallStep.{waits_with}
 use Rattle.source.specs.Effect.{Effect, Becomes, Sets, SetsNull, SetsElement, MakesArray, Prints, Calls, Returns, TrapsAt, NoEffect, at_line, goes_on, with_value, print_effect, branch_effect, loop_effect, element_effect, returned_name, return_effect, effect_of, is_ready, reduce_first}
 use Rattle.source.specs.Sight.{Sight}
 use Rattle.source.specs.Task.{Task, SetScalar, SetElement, SetNull, MakeArray, Invoke, Print, Branch, EndIf, Loop, EndTurn, Return, ReturnValue, Impossible, Operand, Target, Declared, Assigned, Tested, Dropped, BufferKind, kind_of, set_task, right_side_task, invocation, call_task, task_of}
 use Rattle.source.specs.Term.{Term, Done, Number, Named, Read, Element, IsNull, Prefix, And, Or, Binary, index_of, reduce}
-use Rattle.source.specs.Thread.{Thread, Shared, BuffersInUse, NoAdvance, sight_of}
-use Rattle.source.specs.ThreadStep.{thread_step, step_within, after_refused_effect, next_effect, waits}
+use Rattle.source.specs.Thread.{Thread, Shared, sight_of}
+use Rattle.source.specs.ThreadStep.{next_effect, waits}
 use Rattle.source.specs.Value.{Value, Word, Int, Flag, Truth, Outcome, Gives, Traps, Stuck}
 use Rattle.tasks.specs.Activations.{tasks_from, tasks_around, tasks_after, tasks_left, BegunInRange}
-use Rattle.tasks.specs.Outcomes.{target_view}
 use Rattle.tasks.specs.Tasks.{task_view, end_view, tasks_of_statements, calls_built, StatementsInRange, TaskInRange}
 use Rattle.replay.specs.Threads.{ThreadStands, tasks_in, WorkInRange}
 use Rattle.tasks.specs.declared.activation.Activation.{Activation}
@@ -34,7 +33,7 @@ use Rattle.tasks.specs.declared.outcome.End.TheVariants as end
 use Rattle.tasks.specs.declared.task.Task.{Task as TaskInMemory}
 use Rattle.tasks.specs.declared.task.Task.TheVariants as task
 use Rattle.replay.specs.declared.thread.Thread.{Thread as ThreadInMemory}
-use Rattle.source.proofs.BuiltCalls.{makes_none, waits_for_none}
+use Rattle.source.proofs.BuiltCalls.{waits_for_none}
 
 -- the tasks of a thread in memory, which call built functions alone
 abbrev IsPlain : Task → Type 0
@@ -200,7 +199,7 @@ task-plain (task.Set line x e) h = tt
 task-plain (task.SetElement line x i e) h = tt
 task-plain (task.SetNull to) h = tt
 task-plain (task.MakeArray T x n) h = tt
-task-plain (task.Invoke i) h = call-plain i.line (target_view i.target) (call_tree i.call.now) h
+task-plain (task.Invoke i) h = h.1
 task-plain (task.Branch c) h = tt
 task-plain (task.Loop line test e body) h = tt
 task-plain task.Return h = tt
@@ -220,35 +219,6 @@ begins-plain None (s ∷ rest) os h r = statement-plain (stmt_tree s) r.0.built
 begins-plain (Some t) rest os h r = task-plain t h
 
 -- ---- threads
-
-module _ (unit : SourceUnit) (classes : Classes) (shared : Shared) (lent : BuffersInUse) (k : ℕ) where
-  -- a call of a built function makes no object
-  refused_call : (s : Thread) (rest : List Task) (line : ℕ) (target : Target) (f : JniFunction) (args : List Actual) → is_built_function f ≡ true → call_step classes lent k shared s line target f args rest true ≡ NoAdvance
-  refused_call s rest line target f args h = ap (after_refusal classes lent k shared s line target f args rest) (makes_none classes lent k shared s args f (trap_of_call classes shared s target f args) h)
-
-  refused_effect : (s : Thread) (rest : List Task) (e : Effect) → CallsNone e → after_refused_effect classes lent k shared s rest e ≡ NoAdvance
-  refused_effect s rest (Becomes tasks) h = refl
-  refused_effect s rest (Sets x v) h = refl
-  refused_effect s rest (SetsNull target) h = refl
-  refused_effect s rest (SetsElement x i z) h = refl
-  refused_effect s rest (MakesArray T x n) h = refl
-  refused_effect s rest (Prints z) h = refl
-  refused_effect s rest (Calls line target f args) h = refused_call s rest line target f args h
-  refused_effect s rest Returns h = refl
-  refused_effect s rest (TrapsAt trap line) h = refl
-  refused_effect s rest NoEffect h = refl
-
-  refused_tasks : (s : Thread) (tasks : List Task) → BeginsPlain tasks → step_within unit classes lent k shared s true (Some tasks) ≡ NoAdvance
-  refused_tasks s [] h = refl
-  refused_tasks s (t ∷ rest) h = refused_effect s rest (effect_of (sight_of shared s) t) (effect-none (sight_of shared s) t h)
-
-  refused_work : (s : Thread) (o : Option Activation) → WorkInRange o → step_within unit classes lent k shared s true (tasks_in o) ≡ NoAdvance
-  refused_work s None r = refl
-  refused_work s (Some a) r = refused_tasks s (tasks_left a) (begins-plain a.task a.rest.now a.outer.items r.begun r.rest)
-
-  -- no step makes an object, so none can be refused one
-  pub refused_none : (t : ThreadInMemory) (s : Thread) → ThreadStands unit classes t s → WorkInRange t.activation → thread_step unit classes lent k shared s true ≡ NoAdvance
-  refused_none t s h r = ap (step_within unit classes lent k shared s true) h.tasks ∙ refused_work s t.activation r
 
 module _ (unit : SourceUnit) (classes : Classes) (shared : Shared) (k : ℕ) where
   free_effect : (s : Thread) (e : Effect) → CallsNone e → waits_with classes k shared s e ≡ false

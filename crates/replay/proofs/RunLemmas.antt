@@ -1,13 +1,20 @@
 -- A journal's replay goes on by an entry, or stops before it.
 use Rattle.std.proofs.Common.{◌≡◌, ℕ, ◌+◌, ◌<◌, ◌≤◌, true, false, List, ◌∷◌, ◌++◌, length, map, drop, take, Option, Some, None, refl, sym, ap, ◌∙◌, subst, arith}
 use Rattle.std.specs.Prelude.{slice_get, is_some}
+use Rattle.std.specs.List.{flat_map}
 use Rattle.std.specs.Option.{option_and_then, option_map}
 use Rattle.std.proofs.lemmas.List.{take-append-drop, length-take-le, take_all}
 use Rattle.syntax.specs.Tree.{SourceUnit}
 use Rattle.source.specs.declared.journal.Entry.{Entry}
 use Rattle.source.specs.Journal.{Journal}
 use Rattle.source.specs.JournalText.{journal_line}
-use Rattle.source.specs.Report.{Report}
+use Rattle.classes.specs.Class.{Classes}
+use Rattle.reached.specs.Rows.{AreReported}
+use Rattle.source.specs.Heap.{Heap}
+use Rattle.source.specs.Reachable.{from_one, loaded_count}
+use Rattle.source.specs.Report.{Report, ShownRow}
+use Rattle.source.specs.ReportOf.{report}
+use Rattle.source.specs.Thread.{Shared}
 use Rattle.report.specs.ReportText.{report_text}
 use Rattle.report.specs.Sink.{Written}
 use Rattle.report.specs.Shown.{report_with}
@@ -21,14 +28,15 @@ use Rattle.source.proofs.RunLaws.{replay_from-append, replay_more}
 use Rattle.replay.specs.declared.fault.ReplayFault.{ReplayFault}
 use Rattle.replay.specs.declared.fault.ReplayFault.TheVariants.{DoesNotFit, Impossible, Memory, Writer}
 use Rattle.replay.specs.declared.state.State.{State as StateInMemory}
-use Rattle.replay.specs.States.{TakesEntry, AreInRange, standings_in, stop_view, shown_stop}
+use Rattle.replay.specs.States.{Stands, TakesEntry, AreInRange, standings_in, stop_view, shown_stop}
 use Rattle.replay.specs.TrapAt.{trap_at}
 use Rattle.replay.specs.declared.state.Stop.{Stop as StopInMemory}
 use Rattle.report.specs.declared.thread_status.ThreadStatus.{ThreadStatus}
 use Rattle.report.specs.ThreadStatus.{standing_view}
-use Rattle.replay.specs.Rows.{own_rows}
+use Rattle.replay.specs.Rows.{thread_names}
 use Rattle.replay.specs.Replays.{IsFirstImpossible, Replayed, IsRefused, IsLoadFault, IsStoppedBy, IsReplayable, IsFromOutside, EndsBy}
 use Rattle.replay.proofs.LoadLemmas.{drop_more, take_more}
+use Rattle.replay.proofs.RootLemmas.{roots_are}
 use Rattle.replay.proofs.StateLemmas.{report_same}
 
 module _ (unit : SourceUnit) (w : World) (journal : Journal) (i : ℕ) (e : Entry) (old new : StateInMemory) (at : slice_get journal i ≡ Some e) (h : Replayed unit w (take i journal) old) where
@@ -111,11 +119,25 @@ ends unit w journal m h = record {
 
 -- ---- the text
 
+-- the rows of what the threads in memory refer to are those of the report
+rows_are : (unit : SourceUnit) (w : World) (m : StateInMemory) (s : State) (classes : Classes) (objects : Heap) (loaded : ℕ) (names : List ℕ) (rows : List ShownRow) → Stands unit w m s
+    → classes ≡ m.world.now.classes → objects ≡ m.store → loaded ≡ loaded_count w → names ≡ flat_map thread_names m.threads.items → AreReported classes objects loaded names rows → rows ≡ (report w s).objects
+rows_are unit w m s classes objects loaded names rows h k o l n told =
+    told w s (record {
+      classes = ap (λ (v : World). v.classes) h.world ∙ sym k;
+      heap = ap (λ (x : Shared). x.heap) h.shared ∙ sym o;
+      roots =
+          roots_are unit w m s h
+          ∙ ap (λ c. from_one c ++ flat_map thread_names m.threads.items) (sym l)
+          ∙ ap (λ (ns : List ℕ). from_one loaded ++ ns) (sym n);
+    })
+
 -- what is written from the state in memory is what the run writes
-pub writes : (unit : SourceUnit) (w : World) (journal : Journal) (m : StateInMemory) (standings : List ThreadStatus) → Replayed unit w journal m → map standing_view standings ≡ standings_in m
-    → Writes unit w journal (report_text (report_with m.printed.items standings (own_rows m.world.now.classes m.store)) ++ journal_line journal)
-writes unit w journal m standings h is = record {
+pub writes : (unit : SourceUnit) (w : World) (journal : Journal) (m : StateInMemory) (standings : List ThreadStatus) (classes : Classes) (objects : Heap) (loaded : ℕ) (names : List ℕ) (rows : List ShownRow) → Replayed unit w journal m
+    → map standing_view standings ≡ standings_in m → classes ≡ m.world.now.classes → objects ≡ m.store → loaded ≡ loaded_count w → names ≡ flat_map thread_names m.threads.items → AreReported classes objects loaded names rows
+    → Writes unit w journal (report_text (report_with m.printed.items standings rows) ++ journal_line journal)
+writes unit w journal m standings classes objects loaded names rows h is k o l n told = record {
   end = h.end;
   replays = h.replays;
-  same = ap (λ (r : Report). report_text r ++ journal_line journal) (sym (report_same unit w m h.end h.stands h.range standings is));
+  same = ap (λ (r : Report). report_text r ++ journal_line journal) (sym (report_same unit w m h.end h.stands h.range standings rows is (rows_are unit w m h.end classes objects loaded names rows h.stands k o l n told)));
 }

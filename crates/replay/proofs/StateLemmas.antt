@@ -8,16 +8,15 @@ use Rattle.syntax.specs.Tree.{SourceUnit}
 use Rattle.classes.specs.Class.{Classes}
 use Rattle.source.specs.declared.journal.Entry.{Entry}
 use Rattle.source.specs.declared.printed.Printed.{Printed}
-use Rattle.source.specs.Report.{ThreadStanding, HasTrapped}
+use Rattle.source.specs.Report.{ShownRow, ThreadStanding, HasTrapped}
 use Rattle.report.specs.Shown.{report_with}
 use Rattle.report.specs.ThreadStatus.{standing_view}
 use Rattle.source.specs.World.{World}
 use Rattle.source.specs.Value.{trap_number}
 use Rattle.report.specs.declared.thread_status.ThreadStatus.{ThreadStatus}
-use Rattle.source.specs.ReportOf.{report, shown, shown_row, standing_by_ending, standing_of}
+use Rattle.source.specs.ReportOf.{report, standing_by_ending, standing_of}
 use Rattle.source.specs.Start.{null_statics}
 use Rattle.tasks.specs.Stores.{shared_with}
-use Rattle.replay.specs.Rows.{own_rows}
 use Rattle.source.specs.State.{State, thread_at, set_thread, lent, with_event, advanced}
 use Rattle.source.specs.Step.{world_step, can_step, step_of, is_blocked, is_live, is_unfinished, is_waiting}
 use Rattle.source.specs.Thread.{Ending, Thread, Shared, Unfinished, Ended, Uncaught, Quiet, PrintedNumber, Trapped, Advance}
@@ -31,8 +30,7 @@ use Rattle.replay.specs.declared.state.Stop.{Stop as StopInMemory}
 use Rattle.terms.specs.Views.{trap_view}
 use Rattle.replay.specs.States.{ThreadsStand, AreInRange, Stands, stop_view, printed_after, stop_after, is_possible, Leads, standing_in, standings_in}
 use Rattle.replay.specs.Threads.{ThreadStands, WorkInRange, ending_view, StepIs, TakesStep}
-use Rattle.replay.proofs.PlainTasks.{refused_none, waits_none}
-use Rattle.source.proofs.ShownRows.{shown_present}
+use Rattle.replay.proofs.PlainTasks.{waits_none}
 
 -- ---- one thread of several
 
@@ -102,8 +100,8 @@ is_live_so Unfinished h = refl
 is_live_so Ended h = absurd (cc)
 is_live_so (Uncaught c) h = absurd (cc)
 
-pub entry_is : (e : Entry) (k : ℕ) → e.thread ≡ k → e.refused ≡ false → e ≡ record { thread = k; refused = false }
-entry_is e k same possible = ap (λ (r : Bool). record { thread = e.thread; refused = r }) possible ∙ ap (λ (n : ℕ). record { thread = n; refused = false }) same
+pub entry_is : (e : Entry) (k : ℕ) → e.thread ≡ k → e ≡ record { thread = k; refused = e.refused }
+entry_is e k same = ap (λ (n : ℕ). record { thread = n; refused = e.refused }) same
 
 module _ (unit : SourceUnit) (w : World) (m : StateInMemory) (s : State) (h : Stands unit w m s) (range : AreInRange m.threads.items) where
   stop_is : (o : Option StopInMemory) → is_some o ≡ true → is_none (option_map stop_view o) ≡ false
@@ -138,19 +136,6 @@ module _ (unit : SourceUnit) (w : World) (m : StateInMemory) (s : State) (h : St
       by_number zero same = absurd (omega arith)
       by_number (suc i) same = not_there e (ap (thread_at s) same ∙ missing unit w.classes m.threads.items s.threads i h.threads (omega arith))
 
-  refused_thread : (k : ℕ) (o : Option Thread) → thread_at s k ≡ o → step_of unit w.classes s k true o ≡ None
-  refused_thread k None there = refl
-  refused_thread zero (Some x) there = absurd (cc)
-  refused_thread (suc i) (Some x) there =
-      let t = stood_for unit w.classes m.threads.items s.threads i x h.threads range there in
-      ap (advanced s (suc i)) (refused_none unit w.classes s.shared (lent s) (suc i) t.0 x t.1 t.2)
-
-  -- no allocation can be refused
-  pub refused : (e : Entry) → e.refused ≡ true → world_step unit w.classes s e ≡ None
-  unfolding world_step
-  refused e is = none_both (can_step w.classes s e.thread) (step_of unit w.classes s e.thread e.refused (thread_at s e.thread))
-      (ap (λ (r : Bool). step_of unit w.classes s e.thread r (thread_at s e.thread)) is ∙ refused_thread e.thread (thread_at s e.thread) refl)
-
   -- a thread that has ended
   pub ended : (e : Entry) (i : ℕ) (t : ThreadInMemory) → e.thread ≡ suc i → slice_get m.threads.items i ≡ Some t → is_unfinished (ending_view t.ending) ≡ false → world_step unit w.classes s e ≡ None
   unfolding world_step
@@ -172,7 +157,7 @@ module _ (unit : SourceUnit) (w : World) (m : StateInMemory) (s : State) (h : St
   blocked_none k = waiting_none k (thread_at s k) refl
 
   module _ (i : ℕ) (t after : ThreadInMemory) (at : slice_get m.threads.items i ≡ Some t) (live : is_unfinished (ending_view t.ending) ≡ true) (runs : is_some m.stop ≡ false)
-      (new : StateInMemory) (world : new.world ≡ m.world) (threads : new.threads.items ≡ slice_set m.threads.items i after) (count : length new.store ≡ length m.store) where
+      (new : StateInMemory) (world : new.world ≡ m.world) (threads : new.threads.items ≡ slice_set m.threads.items i after) (refused : Bool) where
     the_thread : Found unit w.classes t s.threads i
     the_thread = found unit w.classes m.threads.items s.threads i t h.threads at
 
@@ -186,12 +171,12 @@ module _ (unit : SourceUnit) (w : World) (m : StateInMemory) (s : State) (h : St
     after_it = shared_with (null_statics unit) new.store
 
     the_step : Advance
-    the_step = thread_step unit w.classes (lent s) (suc i) (shared_with (null_statics unit) m.store) the_thread.source false
+    the_step = thread_step unit w.classes (lent s) (suc i) (shared_with (null_statics unit) m.store) the_thread.source refused
 
-    step_is : world_step unit w.classes s (record { thread = suc i; refused = false }) ≡ advanced s (suc i) (thread_step unit w.classes (lent s) (suc i) (shared_with (null_statics unit) m.store) the_thread.source false)
+    step_is : world_step unit w.classes s (record { thread = suc i; refused = refused }) ≡ advanced s (suc i) (thread_step unit w.classes (lent s) (suc i) (shared_with (null_statics unit) m.store) the_thread.source refused)
     step_is =
-        step-thread unit w.classes s (suc i) the_thread.source false steps_here
-        ∙ ap (λ (x : Shared). advanced s (suc i) (thread_step unit w.classes (lent s) (suc i) x the_thread.source false)) h.shared
+        step-thread unit w.classes s (suc i) the_thread.source refused steps_here
+        ∙ ap (λ (x : Shared). advanced s (suc i) (thread_step unit w.classes (lent s) (suc i) x the_thread.source refused)) h.shared
 
     all_stand : (next : Thread) → ThreadStands unit w.classes after next → ThreadsStand unit w.classes new.threads.items (slice_set s.threads i next)
     all_stand next stands = rw threads (changed unit w.classes m.threads.items s.threads i after next h.threads stands)
@@ -202,12 +187,12 @@ module _ (unit : SourceUnit) (w : World) (m : StateInMemory) (s : State) (h : St
     same_stop : (o : Option StopInMemory) → new.stop ≡ o → o ≡ m.stop → s.stop ≡ option_map stop_view new.stop
     same_stop o is same = h.stop ∙ ap (option_map stop_view) (sym (is ∙ same))
 
-    by_step : (took : Step) → StepIs unit w.classes after_it after took (thread_step unit w.classes (lent s) (suc i) (shared_with (null_statics unit) m.store) the_thread.source false) → new.printed.items ≡ printed_after m.printed.items (suc i) took
-        → new.stop ≡ stop_after m.stop (suc i) took → Leads unit w s (record { thread = suc i; refused = false }) new (is_possible took)
+    by_step : (took : Step) → StepIs unit w.classes after_it after took (thread_step unit w.classes (lent s) (suc i) (shared_with (null_statics unit) m.store) the_thread.source refused) → new.printed.items ≡ printed_after m.printed.items (suc i) took
+        → new.stop ≡ stop_after m.stop (suc i) took → Leads unit w s (record { thread = suc i; refused = refused }) new (is_possible took)
     by_step step.Quiet l printed stop = (
       with_event (record s { shared = after_it; threads = set_thread s.threads (suc i) l.next }) (suc i) Quiet,
       step_is ∙ ap (advanced s (suc i)) l.advances,
-      record { world = same_world; shared = refl; count = count ∙ h.count; threads = all_stand l.next l.stands; printed = h.printed ∙ sym printed; stop = same_stop m.stop stop refl },
+      record { world = same_world; shared = refl; threads = all_stand l.next l.stands; printed = h.printed ∙ sym printed; stop = same_stop m.stop stop refl },
     )
     by_step (step.Printed z) l printed stop = (
       with_event (record s { shared = after_it; threads = set_thread s.threads (suc i) l.next }) (suc i) (PrintedNumber z),
@@ -215,7 +200,6 @@ module _ (unit : SourceUnit) (w : World) (m : StateInMemory) (s : State) (h : St
       record {
         world = same_world;
         shared = refl;
-        count = count ∙ h.count;
         threads = all_stand l.next l.stands;
         printed = ap (λ (ps : List Printed). ps ++ record { thread = suc i; number = z } ∷ []) h.printed ∙ sym printed;
         stop = same_stop m.stop stop refl;
@@ -224,22 +208,22 @@ module _ (unit : SourceUnit) (w : World) (m : StateInMemory) (s : State) (h : St
     by_step (step.Trapped trap line) l printed stop = (
       with_event (record s { shared = after_it; threads = set_thread s.threads (suc i) l.next }) (suc i) (Trapped (trap_view trap) line),
       step_is ∙ ap (advanced s (suc i)) l.advances,
-      record { world = same_world; shared = refl; count = count ∙ h.count; threads = all_stand l.next l.stands; printed = h.printed ∙ sym printed; stop = ap (option_map stop_view) (sym stop) },
+      record { world = same_world; shared = refl; threads = all_stand l.next l.stands; printed = h.printed ∙ sym printed; stop = ap (option_map stop_view) (sym stop) },
     )
     by_step step.Impossible l printed stop = step_is ∙ ap (advanced s (suc i)) l
 
-    takes_at : (took : Step) → TakesStep unit w.classes m.store t took new.store after → new.printed.items ≡ printed_after m.printed.items (suc i) took → new.stop ≡ stop_after m.stop (suc i) took
-        → Leads unit w s (record { thread = suc i; refused = false }) new (is_possible took)
+    takes_at : (took : Step) → TakesStep unit w.classes refused m.store t took new.store after → new.printed.items ≡ printed_after m.printed.items (suc i) took → new.stop ≡ stop_after m.stop (suc i) took
+        → Leads unit w s (record { thread = suc i; refused = refused }) new (is_possible took)
     takes_at took step printed stop = by_step took (step the_thread.source (lent s) (suc i) the_thread.stands unended) printed stop
 
   -- an entry is possible as far as its thread's step is
-  pub takes : (e : Entry) (i : ℕ) (t after : ThreadInMemory) (took : Step) (new : StateInMemory) → e.thread ≡ suc i → e.refused ≡ false → slice_get m.threads.items i ≡ Some t → is_unfinished (ending_view t.ending) ≡ true
-      → is_some m.stop ≡ false → TakesStep unit w.classes m.store t took new.store after → length new.store ≡ length m.store → new.world ≡ m.world → new.threads.items ≡ slice_set m.threads.items i after
+  pub takes : (e : Entry) (i : ℕ) (t after : ThreadInMemory) (took : Step) (new : StateInMemory) → e.thread ≡ suc i → slice_get m.threads.items i ≡ Some t → is_unfinished (ending_view t.ending) ≡ true
+      → is_some m.stop ≡ false → TakesStep unit w.classes e.refused m.store t took new.store after → new.world ≡ m.world → new.threads.items ≡ slice_set m.threads.items i after
       → new.printed.items ≡ printed_after m.printed.items e.thread took → new.stop ≡ stop_after m.stop e.thread took
       → Leads unit w s e new (is_possible took)
-  takes e i t after took new counted possible at live runs step count world threads printed stop =
-      subst (λ x. Leads unit w s x new (is_possible took)) (sym (entry_is e (suc i) counted possible))
-      (takes_at i t after at live runs new world threads count took step (printed ∙ ap (λ k. printed_after m.printed.items k took) counted) (stop ∙ ap (λ k. stop_after m.stop k took) counted))
+  takes e i t after took new counted at live runs step world threads printed stop =
+      subst (λ x. Leads unit w s x new (is_possible took)) (sym (entry_is e (suc i) counted))
+      (takes_at i t after at live runs new world threads e.refused took step (printed ∙ ap (λ k. printed_after m.printed.items k took) counted) (stop ∙ ap (λ k. stop_after m.stop k took) counted))
 
   -- ---- the report
 
@@ -275,15 +259,9 @@ module _ (unit : SourceUnit) (w : World) (m : StateInMemory) (s : State) (h : St
   standings_are : (T : Classes) → w.classes ≡ T → map (standing_in w.classes m.stop) (enumerate_from 1 m.threads.items) ≡ map (standing_in T m.stop) (enumerate_from 1 m.threads.items)
   standings_are T same = ap (λ (U : Classes). map (standing_in U m.stop) (enumerate_from 1 m.threads.items)) same
 
-  rows_same : map (shown_row w.classes s.shared.heap) (shown w s) ≡ own_rows m.world.now.classes m.store
-  rows_same =
-      shown_present w s (ap (λ (x : Shared). length x.heap) h.shared ∙ h.count)
-      ∙ ap (λ (x : Shared). own_rows w.classes x.heap) h.shared
-      ∙ ap (λ (v : World). own_rows v.classes m.store) h.world
-
   -- the report of the state is written from the state in memory
-  pub report_same : (standings : List ThreadStatus) → map standing_view standings ≡ standings_in m → report w s ≡ report_with m.printed.items standings (own_rows m.world.now.classes m.store)
+  pub report_same : (standings : List ThreadStatus) (rows : List ShownRow) → map standing_view standings ≡ standings_in m → rows ≡ (report w s).objects → report w s ≡ report_with m.printed.items standings rows
   unfolding report
-  report_same standings is =
+  report_same standings rows is shows =
       let stood = standings_same 1 m.threads.items s.threads h.threads ∙ standings_are m.world.now.classes (ap (λ (v : World). v.classes) h.world) ∙ sym is in
-      rw (rows_same, stood, h.printed) refl
+      rw (shows, stood, h.printed) refl

@@ -1,5 +1,5 @@
 -- A thread in memory steps as the thread that it stands for.
-use Rattle.std.proofs.Common.{◌≡◌, ℕ, true, false, List, [], ◌∷◌, Option, Some, None, refl, sym, ap, ◌∙◌, IsTrue}
+use Rattle.std.proofs.Common.{◌≡◌, ℕ, Bool, true, false, List, [], ◌∷◌, Option, Some, None, refl, sym, ap, ◌∙◌, IsTrue}
 use Rattle.std.specs.List.{list_all}
 use Rattle.std.specs.Option.{option_map}
 use Rattle.source.specs.World.{Invocation}
@@ -56,7 +56,7 @@ module _ (unit : SourceUnit) (classes : Classes) (lent : BuffersInUse) (k : ℕ)
   loads_after Ended calls h = refl
   loads_after (Uncaught c) calls h = refl
 
-  module _ (heap after : Heap) (t : ThreadInMemory) (a new : Activation) (s : Thread) (is : t.activation ≡ Some a) (h : ThreadStands unit classes t s) where
+  module _ (refused : Bool) (heap after : Heap) (t : ThreadInMemory) (a new : Activation) (s : Thread) (is : t.activation ≡ Some a) (h : ThreadStands unit classes t s) where
     has_tasks : s.tasks ≡ Some (tasks_left a)
     has_tasks = h.tasks ∙ ap tasks_in is
 
@@ -66,25 +66,25 @@ module _ (unit : SourceUnit) (classes : Classes) (lent : BuffersInUse) (k : ℕ)
     sees : Sees (scene_of unit classes heap a) s
     sees = record { variables = work.0; frames = work.1; pending = work.2 }
 
-    advances_so : (o : Outcome) → Advances unit classes heap a o after new → thread_step unit classes lent k (shared_now heap) s false ≡ advance_by k (shared_now after) s new o
-    advances_so o does = ap (step_within unit classes lent k (shared_now heap) s false) has_tasks ∙ does lent k s sees has_tasks
+    advances_so : (o : Outcome) → Advances unit classes refused heap a o after new → thread_step unit classes lent k (shared_now heap) s refused ≡ advance_by k (shared_now after) s new o
+    advances_so o does = ap (step_within unit classes lent k (shared_now heap) s refused) has_tasks ∙ does lent k s sees has_tasks
 
     -- the call goes on
-    on : (event : Event) → thread_step unit classes lent k (shared_now heap) s false ≡ AdvancesTo (shared_now after) (thread_in s new) event
-        → Leaves unit classes (shared_now after) (record t { activation = Some new }) event (thread_step unit classes lent k (shared_now heap) s false)
+    on : (event : Event) → thread_step unit classes lent k (shared_now heap) s refused ≡ AdvancesTo (shared_now after) (thread_in s new) event
+        → Leaves unit classes (shared_now after) (record t { activation = Some new }) event (thread_step unit classes lent k (shared_now heap) s refused)
     on event does = record {
       next = thread_in s new;
       advances = does;
       stands = record { calls = h.calls; loads = h.loads; tasks = refl; work = (refl, refl, refl); ending = h.ending };
     }
 
-    pub goes : (o : Outcome) → (o ≡ outcome.Returned → ⊥) → Advances unit classes heap a o after new
-        → StepIs unit classes (shared_now after) (record t { activation = Some new }) (step_of o) (thread_step unit classes lent k (shared_now heap) s false)
+    pub goes : (o : Outcome) → (o ≡ outcome.Returned → ⊥) → Advances unit classes refused heap a o after new
+        → StepIs unit classes (shared_now after) (record t { activation = Some new }) (step_of o) (thread_step unit classes lent k (shared_now heap) s refused)
     goes outcome.Stays other does = on Quiet (advances_so outcome.Stays does)
     goes (outcome.Printed z) other does = on (PrintedNumber z) (advances_so (outcome.Printed z) does)
     goes (outcome.Sets x v) other does = on Quiet (advances_so (outcome.Sets x v) does)
     goes (outcome.SetsNull to) other does = on Quiet (advances_so (outcome.SetsNull to) does)
-    goes (outcome.Puts to z) other does = on Quiet (advances_so (outcome.Puts to z) does)
+    goes (outcome.Gives to g) other does = on Quiet (advances_so (outcome.Gives to g) does)
     goes (outcome.SetsElement x i z) other does = on Quiet (advances_so (outcome.SetsElement x i z) does)
     goes (outcome.Makes T x n) other does = on Quiet (advances_so (outcome.Makes T x n) does)
     goes (outcome.Enters statements e) other does = on Quiet (advances_so (outcome.Enters statements e) does)
@@ -94,18 +94,18 @@ module _ (unit : SourceUnit) (classes : Classes) (lent : BuffersInUse) (k : ℕ)
     goes outcome.Impossible other does = advances_so outcome.Impossible does
 
     -- the call is over
-    pub returns : (left : ThreadInMemory) → Advances unit classes heap a outcome.Returned after new → left.activation ≡ None → ending_view left.ending ≡ ending_after after a.pending t.calls.now
-        → left.calls.now ≡ calls_after (ending_view left.ending) t.calls.now → Leaves unit classes (shared_now after) left Quiet (thread_step unit classes lent k (shared_now heap) s false)
+    pub returns : (left : ThreadInMemory) → Advances unit classes refused heap a outcome.Returned after new → left.activation ≡ None → ending_view left.ending ≡ ending_after after new.pending t.calls.now
+        → left.calls.now ≡ calls_after (ending_view left.ending) t.calls.now → Leaves unit classes (shared_now after) left Quiet (thread_step unit classes lent k (shared_now heap) s refused)
     returns left does idle ended calls =
         let e : Ending = ending_view left.ending in
         record {
           next = thread_after e t.calls.now;
-          advances = advances_so outcome.Returned does ∙ left_by after s e t.calls.now a.pending h.calls work.2 ended;
+          advances = advances_so outcome.Returned does ∙ left_by after (record s { pending = new.pending }) e t.calls.now new.pending h.calls refl ended;
           stands = record {
             calls = sym calls;
             loads = subst (λ (cs : List Invocation). IsTrue (list_all (call_loads unit classes) cs)) (sym calls) (loads_after e t.calls.now h.loads);
             tasks = ap tasks_in (sym idle);
-            work = subst (λ (o : Option Activation). WorkStands o (thread_after e t.calls.now)) (sym idle) refl;
+            work = subst (λ (o : Option Activation). WorkStands o (thread_after e t.calls.now)) (sym idle) (refl, refl, refl);
             ending = refl;
           };
         }
@@ -127,7 +127,7 @@ module _ (unit : SourceUnit) (classes : Classes) (lent : BuffersInUse) (k : ℕ)
       calls = sym is;
       loads = subst (λ (cs : List Invocation). IsTrue (list_all (call_loads unit classes) cs)) (sym is) parts.1;
       tasks = ap Some (sym tasks);
-      work = (sym variables, ap (λ (x : Frame). x ∷ []) (sym frame), subst (λ (o : Option Activation). WorkStands o s) idle h.work ∙ sym none);
+      work = (sym variables, ap (λ (x : Frame). x ∷ []) (sym frame), (subst (λ (o : Option Activation). WorkStands o s) idle h.work).2 ∙ sym none);
       ending = h.ending;
     };
   }
@@ -137,6 +137,10 @@ module _ (unit : SourceUnit) (classes : Classes) (lent : BuffersInUse) (k : ℕ)
 
       parts : (call_loads unit classes call ≡ true) × (list_all (call_loads unit classes) rest ≡ true)
       parts = and_parts (call_loads unit classes call) (list_all (call_loads unit classes) rest) loads
+
+  -- an entry makes no object that could be refused
+  pub none_refused : (heap : Heap) (t : ThreadInMemory) (s : Thread) → t.activation ≡ None → ThreadStands unit classes t s → thread_step unit classes lent k (shared_now heap) s true ≡ NoAdvance
+  none_refused heap t s idle h = ap (step_within unit classes lent k (shared_now heap) s true) (h.tasks ∙ ap tasks_in idle)
 
   -- no call is to come
   pub no_entry : (heap : Heap) (t : ThreadInMemory) (s : Thread) → t.activation ≡ None → t.calls.now ≡ [] → ThreadStands unit classes t s → thread_step unit classes lent k (shared_now heap) s false ≡ NoAdvance

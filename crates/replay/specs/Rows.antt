@@ -1,23 +1,19 @@
--- The rows of a world's objects.
-use Rattle.std.specs.Prelude.{ℕ, ◌+◌, List, ◌++◌, codes, drop, length, map}
-use Rattle.std.specs.List.{enumerate_from}
-use Rattle.classes.specs.Class.{Classes}
-use Rattle.report.specs.ReportText.{shown_text}
-use Rattle.report.specs.Shown.{row_lines}
-use Rattle.source.specs.Heap.{Heap}
-use Rattle.source.specs.Report.{ShownRow}
-use Rattle.source.specs.ReportOf.{shown_value, object_row}
-use Rattle.world.specs.declared.object.ObjectValue.{ObjectValue}
-use Rattle.world.specs.Views.{object_value_view}
+-- What the threads of a replay refer to.
+use Rattle.std.specs.Prelude.{ℕ, List, [], ◌++◌, reverse, Option, None, Some}
+use Rattle.std.specs.Option.{option_to_list}
+use Rattle.tasks.specs.declared.activation.Activation.{Activation}
+use Rattle.replay.specs.declared.thread.Thread.{Thread}
 
--- a value of a row, after a space
-abbrev pub value_text : Classes → ObjectValue → List ℕ
-value_text classes v = codes " " ++ shown_text (shown_value classes (object_value_view v))
+abbrev pub pending_names : Option ℕ → List ℕ
+pending_names pending = option_to_list pending
 
--- the objects but the class objects and the OutOfMemoryError object
-abbrev pub own_rows : Classes → Heap → List ShownRow
-own_rows classes heap = map (object_row classes) (enumerate_from (length classes + 2) (drop (length classes + 1) heap))
+-- the names in the frame of a call in progress, that of the last one put first, and of its pending exception
+abbrev pub call_names : Activation → List ℕ
+call_names a = reverse a.frame.references.items ++ pending_names a.pending
 
--- the lines of all rows
-abbrev pub rows_text : Classes → Heap → List ℕ
-rows_text classes heap = row_lines (own_rows classes heap)
+abbrev pub activation_names : Option Activation → List ℕ
+activation_names None = []
+activation_names (Some a) = call_names a
+
+abbrev pub thread_names : Thread → List ℕ
+thread_names t = activation_names t.activation

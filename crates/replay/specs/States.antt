@@ -1,5 +1,5 @@
 -- States that lie in memory, as those of the language, and what an entry does to one.
-use Rattle.std.specs.Prelude.{◌≡◌, ℕ, ◌==◌, Bool, true, false, if◌then◌else◌, List, [], ◌∷◌, ◌++◌, length, map, Option, Some, None}
+use Rattle.std.specs.Prelude.{◌≡◌, ℕ, ◌==◌, Bool, true, false, if◌then◌else◌, List, [], ◌∷◌, ◌++◌, map, Option, Some, None}
 use Rattle.std.specs.List.{enumerate_from}
 use Rattle.std.specs.Option.{option_map}
 use Rattle.syntax.specs.Tree.{SourceUnit}
@@ -10,7 +10,6 @@ use Rattle.source.specs.Report.{ThreadStanding, HasTrapped}
 use Rattle.source.specs.ReportOf.{standing_by_ending}
 use Rattle.source.specs.World.{World}
 use Rattle.source.specs.Thread.{Thread}
-use Rattle.source.specs.Reachable.{loaded_count}
 use Rattle.source.specs.Start.{null_statics}
 use Rattle.source.specs.State.{State, Stop}
 use Rattle.source.specs.Step.{world_step}
@@ -44,12 +43,10 @@ stop_view stop = record { thread = stop.thread; trap = trap_view stop.trap; line
 abbrev pub shown_stop : Option StopInMemory → Option TrapAt
 shown_stop stop = option_map (λ s. trap_at (stop_view s)) stop
 
--- A state in memory stands for one of the language, in the world that it began in. No step makes objects today, so that there
--- are as many as were made at load.
+-- a state in memory stands for one of the language, in the world that it began in
 pub record Stands (unit : SourceUnit) (w : World) (m : StateInMemory) (s : State) : Type 0 where
   pub world : w ≡ m.world.now
   pub shared : s.shared ≡ shared_with (null_statics unit) m.store
-  pub count : length m.store ≡ loaded_count w
   pub threads : ThreadsStand unit w.classes m.threads.items s.threads
   pub printed : s.printed ≡ m.printed.items
   pub stop : s.stop ≡ option_map stop_view m.stop

@@ -1,5 +1,5 @@
 -- Threads that lie in memory, as those of the language, and what a step of one does.
-use Rattle.std.specs.Prelude.{◌≡◌, ℕ, false, List, [], ◌∷◌, Option, Some, None, IsTrue}
+use Rattle.std.specs.Prelude.{◌≡◌, ℕ, Bool, List, [], ◌∷◌, Option, Some, None, IsTrue}
 use Rattle.std.specs.List.{list_all}
 use Rattle.syntax.specs.Tree.{SourceUnit}
 use Rattle.classes.specs.Class.{Classes}
@@ -29,10 +29,9 @@ abbrev pub tasks_in : Option Activation → Option (List Task)
 tasks_in None = None
 tasks_in (Some a) = Some (tasks_left a)
 
--- what the call in progress has beside its tasks; where there is none, nothing reads the variables and the frames, and no
--- exception is pending
+-- what the call in progress has beside its tasks; where there is none, there is nothing
 abbrev pub WorkStands : Option Activation → Thread → Type 0
-WorkStands None s = s.pending ≡ None
+WorkStands None s = (s.variables ≡ []) × (s.frames ≡ []) × (s.pending ≡ None)
 WorkStands (Some a) s = (s.variables ≡ variables_view a.variables.items) × (s.frames ≡ frame_view a.frame ∷ []) × (s.pending ≡ a.pending)
 
 abbrev pub WorkInRange : Option Activation → Type 0
@@ -77,8 +76,8 @@ StepIs unit classes shared t (step.Printed z) advance = Leaves unit classes shar
 StepIs unit classes shared t (step.Trapped trap line) advance = Leaves unit classes shared t (Trapped (trap_view trap) line) advance
 StepIs unit classes shared t step.Impossible advance = advance ≡ NoAdvance
 
--- the same for each thread that it stands for, with these objects before and after it
-abbrev pub TakesStep : SourceUnit → Classes → Heap → ThreadInMemory → Step → Heap → ThreadInMemory → Type 0
-TakesStep unit classes heap old took after new =
+-- the same for each thread that it stands for, with these objects before and after it, or what the step does with its object refused
+abbrev pub TakesStep : SourceUnit → Classes → (refused : Bool) → Heap → ThreadInMemory → Step → Heap → ThreadInMemory → Type 0
+TakesStep unit classes refused heap old took after new =
     (s : Thread) (lent : BuffersInUse) (k : ℕ) → ThreadStands unit classes old s → s.ending ≡ Unfinished
-    → StepIs unit classes (shared_with (null_statics unit) after) new took (thread_step unit classes lent k (shared_with (null_statics unit) heap) s false)
+    → StepIs unit classes (shared_with (null_statics unit) after) new took (thread_step unit classes lent k (shared_with (null_statics unit) heap) s refused)

@@ -9,12 +9,14 @@ ghost use Rattle.replay.specs.Replays.{Replayed, IsRefused, WritesRun, IsStopped
 
 use crate::fault::ReplayFault;
 use crate::load::start;
-use crate::rows::Objects;
+use crate::rows::{NamedObjects, root_names};
 use crate::state::{State, shown_stop, standings_of, take_entry};
 use crate::trap_at::TrapAt;
+use reached::reached_rows;
 use regions::Checked;
 use std::alloc::Global;
 use syntax::Item;
+use tasks::made_before;
 use world::{Entry, Sink, World, write_run};
 
 /// The state that the journal leads to.
@@ -68,11 +70,13 @@ pub fn replay<W: Sink>(
         Err(fault) => return Err(fault),
     };
     let standings = standings_of(alloc, &state)?;
-    let objects = Objects {
-        classes: state.world.classes(),
+    let objects = NamedObjects {
         store: &state.store,
     };
-    match write_run(out, &state.printed, &standings, &objects, journal) {
+    let names = root_names(alloc, &state.threads)?;
+    let loaded = made_before(state.world) + state.world.objects().len();
+    let rows = reached_rows(alloc, state.world.classes(), &objects, loaded, &names)?;
+    match write_run(out, &state.printed, &standings, &rows, journal) {
         Ok(()) => Ok(shown_stop(state.stop)),
         Err(_) => Err(ReplayFault::Writer),
     }

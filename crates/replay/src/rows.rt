@@ -1,107 +1,88 @@
-//! The rows of a report: the world's objects, each of which can still be reached, as they are made at load.
+//! The objects of a replay by their names, and what threads refer to, for a report.
 
-ghost use Rattle.std.specs.Prelude.{◌≡◌};
-ghost use Rattle.std.specs.List.{flat_map};
-ghost use Rattle.report.specs.ReportText.{object_line};
-ghost use Rattle.report.specs.Shown.{shown_view};
-ghost use Rattle.report.specs.Sink.{CanFail, Writes};
-ghost use Rattle.source.specs.ReportOf.{shown_value, shown_row};
-ghost use Rattle.world.specs.Views.{object_value_view};
-ghost use Rattle.replay.specs.Rows.{value_text, rows_text};
+ghost use Rattle.std.specs.Prelude.{◌≡◌, ◌++◌, IfOk, flat_map, reverse};
+ghost use Rattle.replay.specs.Rows.{call_names, pending_names, thread_names};
 
-use class_table::table::ClassTable;
-use tasks::Store;
-use world::{ObjectValue, Rows, Shown, Sink, SinkFailed, put_row_end, put_row_head, put_value};
+use crate::thread::Thread;
+use reached::Objects;
+use std::alloc::{AllocError, Global};
+use tasks::{Activation, Store};
+use world::ObjectValue;
 
-/// The objects of the store but the class objects and the OutOfMemoryError object. No function that can be called makes another,
-/// and those that are made at load stay reachable.
+/// The objects of a store.
 #[derive(Clone, Copy)]
-pub(crate) struct Objects<'a> {
-    pub classes: &'a ClassTable,
+pub(crate) struct NamedObjects<'a> {
     pub store: &'a Store,
 }
 
-/// A value as a row shows it: a class object by its class.
-fn shown(classes: &ClassTable, value: ObjectValue) -> Shown<'_>
-    ensures { shown_view result ≡ shown_value classes.now (object_value_view value) }
+impl Objects for NamedObjects<'_> {
+    ghost heap = { λ o. o.store.now };
+
+    fn len(&self) -> usize {
+        self.store.len()
+    }
+
+    fn class_of(&self, name: usize) -> usize {
+        self.store.class_of(name)
+    }
+
+    fn count(&self, name: usize) -> usize {
+        self.store.values_of(name).len()
+    }
+
+    fn value(&self, name: usize, index: usize) -> ObjectValue {
+        self.store.values_of(name)[index]
+    }
+}
+
+/// The names of the objects in the frames of threads, and of their pending exceptions, in the order of the definitions.
+pub(crate) fn root_names(alloc: Global, threads: &[Thread<'_>]) -> Result<Vec<usize>, AllocError>
+    ensures { IfOk result (λ names. names.items ≡ flat_map thread_names threads.now) }
 {
-    match value {
-        ObjectValue::Number(number) => Shown::Number(number),
-        ObjectValue::Reference(None) => Shown::Null,
-        ObjectValue::Reference(Some(name)) => {
-            let number = name as usize;
-            if number <= classes.len() {
-                Shown::Class(classes.name(number))
-            } else {
-                Shown::Object(name)
-            }
+    let mut names = Vec::new(alloc);
+    for thread in threads {
+        push_thread(&mut names, thread)?;
+    }
+    Ok(names)
+}
+
+/// Adds the names of a thread.
+fn push_thread(names: &mut Vec<usize>, thread: &Thread<'_>) -> Result<(), AllocError>
+    ensures { IfOk result (λ _. names.new.items ≡ names.old.items ++ thread_names thread.now) }
+{
+    match &thread.activation {
+        None => Ok(()),
+        Some(activation) => push_call(names, activation),
+    }
+}
+
+/// Adds the names of a call in progress.
+fn push_call(names: &mut Vec<usize>, activation: &Activation<'_>) -> Result<(), AllocError>
+    ensures { IfOk result (λ _. names.new.items ≡ names.old.items ++ call_names activation.now) }
+{
+    push_references(names, &activation.frame.references)?;
+    push_pending(names, activation.pending)
+}
+
+/// Adds the name of a pending exception.
+fn push_pending(names: &mut Vec<usize>, pending: Option<usize>) -> Result<(), AllocError>
+    ensures { IfOk result (λ _. names.new.items ≡ names.old.items ++ pending_names pending) }
+{
+    match pending {
+        None => Ok(()),
+        Some(name) => {
+            names.push(name)?;
+            Ok(())
         }
     }
 }
 
-/// Puts a value of a row.
-fn put_one<S: Sink>(
-    sink: &mut S,
-    classes: &ClassTable,
-    value: ObjectValue,
-) -> Result<(), SinkFailed>
-    requires { CanFail (S.written sink.old) }
-    ensures { Writes (S.written sink.old) (S.written sink.new) result (value_text classes.now value) }
+/// Adds the names in a frame, the last one put first.
+fn push_references(names: &mut Vec<usize>, references: &[usize]) -> Result<(), AllocError>
+    ensures { IfOk result (λ _. names.new.items ≡ names.old.items ++ reverse references.now) }
 {
-    let shown = shown(classes, value);
-    put_value(sink, shown)
-}
-
-/// Puts the values of a row.
-fn put_values<S: Sink>(
-    sink: &mut S,
-    classes: &ClassTable,
-    values: &[ObjectValue],
-) -> Result<(), SinkFailed>
-    requires { CanFail (S.written sink.old) }
-    ensures { Writes (S.written sink.old) (S.written sink.new) result (flat_map (value_text classes.now) values.now) }
-{
-    for value in values {
-        put_one(sink, classes, *value)?;
+    for done in 0..references.len() {
+        names.push(references[references.len() - 1 - done])?;
     }
     Ok(())
-}
-
-/// Puts the row of the object of a name.
-fn put_row<S: Sink>(
-    sink: &mut S,
-    classes: &ClassTable,
-    store: &Store,
-    name: u32,
-) -> Result<(), SinkFailed>
-    requires { CanFail (S.written sink.old) }
-    ensures { Writes (S.written sink.old) (S.written sink.new) result (object_line (shown_row classes.now store.now name)) }
-{
-    let object = name as usize;
-    let class = classes.name(store.class_of(object));
-    let values = store.values_of(object);
-    put_row_head(sink, name, class)?;
-    put_values(sink, classes, values)?;
-    put_row_end(sink)
-}
-
-/// Puts the rows of the objects, by rising names.
-fn put_rows<S: Sink>(sink: &mut S, classes: &ClassTable, store: &Store) -> Result<(), SinkFailed>
-    requires { CanFail (S.written sink.old) }
-    ensures { Writes (S.written sink.old) (S.written sink.new) result (rows_text classes.now store.now) }
-{
-    for place in classes.len() + 1..store.len() {
-        put_row(sink, classes, store, place as u32 + 1)?;
-    }
-    Ok(())
-}
-
-impl Rows for Objects<'_> {
-    ghost use Rattle.replay.specs.Rows.{own_rows};
-
-    ghost rows = { λ o. own_rows o.classes.now o.store.now };
-
-    fn put<S: Sink>(&self, sink: &mut S) -> Result<(), SinkFailed> {
-        put_rows(sink, self.classes, self.store)
-    }
 }

@@ -77,10 +77,6 @@ pub(crate) fn take_entry<'a>(
     if state.stop.is_some() {
         return Ok(false);
     }
-    // No call allocates yet, so there is nothing to refuse.
-    if entry.refused {
-        return Ok(false);
-    }
     let k = usize::from(entry.thread);
     if k == 0 {
         return Ok(false);
@@ -92,7 +88,14 @@ pub(crate) fn take_entry<'a>(
     if !is_unfinished(thread.ending) {
         return Ok(false);
     }
-    let step = take_step(alloc, items, state.world, &mut state.store, thread)?;
+    let step = take_step(
+        alloc,
+        items,
+        state.world,
+        &mut state.store,
+        entry.refused,
+        thread,
+    )?;
     let possible = note(state, entry.thread, step)?;
     Ok(possible)
 }

@@ -1,6 +1,6 @@
 //! Threads: calls in progress and to come.
 
-ghost use Rattle.std.specs.Prelude.{◌≡◌, ◌++◌, ◌∷◌, IfOk, IsTrue, Some, None, filter_map, length, map, reverse, zip};
+ghost use Rattle.std.specs.Prelude.{◌≡◌, ◌++◌, ◌∷◌, IfOk, IsTrue, Some, None, filter_map, map, reverse, zip};
 ghost use Rattle.std.specs.Option.{option_map};
 ghost use Rattle.syntax.specs.Limits.{IsTree};
 ghost use Rattle.syntax.specs.Views.{function_tree, parameter_tree, unit_tree};
@@ -77,7 +77,7 @@ pub(crate) fn function_at<'a>(items: &'a [Item], name: &[u8]) -> Option<&'a Func
 }
 
 /// What a parameter holds at first.
-fn content_of(argument: ObjectValue) -> Content
+fn content_of<'a>(argument: ObjectValue) -> Content<'a>
     ensures { content_view result ≡ argument_content (object_value_view argument) }
 {
     match argument {
@@ -187,14 +187,19 @@ fn enter<'a>(
     alloc: Global,
     items: &'a [Item],
     world: &World,
+    refused: bool,
     thread: &mut Thread<'a>,
 ) -> Result<Step, AllocError>
     requires tree { IsTree (unit_tree items.now) }
     requires calls { IsTrue (calls_are_built (unit_tree items.now)) }
     requires idle { thread.old.activation ≡ None }
-    ensures step { IfOk result (λ took. (heap : Heap) → TakesStep (unit_tree items.now) world.now.classes heap thread.old took heap thread.new) }
+    ensures step { IfOk result (λ took. (heap : Heap) → TakesStep (unit_tree items.now) world.now.classes refused heap thread.old took heap thread.new) }
     ensures range { IfOk result (λ _. WorkInRange thread.new.activation) }
 {
+    // An entry makes no object that could be refused.
+    if refused {
+        return Ok(Step::Impossible);
+    }
     let Some((call, rest)) = thread.calls.split_first() else {
         return Ok(Step::Impossible);
     };
@@ -225,7 +230,7 @@ fn step_of(outcome: Outcome<'_>) -> Step
 {
     match outcome {
         Outcome::Stays | Outcome::Sets(_, _) | Outcome::SetsNull(_) => Step::Quiet,
-        Outcome::Puts(_, _) | Outcome::SetsElement(_, _, _) => Step::Quiet,
+        Outcome::Gives(_, _) | Outcome::SetsElement(_, _, _) => Step::Quiet,
         Outcome::Makes(_, _, _) | Outcome::Enters(_, _) => Step::Quiet,
         Outcome::Ends | Outcome::Returned => Step::Quiet,
         Outcome::Printed(z) => Step::Printed(z),
@@ -262,27 +267,27 @@ fn leave(store: &Store, thread: &mut Thread<'_>, pending: Option<usize>)
     }
 }
 
-/// Lets a thread that has not ended take its next step.
+/// Lets a thread that has not ended take its next step, or the same with its object refused.
 pub(crate) fn take_step<'a>(
     alloc: Global,
     items: &'a [Item],
-    world: &World,
+    world: &'a World,
     store: &mut Store,
+    refused: bool,
     thread: &mut Thread<'a>,
 ) -> Result<Step, AllocError>
     requires tree { IsTree (unit_tree items.now) }
     requires calls { IsTrue (calls_are_built (unit_tree items.now)) }
     requires range { WorkInRange thread.old.activation }
-    ensures step { IfOk result (λ took. TakesStep (unit_tree items.now) world.now.classes store.old thread.old took store.new thread.new) }
-    ensures count { IfOk result (λ _. length store.new ≡ length store.old) }
+    ensures step { IfOk result (λ took. TakesStep (unit_tree items.now) world.now.classes refused store.old thread.old took store.new thread.new) }
     ensures range { IfOk result (λ _. WorkInRange thread.new.activation) }
 {
     let Some(activation) = &mut thread.activation else {
-        return enter(alloc, items, world, thread);
+        return enter(alloc, items, world, refused, thread);
     };
-    let pending = activation.pending;
-    match advance(alloc, items, world.classes(), store, activation)? {
+    match advance(alloc, items, world.classes(), store, refused, activation)? {
         Outcome::Returned => {
+            let pending = activation.pending;
             leave(store, thread, pending);
             Ok(Step::Quiet)
         }

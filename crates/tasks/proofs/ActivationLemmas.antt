@@ -1,5 +1,5 @@
 -- A call in progress takes the step of its first task.
-use Rattle.std.proofs.Common.{◌≡◌, ℕ, false, List, [], ◌∷◌, ◌++◌, length, Option, Some, None, refl, sym, ap, ◌∙◌, subst, append_assoc}
+use Rattle.std.proofs.Common.{◌≡◌, ℕ, Bool, true, false, List, [], ◌∷◌, ◌++◌, Option, Some, None, refl, sym, ap, ◌∙◌, subst, append_assoc}
 use Rattle.std.specs.Borrow.{Bor}
 use Rattle.std.specs.Global.{Vec}
 use Rattle.syntax.specs.declared.expr.Expr.{Expr}
@@ -8,6 +8,7 @@ use Rattle.syntax.specs.declared.stmt.Stmt.{Stmt}
 use Rattle.syntax.specs.Tree.{SourceUnit}
 use Rattle.syntax.specs.Views.{expr_tree, block_tree}
 use Rattle.classes.specs.Class.{Classes}
+use Rattle.source.specs.Activation.{return_step}
 use Rattle.source.specs.Heap.{Heap}
 use Rattle.source.specs.Object.{Reference}
 use Rattle.source.specs.Start.{null_statics}
@@ -30,7 +31,7 @@ use Rattle.terms.specs.declared.variable.Variable.{Variable as VariableInMemory}
 use Rattle.tasks.specs.Activations.{tasks_from, tasks_around, tasks_after, tasks_left, thread_in, scene_of, advance_by, Advances, KeepsScene, AreSet, BegunInRange, OuterInRange, IsInRange}
 use Rattle.tasks.specs.Outcomes.{variable_step, Holds, LeavesVariables, LeavesIf}
 use Rattle.tasks.specs.declared.frame.Frame.{Frame as FrameInMemory}
-use Rattle.tasks.specs.Steps.{Scene, Sees, Does, left_by}
+use Rattle.tasks.specs.Steps.{Scene, Sees, Does, in_frame, left_by, scene_with}
 use Rattle.tasks.specs.Stores.{frame_view, shared_with}
 use Rattle.tasks.specs.Tasks.{task_view, end_view, tasks_of_statements, EndInRange, StatementsInRange, TaskInRange, OutcomeInRange}
 use Rattle.terms.specs.Views.{variables_view, trap_view, term_view}
@@ -80,16 +81,17 @@ seen_begun unit classes heap old begun kept t sees = record {
 }
 
 -- it takes the same step then
-pub begun_before : (unit : SourceUnit) (classes : Classes) (heap : Heap) (old begun : Activation) (took : Outcome) (after : Heap) (new : Activation) → tasks_left begun ≡ tasks_left old → KeepsScene old begun → Advances unit classes heap begun took after new → Advances unit classes heap old took after new
-begun_before unit classes heap old begun took after new tasks kept does = λ lent k t sees has.
-    ap (λ (ts : List Task). step_within unit classes lent k (shared_with (null_statics unit) heap) t false (Some ts)) (sym tasks)
+pub begun_before : (unit : SourceUnit) (classes : Classes) (refused : Bool) (heap : Heap) (old begun : Activation) (took : Outcome) (after : Heap) (new : Activation) → tasks_left begun ≡ tasks_left old → KeepsScene old begun
+    → Advances unit classes refused heap begun took after new → Advances unit classes refused heap old took after new
+begun_before unit classes refused heap old begun took after new tasks kept does = λ lent k t sees has.
+    ap (λ (ts : List Task). step_within unit classes lent k (shared_with (null_statics unit) heap) t refused (Some ts)) (sym tasks)
     ∙ does lent k t
     (seen_begun unit classes heap old begun kept t sees)
     (has ∙ ap (λ (ts : List Task). let o : Option (List Task) = Some ts in o) (sym tasks))
 
 -- ---- the step of a task
 
-module _ (unit : SourceUnit) (classes : Classes) (heap : Heap) (old begun : Activation) (begun_task after : TaskInMemory) (variables : Vec VariableInMemory) (new : Activation)
+module _ (unit : SourceUnit) (classes : Classes) (refused : Bool) (heap heap' : Heap) (old begun : Activation) (begun_task after : TaskInMemory) (variables : Vec VariableInMemory) (frame : FrameInMemory) (pending : Option ℕ) (new : Activation)
     (tasks : tasks_left begun ≡ tasks_left old) (kept : KeepsScene old begun) (is : begun.task ≡ Some begun_task) where
   abbrev rest : List Task
   rest = tasks_after begun.rest.now begun.outer.items
@@ -97,8 +99,22 @@ module _ (unit : SourceUnit) (classes : Classes) (heap : Heap) (old begun : Acti
   abbrev shared : Shared
   shared = shared_with (null_statics unit) heap
 
+  abbrev shared' : Shared
+  shared' = shared_with (null_statics unit) heap'
+
   abbrev scene : Scene
   scene = scene_of unit classes heap begun
+
+  abbrev scene' : Scene
+  scene' = scene_with unit classes heap' begun.variables.items (frame_view frame) pending
+
+  -- the call in progress with what the step did to its frame, its pending exception and its variables
+  abbrev stood : Activation
+  stood = record begun { task = Some after; variables = variables; frame = frame; pending = pending }
+
+  -- a thread then
+  abbrev within : Thread → Thread
+  within t = in_frame t (frame_view frame) pending
 
   first : tasks_left old ≡ task_view begun_task ∷ rest
   first = sym tasks ∙ ap (λ (o : Option TaskInMemory). tasks_from o rest) is
@@ -106,52 +122,52 @@ module _ (unit : SourceUnit) (classes : Classes) (heap : Heap) (old begun : Acti
   seen : (t : Thread) → Sees (scene_of unit classes heap old) t → Sees scene t
   seen = seen_begun unit classes heap old begun kept
 
-  holds : (t : Thread) (ts : List Task) → Sees scene t → Holds (null_statics unit) begun.variables.items shared (with_tasks t ts)
-  holds t ts sees = record { variables = sees.variables; frames = ap (λ (fs : List Frame). length fs) sees.frames; statics = refl }
+  holds : (t : Thread) (ts : List Task) → Sees scene t → Holds (null_statics unit) begun.variables.items shared' (with_tasks (within t) ts)
+  holds t ts sees = record { variables = sees.variables; frames = refl; statics = refl }
 
-  stepped : (took : Outcome) → Does scene begun_task took after
-      → ((k : ℕ) (t : Thread) → Sees scene t → left_by k shared t rest took after ≡ advance_by k shared t new outcome.Impossible) → Advances unit classes heap old outcome.Impossible heap new
+  stepped : (took : Outcome) → Does refused scene begun_task took scene' after
+      → ((k : ℕ) (t : Thread) → Sees scene t → left_by k shared' (within t) rest took after ≡ NoAdvance) → Advances unit classes refused heap old outcome.Impossible heap' new
   stepped took does left = λ lent k t sees has.
-      ap (λ (ts : List Task). step_within unit classes lent k shared t false (Some ts)) first
-      ∙ does lent k t rest (seen t sees) (has ∙ ap (λ (ts : List Task). let o : Option (List Task) = Some ts in o) first)
+      ap (λ (ts : List Task). step_within unit classes lent k shared t refused (Some ts)) first
+      ∙ does unit lent k t rest (seen t sees) (has ∙ ap (λ (ts : List Task). let o : Option (List Task) = Some ts in o) first)
       ∙ left k t (seen t sees)
 
   -- a step that isn't possible
-  pub fails : (took : Outcome) → Does scene begun_task took after
-      → LeavesIf (null_statics unit) begun.variables.items (variable_step took) false variables.items → Advances unit classes heap old outcome.Impossible heap new
+  pub fails : (took : Outcome) → Does refused scene begun_task took scene' after
+      → LeavesIf (null_statics unit) begun.variables.items (variable_step took) false variables.items → Advances unit classes refused heap old outcome.Impossible heap' new
   fails took does none = stepped took does (by_outcome took none)
     where
       by_outcome : (took : Outcome) → LeavesIf (null_statics unit) begun.variables.items (variable_step took) false variables.items
-          → (k : ℕ) (t : Thread) → Sees scene t → left_by k shared t rest took after ≡ NoAdvance
-      by_outcome outcome.Stays none k t sees = absurd (let bad = none shared (with_tasks t rest) (holds t rest sees) in cc)
-      by_outcome (outcome.Printed z) none k t sees = absurd (let bad = none shared (with_tasks t rest) (holds t rest sees) in cc)
-      by_outcome (outcome.Sets x v) none k t sees = none shared (with_tasks t rest) (holds t rest sees)
-      by_outcome (outcome.SetsNull to) none k t sees = none shared (with_tasks t rest) (holds t rest sees)
-      by_outcome (outcome.Puts to z) none k t sees = none shared (with_tasks t rest) (holds t rest sees)
-      by_outcome (outcome.SetsElement x i z) none k t sees = none shared (with_tasks t rest) (holds t rest sees)
-      by_outcome (outcome.Makes T x n) none k t sees = none shared (with_tasks t rest) (holds t rest sees)
-      by_outcome (outcome.Enters statements e) none k t sees = absurd (let bad = none shared (with_tasks t rest) (holds t rest sees) in cc)
-      by_outcome outcome.Ends none k t sees = absurd (let bad = none shared (with_tasks t rest) (holds t rest sees) in cc)
-      by_outcome outcome.Returned none k t sees = absurd (let bad = none shared (with_tasks t rest) (holds t rest sees) in cc)
-      by_outcome (outcome.Trapped trap line) none k t sees = absurd (let bad = none shared (with_tasks t rest) (holds t rest sees) in cc)
+          → (k : ℕ) (t : Thread) → Sees scene t → left_by k shared' (within t) rest took after ≡ NoAdvance
+      by_outcome outcome.Stays none k t sees = absurd (let bad = none shared' (with_tasks (within t) rest) (holds t rest sees) in cc)
+      by_outcome (outcome.Printed z) none k t sees = absurd (let bad = none shared' (with_tasks (within t) rest) (holds t rest sees) in cc)
+      by_outcome (outcome.Sets x v) none k t sees = none shared' (with_tasks (within t) rest) (holds t rest sees)
+      by_outcome (outcome.SetsNull to) none k t sees = none shared' (with_tasks (within t) rest) (holds t rest sees)
+      by_outcome (outcome.Gives to g) none k t sees = none shared' (with_tasks (within t) rest) (holds t rest sees)
+      by_outcome (outcome.SetsElement x i z) none k t sees = none shared' (with_tasks (within t) rest) (holds t rest sees)
+      by_outcome (outcome.Makes T x n) none k t sees = none shared' (with_tasks (within t) rest) (holds t rest sees)
+      by_outcome (outcome.Enters statements e) none k t sees = absurd (let bad = none shared' (with_tasks (within t) rest) (holds t rest sees) in cc)
+      by_outcome outcome.Ends none k t sees = absurd (let bad = none shared' (with_tasks (within t) rest) (holds t rest sees) in cc)
+      by_outcome outcome.Returned none k t sees = absurd (let bad = none shared' (with_tasks (within t) rest) (holds t rest sees) in cc)
+      by_outcome (outcome.Trapped trap line) none k t sees = absurd (let bad = none shared' (with_tasks (within t) rest) (holds t rest sees) in cc)
       by_outcome outcome.Impossible none k t sees = refl
 
   module _ (k : ℕ) (t : Thread) (sees : Sees scene t) where
-    same_frames : new.frame ≡ begun.frame → t.frames ≡ frame_view new.frame ∷ []
-    same_frames frame = sees.frames ∙ ap (λ (f : FrameInMemory). frame_view f ∷ []) (sym frame)
+    same_frames : new.frame ≡ frame → (within t).frames ≡ frame_view new.frame ∷ []
+    same_frames same = ap (λ (f : FrameInMemory). frame_view f ∷ []) (sym same)
 
     -- all but the tasks is as before
-    left_alone : (event : Event) (ts : List Task) → LeavesVariables (null_statics unit) begun.variables.items (λ s' t'. thread.Advances s' t' Quiet) variables.items → tasks_left new ≡ ts → KeepsScene (record begun { task = Some after; variables = variables }) new
-        → thread.Advances shared (with_tasks t ts) event ≡ thread.Advances shared (thread_in t new) event
+    left_alone : (event : Event) (ts : List Task) → LeavesVariables (null_statics unit) begun.variables.items (λ s' t'. thread.Advances s' t' Quiet) variables.items → tasks_left new ≡ ts → KeepsScene stood new
+        → thread.Advances shared' (with_tasks (within t) ts) event ≡ thread.Advances shared' (thread_in t new) event
     left_alone event ts leaves left same =
-        ap (with_event event) (leaves shared (with_tasks t ts) (holds t ts sees))
-        ∙ thread_is shared t new event ts variables.items left (ap (λ (v : Vec VariableInMemory). v.items) same.variables) (same_frames same.frame) (sees.pending ∙ sym same.pending)
+        ap (with_event event) (leaves shared' (with_tasks (within t) ts) (holds t ts sees))
+        ∙ thread_is shared' (within t) new event ts variables.items left (ap (λ (v : Vec VariableInMemory). v.items) same.variables) (same_frames same.frame) (sym same.pending)
 
-    set : (took : Outcome) → LeavesVariables (null_statics unit) begun.variables.items (variable_step took) variables.items → tasks_left new ≡ rest → KeepsScene (record begun { task = Some after; variables = variables }) new
-        → variable_step took shared (with_tasks t rest) ≡ thread.Advances shared (thread_in t new) Quiet
+    set : (took : Outcome) → LeavesVariables (null_statics unit) begun.variables.items (variable_step took) variables.items → tasks_left new ≡ rest → KeepsScene stood new
+        → variable_step took shared' (with_tasks (within t) rest) ≡ thread.Advances shared' (thread_in t new) Quiet
     set took leaves left same =
-        leaves shared (with_tasks t rest) (holds t rest sees)
-        ∙ thread_is shared t new Quiet rest variables.items left (ap (λ (v : Vec VariableInMemory). v.items) same.variables) (same_frames same.frame) (sees.pending ∙ sym same.pending)
+        leaves shared' (with_tasks (within t) rest) (holds t rest sees)
+        ∙ thread_is shared' (within t) new Quiet rest variables.items left (ap (λ (v : Vec VariableInMemory). v.items) same.variables) (same_frames same.frame) (sym same.pending)
 
     left_with : (o : Option TaskInMemory) → new.task ≡ o → new.rest ≡ begun.rest → new.outer.items ≡ begun.outer.items → tasks_left new ≡ tasks_from o rest
     left_with o task' rest' outer' = left_is new o begun.rest.now begun.outer.items task' (ap (λ (b : Bor (List Stmt)). b.now) rest') outer'
@@ -163,32 +179,32 @@ module _ (unit : SourceUnit) (classes : Classes) (heap : Heap) (old begun : Acti
         ∙ ap (λ (ts : List Task). tasks_of_statements statements.now ++ ts) (around_more [] begun.outer.items (record { end = e; rest = begun.rest }))
         ∙ sym (append_assoc (tasks_of_statements statements.now) (end_view e ∷ []) rest)
 
-    left_in : (took : Outcome) → LeavesVariables (null_statics unit) begun.variables.items (variable_step took) variables.items → AreSet (record begun { task = Some after; variables = variables }) took new
-        → left_by k shared t rest took after ≡ advance_by k shared t new took
+    left_in : (took : Outcome) → LeavesVariables (null_statics unit) begun.variables.items (variable_step took) variables.items → AreSet stood took new
+        → left_by k shared' (within t) rest took after ≡ advance_by k shared' t new took
     left_in outcome.Stays leaves a = left_alone Quiet (task_view after ∷ rest) leaves (left_with (Some after) a.task a.rest a.outer) a.kept
     left_in (outcome.Printed z) leaves a = left_alone (PrintedNumber z) rest leaves (left_with None a.task a.rest a.outer) a.kept
     left_in (outcome.Sets x v) leaves a = set (outcome.Sets x v) leaves (left_with None a.task a.rest a.outer) a.kept
     left_in (outcome.SetsNull to) leaves a = set (outcome.SetsNull to) leaves (left_with None a.task a.rest a.outer) a.kept
-    left_in (outcome.Puts to z) leaves a = set (outcome.Puts to z) leaves (left_with None a.task a.rest a.outer) a.kept
+    left_in (outcome.Gives to g) leaves a = set (outcome.Gives to g) leaves (left_with None a.task a.rest a.outer) a.kept
     left_in (outcome.SetsElement x i z) leaves a = set (outcome.SetsElement x i z) leaves (left_with None a.task a.rest a.outer) a.kept
     left_in (outcome.Makes T x n) leaves a = set (outcome.Makes T x n) leaves (left_with None a.task a.rest a.outer) a.kept
     left_in (outcome.Enters statements e) leaves a = left_alone Quiet ((tasks_of_statements statements.now ++ end_view e ∷ []) ++ rest) leaves (entered statements e a.task a.rest a.outer) a.kept
     left_in outcome.Ends leaves a = left_alone Quiet rest leaves (left_with None a.task a.rest a.outer) a.kept
-    left_in outcome.Returned leaves a = refl
+    left_in outcome.Returned leaves a = ap (λ (r : Reference). let u : Thread = record t { pending = r } in return_step k shared' u) (sym a.kept.pending)
     left_in (outcome.Trapped trap line) leaves a = left_alone (Trapped (trap_view trap) line) (task_view after ∷ rest) leaves (left_with (Some after) a.task a.rest a.outer) a.kept
     left_in outcome.Impossible leaves a = refl
 
   -- what the task's step does is done to the call
-  pub advances : (took : Outcome) → Does scene begun_task took after
-      → LeavesVariables (null_statics unit) begun.variables.items (variable_step took) variables.items → AreSet (record begun { task = Some after; variables = variables }) took new → Advances unit classes heap old took heap new
+  pub advances : (took : Outcome) → Does refused scene begun_task took scene' after
+      → LeavesVariables (null_statics unit) begun.variables.items (variable_step took) variables.items → AreSet stood took new → Advances unit classes refused heap old took heap' new
   advances took does leaves applied = λ lent k t sees has.
-      ap (λ (ts : List Task). step_within unit classes lent k shared t false (Some ts)) first
-      ∙ does lent k t rest (seen t sees) (has ∙ ap (λ (ts : List Task). let o : Option (List Task) = Some ts in o) first)
+      ap (λ (ts : List Task). step_within unit classes lent k shared t refused (Some ts)) first
+      ∙ does unit lent k t rest (seen t sees) (has ∙ ap (λ (ts : List Task). let o : Option (List Task) = Some ts in o) first)
       ∙ left_in k t (seen t sees) took leaves applied
 
 -- ---- what is known of accepted programs
 
-module _ (begun new : Activation) (after : TaskInMemory) (variables : Vec VariableInMemory) (known : IsInRange begun) (known_after : TaskInRange after) where
+module _ (begun new : Activation) (after : TaskInMemory) (variables : Vec VariableInMemory) (frame : FrameInMemory) (pending : Option ℕ) (known : IsInRange begun) (known_after : TaskInRange after) where
   built : (o : Option TaskInMemory) (rest_of : Bor (List Stmt)) (os : List Outer) → new.task ≡ o → new.rest ≡ rest_of → new.outer.items ≡ os → BegunInRange o → StatementsInRange rest_of.now → OuterInRange os → IsInRange new
   built o rest_of os same_task same_rest same_outer task' rest' outer' = record {
     begun = subst BegunInRange (sym same_task) task';
@@ -197,12 +213,12 @@ module _ (begun new : Activation) (after : TaskInMemory) (variables : Vec Variab
   }
 
   -- after a step it is known of the call in progress too
-  pub range_after : (took : Outcome) → OutcomeInRange took → AreSet (record begun { task = Some after; variables = variables }) took new → IsInRange new
+  pub range_after : (took : Outcome) → OutcomeInRange took → AreSet (record begun { task = Some after; variables = variables; frame = frame; pending = pending }) took new → IsInRange new
   range_after outcome.Stays h a = built (Some after) begun.rest begun.outer.items a.task a.rest a.outer known_after known.rest known.outer
   range_after (outcome.Printed z) h a = built None begun.rest begun.outer.items a.task a.rest a.outer tt known.rest known.outer
   range_after (outcome.Sets x v) h a = built None begun.rest begun.outer.items a.task a.rest a.outer tt known.rest known.outer
   range_after (outcome.SetsNull to) h a = built None begun.rest begun.outer.items a.task a.rest a.outer tt known.rest known.outer
-  range_after (outcome.Puts to z) h a = built None begun.rest begun.outer.items a.task a.rest a.outer tt known.rest known.outer
+  range_after (outcome.Gives to g) h a = built None begun.rest begun.outer.items a.task a.rest a.outer tt known.rest known.outer
   range_after (outcome.SetsElement x i z) h a = built None begun.rest begun.outer.items a.task a.rest a.outer tt known.rest known.outer
   range_after (outcome.Makes T x n) h a = built None begun.rest begun.outer.items a.task a.rest a.outer tt known.rest known.outer
   range_after (outcome.Enters statements e) h a =
@@ -215,13 +231,28 @@ module _ (begun new : Activation) (after : TaskInMemory) (variables : Vec Variab
 
 -- ---- the end of a block
 
+module _ (unit : SourceUnit) (classes : Classes) (lent : BuffersInUse) (k : ℕ) (s : Shared) (t : Thread) where
+  end_refused : (e : End) (after : List Task) → step_within unit classes lent k s t true (Some (end_view e ∷ after)) ≡ NoAdvance
+  end_refused end.If after = refl
+  end_refused (end.Turn line test body) after = refl
+
+  around_refused : (after : List Task) (os : List Outer) → step_within unit classes lent k s t true (Some after) ≡ NoAdvance → step_within unit classes lent k s t true (Some (tasks_around after os)) ≡ NoAdvance
+  around_refused after [] h = h
+  around_refused after (o ∷ os) h = around_refused (end_view o.end ∷ tasks_of_statements o.rest.now ++ after) os (end_refused o.end (tasks_of_statements o.rest.now ++ after))
+
 module _ (unit : SourceUnit) (classes : Classes) (heap : Heap) (old new : Activation) (idle : old.task ≡ None) (done : old.rest.now ≡ []) where
   abbrev shared_then : Shared
   shared_then = shared_with (null_statics unit) heap
 
   -- no task is left
-  pub nothing_to_do : old.outer.items ≡ [] → Advances unit classes heap old outcome.Impossible heap new
+  pub nothing_to_do : old.outer.items ≡ [] → Advances unit classes false heap old outcome.Impossible heap new
   nothing_to_do none = λ lent k t sees has. ap (λ (tasks : List Task). step_within unit classes lent k shared_then t false (Some tasks)) (left_is old None [] [] idle done none)
+
+  -- what has no object can't have it refused
+  pub nothing_to_refuse : Advances unit classes true heap old outcome.Impossible heap new
+  nothing_to_refuse = λ lent k t sees has.
+      ap (λ (tasks : List Task). step_within unit classes lent k shared_then t true (Some tasks)) (left_is old None [] old.outer.items idle done refl)
+      ∙ around_refused unit classes lent k shared_then t [] old.outer.items refl
 
   module _ (os : List Outer) (o : Outer) (outer : old.outer.items ≡ os ++ o ∷ []) (rest : new.rest ≡ o.rest) (rest_of : new.outer.items ≡ os) (kept : KeepsScene old new) where
     abbrev after : List Task
@@ -240,14 +271,14 @@ module _ (unit : SourceUnit) (classes : Classes) (heap : Heap) (old new : Activa
     left p begun = left_is new p o.rest.now os begun (ap (λ (b : Bor (List Stmt)). b.now) rest) rest_of
 
     -- after an `if`
-    pub if_over : o.end ≡ end.If → new.task ≡ None → Advances unit classes heap old outcome.Ends heap new
+    pub if_over : o.end ≡ end.If → new.task ≡ None → Advances unit classes false heap old outcome.Ends heap new
     if_over is none = λ lent k t sees has.
         ap (λ (ts : List Task). step_within unit classes lent k shared_then t false (Some ts)) (at_end ∙ ap (λ (e : End). end_view e ∷ after) is)
         ∙ goes after t sees (left None none)
 
     -- at a loop's test
     pub turn_over : (line : ℕ) (test : Bor Expr) (term : Term) (body : Bor Block) → o.end ≡ end.Turn line test body → new.task ≡ Some (task.Loop line test term body) → term_view term ≡ term_of (expr_tree test.now)
-        → Advances unit classes heap old outcome.Stays heap new
+        → Advances unit classes false heap old outcome.Stays heap new
     turn_over line test term body is begun begins = λ lent k t sees has.
         ap (λ (ts : List Task). step_within unit classes lent k shared_then t false (Some ts)) (at_end ∙ ap (λ (e : End). end_view e ∷ after) is)
         ∙ ap (λ (u : tree.Term). let ts : List Task = Loop line (expr_tree test.now) u (block_tree body.now) ∷ after in thread.Advances shared_then (with_tasks t ts) Quiet) (sym begins)

@@ -1,243 +1,320 @@
--- What a call of GetArrayLength does, by its argument.
-use Rattle.std.proofs.Common.{◌≡◌, ℕ, Bool, true, false, List, [], ◌∷◌, length, cond, Option, Some, None, refl, sym, ap, ◌∙◌, append-nil, IsTrue, pos, map, subst, IfOk, Result, Ok, Err}
-use Rattle.base.specs.Bytes.{Identifier, lookup}
-use Rattle.base.specs.Options.{some_passes}
-use Rattle.std.specs.Prelude.{is_some, zip}
-use Rattle.syntax.specs.declared.call.Argument.{Argument as ArgumentInMemory}
-use Rattle.syntax.specs.declared.call.Argument.TheVariants as argument
-use Rattle.syntax.specs.Views.{expr_tree, argument_tree, call_tree}
-use Rattle.syntax.specs.Tree as tree
-use Rattle.syntax.specs.Parts.{statics_of}
-use Rattle.syntax.specs.Tree.{Expr, Argument, Call, SourceUnit}
-use Rattle.classes.specs.Class.{Classes, class_kind, is_plain}
+-- What a call in memory does is the call's step.
+use Rattle.std.proofs.Common.{◌≡◌, ℕ, Bool, true, false, List, [], ◌∷◌, ◌++◌, map, Option, Some, None, refl, sym, ap, ◌∙◌, subst, append-nil, IfOk, Result, Ok, Err}
+use Rattle.std.specs.Prelude.{is_some, not, zip, ◌&&◌, ◌||◌}
+use Rattle.std.specs.List.{list_any}
+use Rattle.base.specs.Bytes.{Identifier}
+use Rattle.base.specs.Element.{ElementType}
+use Rattle.classes.specs.BuiltIns.{no_class_def_found_error, no_such_field_error}
+use Rattle.classes.specs.Class.{Classes}
+use Rattle.classes.specs.Fields.{FieldId}
 use Rattle.jni.specs.BuiltFunctions.{is_built_function}
-use Rattle.types.specs.BuiltCalls.{is_built_call}
-use Rattle.jni.specs.JniFunction.{JniFunction, GetArrayLength}
-use Rattle.jni.specs.Prototype.{function_named, prototype}
-use Rattle.source.specs.Arguments.{Actual, ReferenceActual, TextActual, VariableActual, reference_argument, actuals}
-use Rattle.source.specs.CallEffects.{ScalarResult}
-use Rattle.source.specs.CallStep.{call_step, put}
-use Rattle.source.specs.Checks.{call_trap, go_together}
+use Rattle.jni.specs.JniFunction.{JniFunction, FindClass, GetSuperclass, GetObjectClass, IsInstanceOf, IsAssignableFrom, AllocObject, GetFieldID, GetStaticFieldID, GetField, SetField, GetStaticField, SetStaticField, GetObjectField, SetObjectField, GetStaticObjectField, SetStaticObjectField, GetArrayLength, PopLocalFrame, is_allowed_pending}
+use Rattle.jni.specs.Prototype.{ResultKind, NewLocal, prototype}
+use Rattle.source.specs.Arguments.{Actual, variable_given}
+use Rattle.source.specs.CallEffects.{CallResult, CallEffect, found_class_effect, found_field_effect, out_of_memory}
+use Rattle.source.specs.CallStep.{after_call, after_refusal, call_step, checked, completed, failure, makes_objects, put, received, target_element, tell_copy, is_zero}
 use Rattle.source.specs.CallTable.{call_effect}
-use Rattle.source.specs.Effect.{effect_of}
-use Rattle.source.specs.Heap.{Heap, class_of, values_of}
-use Rattle.source.specs.Sight.{Sight, seen}
-use Rattle.source.specs.Start.{null_statics}
-use Rattle.source.specs.Task.{Task, Operand, operand, invocation, call_task}
-use Rattle.source.specs.Object.{Reference}
-use Rattle.source.specs.Thread.{Frame, Thread, Shared, BuffersInUse, Event, Trapped, Advance, Advances, sight_of}
-use Rattle.source.specs.ThreadStep.{after_effect, with_tasks}
-use Rattle.source.specs.Value.{Int, NullReference, ExceptionPending, WrongObject}
-use Rattle.source.specs.Variable.{Variables, StaticReference, Empty, Live}
-use Rattle.tasks.specs.Objects.{array_length, reference_of}
-use Rattle.terms.specs.declared.trap.Trap.TheVariants as trap
-use Rattle.tasks.specs.declared.task.Invocation.{Invocation}
-use Rattle.tasks.specs.declared.task.Task.{Task as TaskInMemory}
-use Rattle.tasks.specs.declared.task.Task.TheVariants as task
-use Rattle.terms.specs.declared.variable.Variable.{Variable as VariableInMemory}
-use Rattle.terms.specs.Views.{variables_view}
-use Rattle.tasks.specs.declared.outcome.Outcome.{Outcome}
+use Rattle.source.specs.Checks.{call_trap, first_trap, frames_after, go_together, is_deleted, is_misfit, is_missing}
+use Rattle.source.specs.Effect.{tasks_after}
+use Rattle.source.specs.Heap.{Heap, next_name}
+use Rattle.source.specs.Object.{Object, Reference}
+use Rattle.source.specs.World.{fresh_object}
+use Rattle.source.specs.Task.{Task}
+use Rattle.source.specs.Thread.{Frame, Thread, Shared, BuffersInUse, Trapped, Advance, Advances}
+use Rattle.source.specs.ThreadStep.{with_tasks}
+use Rattle.source.specs.Value.{Trap, DeletedReference, ExceptionPending, NullReference, WrongObject, NoCapacity}
+use Rattle.source.specs.Variable.{Statics, Variables}
+use Rattle.tasks.specs.declared.actual.Actual.{Actual as InMemory}
+use Rattle.tasks.specs.declared.actual.Actual.TheVariants as actual
+use Rattle.tasks.specs.declared.given.Given.{Given}
+use Rattle.tasks.specs.declared.given.Given.TheVariants as given
 use Rattle.tasks.specs.declared.outcome.Outcome.TheVariants as outcome
 use Rattle.tasks.specs.declared.outcome.Target.{Target as TargetInMemory}
 use Rattle.tasks.specs.declared.outcome.Target.TheVariants as target
+use Rattle.terms.specs.declared.trap.Trap.{Trap as TrapInMemory}
+use Rattle.tasks.specs.Actuals.{actual_view}
+use Rattle.tasks.specs.Answers.{Answer, Gives, Writes, Makes, Raises, effect_as, frame_with, given_after, given_view, heap_after, makes_object, pending_after}
+use Rattle.tasks.specs.Calls.{MakesCall}
+use Rattle.tasks.specs.Checked.{fit_together, lacks_room, trap_found}
 use Rattle.tasks.specs.Outcomes.{target_view}
-use Rattle.tasks.specs.Steps.{Scene, scene_with, Does, first_expression, length_outcome}
+use Rattle.tasks.specs.Steps.{in_frame}
 use Rattle.tasks.specs.Stores.{shared_with}
 use Rattle.tasks.specs.Tasks.{task_view}
-use Rattle.terms.proofs.SightLemmas.{held_in_none}
-use Rattle.tasks.proofs.TaskLemmas.{sees_so, same_thread}
+use Rattle.tasks.specs.WorkedOut.{found_class, found_field, worked_out}
+use Rattle.terms.specs.Views.{trap_view}
+use Rattle.tasks.proofs.TaskLemmas.{same_frame, same_thread}
 
-length_function : (o : Option JniFunction) → some_passes is_built_function o ≡ true → o ≡ Some GetArrayLength
-length_function None h = absurd (cc)
-length_function (Some GetArrayLength) h = refl
-length_function (Some f) h = absurd (cc)
-
--- the one function that can be called
-pub is_length : (c : Call) → IsTrue (is_built_call c) → function_named c.function ≡ Some GetArrayLength
-is_length c h = length_function (function_named c.function) h
-
-module _ (vs : Variables) (unit : SourceUnit) (heap : Heap) where
-  -- what an argument is looked up as
-  actual_is : (e : Expr) → (y : Identifier) × (reference_argument (seen vs (null_statics unit) heap) e ≡ ReferenceActual y (reference_of vs e))
-  actual_is (tree.Number n unsigned) = ([], refl)
-  actual_is (tree.Named c) = ([], refl)
-  actual_is (tree.Variable x) = (x, ap (ReferenceActual x) (held_in_none x (statics_of unit) (lookup x vs)))
-  actual_is (tree.Element x e) = ([], refl)
-  actual_is (tree.Prefix op e) = ([], refl)
-  actual_is (tree.Binary op a b) = ([], refl)
-  actual_is (tree.Paren e) = ([], refl)
-
-module _ (classes : Classes) (lent : BuffersInUse) (k : ℕ) (s : Shared) (t : Thread) (rest : List Task) (line : ℕ) where
-  -- the operands of these arguments
-  abbrev given_operands : List Argument → List Operand
-  given_operands arguments = map operand (zip (prototype GetArrayLength).parameters arguments)
-
-  abbrev called : TargetInMemory → List Actual → Advance
-  called to args = call_step classes lent k s t line (target_view to) GetArrayLength args rest false
-
-  -- an exception is pending
-  of_pending : (to : TargetInMemory) (args : List Actual) (n : ℕ) → t.pending ≡ Some n → called to args ≡ Advances s t (Trapped ExceptionPending line)
-  unfolding call_trap
-  of_pending to args n some = rw some refl
-
-  without_argument : (to : TargetInMemory) → t.pending ≡ None → called to [] ≡ Advances s t (Trapped WrongObject line)
-  unfolding call_trap go_together
-  without_argument to none = rw none refl
-
-  of_text : (to : TargetInMemory) (bytes : List ℕ) → t.pending ≡ None → called to (TextActual bytes ∷ []) ≡ Advances s t (Trapped WrongObject line)
-  unfolding call_trap go_together
-  of_text to bytes none = rw none refl
-
-  of_address : (to : TargetInMemory) (y : Identifier) → t.pending ≡ None → called to (VariableActual y ∷ []) ≡ Advances s t (Trapped WrongObject line)
-  unfolding call_trap go_together
-  of_address to y none = rw none refl
-
-  of_null : (to : TargetInMemory) (y : Identifier) → t.pending ≡ None → called to (ReferenceActual y Empty ∷ []) ≡ Advances s t (Trapped NullReference line)
-  unfolding call_trap go_together
-  of_null to y none = rw none refl
-
-  of_other : (to : TargetInMemory) (y : Identifier) (n : ℕ) → t.pending ≡ None → is_plain (class_kind classes (class_of s.heap n)) ≡ true → called to (ReferenceActual y (Live n) ∷ []) ≡ Advances s t (Trapped WrongObject line)
-  unfolding call_trap go_together
-  of_other to y n none plain = rw (none, plain) refl
-
-  of_array : (to : TargetInMemory) (y : Identifier) (n : ℕ) → t.pending ≡ None → is_plain (class_kind classes (class_of s.heap n)) ≡ false
-      → called to (ReferenceActual y (Live n) ∷ []) ≡ put (target_view to) (ScalarResult (Int (pos (length (values_of s.heap n))))) s (with_tasks t rest)
-  unfolding call_trap go_together call_effect
-  of_array (target.Declared kind x) y n none plain = rw (none, plain, append-nil s.heap) refl
-  of_array (target.Assigned x) y n none plain = rw (none, plain, append-nil s.heap) refl
-  of_array target.Dropped y n none plain = rw (none, plain, append-nil s.heap) refl
-
-  module _ (to : TargetInMemory) (vs : Variables) (unit : SourceUnit) (c : Call) (built : IsTrue (is_built_call c)) (now : sight_of s t ≡ seen vs (null_statics unit) s.heap) where
-    abbrev pub stepped : Advance
-    stepped = after_effect classes lent k s t rest (effect_of (sight_of s t) (call_task line (target_view to) c))
-
-    called_so : (arguments : List Argument) → c.arguments ≡ arguments
-        → stepped ≡ after_effect classes lent k s t rest (effect_of (seen vs (null_statics unit) s.heap) (invocation line (target_view to) (record { function = c.function; arguments = arguments }) (Some GetArrayLength)))
-    called_so arguments is =
-        ap (λ (sight : Sight). after_effect classes lent k s t rest (effect_of sight (call_task line (target_view to) c))) now
-        ∙ ap (λ (f : Option JniFunction). after_effect classes lent k s t rest (effect_of (seen vs (null_statics unit) s.heap) (invocation line (target_view to) c f))) (is_length c built)
-        ∙ ap (λ (args : List Argument). after_effect classes lent k s t rest (effect_of (seen vs (null_statics unit) s.heap) (invocation line (target_view to) (record { function = c.function; arguments = args }) (Some GetArrayLength)))) is
-
-    when_pending : (arguments : List Argument) (n : ℕ) → t.pending ≡ Some n
-        → after_effect classes lent k s t rest (effect_of (seen vs (null_statics unit) s.heap) (invocation line (target_view to) (record { function = c.function; arguments = arguments }) (Some GetArrayLength))) ≡ Advances s t (Trapped ExceptionPending line)
-    when_pending [] n some = of_pending to (actuals (seen vs (null_statics unit) s.heap) GetArrayLength (given_operands [])) n some
-    when_pending (tree.Value e ∷ more) n some = of_pending to (actuals (seen vs (null_statics unit) s.heap) GetArrayLength (given_operands (tree.Value e ∷ more))) n some
-    when_pending (tree.Text bytes ∷ more) n some = of_pending to (actuals (seen vs (null_statics unit) s.heap) GetArrayLength (given_operands (tree.Text bytes ∷ more))) n some
-    when_pending (tree.AddressOf y ∷ more) n some = of_pending to (actuals (seen vs (null_statics unit) s.heap) GetArrayLength (given_operands (tree.AddressOf y ∷ more))) n some
-
-    -- its arguments, whatever they are
-    pub length_when_pending : (n : ℕ) → t.pending ≡ Some n → stepped ≡ Advances s t (Trapped ExceptionPending line)
-    length_when_pending n some = called_so c.arguments refl ∙ when_pending c.arguments n some
-
-    module _ (none : t.pending ≡ None) where
-      -- the argument is left out, or isn't an expression
-      pub length_of_nothing : c.arguments ≡ [] → stepped ≡ Advances s t (Trapped WrongObject line)
-      length_of_nothing is = called_so [] is ∙ without_argument to none
-
-      pub length_of_text : (bytes : List ℕ) (more : List Argument) → c.arguments ≡ tree.Text bytes ∷ more → stepped ≡ Advances s t (Trapped WrongObject line)
-      length_of_text bytes more is = called_so (tree.Text bytes ∷ more) is ∙ of_text to bytes none
-
-      pub length_of_address : (y : Identifier) (more : List Argument) → c.arguments ≡ tree.AddressOf y ∷ more → stepped ≡ Advances s t (Trapped WrongObject line)
-      length_of_address y more is = called_so (tree.AddressOf y ∷ more) is ∙ of_address to y none
-
-      module _ (e : Expr) (more : List Argument) (is : c.arguments ≡ tree.Value e ∷ more) where
-        found : (r : StaticReference) → reference_of vs e ≡ r → stepped ≡ called to (ReferenceActual ((actual_is vs unit s.heap e).0) r ∷ [])
-        found r same =
-            called_so (tree.Value e ∷ more) is
-            ∙ ap (λ (a : Actual). called to (a ∷ [])) ((actual_is vs unit s.heap e).1 ∙ ap (ReferenceActual ((actual_is vs unit s.heap e).0)) same)
-
-        -- NULL
-        pub length_of_null : reference_of vs e ≡ Empty → stepped ≡ Advances s t (Trapped NullReference line)
-        length_of_null same = found Empty same ∙ of_null to ((actual_is vs unit s.heap e).0) none
-
-        by_kind : (n : ℕ) (plain : Bool) → is_plain (class_kind classes (class_of s.heap n)) ≡ plain → reference_of vs e ≡ Live n → cond plain None (Some (length (values_of s.heap n))) ≡ None
-            → stepped ≡ Advances s t (Trapped WrongObject line)
-        by_kind n true kind same no_length = found (Live n) same ∙ of_other to ((actual_is vs unit s.heap e).0) n none kind
-        by_kind n false kind same no_length = absurd (cc)
-
-        -- no array
-        pub length_of_other : (n : ℕ) → reference_of vs e ≡ Live n → array_length classes s.heap n ≡ None → stepped ≡ Advances s t (Trapped WrongObject line)
-        length_of_other n same no_length = by_kind n (is_plain (class_kind classes (class_of s.heap n))) refl same no_length
-
-        by_length : (n count : ℕ) (plain : Bool) → is_plain (class_kind classes (class_of s.heap n)) ≡ plain → reference_of vs e ≡ Live n → cond plain None (Some (length (values_of s.heap n))) ≡ Some count
-            → stepped ≡ put (target_view to) (ScalarResult (Int (pos count))) s (with_tasks t rest)
-        by_length n count true kind same some = absurd (cc)
-        by_length n count false kind same some =
-            let long : length (values_of s.heap n) ≡ count = cc in
-            found (Live n) same ∙ of_array to ((actual_is vs unit s.heap e).0) n none kind
-            ∙ ap (λ (m : ℕ). put (target_view to) (ScalarResult (Int (pos m))) s (with_tasks t rest)) long
-
-        -- an array
-        pub length_of_array : (n count : ℕ) → reference_of vs e ≡ Live n → array_length classes s.heap n ≡ Some count → stepped ≡ put (target_view to) (ScalarResult (Int (pos count))) s (with_tasks t rest)
-        length_of_array n count same some = by_length n count (is_plain (class_kind classes (class_of s.heap n))) refl same some
-
--- ---- the same of a call in memory
-
-module _ (unit : SourceUnit) (classes : Classes) (heap : Heap) (variables : List VariableInMemory) (frame : Frame) (i : Invocation) (built : IsTrue (is_built_call (call_tree i.call.now))) where
-  abbrev the_task : TaskInMemory
-  the_task = task.Invoke i
-
-  abbrev vs : Variables
-  vs = variables_view variables
-
-  abbrev scene : Reference → Scene
-  scene pending = scene_with unit classes heap variables frame pending
-
-  abbrev shared : Shared
-  shared = shared_with (null_statics unit) heap
-
-  stays_so : (t : Thread) (rest : List Task) → t.tasks ≡ Some (task_view the_task ∷ rest) → (event : Event) → Advances shared t event ≡ Advances shared (with_tasks t (task_view the_task ∷ rest)) event
-  stays_so t rest has event = ap (λ (u : Thread). Advances shared u event) (same_thread t (task_view the_task ∷ rest) has)
-
-  arguments_are : (arguments : List ArgumentInMemory) (e : Expr) → first_expression arguments ≡ Some e → (more : List Argument) × (map argument_tree arguments ≡ tree.Value e ∷ more)
-  arguments_are [] e is = absurd (cc)
-  arguments_are (argument.Value a ∷ rest) e is = let same : expr_tree a ≡ e = cc in (map argument_tree rest, ap (λ (b : Expr). tree.Value b ∷ map argument_tree rest) same)
-  arguments_are (argument.Text bytes ∷ rest) e is = absurd (cc)
-  arguments_are (argument.AddressOf y ∷ rest) e is = absurd (cc)
-
-  pub invoke_pending : (pending : Option ℕ) → is_some pending ≡ true → Does (scene pending) the_task (outcome.Trapped trap.ExceptionPending i.line) the_task
-  invoke_pending None some = absurd (cc)
-  invoke_pending (Some n) some = λ lent k t rest sees has.
-      length_when_pending classes lent k shared t rest i.line i.target vs unit (call_tree i.call.now) built (sees_so (scene (Some n)) t sees) n sees.pending ∙ stays_so t rest has (Trapped ExceptionPending i.line)
-
-  no_expression : (arguments : List ArgumentInMemory) → first_expression arguments ≡ None → (call_tree i.call.now).arguments ≡ map argument_tree arguments → Does (scene None) the_task (outcome.Trapped trap.WrongObject i.line) the_task
-  no_expression [] none is = λ lent k t rest sees has.
-      length_of_nothing classes lent k shared t rest i.line i.target vs unit (call_tree i.call.now) built (sees_so (scene None) t sees) sees.pending is ∙ stays_so t rest has (Trapped WrongObject i.line)
-  no_expression (argument.Value a ∷ rest') none is = absurd (cc)
-  no_expression (argument.Text bytes ∷ more) none is = λ lent k t rest sees has.
-      length_of_text classes lent k shared t rest i.line i.target vs unit (call_tree i.call.now) built (sees_so (scene None) t sees) sees.pending bytes.items (map argument_tree more) is ∙ stays_so t rest has (Trapped WrongObject i.line)
-  no_expression (argument.AddressOf y ∷ more) none is = λ lent k t rest sees has.
-      length_of_address classes lent k shared t rest i.line i.target vs unit (call_tree i.call.now) built (sees_so (scene None) t sees) sees.pending y (map argument_tree more) is ∙ stays_so t rest has (Trapped WrongObject i.line)
-
-  not_pending : (pending : Option ℕ) → is_some pending ≡ false → pending ≡ None
-  not_pending None none = refl
-  not_pending (Some n) none = absurd (cc)
-
-  module _ (pending : Option ℕ) (free : is_some pending ≡ false) where
-    so : (o : Outcome) → Does (scene None) the_task o the_task → Does (scene pending) the_task o the_task
-    so o = subst (λ (p : Reference). Does (scene p) the_task o the_task) (sym (not_pending pending free))
-
-    pub invoke_nothing : first_expression i.call.now.arguments.items ≡ None → Does (scene pending) the_task (outcome.Trapped trap.WrongObject i.line) the_task
-    invoke_nothing none = so (outcome.Trapped trap.WrongObject i.line) (no_expression i.call.now.arguments.items none refl)
-
-    module _ (e : Expr) (is : first_expression i.call.now.arguments.items ≡ Some e) where
-      pub invoke_null : Empty ≡ reference_of vs e → Does (scene pending) the_task (outcome.Trapped trap.NullReference i.line) the_task
-      invoke_null null = so (outcome.Trapped trap.NullReference i.line) (λ lent k t rest sees has.
-          let a = arguments_are i.call.now.arguments.items e is in
-          length_of_null classes lent k shared t rest i.line i.target vs unit (call_tree i.call.now) built (sees_so (scene None) t sees) sees.pending e a.0 a.1 (sym null) ∙ stays_so t rest has (Trapped NullReference i.line))
-
-      by_found : (n : ℕ) → Live n ≡ reference_of vs e → (o : Option ℕ) → array_length classes heap n ≡ o → Does (scene None) the_task (length_outcome i.line i.target o) the_task
-      by_found n live None found = λ lent k t rest sees has.
-          let a = arguments_are i.call.now.arguments.items e is in
-          length_of_other classes lent k shared t rest i.line i.target vs unit (call_tree i.call.now) built (sees_so (scene None) t sees) sees.pending e a.0 a.1 n (sym live) found ∙ stays_so t rest has (Trapped WrongObject i.line)
-      by_found n live (Some m) found = λ lent k t rest sees has.
-          let a = arguments_are i.call.now.arguments.items e is in
-          length_of_array classes lent k shared t rest i.line i.target vs unit (call_tree i.call.now) built (sees_so (scene None) t sees) sees.pending e a.0 a.1 n m (sym live) found
-
-      pub invoke_object : (n : ℕ) → Live n ≡ reference_of vs e → (o : Outcome) → o ≡ length_outcome i.line i.target (array_length classes heap n) → Does (scene pending) the_task o the_task
-      invoke_object n live o gives = so o (subst (λ (p : Outcome). Does (scene None) the_task p the_task) (sym gives) (by_found n live (array_length classes heap n) refl))
-
--- what is so of a result's value
-pub if_ok : {A E : Type 0} {P Q : A → Type 0} (r : Result A E) → ((a : A) → P a → Q a) → IfOk r P → IfOk r Q
+pub if_ok : {A E : Type 0} {P Q : A → Type 0} → (r : Result A E) → ((a : A) → P a → Q a) → IfOk r P → IfOk r Q
 if_ok (Ok a) f h = f a h
 if_ok (Err e) f h = tt
+
+-- ---- checks
+
+-- no static is deleted
+none_deleted : (args : List InMemory) → list_any is_deleted (map actual_view args) ≡ false
+none_deleted [] = refl
+none_deleted (actual.Reference x None ∷ args) = none_deleted args
+none_deleted (actual.Reference x (Some n) ∷ args) = none_deleted args
+none_deleted (actual.Field f ∷ args) = none_deleted args
+none_deleted (actual.Number z ∷ args) = none_deleted args
+none_deleted (actual.Text bytes ∷ args) = none_deleted args
+none_deleted (actual.Variable x ∷ args) = none_deleted args
+none_deleted (actual.Mode m ∷ args) = none_deleted args
+none_deleted (actual.Nothing ∷ args) = none_deleted args
+
+-- no frame is popped
+frames_stay : (f : JniFunction) (frames : List Frame) → is_built_function f ≡ true → frames_after f frames ≡ frames
+frames_stay PopLocalFrame frames built = absurd (cc)
+frames_stay f frames built = refl
+
+-- a test that doesn't hold
+passed_over : (b : Bool) (t u : Trap) (rest : List (Bool × Trap)) → first_trap ((b, t) ∷ (false, u) ∷ rest) ≡ first_trap ((b, t) ∷ rest)
+passed_over true t u rest = refl
+passed_over false t u rest = refl
+
+module _ (classes : Classes) (heap : Heap) (buffer : ElementType) (args : List Actual) where
+  -- the arguments go together
+  together : (f : JniFunction) → is_built_function f ≡ true → go_together classes heap buffer args f ≡ fit_together classes heap args f
+  unfolding go_together
+  together FindClass built = refl
+  together GetSuperclass built = refl
+  together GetObjectClass built = refl
+  together IsInstanceOf built = refl
+  together IsAssignableFrom built = refl
+  together AllocObject built = refl
+  together GetFieldID built = refl
+  together GetStaticFieldID built = refl
+  together (GetField T) built = refl
+  together (SetField T) built = refl
+  together (GetStaticField T) built = refl
+  together (SetStaticField T) built = refl
+  together GetObjectField built = refl
+  together SetObjectField built = refl
+  together GetStaticObjectField built = refl
+  together SetStaticObjectField built = refl
+  together GetArrayLength built = refl
+  together f built = absurd (cc)
+
+-- the trap of a call is the one that was found
+trap_is : (classes : Classes) (heap : Heap) (buffer : ElementType) (args : List InMemory) (f : JniFunction) (t : Thread) (frame : Frame) (pending : Reference) → is_built_function f ≡ true → t.frames ≡ frame ∷ [] → t.pending ≡ pending
+    → call_trap classes heap t buffer f (map actual_view args) ≡ trap_found classes heap frame (is_some pending) f (map actual_view args)
+unfolding call_trap
+trap_is classes heap buffer args f t frame pending built frames is =
+    rw (frames_stay f t.frames built, frames, is, none_deleted args, together classes heap buffer (map actual_view args) f built) (passed_over (is_some pending && not (is_allowed_pending f)) ExceptionPending DeletedReference (
+    (list_any is_missing (zip (prototype f).parameters (map actual_view args)), NullReference)
+    ∷ (list_any (is_misfit classes heap) (zip (prototype f).parameters (map actual_view args)) || not (fit_together classes heap (map actual_view args) f), WrongObject)
+    ∷ (lacks_room (prototype f).result frame, NoCapacity)
+    ∷ []))
+
+-- ---- effects
+
+module _ (classes : Classes) (lent : BuffersInUse) (k : ℕ) (s : Shared) (t : Thread) (args : List Actual) where
+  class_found : (o : Option ℕ) → found_class_effect s t no_class_def_found_error o ≡ effect_as classes s t (found_class o)
+  class_found None = refl
+  class_found (Some c) = refl
+
+  field_found : (o : Option FieldId) → found_field_effect s t no_such_field_error o ≡ effect_as classes s t (found_field o)
+  field_found None = refl
+  field_found (Some f) = refl
+
+  -- what is worked out is the effect
+  effects : (f : JniFunction) → is_built_function f ≡ true → call_effect classes lent k s t args f ≡ effect_as classes s t (worked_out classes s.heap args f)
+  unfolding call_effect
+  effects FindClass built = class_found _
+  effects GetSuperclass built = refl
+  effects GetObjectClass built = refl
+  effects IsInstanceOf built = refl
+  effects IsAssignableFrom built = refl
+  effects AllocObject built = refl
+  effects GetFieldID built = field_found _
+  effects GetStaticFieldID built = field_found _
+  effects (GetField T) built = refl
+  effects (SetField T) built = refl
+  effects (GetStaticField T) built = refl
+  effects (SetStaticField T) built = refl
+  effects GetObjectField built = refl
+  effects SetObjectField built = refl
+  effects GetStaticObjectField built = refl
+  effects SetStaticObjectField built = refl
+  effects GetArrayLength built = refl
+  effects f built = absurd (cc)
+
+-- ---- what a call leaves
+
+-- none of these gives a buffer
+not_told : (x : Identifier) (g : Given) (vs : Variables) → tell_copy x (given_view g) vs ≡ vs
+not_told [] g vs = refl
+not_told (b ∷ x) given.Nothing vs = refl
+not_told (b ∷ x) given.Null vs = refl
+not_told (b ∷ x) (given.Number z) vs = refl
+not_told (b ∷ x) (given.Flag c) vs = refl
+not_told (b ∷ x) (given.Reference r) vs = refl
+not_told (b ∷ x) (given.Field f) vs = refl
+
+-- none is called in a test
+none_tested : (line : ℕ) (to : TargetInMemory) (zero : Bool) → tasks_after line (target_view to) zero ≡ []
+none_tested line (target.Declared kind x) zero = refl
+none_tested line (target.Assigned x) zero = refl
+none_tested line target.Dropped zero = refl
+
+-- the result goes into the frame
+in_received : (kind : ResultKind) (g : Given) (t : Thread) (frame : Frame) → t.frames ≡ frame ∷ [] → ◌≡◌ {A = Thread} (received kind (given_view g) t) (record t { frames = frame_with kind (given_view g) frame ∷ [] })
+in_received NewLocal given.Nothing t frame frames = ap (λ (fs : List Frame). let u : Thread = record t { frames = fs } in u) frames
+in_received NewLocal given.Null t frame frames = ap (λ (fs : List Frame). let u : Thread = record t { frames = fs } in u) frames
+in_received NewLocal (given.Number z) t frame frames = ap (λ (fs : List Frame). let u : Thread = record t { frames = fs } in u) frames
+in_received NewLocal (given.Flag b) t frame frames = ap (λ (fs : List Frame). let u : Thread = record t { frames = fs } in u) frames
+in_received NewLocal (given.Reference None) t frame frames = ap (λ (fs : List Frame). let u : Thread = record t { frames = fs } in u) frames
+in_received NewLocal (given.Reference (Some n)) t frame frames = rw frames refl
+in_received NewLocal (given.Field f) t frame frames = ap (λ (fs : List Frame). let u : Thread = record t { frames = fs } in u) frames
+in_received kind g t frame frames = ap (λ (fs : List Frame). let u : Thread = record t { frames = fs } in u) frames
+
+-- a failure leaves the frame alone
+failed_frame : (kind : ResultKind) (frame : Frame) → frame_with kind (failure kind) frame ≡ frame
+failed_frame NewLocal frame = refl
+failed_frame kind frame = refl
+
+-- whether an effect makes objects
+makes_alike : (classes : Classes) (s : Shared) (t : Thread) (a : Answer) → makes_objects (effect_as classes s t a) ≡ makes_object a
+makes_alike classes s t (Gives g) = refl
+makes_alike classes s t (Writes n i v) = refl
+makes_alike classes s t (Makes c) = refl
+makes_alike classes s t (Raises c) = refl
+
+module _ (classes : Classes) (lent : BuffersInUse) (k : ℕ) (statics : Statics) (heap : Heap) (line : ℕ) (to : TargetInMemory) (f : JniFunction) (args : List Actual) (rest : List Task) where
+  abbrev kind : ResultKind
+  kind = (prototype f).result
+
+  abbrev shared : Heap → Shared
+  shared now = shared_with statics now
+
+  -- what goes into a variable and a frame
+  abbrev completes : Thread → List Object → Heap → Thread → CallResult → Advance
+  completes t made now u g = completed classes lent k (shared heap) t line (target_view to) f args rest made (shared now) u g
+
+  completed_is : (t : Thread) (made : List Object) (now : Heap) (u : Thread) (g : Given) (frame : Frame) (pending : Reference) → u.frames ≡ frame ∷ [] → u.pending ≡ pending
+      → completes t made now u (given_view g) ≡ put (target_view to) (given_view g) (shared (now ++ made)) (with_tasks (in_frame u (frame_with kind (given_view g) frame) pending) rest)
+  completed_is t made now u g frame pending frames is =
+      ap (λ (w : Thread). let after : Thread = record w { tasks = Some (tasks_after line (target_view to) (is_zero (given_view g)) ++ rest); variables = tell_copy (variable_given args 1) (given_view g) u.variables } in put (target_view to) (given_view g) (shared (now ++ made)) after)
+      (in_received kind g u frame frames)
+      ∙ ap (λ (vs : Variables). let after : Thread = record u { tasks = Some (tasks_after line (target_view to) (is_zero (given_view g)) ++ rest); variables = vs; frames = frame_with kind (given_view g) frame ∷ [] } in put (target_view to) (given_view g) (shared (now ++ made)) after)
+      (not_told (variable_given args 1) g u.variables)
+      ∙ ap (λ (ts : List Task). let after : Thread = record u { tasks = Some (ts ++ rest); frames = frame_with kind (given_view g) frame ∷ [] } in put (target_view to) (given_view g) (shared (now ++ made)) after)
+      (none_tested line to (is_zero (given_view g)))
+      ∙ ap (λ (r : Reference). let after : Thread = record u { tasks = Some rest; frames = frame_with kind (given_view g) frame ∷ []; pending = r } in put (target_view to) (given_view g) (shared (now ++ made)) after) is
+
+  -- so it is after each answer
+  answered : (t : Thread) (a : Answer) (g : Given) (frame : Frame) (pending : Reference) → t.frames ≡ frame ∷ [] → t.pending ≡ pending → given_view g ≡ given_after heap kind a
+      → after_call classes lent k (shared heap) t line (target_view to) f args rest (effect_as classes (shared heap) t a)
+      ≡ put (target_view to) (given_view g) (shared (heap_after classes heap a)) (with_tasks (in_frame t (frame_with kind (given_view g) frame) (pending_after heap pending a)) rest)
+  answered t (Gives c) g frame pending frames is same =
+      ap (completes t [] heap t) (sym same) ∙ completed_is t [] heap t g frame pending frames is
+      ∙ ap (λ (now : Heap). put (target_view to) (given_view g) (shared now) (with_tasks (in_frame t (frame_with kind (given_view g) frame) pending) rest)) (append-nil heap)
+  answered t (Writes n i v) g frame pending frames is same =
+      ap (completes t [] (heap_after classes heap (Writes n i v)) t) (sym same) ∙ completed_is t [] (heap_after classes heap (Writes n i v)) t g frame pending frames is
+      ∙ ap (λ (now : Heap). put (target_view to) (given_view g) (shared now) (with_tasks (in_frame t (frame_with kind (given_view g) frame) pending) rest)) (append-nil (heap_after classes heap (Writes n i v)))
+  answered t (Makes c) g frame pending frames is same =
+      ap (completes t (fresh_object classes c ∷ []) heap t) (sym same) ∙ completed_is t (fresh_object classes c ∷ []) heap t g frame pending frames is
+  answered t (Raises c) g frame pending frames is same =
+      let u : Thread = record t { pending = Some (next_name heap) } in
+      ap (completes t (fresh_object classes c ∷ []) heap u) (sym same) ∙ completed_is t (fresh_object classes c ∷ []) heap u g frame (Some (next_name heap)) frames refl
+
+  -- and where its object is refused
+  refused_is : (t : Thread) (g : Given) (frame : Frame) → t.frames ≡ frame ∷ [] → given_view g ≡ failure kind
+      → after_refusal classes lent k (shared heap) t line (target_view to) f args rest true ≡ put (target_view to) (given_view g) (shared heap) (with_tasks (in_frame t frame (Some (out_of_memory classes))) rest)
+  refused_is t g frame frames same =
+      let u : Thread = record t { pending = Some (out_of_memory classes) } in
+      ap (completes t [] heap u) (sym same) ∙ completed_is t [] heap u g frame (Some (out_of_memory classes)) frames refl
+      ∙ ap (λ (now : Heap). put (target_view to) (given_view g) (shared now) (with_tasks (in_frame u (frame_with kind (given_view g) frame) (Some (out_of_memory classes))) rest)) (append-nil heap)
+      ∙ ap (λ (h : Frame). put (target_view to) (given_view g) (shared heap) (with_tasks (in_frame t h (Some (out_of_memory classes))) rest)) (ap (λ (c : CallResult). frame_with kind c frame) same ∙ failed_frame kind frame)
+
+-- ---- the call of a function that is built
+
+module _ (classes : Classes) (heap : Heap) (frame : Frame) (pending : Reference) (line : ℕ) (to : TargetInMemory) (f : JniFunction) (args : List InMemory) (built : is_built_function f ≡ true) where
+  abbrev actuals : List Actual
+  actuals = map actual_view args
+
+  abbrev trap : Option Trap
+  trap = trap_found classes heap frame (is_some pending) f actuals
+
+  module _ (statics : Statics) (lent : BuffersInUse) (k : ℕ) (t : Thread) (rest : List Task) (frames : t.frames ≡ frame ∷ []) (is : t.pending ≡ pending) where
+    abbrev stepped : Bool → Advance
+    stepped refused = call_step classes lent k (shared_with statics heap) t line (target_view to) f actuals rest refused
+
+    same_trap : call_trap classes heap t (target_element t.variables (target_view to)) f actuals ≡ trap
+    same_trap = trap_is classes heap (target_element t.variables (target_view to)) args f t frame pending built frames is
+
+    abbrev by_effect : Bool → CallEffect → Advance
+    by_effect false effect = after_call classes lent k (shared_with statics heap) t line (target_view to) f actuals rest effect
+    by_effect true effect = after_refusal classes lent k (shared_with statics heap) t line (target_view to) f actuals rest (makes_objects effect)
+
+    by_trap : (refused : Bool) → stepped refused ≡ by_effect refused (checked trap (call_effect classes lent k (shared_with statics heap) t actuals f))
+    by_trap false = ap (λ (o : Option Trap). by_effect false (checked o (call_effect classes lent k (shared_with statics heap) t actuals f))) same_trap
+    by_trap true = ap (λ (o : Option Trap). by_effect true (checked o (call_effect classes lent k (shared_with statics heap) t actuals f))) same_trap
+
+    abbrev told : Answer
+    told = worked_out classes heap actuals f
+
+    passed : (refused : Bool) → trap ≡ None → stepped refused ≡ by_effect refused (effect_as classes (shared_with statics heap) t told)
+    passed refused none =
+        by_trap refused
+        ∙ ap (λ (o : Option Trap). by_effect refused (checked o (call_effect classes lent k (shared_with statics heap) t actuals f))) none
+        ∙ ap (by_effect refused) (effects classes lent k (shared_with statics heap) t actuals f built)
+
+  -- a trap
+  pub call_traps : (found : TrapInMemory) → trap ≡ Some (trap_view found) → MakesCall false classes heap frame pending line to f actuals (outcome.Trapped found line) heap frame pending
+  call_traps found some = λ statics lent k t rest new frames is has.
+      by_trap statics lent k t rest frames is false
+      ∙ ap (λ (o : Option Trap). by_effect statics lent k t rest frames is false (checked o (call_effect classes lent k (shared_with statics heap) t actuals f))) some
+      ∙ ap (λ (u : Thread). Advances (shared_with statics heap) u (Trapped (trap_view found) line)) (same_thread t (task_view new ∷ rest) has)
+      ∙ ap (λ (u : Thread). Advances (shared_with statics heap) (with_tasks u (task_view new ∷ rest)) (Trapped (trap_view found) line)) (same_frame t frame pending frames is)
+
+  -- a call that traps has no object that can be refused
+  pub trap_refuses : (found : Trap) → trap ≡ Some found → MakesCall true classes heap frame pending line to f actuals outcome.Impossible heap frame pending
+  trap_refuses found some = λ statics lent k t rest new frames is has.
+      by_trap statics lent k t rest frames is true
+      ∙ ap (λ (o : Option Trap). by_effect statics lent k t rest frames is true (checked o (call_effect classes lent k (shared_with statics heap) t actuals f))) some
+
+  module _ (none : trap ≡ None) where
+    -- the call is made
+    pub call_made : (a : Answer) (g : Given) → a ≡ worked_out classes heap actuals f → given_view g ≡ given_after heap (prototype f).result a
+        → MakesCall false classes heap frame pending line to f actuals (outcome.Gives to g) (heap_after classes heap a) (frame_with (prototype f).result (given_view g) frame) (pending_after heap pending a)
+    call_made a g same given = λ statics lent k t rest new frames is has.
+        passed statics lent k t rest frames is false none
+        ∙ ap (λ (b : Answer). by_effect statics lent k t rest frames is false (effect_as classes (shared_with statics heap) t b)) (sym same)
+        ∙ answered classes lent k statics heap line to f actuals rest t a g frame pending frames is given
+
+    by_makes : (refused : Bool) (a : Answer) (b : Bool) → makes_object a ≡ b → a ≡ worked_out classes heap actuals f → (statics : Statics) (lent : BuffersInUse) (k : ℕ) (t : Thread) (rest : List Task) (frames : t.frames ≡ frame ∷ []) (is : t.pending ≡ pending)
+        → stepped statics lent k t rest frames is true ≡ after_refusal classes lent k (shared_with statics heap) t line (target_view to) f actuals rest b
+    by_makes refused a b makes same = λ statics lent k t rest frames is.
+        passed statics lent k t rest frames is true none
+        ∙ ap (λ (c : Answer). by_effect statics lent k t rest frames is true (effect_as classes (shared_with statics heap) t c)) (sym same)
+        ∙ ap (after_refusal classes lent k (shared_with statics heap) t line (target_view to) f actuals rest) (makes_alike classes (shared_with statics heap) t a ∙ makes)
+
+    -- it makes no object that can be refused
+    pub none_refused : (a : Answer) → a ≡ worked_out classes heap actuals f → makes_object a ≡ false → MakesCall true classes heap frame pending line to f actuals outcome.Impossible heap frame pending
+    none_refused a same makes = λ statics lent k t rest new frames is has. by_makes true a false makes same statics lent k t rest frames is
+
+    -- its object is refused
+    pub object_refused : (a : Answer) (g : Given) → a ≡ worked_out classes heap actuals f → makes_object a ≡ true → given_view g ≡ failure (prototype f).result
+        → MakesCall true classes heap frame pending line to f actuals (outcome.Gives to g) heap frame (Some (out_of_memory classes))
+    object_refused a g same makes failed = λ statics lent k t rest new frames is has.
+        by_makes true a true makes same statics lent k t rest frames is
+        ∙ refused_is classes lent k statics heap line to f actuals rest t g frame frames failed
+
+    -- the same, by what it leaves
+    pub call_made_so : (refused : Bool) (a : Answer) (g : Given) (kind : ResultKind) (heap' : Heap) (frame' : Frame) (pending' : Reference) → refused ≡ false → a ≡ worked_out classes heap actuals f → kind ≡ (prototype f).result
+        → given_view g ≡ given_after heap kind a → heap' ≡ heap_after classes heap a → frame' ≡ frame_with kind (given_view g) frame → pending' ≡ pending_after heap pending a
+        → MakesCall refused classes heap frame pending line to f actuals (outcome.Gives to g) heap' frame' pending'
+    call_made_so refused a g kind heap' frame' pending' possible same is given left framed pended =
+        subst (λ b. MakesCall b classes heap frame pending line to f actuals (outcome.Gives to g) heap' frame' pending') (sym possible)
+        (subst (λ (h : Heap). MakesCall false classes heap frame pending line to f actuals (outcome.Gives to g) h frame' pending') (sym left)
+        (subst (λ (x : Frame). MakesCall false classes heap frame pending line to f actuals (outcome.Gives to g) (heap_after classes heap a) x pending') (sym (framed ∙ ap (λ (k : ResultKind). frame_with k (given_view g) frame) is))
+        (subst (λ (r : Reference). MakesCall false classes heap frame pending line to f actuals (outcome.Gives to g) (heap_after classes heap a) (frame_with (prototype f).result (given_view g) frame) r) (sym pended)
+        (call_made a g same (given ∙ ap (λ (k : ResultKind). given_after heap k a) is)))))
+
+    pub object_refused_so : (refused : Bool) (a : Answer) (g : Given) (kind : ResultKind) (pending' : Reference) → refused ≡ true → a ≡ worked_out classes heap actuals f → makes_object a ≡ true → kind ≡ (prototype f).result
+        → given_view g ≡ failure kind → pending' ≡ Some (out_of_memory classes) → MakesCall refused classes heap frame pending line to f actuals (outcome.Gives to g) heap frame pending'
+    object_refused_so refused a g kind pending' marked same makes is failed pended =
+        subst (λ b. MakesCall b classes heap frame pending line to f actuals (outcome.Gives to g) heap frame pending') (sym marked)
+        (subst (λ (r : Reference). MakesCall true classes heap frame pending line to f actuals (outcome.Gives to g) heap frame r) (sym pended)
+        (object_refused a g same makes (failed ∙ ap failure is)))

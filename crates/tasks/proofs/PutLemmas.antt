@@ -17,12 +17,13 @@ use Rattle.source.specs.ThreadStep.{set_variable, set_element}
 use Rattle.source.specs.Value.{convert}
 use Rattle.source.specs.Variable.{Variable, LocalArray, Variables, StaticReference, Empty, Statics, assign}
 use Rattle.tasks.specs.declared.outcome.Outcome.TheVariants as outcome
-use Rattle.tasks.specs.declared.put.Given.{Given}
-use Rattle.tasks.specs.declared.put.Given.TheVariants as given
+use Rattle.tasks.specs.declared.given.Given.{Given}
+use Rattle.tasks.specs.declared.given.Given.TheVariants as given
 use Rattle.terms.specs.declared.variable.Content.{Content}
 use Rattle.terms.specs.declared.variable.Content.TheVariants as content
 use Rattle.terms.specs.declared.variable.Variable.{Variable as VariableInMemory}
-use Rattle.tasks.specs.Outcomes.{given_view, variable_step, Holds, LeavesVariables, LeavesIf}
+use Rattle.tasks.specs.Answers.{given_view, gives_object}
+use Rattle.tasks.specs.Outcomes.{variable_step, Holds, LeavesVariables, LeavesIf}
 use Rattle.terms.specs.Views.{content_view, variables_view, written}
 use Rattle.terms.proofs.VariableLemmas.{assigned_there, variable_found}
 
@@ -39,10 +40,15 @@ assigned_empty : (x : Identifier) (gs : List Static) → is_some (lookup x (map 
 assigned_empty x [] there = absurd (cc)
 assigned_empty x (g ∷ gs) there = assigned_first x g gs (bytes_eq x g.name) refl there (assigned_empty x gs)
 
--- neither NULL nor a number is a reference
-no_reference : (given : Given) → static_result (given_view given) ≡ Empty
-no_reference given.Null = refl
-no_reference (given.Number z) = refl
+-- what is no object leaves a static NULL
+no_object : (given : Given) → gives_object given ≡ false → static_result (given_view given) ≡ Empty
+no_object given.Nothing none = refl
+no_object given.Null none = refl
+no_object (given.Number z) none = refl
+no_object (given.Flag b) none = refl
+no_object (given.Reference None) none = refl
+no_object (given.Reference (Some n)) none = absurd (cc)
+no_object (given.Field f) none = refl
 
 -- ---- steps
 
@@ -71,7 +77,7 @@ module _ (ss : Statics) (old new : List VariableInMemory) where
   array_set : (x : Identifier) (i : ℕ) (z : ℤ) (c : Content) (v : Variable) → written i z (content_view c) ≡ Some v → (s : Shared) (t : Thread) → set_element s t x i z (Some (content_view c)) ≡ set_variable s t x v
   array_set x i z (content.Number n) v is s t = absurd (cc)
   array_set x i z (content.Reference r) v is s t = absurd (cc)
-  array_set x i z content.Field v is s t = absurd (cc)
+  array_set x i z (content.Field f) v is s t = absurd (cc)
   array_set x i z (content.Buffer T) v is s t = absurd (cc)
   array_set x i z (content.Array T numbers) v is s t =
       let same : LocalArray (element_tree T) (slice_set numbers.items i (convert (element_tree T) z)) ≡ v = cc in ap (set_variable s t x) same
@@ -79,7 +85,7 @@ module _ (ss : Statics) (old new : List VariableInMemory) where
   no_array : (x : Identifier) (i : ℕ) (z : ℤ) (c : Content) → written i z (content_view c) ≡ None → (s : Shared) (t : Thread) → set_element s t x i z (Some (content_view c)) ≡ NoAdvance
   no_array x i z (content.Number n) is s t = refl
   no_array x i z (content.Reference r) is s t = refl
-  no_array x i z content.Field is s t = refl
+  no_array x i z (content.Field f) is s t = refl
   no_array x i z (content.Buffer T) is s t = refl
   no_array x i z (content.Array T numbers) is s t = absurd (cc)
 
@@ -97,13 +103,13 @@ module _ (ss : Statics) (old new : List VariableInMemory) where
     element_missing none = λ s t h. looked_up None none s t h
 
 -- a static is NULL before and after
-pub static_leaves : (unit : SourceUnit) (old : List VariableInMemory) (x : Identifier) (given : Given) → lookup x (variables_view old) ≡ None → is_some (lookup x (null_statics unit)) ≡ true
+pub static_leaves : (unit : SourceUnit) (old : List VariableInMemory) (x : Identifier) (given : Given) → gives_object given ≡ false → lookup x (variables_view old) ≡ None → is_some (lookup x (null_statics unit)) ≡ true
     → LeavesVariables (null_statics unit) old (put (Assigned x) (given_view given)) old
-static_leaves unit old x given none there = λ s t h.
+static_leaves unit old x given empty none there = λ s t h.
     ap (λ (vs : Variables). put_assigned x (given_view given) s t (lookup x vs)) h.variables
     ∙ ap (put_assigned x (given_view given) s t) none
     ∙ ap (λ (ss : Statics). let r : Shared = record s { statics = ss } in Advances r t Quiet)
-    (ap (λ (r : StaticReference). assign x r s.statics) (no_reference given) ∙ ap (assign x Empty) h.statics ∙ assigned_empty x (statics_of unit) there ∙ sym h.statics)
+    (ap (λ (r : StaticReference). assign x r s.statics) (no_object given empty) ∙ ap (assign x Empty) h.statics ∙ assigned_empty x (statics_of unit) there ∙ sym h.statics)
     ∙ ap (λ (vs : Variables). let u : Thread = record t { variables = vs } in Advances s u Quiet) h.variables
 
 -- nothing is done

@@ -1,24 +1,28 @@
 -- What is known of a tree's statements: their numbers are in range, and they call what can be called.
-use Rattle.std.proofs.Common.{◌≡◌, ℕ, Bool, true, false, List, [], ◌∷◌, ◌++◌, cond, Option, Some, refl, ap, ◌∙◌, sym, subst}
-use Rattle.std.specs.Prelude.{find, IsTrue}
+use Rattle.std.proofs.Common.{◌≡◌, ℕ, zero, suc, Bool, true, false, List, [], ◌∷◌, ◌++◌, cond, length, map, take, drop, slice_get, ◌-◌, ◌<◌, ◌≤◌, arith, Option, Some, refl, ap, ◌∙◌, sym, subst}
+use Rattle.std.specs.Prelude.{find, slice_set, IsTrue}
 use Rattle.std.specs.Str.{bytes_eq}
-use Rattle.std.specs.List.{list_all}
+use Rattle.std.specs.List.{flat_map, list_all}
 use Rattle.std.proofs.lemmas.Bool.{and_parts}
+use Rattle.std.proofs.lemmas.List.{take_all}
+use Rattle.std.proofs.lemmas.List.Concat.{flat_map-cons}
 use Rattle.std.proofs.lemmas.List.Folds.{list_all-append}
+use Rattle.syntax.specs.declared.call.Argument.{Argument as ArgumentInMemory}
 use Rattle.syntax.specs.declared.stmt.Block.{Block as BlockInMemory, out-Block}
 use Rattle.syntax.specs.declared.stmt.Stmt.{Stmt}
 use Rattle.syntax.specs.declared.unit.Item.{Item}
 use Rattle.syntax.specs.declared.unit.Function.{Function as FunctionInMemory}
 use Rattle.syntax.specs.Tree as tree
-use Rattle.syntax.specs.Tree.{Declare, DeclareBuffer, DeclareChars, DeclareArray, Assign, AssignElement, Perform, PutJint, If, IfElse, While, Return, ReturnValue}
-use Rattle.syntax.specs.Limits.{IsTree}
-use Rattle.syntax.specs.Parts.{functions_of, statements_of, statements_within}
-use Rattle.syntax.specs.Views.{stmt_tree, block_tree, statements_tree, function_tree, unit_tree}
+use Rattle.syntax.specs.Tree.{Argument, Declare, DeclareBuffer, DeclareChars, DeclareArray, Assign, AssignElement, Perform, PutJint, If, IfElse, While, Return, ReturnValue}
+use Rattle.syntax.specs.Limits.{IsTree, numbers_in_range}
+use Rattle.syntax.specs.Parts.{argument_expressions, functions_of, statements_of, statements_within}
+use Rattle.syntax.specs.Views.{argument_tree, stmt_tree, block_tree, statements_tree, function_tree, unit_tree}
 use Rattle.syntax.proofs.Blocks.{block_is}
 use Rattle.types.specs.BuiltCalls.{calls_are_built}
 use Rattle.source.specs.Activation.{function_at}
 use Rattle.source.specs.Task.{Task, task_of, tasks_of}
-use Rattle.tasks.specs.Tasks.{tasks_of_statements, has_numbers_in_range, calls_built, BlockInRange, InsideInRange, StatementsInRange}
+use Rattle.tasks.specs.declared.task.Operand.{Operand}
+use Rattle.tasks.specs.Tasks.{ArgumentsInRange, OperandInRange, OperandsInRange, tasks_of_statements, has_numbers_in_range, calls_built, BlockInRange, InsideInRange, StatementsInRange}
 
 -- the tasks of statements, by their tree
 pub tasks_of-statements : (statements : List Stmt) (end_line : ℕ) → tasks_of_statements statements ≡ tasks_of (statements_tree statements end_line)
@@ -106,3 +110,37 @@ body_in_range items name f tree built found =
       numbers = found_passes (λ g. bytes_eq g.name name) (λ g. list_all has_numbers_in_range (statements_of g.body)) (functions_of (unit_tree items)) (function_tree f) found tree.numbers;
       built = found_passes (λ g. bytes_eq g.name name) (λ g. list_all calls_built (statements_of g.body)) (functions_of (unit_tree items)) (function_tree f) found built;
     })
+
+-- ---- the arguments of a call
+
+pub argument_parts : (a : Argument) (rest : List Argument) → ArgumentsInRange (a ∷ rest) → (list_all numbers_in_range (argument_expressions a) ≡ true) × ArgumentsInRange rest
+argument_parts a rest h =
+    and_parts (list_all numbers_in_range (argument_expressions a)) (list_all numbers_in_range (flat_map argument_expressions rest))
+    (sym (list_all-append numbers_in_range (argument_expressions a) (flat_map argument_expressions rest)) ∙ ap (list_all numbers_in_range) (sym (flat_map-cons argument_expressions a rest)) ∙ h)
+
+pub operands_pushed : (os : List Operand) (o : Operand) → OperandsInRange os → OperandInRange o → OperandsInRange (os ++ o ∷ [])
+operands_pushed [] o h new = (new, tt)
+operands_pushed (p ∷ os) o h new = (h.0, operands_pushed os o h.1 new)
+
+pub operand_at : (os : List Operand) (i : ℕ) (o : Operand) → OperandsInRange os → slice_get os i ≡ Some o → OperandInRange o
+operand_at [] i o h at = absurd (cc)
+operand_at (p ∷ os) zero o h at = let same : p ≡ o = cc in subst OperandInRange same h.0
+operand_at (p ∷ os) (suc i) o h at = operand_at os i o h.1 at
+
+pub operand_set : (os : List Operand) (i : ℕ) (o : Operand) → OperandsInRange os → OperandInRange o → OperandsInRange (slice_set os i o)
+operand_set [] i o h new = tt
+operand_set (p ∷ os) zero o h new = (new, h.1)
+operand_set (p ∷ os) (suc i) o h new = (h.0, operand_set os i o h.1 new)
+
+-- the arguments after the first
+rest_is : {A : Type 0} (x : A) (xs : List A) → take (length (x ∷ xs) - 1) (drop 1 (x ∷ xs)) ≡ xs
+rest_is x xs = take_all (length (x ∷ xs) - 1) xs (omega arith)
+
+pub shorter : {A : Type 0} (xs : List A) → 1 ≤ length xs → length (take (length xs - 1) (drop 1 xs)) < length xs
+shorter {A = A} [] low = absurd (omega arith)
+shorter {A = A} (x ∷ xs) low = let same = ap (λ (ys : List A). length ys) (rest_is x xs) in omega (arith, same)
+
+pub rest_in_range : (arguments : List ArgumentInMemory) → ArgumentsInRange (map argument_tree arguments) → ArgumentsInRange (map argument_tree (take (length arguments - 1) (drop 1 arguments)))
+rest_in_range [] h = h
+rest_in_range (a ∷ arguments) h =
+    subst (λ (more : List ArgumentInMemory). ArgumentsInRange (map argument_tree more)) (sym (rest_is a arguments)) (argument_parts (argument_tree a) (map argument_tree arguments) h).1

@@ -1,5 +1,5 @@
 -- What a task's step in memory does is what the task's step does.
-use Rattle.std.proofs.Common.{◌≡◌, ℕ, ℤ, List, [], ◌∷◌, ◌++◌, slice_get, Option, Some, refl, sym, ap, ◌∙◌, subst}
+use Rattle.std.proofs.Common.{◌≡◌, ℕ, ℤ, true, false, List, [], ◌∷◌, ◌++◌, slice_get, Option, Some, refl, sym, ap, ◌∙◌}
 use Rattle.std.specs.Borrow.{Bor}
 use Rattle.base.specs.Bytes.{Identifier, lookup}
 use Rattle.syntax.specs.declared.expr.Constant.{Constant}
@@ -16,8 +16,9 @@ use Rattle.source.specs.Sight.{Sight, seen, elements_of, in_range}
 use Rattle.source.specs.Task.{Task, SetScalar, SetElement, Print, Branch, Loop, ReturnValue, tasks_of}
 use Rattle.source.specs.Term as tree
 use Rattle.source.specs.Term.{index_of, reduce}
-use Rattle.source.specs.Thread.{Thread, Shared, BuffersInUse, sight_of, Trapped, Advances}
-use Rattle.source.specs.ThreadStep.{after_effect, with_tasks}
+use Rattle.source.specs.Object.{Reference}
+use Rattle.source.specs.Thread.{Frame, Thread, Shared, BuffersInUse, sight_of, Trapped, Advances, NoAdvance}
+use Rattle.source.specs.ThreadStep.{after_effect, after_refused_effect, with_tasks}
 use Rattle.source.specs.Value.{Value, Outcome as Outcomes, Gives, Traps, Stuck, outcome_then, outcome_map}
 use Rattle.source.specs.Variable.{Variables, Statics}
 use Rattle.tasks.specs.declared.outcome.Outcome.{Outcome}
@@ -30,7 +31,7 @@ use Rattle.terms.specs.declared.sight.Indexed.{Indexed}
 use Rattle.terms.specs.declared.value.Value.{Value as ValueInMemory}
 use Rattle.terms.specs.declared.value.Value.TheVariants as value
 use Rattle.tasks.specs.declared.task.Task.{Task as TaskInMemory}
-use Rattle.tasks.specs.Steps.{effect_by, HasEffect, Scene, shared_in, Sees, left_by, Does, reduced}
+use Rattle.tasks.specs.Steps.{effect_by, HasEffect, Scene, shared_in, Sees, in_frame, left_by, Does, reduced}
 use Rattle.tasks.specs.declared.task.Task.TheVariants as task
 use Rattle.tasks.specs.Tasks.{task_view, branch_task, else_tree, tasks_of_statements}
 use Rattle.terms.specs.Views.{value_view, indexed_view, term_view, trap_view, place_in, Reduces}
@@ -44,24 +45,35 @@ sees_so scene t sees = rw sees.variables refl
 pub same_thread : (t : Thread) (tasks : List Task) → t.tasks ≡ Some tasks → t ≡ with_tasks t tasks
 same_thread t tasks has = ap (λ (o : Option (List Task)). let u : Thread = record t { tasks = o } in u) has
 
+-- a thread with this frame and this pending exception
+pub same_frame : (t : Thread) (frame : Frame) (pending : Reference) → t.frames ≡ frame ∷ [] → t.pending ≡ pending → t ≡ in_frame t frame pending
+same_frame t frame pending frames is =
+    ap (λ (fs : List Frame). let u : Thread = record t { frames = fs } in u) frames
+    ∙ ap (λ (r : Reference). let u : Thread = record t { frames = frame ∷ []; pending = r } in u) is
+
 module _ (scene : Scene) (old new : TaskInMemory) where
   abbrev shared : Shared
   shared = shared_in scene
 
+  -- where nothing of the thread changes but its tasks
+  pub unframed : (k : ℕ) (t : Thread) (rest : List Task) (took : Outcome) → Sees scene t → left_by k shared t rest took new ≡ left_by k shared (in_frame t scene.frame scene.pending) rest took new
+  unframed k t rest took sees = ap (λ (u : Thread). left_by k shared u rest took new) (same_frame t scene.frame scene.pending sees.frames sees.pending)
+
   by_effect : (took : Outcome) → ((heap : Heap) → effect_of (seen scene.variables scene.statics heap) (task_view old) ≡ effect_by took new)
-      → ((lent : BuffersInUse) (k : ℕ) (t : Thread) (rest : List Task) → t.tasks ≡ Some (task_view old ∷ rest) → after_effect scene.classes lent k shared t rest (effect_by took new) ≡ left_by k shared t rest took new) → Does scene old took new
-  by_effect took h left = λ lent k t rest sees has.
+      → ((lent : BuffersInUse) (k : ℕ) (t : Thread) (rest : List Task) → t.tasks ≡ Some (task_view old ∷ rest) → after_effect scene.classes lent k shared t rest (effect_by took new) ≡ left_by k shared t rest took new) → Does false scene old took scene new
+  by_effect took h left = λ unit lent k t rest sees has.
       ap (λ (sight : Sight). after_effect scene.classes lent k shared t rest (effect_of sight (task_view old))) (sees_so scene t sees)
       ∙ ap (after_effect scene.classes lent k shared t rest) (h scene.heap)
       ∙ left lent k t rest has
+      ∙ unframed k t rest took sees
 
   -- a task does what its effect does
-  pub does : (took : Outcome) → HasEffect scene.variables scene.statics old took new → Does scene old took new
+  pub does : (took : Outcome) → HasEffect scene.variables scene.statics old took new → Does false scene old took scene new
   does outcome.Stays h = by_effect outcome.Stays h (λ lent k t rest has. refl)
   does (outcome.Printed z) h = by_effect (outcome.Printed z) h (λ lent k t rest has. refl)
   does (outcome.Sets x v) h = by_effect (outcome.Sets x v) h (λ lent k t rest has. refl)
   does (outcome.SetsNull to) h = by_effect (outcome.SetsNull to) h (λ lent k t rest has. refl)
-  does (outcome.Puts to z) h = absurd h
+  does (outcome.Gives to g) h = absurd h
   does (outcome.SetsElement x i z) h = by_effect (outcome.SetsElement x i z) h (λ lent k t rest has. refl)
   does (outcome.Makes T x n) h = by_effect (outcome.Makes T x n) h (λ lent k t rest has. refl)
   does (outcome.Enters statements e) h = by_effect (outcome.Enters statements e) h (λ lent k t rest has. refl)
@@ -69,12 +81,30 @@ module _ (scene : Scene) (old new : TaskInMemory) where
   does outcome.Returned h = by_effect outcome.Returned h (λ lent k t rest has. refl)
   does (outcome.Trapped trap line) h = by_effect (outcome.Trapped trap line) h.0 (λ lent k t rest has.
       ap (λ (u : Thread). Advances shared u (Trapped (trap_view trap) line)) (same_thread t (task_view old ∷ rest) has)
-      ∙ ap (λ (u : TaskInMemory). Advances shared (with_tasks t (task_view u ∷ rest)) (Trapped (trap_view trap) line)) (sym h.1))
+      ∙ ap (λ (u : Task). Advances shared (with_tasks t (u ∷ rest)) (Trapped (trap_view trap) line)) (sym h.1))
   does outcome.Impossible h = by_effect outcome.Impossible h (λ lent k t rest has. refl)
 
--- the same of a task that is written another way
-pub does_as : (scene : Scene) (old written new : TaskInMemory) (took : Outcome) → old ≡ written → HasEffect scene.variables scene.statics written took new → Does scene old took new
-does_as scene old written new took same h = subst (λ (u : TaskInMemory). Does scene u took new) (sym same) (does scene written new took h)
+  by_refusal : (took : Outcome) → ((heap : Heap) → effect_of (seen scene.variables scene.statics heap) (task_view old) ≡ effect_by took new)
+      → ((lent : BuffersInUse) (k : ℕ) (t : Thread) (rest : List Task) → after_refused_effect scene.classes lent k shared t rest (effect_by took new) ≡ NoAdvance) → Does true scene old outcome.Impossible scene new
+  by_refusal took h none = λ unit lent k t rest sees has.
+      ap (λ (sight : Sight). after_refused_effect scene.classes lent k shared t rest (effect_of sight (task_view old))) (sees_so scene t sees)
+      ∙ ap (after_refused_effect scene.classes lent k shared t rest) (h scene.heap)
+      ∙ none lent k t rest
+
+  -- a task that is no call has no object that can be refused
+  pub does_without : (took : Outcome) → HasEffect scene.variables scene.statics old took new → Does true scene old outcome.Impossible scene new
+  does_without outcome.Stays h = by_refusal outcome.Stays h (λ lent k t rest. refl)
+  does_without (outcome.Printed z) h = by_refusal (outcome.Printed z) h (λ lent k t rest. refl)
+  does_without (outcome.Sets x v) h = by_refusal (outcome.Sets x v) h (λ lent k t rest. refl)
+  does_without (outcome.SetsNull to) h = by_refusal (outcome.SetsNull to) h (λ lent k t rest. refl)
+  does_without (outcome.Gives to g) h = absurd h
+  does_without (outcome.SetsElement x i z) h = by_refusal (outcome.SetsElement x i z) h (λ lent k t rest. refl)
+  does_without (outcome.Makes T x n) h = by_refusal (outcome.Makes T x n) h (λ lent k t rest. refl)
+  does_without (outcome.Enters statements e) h = by_refusal (outcome.Enters statements e) h (λ lent k t rest. refl)
+  does_without outcome.Ends h = by_refusal outcome.Ends h (λ lent k t rest. refl)
+  does_without outcome.Returned h = by_refusal outcome.Returned h (λ lent k t rest. refl)
+  does_without (outcome.Trapped trap line) h = by_refusal (outcome.Trapped trap line) h.0 (λ lent k t rest. refl)
+  does_without outcome.Impossible h = by_refusal outcome.Impossible h (λ lent k t rest. refl)
 
 -- ---- a term that has no value yet
 
@@ -97,7 +127,7 @@ pub reduces : (vs : Variables) (ss : Statics) (line : ℕ) (at : Term → TaskIn
     → (old new : Term) (took : Reduction) → ((heap : Heap) → effect_of (seen vs ss heap) (task_view (at old)) ≡ goes_on line whole (reduce (seen vs ss heap) (term_view old)))
     → Reduces vs ss old took new → HasEffect vs ss (at old) (reduced line took) (at new)
 reduces vs ss line at whole is old new reduction.Reduced goes step = λ heap. goes heap ∙ ap (goes_on line whole) (step heap) ∙ ap (λ (u : Task). Becomes (u ∷ [])) (sym (is new))
-reduces vs ss line at whole is old new (reduction.Trapped trap) goes step = (λ heap. goes heap ∙ ap (goes_on line whole) (step.0 heap), ap at step.1)
+reduces vs ss line at whole is old new (reduction.Trapped trap) goes step = (λ heap. goes heap ∙ ap (goes_on line whole) (step.0 heap), ap (λ (t : Term). task_view (at t)) step.1)
 reduces vs ss line at whole is old new reduction.Stuck goes step = λ heap. goes heap ∙ ap (goes_on line whole) (step heap)
 
 -- ---- elements

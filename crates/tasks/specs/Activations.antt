@@ -1,5 +1,5 @@
 -- The tasks of a call in progress, and what a step of it does.
-use Rattle.std.specs.Prelude.{◌≡◌, ℕ, false, List, [], ◌∷◌, ◌++◌, Option, Some, None}
+use Rattle.std.specs.Prelude.{◌≡◌, ℕ, Bool, List, [], ◌∷◌, ◌++◌, Option, Some, None}
 use Rattle.std.specs.Borrow.{Bor}
 use Rattle.syntax.specs.declared.stmt.Stmt.{Stmt as StmtInMemory}
 use Rattle.syntax.specs.Tree.{SourceUnit}
@@ -66,16 +66,17 @@ scene_of unit classes heap a = scene_with unit classes heap a.variables.items (f
 -- what a step leaves of thread k, whose call is then as it is in memory
 abbrev pub advance_by : (k : ℕ) → Shared → Thread → Activation → Outcome → Advance
 advance_by k s t a (outcome.Printed z) = thread.Advances s (thread_in t a) (PrintedNumber z)
-advance_by k s t a outcome.Returned = return_step k s t
+advance_by k s t a outcome.Returned = return_step k s (record t { pending = a.pending })
 advance_by k s t a (outcome.Trapped trap line) = thread.Advances s (thread_in t a) (Trapped (trap_view trap) line)
 advance_by k s t a outcome.Impossible = NoAdvance
 advance_by k s t a took = thread.Advances s (thread_in t a) Quiet
 
--- What a step in memory did is the step of each thread that has these tasks and is so. It leaves these objects.
-abbrev pub Advances : SourceUnit → Classes → Heap → Activation → Outcome → Heap → Activation → Type 0
-Advances unit classes heap old took after new =
+-- What a step in memory did is the step of each thread that has these tasks and is so, or the same with its object refused. It
+-- leaves these objects.
+abbrev pub Advances : SourceUnit → Classes → (refused : Bool) → Heap → Activation → Outcome → Heap → Activation → Type 0
+Advances unit classes refused heap old took after new =
     (lent : BuffersInUse) (k : ℕ) (t : Thread) → Sees (scene_of unit classes heap old) t → t.tasks ≡ Some (tasks_left old)
-    → step_within unit classes lent k (shared_with (null_statics unit) heap) t false (Some (tasks_left old)) ≡ advance_by k (shared_with (null_statics unit) after) t new took
+    → step_within unit classes lent k (shared_with (null_statics unit) heap) t refused (Some (tasks_left old)) ≡ advance_by k (shared_with (null_statics unit) after) t new took
 
 -- all but the tasks is as it was
 pub record KeepsScene (old new : Activation) : Type 0 where

@@ -1,6 +1,10 @@
 pub mod Stores
-pub mod Objects
+pub mod Actuals
+pub mod Answers
+pub mod WorkedOut
+pub mod Checked
 pub mod Outcomes
 pub mod Tasks
 pub mod Steps
+pub mod Calls
 pub mod Activations

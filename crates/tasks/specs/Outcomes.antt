@@ -2,12 +2,11 @@
 use Rattle.std.specs.Prelude.{◌≡◌, true, false, Bool, pos, List, length, replicate}
 use Rattle.base.specs.Bytes.{lookup}
 use Rattle.syntax.specs.Views.{element_tree}
-use Rattle.source.specs.CallEffects.{CallResult, NullResult, ScalarResult}
+use Rattle.source.specs.CallEffects.{NullResult}
 use Rattle.source.specs.CallStep.{put}
 use Rattle.source.specs.Task.{VariableKind, ScalarKind, ReferenceKind, FieldKind, BufferKind, Target, Declared, Assigned, Dropped}
 use Rattle.source.specs.Thread.{Thread, Shared, Quiet, Advance, Advances, NoAdvance}
 use Rattle.source.specs.ThreadStep.{set_variable, set_element}
-use Rattle.source.specs.Value.{Int}
 use Rattle.source.specs.Variable.{Scalar, LocalArray, Statics}
 use Rattle.tasks.specs.declared.outcome.Outcome.{Outcome}
 use Rattle.tasks.specs.declared.outcome.Outcome.TheVariants as outcome
@@ -15,8 +14,7 @@ use Rattle.tasks.specs.declared.outcome.Target.{Target as TargetInMemory}
 use Rattle.tasks.specs.declared.outcome.Target.TheVariants as target
 use Rattle.tasks.specs.declared.outcome.VariableKind.{VariableKind as KindInMemory}
 use Rattle.tasks.specs.declared.outcome.VariableKind.TheVariants as kind
-use Rattle.tasks.specs.declared.put.Given.{Given}
-use Rattle.tasks.specs.declared.put.Given.TheVariants as given
+use Rattle.tasks.specs.Answers.{given_view}
 use Rattle.terms.specs.declared.variable.Variable.{Variable as VariableInMemory}
 use Rattle.terms.specs.Views.{value_view, variables_view}
 
@@ -31,15 +29,11 @@ target_view (target.Declared kind x) = Declared (kind_view kind) x.now
 target_view (target.Assigned x) = Assigned x.now
 target_view target.Dropped = Dropped
 
-abbrev pub given_view : Given → CallResult
-given_view given.Null = NullResult
-given_view (given.Number z) = ScalarResult (Int z)
-
 -- what a step does that sets a variable, and else nothing
 abbrev pub variable_step : Outcome → Shared → Thread → Advance
 variable_step (outcome.Sets x v) s t = set_variable s t x.now (Scalar (value_view v))
 variable_step (outcome.SetsNull to) s t = put (target_view to) NullResult s t
-variable_step (outcome.Puts to z) s t = put (target_view to) (ScalarResult (Int z)) s t
+variable_step (outcome.Gives to g) s t = put (target_view to) (given_view g) s t
 variable_step (outcome.SetsElement x i z) s t = set_element s t x.now i z (lookup x.now t.variables)
 variable_step (outcome.Makes T x n) s t = set_variable s t x.now (LocalArray (element_tree T) (replicate n (pos 0)))
 variable_step took s t = Advances s t Quiet

@@ -1,9 +1,7 @@
 -- What a step of a task does.
-use Rattle.std.specs.Prelude.{◌≡◌, ℕ, pos, List, [], ◌∷◌, ◌++◌, length, Option, Some, None}
-use Rattle.syntax.specs.declared.call.Argument.{Argument as ArgumentInMemory}
-use Rattle.syntax.specs.declared.call.Argument.TheVariants as argument
-use Rattle.syntax.specs.Tree.{Expr, SourceUnit}
-use Rattle.syntax.specs.Views.{expr_tree, element_tree}
+use Rattle.std.specs.Prelude.{◌≡◌, ℕ, Bool, List, [], ◌∷◌, ◌++◌, Some}
+use Rattle.syntax.specs.Tree.{SourceUnit}
+use Rattle.syntax.specs.Views.{element_tree}
 use Rattle.classes.specs.Class.{Classes}
 use Rattle.source.specs.Activation.{return_step}
 use Rattle.source.specs.Effect.{Effect, Becomes, Sets, SetsNull, SetsElement, MakesArray, Prints, Returns, TrapsAt, NoEffect, effect_of}
@@ -12,32 +10,19 @@ use Rattle.source.specs.Object.{Reference}
 use Rattle.source.specs.Sight.{seen}
 use Rattle.source.specs.Start.{null_statics}
 use Rattle.source.specs.Task.{Task}
-use Rattle.source.specs.Thread.{Frame, Thread, Shared, BuffersInUse, Quiet, PrintedNumber, Trapped, Advance, Advances, NoAdvance, sight_of}
-use Rattle.source.specs.ThreadStep.{after_effect, with_tasks}
+use Rattle.source.specs.Thread.{Frame, Thread, Shared, BuffersInUse, Quiet, PrintedNumber, Trapped, Advance, Advances, NoAdvance}
+use Rattle.source.specs.ThreadStep.{step_within, with_tasks}
 use Rattle.source.specs.Variable.{Variables, Statics}
 use Rattle.tasks.specs.declared.outcome.Outcome.{Outcome}
 use Rattle.tasks.specs.declared.outcome.Outcome.TheVariants as outcome
-use Rattle.tasks.specs.declared.outcome.Target.{Target as TargetInMemory}
 use Rattle.terms.specs.declared.reduction.Reduction.{Reduction as ReductionInMemory}
 use Rattle.terms.specs.declared.reduction.Reduction.TheVariants as reduction
 use Rattle.tasks.specs.declared.task.Task.{Task as TaskInMemory}
-use Rattle.terms.specs.declared.trap.Trap.TheVariants as trap
 use Rattle.tasks.specs.Outcomes.{target_view, variable_step}
 use Rattle.tasks.specs.Stores.{shared_with}
 use Rattle.tasks.specs.Tasks.{task_view, end_view, tasks_of_statements}
 use Rattle.terms.specs.declared.variable.Variable.{Variable as VariableInMemory}
 use Rattle.terms.specs.Views.{value_view, variables_view, trap_view}
-
--- the first argument of a call, where it is an expression
-abbrev pub first_expression : List ArgumentInMemory → Option Expr
-first_expression [] = None
-first_expression (argument.Value e ∷ more) = Some (expr_tree e)
-first_expression (other ∷ more) = None
-
--- what a number of elements, or none, is for a target
-abbrev pub length_outcome : ℕ → TargetInMemory → Option ℕ → Outcome
-length_outcome line to None = outcome.Trapped trap.WrongObject line
-length_outcome line to (Some n) = outcome.Puts to (pos n)
 
 -- what a step does that reduces a term, which has no value yet
 abbrev pub reduced : ℕ → ReductionInMemory → Outcome
@@ -51,7 +36,7 @@ effect_by outcome.Stays new = Becomes (task_view new ∷ [])
 effect_by (outcome.Printed z) new = Prints z
 effect_by (outcome.Sets x v) new = Sets x.now (value_view v)
 effect_by (outcome.SetsNull to) new = SetsNull (target_view to)
-effect_by (outcome.Puts to z) new = NoEffect
+effect_by (outcome.Gives to g) new = NoEffect
 effect_by (outcome.SetsElement x i z) new = SetsElement x.now i z
 effect_by (outcome.Makes T x n) new = MakesArray (element_tree T) x.now n
 effect_by (outcome.Enters statements e) new = Becomes (tasks_of_statements statements.now ++ end_view e ∷ [])
@@ -62,8 +47,8 @@ effect_by outcome.Impossible new = NoEffect
 
 -- with these variables and statics, what a step in memory did is the effect of the task, which is no call
 abbrev pub HasEffect : Variables → Statics → TaskInMemory → Outcome → TaskInMemory → Type 0
-HasEffect vs ss old (outcome.Puts to z) new = ⊥
-HasEffect vs ss old (outcome.Trapped trap line) new = ((heap : Heap) → effect_of (seen vs ss heap) (task_view old) ≡ TrapsAt (trap_view trap) line) × (new ≡ old)
+HasEffect vs ss old (outcome.Gives to g) new = ⊥
+HasEffect vs ss old (outcome.Trapped trap line) new = ((heap : Heap) → effect_of (seen vs ss heap) (task_view old) ≡ TrapsAt (trap_view trap) line) × (task_view new ≡ task_view old)
 HasEffect vs ss old took new = (heap : Heap) → effect_of (seen vs ss heap) (task_view old) ≡ effect_by took new
 
 -- what a step of a call in progress depends on, but its tasks
@@ -100,8 +85,13 @@ left_by k s t rest (outcome.Trapped trap line) new = Advances s (with_tasks t (t
 left_by k s t rest outcome.Impossible new = NoAdvance
 left_by k s t rest took new = variable_step took s (with_tasks t rest)
 
--- what a step in memory did is what the task's step does to each thread that it stands in
-abbrev pub Does : Scene → TaskInMemory → Outcome → TaskInMemory → Type 0
-Does scene old took new =
-    (lent : BuffersInUse) (k : ℕ) (t : Thread) (rest : List Task) → Sees scene t → t.tasks ≡ Some (task_view old ∷ rest)
-    → after_effect scene.classes lent k (shared_in scene) t rest (effect_of (sight_of (shared_in scene) t) (task_view old)) ≡ left_by k (shared_in scene) t rest took new
+-- a thread with this frame and this pending exception
+abbrev pub in_frame : Thread → Frame → Reference → Thread
+in_frame t frame pending = record t { frames = frame ∷ []; pending = pending }
+
+-- What a step in memory did is what the task's step does to each thread that it stands in, or what it does with its object
+-- refused.
+abbrev pub Does : (refused : Bool) → Scene → TaskInMemory → Outcome → Scene → TaskInMemory → Type 0
+Does refused before old took after new =
+    (unit : SourceUnit) (lent : BuffersInUse) (k : ℕ) (t : Thread) (rest : List Task) → Sees before t → t.tasks ≡ Some (task_view old ∷ rest)
+    → step_within unit before.classes lent k (shared_in before) t refused (Some (task_view old ∷ rest)) ≡ left_by k (shared_in after) (in_frame t after.frame after.pending) rest took new

@@ -1,22 +1,24 @@
 -- Tasks that lie in memory, as those of the language, and what is known of them in accepted programs.
-use Rattle.std.specs.Prelude.{ℕ, Bool, not, List, [], ◌∷◌, Option, Some, None, IsTrue}
+use Rattle.std.specs.Prelude.{ℕ, Bool, not, List, [], ◌∷◌, Option, Some, None, IsTrue, map, flat_map}
 use Rattle.std.specs.List.{list_all}
 use Rattle.std.specs.Borrow.{Bor}
 use Rattle.base.specs.Options.{some_passes}
-use Rattle.syntax.specs.declared.call.Call.{Call as CallInMemory}
 use Rattle.syntax.specs.declared.stmt.Block.{Block as BlockInMemory}
 use Rattle.syntax.specs.declared.stmt.Stmt.{Stmt as StmtInMemory}
 use Rattle.syntax.specs.Limits.{numbers_in_range}
-use Rattle.syntax.specs.Parts.{statements_of, own_expressions, right_side_expressions, test_expressions, call_of_right_side}
-use Rattle.syntax.specs.Tree.{Expr, RightSide, Test, Stmt, If, IfElse, While, Block, End}
-use Rattle.syntax.specs.Views.{expr_tree, element_tree, stmt_tree, call_tree, block_tree}
+use Rattle.syntax.specs.Parts.{argument_expressions, statements_of, own_expressions, right_side_expressions, test_expressions, call_of_right_side}
+use Rattle.syntax.specs.Tree.{Argument, Expr, RightSide, Test, Stmt, If, IfElse, While, Block, End}
+use Rattle.syntax.specs.Views.{argument_tree, expr_tree, element_tree, stmt_tree, block_tree}
+use Rattle.jni.specs.BuiltFunctions.{is_built_function}
+use Rattle.jni.specs.Table.{function_value}
 use Rattle.types.specs.BuiltCalls.{is_built_call, calls_unbuilt}
-use Rattle.source.specs.Task.{Task, SetScalar, SetElement, SetNull, MakeArray, Print, Branch, EndIf, Loop, EndTurn, Return, ReturnValue, call_task, task_of}
+use Rattle.source.specs.Task.{Operand, NumberOperand, Given, Task, SetScalar, SetElement, SetNull, MakeArray, Invoke, Print, Branch, EndIf, Loop, EndTurn, Return, ReturnValue, task_of}
 use Rattle.tasks.specs.declared.outcome.End.{End as EndInMemory}
 use Rattle.tasks.specs.declared.outcome.End.TheVariants as end
 use Rattle.tasks.specs.declared.outcome.Outcome.{Outcome}
 use Rattle.tasks.specs.declared.outcome.Outcome.TheVariants as outcome
-use Rattle.tasks.specs.declared.outcome.Target.{Target as TargetInMemory}
+use Rattle.tasks.specs.declared.task.Operand.{Operand as OperandInMemory}
+use Rattle.tasks.specs.declared.task.Operand.TheVariants as operands
 use Rattle.tasks.specs.declared.task.Task.{Task as TaskInMemory}
 use Rattle.tasks.specs.declared.task.Task.TheVariants as task
 use Rattle.terms.specs.declared.term.Term.{Term as TermInMemory}
@@ -28,25 +30,30 @@ abbrev pub else_tree : ℕ → Option (Bor BlockInMemory) → Block
 else_tree line None = End line
 else_tree line (Some b) = block_tree b.now
 
+abbrev pub operand_view : OperandInMemory → Operand
+operand_view (operands.Number t) = NumberOperand (term_view t)
+operand_view (operands.Given a) = Given (argument_tree a.now)
+
 abbrev pub task_view : TaskInMemory → Task
 task_view (task.Print line t) = Print line (term_view t)
 task_view (task.Set line x t) = SetScalar line x.now (term_view t)
 task_view (task.SetElement line x i t) = SetElement line x.now (term_view i) (term_view t)
 task_view (task.SetNull to) = SetNull (target_view to)
 task_view (task.MakeArray T x n) = MakeArray (element_tree T) x.now n
-task_view (task.Invoke i) = call_task i.line (target_view i.target) (call_tree i.call.now)
+task_view (task.Invoke i) = Invoke i.line (target_view i.target) (function_value i.function) (map operand_view i.operands.items)
 task_view (task.Branch c) = Branch c.line (term_view c.test) (block_tree c.block.now) (else_tree c.line c.otherwise)
 task_view (task.Loop line test t body) = Loop line (expr_tree test.now) (term_view t) (block_tree body.now)
 task_view task.Return = Return
 task_view (task.ReturnValue line t) = ReturnValue line (term_view t)
 
+-- it is no call
+abbrev pub IsPlain : TaskInMemory → Type 0
+IsPlain (task.Invoke i) = ⊥
+IsPlain t = Unit {0}
+
 abbrev pub end_view : EndInMemory → Task
 end_view end.If = EndIf
 end_view (end.Turn line test body) = EndTurn line (expr_tree test.now) (block_tree body.now)
-
--- a call that is to do
-abbrev pub invoke_task : ℕ → TargetInMemory → Bor CallInMemory → TaskInMemory
-invoke_task line to c = task.Invoke (record { line = line; target = to; call = c })
 
 -- an `if` with its test's term
 abbrev pub branch_task : ℕ → TermInMemory → Bor BlockInMemory → Option (Bor BlockInMemory) → TaskInMemory
@@ -94,6 +101,9 @@ StatementsInRange [] = Unit {0}
 StatementsInRange (s ∷ rest) = StatementInRange s × StatementsInRange rest
 
 -- the same of parts of statements
+abbrev pub ArgumentsInRange : List Argument → Type 0
+ArgumentsInRange arguments = IsTrue (list_all numbers_in_range (flat_map argument_expressions arguments))
+
 pub record RightSideInRange (right : RightSide) : Type 0 where
   pub numbers : IsTrue (list_all numbers_in_range (right_side_expressions right))
   pub built : IsTrue (not (some_passes (λ c. not (is_built_call c)) (call_of_right_side (Some right))))
@@ -105,6 +115,15 @@ abbrev pub ElseInRange : Option (Bor BlockInMemory) → Type 0
 ElseInRange None = Unit {0}
 ElseInRange (Some b) = BlockInRange (block_tree b.now)
 
+-- the same of the arguments of a call
+abbrev pub OperandInRange : OperandInMemory → Type 0
+OperandInRange (operands.Number t) = NumbersInRange t
+OperandInRange (operands.Given a) = Unit {0}
+
+abbrev pub OperandsInRange : List OperandInMemory → Type 0
+OperandsInRange [] = Unit {0}
+OperandsInRange (o ∷ rest) = OperandInRange o × OperandsInRange rest
+
 -- the same of tasks, of what comes at the end of a block, and of what a step leads into
 abbrev pub TaskInRange : TaskInMemory → Type 0
 TaskInRange (task.Print line t) = NumbersInRange t
@@ -112,7 +131,7 @@ TaskInRange (task.Set line x t) = NumbersInRange t
 TaskInRange (task.SetElement line x i t) = NumbersInRange i × NumbersInRange t
 TaskInRange (task.SetNull to) = Unit {0}
 TaskInRange (task.MakeArray T x n) = Unit {0}
-TaskInRange (task.Invoke i) = IsTrue (is_built_call (call_tree i.call.now))
+TaskInRange (task.Invoke i) = OperandsInRange i.operands.items × IsTrue (is_built_function (function_value i.function))
 TaskInRange (task.Branch c) = NumbersInRange c.test × BlockInRange (block_tree c.block.now) × ElseInRange c.otherwise
 TaskInRange (task.Loop line test t body) = ExprInRange (expr_tree test.now) × NumbersInRange t × BlockInRange (block_tree body.now)
 TaskInRange task.Return = Unit {0}

@@ -1,6 +1,6 @@
 //! Activations: calls in progress.
 
-ghost use Rattle.std.specs.Prelude.{◌≡◌, IfOk, None, [], length};
+ghost use Rattle.std.specs.Prelude.{◌≡◌, IfOk, None, []};
 ghost use Rattle.syntax.specs.Tree.{SourceUnit};
 ghost use Rattle.syntax.specs.Views.{unit_tree};
 ghost use Rattle.classes.specs.Class.{Classes};
@@ -27,7 +27,7 @@ pub struct Outer<'a> {
 
 /// A call in progress: the task that is begun, the statements after it in its block, what is to do around the block,
 /// the outermost first, the variables, in the order in which they came to be, the frame of local references, and the pending
-/// exception. No function that can be called makes another frame.
+/// exception. No function that can be called pushes another frame.
 #[derive(Drop)]
 pub struct Activation<'a> {
     pub task: Option<Task<'a>>,
@@ -68,14 +68,18 @@ fn begin<'a>(alloc: Global, activation: &mut Activation<'a>) -> Result<(), Alloc
 /// Goes on after a block whose statements are all done: after an `if`, or with its loop's test.
 fn leave_block<'a>(
     alloc: Global,
+    refused: bool,
     activation: &mut Activation<'a>,
 ) -> Result<Outcome<'a>, AllocError>
     requires range { IsInRange activation.old }
     requires task { activation.old.task ≡ None }
     requires rest { activation.old.rest.now ≡ [] }
-    ensures step { IfOk result (λ o. (unit : SourceUnit) (classes : Classes) (heap : Heap) → Advances unit classes heap activation.old o heap activation.new) }
+    ensures step { IfOk result (λ o. (unit : SourceUnit) (classes : Classes) (heap : Heap) → Advances unit classes refused heap activation.old o heap activation.new) }
     ensures range { IfOk result (λ _. IsInRange activation.new) }
 {
+    if refused {
+        return Ok(Outcome::Impossible);
+    }
     let Some(outer) = activation.outer.pop() else {
         return Ok(Outcome::Impossible);
     };
@@ -108,7 +112,7 @@ fn set_tasks<'a>(activation: &mut Activation<'a>, outcome: Outcome<'a>) -> Resul
         Outcome::Printed(_) | Outcome::Sets(_, _) | Outcome::SetsNull(_) => {
             put_task(&mut activation.task, None);
         }
-        Outcome::Puts(_, _) | Outcome::SetsElement(_, _, _) => {
+        Outcome::Gives(_, _) | Outcome::SetsElement(_, _, _) => {
             put_task(&mut activation.task, None);
         }
         Outcome::Makes(_, _, _) | Outcome::Ends => put_task(&mut activation.task, None),
@@ -116,25 +120,34 @@ fn set_tasks<'a>(activation: &mut Activation<'a>, outcome: Outcome<'a>) -> Resul
     Ok(())
 }
 
-/// Lets an activation take its next step. No function that can be called makes an object.
+/// Lets an activation take its next step, or the same with its object refused.
 pub fn advance<'a>(
     alloc: Global,
     items: &'a [Item],
-    classes: &ClassTable,
+    classes: &'a ClassTable,
     store: &mut Store,
+    refused: bool,
     activation: &mut Activation<'a>,
 ) -> Result<Outcome<'a>, AllocError>
     requires { IsInRange activation.old }
-    ensures step { IfOk result (λ o. Advances (unit_tree items.now) classes.now store.old activation.old o store.new activation.new) }
-    ensures count { IfOk result (λ _. length store.new ≡ length store.old) }
+    ensures step { IfOk result (λ o. Advances (unit_tree items.now) classes.now refused store.old activation.old o store.new activation.new) }
     ensures range { IfOk result (λ _. IsInRange activation.new) }
 {
     begin(alloc, activation)?;
     let Some(task) = &mut activation.task else {
-        return leave_block(alloc, activation);
+        return leave_block(alloc, refused, activation);
     };
-    let pending = activation.pending;
-    let outcome = step(items, classes, store, &activation.variables, pending, task)?;
+    let outcome = step(
+        alloc,
+        items,
+        classes,
+        store,
+        &activation.variables,
+        &mut activation.frame,
+        &mut activation.pending,
+        refused,
+        task,
+    )?;
     let done = set_variables(alloc, items, &mut activation.variables, outcome)?;
     if !done {
         return Ok(Outcome::Impossible);

@@ -1,105 +1,155 @@
-//! Calls of `GetArrayLength`, the one function that can be called today (JNI Specification, chapter 4, "Array
-//! Operations").
+//! Calls of functions of the JNI (JNI Specification, chapter 4).
 
-ghost use Rattle.std.specs.Prelude.{◌≡◌, ◌<◌, ◌^◌, IfOk, IfSome, IsTrue};
-ghost use Rattle.std.specs.Option.{option_map};
+ghost use Rattle.std.specs.Prelude.{◌≡◌, IfOk, IfSome, IsTrue, None, map};
+ghost use Rattle.jni.specs.BuiltFunctions.{is_built_function};
+ghost use Rattle.jni.specs.Table.{function_value};
+ghost use Rattle.source.specs.Start.{null_statics};
 ghost use Rattle.syntax.specs.Tree.{SourceUnit};
-ghost use Rattle.syntax.specs.Views.{expr_tree, call_tree};
-ghost use Rattle.types.specs.BuiltCalls.{is_built_call};
-ghost use Rattle.source.specs.Thread.{Frame};
-ghost use Rattle.source.specs.Variable.{as_static};
-ghost use Rattle.tasks.specs.Objects.{array_length, reference_of};
-ghost use Rattle.tasks.specs.Steps.{Does, first_expression, length_outcome, scene_with};
+ghost use Rattle.syntax.specs.Views.{unit_tree};
 ghost use Rattle.tasks.specs.declared.task.Task.TheVariants as task;
-ghost use Rattle.tasks.specs.Tasks.{OutcomeInRange};
+ghost use Rattle.tasks.specs.Actuals.{actual_view};
+ghost use Rattle.tasks.specs.Calls.{MakesCall, ReducesFirst, ReducesOne};
+ghost use Rattle.tasks.specs.Steps.{Does, scene_with};
+ghost use Rattle.tasks.specs.Stores.{frame_view};
+ghost use Rattle.tasks.specs.Tasks.{OperandInRange, OperandsInRange, OutcomeInRange};
 ghost use Rattle.terms.specs.Views.{variables_view};
 
+use crate::actual::{Actual, actuals};
+use crate::answer::work_out;
+use crate::carry_out::{carry_out, makes_object, refuse};
+use crate::check::check;
+use crate::frame::{Frame, put_local};
 use crate::outcome::{Outcome, Target};
+use crate::step::reduced;
 use crate::store::Store;
-use crate::task::Invocation;
+use crate::task::{Invocation, Operand};
 use class_table::table::ClassTable;
-use std::alloc::AllocError;
-use syntax::{Argument, Call, Expr};
-use terms::{Content, Trap, Variable, content_of};
+use jni::JniFunction;
+use std::alloc::{AllocError, Global};
+use syntax::Item;
+use terms::{Reduction, Term, Variable, reduce};
 
-/// The object that an argument is, or NULL.
-fn object_of(variables: &[Variable<'_>], e: &Expr) -> Option<usize>
-    ensures { as_static result ≡ reference_of (variables_view variables.now) (expr_tree e.now) }
-{
-    let Expr::Variable(name) = e else {
-        return None;
-    };
-    match content_of(variables, name) {
-        None => None,
-        Some(content) => match content {
-            Content::Reference(object) => *object,
-            Content::Number(_) | Content::Field | Content::Buffer(_) => None,
-            Content::Array(_, _) => None,
-        },
-    }
-}
-
-/// The first argument of a call, where it is an expression.
-fn first_argument(call: &Call) -> Option<&Expr>
-    ensures { option_map (λ e. expr_tree e.now) result ≡ first_expression call.now.arguments.items }
-{
-    match call.arguments.as_slice() {
-        [] => None,
-        [argument, ..] => match argument {
-            Argument::Value(e) => Some(e),
-            Argument::Text(_) | Argument::AddressOf(_) => None,
-        },
-    }
-}
-
-/// The number of elements of this object; none where it is no array.
-fn array_length(classes: &ClassTable, store: &Store, object: usize) -> Option<usize>
-    ensures length { result ≡ array_length classes.now store.now object }
-    ensures few { IfSome result (λ n. n < 2 ^ 31) }
-{
-    if !classes.is_array(store.class_of(object)) {
-        return None;
-    }
-    Some(store.values_of(object).len())
-}
-
-/// The number of elements of this object, for a variable.
-fn set_length<'a>(
-    classes: &ClassTable,
-    store: &Store,
-    line: usize,
-    target: Target<'a>,
-    object: usize,
-) -> Outcome<'a>
-    ensures { result ≡ length_outcome line target.entry (array_length classes.now store.now object) }
-{
-    match array_length(classes, store, object) {
-        None => Outcome::Trapped(Trap::WrongObject, line),
-        Some(length) => Outcome::Puts(target, length as i32),
-    }
-}
-
-/// The step of a call. No accepted program leaves its argument out.
+/// The step of a call: the first of its numbers that isn't worked out takes a step, or else the call is made. With its object
+/// refused it is possible only where it makes one.
 pub(crate) fn invoke<'a>(
-    classes: &ClassTable,
-    store: &Store,
-    variables: &[Variable<'_>],
-    pending: Option<usize>,
-    i: &Invocation<'a>,
+    alloc: Global,
+    items: &[Item],
+    classes: &'a ClassTable,
+    store: &mut Store,
+    variables: &[Variable<'a>],
+    frame: &mut Frame,
+    pending: &mut Option<usize>,
+    refused: bool,
+    i: &mut Invocation<'a>,
 ) -> Result<Outcome<'a>, AllocError>
-    requires { IsTrue (is_built_call (call_tree i.now.call.now)) }
-    ensures step { IfOk result (λ o. (unit : SourceUnit) (frame : Frame) → Does (scene_with unit classes.now store.now variables.now frame pending) (task.Invoke i.now) o (task.Invoke i.now)) }
+    requires numbers { OperandsInRange i.old.operands.items }
+    requires built { IsTrue (is_built_function (function_value i.old.function)) }
+    ensures step { IfOk result (λ o. Does refused (scene_with (unit_tree items.now) classes.now store.old variables.now (frame_view frame.old) pending.old) (task.Invoke i.old) o
+        (scene_with (unit_tree items.now) classes.now store.new variables.now (frame_view frame.new) pending.new) (task.Invoke i.new)) }
+    ensures numbers { IfOk result (λ _. OperandsInRange i.new.operands.items) }
+    ensures function { i.new.function ≡ i.old.function }
     ensures range { IfOk result OutcomeInRange }
 {
-    let line = i.line;
-    if pending.is_some() {
-        return Ok(Outcome::Trapped(Trap::ExceptionPending, line));
+    let (line, target, function) = (i.line, i.target, i.function);
+    if let Some(reduction) = reduce_number(items, variables, i) {
+        if refused {
+            return Ok(Outcome::Impossible);
+        }
+        return Ok(reduced(line, reduction));
     }
-    match first_argument(i.call) {
-        None => Ok(Outcome::Trapped(Trap::WrongObject, line)),
-        Some(e) => match object_of(variables, e) {
-            None => Ok(Outcome::Trapped(Trap::NullReference, line)),
-            Some(object) => Ok(set_length(classes, store, line, i.target, object)),
+    let actuals = actuals(alloc, variables, function, &i.operands)?;
+    call(
+        alloc, classes, store, frame, pending, refused, line, target, function, &actuals,
+    )
+}
+
+/// Lets the first number of a call that isn't worked out take a step; none where each is.
+fn reduce_number(
+    items: &[Item],
+    variables: &[Variable<'_>],
+    i: &mut Invocation<'_>,
+) -> Option<Reduction>
+    requires { OperandsInRange i.old.operands.items }
+    ensures step { ReducesFirst (variables_view variables.now) (null_statics (unit_tree items.now)) i.old.operands.items result i.new.operands.items }
+    ensures numbers { OperandsInRange i.new.operands.items }
+    ensures line { i.new.line ≡ i.old.line }
+    ensures target { i.new.target ≡ i.old.target }
+    ensures function { i.new.function ≡ i.old.function }
+{
+    reduce_first(items, variables, &mut i.operands)
+}
+
+/// Lets the first of these numbers that isn't worked out take a step; none where each is.
+fn reduce_first(
+    items: &[Item],
+    variables: &[Variable<'_>],
+    operands: &mut [Operand<'_>],
+) -> Option<Reduction>
+    requires { OperandsInRange operands.old }
+    ensures step { ReducesFirst (variables_view variables.now) (null_statics (unit_tree items.now)) operands.old result operands.new }
+    ensures numbers { OperandsInRange operands.new }
+{
+    for place in 0..operands.len() {
+        let reduction = reduce_one(items, variables, &mut operands[place]);
+        if reduction.is_some() {
+            return reduction;
+        }
+    }
+    None
+}
+
+/// Lets a number that isn't worked out take a step; none where there is nothing to work out.
+fn reduce_one(
+    items: &[Item],
+    variables: &[Variable<'_>],
+    operand: &mut Operand<'_>,
+) -> Option<Reduction>
+    requires { OperandInRange operand.old }
+    ensures step { ReducesOne (variables_view variables.now) (null_statics (unit_tree items.now)) operand.old result operand.new }
+    ensures numbers { OperandInRange operand.new }
+{
+    match operand {
+        Operand::Given(_) => None,
+        Operand::Number(t) => match t {
+            Term::Done(_) => None,
+            t => Some(reduce(items, variables, t)),
         },
     }
+}
+
+/// The call's own step.
+fn call<'a>(
+    alloc: Global,
+    classes: &'a ClassTable,
+    store: &mut Store,
+    frame: &mut Frame,
+    pending: &mut Option<usize>,
+    refused: bool,
+    line: usize,
+    target: Target<'a>,
+    function: JniFunction,
+    actuals: &[Actual<'a>],
+) -> Result<Outcome<'a>, AllocError>
+    requires { IsTrue (is_built_function (function_value function)) }
+    ensures step { IfOk result (λ o. MakesCall refused classes.now store.old (frame_view frame.old) pending.old line target.entry (function_value function) (map actual_view actuals.now) o
+        store.new (frame_view frame.new) pending.new) }
+    ensures range { IfOk result OutcomeInRange }
+{
+    if let Some(trap) = check(classes, store, frame, pending.is_some(), function, actuals) {
+        if refused {
+            return Ok(Outcome::Impossible);
+        }
+        return Ok(Outcome::Trapped(trap, line));
+    }
+    let answer = work_out(classes, store, function, actuals)?;
+    let kind = function.prototype().result;
+    if refused {
+        if !makes_object(answer) {
+            return Ok(Outcome::Impossible);
+        }
+        return Ok(Outcome::Gives(target, refuse(classes, pending, kind)));
+    }
+    let given = carry_out(alloc, classes, store, pending, kind, answer)?;
+    put_local(frame, kind, given)?;
+    Ok(Outcome::Gives(target, given))
 }

@@ -2,7 +2,13 @@
 #![tactic(auto)]
 
 mod activation;
+mod actual;
+mod answer;
+mod carry_out;
+mod check;
+mod field;
 mod frame;
+mod given;
 mod invoke;
 mod loaded;
 mod outcome;
@@ -13,6 +19,7 @@ mod task;
 
 pub use activation::{Activation, Outer, advance};
 pub use frame::Frame;
+pub use given::Given;
 pub use loaded::{loaded_store, made_before};
 pub use outcome::{End, Outcome, Target, VariableKind};
 pub use store::Store;

@@ -71,7 +71,7 @@ fn initial_values(alloc: Global, fields: &[Field]) -> Result<Vec<ObjectValue>, A
 }
 
 /// What the fields of a new object of the class hold.
-fn fresh_values(
+pub(crate) fn fresh_values(
     alloc: Global,
     classes: &ClassTable,
     class: usize,

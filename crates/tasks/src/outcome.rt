@@ -5,6 +5,7 @@ ghost use Rattle.syntax.specs.Views.{variable_type_tree};
 ghost use Rattle.source.specs.Task.{kind_of};
 ghost use Rattle.tasks.specs.Outcomes.{kind_view};
 
+use crate::given::Given;
 use syntax::{Block, ElementType, Expr, Name, Stmt, VariableType};
 use terms::{Trap, Value};
 
@@ -47,8 +48,8 @@ pub enum Outcome<'a> {
     Sets(&'a Name, Value),
     /// It is over, and NULL goes there.
     SetsNull(Target<'a>),
-    /// It is over, and this number, which a call gave, goes there.
-    Puts(Target<'a>, i32),
+    /// It is over, and what a call gave goes there.
+    Gives(Target<'a>, Given<'a>),
     /// It is over, and the element has this number, converted to its type.
     SetsElement(&'a Name, usize, i32),
     /// It is over, and there is an array of this many zeros.

@@ -6,47 +6,49 @@ ghost use Rattle.source.specs.CallStep.{blank, filled, put};
 ghost use Rattle.source.specs.Start.{null_statics};
 ghost use Rattle.source.specs.Variable.{Statics, assign};
 ghost use Rattle.tasks.specs.declared.outcome.Outcome.TheVariants as outcome;
-ghost use Rattle.tasks.specs.Outcomes.{kind_view, target_view, given_view, variable_step, LeavesVariables, LeavesIf};
+ghost use Rattle.tasks.specs.Answers.{given_view};
+ghost use Rattle.tasks.specs.Outcomes.{kind_view, target_view, variable_step, LeavesVariables, LeavesIf};
 ghost use Rattle.terms.specs.Views.{content_view, variables_view};
 
+use crate::given::{Given, gives_object};
 use crate::outcome::{Outcome, Target, VariableKind};
 use std::alloc::{AllocError, Global};
 use syntax::{Item, Name};
 use terms::{Content, Value, Variable, assign, is_static, place_of, write_content, zeros};
 
-/// What goes into a variable.
-#[derive(Clone, Copy)]
-pub(crate) enum Given {
-    Null,
-    Number(i32),
-}
-
 /// A variable as its declaration makes it.
-fn blank(kind: VariableKind) -> Content
+fn blank<'a>(kind: VariableKind) -> Content<'a>
     ensures { content_view result ≡ blank (kind_view kind) 1 }
 {
     match kind {
         VariableKind::Number => Content::Number(Value::Int(0)),
         VariableKind::Reference => Content::Reference(None),
-        VariableKind::Field => Content::Field,
+        VariableKind::Field => Content::Field(None),
         VariableKind::Buffer(kind) => Content::Buffer(kind),
     }
 }
 
-/// Puts NULL or a number into a variable. In accepted programs they fit.
-fn fill(content: &mut Content, given: Given)
-    ensures { content_view content.new ≡ filled (content_view content.old) (given_view given) }
+/// Puts what a call gave, or NULL, into a variable. In accepted programs they fit.
+fn fill<'a>(content: &mut Content<'a>, given: Given<'a>)
+    ensures { content_view content.new ≡ filled (content_view content.old) (given_view given.entry) }
 {
-    match given {
-        Given::Null => match content {
-            Content::Reference(object) => *object = None,
-            Content::Number(_) | Content::Field | Content::Buffer(_) | Content::Array(_, _) => {}
+    match content {
+        Content::Number(value) => match given {
+            Given::Number(z) => *value = Value::Int(z),
+            Given::Flag(b) => *value = Value::Flag(b),
+            _ => {}
         },
-        Given::Number(z) => match content {
-            Content::Number(value) => *value = Value::Int(z),
-            Content::Reference(_) | Content::Field | Content::Buffer(_) => {}
-            Content::Array(_, _) => {}
+        Content::Reference(object) => match given {
+            Given::Null => *object = None,
+            Given::Reference(reference) => *object = reference,
+            _ => {}
         },
+        Content::Field(field) => match given {
+            Given::Null => *field = None,
+            Given::Field(found) => *field = found,
+            _ => {}
+        },
+        Content::Buffer(_) | Content::Array(_, _) => {}
     }
 }
 
@@ -55,24 +57,24 @@ fn declare<'a>(
     variables: &mut Vec<Variable<'a>>,
     kind: VariableKind,
     name: &'a Name,
-    given: Given,
+    given: Given<'a>,
 ) -> Result<(), AllocError>
-    ensures { IfOk result (λ _. variables_view variables.new.items ≡ assign name.entry.now (filled (blank (kind_view kind) 1) (given_view given)) (variables_view variables.old.items)) }
+    ensures { IfOk result (λ _. variables_view variables.new.items ≡ assign name.entry.now (filled (blank (kind_view kind) 1) (given_view given.entry)) (variables_view variables.old.items)) }
 {
     let mut content = blank(kind);
     fill(&mut content, given);
     assign(variables, name, content)
 }
 
-/// Puts NULL or a number where it belongs. A static is NULL already: nothing makes global references yet.
+/// Puts what a call gave, or NULL, where it belongs. A static is NULL already: nothing makes global references yet.
 #[tactic(auto, using(crate::proofs::PutLemmas::put_rules))]
 fn put<'a>(
     items: &[Item],
     variables: &mut Vec<Variable<'a>>,
     target: Target<'a>,
-    given: Given,
+    given: Given<'a>,
 ) -> Result<(), AllocError>
-    ensures { IfOk result (λ _. LeavesVariables (null_statics (unit_tree items.now)) variables.old.items (put (target_view target.entry) (given_view given)) variables.new.items) }
+    ensures { IfOk result (λ _. LeavesVariables (null_statics (unit_tree items.now)) variables.old.items (put (target_view target.entry) (given_view given.entry)) variables.new.items) }
 {
     match target {
         Target::Declared(kind, name) => declare(variables, kind, name, given),
@@ -83,8 +85,11 @@ fn put<'a>(
                 Ok(())
             }
             None => {
-                // No accepted program sets an unknown name.
+                // No accepted program sets an unknown name, or a static to a local reference.
                 if !is_static(items, name) {
+                    return Err(AllocError);
+                }
+                if gives_object(given) {
                     return Err(AllocError);
                 }
                 Ok(())
@@ -126,7 +131,7 @@ pub(crate) fn set_variables<'a>(
     match outcome {
         Outcome::Sets(name, value) => assign(variables, name, Content::Number(value))?,
         Outcome::SetsNull(target) => put(items, variables, target, Given::Null)?,
-        Outcome::Puts(target, number) => put(items, variables, target, Given::Number(number))?,
+        Outcome::Gives(target, given) => put(items, variables, target, given)?,
         Outcome::Makes(kind, name, size) => {
             assign(variables, name, Content::Array(kind, zeros(alloc, size)?))?;
         }

@@ -4,20 +4,21 @@ ghost use Rattle.std.specs.Prelude.{◌≡◌, IfOk, ℕ};
 ghost use Rattle.syntax.specs.Views.{expr_tree, block_tree, unit_tree};
 ghost use Rattle.source.specs.Start.{null_statics};
 ghost use Rattle.source.specs.Task.{tasks_of};
-ghost use Rattle.source.specs.Thread.{Frame};
 ghost use Rattle.source.specs.Variable.{Statics};
 ghost use Rattle.tasks.specs.declared.task.Task.TheVariants as task;
 ghost use Rattle.terms.specs.declared.term.Term.TheVariants as term;
 ghost use Rattle.tasks.specs.Steps.{HasEffect, Does, reduced, scene_with};
-ghost use Rattle.tasks.specs.Tasks.{branch_task, else_tree, tasks_of_statements, ExprInRange, BlockInRange, ElseInRange, StatementsInRange, TaskInRange, OutcomeInRange};
+ghost use Rattle.tasks.specs.Stores.{frame_view};
+ghost use Rattle.tasks.specs.Tasks.{branch_task, else_tree, tasks_of_statements, ExprInRange, BlockInRange, ElseInRange, StatementsInRange, TaskInRange, OutcomeInRange, IsPlain};
 ghost use Rattle.terms.specs.Views.{NumbersInRange, variables_view};
 
+use crate::frame::Frame;
 use crate::invoke::invoke;
 use crate::outcome::{End, Outcome};
 use crate::store::Store;
 use crate::task::Task;
 use class_table::table::ClassTable;
-use std::alloc::AllocError;
+use std::alloc::{AllocError, Global};
 use syntax::{Block, Expr, Item, Name, Stmt};
 use terms::{
     Evaluated, Indexed, Reduction, Term, Value, Variable, constant, number_in, place_in, put_term,
@@ -25,7 +26,7 @@ use terms::{
 };
 
 /// What a step does that reduces a term, which has no value yet.
-fn reduced<'a>(line: usize, reduction: Reduction) -> Outcome<'a>
+pub(crate) fn reduced<'a>(line: usize, reduction: Reduction) -> Outcome<'a>
     ensures view { result ≡ reduced line reduction }
     ensures range { OutcomeInRange result }
 {
@@ -233,35 +234,57 @@ fn return_value<'a>(
     }
 }
 
-/// Lets a task take its next step.
+/// Lets a task that is no call take its next step.
+fn plain_step<'a>(items: &[Item], variables: &[Variable<'a>], task: &mut Task<'a>) -> Outcome<'a>
+    requires range { TaskInRange task.old }
+    requires plain { IsPlain task.old }
+    ensures step { HasEffect (variables_view variables.now) (null_statics (unit_tree items.now)) task.old result task.new }
+    ensures task { TaskInRange task.new }
+    ensures range { OutcomeInRange result }
+{
+    match task {
+        Task::Print(line, t) => print(items, variables, *line, t),
+        Task::Set(line, name, t) => set(items, variables, *line, name, t),
+        Task::SetElement(line, name, i, t) => set_element(items, variables, *line, name, i, t),
+        Task::SetNull(target) => Outcome::SetsNull(*target),
+        Task::MakeArray(kind, name, size) => Outcome::Makes(*kind, name, *size),
+        Task::Branch(c) => {
+            let (line, block, otherwise) = (c.line, c.block, c.otherwise);
+            branch(items, variables, line, &mut c.test, block, otherwise)
+        }
+        Task::Loop(line, test, t, body) => turn(items, variables, *line, test, t, body),
+        Task::Return => Outcome::Returned,
+        Task::ReturnValue(line, t) => return_value(items, variables, *line, t),
+        Task::Invoke(_) => unreachable!(),
+    }
+}
+
+/// Lets a task take its next step. With its object refused only a call is possible.
 pub(crate) fn step<'a>(
+    alloc: Global,
     items: &[Item],
-    classes: &ClassTable,
-    store: &Store,
-    variables: &[Variable<'_>],
-    pending: Option<usize>,
+    classes: &'a ClassTable,
+    store: &mut Store,
+    variables: &[Variable<'a>],
+    frame: &mut Frame,
+    pending: &mut Option<usize>,
+    refused: bool,
     task: &mut Task<'a>,
 ) -> Result<Outcome<'a>, AllocError>
     requires { TaskInRange task.old }
-    ensures step { IfOk result (λ o. (frame : Frame) → Does (scene_with (unit_tree items.now) classes.now store.now variables.now frame pending) task.old o task.new) }
+    ensures step { IfOk result (λ o. Does refused (scene_with (unit_tree items.now) classes.now store.old variables.now (frame_view frame.old) pending.old) task.old o
+        (scene_with (unit_tree items.now) classes.now store.new variables.now (frame_view frame.new) pending.new) task.new) }
     ensures task { IfOk result (λ _. TaskInRange task.new) }
     ensures range { IfOk result OutcomeInRange }
 {
-    match task {
-        Task::Print(line, t) => Ok(print(items, variables, *line, t)),
-        Task::Set(line, name, t) => Ok(set(items, variables, *line, name, t)),
-        Task::SetElement(line, name, i, t) => {
-            Ok(set_element(items, variables, *line, name, i, t))
-        }
-        Task::SetNull(target) => Ok(Outcome::SetsNull(*target)),
-        Task::MakeArray(kind, name, size) => Ok(Outcome::Makes(*kind, name, *size)),
-        Task::Invoke(i) => { invoke(classes, store, variables, pending, i) },
-        Task::Branch(c) => {
-            let (line, block, otherwise) = (c.line, c.block, c.otherwise);
-            Ok(branch(items, variables, line, &mut c.test, block, otherwise))
-        }
-        Task::Loop(line, test, t, body) => Ok(turn(items, variables, *line, test, t, body)),
-        Task::Return => Ok(Outcome::Returned),
-        Task::ReturnValue(line, t) => Ok(return_value(items, variables, *line, t)),
+    if let Task::Invoke(i) = task {
+        return invoke(
+            alloc, items, classes, store, variables, frame, pending, refused, i,
+        );
     }
+    let outcome = plain_step(items, variables, task);
+    if refused {
+        return Ok(Outcome::Impossible);
+    }
+    Ok(outcome)
 }

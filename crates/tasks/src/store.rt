@@ -1,8 +1,8 @@
 //! What all threads share.
 
-ghost use Rattle.std.specs.Prelude.{◌≡◌, ◌<◌, ◌^◌, ◌++◌, ◌∷◌, [], IfOk, IfSome, length, map};
+ghost use Rattle.std.specs.Prelude.{◌≡◌, ◌<◌, ◌^◌, ◌++◌, ◌∷◌, [], IfOk, IfSome, length, map, slice_set};
 ghost use Rattle.std.specs.Option.{option_map};
-ghost use Rattle.source.specs.Heap.{object_at, class_of, values_of};
+ghost use Rattle.source.specs.Heap.{object_at, class_of, value_at, values_of, with_value_at};
 ghost use Rattle.tasks.specs.Stores.{object_view};
 ghost use Rattle.world.specs.Views.{object_value_view};
 
@@ -90,6 +90,35 @@ impl Store {
         }
     }
 
+    /// The value at a place of an object, counted from 0; the number 0 where there is none.
+    pub(crate) fn value_at(&self, name: usize, place: usize) -> ObjectValue
+        ensures { object_value_view result ≡ value_at self.now name place }
+    {
+        match self.values_of(name).get(place) {
+            Some(value) => *value,
+            None => ObjectValue::Number(0),
+        }
+    }
+
+    /// Puts a value into an object, if it has the place. A name that no object has is refused, as memory is.
+    pub(crate) fn set(
+        &mut self,
+        name: usize,
+        place: usize,
+        value: ObjectValue,
+    ) -> Result<(), AllocError>
+        ensures { IfOk result (λ _. self.new ≡ with_value_at self.old name place (object_value_view value)) }
+    {
+        if name == 0 {
+            return Err(AllocError);
+        }
+        if self.objects.len() < name {
+            return Err(AllocError);
+        }
+        put_value(&mut self.objects[name - 1], place, value);
+        Ok(())
+    }
+
     /// Makes the next object. More values than a `jint` counts, and an object whose name is no `u32`, are refused, as memory
     /// is.
     pub fn add(&mut self, class: usize, values: Vec<ObjectValue>) -> Result<(), AllocError>
@@ -103,5 +132,15 @@ impl Store {
         }
         self.objects.push(Object { class, values })?;
         Ok(())
+    }
+}
+
+/// Puts a value into an object, if it has the place.
+fn put_value(object: &mut Object, place: usize, value: ObjectValue)
+    ensures view { object_view object.new ≡ record { class = (object_view object.old).class; values = slice_set (object_view object.old).values place (object_value_view value) } }
+    ensures length { length object.new.values.items ≡ length object.old.values.items }
+{
+    if place < object.values.len() {
+        object.values[place] = value;
     }
 }

@@ -1,23 +1,40 @@
 //! Tasks: statements that are begun.
 
-ghost use Rattle.std.specs.Prelude.{◌≡◌, IfOk};
-ghost use Rattle.syntax.specs.Views.{stmt_tree, expr_tree, right_side_tree, test_tree, block_tree};
-ghost use Rattle.source.specs.Task.{Declared, Loop, Print, ReturnValue, SetElement, set_task, right_side_task, if_task, task_of};
+ghost use Rattle.std.specs.Prelude.{◌≡◌, ◌++◌, IfOk, IsTrue, map, zip};
+ghost use Rattle.std.specs.List.{list_all};
+ghost use Rattle.jni.specs.Table.{parameter_value};
+ghost use Rattle.syntax.specs.Views.{argument_tree, call_tree, stmt_tree, expr_tree, right_side_tree, test_tree, block_tree};
+ghost use Rattle.syntax.specs.Limits.{numbers_in_range};
+ghost use Rattle.syntax.specs.Parts.{argument_expressions};
+ghost use Rattle.types.specs.BuiltCalls.{is_built_call};
+ghost use Rattle.source.specs.Task.{Declared, Loop, Print, ReturnValue, SetElement, set_task, right_side_task, if_task, task_of, call_task, operand};
 ghost use Rattle.source.specs.Term.{term_of};
 ghost use Rattle.tasks.specs.Outcomes.{kind_view, target_view};
-ghost use Rattle.tasks.specs.Tasks.{task_view, else_tree, ExprInRange, RightSideInRange, TestInRange, BlockInRange, ElseInRange, StatementInRange, TaskInRange};
+ghost use Rattle.tasks.specs.Tasks.{task_view, operand_view, else_tree, ArgumentsInRange, OperandInRange, OperandsInRange, ExprInRange, RightSideInRange, TestInRange, BlockInRange, ElseInRange, StatementInRange, TaskInRange};
 
 use crate::outcome::{Target, VariableKind, kind_of};
+use jni::{JniFunction, ParameterKind, function_named};
 use std::alloc::{AllocError, Global};
-use syntax::{Block, Call, Constant, ElementType, Expr, Form, Name, RightSide, Stmt, Test};
+use syntax::{
+    Argument, Block, Call, Constant, ElementType, Expr, Form, Name, RightSide, Stmt, Test,
+};
 use terms::{Term, term_of};
 
-/// A call that is to do; its arguments are looked up in its one step.
+/// A call that is to do.
 #[derive(Drop)]
 pub struct Invocation<'a> {
     pub line: usize,
     pub target: Target<'a>,
-    pub call: &'a Call,
+    pub function: JniFunction,
+    /// The arguments after `env`.
+    pub operands: Vec<Operand<'a>>,
+}
+
+/// An argument of a call: a number on the way to its value, or one that is looked up in the call's own step.
+#[derive(Drop)]
+pub enum Operand<'a> {
+    Number(Term),
+    Given(&'a Argument),
 }
 
 /// An `if`, with its test's term and its two ways.
@@ -65,6 +82,76 @@ fn value_task<'a>(
     Ok(Task::Set(line, name, term_of(alloc, e)?))
 }
 
+/// The task of a call. No accepted program calls an unknown function.
+fn call_task<'a>(
+    alloc: Global,
+    line: usize,
+    target: Target<'a>,
+    call: &'a Call,
+) -> Result<Task<'a>, AllocError>
+    requires numbers { ArgumentsInRange (call_tree call.now).arguments }
+    requires built { IsTrue (is_built_call (call_tree call.now)) }
+    ensures view { IfOk result (λ t. task_view t ≡ call_task line (target_view target.entry) (call_tree call.entry.now)) }
+    ensures range { IfOk result TaskInRange }
+{
+    let Some(function) = function_named(call.function.as_bytes()) else {
+        return Err(AllocError);
+    };
+    let mut operands = Vec::new(alloc);
+    let parameters = function.prototype().parameters;
+    push_operands(alloc, &mut operands, parameters, &call.arguments)?;
+    Ok(Task::Invoke(Invocation {
+        line,
+        target,
+        function,
+        operands,
+    }))
+}
+
+/// Adds the operands of these arguments, each for its parameter.
+fn push_operands<'a>(
+    alloc: Global,
+    operands: &mut Vec<Operand<'a>>,
+    parameters: &[ParameterKind],
+    arguments: &'a [Argument],
+) -> Result<(), AllocError>
+    requires numbers { ArgumentsInRange (map argument_tree arguments.now) }
+    requires range { OperandsInRange operands.old.items }
+    ensures view { IfOk result (λ _. map operand_view operands.new.items ≡ map operand_view operands.old.items
+        ++ map operand (zip (map parameter_value parameters.entry.now) (map argument_tree arguments.entry.now))) }
+    ensures range { IfOk result (λ _. OperandsInRange operands.new.items) }
+{
+    match parameters {
+        [] => Ok(()),
+        [parameter, parameters @ ..] => match arguments {
+            [] => Ok(()),
+            [argument, arguments @ ..] => {
+                operands.push(operand_of(alloc, *parameter, argument)?)?;
+                push_operands(alloc, operands, parameters, arguments)
+            }
+        },
+    }
+}
+
+/// An argument before the call's first step.
+fn operand_of<'a>(
+    alloc: Global,
+    parameter: ParameterKind,
+    argument: &'a Argument,
+) -> Result<Operand<'a>, AllocError>
+    requires { IsTrue (list_all numbers_in_range (argument_expressions (argument_tree argument.now))) }
+    ensures view { IfOk result (λ o. operand_view o ≡ operand (parameter_value parameter, argument_tree argument.entry.now)) }
+    ensures range { IfOk result OperandInRange }
+{
+    match parameter {
+        ParameterKind::IntNumber => match argument {
+            Argument::Value(e) => Ok(Operand::Number(term_of(alloc, e)?)),
+            Argument::Text(_) | Argument::AddressOf(_) => Ok(Operand::Given(argument)),
+        },
+        _ => Ok(Operand::Given(argument)),
+    }
+}
+
 /// The task that sets a variable.
 fn set_task<'a>(
     alloc: Global,
@@ -79,7 +166,7 @@ fn set_task<'a>(
 {
     match right {
         RightSide::Expr(e) => value_task(alloc, line, target, name, e),
-        RightSide::Call(call) => Ok(Task::Invoke(Invocation { line, target, call })),
+        RightSide::Call(call) => call_task(alloc, line, target, call),
     }
 }
 
@@ -198,10 +285,7 @@ pub(crate) fn task_of(alloc: Global, s: &Stmt) -> Result<Task<'_>, AllocError>
         Form::DeclareArray(t, x, size) => Ok(Task::MakeArray(*t, x, *size)),
         Form::Assign(x, right) => set_task(alloc, line, Target::Assigned(x), x, right),
         Form::AssignElement(x, i, e) => element_task(alloc, line, x, i, e),
-        Form::Perform(call) => {
-            let target = Target::Dropped;
-            Ok(Task::Invoke(Invocation { line, target, call }))
-        }
+        Form::Perform(call) => call_task(alloc, line, Target::Dropped, call),
         Form::PutJint(e) => print_task(alloc, line, e),
         Form::If(test, block) => if_task(alloc, line, test, block, None),
         Form::IfElse(test, block, other) => if_task(alloc, line, test, block, Some(other)),

@@ -1,9 +1,11 @@
 -- Values, terms and variables that lie in memory, as those of the language.
 use Rattle.std.specs.Prelude.{◌≡◌, ◌<◌, ℕ, ℤ, Bool, not, List, map, slice_get, slice_set, Option, Some, None}
+use Rattle.std.specs.Option.{option_map}
 use Rattle.base.specs.Bytes.{Identifier}
 use Rattle.syntax.specs.Tree.{BinaryOp}
 use Rattle.syntax.specs.Views.{constant_tree, element_tree, prefix_tree, binary_tree}
 use Rattle.syntax.specs.Limits.{number_limit}
+use Rattle.class_table.specs.FieldViews.{field_id_view}
 use Rattle.source.specs.Heap.{Heap}
 use Rattle.source.specs.Sight.{seen, in_range}
 use Rattle.source.specs.Term.{Term, Done, Number, Named, Read, Element, IsNull, Prefix, And, Or, Binary, Reduction, binary_term, done, reduce}
@@ -57,7 +59,7 @@ indexed_view indexed.Stuck = Stuck
 abbrev pub content_view : Content → Variable
 content_view (content.Number v) = Scalar (value_view v)
 content_view (content.Reference r) = LocalRef 1 r
-content_view content.Field = FieldHandle None
+content_view (content.Field f) = FieldHandle (option_map field_id_view f)
 content_view (content.Buffer T) = Elements (element_tree T) NoBuffer
 content_view (content.Array T numbers) = LocalArray (element_tree T) numbers.items
 

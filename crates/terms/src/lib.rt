@@ -12,5 +12,5 @@ pub use reduction::{Reduction, reduce};
 pub use sight::{Indexed, is_static, number_in, place_in};
 pub use term::{Term, put_term, term_of};
 pub use trap::{Trap, trap_number};
-pub use value::{Evaluated, Value, constant};
+pub use value::{Evaluated, Value, constant, convert};
 pub use variable::{Content, Variable, assign, content_of, place_of, write_content, zeros};

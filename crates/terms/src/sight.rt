@@ -25,8 +25,8 @@ pub fn number_in(variables: &[Variable<'_>], name: &Name) -> Evaluated
         None => Evaluated::Stuck,
         Some(content) => match content {
             Content::Number(value) => Evaluated::Gives(*value),
-            Content::Reference(_) | Content::Field | Content::Buffer(_) => Evaluated::Stuck,
-            Content::Array(_, _) => Evaluated::Stuck,
+            Content::Reference(_) | Content::Field(_) => Evaluated::Stuck,
+            Content::Buffer(_) | Content::Array(_, _) => Evaluated::Stuck,
         },
     }
 }
@@ -49,12 +49,13 @@ pub fn is_static(items: &[Item], name: &Name) -> bool
 }
 
 /// Whether a variable holds NULL, as a truth.
-fn is_null(content: &Content) -> Evaluated
+fn is_null(content: &Content<'_>) -> Evaluated
     ensures { evaluated_view result ≡ outcome_map Truth (variable_is_null (content_view content.now)) }
 {
     match content {
         Content::Reference(object) => truth(object.is_none()),
-        Content::Field | Content::Buffer(_) => truth(true),
+        Content::Field(field) => truth(field.is_none()),
+        Content::Buffer(_) => truth(true),
         Content::Number(_) | Content::Array(_, _) => Evaluated::Stuck,
     }
 }
@@ -135,8 +136,8 @@ fn numbers_in<'v>(variables: &'v [Variable<'_>], name: &Name) -> Option<&'v [i32
         None => None,
         Some(content) => match content {
             Content::Array(_, numbers) => Some(numbers.as_slice()),
-            Content::Number(_) | Content::Reference(_) | Content::Field | Content::Buffer(_) =>
-                None,
+            Content::Number(_) | Content::Reference(_) => None,
+            Content::Field(_) | Content::Buffer(_) => None,
         },
     }
 }

@@ -58,7 +58,7 @@ pub fn constant(c: Constant) -> Evaluated
 }
 
 /// What is left of a number in an element type.
-pub(crate) fn convert(kind: ElementType, number: i32) -> i32
+pub fn convert(kind: ElementType, number: i32) -> i32
     ensures { result ≡ convert (element_tree kind) number }
 {
     let word = number.cast_unsigned();

@@ -10,17 +10,18 @@ ghost use Rattle.source.specs.Variable.{assign};
 ghost use Rattle.terms.specs.Views.{content_view, written, variables_view};
 
 use crate::value::{Value, convert};
+use class_table::fields::FieldId;
 use std::alloc::{AllocError, Global};
 use syntax::{ElementType, Name};
 
 /// What a variable holds.
 #[derive(Drop)]
-pub enum Content {
+pub enum Content<'a> {
     Number(Value),
     /// NULL or an object, by its name.
     Reference(Option<usize>),
-    /// A field ID, which is NULL: no function gives another today.
-    Field,
+    /// A field ID: NULL, or a field or static.
+    Field(Option<FieldId<'a>>),
     /// A buffer, which is NULL: no function gives another today.
     Buffer(ElementType),
     /// A local array.
@@ -31,7 +32,7 @@ pub enum Content {
 #[derive(Drop)]
 pub struct Variable<'a> {
     pub name: &'a Name,
-    pub content: Content,
+    pub content: Content<'a>,
 }
 
 /// The place of the first variable of this name. It compares the name with each: a function knows 256 names at most.
@@ -44,7 +45,7 @@ pub fn place_of(variables: &[Variable<'_>], name: &Name) -> Option<usize>
 }
 
 /// What the variable of this name holds. It compares the name with each.
-pub fn content_of<'v>(variables: &'v [Variable<'_>], name: &Name) -> Option<&'v Content>
+pub fn content_of<'v, 'a>(variables: &'v [Variable<'a>], name: &Name) -> Option<&'v Content<'a>>
     ensures { option_map (λ c. content_view c.now) result ≡ lookup name.now (variables_view variables.now) }
 {
     for variable in variables {
@@ -60,9 +61,9 @@ pub fn content_of<'v>(variables: &'v [Variable<'_>], name: &Name) -> Option<&'v 
 pub fn assign<'a>(
     variables: &mut Vec<Variable<'a>>,
     name: &'a Name,
-    content: Content,
+    content: Content<'a>,
 ) -> Result<(), AllocError>
-    ensures { IfOk result (λ _. variables_view variables.new.items ≡ assign name.entry.now (content_view content) (variables_view variables.old.items)) }
+    ensures { IfOk result (λ _. variables_view variables.new.items ≡ assign name.entry.now (content_view content.entry) (variables_view variables.old.items)) }
 {
     let variable = Variable { name, content };
     match place_of(variables, name) {
@@ -96,7 +97,7 @@ fn write(kind: ElementType, numbers: &mut [i32], index: usize, number: i32)
 }
 
 /// Writes an element of what a variable holds; false where it is no array.
-pub fn write_content(content: &mut Content, index: usize, number: i32) -> bool
+pub fn write_content(content: &mut Content<'_>, index: usize, number: i32) -> bool
     ensures { written index number (content_view content.old) ≡ if result then Some (content_view content.new) else None }
 {
     match content {
@@ -104,6 +105,7 @@ pub fn write_content(content: &mut Content, index: usize, number: i32) -> bool
             write(*kind, numbers, index, number);
             true
         }
-        Content::Number(_) | Content::Reference(_) | Content::Field | Content::Buffer(_) => false,
+        Content::Number(_) | Content::Reference(_) => false,
+        Content::Field(_) | Content::Buffer(_) => false,
     }
 }

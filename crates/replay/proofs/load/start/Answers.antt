@@ -1,7 +1,5 @@
-use Rattle.std.proofs.Common.{length, refl, sym, ap, ◌∙◌}
-use Rattle.source.specs.Heap.{Heap}
+use Rattle.std.proofs.Common.{refl, sym, ap}
 use Rattle.source.specs.Start.{null_statics}
-use Rattle.source.proofs.ShownRows.{length-loaded}
 use Rattle.tasks.specs.Stores.{shared_with}
 use Rattle.syntax.specs.Views.{unit_tree}
 use Rattle.replay.proofs.LoadLemmas.{refused, no_call, not_some, stand_waiting}
@@ -15,7 +13,6 @@ returns-clause-stands c =
     record {
       world = refl;
       shared = ap (shared_with (null_statics unit)) (sym c.in_ok-loaded_store.ensures);
-      count = ap (λ (h : Heap). length h) c.in_ok-loaded_store.ensures ∙ length-loaded w;
       threads = stand_waiting unit w.classes c.in_ok-waiting_threads.field-0.items c.args.world.now.threads c.in_ok-waiting_threads.ensures.waiting none;
       printed = sym c.new.ensures.items;
       stop = refl;

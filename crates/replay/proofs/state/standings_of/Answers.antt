@@ -1,6 +1,5 @@
-use Rattle.std.proofs.Common.{◌≡◌, ◌++◌, ◌∷◌, [], List, map, sym, ap, ◌∙◌, rules}
+use Rattle.std.proofs.Common.{◌≡◌, ◌++◌, ◌∷◌, [], map, rules}
 use Rattle.std.proofs.lemmas.List.{map-append}
-use Rattle.source.specs.Report.{ThreadStanding}
 use Rattle.report.specs.ThreadStatus.{standing_view}
 use Rattle.replay.proofs.StandingLemmas.{standing_more, standings_all}
 use Rattle.replay.proofs.state.standings_of.Goals as goal

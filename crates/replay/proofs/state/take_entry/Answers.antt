@@ -9,11 +9,8 @@ use Rattle.source.specs.State.{thread_at}
 use Rattle.replay.specs.declared.thread.Thread.{Thread}
 use Rattle.replay.specs.States.{AreInRange}
 use Rattle.replay.specs.Threads.{TakesStep}
-use Rattle.replay.proofs.StateLemmas.{stopped, refused, not_there, past_the_end, ended, takes, range_at, range_set}
+use Rattle.replay.proofs.StateLemmas.{stopped, not_there, past_the_end, ended, takes, range_at, range_set}
 use Rattle.replay.proofs.state.take_entry.Goals as goal
-
-pub returns-then-entry-clause-step : goal.returns-then-entry-clause-step
-returns-then-entry-clause-step c = λ w s h. refused (unit_tree c.args.items.now) w c.args.state.now s h c.requires.range c.args.entry c.if-entry.true
 
 pub returns-then-k-eq0-clause-step : goal.returns-then-k-eq0-clause-step
 returns-then-k-eq0-clause-step c = λ w s h.
@@ -44,11 +41,10 @@ returns-clause-step c = λ w s h.
     let unit = unit_tree c.args.items.now in
     let m = c.args.state.now in
     let noted = c.in_ok-possible.ensures.noted in
-    let step = subst (λ (v : World). TakesStep unit v.classes m.store c.index_mut-thread.result.now c.in_ok-step.step c.note.new.state.store c.take_step.new.thread) (sym h.world)
-    (subst (λ (heap : Heap). TakesStep unit m.world.now.classes m.store c.index_mut-thread.result.now c.in_ok-step.step heap c.take_step.new.thread) (sym noted.store) c.in_ok-step.ensures.step) in
-    let count = ap (λ (heap : Heap). length heap) noted.store ∙ c.in_ok-step.ensures.count in
+    let step = subst (λ (v : World). TakesStep unit v.classes c.args.entry.refused m.store c.index_mut-thread.result.now c.in_ok-step.step c.note.new.state.store c.take_step.new.thread) (sym h.world)
+    (subst (λ (heap : Heap). TakesStep unit m.world.now.classes c.args.entry.refused m.store c.index_mut-thread.result.now c.in_ok-step.step heap c.take_step.new.thread) (sym noted.store) c.in_ok-step.ensures.step) in
     rw c.in_ok-possible.ensures.possible (takes unit w m s h c.requires.range c.args.entry (c.from-k.result - 1) c.index_mut-thread.result.now c.take_step.new.thread c.in_ok-step.step c.note.new.state
-    (omega arith) c.if-entry.false at (sym c.is_unfinished.ensures ∙ c.if-not-is_unfinished.false) (sym c.is_some.ensures ∙ c.if-is_some.false) step count
+    (omega arith) at (sym c.is_unfinished.ensures ∙ c.if-not-is_unfinished.false) (sym c.is_some.ensures ∙ c.if-is_some.false) step
     noted.world (ap (λ (v : Vec Thread). v.items) noted.threads) noted.printed noted.stop)
 
 pub returns-clause-range : goal.returns-clause-range

@@ -14,7 +14,7 @@ use Rattle.tasks.proofs.RangeLemmas.{body_in_range}
 use Rattle.replay.proofs.thread.enter.Goals as goal
 
 pub returns-clause-step : goal.returns-clause-step
-returns-clause-step c = rw c.put_activation.ensures (λ heap s lent k h live.
+returns-clause-step c = rw (c.put_activation.ensures, c.if-refused.false) (λ heap s lent k h live.
     let f = c.in-Some-function_at.function.now in
     let a : Activation = record { task = None; rest = c.deref.result; outer = c.new.result; variables = c.in_ok-variables.variables; frame = c.in_ok-frame.frame; pending = None } in
     enters (unit_tree c.args.items.now) c.args.world.now.classes lent k heap c.args.thread.now c.in-Some.call.now c.in-Some.rest.now (function_tree f) c.in-Some-2.class

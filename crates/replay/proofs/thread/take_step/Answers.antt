@@ -13,9 +13,9 @@ returns-in-Returned-clause-step c = λ s lent k h live.
     let after = c.advance.new.store in
     let a = c.in-Some.activation in
     let new = c.advance.new.activation in
-    let does = subst (λ (T : Classes). Advances unit T heap a c.in_ok-outcome.outcome after new) c.classes.ensures.classes c.in_ok-outcome.ensures.step in
-    returns unit c.args.world.now.classes lent k heap after c.args.thread.now a new s c.in-Some.is h c.leave.new.thread
-    (subst (λ (o : Outcome). Advances unit c.args.world.now.classes heap a o after new) c.in-Returned.is does) c.leave.ensures.activation c.leave.ensures.ending c.leave.ensures.calls
+    let does = subst (λ (T : Classes). Advances unit T c.args.refused heap a c.in_ok-outcome.outcome after new) c.classes.ensures.classes c.in_ok-outcome.ensures.step in
+    returns unit c.args.world.now.classes lent k c.args.refused heap after c.args.thread.now a new s c.in-Some.is h c.leave.new.thread
+    (subst (λ (o : Outcome). Advances unit c.args.world.now.classes c.args.refused heap a o after new) c.in-Returned.is does) c.leave.ensures.activation c.leave.ensures.ending c.leave.ensures.calls
 
 pub returns-in_default-2 : goal.returns-in_default-2
 returns-in_default-2 c = record {
@@ -25,8 +25,7 @@ returns-in_default-2 c = record {
       let after = c.advance.new.store in
       let a = c.in-Some.activation in
       let new = c.advance.new.activation in
-      let does = subst (λ (T : Classes). Advances unit T heap a c.in_ok-outcome.outcome after new) c.classes.ensures.classes c.in_ok-outcome.ensures.step in
-      rw c.step_of.ensures (goes unit c.args.world.now.classes lent k heap after c.args.thread.now a new s c.in-Some.is h c.in_ok-outcome.outcome c.in_default-2.not-Returned does);
-  count = c.in_ok-outcome.ensures.count;
+      let does = subst (λ (T : Classes). Advances unit T c.args.refused heap a c.in_ok-outcome.outcome after new) c.classes.ensures.classes c.in_ok-outcome.ensures.step in
+      rw c.step_of.ensures (goes unit c.args.world.now.classes lent k c.args.refused heap after c.args.thread.now a new s c.in-Some.is h c.in_ok-outcome.outcome c.in_default-2.not-Returned does);
   range = c.in_ok-outcome.ensures.range;
 }

@@ -15,7 +15,7 @@ returns-in_default-clause-step c =
     let classes = c.args.classes.now in
     let heap = c.args.store.now in
     if_ok c.leave_block.result
-    (λ o does. begun_before unit classes heap c.args.activation.now c.begin.new.activation o heap c.leave_block.new.activation c.in_ok-begin.ensures.tasks c.in_ok-begin.ensures.kept
+    (λ o does. begun_before unit classes c.args.refused heap c.args.activation.now c.begin.new.activation o heap c.leave_block.new.activation c.in_ok-begin.ensures.tasks c.in_ok-begin.ensures.kept
     (does unit classes heap))
     c.leave_block.ensures.step
 
@@ -24,24 +24,28 @@ returns-then-not-done-clause-step c =
     let unit = unit_tree c.args.items.now in
     let classes = c.args.classes.now in
     let heap = c.args.store.now in
+    let after = c.step.new.store in
     let begun = c.begin.new.activation in
-    let frame = frame_view begun.frame in
-    let does = subst (λ (vs : List Variable). Does (scene_with unit classes heap vs frame begun.pending) c.in-Some.task c.in_ok-outcome.outcome c.step.new.task) c.deref.ensures.value (c.in_ok-outcome.ensures.step frame) in
+    let does = subst (λ (vs : List Variable). Does c.args.refused (scene_with unit classes heap vs (frame_view begun.frame) begun.pending) c.in-Some.task c.in_ok-outcome.outcome (scene_with unit classes after vs (frame_view c.step.new.frame) c.step.new.pending) c.step.new.task)
+    c.deref.ensures.value c.in_ok-outcome.ensures.step in
     let none = subst (λ (b : Bool). LeavesIf (null_statics unit) begun.variables.items (variable_step c.in_ok-outcome.outcome) b c.set_variables.new.variables.items) c.if-not-done.true c.in_ok-done.ensures in
-    fails unit classes heap c.args.activation.now begun c.in-Some.task c.step.new.task c.set_variables.new.variables begun c.in_ok-begin.ensures.tasks c.in_ok-begin.ensures.kept c.in-Some.is c.in_ok-outcome.outcome does none
+    fails unit classes c.args.refused heap after c.args.activation.now begun c.in-Some.task c.step.new.task c.set_variables.new.variables c.step.new.frame c.step.new.pending begun c.in_ok-begin.ensures.tasks c.in_ok-begin.ensures.kept c.in-Some.is
+    c.in_ok-outcome.outcome does none
 
 pub returns-clause-step : goal.returns-clause-step
 returns-clause-step c =
     let unit = unit_tree c.args.items.now in
     let classes = c.args.classes.now in
     let heap = c.args.store.now in
+    let after = c.step.new.store in
     let begun = c.begin.new.activation in
-    let frame = frame_view begun.frame in
-    let does = subst (λ (vs : List Variable). Does (scene_with unit classes heap vs frame begun.pending) c.in-Some.task c.in_ok-outcome.outcome c.step.new.task) c.deref.ensures.value (c.in_ok-outcome.ensures.step frame) in
+    let does = subst (λ (vs : List Variable). Does c.args.refused (scene_with unit classes heap vs (frame_view begun.frame) begun.pending) c.in-Some.task c.in_ok-outcome.outcome (scene_with unit classes after vs (frame_view c.step.new.frame) c.step.new.pending) c.step.new.task)
+    c.deref.ensures.value c.in_ok-outcome.ensures.step in
     let leaves = subst (λ (b : Bool). LeavesIf (null_statics unit) begun.variables.items (variable_step c.in_ok-outcome.outcome) b c.set_variables.new.variables.items) c.if-not-done.false c.in_ok-done.ensures in
-    advances unit classes heap c.args.activation.now begun c.in-Some.task c.step.new.task c.set_variables.new.variables c.set_tasks.new.activation c.in_ok-begin.ensures.tasks c.in_ok-begin.ensures.kept c.in-Some.is
+    advances unit classes c.args.refused heap after c.args.activation.now begun c.in-Some.task c.step.new.task c.set_variables.new.variables c.step.new.frame c.step.new.pending c.set_tasks.new.activation c.in_ok-begin.ensures.tasks c.in_ok-begin.ensures.kept c.in-Some.is
     c.in_ok-outcome.outcome does leaves c.in_ok-set_tasks.ensures
 
 pub returns-clause-range : goal.returns-clause-range
 returns-clause-range c =
-    range_after c.begin.new.activation c.set_tasks.new.activation c.step.new.task c.set_variables.new.variables c.in_ok-begin.ensures.range c.in_ok-outcome.ensures.task c.in_ok-outcome.outcome c.in_ok-outcome.ensures.range c.in_ok-set_tasks.ensures
+    range_after c.begin.new.activation c.set_tasks.new.activation c.step.new.task c.set_variables.new.variables c.step.new.frame c.step.new.pending c.in_ok-begin.ensures.range c.in_ok-outcome.ensures.task c.in_ok-outcome.outcome
+    c.in_ok-outcome.ensures.range c.in_ok-set_tasks.ensures

@@ -1,8 +1,9 @@
 use Rattle.std.proofs.Common.{refl, sym, subst}
 use Rattle.tasks.specs.declared.activation.Activation.{Activation}
-use Rattle.tasks.specs.Activations.{BegunInRange, OuterInRange}
+use Rattle.tasks.specs.declared.outcome.Outcome.TheVariants as outcome
+use Rattle.tasks.specs.Activations.{Advances, BegunInRange, OuterInRange}
 use Rattle.tasks.specs.Tasks.{EndInRange}
-use Rattle.tasks.proofs.ActivationLemmas.{outer_parts, if_over, turn_over}
+use Rattle.tasks.proofs.ActivationLemmas.{outer_parts, if_over, nothing_to_refuse, turn_over}
 use Rattle.tasks.proofs.activation.leave_block.Goals as goal
 
 pub term_of-requires : goal.term_of-requires
@@ -11,11 +12,16 @@ term_of-requires c =
     let turn = subst EndInRange c.in-Turn.is parts.1 in
     turn.0
 
+pub returns-then-refused-clause-step : goal.returns-then-refused-clause-step
+returns-then-refused-clause-step c = λ unit classes heap.
+    let old = c.args.activation.now in
+    subst (λ b. Advances unit classes b heap old outcome.Impossible heap old) (sym c.if-refused.true) (nothing_to_refuse unit classes heap old old c.requires.task c.requires.rest)
+
 pub returns-in-If-clause-step : goal.returns-in-If-clause-step
 returns-in-If-clause-step c = λ unit classes heap.
     let old = c.args.activation.now in
     let new : Activation = record old { rest = c.in-Some.outer.rest; outer = c.pop.new.self } in
-    if_over unit classes heap old new c.requires.task c.requires.rest c.pop.new.self.items c.in-Some.outer c.in-Some.ensures.items refl refl (record { variables = refl; frame = refl; pending = refl }) c.in-If.is c.requires.task
+    subst (λ b. Advances unit classes b heap old outcome.Ends heap new) (sym c.if-refused.false) (if_over unit classes heap old new c.requires.task c.requires.rest c.pop.new.self.items c.in-Some.outer c.in-Some.ensures.items refl refl (record { variables = refl; frame = refl; pending = refl }) c.in-If.is c.requires.task)
 
 pub returns-in-If-clause-range : goal.returns-in-If-clause-range
 returns-in-If-clause-range c =
@@ -26,8 +32,8 @@ pub returns-in_ok-term-in-Turn-clause-step : goal.returns-in_ok-term-in-Turn-cla
 returns-in_ok-term-in-Turn-clause-step c = λ unit classes heap.
     let old = c.args.activation.now in
     let new : Activation = record old { task = c.put_task.new.place; rest = c.in-Some.outer.rest; outer = c.pop.new.self } in
-    turn_over unit classes heap old new c.requires.task c.requires.rest c.pop.new.self.items c.in-Some.outer c.in-Some.ensures.items refl refl (record { variables = refl; frame = refl; pending = refl })
-    c.in-Turn.line c.in-Turn.test c.in_ok-term-in-Turn.term c.in-Turn.body c.in-Turn.is c.put_task.ensures c.in_ok-term-in-Turn.ensures.view
+    subst (λ b. Advances unit classes b heap old outcome.Stays heap new) (sym c.if-refused.false) (turn_over unit classes heap old new c.requires.task c.requires.rest c.pop.new.self.items c.in-Some.outer c.in-Some.ensures.items refl refl (record { variables = refl; frame = refl; pending = refl })
+    c.in-Turn.line c.in-Turn.test c.in_ok-term-in-Turn.term c.in-Turn.body c.in-Turn.is c.put_task.ensures c.in_ok-term-in-Turn.ensures.view)
 
 pub returns-in_ok-term-in-Turn-clause-range : goal.returns-in_ok-term-in-Turn-clause-range
 returns-in_ok-term-in-Turn-clause-range c =

@@ -2,7 +2,7 @@ use Rattle.std.proofs.Common.{None, ap, ◌∙◌, rules}
 use Rattle.syntax.specs.Views.{unit_tree}
 use Rattle.source.specs.Start.{null_statics}
 use Rattle.source.specs.Variable.{Variable, FieldHandle, assign}
-use Rattle.tasks.specs.Outcomes.{given_view}
+use Rattle.tasks.specs.Answers.{given_view}
 use Rattle.terms.specs.Views.{content_view, variables_view}
 use Rattle.tasks.proofs.PutLemmas.{content_set, assigned_leaves, static_leaves}
 use Rattle.terms.proofs.VariableLemmas.{variable_at, variable_found, variable_missing}
@@ -19,7 +19,7 @@ returns-in-Some c = λ s t h.
     (content_set x old c.in-Some.place v c.fill.new.content (search rules) there ∙ ap (λ (w : Variable). assign x w (variables_view old)) c.fill.ensures)
     s t h)
 
-pub returns-else-not-is_static : goal.returns-else-not-is_static
-returns-else-not-is_static c = λ s t h.
+pub returns-else-gives_object : goal.returns-else-gives_object
+returns-else-gives_object c = λ s t h.
     let x = c.in-Assigned.name.now in
-    rw c.in-Assigned.is (static_leaves (unit_tree c.args.items.now) c.args.variables.now.items x c.args.given (variable_missing x (FieldHandle None) c.args.variables.now.items (search rules)) (search rules) s t h)
+    rw c.in-Assigned.is (static_leaves (unit_tree c.args.items.now) c.args.variables.now.items x c.args.given (search rules) (variable_missing x (FieldHandle None) c.args.variables.now.items (search rules)) (search rules) s t h)

@@ -1,0 +1,90 @@
+-- The roots of a state are the objects made at load and what its threads refer to.
+use Rattle.std.proofs.Common.{◌≡◌, ℕ, List, [], ◌∷◌, ◌++◌, map, Option, Some, None, refl, sym, ap, ◌∙◌, append-nil}
+use Rattle.std.specs.List.{flat_map}
+use Rattle.std.specs.Option.{option_to_list}
+use Rattle.std.proofs.lemmas.List.Concat.{flat_map-cons}
+use Rattle.base.specs.Bytes.{Identifier}
+use Rattle.syntax.specs.Tree.{SourceUnit}
+use Rattle.classes.specs.Class.{Classes}
+use Rattle.source.specs.Object.{Reference}
+use Rattle.source.specs.Reachable.{from_one, loaded_count, roots, thread_roots}
+use Rattle.source.specs.State.{State, views}
+use Rattle.source.specs.Thread.{Frame, Monitor, Shared, Thread, viewed_by}
+use Rattle.source.specs.Variable.{Variable, Variables, viewed}
+use Rattle.source.specs.World.{World}
+use Rattle.tasks.specs.declared.activation.Activation.{Activation}
+use Rattle.tasks.specs.Stores.{frame_view}
+use Rattle.terms.specs.declared.variable.Content.{Content}
+use Rattle.terms.specs.declared.variable.Content.TheVariants as content
+use Rattle.terms.specs.declared.variable.Variable.{Variable as VariableInMemory}
+use Rattle.terms.specs.Views.{content_view, variable_view, variables_view}
+use Rattle.replay.specs.declared.state.State.{State as StateInMemory}
+use Rattle.replay.specs.declared.thread.Thread.{Thread as ThreadInMemory}
+use Rattle.replay.specs.Rows.{thread_names, activation_names}
+use Rattle.replay.specs.States.{Stands, ThreadsStand}
+use Rattle.replay.specs.Threads.{WorkStands}
+
+-- ---- no variable is a view
+
+content_viewless : (c : Content) → viewed (content_view c) ≡ []
+content_viewless (content.Number v) = refl
+content_viewless (content.Reference r) = refl
+content_viewless (content.Field f) = refl
+content_viewless (content.Buffer T) = refl
+content_viewless (content.Array T numbers) = refl
+
+abbrev views_in : Variables → List ℕ
+views_in vs = flat_map (λ (v : Identifier × Variable). viewed v.1) vs
+
+variables_viewless : (vs : List VariableInMemory) → views_in (variables_view vs) ≡ []
+variables_viewless [] = refl
+variables_viewless (v ∷ vs) =
+    flat_map-cons (λ (x : Identifier × Variable). viewed x.1) (variable_view v) (variables_view vs)
+    ∙ ap (λ (l : List ℕ). l ++ views_in (variables_view vs)) (content_viewless v.content)
+    ∙ variables_viewless vs
+
+viewless : (o : Option Activation) (s : Thread) → WorkStands o s → viewed_by s ≡ []
+viewless None s h = ap views_in h.0
+viewless (Some a) s h = ap views_in h.0 ∙ variables_viewless a.variables.items
+
+-- ---- what a thread refers to
+
+names_are : (o : Option Activation) (s : Thread) → WorkStands o s → thread_roots s ≡ activation_names o
+names_are None s h =
+    ap (λ (fs : List Frame). flat_map (λ (f : Frame). f.references) fs ++ option_to_list s.pending) h.1
+    ∙ ap (λ (r : Reference). option_to_list r) h.2
+names_are (Some a) s h =
+    ap (λ (fs : List Frame). flat_map (λ (f : Frame). f.references) fs ++ option_to_list s.pending) h.1
+    ∙ ap (λ (r : Reference). flat_map (λ (f : Frame). f.references) (frame_view a.frame ∷ []) ++ option_to_list r) h.2
+    ∙ ap (λ (l : List ℕ). l ++ option_to_list a.pending) (append-nil (frame_view a.frame).references)
+
+module _ (unit : SourceUnit) (classes : Classes) where
+  views_none : (ts : List ThreadInMemory) (ss : List Thread) → ThreadsStand unit classes ts ss → flat_map viewed_by ss ≡ []
+  views_none [] [] h = refl
+  views_none [] (s ∷ ss) h = absurd h
+  views_none (t ∷ ts) [] h = absurd h
+  views_none (t ∷ ts) (s ∷ ss) h =
+      flat_map-cons viewed_by s ss
+      ∙ ap (λ (l : List ℕ). l ++ flat_map viewed_by ss) (viewless t.activation s (h.0).work)
+      ∙ views_none ts ss h.1
+
+  all_names : (ts : List ThreadInMemory) (ss : List Thread) → ThreadsStand unit classes ts ss → flat_map thread_roots ss ≡ flat_map thread_names ts
+  all_names [] [] h = refl
+  all_names [] (s ∷ ss) h = absurd h
+  all_names (t ∷ ts) [] h = absurd h
+  all_names (t ∷ ts) (s ∷ ss) h =
+      flat_map-cons thread_roots s ss
+      ∙ ap (λ (l : List ℕ). l ++ flat_map thread_roots ss) (names_are t.activation s (h.0).work)
+      ∙ ap (λ (l : List ℕ). thread_names t ++ l) (all_names ts ss h.1)
+      ∙ sym (flat_map-cons thread_names t ts)
+
+-- the roots of a state that one in memory stands for
+pub roots_are : (unit : SourceUnit) (w : World) (m : StateInMemory) (s : State) → Stands unit w m s → roots w s ≡ from_one (loaded_count w) ++ flat_map thread_names m.threads.items
+roots_are unit w m s h =
+    let names = flat_map thread_roots s.threads in
+    ap (λ (x : Shared). from_one (loaded_count w) ++ x.globals ++ names ++ map (λ (o : Monitor). o.object) x.monitors ++ views s) h.shared
+    ∙ ap (λ (l : List ℕ). l ++ names ++ [] ++ views s) (append-nil (from_one (loaded_count w)))
+    ∙ ap (λ (l : List ℕ). l ++ views s) (append-nil (from_one (loaded_count w) ++ names))
+    ∙ ap (λ (l : List ℕ). from_one (loaded_count w) ++ names ++ l) (views_none unit w.classes m.threads.items s.threads h.threads)
+    ∙ append-nil (from_one (loaded_count w) ++ names)
+    ∙ ap (λ (l : List ℕ). from_one (loaded_count w) ++ l) (all_names unit w.classes m.threads.items s.threads h.threads)

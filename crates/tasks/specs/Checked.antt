@@ -1,0 +1,63 @@
+-- What is checked of a call before it does anything.
+use Rattle.std.specs.Prelude.{ℕ, Bool, true, false, not, ◌&&◌, ◌||◌, ◌==◌, List, [], ◌∷◌, zip, Option, Some}
+use Rattle.std.specs.List.{list_any}
+use Rattle.classes.specs.BuiltIns.{class_class, has_own_making, string_class, number_array}
+use Rattle.classes.specs.Class.{Classes, class_kind, is_plain, is_object_array, assignable}
+use Rattle.classes.specs.Fields.{FieldId}
+use Rattle.jni.specs.JniFunction.{is_allowed_pending, JniFunction, AllocObject, GetField, SetField, GetStaticField, SetStaticField, GetObjectField, SetObjectField, GetStaticObjectField, SetStaticObjectField, GetArrayLength}
+use Rattle.jni.specs.Prototype.{ParameterKind, ClassObject, ObjectArray, StringObject, NumberArray, ResultKind, prototype}
+use Rattle.source.specs.Arguments.{Actual, reference_given, object_given, field_given}
+use Rattle.source.specs.Checks.{first_trap, fits_type, holds_number, holds_reference, is_misfit, is_missing}
+use Rattle.source.specs.Heap.{Heap, class_of, is_instance}
+use Rattle.source.specs.Thread.{Frame}
+use Rattle.source.specs.Value.{Trap, NullReference, ExceptionPending, WrongObject, NoCapacity}
+use Rattle.source.specs.Checks as checks
+
+-- an object of this class is of another kind than the parameter
+abbrev pub misfits : Classes → ParameterKind → (class : ℕ) → Bool
+misfits classes ClassObject class = not (class == class_class)
+misfits classes (NumberArray T) class = not (class == number_array T)
+misfits classes ObjectArray class = not (is_object_array (class_kind classes class))
+misfits classes StringObject class = not (class == string_class)
+misfits classes p class = false
+
+-- a call of this kind of result puts a local reference into a frame that can hold no more
+abbrev pub lacks_room : ResultKind → Frame → Bool
+lacks_room kind frame = checks.lacks_room kind (Some frame)
+
+-- argument 0 is a class that has the static of argument 1
+abbrev pub has_static : Classes → List Actual → Bool
+has_static classes args = (field_given args 1).is_static && assignable classes (object_given args 0) (field_given args 1).class
+
+module _ (classes : Classes) (heap : Heap) (args : List Actual) where
+  -- the field or static of argument 1
+  abbrev pub field : FieldId
+  field = field_given args 1
+
+  -- argument 0 is an object that has the field
+  abbrev pub has_field : Bool
+  has_field = not field.is_static && is_instance classes heap (object_given args 0) field.class
+
+  -- the arguments of a function, each of its kind, go together
+  abbrev pub fit_together : JniFunction → Bool
+  fit_together AllocObject = not (has_own_making classes (object_given args 0))
+  fit_together (GetField T) = has_field && holds_number T field.field.type
+  fit_together (SetField T) = has_field && holds_number T field.field.type
+  fit_together GetObjectField = has_field && holds_reference field.field.type
+  fit_together SetObjectField = has_field && fits_type classes heap (reference_given args 2) field.field.type
+  fit_together (GetStaticField T) = has_static classes args && holds_number T field.field.type
+  fit_together (SetStaticField T) = has_static classes args && holds_number T field.field.type
+  fit_together GetStaticObjectField = has_static classes args && holds_reference field.field.type
+  fit_together SetStaticObjectField = has_static classes args && fits_type classes heap (reference_given args 2) field.field.type
+  fit_together GetArrayLength = not (is_plain (class_kind classes (class_of heap (object_given args 0))))
+  fit_together f = true
+
+-- The trap of a call before it does anything; none of the statics is deleted yet.
+abbrev pub trap_found : Classes → Heap → Frame → (is_pending : Bool) → JniFunction → List Actual → Option Trap
+trap_found classes heap frame is_pending f args =
+    first_trap (
+    (is_pending && not (is_allowed_pending f), ExceptionPending)
+    ∷ (list_any is_missing (zip (prototype f).parameters args), NullReference)
+    ∷ (list_any (is_misfit classes heap) (zip (prototype f).parameters args) || not (fit_together classes heap args f), WrongObject)
+    ∷ (lacks_room (prototype f).result frame, NoCapacity)
+    ∷ [])

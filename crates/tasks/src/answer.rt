@@ -1,0 +1,211 @@
+//! What a function of the JNI does, as data.
+
+ghost use Rattle.std.specs.Prelude.{◌≡◌, IfOk, IsTrue, map};
+ghost use Rattle.std.specs.Option.{option_map};
+ghost use Rattle.class_table.specs.FieldViews.{field_id_view};
+ghost use Rattle.jni.specs.BuiltFunctions.{is_built_function};
+ghost use Rattle.jni.specs.Table.{function_value};
+ghost use Rattle.source.specs.Heap.{field_place, fits_class, number_in, reference_in, static_place};
+ghost use Rattle.source.specs.Object.{Refers};
+ghost use Rattle.source.specs.Arguments.{field_given, object_given};
+ghost use Rattle.tasks.specs.Actuals.{actual_view};
+ghost use Rattle.tasks.specs.Answers.{answer_view};
+ghost use Rattle.tasks.specs.WorkedOut.{found_class, found_field, worked_out};
+ghost use Rattle.world.specs.Views.{object_value_view};
+
+use crate::actual::{Actual, field_given, number_given, object_given, reference_given, text_given};
+use crate::field;
+use crate::given::Given;
+use crate::store::Store;
+use class_table::built_ins::{NO_CLASS_DEF_FOUND_ERROR, NO_SUCH_FIELD_ERROR};
+use class_table::fields::FieldId;
+use class_table::table::ClassTable;
+use jni::JniFunction;
+use std::alloc::AllocError;
+use terms::convert;
+use world::ObjectValue;
+
+/// What a call does.
+#[derive(Clone, Copy)]
+pub(crate) enum Answer<'a> {
+    /// Nothing changes, and this is given.
+    Gives(Given<'a>),
+    /// A value of the object of this name changes, by its place, counted from 0.
+    Writes(usize, usize, ObjectValue),
+    /// An object of the class of this number is made, with zero and null fields, and given.
+    Makes(usize),
+    /// An exception of the class of this number is made and is pending.
+    Raises(usize),
+}
+
+/// What a function does, all checks being passed. A reference whose name is no `u32` is refused, as memory is.
+pub(crate) fn work_out<'a>(
+    classes: &'a ClassTable,
+    store: &Store,
+    function: JniFunction,
+    actuals: &[Actual<'a>],
+) -> Result<Answer<'a>, AllocError>
+    requires { IsTrue (is_built_function (function_value function)) }
+    ensures { IfOk result (λ a. answer_view a ≡ worked_out classes.now store.now (map actual_view actuals.now) (function_value function)) }
+{
+    let first = object_given(actuals, 0);
+    let second = object_given(actuals, 1);
+    let third = reference_given(actuals, 2);
+    match function {
+        JniFunction::FindClass => Ok(found_class(classes.find(text_given(actuals, 0)))),
+        JniFunction::GetSuperclass => {
+            Ok(Answer::Gives(Given::Reference(classes.superclass(first))))
+        }
+        JniFunction::GetObjectClass => {
+            Ok(Answer::Gives(Given::Reference(Some(store.class_of(first)))))
+        }
+        JniFunction::IsInstanceOf => {
+            let reference = reference_given(actuals, 0);
+            Ok(Answer::Gives(Given::Flag(fits_class(classes, store, reference, second))))
+        }
+        JniFunction::IsAssignableFrom => {
+            Ok(Answer::Gives(Given::Flag(classes.assignable(first, second))))
+        }
+        JniFunction::AllocObject => Ok(Answer::Makes(first)),
+        JniFunction::GetFieldID => {
+            let (name, text) = (text_given(actuals, 1), text_given(actuals, 2));
+            Ok(found_field(classes.field(first, name, text, false)))
+        }
+        JniFunction::GetStaticFieldID => {
+            let (name, text) = (text_given(actuals, 1), text_given(actuals, 2));
+            Ok(found_field(classes.field(first, name, text, true)))
+        }
+        JniFunction::GetField(_) => {
+            let place = place_of_field(classes, store, actuals);
+            Ok(Answer::Gives(Given::Number(number_in(store.value_at(first, place)))))
+        }
+        JniFunction::SetField(element) => {
+            let place = place_of_field(classes, store, actuals);
+            let number = convert(element, number_given(actuals, 2));
+            Ok(Answer::Writes(first, place, ObjectValue::Number(number)))
+        }
+        JniFunction::GetObjectField => {
+            let place = place_of_field(classes, store, actuals);
+            Ok(Answer::Gives(Given::Reference(reference_in(store.value_at(first, place)))))
+        }
+        JniFunction::SetObjectField => {
+            let place = place_of_field(classes, store, actuals);
+            Ok(Answer::Writes(first, place, held(third)?))
+        }
+        JniFunction::GetStaticField(_) => {
+            let (class, place) = (declarer(actuals), place_of_static(classes, actuals));
+            Ok(Answer::Gives(Given::Number(number_in(store.value_at(class, place)))))
+        }
+        JniFunction::SetStaticField(element) => {
+            let (class, place) = (declarer(actuals), place_of_static(classes, actuals));
+            let number = convert(element, number_given(actuals, 2));
+            Ok(Answer::Writes(class, place, ObjectValue::Number(number)))
+        }
+        JniFunction::GetStaticObjectField => {
+            let (class, place) = (declarer(actuals), place_of_static(classes, actuals));
+            Ok(Answer::Gives(Given::Reference(reference_in(store.value_at(class, place)))))
+        }
+        JniFunction::SetStaticObjectField => {
+            let (class, place) = (declarer(actuals), place_of_static(classes, actuals));
+            Ok(Answer::Writes(class, place, held(third)?))
+        }
+        JniFunction::GetArrayLength => {
+            Ok(Answer::Gives(Given::Number(store.values_of(first).len() as i32)))
+        }
+        _ => unreachable!(),
+    }
+}
+
+/// A class that was found, or else an exception.
+fn found_class<'a>(class: Option<usize>) -> Answer<'a>
+    ensures { answer_view result ≡ found_class class }
+{
+    match class {
+        Some(class) => Answer::Gives(Given::Reference(Some(class))),
+        None => Answer::Raises(NO_CLASS_DEF_FOUND_ERROR),
+    }
+}
+
+/// A field that was found, or else an exception.
+fn found_field(field: Option<FieldId<'_>>) -> Answer<'_>
+    ensures { answer_view result ≡ found_field (option_map field_id_view field.entry) }
+{
+    match field {
+        Some(field) => Answer::Gives(Given::Field(Some(field))),
+        None => Answer::Raises(NO_SUCH_FIELD_ERROR),
+    }
+}
+
+/// Whether a reference fits a class, as NULL does always.
+pub(crate) fn fits_class(
+    classes: &ClassTable,
+    store: &Store,
+    reference: Option<usize>,
+    class: usize,
+) -> bool
+    ensures { result ≡ fits_class classes.now store.now reference class }
+{
+    match reference {
+        Some(name) => classes.assignable(store.class_of(name), class),
+        None => true,
+    }
+}
+
+// ---- fields
+
+/// The place of the field of argument 1 among the values of argument 0.
+fn place_of_field(classes: &ClassTable, store: &Store, actuals: &[Actual<'_>]) -> usize
+    ensures { result ≡ field_place classes.now store.now (object_given (map actual_view actuals.now) 0) (field_given (map actual_view actuals.now) 1) }
+{
+    let class = store.class_of(object_given(actuals, 0));
+    field::field_place(classes, class, field_given(actuals, 1))
+}
+
+/// The class that declares the static of argument 1.
+fn declarer(actuals: &[Actual<'_>]) -> usize
+    ensures { result ≡ (field_given (map actual_view actuals.now) 1).class }
+{
+    field::declaring(field_given(actuals, 1))
+}
+
+/// The place of the static of argument 1 in that class.
+fn place_of_static(classes: &ClassTable, actuals: &[Actual<'_>]) -> usize
+    ensures { result ≡ static_place classes.now (field_given (map actual_view actuals.now) 1) }
+{
+    field::static_place(classes, field_given(actuals, 1))
+}
+
+/// The number of a value.
+fn number_in(value: ObjectValue) -> i32
+    ensures { result ≡ number_in (object_value_view value) }
+{
+    match value {
+        ObjectValue::Number(number) => number,
+        ObjectValue::Reference(_) => 0,
+    }
+}
+
+/// The reference of a value.
+fn reference_in(value: ObjectValue) -> Option<usize>
+    ensures { result ≡ reference_in (object_value_view value) }
+{
+    match value {
+        ObjectValue::Reference(Some(name)) => Some(name as usize),
+        _ => None,
+    }
+}
+
+/// How an object holds a reference.
+fn held(reference: Option<usize>) -> Result<ObjectValue, AllocError>
+    ensures { IfOk result (λ v. object_value_view v ≡ Refers reference) }
+{
+    match reference {
+        None => Ok(ObjectValue::Reference(None)),
+        Some(name) => {
+            if name > u32::MAX as usize {
+                return Err(AllocError);
+            }
+            Ok(ObjectValue::Reference(Some(name as u32)))
+        }
+    }
+}

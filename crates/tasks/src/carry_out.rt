@@ -1,0 +1,88 @@
+//! What the answer of a function does to the objects and to the pending exception.
+
+ghost use Rattle.std.specs.Prelude.{◌≡◌, ◌++◌, ◌∷◌, [], IfOk, Some};
+ghost use Rattle.jni.specs.Table.{result_value};
+ghost use Rattle.source.specs.CallEffects.{out_of_memory};
+ghost use Rattle.source.specs.CallStep.{failure};
+ghost use Rattle.source.specs.Heap.{next_name};
+ghost use Rattle.source.specs.World.{fresh_object};
+ghost use Rattle.tasks.specs.Answers.{answer_view, given_after, given_view, heap_after, makes_object, pending_after};
+
+use crate::answer::Answer;
+use crate::given::{Given, failed};
+use crate::loaded::fresh_values;
+use crate::store::Store;
+use class_table::table::ClassTable;
+use jni::ResultKind;
+use std::alloc::{AllocError, Global};
+
+/// Does what a function of this kind of result answers, and tells what it gives.
+pub(crate) fn carry_out<'a>(
+    alloc: Global,
+    classes: &ClassTable,
+    store: &mut Store,
+    pending: &mut Option<usize>,
+    kind: ResultKind,
+    answer: Answer<'a>,
+) -> Result<Given<'a>, AllocError>
+    ensures store { IfOk result (λ _. store.new ≡ heap_after classes.now store.old (answer_view answer.entry)) }
+    ensures pending { IfOk result (λ _. pending.new ≡ pending_after store.old pending.old (answer_view answer.entry)) }
+    ensures given { IfOk result (λ g. given_view g ≡ given_after store.old (result_value kind) (answer_view answer.entry)) }
+{
+    match answer {
+        Answer::Gives(given) => Ok(given),
+        Answer::Writes(name, place, value) => {
+            store.set(name, place, value)?;
+            Ok(Given::Nothing)
+        }
+        Answer::Makes(class) => {
+            let name = make(alloc, classes, store, class)?;
+            Ok(Given::Reference(Some(name)))
+        }
+        Answer::Raises(class) => {
+            let name = make(alloc, classes, store, class)?;
+            *pending = Some(name);
+            Ok(failed(kind))
+        }
+    }
+}
+
+/// Makes an object of a class, with zero and null fields, and tells its name.
+fn make(
+    alloc: Global,
+    classes: &ClassTable,
+    store: &mut Store,
+    class: usize,
+) -> Result<usize, AllocError>
+    ensures store { IfOk result (λ _. store.new ≡ store.old ++ fresh_object classes.now class ∷ []) }
+    ensures name { IfOk result (λ name. name ≡ next_name store.old) }
+{
+    let name = store.len() + 1;
+    let values = fresh_values(alloc, classes, class)?;
+    store.add(class, values)?;
+    Ok(name)
+}
+
+/// Whether a call makes an object, which may be refused.
+pub(crate) fn makes_object(answer: Answer<'_>) -> bool
+    ensures { result ≡ makes_object (answer_view answer.entry) }
+{
+    match answer {
+        Answer::Gives(_) | Answer::Writes(_, _, _) => false,
+        Answer::Makes(_) | Answer::Raises(_) => true,
+    }
+}
+
+/// The object of a call is refused: the OutOfMemoryError object, which is made right after the class objects, is pending, and
+/// the call fails.
+pub(crate) fn refuse<'a>(
+    classes: &ClassTable,
+    pending: &mut Option<usize>,
+    kind: ResultKind,
+) -> Given<'a>
+    ensures pending { pending.new ≡ Some (out_of_memory classes.now) }
+    ensures given { given_view result ≡ failure (result_value kind) }
+{
+    *pending = Some(classes.len() + 1);
+    failed(kind)
+}
