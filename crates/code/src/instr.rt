@@ -102,10 +102,21 @@ pub enum NullableVariable {
     Buffer(u32),
 }
 
+/// How a buffer of copied elements is released (JNI Specification, chapter 4, "Release<PrimitiveType>ArrayElements Routines").
+#[derive(Clone, Copy, Debug, PartialEq, Eq)]
+pub enum ReleaseMode {
+    /// `0`
+    CopyBackAndFree,
+    /// `JNI_COMMIT`
+    CopyBack,
+    /// `JNI_ABORT`
+    FreeUncopied,
+}
+
 /// Where a call finds an argument, by its kind. Slots of each kind, and statics, are counted from 0.
 #[derive(Clone, Copy, Debug, PartialEq, Eq)]
 pub enum Operand {
-    /// `NULL` for a reference or a field ID.
+    /// `NULL` for a reference, a field ID or `isCopy`.
     Null,
     /// The local reference in this slot.
     Local(u32),
@@ -117,6 +128,14 @@ pub enum Operand {
     FieldId(u32),
     /// The first text of the call that no earlier operand takes.
     Text,
+    /// The local array in these number slots.
+    Array(LocalArray),
+    /// The buffer in this slot.
+    Buffer(u32),
+    /// This release mode.
+    Mode(ReleaseMode),
+    /// The address of the flag in this number slot, for `isCopy`.
+    IsCopy(u32),
 }
 
 /// Where a call's result goes.

@@ -89,10 +89,13 @@ fn operand_within(operand: Operand, slots: SlotCounts) -> bool
     ensures { result ≡ operand_within slots operand }
 {
     match operand {
-        Operand::Null | Operand::Number | Operand::Text => true,
+        Operand::Null | Operand::Number | Operand::Text | Operand::Mode(_) => true,
         Operand::Local(slot) => slot < slots.references,
         Operand::Static(index) => index < slots.statics,
         Operand::FieldId(slot) => slot < slots.field_ids,
+        Operand::Array(array) => array_within(array, slots.numbers),
+        Operand::Buffer(slot) => slot < slots.buffers,
+        Operand::IsCopy(slot) => slot < slots.numbers,
     }
 }
 

@@ -9,9 +9,11 @@ use Rattle.syntax.specs.Tree.{Constant, PrefixOp, LogicalNot, Complement, ToWord
 use Rattle.types.specs.Sorts.{Sort, Ref, Global, FieldId, Buffer, Array, is_jint}
 use Rattle.types.specs.SortRules.{variable_sort}
 use Rattle.jni.specs.JniFunction.{JniFunction}
-use Rattle.jni.specs.Prototype.{ParameterKind, IntNumber, prototype, function_named}
+use Rattle.jni.specs.Prototype.{ParameterKind, IntNumber, Mode, prototype, function_named}
 use Rattle.code.specs.declared.instr.Operand.{Operand}
 use Rattle.code.specs.declared.instr.Operand.TheVariants as operand
+use Rattle.code.specs.declared.instr.ReleaseMode.{ReleaseMode as ModeOfCode}
+use Rattle.code.specs.declared.instr.ReleaseMode.TheVariants as mode
 use Rattle.code.specs.declared.instr.ElementType.{ElementType as ElementOfCode}
 use Rattle.code.specs.declared.instr.ElementType.TheVariants as element
 use Rattle.code.specs.declared.instr.Operator.TheVariants as operator
@@ -24,6 +26,7 @@ use Rattle.code.specs.declared.instr.Target.TheVariants as target
 use Rattle.code.specs.declared.instr.Instr.{Instr}
 use Rattle.code.specs.declared.instr.Instr.TheVariants.{Push, Load, Store, Convert, Operate, OperateOrTrap, JumpIfFalseOrPop, JumpIfTrueOrPop, JumpIfFalse, Jump, JumpBack, LoadElement, StoreElement, ClearArray, TestNull, StoreNull, PutJint, Call, Return, ReturnJint, ReturnReference}
 use Rattle.code.specs.declared.instr.Instr.TheVariants as instr
+use Rattle.source.specs.Arguments.{ReleaseMode, CopyBackAndFree, CopyBack, FreeUncopied, mode_of}
 use Rattle.source.specs.Term as term
 use Rattle.source.specs.Term.{Term, Done, Read, And, Or, IsNull, Prefix, Binary, term_of}
 use Rattle.source.specs.Value.{Int}
@@ -158,25 +161,40 @@ expr_code known line e = term_code known line (term_of e)
 
 -- ---- calls
 
--- a local reference, a static or a field ID
+-- a variable that isn't a number
 abbrev pub variable_operand : Sort → ℕ → Operand
 variable_operand Ref i = operand.Local i
 variable_operand Global i = operand.Static i
 variable_operand FieldId i = operand.FieldId i
+variable_operand (Array t size) i = operand.Array (record { start = i; len = size })
+variable_operand (Buffer t writable) i = operand.Buffer i
 variable_operand s i = operand.Null
 
--- where the reference or the field ID of a name is
+-- where the variable of a name is
 abbrev pub operand_of : Option Slot → Operand
 operand_of None = operand.Null
 operand_of (Some s) = variable_operand s.sort s.index
 
--- where an argument is found: a number is on the stack, a text is the call's own, and all else is a reference or a field ID
--- today
+-- where its address leads to
+abbrev pub address_operand : Option Slot → Operand
+address_operand None = operand.Null
+address_operand (Some s) = operand.IsCopy s.index
+
+-- a release mode, as an operand has it
+abbrev pub mode_code : ReleaseMode → ModeOfCode
+mode_code CopyBackAndFree = mode.CopyBackAndFree
+mode_code CopyBack = mode.CopyBack
+mode_code FreeUncopied = mode.FreeUncopied
+
+-- where an argument is found: a number is on the stack, a text is the call's own, a mode stands in the operand, and all else
+-- is a variable or NULL
 abbrev pub operand_code : Known → ParameterKind × Argument → Operand
 operand_code known (IntNumber, tree.Value e) = operand.Number
-operand_code known (p, tree.Text bytes) = operand.Text
+operand_code known (Mode, tree.Value e) = operand.Mode (mode_code (mode_of e))
 operand_code known (p, tree.Value (tree.Variable x)) = operand_of (lookup x known)
-operand_code known (p, a) = operand.Null
+operand_code known (p, tree.Value e) = operand.Null
+operand_code known (p, tree.Text bytes) = operand.Text
+operand_code known (p, tree.AddressOf x) = address_operand (lookup x known)
 
 -- an argument that is worked out before the call
 abbrev pub argument_code : Known → (line : ℕ) → ParameterKind × Argument → List Instr

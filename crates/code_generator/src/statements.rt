@@ -6,16 +6,17 @@ ghost use Rattle.syntax.specs.Views.{element_tree, expr_tree, argument_tree, cal
 ghost use Rattle.jni.specs.Prototype.{function_named};
 ghost use Rattle.jni.specs.Table.{parameter_value};
 ghost use Rattle.types.specs.SortRules.{variable_sort};
+ghost use Rattle.source.specs.Arguments.{mode_of};
 ghost use Rattle.source.specs.Term.{term_of};
 ghost use Rattle.code_generator.specs.Layout.{closed, layout_after, block_layout, with_name, new_slot};
-ghost use Rattle.code_generator.specs.Coding.{operand_code, argument_code, arguments_code, arguments_texts, variable_operand, result_target, named_call_code, right_code, assign_code, write_code, of_slot, return_code, returned_code, test_code, first_code, loop_code, expr_code, stmt_code, block_code};
+ghost use Rattle.code_generator.specs.Coding.{mode_code, operand_code, argument_code, arguments_code, arguments_texts, variable_operand, result_target, named_call_code, right_code, assign_code, write_code, of_slot, return_code, returned_code, test_code, first_code, loop_code, expr_code, stmt_code, block_code};
 ghost use Rattle.code_generator.specs.Names.{sort_view, slot_view};
 
 use crate::emitting::{counted, emit, replace};
 use crate::names::{Names, Slot, Sort};
 use crate::terms::{element_type, emit_expr, nullable};
 use code::instr;
-use code::instr::{BoxedCall, Instr, LocalArray, Operand, ReferenceOperand, Target};
+use code::instr::{BoxedCall, Instr, LocalArray, Operand, ReferenceOperand, ReleaseMode, Target};
 use jni::{ParameterKind, function_named};
 use std::alloc::{AllocError, Global};
 use syntax::{
@@ -431,16 +432,32 @@ fn operand_of(names: &Names<'_>, parameter: ParameterKind, argument: &Argument) 
 {
     match (parameter, argument) {
         (ParameterKind::IntNumber, Argument::Value(_)) => Operand::Number,
-        (_, Argument::Text(_)) => Operand::Text,
+        (ParameterKind::Mode, Argument::Value(mode)) => Operand::Mode(release_mode(mode)),
         (_, Argument::Value(Expr::Variable(name))) => match names.slot_of(name) {
             Some(Slot { sort, index }) => variable_operand(sort, index),
             None => Operand::Null,
         },
-        _ => Operand::Null,
+        (_, Argument::Value(_)) => Operand::Null,
+        (_, Argument::Text(_)) => Operand::Text,
+        (_, Argument::AddressOf(name)) => match names.slot_of(name) {
+            Some(Slot { sort: _, index }) => Operand::IsCopy(index),
+            None => Operand::Null,
+        },
     }
 }
 
-/// A local reference, a static or a field ID.
+/// The mode that stands for `JNI_COMMIT`, `JNI_ABORT` or 0.
+fn release_mode(mode: &Expr) -> ReleaseMode
+    ensures { result ≡ mode_code (mode_of (expr_tree mode.now)) }
+{
+    match mode {
+        Expr::Named(Constant::Commit) => ReleaseMode::CopyBack,
+        Expr::Named(Constant::Abort) => ReleaseMode::FreeUncopied,
+        _ => ReleaseMode::CopyBackAndFree,
+    }
+}
+
+/// A variable that isn't a number.
 fn variable_operand(sort: Sort, index: u32) -> Operand
     ensures { result ≡ variable_operand (sort_view sort) index }
 {
@@ -448,6 +465,8 @@ fn variable_operand(sort: Sort, index: u32) -> Operand
         Sort::Reference => Operand::Local(index),
         Sort::Static => Operand::Static(index),
         Sort::FieldId => Operand::FieldId(index),
+        Sort::Array(_, len) => Operand::Array(LocalArray { start: index, len }),
+        Sort::Buffer(..) => Operand::Buffer(index),
         _ => Operand::Null,
     }
 }

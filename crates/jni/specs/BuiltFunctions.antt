@@ -1,6 +1,6 @@
 -- Which functions of the JNI can be called today.
 use Rattle.std.specs.Prelude.{Bool, true, false}
-use Rattle.jni.specs.JniFunction.{JniFunction, FindClass, GetSuperclass, GetObjectClass, IsInstanceOf, IsAssignableFrom, AllocObject, GetFieldID, GetStaticFieldID, GetField, SetField, GetStaticField, SetStaticField, GetObjectField, SetObjectField, GetStaticObjectField, SetStaticObjectField, GetArrayLength}
+use Rattle.jni.specs.JniFunction.{JniFunction, FindClass, GetSuperclass, GetObjectClass, IsInstanceOf, IsAssignableFrom, AllocObject, NewLocalRef, IsSameObject, GetFieldID, GetStaticFieldID, GetField, SetField, GetStaticField, SetStaticField, GetObjectField, SetObjectField, GetStaticObjectField, SetStaticObjectField, GetArrayLength}
 
 -- the functions that can be called
 abbrev pub is_built_function : JniFunction → Bool
@@ -10,6 +10,8 @@ is_built_function GetObjectClass = true
 is_built_function IsInstanceOf = true
 is_built_function IsAssignableFrom = true
 is_built_function AllocObject = true
+is_built_function NewLocalRef = true
+is_built_function IsSameObject = true
 is_built_function GetFieldID = true
 is_built_function GetStaticFieldID = true
 is_built_function (GetField T) = true

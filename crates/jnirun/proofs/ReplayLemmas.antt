@@ -53,6 +53,14 @@ module _ (program world journal : List ℕ) (old : Written) where
   refused_journal unit meant reading.Memory is w h = refl
   refused_journal unit meant (reading.Fault fault) is w h = (refl, by_journal unit meant fault is w h)
 
+  -- a journal that a world's threads can have is refused for want of memory alone
+  pub unread_journal : (meant : World) (e : ReadError) → IsPossible program world journal → world_of_text world ≡ Ok meant → Fails e (journal_of journal (length meant.threads)) → IsReplayOrFails (Err (of_reading which.Journal e))
+  unread_journal meant reading.Memory p w h = tt
+  unread_journal meant (reading.Fault fault) p w h =
+      let here : p.meaning.world ≡ meant = cc (p.meaning.of_world, w) in
+      let read : journal_of journal (length meant.threads) ≡ Ok p.meaning.entries = subst (λ (s : World). journal_of journal (length s.threads) ≡ Ok p.meaning.entries) here p.meaning.of_journal in
+      absurd (cc (h, read))
+
   -- what was read of the three texts
   module _ (unit : SourceUnit) (meant : World) (entries : Journal) (is : IsProgram program unit) (w : world_of_text world ≡ Ok meant) (j : journal_of journal (length meant.threads) ≡ Ok entries) where
     -- the texts' meaning, where they load

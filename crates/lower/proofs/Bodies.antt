@@ -4,13 +4,14 @@ use Rattle.code.specs.Call as calls
 use Rattle.lower.proofs.CallSteps.{untouched_are_begun, untouched_are_held}
 use Rattle.std.specs.Prelude.{zip}
 use Rattle.std.specs.List.{AllZip}
-use Rattle.std.proofs.Common.{◌≡◌, ℕ, ◌+◌, ◌⊎◌, inl, inr, true, false, List, [], ◌∷◌, ◌++◌, length, Option, Some, refl, sym, ap, ◌∙◌, subst, arith, length-append, map, suc}
+use Rattle.std.proofs.Common.{◌≡◌, ℕ, ◌+◌, ◌⊎◌, inl, inr, Bool, true, false, List, [], ◌∷◌, ◌++◌, length, Option, Some, refl, sym, ap, ◌∙◌, subst, arith, length-append, map, suc}
 use Rattle.base.specs.Bytes.{Identifier, lookup}
-use Rattle.base.specs.Element.{JChar}
+use Rattle.base.specs.Element.{ElementType, JChar}
 use Rattle.syntax.specs.Tree as tree
 use Rattle.syntax.specs.Tree.{Expr, Argument, RightSide, FromExpr, FromCall, Test, TestExpr, TestCall, Stmt, Block, End, Next, VariableType, BitOr, Call}
-use Rattle.jni.specs.Prototype.{ParameterKind, FieldID, IntNumber, ResultKind, NewLocal, GivesFlag, GivesInt, GivesField, function_named, prototype}
-use Rattle.types.specs.Sorts.{Sort, Jint, Ref, Global, FieldId, Buffer, Array}
+use Rattle.jni.specs.JniFunction.{Access, ElementsCopy, ArrayView, CharsCopy, CharsView}
+use Rattle.jni.specs.Prototype.{ParameterKind, FieldID, IntNumber, TextBytes, ArrayVariable, BufferVariable, Mode, IsCopy, ResultKind, NewLocal, GivesFlag, GivesInt, GivesField, function_named, prototype}
+use Rattle.types.specs.Sorts.{Sort, Jint, Ref, Global, FieldId, Buffer, Array, is_buffer_for}
 use Rattle.types.specs.Sorts as sort
 use Rattle.types.specs.SortRules.{variable_sort}
 use Rattle.code.specs.declared.instr.Target.{Target as Destination}
@@ -23,12 +24,11 @@ use Rattle.source.specs.Term as term
 use Rattle.source.specs.Term.{Term, Done, Read, Binary, term_of}
 use Rattle.source.specs.Task.{Task, SetScalar, Branch, ReturnValue, Target, Declared, Assigned, Dropped, VariableKind, ScalarKind, ReferenceKind, FieldKind, BufferKind, kind_of, set_task, invocation, call_task, right_side_task, if_task, task_of, tasks_of, operand, Given, Operand}
 use Rattle.code_generator.specs.Layout.{Slot, Known, Layout, new_slot, closed, layout_after, block_layout}
-use Rattle.code_generator.specs.Coding.{nullable_of, store_of, element_of, write_code, of_slot, operand_of, term_code, expr_code, value_code, right_code, assign_code, returned_code, return_code, ways_code, turn_code, loop_code, if_code, stmt_code, block_code, named_call_code, operand_code, argument_code, arguments_code, argument_text, arguments_texts, result_target}
+use Rattle.code_generator.specs.Coding.{nullable_of, store_of, element_of, write_code, of_slot, operand_of, address_operand, term_code, expr_code, value_code, right_code, assign_code, returned_code, return_code, ways_code, turn_code, loop_code, if_code, stmt_code, block_code, named_call_code, operand_code, argument_code, arguments_code, argument_text, arguments_texts, result_target}
 use Rattle.lower.specs.Slots.{IsNumberSort}
-use Rattle.lower.specs.Fits.{IsUntouched, NumberFits, IndexWithin, IsLaidOut, HasRoomFor, IsReferenceKind, ArgumentFits, ValueFits, RightFits, TestFits, ReturnFits, StmtFits, BlockFits, CallFits, ReferenceFits, FieldFits, ResultFits}
+use Rattle.lower.specs.Fits.{IsUntouched, NumberFits, IndexWithin, IsLaidOut, HasRoomFor, IsVariable, IsReferenceKind, ArrayFits, BufferFits, ArgumentFits, ValueFits, RightFits, TestFits, ReturnFits, StmtFits, BlockFits, CallFits, ReferenceFits, FieldFits, ResultFits}
 use Rattle.lower.specs.Stands.{held, IsBegun, IsUnderWay, HasAt, AreAmong, IsSlotOf, kind_of_sort, GoesTo, ResultStands, ResultGoes, TargetStands, operand_text, operands_texts, target_name, BlockStands, TasksStand, OperandStands, AreUntouched, operand_rest, operands_rest}
 use Rattle.lower.proofs.SlotLaws.{known_among, all_among}
-use Rattle.lower.proofs.ArgumentKinds.{by_argument}
 use Rattle.lower.proofs.CodePlaces.{has_front, has_back}
 use Rattle.lower.proofs.TermSteps.{untouched_held, untouched_begun}
 use Rattle.lower.proofs.Layouts.{block_grows, room_before, room_at_least, index_more, laid_more, declared_slot, variable_size, laid_after, known_after_stmt}
@@ -106,7 +106,10 @@ module _ (code : Listing) (known : Known) (line place : ℕ) (tail : List Task) 
 
   reference_found : (p : ParameterKind) (e : Expr) → IsReferenceKind p → ReferenceFits known e → OperandStands known (operand_code known (p, tree.Value e)) (p, operand (p, tree.Value e))
   reference_found IntNumber e kind h = absurd kind
-  reference_found p (tree.Named tree.Null) kind h = record { kind = inl kind; is = refl }
+  reference_found FieldID e kind h = absurd kind
+  reference_found Mode e kind h = absurd kind
+  reference_found IsCopy e kind h = absurd kind
+  reference_found p (tree.Named tree.Null) kind h = record { kind = kind; is = refl }
   reference_found p (tree.Variable x) kind h = reference_stands p x h.0 kind h.1 h.2
   reference_found p e kind h = absurd h
 
@@ -114,16 +117,48 @@ module _ (code : Listing) (known : Known) (line place : ℕ) (tail : List Task) 
   number_found e h = record { kind = refl; term = term_of e; is = refl; sort = h.sort }
 
   field_found : (e : Expr) → FieldFits known e → OperandStands known (operand_code known (FieldID, tree.Value e)) (FieldID, Given (tree.Value e))
-  field_found (tree.Named tree.Null) h = record { kind = inr refl; is = refl }
+  field_found (tree.Named tree.Null) h = record { kind = tt; is = refl }
   field_found (tree.Variable x) h =
       let there : lookup x known ≡ Some (record { sort = FieldId; index = h.0.index }) = h.1 ∙ ap (λ (r : Sort). Some (record { sort = r; index = h.0.index })) h.2 in
       subst (λ o. OperandStands known (operand_of o) (FieldID, Given (tree.Value (tree.Variable x)))) (sym there) (x, refl, refl, there)
   field_found e h = absurd h
 
+  array_found : (t : ElementType) (e : Expr) → ArrayFits known t e → OperandStands known (operand_code known (ArrayVariable t, tree.Value e)) (ArrayVariable t, Given (tree.Value e))
+  array_found t (tree.Variable x) h =
+      subst (λ o. OperandStands known (operand_of o) (ArrayVariable t, Given (tree.Value (tree.Variable x)))) (sym h.2) (record { type = t; kind = refl; name = x; is = refl; there = h.2 })
+  array_found t e h = absurd h
+
+  -- a buffer for an access is a buffer
+  buffer_sort : (access : Access) (s : Sort) → is_buffer_for access (Some s) ≡ true → (t : ElementType) × (writable : Bool) × (s ≡ Buffer t writable)
+  buffer_sort access (Buffer t writable) h = (t, writable, refl)
+  buffer_sort (ElementsCopy t) s h = absurd (cc)
+  buffer_sort ArrayView s h = absurd (cc)
+  buffer_sort CharsCopy s h = absurd (cc)
+  buffer_sort CharsView s h = absurd (cc)
+
+  buffer_found : (access : Access) (e : Expr) → BufferFits known access e → OperandStands known (operand_code known (BufferVariable access, tree.Value e)) (BufferVariable access, Given (tree.Value e))
+  buffer_found access (tree.Variable x) h =
+      let is = buffer_sort access h.0.sort h.2 in
+      let there : lookup x known ≡ Some (record { sort = Buffer is.0 is.1; index = h.0.index }) = h.1 ∙ ap (λ (r : Sort). Some (record { sort = r; index = h.0.index })) is.2 in
+      subst (λ o. OperandStands known (operand_of o) (BufferVariable access, Given (tree.Value (tree.Variable x)))) (sym there)
+      (record { access = access; kind = refl; name = x; is = refl; type = is.0; writable = is.1; there = there })
+  buffer_found access e h = absurd h
+
+  address_found : (x : Identifier) → (h : IsVariable known x sort.Flag) → OperandStands known (address_operand (lookup x known)) (IsCopy, Given (tree.AddressOf x))
+  address_found x h = subst (λ o. OperandStands known (address_operand o) (IsCopy, Given (tree.AddressOf x))) (sym h.1) (record { kind = refl; name = x; is = refl; there = h.1 })
+
   argument_found : (p : ParameterKind) (a : Argument) → ArgumentFits known p a → OperandStands known (operand_code known (p, a)) (p, operand (p, a))
-  argument_found p a h =
-      by_argument known (λ p a. OperandStands known (operand_code known (p, a)) (p, operand (p, a))) (λ e number. number_found e number) (λ p e kind reference. reference_found p e kind reference) (λ e field. field_found e field)
-      (λ bytes. record { kind = refl; bytes = bytes; is = refl }) p a h
+  argument_found IntNumber (tree.Value e) h = number_found e h
+  argument_found FieldID (tree.Value e) h = field_found e h
+  argument_found TextBytes (tree.Text bytes) h = record { kind = refl; bytes = bytes; is = refl }
+  argument_found TextBytes (tree.Value e) h = absurd h
+  argument_found (ArrayVariable t) (tree.Value e) h = array_found t e h
+  argument_found (BufferVariable access) (tree.Value e) h = buffer_found access e h
+  argument_found Mode (tree.Value e) h = record { kind = refl; written = e; is = refl; same = refl }
+  argument_found IsCopy (tree.Value e) h = subst (λ (d : Expr). OperandStands known (operand_code known (IsCopy, tree.Value d)) (IsCopy, Given (tree.Value d))) (sym h) (record { kind = tt; is = refl })
+  argument_found IsCopy (tree.AddressOf x) h = address_found x h
+  argument_found p (tree.Value e) h = reference_found p e tt h
+  argument_found p a h = absurd h
 
   arguments_found : (parameters : List ParameterKind) (arguments : List Argument) → AllZip (ArgumentFits known) parameters arguments
       → AllZip (OperandStands known) (map (operand_code known) (zip parameters arguments)) (zip parameters (map operand (zip parameters arguments)))
@@ -144,31 +179,33 @@ module _ (code : Listing) (known : Known) (line place : ℕ) (tail : List Task) 
   all_rest (g ∷ given) = ap (λ (l : List Instr). l ++ arguments_code known line given) (same_rest g.0 g.1) ∙ ap (λ (l : List Instr). operand_rest known line (operand (g.0, g.1)) ++ l) (all_rest given)
 
   -- no number of it has its value yet
-  untouched_reference : (p : ParameterKind) (e : Expr) (operands : List Operand) → IsReferenceKind p → AreUntouched operands → AreUntouched (operand (p, tree.Value e) ∷ operands)
-  untouched_reference IntNumber e operands kind h = absurd kind
-  untouched_reference p e operands kind h = h
+  one_untouched : (p : ParameterKind) (a : Argument) (operands : List Operand) → ArgumentFits known p a → AreUntouched operands → AreUntouched (operand (p, a) ∷ operands)
+  one_untouched IntNumber (tree.Value e) operands h more = (h.untouched, more)
+  one_untouched IntNumber a operands h more = absurd h
+  one_untouched p a operands h more = more
 
   all_untouched : (parameters : List ParameterKind) (arguments : List Argument) → AllZip (ArgumentFits known) parameters arguments → AreUntouched (map operand (zip parameters arguments))
   all_untouched [] [] h = tt
   all_untouched [] (a ∷ arguments) h = absurd h
   all_untouched (p ∷ parameters) [] h = absurd h
   all_untouched (p ∷ parameters) (a ∷ arguments) h =
-      let others = map operand (zip parameters arguments) in
-      let more = all_untouched parameters arguments h.1 in
-      by_argument known (λ p a. AreUntouched (operand (p, a) ∷ others)) (λ e number. (number.untouched, more)) (λ p e kind reference. untouched_reference p e others kind more) (λ e field. more) (λ bytes. more) p a h.0
+      one_untouched p a (map operand (zip parameters arguments)) h.0 (all_untouched parameters arguments h.1)
 
   -- its texts are those of its arguments
-  no_text : (p : ParameterKind) (e : Expr) → IsReferenceKind p → argument_text (tree.Value e) ≡ operand_text (operand (p, tree.Value e))
-  no_text IntNumber e kind = absurd kind
-  no_text p e kind = refl
+  one_text : (p : ParameterKind) (a : Argument) → argument_text a ≡ operand_text (operand (p, a))
+  one_text IntNumber (tree.Value e) = refl
+  one_text IntNumber (tree.Text bytes) = refl
+  one_text IntNumber (tree.AddressOf x) = refl
+  one_text p (tree.Value e) = refl
+  one_text p (tree.Text bytes) = refl
+  one_text p (tree.AddressOf x) = refl
 
   all_texts : (parameters : List ParameterKind) (arguments : List Argument) → AllZip (ArgumentFits known) parameters arguments → arguments_texts arguments ≡ operands_texts (map operand (zip parameters arguments))
   all_texts [] [] h = refl
   all_texts [] (a ∷ arguments) h = absurd h
   all_texts (p ∷ parameters) [] h = absurd h
   all_texts (p ∷ parameters) (a ∷ arguments) h =
-      let one = by_argument known (λ p a. argument_text a ≡ operand_text (operand (p, a))) (λ e number. refl) (λ p e kind reference. no_text p e kind) (λ e field. refl) (λ bytes. refl) p a h.0 in
-      ap (λ (l : List (List ℕ)). l ++ arguments_texts arguments) one ∙ ap (λ (l : List (List ℕ)). operand_text (operand (p, a)) ++ l) (all_texts parameters arguments h.1)
+      ap (λ (l : List (List ℕ)). l ++ arguments_texts arguments) (one_text p a) ∙ ap (λ (l : List (List ℕ)). operand_text (operand (p, a)) ++ l) (all_texts parameters arguments h.1)
 
   -- there are as many arguments as parameters
   operand_count : (parameters : List ParameterKind) (arguments : List Argument) → AllZip (ArgumentFits known) parameters arguments → length (map operand (zip parameters arguments)) ≡ length parameters

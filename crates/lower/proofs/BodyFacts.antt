@@ -104,7 +104,7 @@ module _ (l : Layout) (taken : List Identifier) (returns : ResultType) (before :
   kept s h = own_kept returns (scope_of l.known) taken s h.sorted
 
   call_holds : (s : Stmt) → StmtHolds l taken returns before way s → CallHolds l.known (own_call s)
-  call_holds s h = record { built = first_built s h.calls; arguments = (kept s h).arguments; count = (kept s h).count; fine = called_fine l.known s (all_fine s h) }
+  call_holds s h = record { built = first_built s h.calls; arguments = (kept s h).arguments; count = (kept s h).count; modes = (kept s h).modes; fine = called_fine l.known s (all_fine s h) }
 
 -- ---- after a statement
 

@@ -1,10 +1,9 @@
 -- What holds of each function that can be called today.
 use Rattle.std.proofs.Common.{◌≡◌, Bool, true, false, List, Option, Some, None, refl}
-use Rattle.std.specs.List.{list_all}
 use Rattle.base.specs.Options.{some_passes}
 use Rattle.syntax.specs.Tree.{Argument, Call}
-use Rattle.jni.specs.JniFunction.{JniFunction, DeleteLocalRef, PushLocalFrame, PopLocalFrame, NewGlobalRef, GetArrayRegion, SetArrayRegion, GetBuffer, ReleaseBuffer, GetStringRegion}
-use Rattle.jni.specs.Prototype.{ParameterKind, ArrayVariable, BufferVariable, Mode, IsCopy, ResultKind, NewGlobal, GivesBuffer, function_named, prototype}
+use Rattle.jni.specs.JniFunction.{JniFunction, DeleteLocalRef, PushLocalFrame, PopLocalFrame, NewGlobalRef, GetBuffer, ReleaseBuffer}
+use Rattle.jni.specs.Prototype.{ResultKind, NewGlobal, GivesBuffer, function_named, prototype}
 use Rattle.jni.specs.BuiltFunctions.{is_built_function}
 use Rattle.types.specs.BuiltCalls.{is_built_call}
 use Rattle.types.specs.SortRules.{may_be_tested}
@@ -23,14 +22,6 @@ by_name c None is h = absurd (cc)
 pub built_call : (c : Call) → is_built_call c ≡ true → BuiltCall c
 built_call c h = by_name c (function_named c.function) refl h
 
--- an argument for such a parameter is a reference, a field ID, a number or a text
-abbrev pub is_passed : ParameterKind → Bool
-is_passed (ArrayVariable t) = false
-is_passed (BufferVariable a) = false
-is_passed Mode = false
-is_passed IsCopy = false
-is_passed p = true
-
 -- such a result, where there is one, is a number, a local reference or a field ID
 abbrev pub is_taken : ResultKind → Bool
 is_taken NewGlobal = false
@@ -38,15 +29,6 @@ is_taken (GivesBuffer a) = false
 is_taken r = true
 
 -- Below each function that differs from most has a line. Those that can't be called today are absurd there.
-
--- all arguments are references, field IDs, numbers and texts
-pub are_passed : (f : JniFunction) → is_built_function f ≡ true → list_all is_passed (prototype f).parameters ≡ true
-are_passed (GetArrayRegion t) h = absurd (cc)
-are_passed (SetArrayRegion t) h = absurd (cc)
-are_passed (GetBuffer a) h = absurd (cc)
-are_passed (ReleaseBuffer a) h = absurd (cc)
-are_passed GetStringRegion h = absurd (cc)
-are_passed f h = refl
 
 -- the result, where there is one, is a number, a local reference or a field ID
 pub result_taken : (f : JniFunction) → is_built_function f ≡ true → is_taken (prototype f).result ≡ true

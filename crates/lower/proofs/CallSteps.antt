@@ -1,7 +1,7 @@
 -- The steps of a call: its numbers are worked out one after another, and then it is made.
 use Rattle.lower.proofs.Steps.{step_inside}
 use Rattle.lower.proofs.PlaceFacts.{and_left, and_right}
-use Rattle.std.proofs.Common.{◌≡◌, ℕ, ◌+◌, Bool, true, List, [], ◌∷◌, ◌++◌, length, Some, None, ◌⊎◌, inl, inr, refl, sym, ap, ◌∙◌, subst, arith, append_assoc, length-append, suc, false, ℤ, pos}
+use Rattle.std.proofs.Common.{◌≡◌, ℕ, ◌+◌, Bool, true, List, [], ◌∷◌, ◌++◌, length, Some, None, inl, inr, refl, sym, ap, ◌∙◌, subst, arith, append_assoc, length-append, suc, false, ℤ, pos}
 use Rattle.std.specs.Prelude.{slice_set, IsTrue, zip, map, FitsSigned, ◌||◌}
 use Rattle.std.specs.List.{list_any, AllZip}
 use Rattle.std.specs.Int.{w32}
@@ -21,7 +21,7 @@ use Rattle.code.specs.declared.instr.Instr.{Instr}
 use Rattle.code.specs.declared.instr.Instr.TheVariants as instr
 use Rattle.code.specs.Depth.{Listing}
 use Rattle.source.specs.Effect.{goes_on, is_given, is_ready, call_effect_of, Calls, reduce_first}
-use Rattle.source.specs.Arguments.{Actual, ReferenceActual, FieldActual, NumberActual, TextActual, reference_argument, look_up_expression, look_up, actuals}
+use Rattle.source.specs.Arguments.{Actual, ReferenceActual, FieldActual, NumberActual, TextActual, VariableActual, ModeActual, NothingActual, mode_of, reference_argument, look_up_expression, look_up, actuals}
 use Rattle.source.specs.Sight.{Sight}
 use Rattle.source.specs.Variable.{Empty}
 use Rattle.source.specs.Task.{Task, Invoke, Target, Declared, Assigned, Dropped, VariableKind, ScalarKind, ReferenceKind, FieldKind, Operand, NumberOperand, Given, Tested}
@@ -30,9 +30,9 @@ use Rattle.source.specs.Value.{Word, Int, Flag, Truth, Gives, Outcome, Traps, St
 use Rattle.code_generator.specs.Layout.{Slot, Known}
 use Rattle.code_generator.specs.Coding.{term_code}
 use Rattle.lower.specs.Slots.{word_of, IsNumberSort, Visible, Slots, Shows}
-use Rattle.lower.specs.Fits.{IsReferenceKind, TermHasSort}
+use Rattle.lower.specs.Fits.{IsReferenceKind, TakesNull, TermHasSort}
 use Rattle.lower.specs.Stands.{held, IsBegun, HasAt, operand_text, operands_texts, ResultStands, ResultGoes, number_sort, OperandStands, TargetStands, InvokeStands, TasksStand, task_returns, operands_rest, operand_held, operands_held, AreUntouched, AreBegun}
-use Rattle.lower.specs.Does.{IsOperand, TakesNumber, TakesReference, TakesField, GoesInto, TakesResult, DoesEffect, word_given, words_given, text_given, texts_given, OperandFits}
+use Rattle.lower.specs.Does.{IsOperand, TakesNumber, TakesReference, TakesField, GoesInto, TakesResult, DoesEffect, word_given, words_given, text_given, texts_given, OperandFits, IsVariableKind, ActualFits}
 use Rattle.lower.proofs.SlotLaws.{fewer_shown, number_below, shows_set, shows_referred, shows_field_set}
 use Rattle.lower.proofs.TermSteps.{IsOpen, untouched_held, untouched_begun, shows_number}
 
@@ -158,6 +158,10 @@ module _ (known : Known) where
   number_there (operand.Static i) p t h = absurd (let e = h.1.is in cc)
   number_there (operand.FieldId i) p t h = absurd (let e = h.2 in cc)
   number_there operand.Text p t h = absurd (let e = h.is in cc)
+  number_there (operand.Array array) p t h = absurd (let e = h.is in cc)
+  number_there (operand.Buffer i) p t h = absurd (let e = h.is in cc)
+  number_there (operand.Mode mode) p t h = absurd (let e = h.is in cc)
+  number_there (operand.IsCopy i) p t h = absurd (let e = h.is in cc)
   number_there operand.Number p t h = (refl, h.kind, let same : h.term ≡ t = let e : NumberOperand h.term ≡ NumberOperand t = sym h.is in cc in subst (λ (u : Term). TermHasSort known u Jint) same h.sort)
 
   other_number : (w : Where) (p : ParameterKind) (t u : Term) → OperandStands known w (p, NumberOperand t) → TermHasSort known u Jint → OperandStands known w (p, NumberOperand u)
@@ -275,35 +279,50 @@ module _ (code : Listing) (known : Known) (place : ℕ) (stack : List ℕ) (slot
   number_is p (Done (Truth b)) ready h = absurd (let e : Jint ≡ sort.Truth = h in cc)
   number_is p t ready h = absurd (cc)
 
-  -- an argument that is ready is found, with its word and its text
+  -- an argument that is ready is found, with its word and its text, and is what its parameter asks for
   record IsFound (o : Where) (p : ParameterKind) (given : Operand) : Type 0 where
     found : IsOperand code known place stack slots visible o (look_up visible.sight (p, given))
+    fits : ActualFits p (look_up visible.sight (p, given))
     word : operand_held given ≡ word_given (look_up visible.sight (p, given))
     text : operand_text given ≡ text_given (look_up visible.sight (p, given))
 
-  found_as : (o : Where) (p : ParameterKind) (given g : Operand) (a : Actual) → given ≡ g → look_up visible.sight (p, g) ≡ a → IsOperand code known place stack slots visible o a → operand_held g ≡ word_given a → operand_text g ≡ text_given a → IsFound o p given
-  found_as o p given g a is e operand word text =
+  found_as : (o : Where) (p : ParameterKind) (given g : Operand) (a : Actual) → given ≡ g → look_up visible.sight (p, g) ≡ a → IsOperand code known place stack slots visible o a → ActualFits p a → operand_held g ≡ word_given a → operand_text g ≡ text_given a → IsFound o p given
+  found_as o p given g a is e operand fits word text =
       let same : look_up visible.sight (p, given) ≡ a = ap (λ (q : Operand). look_up visible.sight (p, q)) is ∙ e in
       record {
         found = subst (IsOperand code known place stack slots visible o) (sym same) operand;
+        fits = subst (ActualFits p) (sym same) fits;
         word = ap operand_held is ∙ word ∙ ap word_given (sym same);
         text = ap operand_text is ∙ text ∙ ap text_given (sym same);
       }
 
-  null_found : (p : ParameterKind) (given : Operand) → given ≡ Given (tree.Value (tree.Named tree.Null)) → IsReferenceKind p ⊎ (p ≡ FieldID) → IsFound operand.Null p given
-  null_found p given is (inl kind) = found_as operand.Null p given (Given (tree.Value (tree.Named tree.Null))) (ReferenceActual [] Empty) is (looked_up p (tree.Named tree.Null) kind) (inl ([], refl)) refl refl
-  null_found p given is (inr e) = found_as operand.Null p given (Given (tree.Value (tree.Named tree.Null))) (FieldActual None) is (ap (λ (q : ParameterKind). look_up_expression visible.sight q (tree.Named tree.Null)) e) (inr refl) refl refl
+  null_found : (p : ParameterKind) (given : Operand) → given ≡ Given (tree.Value (tree.Named tree.Null)) → TakesNull p → IsFound operand.Null p given
+  null_found FieldID given is kind = found_as operand.Null FieldID given (Given (tree.Value (tree.Named tree.Null))) (FieldActual None) is refl (inr (inl refl)) refl refl refl
+  null_found IsCopy given is kind = found_as operand.Null IsCopy given (Given (tree.Value (tree.Named tree.Null))) NothingActual is refl (inr (inr refl)) refl refl refl
+  null_found p given is kind = found_as operand.Null p given (Given (tree.Value (tree.Named tree.Null))) (ReferenceActual [] Empty) is (looked_up p (tree.Named tree.Null) kind) (inl ([], refl)) kind refl refl
+
+  -- the argument of a parameter of a known kind
+  looked_up_at : (p q : ParameterKind) (e : Expr) → p ≡ q → look_up_expression visible.sight p e ≡ look_up_expression visible.sight q e
+  looked_up_at p q e same = ap (λ (k : ParameterKind). look_up_expression visible.sight k e) same
 
   is_found : (o : Where) (p : ParameterKind) (given : Operand) → is_given given ≡ true → OperandStands known o (p, given) → IsFound o p given
   is_found operand.Null p given ready h = null_found p given h.is h.kind
-  is_found (operand.Local i) p given ready h = found_as (operand.Local i) p given (Given (tree.Value (tree.Variable h.0))) (ReferenceActual h.0 (visible.sight.reference h.0)) h.1.is (looked_up p (tree.Variable h.0) h.1.kind) (h.0, refl, h.2) refl refl
-  is_found (operand.Static i) p given ready h = found_as (operand.Static i) p given (Given (tree.Value (tree.Variable h.0))) (ReferenceActual h.0 (visible.sight.reference h.0)) h.1.is (looked_up p (tree.Variable h.0) h.1.kind) (h.0, refl, h.2) refl refl
+  is_found (operand.Local i) p given ready h = found_as (operand.Local i) p given (Given (tree.Value (tree.Variable h.0))) (ReferenceActual h.0 (visible.sight.reference h.0)) h.1.is (looked_up p (tree.Variable h.0) h.1.kind) (h.0, refl, h.2) h.1.kind refl refl
+  is_found (operand.Static i) p given ready h = found_as (operand.Static i) p given (Given (tree.Value (tree.Variable h.0))) (ReferenceActual h.0 (visible.sight.reference h.0)) h.1.is (looked_up p (tree.Variable h.0) h.1.kind) (h.0, refl, h.2) h.1.kind refl refl
   is_found (operand.FieldId i) p given ready h =
-      found_as (operand.FieldId i) p given (Given (tree.Value (tree.Variable h.0))) (FieldActual (visible.sight.field h.0)) h.2 (ap (λ (q : ParameterKind). look_up_expression visible.sight q (tree.Variable h.0)) h.1) (h.0, refl, h.3) refl refl
-  is_found operand.Text p given ready h = found_as operand.Text p given (Given (tree.Text h.bytes)) (TextActual h.bytes) h.is refl (h.bytes, refl) refl refl
+      found_as (operand.FieldId i) p given (Given (tree.Value (tree.Variable h.0))) (FieldActual (visible.sight.field h.0)) h.2 (looked_up_at p FieldID (tree.Variable h.0) h.1) (h.0, refl, h.3) h.1 refl refl
+  is_found operand.Text p given ready h = found_as operand.Text p given (Given (tree.Text h.bytes)) (TextActual h.bytes) h.is refl (h.bytes, refl) h.kind refl refl
+  is_found (operand.Array array) p given ready h =
+      found_as (operand.Array array) p given (Given (tree.Value (tree.Variable h.name))) (VariableActual h.name) h.is (looked_up_at p (ArrayVariable h.type) (tree.Variable h.name) h.kind) (h.name, refl, h.type, h.there) (subst IsVariableKind (sym h.kind) tt) refl refl
+  is_found (operand.Buffer i) p given ready h =
+      found_as (operand.Buffer i) p given (Given (tree.Value (tree.Variable h.name))) (VariableActual h.name) h.is (looked_up_at p (BufferVariable h.access) (tree.Variable h.name) h.kind) (h.name, refl, h.type, h.writable, h.there) (subst IsVariableKind (sym h.kind) tt) refl refl
+  is_found (operand.Mode mode) p given ready h =
+      found_as (operand.Mode mode) p given (Given (tree.Value h.written)) (ModeActual (mode_of h.written)) h.is (looked_up_at p Mode h.written h.kind) (mode_of h.written, refl, h.same) h.kind refl refl
+  is_found (operand.IsCopy i) p given ready h =
+      found_as (operand.IsCopy i) p given (Given (tree.AddressOf h.name)) (VariableActual h.name) h.is refl (h.name, refl, h.there) (subst IsVariableKind (sym h.kind) tt) refl refl
   is_found operand.Number p given ready h =
       let number = number_is p h.term (ap is_given (sym h.is) ∙ ready) h.sort in
-      found_as operand.Number p given (NumberOperand h.term) (NumberActual number.0) h.is number.1 (number.0, refl, number.2) number.3 refl
+      found_as operand.Number p given (NumberOperand h.term) (NumberActual number.0) h.is number.1 (number.0, refl, number.2) h.kind number.3 refl
 
   both_ready : (o : Operand) (operands : List Operand) → is_ready (o ∷ operands) ≡ true → (is_given o ≡ true) × (is_ready operands ≡ true)
   both_ready o operands h = (and_left (is_given o) (is_ready operands) h, and_right (is_given o) (is_ready operands) h)
@@ -318,6 +337,15 @@ module _ (code : Listing) (known : Known) (place : ℕ) (stack : List ℕ) (slot
   are_operands (w ∷ found) (p ∷ parameters) (o ∷ operands) ready h =
       let both = both_ready o operands ready in
       ((is_found w p o both.0 h.0).found, are_operands found parameters operands both.1 h.1)
+
+  are_fit : (found : List Where) (parameters : List ParameterKind) (operands : List Operand) → length operands ≡ length parameters → is_ready operands ≡ true → AllZip (OperandStands known) found (zip parameters operands)
+      → AllZip ActualFits parameters (map (look_up visible.sight) (zip parameters operands))
+  are_fit found [] operands count ready h = tt
+  are_fit found (p ∷ parameters) [] count ready h = absurd (omega (arith, count))
+  are_fit [] (p ∷ parameters) (o ∷ operands) count ready h = absurd h
+  are_fit (w ∷ found) (p ∷ parameters) (o ∷ operands) count ready h =
+      let both = both_ready o operands ready in
+      ((is_found w p o both.0 h.0).fits, are_fit found parameters operands (omega (arith, count)) both.1 h.1)
 
   are_words : (found : List Where) (parameters : List ParameterKind) (operands : List Operand) → length operands ≡ length parameters → is_ready operands ≡ true → AllZip (OperandStands known) found (zip parameters operands)
       → operands_held operands ≡ words_given (map (look_up visible.sight) (zip parameters operands))
@@ -348,6 +376,10 @@ module _ (code : Listing) (known : Known) (place : ℕ) (stack : List ℕ) (slot
   operand_fits (operand.FieldId i) p given h = h.1
   operand_fits operand.Text p given h = h.kind
   operand_fits operand.Number p given h = h.kind
+  operand_fits (operand.Array array) p given h = (h.type, h.kind)
+  operand_fits (operand.Buffer i) p given h = (h.access, h.kind)
+  operand_fits (operand.Mode mode) p given h = h.kind
+  operand_fits (operand.IsCopy i) p given h = h.kind
 
   operands_fit : (found : List Where) (parameters : List ParameterKind) (operands : List Operand) → length operands ≡ length parameters → AllZip (OperandStands known) found (zip parameters operands) → AllZip OperandFits parameters found
   operands_fit [] [] operands count h = tt
@@ -380,6 +412,7 @@ module _ (code : Listing) (known : Known) (place : ℕ) (stack : List ℕ) (slot
           words = c.held ∙ are_words c.call.operands (prototype f).parameters operands c.count ready c.operands_stand;
           texts = c.texts ∙ are_texts c.call.operands (prototype f).parameters operands c.count ready c.operands_stand;
           count = actual_count (prototype f).parameters operands c.count;
+          fit = are_fit c.call.operands (prototype f).parameters operands c.count ready c.operands_stand;
           kinds = operands_fit c.call.operands (prototype f).parameters operands c.count c.operands_stand;
           given = are_operands c.call.operands (prototype f).parameters operands ready c.operands_stand;
           goes = takes_result line f operands c.call.target (prototype f).result target rest (subst (λ p. TargetStands code known (λ q names. TasksStand code names q [] rest) p c.call.target (prototype f).result target) next c.goes) returns;

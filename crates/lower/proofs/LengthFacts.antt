@@ -20,8 +20,7 @@ use Rattle.source.specs.Term as term
 use Rattle.source.specs.Term.{Term, Done, Read, IsNull, Prefix, And, Or, Binary, binary_term, term_of}
 use Rattle.code_generator.specs.Layout.{Slot, Known, Layout, new_slot, closed, layout_after, block_layout}
 use Rattle.code_generator.specs.Coding.{arguments_texts, result_target, nullable_of, test_of, store_of, null_code, element_code, write_code, of_slot, load_code, prefix_code, operator_code, is_signed, skip_code, term_code, expr_code, named_call_code, value_code, right_code, assign_code, returned_code, return_code, test_code, ways_code, if_code, turn_code, loop_code, stmt_code, block_code, argument_code, arguments_code, operand_code}
-use Rattle.lower.proofs.ArgumentKinds.{by_argument}
-use Rattle.lower.specs.Fits.{IsNullable, TermHasSort, NumberFits, ArgumentFits, CallFits, ValueFits, RightFits, TestFits, ReturnFits, StmtFits, BlockFits, IsReferenceKind}
+use Rattle.lower.specs.Fits.{IsNullable, TermHasSort, NumberFits, ArgumentFits, CallFits, ValueFits, RightFits, TestFits, ReturnFits, StmtFits, BlockFits}
 use Rattle.lower.specs.Length.{binary_steps, expr_steps, argument_steps, arguments_steps, call_steps, value_steps, right_steps, test_steps, return_steps, stmt_steps, block_steps}
 use Rattle.lower.proofs.SortFacts.{scope_of, slot_of_name}
 use Rattle.lower.proofs.StatementFacts.{jint_is, ref_is}
@@ -111,13 +110,10 @@ expr_length known line e s h = term_length known line (term_of e) s h.sort ∙ s
 
 -- ---- right sides
 
--- a reference takes no step, and has no code
-no_steps : (known : Known) (line : ℕ) (p : ParameterKind) (e : Expr) → IsReferenceKind p → length (argument_code known line (p, tree.Value e)) ≡ argument_steps (p, tree.Value e)
-no_steps known line IntNumber e kind = absurd kind
-no_steps known line p e kind = refl
-
 argument_length : (known : Known) (line : ℕ) (p : ParameterKind) (a : Argument) → ArgumentFits known p a → length (argument_code known line (p, a)) ≡ argument_steps (p, a)
-argument_length known line p a h = by_argument known (λ p a. length (argument_code known line (p, a)) ≡ argument_steps (p, a)) (λ e number. expr_length known line e Jint number) (λ p e kind reference. no_steps known line p e kind) (λ e field. refl) (λ bytes. refl) p a h
+argument_length known line IntNumber (tree.Value e) h = expr_length known line e Jint h
+argument_length known line IntNumber a h = absurd h
+argument_length known line p a h = refl
 
 arguments_length : (known : Known) (line : ℕ) (parameters : List ParameterKind) (arguments : List Argument) → AllZip (ArgumentFits known) parameters arguments → length (arguments_code known line (zip parameters arguments)) ≡ sum_by argument_steps (zip parameters arguments)
 arguments_length known line [] [] h = refl

@@ -3,7 +3,6 @@ pub mod SlotLaws
 pub mod TermSteps
 pub mod ElementWords
 pub mod Layouts
-pub mod ArgumentKinds
 pub mod Bodies
 pub mod WaysReturn
 pub mod Steps

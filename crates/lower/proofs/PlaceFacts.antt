@@ -8,7 +8,7 @@ use Rattle.syntax.specs.Parts.{statements_of, statements_within, line_of, declar
 use Rattle.syntax.specs.Tree.{ResultType, Test, Stmt, If, IfElse, While, Block, Next}
 use Rattle.jni.specs.Prototype.{function_named}
 use Rattle.types.specs.Sorts.{Scope, call_arguments_fit}
-use Rattle.types.specs.SortRules.{SortRule, UnknownName, DeclaredTwice, SortMisfit, UnknownFunction, ArgumentCount, ReferenceCopied, BadMode, ReadOnlyWrite, sort_rules, Place, StatementForm, has_name, is_formed, statement_fits, has_wrong_count, copies_reference, set_sort, breaks, broken_at, with_declared, places_within, places_of}
+use Rattle.types.specs.SortRules.{SortRule, UnknownName, DeclaredTwice, SortMisfit, UnknownFunction, ArgumentCount, ReferenceCopied, BadMode, ReadOnlyWrite, sort_rules, Place, StatementForm, has_name, is_formed, statement_fits, has_wrong_count, has_wrong_mode, copies_reference, set_sort, breaks, broken_at, with_declared, places_within, places_of}
 
 -- ---- tests
 
@@ -61,6 +61,7 @@ pub record IsKept (known : Scope) (taken : List Identifier) (returns : ResultTyp
   pub arguments : some_passes (λ c. not (call_arguments_fit known c (function_named c.function))) (own_call s) ≡ false
   pub count : some_passes (λ c. has_wrong_count c (function_named c.function)) (own_call s) ≡ false
   pub uncopied : copies_reference known (set_sort known s) (right_side s) ≡ false
+  pub modes : some_passes (λ c. has_wrong_mode c (function_named c.function)) (own_call s) ≡ false
 
 fitting : (a b c : Bool) → (not a || not b || c) ≡ false → (b ≡ true) × (c ≡ false)
 fitting true true c h = (refl, h)
@@ -70,8 +71,11 @@ abbrev pub statement_place : ResultType → Scope → List Identifier → Stmt �
 statement_place returns known taken s = record { line = line_of s; known = known; taken = taken; returns = returns; form = StatementForm s }
 
 -- the rules after others
+abbrev after_copies : List SortRule
+after_copies = BadMode ∷ ReadOnlyWrite ∷ []
+
 abbrev after_counts : List SortRule
-after_counts = ReferenceCopied ∷ BadMode ∷ ReadOnlyWrite ∷ []
+after_counts = ReferenceCopied ∷ after_copies
 
 abbrev after_functions : List SortRule
 after_functions = ArgumentCount ∷ after_counts
@@ -94,13 +98,15 @@ is_kept returns known taken s none =
     let sorts = or_right (p SortMisfit) (list_any p after_sorts) twice in
     let functions = or_right (p UnknownFunction) (list_any p after_functions) sorts in
     let counts = or_right (p ArgumentCount) (list_any p after_counts) functions in
+    let copies = or_right (p ReferenceCopied) (list_any p after_copies) counts in
     let fit = fitting (list_all (is_formed known) (own_expressions s)) (statement_fits known returns s) (some_passes (λ c. not (call_arguments_fit known c (function_named c.function))) (own_call s)) (or_left (p SortMisfit) (list_any p after_sorts) twice) in
     record {
       new = or_left (p DeclaredTwice) (list_any p after_twice) names;
       fits = fit.0;
       arguments = fit.1;
       count = or_left (p ArgumentCount) (list_any p after_counts) functions;
-      uncopied = or_left (p ReferenceCopied) (list_any p (BadMode ∷ ReadOnlyWrite ∷ [])) counts;
+      uncopied = or_left (p ReferenceCopied) (list_any p after_copies) counts;
+      modes = or_left (p BadMode) (list_any p (ReadOnlyWrite ∷ [])) copies;
     }
 
 -- ---- places inside

@@ -2,23 +2,24 @@
 use Rattle.std.proofs.Common.{◌≡◌, ℕ, ◌<◌, ◌≤◌, ◌⊎◌, inl, inr, Bool, true, false, not, ◌&&◌, ◌||◌, ◌==◌, List, [], ◌∷◌, ◌++◌, map, flat_map, length, nat_le, Option, Some, None, is_some, refl, sym, ap, ◌∙◌, subst, arith, eqb-true, leb-true}
 use Rattle.std.specs.List.{list_all, AllZip}
 use Rattle.base.specs.Bytes.{Identifier, lookup}
-use Rattle.base.specs.Element.{ElementType}
+use Rattle.base.specs.Element.{ElementType, JInt, JShort, JByte, JChar, same_element}
 use Rattle.base.specs.Options.{some_passes}
 use Rattle.syntax.specs.Limits.{height, highest, numbers_in_range}
 use Rattle.syntax.specs.Parts.{call_of_right_side, argument_expressions, call_expressions, right_side_expressions, test_expressions, names_in}
 use Rattle.syntax.specs.Tree as tree
 use Rattle.syntax.specs.Tree.{ResultType, Void, IntResult, ReferenceResult, Expr, Argument, Call, RightSide, FromExpr, FromCall, Test, TestExpr, TestCall, Stmt}
+use Rattle.jni.specs.JniFunction.{Access, ElementsCopy, ArrayView, CharsCopy, CharsView}
 use Rattle.jni.specs.Prototype.{ParameterKind, Nullable, NonNull, ClassObject, ObjectArray, StringObject, NumberArray, LocalVariable, StaticVariable, FieldID, IntNumber, TextBytes, ArrayVariable, BufferVariable, Mode, IsCopy, ResultKind, NewLocal, GivesFlag, GivesInt, GivesField, GivesNothing, function_named, prototype}
-use Rattle.types.specs.Sorts.{Sort, Word, Jint, Flag, Truth, Ref, Global, FieldId, Buffer, Array, sort_in, sort_of, is_word, is_jint, is_flag, is_truth, is_index, has_elements, is_null, is_ref, is_field, is_reference, name_sort, text_fits, address_fits, argument_fits, arguments_fit, call_arguments_fit}
-use Rattle.types.specs.SortRules.{result_fits, is_push, call_fits, may_be_tested, value_sets, right_side_sets, buffer_begins, test_fits, return_fits, has_wrong_count, copies_reference}
+use Rattle.types.specs.Sorts.{Sort, Word, Jint, Flag, Truth, Ref, Global, FieldId, Buffer, Array, sort_in, sort_of, is_word, is_jint, is_flag, is_truth, is_index, has_elements, is_null, is_ref, is_field, is_reference, is_array_of, is_buffer_for, name_sort, text_fits, address_fits, argument_fits, arguments_fit, call_arguments_fit}
+use Rattle.types.specs.SortRules.{result_fits, is_push, call_fits, may_be_tested, value_sets, right_side_sets, buffer_begins, test_fits, return_fits, has_wrong_count, has_wrong_mode, is_mode, is_mode_parameter, modes_fit, copies_reference}
 use Rattle.source.specs.Term as term
 use Rattle.source.specs.Term.{Term, Read, term_of}
 use Rattle.regions.specs.RegionStates.{RegionState}
 use Rattle.code_generator.specs.Layout.{Slot, Known}
-use Rattle.lower.specs.Fits.{IsArray, IsIndexSort, NumberFits, IsReferenceKind, ReferenceFits, FieldFits, ArgumentFits, CallFits, ResultFits, CallGives, ValueFits, RightFits, TestFits, ReturnFits}
+use Rattle.lower.specs.Fits.{IsVariable, IsArray, IsIndexSort, NumberFits, IsReferenceKind, ReferenceFits, FieldFits, ArrayFits, BufferFits, ArgumentFits, CallFits, ResultFits, CallGives, ValueFits, RightFits, TestFits, ReturnFits}
 use Rattle.lower.proofs.SortFacts.{scope_of, slot_of_name, HasNoTruth, IsNoBuffer, IsFine, elements, indexed, index_is_value, number_fits}
 use Rattle.lower.proofs.PlaceFacts.{and_left, and_right, not_false}
-use Rattle.lower.proofs.BuiltCalls.{BuiltCall, built_call, is_passed, is_taken, are_passed, result_taken, is_not_tested}
+use Rattle.lower.proofs.BuiltCalls.{BuiltCall, built_call, is_taken, result_taken, is_not_tested}
 use Rattle.lower.proofs.BufferFacts.{IsBuilt, AreFree, AreNotFree, elements_fit, both_not_free}
 
 -- ---- sorts by their tests
@@ -51,6 +52,24 @@ reference_is : (o : Option Sort) → is_reference o ≡ true → (s : Sort) × (
 reference_is (Some Ref) h = (Ref, refl, inl refl)
 reference_is (Some Global) h = (Global, refl, inr refl)
 reference_is o h = absurd (cc)
+
+same_types : (t u : ElementType) → same_element t u ≡ true → u ≡ t
+same_types JInt JInt h = refl
+same_types JShort JShort h = refl
+same_types JByte JByte h = refl
+same_types JChar JChar h = refl
+same_types t u h = absurd (cc)
+
+array_is : (t : ElementType) (o : Option Sort) → is_array_of t o ≡ true → (size : ℕ) × (o ≡ Some (Array t size))
+array_is t (Some (Array u size)) h = (size, ap (λ (e : ElementType). Some (Array e size)) (same_types t u h))
+array_is t o h = absurd (cc)
+
+some_buffer : (access : Access) (o : Option Sort) → is_buffer_for access o ≡ true → (s : Sort) × (o ≡ Some s)
+some_buffer access (Some s) h = (s, refl)
+some_buffer (ElementsCopy t) None h = absurd (cc)
+some_buffer ArrayView None h = absurd (cc)
+some_buffer CharsCopy None h = absurd (cc)
+some_buffer CharsView None h = absurd (cc)
 
 null_is : (e : Expr) → is_null e ≡ true → e ≡ tree.Named tree.Null
 null_is (tree.Named tree.Null) h = refl
@@ -99,6 +118,7 @@ pub record CallHolds (known : Known) (call : Option Call) : Type 0 where
   pub built : IsBuilt call
   pub arguments : some_passes (λ c. not (call_arguments_fit (scope_of known) c (function_named c.function))) call ≡ false
   pub count : some_passes (λ c. has_wrong_count c (function_named c.function)) call ≡ false
+  pub modes : some_passes (λ c. has_wrong_mode c (function_named c.function)) call ≡ false
   pub fine : AreFine known (called_expressions call)
 
 or_first : (a b : Bool) → a ≡ true → (a || b) ≡ true
@@ -136,41 +156,61 @@ module _ (known : Known) where
       (record { sort = FieldId; index = at.0 }, at.1, refl)
   field_fits e h = absurd (cc)
 
-  -- neither text nor address is anything else
-  text_passed : (p : ParameterKind) → is_passed p ≡ true → text_fits p ≡ true → p ≡ TextBytes
-  text_passed TextBytes passed h = refl
-  text_passed Mode passed h = absurd (cc)
-  text_passed p passed h = absurd (cc)
+  array_fits : (t : ElementType) (e : Expr) → is_array_of t (name_sort (scope_of known) e) ≡ true → ArrayFits known t e
+  array_fits t (tree.Variable x) h =
+      let array = array_is t (sort_in (scope_of known) x) h in
+      let at = slot_of_name x known (Array t array.0) array.1 in
+      (array.0, at.0, at.1)
+  array_fits t e h = absurd (cc)
 
-  no_address : (p : ParameterKind) (x : Identifier) → is_passed p ≡ true → address_fits (scope_of known) p x ≡ true → ⊥
-  no_address IsCopy x passed h = cc
-  no_address Mode x passed h = cc
-  no_address p x passed h = cc
+  buffer_named : (access : Access) (e : Expr) → is_buffer_for access (name_sort (scope_of known) e) ≡ true → BufferFits known access e
+  buffer_named access (tree.Variable x) h =
+      let s = some_buffer access (sort_in (scope_of known) x) h in
+      let at = slot_of_name x known s.0 s.1 in
+      (record { sort = s.0; index = at.0 }, at.1, subst (λ (o : Option Sort). is_buffer_for access o ≡ true) s.1 h)
+  buffer_named access e h = absurd (let s = some_buffer access None h in let c : None ≡ Some s.0 = s.1 in cc)
+
+  flag_named : (x : Identifier) → is_flag (sort_in (scope_of known) x) ≡ true → IsVariable known x Flag
+  flag_named x h = let at = slot_of_name x known Flag (flag_is (sort_in (scope_of known) x) h) in (at.0, at.1, tt)
+
+  -- a mode is one where one is asked for
+  abbrev ModeIsKept : ParameterKind → Argument → Type 0
+  ModeIsKept p a = (not (is_mode_parameter p) || is_mode a) ≡ true
+
+  text_kept : (p : ParameterKind) (bytes : List ℕ) → text_fits p ≡ true → ModeIsKept p (tree.Text bytes) → ArgumentFits known p (tree.Text bytes)
+  text_kept TextBytes bytes h mode = tt
+  text_kept Mode bytes h mode = absurd (cc)
+  text_kept p bytes h mode = absurd (cc)
+
+  address_kept : (p : ParameterKind) (x : Identifier) → address_fits (scope_of known) p x ≡ true → ModeIsKept p (tree.AddressOf x) → ArgumentFits known p (tree.AddressOf x)
+  address_kept IsCopy x h mode = flag_named x h
+  address_kept Mode x h mode = absurd (cc)
+  address_kept p x h mode = absurd (cc)
 
   module _ (no_truth : HasNoTruth known) where
-    value_passed : (p : ParameterKind) (e : Expr) → is_passed p ≡ true → IsFine known e → argument_fits (scope_of known) p (tree.Value e) ≡ true → ArgumentFits known p (tree.Value e)
-    value_passed IntNumber e passed fine h = inl (refl, number_fits known e Jint no_truth fine (jint_is (sort_of (scope_of known) e) h) tt)
-    value_passed FieldID e passed fine h = inr (inr (refl, field_fits e h))
-    value_passed TextBytes e passed fine h = absurd (cc)
-    value_passed (ArrayVariable t) e passed fine h = absurd (cc)
-    value_passed (BufferVariable a) e passed fine h = absurd (cc)
-    value_passed Mode e passed fine h = absurd (cc)
-    value_passed IsCopy e passed fine h = absurd (cc)
-    value_passed p e passed fine h = inr (inl (tt, value_is_reference p e tt h))
+    value_kept : (p : ParameterKind) (e : Expr) → IsFine known e → argument_fits (scope_of known) p (tree.Value e) ≡ true → ModeIsKept p (tree.Value e) → ArgumentFits known p (tree.Value e)
+    value_kept IntNumber e fine h mode = number_fits known e Jint no_truth fine (jint_is (sort_of (scope_of known) e) h) tt
+    value_kept FieldID e fine h mode = field_fits e h
+    value_kept TextBytes e fine h mode = absurd (cc)
+    value_kept (ArrayVariable t) e fine h mode = array_fits t e h
+    value_kept (BufferVariable access) e fine h mode = buffer_named access e h
+    value_kept Mode e fine h mode = mode
+    value_kept IsCopy e fine h mode = null_is e h
+    value_kept p e fine h mode = value_is_reference p e tt h
 
-    one_fits : (p : ParameterKind) (a : Argument) → is_passed p ≡ true → AreFine known (argument_expressions a) → argument_fits (scope_of known) p a ≡ true → ArgumentFits known p a
-    one_fits p (tree.Value e) passed fine h = value_passed p e passed fine.0 h
-    one_fits p (tree.Text t) passed fine h = text_passed p passed h
-    one_fits p (tree.AddressOf x) passed fine h = absurd (no_address p x passed h)
+    one_fits : (p : ParameterKind) (a : Argument) → AreFine known (argument_expressions a) → argument_fits (scope_of known) p a ≡ true → ModeIsKept p a → ArgumentFits known p a
+    one_fits p (tree.Value e) fine h mode = value_kept p e fine.0 h mode
+    one_fits p (tree.Text bytes) fine h mode = text_kept p bytes h mode
+    one_fits p (tree.AddressOf x) fine h mode = address_kept p x h mode
 
-    all_fit : (parameters : List ParameterKind) (arguments : List Argument) → list_all is_passed parameters ≡ true → AreFine known (flat_map argument_expressions arguments) → arguments_fit (scope_of known) parameters arguments ≡ true → length arguments ≡ length parameters → AllZip (ArgumentFits known) parameters arguments
-    all_fit [] [] passed fine h count = tt
-    all_fit [] (a ∷ arguments) passed fine h count = absurd (omega (arith, count))
-    all_fit (p ∷ parameters) [] passed fine h count = absurd (omega (arith, count))
-    all_fit (p ∷ parameters) (a ∷ arguments) passed fine h count =
+    all_fit : (parameters : List ParameterKind) (arguments : List Argument) → AreFine known (flat_map argument_expressions arguments) → arguments_fit (scope_of known) parameters arguments ≡ true → modes_fit parameters arguments ≡ true → length arguments ≡ length parameters → AllZip (ArgumentFits known) parameters arguments
+    all_fit [] [] fine h modes count = tt
+    all_fit [] (a ∷ arguments) fine h modes count = absurd (omega (arith, count))
+    all_fit (p ∷ parameters) [] fine h modes count = absurd (omega (arith, count))
+    all_fit (p ∷ parameters) (a ∷ arguments) fine h modes count =
         let both = are_both known (argument_expressions a) (flat_map argument_expressions arguments) fine in (
-          one_fits p a (and_left (is_passed p) (list_all is_passed parameters) passed) both.0 (and_left (argument_fits (scope_of known) p a) (arguments_fit (scope_of known) parameters arguments) h),
-          all_fit parameters arguments (and_right (is_passed p) (list_all is_passed parameters) passed) both.1 (and_right (argument_fits (scope_of known) p a) (arguments_fit (scope_of known) parameters arguments) h) (omega (arith, count)),
+          one_fits p a both.0 (and_left (argument_fits (scope_of known) p a) (arguments_fit (scope_of known) parameters arguments) h) (and_left (not (is_mode_parameter p) || is_mode a) (modes_fit parameters arguments) modes),
+          all_fit parameters arguments both.1 (and_right (argument_fits (scope_of known) p a) (arguments_fit (scope_of known) parameters arguments) h) (and_right (not (is_mode_parameter p) || is_mode a) (modes_fit parameters arguments) modes) (omega (arith, count)),
         )
 
     -- a call of a built function
@@ -178,12 +218,13 @@ module _ (known : Known) where
     fits_with c holds is =
         let parameters = (prototype is.function).parameters in
         let arguments : call_arguments_fit (scope_of known) c (Some is.function) ≡ true = sym (ap (call_arguments_fit (scope_of known) c) is.named) ∙ not_false (call_arguments_fit (scope_of known) c (function_named c.function)) holds.arguments in
-        let count : not (length c.arguments == length parameters) ≡ false = sym (ap (has_wrong_count c) is.named) ∙ holds.count in (
+        let count : not (length c.arguments == length parameters) ≡ false = sym (ap (has_wrong_count c) is.named) ∙ holds.count in
+        let modes : not (modes_fit parameters c.arguments) ≡ false = sym (ap (has_wrong_mode c) is.named) ∙ holds.modes in (
           record {
             function = is.function;
             named = is.named;
             built = is.built;
-            arguments = all_fit parameters c.arguments (are_passed is.function is.built) holds.fine arguments (eqb-true (length c.arguments) (length parameters) (not_false (length c.arguments == length parameters) count));
+            arguments = all_fit parameters c.arguments holds.fine arguments (not_false (modes_fit parameters c.arguments) modes) (eqb-true (length c.arguments) (length parameters) (not_false (length c.arguments == length parameters) count));
           },
           refl,
         )

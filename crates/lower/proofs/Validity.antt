@@ -14,7 +14,7 @@ use Rattle.types.specs.SortRules.{variable_sort}
 use Rattle.base.specs.Element.{JChar}
 use Rattle.code.specs.declared.instr.Target.{Target}
 use Rattle.code.specs.declared.instr.Target.TheVariants as destination
-use Rattle.jni.specs.Prototype.{function_named, ParameterKind, FieldID, IntNumber, prototype}
+use Rattle.jni.specs.Prototype.{function_named, ParameterKind, IntNumber, Mode, prototype}
 use Rattle.code.specs.declared.instr.Instr.{Instr}
 use Rattle.code.specs.declared.instr.Instr.TheVariants as instr
 use Rattle.code.specs.Depth.{depth_after, words_taken}
@@ -22,9 +22,8 @@ use Rattle.code.proofs.Pieces.{IsPiece, piece_none, piece_append, piece_one, pie
 use Rattle.source.specs.Term as term
 use Rattle.source.specs.Term.{Term, Done, Read, IsNull, Prefix, And, Or, Binary, term_of}
 use Rattle.code_generator.specs.Layout.{Slot, Known, Layout, new_slot, closed, layout_after, block_layout}
-use Rattle.code_generator.specs.Coding.{nullable_of, test_of, null_code, element_of, element_code, write_code, of_slot, load_code, prefix_code, operator_code, is_signed, skip_code, term_code, expr_code, named_call_code, value_code, right_code, assign_code, returned_code, return_code, test_code, ways_code, if_code, stmt_code, block_code, argument_code, arguments_code, operand_code, operand_of, variable_operand, arguments_texts, result_target}
-use Rattle.lower.proofs.ArgumentKinds.{by_argument}
-use Rattle.lower.specs.Fits.{IsNullable, TermHasSort, IsUntouched, term_height, NumberFits, ValueFits, RightFits, TestFits, ReturnFits, StmtFits, BlockFits, CallFits, IsReferenceKind, ArgumentFits}
+use Rattle.code_generator.specs.Coding.{nullable_of, test_of, null_code, element_of, element_code, write_code, of_slot, load_code, prefix_code, operator_code, is_signed, skip_code, term_code, expr_code, named_call_code, value_code, right_code, assign_code, returned_code, return_code, test_code, ways_code, if_code, stmt_code, block_code, argument_code, arguments_code, operand_code, operand_of, address_operand, variable_operand, arguments_texts, result_target}
+use Rattle.lower.specs.Fits.{IsNullable, TermHasSort, IsUntouched, term_height, NumberFits, ValueFits, RightFits, TestFits, ReturnFits, StmtFits, BlockFits, CallFits, ArgumentFits}
 use Rattle.lower.proofs.Bodies.{value_is}
 
 -- ---- instructions
@@ -128,6 +127,7 @@ numbers_step : (p : ParameterKind) (parameters : List ParameterKind) → numbers
 numbers_step IntNumber parameters = omega arith
 numbers_step p parameters = omega arith
 
+-- no variable is a word
 taken_slot : (o : Option Slot) (operands : List Where) → words_taken (operand_of o ∷ operands) ≡ words_taken operands
 taken_slot None operands = refl
 taken_slot (Some s) operands = by_sort s.sort s.index
@@ -136,7 +136,14 @@ taken_slot (Some s) operands = by_sort s.sort s.index
     by_sort Ref i = refl
     by_sort Global i = refl
     by_sort FieldId i = refl
+    by_sort (Array t n) i = refl
+    by_sort (Buffer t w) i = refl
     by_sort s i = refl
+
+-- and no address
+taken_address : (o : Option Slot) (operands : List Where) → words_taken (address_operand o ∷ operands) ≡ words_taken operands
+taken_address None operands = refl
+taken_address (Some s) operands = refl
 
 few_parameters : (f : JniFunction) → length (prototype f).parameters ≤ 4
 few_parameters FindClass = omega arith
@@ -146,18 +153,10 @@ few_parameters (ReleaseBuffer CharsView) = omega arith
 few_parameters (ReleaseBuffer (ElementsCopy t)) = omega arith
 few_parameters f = omega arith
 
--- a reference has no code, and is no word
-no_number : (known : Known) (line : ℕ) (p : ParameterKind) (parameters : List ParameterKind) (e : Expr) (d : ℕ) → IsReferenceKind p → IsPiece (argument_code known line (p, tree.Value e)) d d × (numbers_among (p ∷ parameters) ≡ numbers_among parameters)
-no_number known line IntNumber parameters e d kind = absurd kind
-no_number known line p parameters e d kind = (piece_none d, refl)
-
 argument_piece : (known : Known) (line : ℕ) (p : ParameterKind) (parameters : List ParameterKind) (a : Argument) (d : ℕ) → ArgumentFits known p a → d ≤ 31 → (m : ℕ) × IsPiece (argument_code known line (p, a)) d m × (m + numbers_among parameters ≡ d + numbers_among (p ∷ parameters))
-argument_piece known line p parameters a d h few =
-    by_argument known (λ p a. (m : ℕ) × IsPiece (argument_code known line (p, a)) d m × (m + numbers_among parameters ≡ d + numbers_among (p ∷ parameters)))
-    (λ e number. (suc d, number_piece known line (term_of e) Jint d number few, omega arith))
-    (λ p e kind reference. let none = no_number known line p parameters e d kind in (d, none.0, ap (λ n. d + n) (sym none.1)))
-    (λ e field. (d, piece_none d, refl))
-    (λ bytes. (d, piece_none d, refl)) p a h
+argument_piece known line IntNumber parameters (tree.Value e) d h few = (suc d, number_piece known line (term_of e) Jint d h few, omega arith)
+argument_piece known line IntNumber parameters a d h few = absurd h
+argument_piece known line p parameters a d h few = (d, piece_none d, refl)
 
 arguments_piece : (known : Known) (line : ℕ) (parameters : List ParameterKind) (arguments : List Argument) (d : ℕ) → AllZip (ArgumentFits known) parameters arguments → d + length parameters ≤ 31
     → IsPiece (arguments_code known line (zip parameters arguments)) d (d + numbers_among parameters)
@@ -171,27 +170,20 @@ arguments_piece known line (p ∷ parameters) (a ∷ arguments) d h few =
     (subst (IsPiece (arguments_code known line (zip parameters arguments)) one.0) one.2 (arguments_piece known line parameters arguments one.0 h.1 low))
 
 -- the call takes as many words
-taken_reference : (known : Known) (p : ParameterKind) (parameters : List ParameterKind) (e : Expr) (operands : List Where) → IsReferenceKind p → (words_taken (operand_code known (p, tree.Value e) ∷ operands) ≡ words_taken operands) × (numbers_among (p ∷ parameters) ≡ numbers_among parameters)
-taken_reference known IntNumber parameters e operands kind = absurd kind
-taken_reference known p parameters (tree.Variable x) operands kind = (taken_slot (lookup x known) operands, refl)
-taken_reference known p parameters e operands kind = (refl, refl)
-
-taken_field : (known : Known) (e : Expr) (operands : List Where) → words_taken (operand_code known (FieldID, tree.Value e) ∷ operands) ≡ words_taken operands
-taken_field known (tree.Variable x) operands = taken_slot (lookup x known) operands
-taken_field known e operands = refl
+word_is : (known : Known) (p : ParameterKind) (parameters : List ParameterKind) (a : Argument) (operands : List Where) → ArgumentFits known p a → words_taken operands ≡ numbers_among parameters → words_taken (operand_code known (p, a) ∷ operands) ≡ numbers_among (p ∷ parameters)
+word_is known IntNumber parameters (tree.Value e) operands h more = ap (λ n. suc n) more
+word_is known IntNumber parameters a operands h more = absurd h
+word_is known Mode parameters (tree.Value e) operands h more = more
+word_is known p parameters (tree.Value (tree.Variable x)) operands h more = taken_slot (lookup x known) operands ∙ more
+word_is known p parameters (tree.Value e) operands h more = more
+word_is known p parameters (tree.Text bytes) operands h more = more
+word_is known p parameters (tree.AddressOf x) operands h more = taken_address (lookup x known) operands ∙ more
 
 words_are : (known : Known) (parameters : List ParameterKind) (arguments : List Argument) → AllZip (ArgumentFits known) parameters arguments → words_taken (map (operand_code known) (zip parameters arguments)) ≡ numbers_among parameters
 words_are known [] [] h = refl
 words_are known [] (a ∷ arguments) h = absurd h
 words_are known (p ∷ parameters) [] h = absurd h
-words_are known (p ∷ parameters) (a ∷ arguments) h =
-    let others = map (operand_code known) (zip parameters arguments) in
-    let more = words_are known parameters arguments h.1 in
-    by_argument known (λ p a. words_taken (operand_code known (p, a) ∷ others) ≡ numbers_among (p ∷ parameters))
-    (λ e number. ap (λ n. suc n) more)
-    (λ p e kind reference. let both = taken_reference known p parameters e others kind in both.0 ∙ more ∙ sym both.1)
-    (λ e field. taken_field known e others ∙ more)
-    (λ bytes. more) p a h.0
+words_are known (p ∷ parameters) (a ∷ arguments) h = word_is known p parameters a (map (operand_code known) (zip parameters arguments)) h.0 (words_are known parameters arguments h.1)
 
 -- no function has more than four parameters
 call_instr : (line : ℕ) (target : Target) (f : JniFunction) (operands : List Where) (texts : List (List ℕ)) (n : ℕ) → words_taken operands ≡ n → IsPiece (instr.Call (record { line = line; target = target; function = f; operands = operands; texts = texts }) ∷ []) n 0

@@ -10,10 +10,11 @@ use Rattle.syntax.specs.Tree.{BinaryOp, LogicalOr, LogicalAnd, BitOr, BitXor, Bi
 use Rattle.types.specs.Sorts.{Sort, Jint, Ref, Global, FieldId, Buffer, Array}
 use Rattle.types.specs.Sorts as sort
 use Rattle.types.specs.SortRules.{variable_sort}
-use Rattle.base.specs.Element.{JChar}
+use Rattle.base.specs.Element.{ElementType, JChar}
 use Rattle.code.specs.declared.instr.Target.{Target}
 use Rattle.code.specs.declared.instr.Target.TheVariants as destination
-use Rattle.jni.specs.Prototype.{ParameterKind, FieldID, IntNumber, ResultKind, NewLocal, GivesFlag, GivesInt, GivesField, function_named, prototype}
+use Rattle.jni.specs.JniFunction.{Access}
+use Rattle.jni.specs.Prototype.{ParameterKind, FieldID, IntNumber, TextBytes, ArrayVariable, BufferVariable, Mode, IsCopy, ResultKind, NewLocal, GivesFlag, GivesInt, GivesField, function_named, prototype}
 use Rattle.code.specs.declared.instr.Instr.{Instr}
 use Rattle.code.specs.declared.instr.Instr.TheVariants as instr
 use Rattle.code.specs.declared.slots.SlotCounts.{SlotCounts}
@@ -21,9 +22,8 @@ use Rattle.code.specs.Depth.{operand_within, within_slots, target_within}
 use Rattle.source.specs.Term as term
 use Rattle.source.specs.Term.{Term, Done, Read, IsNull, Prefix, And, Or, Binary, term_of}
 use Rattle.code_generator.specs.Layout.{Slot, Known, Layout, next_index, slots_after, new_slot, closed, layout_after, block_layout}
-use Rattle.code_generator.specs.Coding.{nullable_of, test_of, null_code, element_code, write_code, of_slot, load_code, prefix_code, operator_code, is_signed, skip_code, term_code, expr_code, variable_operand, operand_of, arguments_texts, result_target, operand_code, named_call_code, value_code, right_code, assign_code, returned_code, return_code, test_code, ways_code, turn_code, if_code, stmt_code, block_code, argument_code, arguments_code}
-use Rattle.lower.proofs.ArgumentKinds.{by_argument}
-use Rattle.lower.specs.Fits.{IsNullable, TermHasSort, NumberFits, IndexWithin, IsLaidOut, HasRoomFor, ArgumentFits, ValueFits, RightFits, TestFits, ReturnFits, StmtFits, BlockFits, CallFits, IsReferenceKind, ReferenceFits, FieldFits, ResultFits}
+use Rattle.code_generator.specs.Coding.{nullable_of, test_of, null_code, element_code, write_code, of_slot, load_code, prefix_code, operator_code, is_signed, skip_code, term_code, expr_code, variable_operand, operand_of, address_operand, arguments_texts, result_target, operand_code, named_call_code, value_code, right_code, assign_code, returned_code, return_code, test_code, ways_code, turn_code, if_code, stmt_code, block_code, argument_code, arguments_code}
+use Rattle.lower.specs.Fits.{IsNullable, TermHasSort, NumberFits, IndexWithin, IsLaidOut, HasRoomFor, ArgumentFits, ValueFits, RightFits, TestFits, ReturnFits, StmtFits, BlockFits, CallFits, IsReferenceKind, ReferenceFits, FieldFits, ArrayFits, BufferFits, ResultFits}
 use Rattle.lower.specs.Slots.{IsNumberSort}
 use Rattle.lower.proofs.Bodies.{value_is}
 use Rattle.lower.proofs.Layouts.{SizeFits, index_more, room_before, room_at_least, declared_slot, laid_after, laid_more, variable_size, block_grows, stmt_grows}
@@ -128,29 +128,50 @@ module _ (slots : SlotCounts) where
   slot_within Ref i h = lt-ltb i slots.references h
   slot_within Global i h = lt-ltb i slots.statics h
   slot_within FieldId i h = lt-ltb i slots.field_ids h
-  slot_within (Buffer t w) i h = refl
-  slot_within (Array t n) i h = refl
+  slot_within (Buffer t w) i h = lt-ltb i slots.buffers h
+  slot_within (Array t n) i h = rw (lt-ltb 0 n h.0, le-leb n 1024 h.1, le-leb (i + n) slots.numbers h.2) refl
+
+  -- the variable of a known name is there
+  name_within : (known : Known) (x : Identifier) (s : Slot) → AllThere known → lookup x known ≡ Some s → operand_within slots (operand_of (lookup x known)) ≡ true
+  name_within known x s all found = ap (λ (o : Option Slot). operand_within slots (operand_of o)) found ∙ slot_within s.sort s.index (all x s found)
 
   reference_within : (known : Known) (p : ParameterKind) (e : Expr) → IsReferenceKind p → AllThere known → ReferenceFits known e → operand_within slots (operand_code known (p, tree.Value e)) ≡ true
   reference_within known IntNumber e kind all h = absurd kind
+  reference_within known Mode e kind all h = absurd kind
   reference_within known p (tree.Named tree.Null) kind all h = refl
-  reference_within known p (tree.Variable x) kind all h = ap (λ (o : Option Slot). operand_within slots (operand_of o)) h.1 ∙ slot_within h.0.sort h.0.index (all x h.0 h.1)
+  reference_within known p (tree.Variable x) kind all h = name_within known x h.0 all h.1
   reference_within known p e kind all h = absurd h
 
   field_within : (known : Known) (e : Expr) → AllThere known → FieldFits known e → operand_within slots (operand_code known (FieldID, tree.Value e)) ≡ true
   field_within known (tree.Named tree.Null) all h = refl
-  field_within known (tree.Variable x) all h = ap (λ (o : Option Slot). operand_within slots (operand_of o)) h.1 ∙ slot_within h.0.sort h.0.index (all x h.0 h.1)
+  field_within known (tree.Variable x) all h = name_within known x h.0 all h.1
   field_within known e all h = absurd h
 
-  no_code : (known : Known) (line : ℕ) (p : ParameterKind) (e : Expr) → IsReferenceKind p → argument_code known line (p, tree.Value e) ≡ []
-  no_code known line IntNumber e kind = absurd kind
-  no_code known line p e kind = refl
+  array_within : (known : Known) (t : ElementType) (e : Expr) → AllThere known → ArrayFits known t e → operand_within slots (operand_code known (ArrayVariable t, tree.Value e)) ≡ true
+  array_within known t (tree.Variable x) all h = name_within known x (record { sort = Array t h.0; index = h.1 }) all h.2
+  array_within known t e all h = absurd h
+
+  buffer_within : (known : Known) (access : Access) (e : Expr) → AllThere known → BufferFits known access e → operand_within slots (operand_code known (BufferVariable access, tree.Value e)) ≡ true
+  buffer_within known access (tree.Variable x) all h = name_within known x h.0 all h.1
+  buffer_within known access e all h = absurd h
 
   operand_fits : (known : Known) (p : ParameterKind) (a : Argument) → AllThere known → ArgumentFits known p a → operand_within slots (operand_code known (p, a)) ≡ true
-  operand_fits known p a all h = by_argument known (λ p a. operand_within slots (operand_code known (p, a)) ≡ true) (λ e number. refl) (λ p e kind reference. reference_within known p e kind all reference) (λ e field. field_within known e all field) (λ bytes. refl) p a h
+  operand_fits known IntNumber (tree.Value e) all h = refl
+  operand_fits known FieldID (tree.Value e) all h = field_within known e all h
+  operand_fits known TextBytes (tree.Text bytes) all h = refl
+  operand_fits known TextBytes (tree.Value e) all h = absurd h
+  operand_fits known (ArrayVariable t) (tree.Value e) all h = array_within known t e all h
+  operand_fits known (BufferVariable access) (tree.Value e) all h = buffer_within known access e all h
+  operand_fits known Mode (tree.Value e) all h = refl
+  operand_fits known IsCopy (tree.Value e) all h = ap (λ (d : Expr). operand_within slots (operand_code known (IsCopy, tree.Value d))) h
+  operand_fits known IsCopy (tree.AddressOf x) all h = ap (λ (o : Option Slot). operand_within slots (address_operand o)) h.1 ∙ lt-ltb h.0 slots.numbers (all x (record { sort = sort.Flag; index = h.0 }) h.1)
+  operand_fits known p (tree.Value e) all h = reference_within known p e tt all h
+  operand_fits known p a all h = absurd h
 
   argument_within : (known : Known) (line : ℕ) (p : ParameterKind) (a : Argument) → AllThere known → ArgumentFits known p a → AllWithin (argument_code known line (p, a))
-  argument_within known line p a all h = by_argument known (λ p a. AllWithin (argument_code known line (p, a))) (λ e number. term_within known line (term_of e) Jint all number.sort) (λ p e kind reference. subst AllWithin (sym (no_code known line p e kind)) refl) (λ e field. refl) (λ bytes. refl) p a h
+  argument_within known line IntNumber (tree.Value e) all h = term_within known line (term_of e) Jint all h.sort
+  argument_within known line IntNumber a all h = absurd h
+  argument_within known line p a all h = refl
 
   operands_fit : (known : Known) (parameters : List ParameterKind) (arguments : List Argument) → AllThere known → AllZip (ArgumentFits known) parameters arguments → list_all (operand_within slots) (map (operand_code known) (zip parameters arguments)) ≡ true
   operands_fit known [] [] all h = refl

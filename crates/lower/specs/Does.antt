@@ -5,13 +5,13 @@ use Rattle.std.specs.List.{AllZip}
 use Rattle.std.specs.Int.{w32, cast_signed}
 use Rattle.base.specs.Bytes.{Identifier, lookup}
 use Rattle.base.specs.Element.{ElementType}
-use Rattle.jni.specs.JniFunction.{JniFunction}
+use Rattle.jni.specs.JniFunction.{Access, JniFunction}
 use Rattle.jni.specs.BuiltFunctions.{is_built_function}
-use Rattle.jni.specs.Prototype.{ParameterKind, FieldID, IntNumber, TextBytes, ResultKind, NewLocal, GivesField, prototype}
-use Rattle.types.specs.Sorts.{Sort, Ref, Global, FieldId}
+use Rattle.jni.specs.Prototype.{ParameterKind, FieldID, IntNumber, TextBytes, ArrayVariable, BufferVariable, Mode, IsCopy, ResultKind, NewLocal, GivesField, prototype}
+use Rattle.types.specs.Sorts.{Sort, Flag, Ref, Global, FieldId, Buffer}
 use Rattle.classes.specs.Fields as source
 use Rattle.source.specs.Object.{Reference}
-use Rattle.source.specs.Arguments.{Actual, ReferenceActual, FieldActual, NumberActual, TextActual}
+use Rattle.source.specs.Arguments.{Actual, ReferenceActual, FieldActual, NumberActual, TextActual, VariableActual, ModeActual, NothingActual, ReleaseMode}
 use Rattle.source.specs.Effect.{Effect, Becomes, Sets, SetsNull, SetsElement, MakesArray, Prints, Calls, Returns, TrapsAt, NoEffect}
 use Rattle.source.specs.Task.{Task, Target, Declared, Assigned, Dropped, VariableKind, ScalarKind, ReferenceKind, FieldKind}
 use Rattle.source.specs.Value.{Value, Trap, Int, Gives}
@@ -31,10 +31,11 @@ use Rattle.code.specs.declared.instr.PlainTrap.{PlainTrap}
 use Rattle.code.specs.declared.instr.PlainTrap.TheVariants as trap
 use Rattle.code.specs.Depth.{Listing}
 use Rattle.code.specs.Effect.{truth_word, plain_of}
+use Rattle.code_generator.specs.Coding.{mode_code}
 use Rattle.code_generator.specs.Layout.{Known}
 use Rattle.lower.specs.Slots.{word_of, ValueHasSort, Visible, Slots, Shows, IsSet, IsNulled, IsReferred, IsFieldSet, IsMade, IsElementSet, holds_null, with_null}
 use Rattle.lower.specs.Stands.{target_name, number_sort, StandsFor}
-use Rattle.lower.specs.Fits.{IsReferenceKind}
+use Rattle.lower.specs.Fits.{IsReferenceKind, TakesNull, IsArray}
 
 -- the instructions that leave a function
 abbrev pub IsReturn : Instr → Type 0
@@ -62,14 +63,35 @@ AtEnd P place (plain.Skip n) = P (place + 1 + n)
 AtEnd P place (plain.Back n) = (n ≤ place) × P (place - n)
 AtEnd P place (plain.Trap t line) = ⊥
 
--- an operand fits its parameter: a number, a field ID, a text, or a reference; NULL is a reference or a field ID
+-- an operand fits its parameter
 abbrev pub OperandFits : ParameterKind → Where → Type 0
 OperandFits p operand.Number = p ≡ IntNumber
 OperandFits p (operand.FieldId i) = p ≡ FieldID
 OperandFits p operand.Text = p ≡ TextBytes
-OperandFits p operand.Null = IsReferenceKind p ⊎ (p ≡ FieldID)
+OperandFits p operand.Null = TakesNull p
 OperandFits p (operand.Local i) = IsReferenceKind p
 OperandFits p (operand.Static i) = IsReferenceKind p
+OperandFits p (operand.Array array) = (t : ElementType) × (p ≡ ArrayVariable t)
+OperandFits p (operand.Buffer i) = (access : Access) × (p ≡ BufferVariable access)
+OperandFits p (operand.Mode mode) = p ≡ Mode
+OperandFits p (operand.IsCopy i) = p ≡ IsCopy
+
+-- a parameter that a variable itself is given for
+abbrev pub IsVariableKind : ParameterKind → Type 0
+IsVariableKind (ArrayVariable t) = Unit {0}
+IsVariableKind (BufferVariable access) = Unit {0}
+IsVariableKind IsCopy = Unit {0}
+IsVariableKind p = ⊥
+
+-- an argument is what its parameter asks for
+abbrev pub ActualFits : ParameterKind → Actual → Type 0
+ActualFits p (ReferenceActual x r) = IsReferenceKind p
+ActualFits p (FieldActual f) = p ≡ FieldID
+ActualFits p (NumberActual z) = p ≡ IntNumber
+ActualFits p (TextActual bytes) = p ≡ TextBytes
+ActualFits p (VariableActual x) = IsVariableKind p
+ActualFits p (ModeActual m) = p ≡ Mode
+ActualFits p NothingActual = p ≡ IsCopy
 
 -- the word of an argument that is a number
 abbrev pub word_given : Actual → List ℕ
@@ -146,10 +168,10 @@ module _ (code : Listing) (known : Known) (place : ℕ) (stack : List ℕ) (slot
     pub is : cast_signed w32 word ≡ number
     pub stands : StandsFor code known (place + 1) [] tasks
 
-  -- an argument is NULL, the reference in the slot, or of the static, of a known name, a `jint`, the field ID in the slot of a
-  -- known name, or a text
+  -- An argument is NULL for a reference, a field ID or `isCopy`; the reference or the field ID of a known name; a `jint`; a
+  -- text; a local array, a buffer or a flag with a known name; or a release mode.
   abbrev pub IsOperand : Where → Actual → Type 0
-  IsOperand operand.Null actual = ((x : Identifier) × (actual ≡ ReferenceActual x Empty)) ⊎ (actual ≡ FieldActual None)
+  IsOperand operand.Null actual = ((x : Identifier) × (actual ≡ ReferenceActual x Empty)) ⊎ (actual ≡ FieldActual None) ⊎ (actual ≡ NothingActual)
   IsOperand (operand.Local i) actual =
       (x : Identifier) × (actual ≡ ReferenceActual x (visible.sight.reference x)) × (lookup x known ≡ Some (record { sort = Ref; index = i }))
   IsOperand (operand.Static i) actual =
@@ -158,6 +180,11 @@ module _ (code : Listing) (known : Known) (place : ℕ) (stack : List ℕ) (slot
   IsOperand (operand.FieldId i) actual =
       (x : Identifier) × (actual ≡ FieldActual (visible.sight.field x)) × (lookup x known ≡ Some (record { sort = FieldId; index = i }))
   IsOperand operand.Text actual = (bytes : List ℕ) × (actual ≡ TextActual bytes)
+  IsOperand (operand.Array array) actual = (x : Identifier) × (actual ≡ VariableActual x) × (t : ElementType) × IsArray known x t array.len array.start
+  IsOperand (operand.Buffer i) actual =
+      (x : Identifier) × (actual ≡ VariableActual x) × (t : ElementType) × (writable : Bool) × (lookup x known ≡ Some (record { sort = Buffer t writable; index = i }))
+  IsOperand (operand.Mode mode) actual = (m : ReleaseMode) × (actual ≡ ModeActual m) × (mode ≡ mode_code m)
+  IsOperand (operand.IsCopy i) actual = (x : Identifier) × (actual ≡ VariableActual x) × (lookup x known ≡ Some (record { sort = Flag; index = i }))
 
   -- What the call gives goes into a slot: then the slots show the variable with it, and the next place stands for these tasks.
   pub record TakesNumber (s : Sort) (i : ℕ) (x : Identifier) (tasks : List Task) : Type 0 where
@@ -204,6 +231,7 @@ module _ (code : Listing) (known : Known) (place : ℕ) (stack : List ℕ) (slot
     pub texts : call.texts ≡ texts_given args
     pub count : length args ≡ length (prototype f).parameters
     pub kinds : AllZip OperandFits (prototype f).parameters call.operands
+    pub fit : AllZip ActualFits (prototype f).parameters args
     pub given : AllZip IsOperand call.operands args
     pub goes : TakesResult call.target (prototype f).result target tasks
 

@@ -1,15 +1,15 @@
 -- What lowering knows of the statements of an accepted function.
-use Rattle.std.specs.Prelude.{◌≡◌, ◌≢◌, ℕ, ◌+◌, ◌^◌, ◌<◌, ◌≤◌, ◌⊎◌, max, true, false, length, Some, None}
+use Rattle.std.specs.Prelude.{◌≡◌, ◌≢◌, ℕ, ◌+◌, ◌^◌, ◌<◌, ◌≤◌, ◌⊎◌, max, true, false, length, Some, None, IsTrue}
 use Rattle.std.specs.List.{AllZip}
 use Rattle.base.specs.Bytes.{Identifier, lookup}
 use Rattle.base.specs.Element.{ElementType, JChar}
 use Rattle.syntax.specs.Tree as tree
 use Rattle.syntax.specs.Tree.{LogicalNot, Complement, ToWord, ToInt, Expr, Argument, Call, RightSide, FromExpr, FromCall, Test, TestExpr, TestCall, Stmt, Block, End, Next, Function}
-use Rattle.jni.specs.JniFunction.{JniFunction}
+use Rattle.jni.specs.JniFunction.{Access, JniFunction}
 use Rattle.jni.specs.BuiltFunctions.{is_built_function}
-use Rattle.jni.specs.Prototype.{ParameterKind, Nullable, NonNull, ClassObject, ObjectArray, StringObject, NumberArray, LocalVariable, StaticVariable, FieldID, IntNumber, TextBytes, ResultKind, NewLocal, GivesFlag, GivesInt, GivesField, function_named, prototype}
-use Rattle.types.specs.Sorts.{Sort, Word, Jint, Flag, Truth, Ref, Global, FieldId, Buffer, Array, OperatorGroup, Logic, Equality, Order, OnWords, group}
-use Rattle.types.specs.SortRules.{variable_sort}
+use Rattle.jni.specs.Prototype.{ParameterKind, Nullable, NonNull, ClassObject, ObjectArray, StringObject, NumberArray, LocalVariable, StaticVariable, FieldID, IntNumber, TextBytes, ArrayVariable, BufferVariable, Mode, IsCopy, ResultKind, NewLocal, GivesFlag, GivesInt, GivesField, function_named, prototype}
+use Rattle.types.specs.Sorts.{Sort, Word, Jint, Flag, Truth, Ref, Global, FieldId, Buffer, Array, OperatorGroup, Logic, Equality, Order, OnWords, group, is_buffer_for}
+use Rattle.types.specs.SortRules.{variable_sort, is_mode}
 use Rattle.code.specs.declared.slots.SlotCounts.{SlotCounts}
 use Rattle.source.specs.Term as term
 use Rattle.source.specs.Term.{Term, Done, Read, And, Or, IsNull, Prefix, Binary, term_of}
@@ -154,17 +154,40 @@ IsReferenceKind LocalVariable = Unit {0}
 IsReferenceKind StaticVariable = Unit {0}
 IsReferenceKind p = ⊥
 
+-- a parameter that `NULL` may stand for
+abbrev pub TakesNull : ParameterKind → Type 0
+TakesNull FieldID = Unit {0}
+TakesNull IsCopy = Unit {0}
+TakesNull p = IsReferenceKind p
+
 -- NULL, or the name of a field ID
 abbrev pub FieldFits : Known → Expr → Type 0
 FieldFits known (tree.Named tree.Null) = Unit {0}
 FieldFits known (tree.Variable x) = (s : Slot) × (lookup x known ≡ Some s) × (s.sort ≡ FieldId)
 FieldFits known e = ⊥
 
--- an argument for a parameter: a number, a reference, a field ID or a text today
+-- the name of a local array with elements of this type
+abbrev pub ArrayFits : Known → ElementType → Expr → Type 0
+ArrayFits known t (tree.Variable x) = (size : ℕ) × (start : ℕ) × IsArray known x t size start
+ArrayFits known t e = ⊥
+
+-- the name of a buffer that this access may fill
+abbrev pub BufferFits : Known → Access → Expr → Type 0
+BufferFits known access (tree.Variable x) = (s : Slot) × (lookup x known ≡ Some s) × IsTrue (is_buffer_for access (Some s.sort))
+BufferFits known access e = ⊥
+
+-- an argument for a parameter
 abbrev pub ArgumentFits : Known → ParameterKind → Argument → Type 0
-ArgumentFits known p (tree.Value e) =
-    ((p ≡ IntNumber) × NumberFits known (term_of e) Jint) ⊎ (IsReferenceKind p × ReferenceFits known e) ⊎ ((p ≡ FieldID) × FieldFits known e)
-ArgumentFits known p (tree.Text bytes) = p ≡ TextBytes
+ArgumentFits known IntNumber (tree.Value e) = NumberFits known (term_of e) Jint
+ArgumentFits known FieldID (tree.Value e) = FieldFits known e
+ArgumentFits known TextBytes (tree.Text bytes) = Unit {0}
+ArgumentFits known TextBytes (tree.Value e) = ⊥
+ArgumentFits known (ArrayVariable t) (tree.Value e) = ArrayFits known t e
+ArgumentFits known (BufferVariable access) (tree.Value e) = BufferFits known access e
+ArgumentFits known Mode (tree.Value e) = IsTrue (is_mode (tree.Value e))
+ArgumentFits known IsCopy (tree.Value e) = e ≡ tree.Named tree.Null
+ArgumentFits known IsCopy (tree.AddressOf x) = IsVariable known x Flag
+ArgumentFits known p (tree.Value e) = ReferenceFits known e
 ArgumentFits known p a = ⊥
 
 -- a call of a function that is built, with an argument for each parameter

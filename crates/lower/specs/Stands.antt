@@ -5,17 +5,20 @@ use Rattle.base.specs.Bytes.{Identifier, lookup}
 use Rattle.base.specs.Element.{ElementType}
 use Rattle.syntax.specs.Tree as tree
 use Rattle.syntax.specs.Tree.{BitOr, Expr, Stmt, Block, End, Next}
-use Rattle.jni.specs.JniFunction.{JniFunction}
+use Rattle.jni.specs.JniFunction.{Access, JniFunction}
 use Rattle.jni.specs.BuiltFunctions.{is_built_function}
-use Rattle.jni.specs.Prototype.{ParameterKind, FieldID, IntNumber, TextBytes, ResultKind, NewLocal, GivesFlag, GivesInt, GivesField, prototype}
+use Rattle.jni.specs.Prototype.{ParameterKind, FieldID, IntNumber, TextBytes, ArrayVariable, BufferVariable, Mode, IsCopy, ResultKind, NewLocal, GivesFlag, GivesInt, GivesField, prototype}
 use Rattle.types.specs.Sorts.{Sort, Jint, Truth, Ref, Global, FieldId, Buffer, Array}
 use Rattle.types.specs.Sorts as sort
+use Rattle.source.specs.Arguments.{mode_of}
 use Rattle.source.specs.Task.{Task, SetScalar, SetElement, SetNull, MakeArray, Invoke, Print, Branch, EndIf, Loop, EndTurn, Return, ReturnValue, Impossible, Target, Declared, Assigned, Tested, Dropped, VariableKind, ScalarKind, ReferenceKind, FieldKind, BufferKind, Operand, NumberOperand, Given}
 use Rattle.source.specs.Term as term
 use Rattle.source.specs.Term.{Term, Done, Read, And, Or, Prefix, Binary, term_of}
 use Rattle.code.specs.Call.{Call}
 use Rattle.code.specs.declared.instr.Operand.{Operand as Where}
 use Rattle.code.specs.declared.instr.Operand.TheVariants as operand
+use Rattle.code.specs.declared.instr.LocalArray.{LocalArray}
+use Rattle.code.specs.declared.instr.ReleaseMode.{ReleaseMode}
 use Rattle.code.specs.declared.instr.NullableVariable.{NullableVariable}
 use Rattle.code.specs.declared.instr.ReferenceOperand.TheVariants.{Null, Local}
 use Rattle.code.specs.declared.instr.Target.{Target as Destination}
@@ -25,8 +28,8 @@ use Rattle.code.specs.declared.instr.Instr.TheVariants as instr
 use Rattle.code.specs.declared.slots.SlotCounts.{SlotCounts}
 use Rattle.code.specs.Depth.{Listing}
 use Rattle.code_generator.specs.Layout.{Slot, Known, Layout, block_layout}
-use Rattle.code_generator.specs.Coding.{nullable_of, element_of, term_code, expr_code, ways_code, turn_code, block_code}
-use Rattle.lower.specs.Fits.{IsReferenceKind, IsArray, IsIndexSort, TermHasSort, IsUntouched, NumberFits, IndexWithin, IsOwn, IsLaidOut, HasRoomFor, BlockFits}
+use Rattle.code_generator.specs.Coding.{mode_code, nullable_of, element_of, term_code, expr_code, ways_code, turn_code, block_code}
+use Rattle.lower.specs.Fits.{IsReferenceKind, TakesNull, IsArray, IsIndexSort, TermHasSort, IsUntouched, NumberFits, IndexWithin, IsOwn, IsLaidOut, HasRoomFor, BlockFits}
 use Rattle.lower.specs.Slots.{word_of, IsNumberSort}
 
 -- ---- terms
@@ -159,9 +162,9 @@ pub record ReferenceStands (p : ParameterKind) (given : Operand) (e : Expr) : Ty
   pub kind : IsReferenceKind p
   pub is : given ≡ Given (tree.Value e)
 
--- NULL for a reference or a field ID
+-- NULL for a reference, a field ID or `isCopy`
 pub record NullStands (p : ParameterKind) (given : Operand) : Type 0 where
-  pub kind : IsReferenceKind p ⊎ (p ≡ FieldID)
+  pub kind : TakesNull p
   pub is : given ≡ Given (tree.Value (tree.Named tree.Null))
 
 -- an argument that is a number, on the way to its value or with it
@@ -177,6 +180,38 @@ pub record TextStands (p : ParameterKind) (given : Operand) : Type 0 where
   pub bytes : List ℕ
   pub is : given ≡ Given (tree.Text bytes)
 
+-- an argument that is a local array
+pub record ArrayStands (known : Known) (array : LocalArray) (p : ParameterKind) (given : Operand) : Type 0 where
+  pub type : ElementType
+  pub kind : p ≡ ArrayVariable type
+  pub name : Identifier
+  pub is : given ≡ Given (tree.Value (tree.Variable name))
+  pub there : IsArray known name type array.len array.start
+
+-- an argument that is a buffer
+pub record BufferStands (known : Known) (i : ℕ) (p : ParameterKind) (given : Operand) : Type 0 where
+  pub access : Access
+  pub kind : p ≡ BufferVariable access
+  pub name : Identifier
+  pub is : given ≡ Given (tree.Value (tree.Variable name))
+  pub type : ElementType
+  pub writable : Bool
+  pub there : lookup name known ≡ Some (record { sort = Buffer type writable; index = i })
+
+-- an argument that is a release mode
+pub record ModeStands (mode : ReleaseMode) (p : ParameterKind) (given : Operand) : Type 0 where
+  pub kind : p ≡ Mode
+  pub written : Expr
+  pub is : given ≡ Given (tree.Value written)
+  pub same : mode ≡ mode_code (mode_of written)
+
+-- an argument that is the address of a flag
+pub record AddressStands (known : Known) (i : ℕ) (p : ParameterKind) (given : Operand) : Type 0 where
+  pub kind : p ≡ IsCopy
+  pub name : Identifier
+  pub is : given ≡ Given (tree.AddressOf name)
+  pub there : lookup name known ≡ Some (record { sort = sort.Flag; index = i })
+
 -- where the instruction finds an argument, for a parameter of this kind
 abbrev pub OperandStands : Known → Where → ParameterKind × Operand → Type 0
 OperandStands known operand.Null (p, given) = NullStands p given
@@ -188,6 +223,10 @@ OperandStands known operand.Number (p, given) = NumberIsUnderWay known p given
 OperandStands known (operand.FieldId i) (p, given) =
     (x : Identifier) × (p ≡ FieldID) × (given ≡ Given (tree.Value (tree.Variable x))) × (lookup x known ≡ Some (record { sort = FieldId; index = i }))
 OperandStands known operand.Text (p, given) = TextStands p given
+OperandStands known (operand.Array array) (p, given) = ArrayStands known array p given
+OperandStands known (operand.Buffer i) (p, given) = BufferStands known i p given
+OperandStands known (operand.Mode mode) (p, given) = ModeStands mode p given
+OperandStands known (operand.IsCopy i) (p, given) = AddressStands known i p given
 
 -- the instructions of an argument that is still to be worked out
 abbrev pub operand_rest : Known → (line : ℕ) → Operand → List Instr

@@ -48,7 +48,8 @@ field_there classes (a ∷ handles) (f ∷ fields) (suc i) q h e = field_there c
 module _ (p : Lowered) (classes : Classes) (space : Space) (call : Activation) (code : Listing) (visible : Visible) (frames : List Frame) (task : Task) (rest : List Task) (r : Ready p classes space call code visible frames task rest) where
   one_given : (o : Operand) (a : Actual) → IsOperand code r.known call.place call.stack (slots_of call r.references r.fields) visible o a → IsGiven classes space call.references.items call.fields.items o a
   one_given operand.Null a (inl h) = inl (record { name = h.0; reference = None; is = h.1; agrees = tt })
-  one_given operand.Null a (inr h) = inr (record { field = None; is = h; agrees = tt })
+  one_given operand.Null a (inr (inl h)) = inr (inl (record { field = None; is = h; agrees = tt }))
+  one_given operand.Null a (inr (inr h)) = inr (inr h)
   one_given (operand.Local i) a h =
       let shown = r.shows.each h.0 (record { sort = Ref; index = i }) h.2 in
       record {
@@ -65,6 +66,10 @@ module _ (p : Lowered) (classes : Classes) (space : Space) (call : Activation) (
       let shown = r.shows.each h.0 (record { sort = sort.FieldId; index = i }) h.2 in
       record { field = shown.field; is = h.1 ∙ ap FieldActual shown.is; agrees = field_there classes call.fields.items r.fields i shown.field r.fields_agree shown.there }
   one_given operand.Text a h = h
+  one_given (operand.Array array) a h = (h.0, h.1)
+  one_given (operand.Buffer i) a h = (h.0, h.1)
+  one_given (operand.Mode mode) a h = h
+  one_given (operand.IsCopy i) a h = (h.0, h.1)
 
   pub all_given : (operands : List Operand) (args : List Actual) → AllZip (IsOperand code r.known call.place call.stack (slots_of call r.references r.fields) visible) operands args
       → AllZip (IsGiven classes space call.references.items call.fields.items) operands args
@@ -82,12 +87,17 @@ one_taken o = words_taken (o ∷ [])
 module _ (classes : Classes) (space : Space) (references : List (Option ℕ)) (fields : List (Option FieldHandle)) where
   word_of_one : (o : Operand) (a : Actual) → IsGiven classes space references fields o a → length (word_given a) ≡ one_taken o
   word_of_one operand.Null a (inl h) = ap (λ (b : Actual). length (word_given b)) h.is
-  word_of_one operand.Null a (inr h) = ap (λ (b : Actual). length (word_given b)) h.is
+  word_of_one operand.Null a (inr (inl h)) = ap (λ (b : Actual). length (word_given b)) h.is
+  word_of_one operand.Null a (inr (inr h)) = ap (λ (b : Actual). length (word_given b)) h
   word_of_one (operand.Local i) a h = ap (λ (b : Actual). length (word_given b)) h.is
   word_of_one (operand.Static i) a h = ap (λ (b : Actual). length (word_given b)) h.is
   word_of_one operand.Number a h = ap (λ (b : Actual). length (word_given b)) h.1
   word_of_one (operand.FieldId i) a h = ap (λ (b : Actual). length (word_given b)) h.is
   word_of_one operand.Text a h = ap (λ (b : Actual). length (word_given b)) h.1
+  word_of_one (operand.Array array) a h = ap (λ (b : Actual). length (word_given b)) h.1
+  word_of_one (operand.Buffer i) a h = ap (λ (b : Actual). length (word_given b)) h.1
+  word_of_one (operand.Mode mode) a h = ap (λ (b : Actual). length (word_given b)) h.1
+  word_of_one (operand.IsCopy i) a h = ap (λ (b : Actual). length (word_given b)) h.1
 
   first_taken : (o : Operand) (operands : List Operand) → words_taken (o ∷ operands) ≡ one_taken o + words_taken operands
   first_taken operand.Null operands = let taken : one_taken operand.Null ≡ 0 = refl in omega (arith, taken)
@@ -96,6 +106,10 @@ module _ (classes : Classes) (space : Space) (references : List (Option ℕ)) (f
   first_taken operand.Number operands = let taken : one_taken operand.Number ≡ 1 = refl in omega (arith, taken)
   first_taken (operand.FieldId i) operands = let taken : one_taken (operand.FieldId i) ≡ 0 = refl in omega (arith, taken)
   first_taken operand.Text operands = let taken : one_taken operand.Text ≡ 0 = refl in omega (arith, taken)
+  first_taken (operand.Array array) operands = let taken : one_taken (operand.Array array) ≡ 0 = refl in omega (arith, taken)
+  first_taken (operand.Buffer i) operands = let taken : one_taken (operand.Buffer i) ≡ 0 = refl in omega (arith, taken)
+  first_taken (operand.Mode mode) operands = let taken : one_taken (operand.Mode mode) ≡ 0 = refl in omega (arith, taken)
+  first_taken (operand.IsCopy i) operands = let taken : one_taken (operand.IsCopy i) ≡ 0 = refl in omega (arith, taken)
 
   taken_words : (operands : List Operand) (args : List Actual) → AllZip (IsGiven classes space references fields) operands args → words_taken operands ≡ length (words_given args)
   taken_words [] [] h = refl

@@ -4,7 +4,7 @@ use Rattle.std.specs.Prelude.{◌||◌, ◌==◌, unwrap_or, FitsSigned, ◌&&�
 use Rattle.std.specs.Int.{w32, cast_unsigned}
 use Rattle.std.specs.List.{AllZip}
 use Rattle.std.specs.Option.{option_map_or}
-use Rattle.std.proofs.lemmas.Bool.Decides.{eqb_tells}
+use Rattle.std.proofs.lemmas.Bool.Decides.{eqb_tells, nat_tests}
 use Rattle.classes.specs.BuiltIns.{class_class, has_own_making, no_class_def_found_error, no_such_field_error, string_class}
 use Rattle.classes.specs.Class.{Class, Classes, class_at, class_kind, class_named, is_plain, superclass, assignable}
 use Rattle.classes.specs.Fields.{FieldId, find_field, find_static, layout, own_statics}
@@ -15,10 +15,10 @@ use Rattle.code.specs.Effect.{truth_word, element_word}
 use Rattle.code.specs.declared.instr.Operand.{Operand}
 use Rattle.code.specs.declared.instr.Operand.TheVariants as operand
 use Rattle.heap.specs.Heap.{Space, IsLaidOut, name_at}
-use Rattle.jni.specs.JniFunction.{JniFunction, FindClass, AllocObject, GetFieldID, GetStaticFieldID, GetArrayLength, GetSuperclass, GetObjectClass, IsInstanceOf, IsAssignableFrom, GetField, SetField, GetObjectField, SetObjectField, GetStaticField, SetStaticField, GetStaticObjectField, SetStaticObjectField}
+use Rattle.jni.specs.JniFunction.{JniFunction, FindClass, AllocObject, NewLocalRef, IsSameObject, GetFieldID, GetStaticFieldID, GetArrayLength, GetSuperclass, GetObjectClass, IsInstanceOf, IsAssignableFrom, GetField, SetField, GetObjectField, SetObjectField, GetStaticField, SetStaticField, GetStaticObjectField, SetStaticObjectField}
 use Rattle.jni.specs.Prototype.{prototype, ParameterKind, ClassObject, FieldID, IntNumber, NonNull, TextBytes, NewLocal, GivesField, Nullable, GivesNothing}
 use Rattle.source.specs.Arguments.{Actual, reference_given, object_given, name_or_zero, text_given, text_in_actual, NumberActual, field_given, number_given, number_in_actual}
-use Rattle.source.specs.CallEffects.{found_class_effect, found_field_effect, heap_effect, CallEffect}
+use Rattle.source.specs.CallEffects.{found_class_effect, found_field_effect, heap_effect, same_reference, CallEffect}
 use Rattle.source.specs.CallStep.{trap_of_call}
 use Rattle.source.specs.CallTable.{call_effect}
 use Rattle.source.specs.Heap.{Heap, class_of, object_at, values_of, field_place, number_in, place_in, value_at, reference_in, static_place, with_value_at}
@@ -50,10 +50,10 @@ use Rattle.machine.specs.Answers.{IsAnswer, IsMakeable}
 use Rattle.machine.specs.Asked.{IsAsked}
 use Rattle.machine.specs.Checked.{gives_null, is_answered, misfits, some_misfit, some_missing, may_be_null}
 use Rattle.machine.specs.Given.{operand_at, operand_of, class_of_given, class_there, fits_there, name_there, IsGiven, field_at, field_there}
-use Rattle.machine.specs.HeapAgrees.{ReferenceAgrees, BlocksAgree, IsTable, ValueAgrees}
+use Rattle.machine.specs.HeapAgrees.{HeapAgrees, ReferenceAgrees, BlocksAgree, IsTable, ValueAgrees}
 use Rattle.machine.specs.WorkedOut.{count_there, class_object, found_class, IsFoundField, IsWorkedOut, place_there, value_there, word_in, address_in, held_reference, top_word, writes_there}
 use Rattle.machine.proofs.CallChecks.{class_given_is, class_is, field_at_place, fits_is, name_is, reference_at_place, handle_of}
-use Rattle.machine.proofs.BlockObjects.{Named, named}
+use Rattle.machine.proofs.BlockObjects.{Named, named, name_within}
 use Rattle.machine.proofs.CallTraps.{has_passed, none_lacking, none_unfit, handles_there}
 use Rattle.machine.proofs.FewValues.{few_values}
 use Rattle.machine.proofs.LongTables.{classes_loaded, grown_long}
@@ -107,8 +107,13 @@ module _ (classes : Classes) (space : Space) (references : List (Option ℕ)) (f
   no_text operand.Number a fits h = absurd (cc)
   no_text (operand.FieldId i) a fits h = absurd (cc)
   no_text operand.Text a fits h = absurd (cc)
+  no_text (operand.Array array) a fits h = ap does.text_given h.1
+  no_text (operand.Buffer i) a fits h = ap does.text_given h.1
+  no_text (operand.Mode mode) a fits h = ap does.text_given h.1
+  no_text (operand.IsCopy i) a fits h = ap does.text_given h.1
   no_text operand.Null a fits (inl h) = ap does.text_given h.is
-  no_text operand.Null a fits (inr h) = ap does.text_given h.is
+  no_text operand.Null a fits (inr (inl h)) = ap does.text_given h.is
+  no_text operand.Null a fits (inr (inr h)) = ap does.text_given h
   no_text (operand.Local i) a fits h = ap does.text_given h.is
   no_text (operand.Static i) a fits h = ap does.text_given h.is
 
@@ -116,8 +121,11 @@ module _ (classes : Classes) (space : Space) (references : List (Option ℕ)) (f
   one_text operand.Number a fits h = absurd (cc)
   one_text (operand.FieldId i) a fits h = absurd (cc)
   one_text operand.Text a fits h = ap does.text_given h.1 ∙ ap (λ (b : Actual). text_in_actual (Some b) ∷ []) (sym h.1)
-  one_text operand.Null a (inl fits) h = absurd fits
-  one_text operand.Null a (inr fits) h = absurd (cc)
+  one_text operand.Null a fits h = absurd fits
+  one_text (operand.Array array) a fits h = absurd (let e = fits.1 in cc)
+  one_text (operand.Buffer i) a fits h = absurd (let e = fits.1 in cc)
+  one_text (operand.Mode mode) a fits h = absurd (cc)
+  one_text (operand.IsCopy i) a fits h = absurd (cc)
   one_text (operand.Local i) a fits h = absurd fits
   one_text (operand.Static i) a fits h = absurd fits
 
@@ -170,6 +178,10 @@ module _ (classes : Classes) (space : Space) (references : List (Option ℕ)) (f
   object_in p kind field operand.Number fits number text h = absurd (number fits)
   object_in p kind field (operand.FieldId i) fits number text h = absurd (field fits)
   object_in p kind field operand.Text fits number text h = absurd (text fits)
+  object_in p kind field (operand.Array array) fits number text h = absurd (subst IsReferenceKind fits.1 kind)
+  object_in p kind field (operand.Buffer i) fits number text h = absurd (subst IsReferenceKind fits.1 kind)
+  object_in p kind field (operand.Mode mode) fits number text h = absurd (subst IsReferenceKind fits kind)
+  object_in p kind field (operand.IsCopy i) fits number text h = absurd (subst IsReferenceKind fits kind)
   object_in p kind field operand.Null fits number text h = absurd (cc)
   object_in p kind field (operand.Static i) fits number text h = absurd (cc)
   object_in p kind field (operand.Local i) fits number text h = some_address (operand_at references (operand.Local i)) h
@@ -211,6 +223,10 @@ module _ (classes : Classes) (space : Space) (references : List (Option ℕ)) (f
   handle_in operand.Number fits h = absurd (cc)
   handle_in operand.Text fits h = absurd (cc)
   handle_in operand.Null fits h = absurd (cc)
+  handle_in (operand.Array array) fits h = absurd (let e = fits.1 in cc)
+  handle_in (operand.Buffer i) fits h = absurd (let e = fits.1 in cc)
+  handle_in (operand.Mode mode) fits h = absurd (cc)
+  handle_in (operand.IsCopy i) fits h = absurd (cc)
   handle_in (operand.Local i) fits h = absurd fits
   handle_in (operand.Static i) fits h = absurd fits
   handle_in (operand.FieldId i) fits h = some_handle (field_at fields (operand.FieldId i)) h
@@ -244,8 +260,11 @@ module _ (classes : Classes) (space : Space) (references : List (Option ℕ)) (f
       is_number : (o : Operand) (a : Actual) → OperandFits IntNumber o → IsGiven classes space references fields o a → (z : ℤ) × (a ≡ NumberActual z) × FitsSigned w32 z
       is_number operand.Number a fits h = h
       is_number operand.Text a fits h = absurd (cc)
-      is_number operand.Null a (inl fits) h = absurd fits
-      is_number operand.Null a (inr fits) h = absurd (cc)
+      is_number operand.Null a fits h = absurd fits
+      is_number (operand.Array array) a fits h = absurd (let e = fits.1 in cc)
+      is_number (operand.Buffer i) a fits h = absurd (let e = fits.1 in cc)
+      is_number (operand.Mode mode) a fits h = absurd (cc)
+      is_number (operand.IsCopy i) a fits h = absurd (cc)
       is_number (operand.Local i) a fits h = absurd fits
       is_number (operand.Static i) a fits h = absurd fits
       is_number (operand.FieldId i) a fits h = absurd (cc)
@@ -254,7 +273,12 @@ module _ (classes : Classes) (space : Space) (references : List (Option ℕ)) (f
       no_word operand.Number a kind fits h = absurd (subst IsReferenceKind fits kind)
       no_word operand.Text a kind fits h = ap does.word_given h.1
       no_word operand.Null a kind fits (inl h) = ap does.word_given h.is
-      no_word operand.Null a kind fits (inr h) = ap does.word_given h.is
+      no_word operand.Null a kind fits (inr (inl h)) = ap does.word_given h.is
+      no_word operand.Null a kind fits (inr (inr h)) = ap does.word_given h
+      no_word (operand.Array array) a kind fits h = ap does.word_given h.1
+      no_word (operand.Buffer i) a kind fits h = ap does.word_given h.1
+      no_word (operand.Mode mode) a kind fits h = ap does.word_given h.1
+      no_word (operand.IsCopy i) a kind fits h = ap does.word_given h.1
       no_word (operand.Local i) a kind fits h = ap does.word_given h.is
       no_word (operand.Static i) a kind fits h = ap does.word_given h.is
       no_word (operand.FieldId i) a kind fits h = ap does.word_given h.is
@@ -263,7 +287,12 @@ module _ (classes : Classes) (space : Space) (references : List (Option ℕ)) (f
       no_word_of_field operand.Number a fits h = absurd (cc)
       no_word_of_field operand.Text a fits h = absurd (cc)
       no_word_of_field operand.Null a fits (inl h) = ap does.word_given h.is
-      no_word_of_field operand.Null a fits (inr h) = ap does.word_given h.is
+      no_word_of_field operand.Null a fits (inr (inl h)) = ap does.word_given h.is
+      no_word_of_field operand.Null a fits (inr (inr h)) = ap does.word_given h
+      no_word_of_field (operand.Array array) a fits h = ap does.word_given h.1
+      no_word_of_field (operand.Buffer i) a fits h = ap does.word_given h.1
+      no_word_of_field (operand.Mode mode) a fits h = ap does.word_given h.1
+      no_word_of_field (operand.IsCopy i) a fits h = ap does.word_given h.1
       no_word_of_field (operand.Local i) a fits h = absurd fits
       no_word_of_field (operand.Static i) a fits h = absurd fits
       no_word_of_field (operand.FieldId i) a fits h = ap does.word_given h.is
@@ -355,6 +384,33 @@ module _ (p : Lowered) (w : World) (store : Store) (pending : Option ℕ) (call 
   answers_assignable h answer is =
       subst (λ (x : Answer). Does IsAssignableFrom x) (sym is)
       (refl, refl, ap truth_word ((λ i. assignable w.classes (name_of IsAssignableFrom h 0 i) (name_of IsAssignableFrom h 1 i))))
+
+  answers_new_local : Asked NewLocalRef → (answer : Answer) → Works NewLocalRef answer → Does NewLocalRef answer
+  unfolding call_effect
+  answers_new_local h answer is = subst (λ (x : Answer). Does NewLocalRef x) (sym is) (refl, refl, agrees NewLocalRef h 0)
+
+  -- an object has a name, so that its number isn't that of NULL
+  has_name : (o : Option ℕ) (n : ℕ) → HeapAgrees store.heap shared.heap (IsName shared.heap) → ReferenceAgrees store.heap o (Some n) → 0 < n
+  has_name None n same h = absurd h
+  has_name (Some a) n same h = (name_within store.heap shared.heap (IsName shared.heap) a n same h).0
+
+  no_null : (n : ℕ) → 0 < n → ((0 == n) ≡ false) × ((n == 0) ≡ false)
+  no_null n low =
+      let first : (0 == n) ≡ false = grind (arith, nat_tests, low) in
+      let second : (n == 0) ≡ false = grind (arith, nat_tests, low) in
+      (first, second)
+
+  same_names : (o p : Option ℕ) (q r : Reference) → HeapAgrees store.heap shared.heap (IsName shared.heap) → ReferenceAgrees store.heap o q → ReferenceAgrees store.heap p r → (name_or_zero q == name_or_zero r) ≡ same_reference q r
+  same_names o p None None same h g = refl
+  same_names o p None (Some m) same h g = (no_null m (has_name p m same g)).0
+  same_names o p (Some n) None same h g = (no_null n (has_name o n same h)).1
+  same_names o p (Some n) (Some m) same h g = refl
+
+  answers_same : Asked IsSameObject → (answer : Answer) → Works IsSameObject answer → Does IsSameObject answer
+  unfolding call_effect
+  answers_same h answer is =
+      subst (λ (x : Answer). Does IsSameObject x) (sym is)
+      (refl, refl, ap truth_word ((λ i. name_of IsSameObject h 0 i == name_of IsSameObject h 1 i) ∙ same_names (at 0) (at 1) (reference_given args 0) (reference_given args 1) h.store_agrees.heap (agrees IsSameObject h 0) (agrees IsSameObject h 1)))
 
   -- the class objects are the first of the table
   answers_superclass : Asked GetSuperclass → (answer : Answer) → Works GetSuperclass answer → Does GetSuperclass answer
@@ -622,6 +678,8 @@ module _ (p : Lowered) (w : World) (store : Store) (pending : Option ℕ) (call 
   answers GetObjectClass h target free answer is = answers_class h target free answer is
   answers IsInstanceOf h target free answer is = answers_instance h answer is
   answers IsAssignableFrom h target free answer is = answers_assignable h answer is
+  answers NewLocalRef h target free answer is = answers_new_local h answer is
+  answers IsSameObject h target free answer is = answers_same h answer is
   answers AllocObject h target free answer is = answers_alloc h target free answer is
   answers GetFieldID h target free answer is = answers_field h answer is
   answers GetStaticFieldID h target free answer is = answers_static h answer is

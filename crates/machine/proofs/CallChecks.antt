@@ -12,9 +12,9 @@ use Rattle.class_table.specs.declared.class.FieldHandle.{FieldHandle}
 use Rattle.code.specs.declared.instr.Operand.{Operand}
 use Rattle.code.specs.declared.instr.Operand.TheVariants as operand
 use Rattle.heap.specs.Heap.{Space, IsAddress}
-use Rattle.jni.specs.JniFunction.{JniFunction, is_allowed_pending, AllocObject, FindClass, GetFieldID, GetStaticFieldID, GetField, SetField, GetStaticField, SetStaticField, GetObjectField, SetObjectField, GetStaticObjectField, SetStaticObjectField, GetArrayLength, GetSuperclass, GetObjectClass, IsInstanceOf, IsAssignableFrom, PopLocalFrame}
-use Rattle.jni.specs.Prototype.{ParameterKind, Nullable, LocalVariable, StaticVariable, ClassObject, NumberArray, ObjectArray, StringObject, ResultKind, NewLocal, prototype}
-use Rattle.source.specs.Arguments.{Actual, ReferenceActual, FieldActual, NumberActual, TextActual, reference_given, reference_in_actual, name_or_zero, field_given, field_in_actual}
+use Rattle.jni.specs.JniFunction.{JniFunction, is_allowed_pending, AllocObject, NewLocalRef, IsSameObject, FindClass, GetFieldID, GetStaticFieldID, GetField, SetField, GetStaticField, SetStaticField, GetObjectField, SetObjectField, GetStaticObjectField, SetStaticObjectField, GetArrayLength, GetSuperclass, GetObjectClass, IsInstanceOf, IsAssignableFrom, PopLocalFrame}
+use Rattle.jni.specs.Prototype.{ParameterKind, Nullable, LocalVariable, StaticVariable, IsCopy, ClassObject, NumberArray, ObjectArray, StringObject, ResultKind, NewLocal, prototype}
+use Rattle.source.specs.Arguments.{Actual, ReferenceActual, FieldActual, NumberActual, TextActual, VariableActual, ModeActual, NothingActual, ReleaseMode, reference_given, reference_in_actual, name_or_zero, field_given, field_in_actual}
 use Rattle.source.specs.CallStep.{trap_of_call, target_element}
 use Rattle.source.specs.Checks.{is_deleted, is_missing, is_misfit, go_together, frames_after, is_full, lacks_room, first_trap, call_trap, fits_type, holds_number, holds_reference}
 use Rattle.source.specs.Heap.{Heap, class_of, fits_class}
@@ -23,6 +23,7 @@ use Rattle.source.specs.Task.{Target}
 use Rattle.source.specs.Thread.{Frame, Shared, Thread}
 use Rattle.source.specs.Value.{NullReference, ExceptionPending, WrongObject, DeletedReference, NoCapacity}
 use Rattle.source.specs.Variable.{Empty, Live, as_static}
+use Rattle.lower.specs.Does.{ActualFits}
 use Rattle.machine.specs.Agrees.{FieldAgrees}
 use Rattle.machine.specs.Checked.{is_answered, gives_null, may_be_null, some_missing, class_misfits, misfits, some_misfit, is_array_at, fit_together, puts_local, trap_found, fits_type_there}
 use Rattle.machine.specs.Given.{AreAddresses, AreHandles, IsGiven, ReferenceIsGiven, class_of_given, class_there, field_at, field_there, fits_there, name_there, no_field, operand_at, operand_of}
@@ -47,15 +48,20 @@ handle_of classes fields (o ∷ operands) (suc i) are h e = handle_of classes fi
 abbrev is_null_actual : Actual → Bool
 is_null_actual (ReferenceActual x Empty) = true
 is_null_actual (FieldActual None) = true
+is_null_actual NothingActual = true
 is_null_actual a = false
 
-missing_is : (p : ParameterKind) (a : Actual) → is_missing (p, a) ≡ (not (may_be_null p) && is_null_actual a)
-missing_is Nullable a = refl
-missing_is LocalVariable a = refl
-missing_is StaticVariable a = refl
-missing_is p (ReferenceActual x Empty) = refl
-missing_is p (FieldActual None) = refl
-missing_is p a = refl
+missing_is : (p : ParameterKind) (a : Actual) → ActualFits p a → is_missing (p, a) ≡ (not (may_be_null p) && is_null_actual a)
+missing_is Nullable a fits = refl
+missing_is LocalVariable a fits = refl
+missing_is StaticVariable a fits = refl
+missing_is IsCopy (ReferenceActual x Empty) fits = absurd fits
+missing_is IsCopy (FieldActual None) fits = absurd (cc)
+missing_is IsCopy a fits = refl
+missing_is p (ReferenceActual x Empty) fits = refl
+missing_is p (FieldActual None) fits = refl
+missing_is p NothingActual fits = absurd (cc)
+missing_is p a fits = refl
 
 module _ (classes : Classes) (space : Space) (references : List (Option ℕ)) (fields : List (Option FieldHandle)) where
   null_reference : (x : Identifier) (o : Option ℕ) (q : Reference) → ReferenceAgrees space o q → is_null_actual (ReferenceActual x (as_static q)) ≡ is_none o
@@ -73,21 +79,25 @@ module _ (classes : Classes) (space : Space) (references : List (Option ℕ)) (f
   null_is : (o : Operand) (a : Actual) → IsGiven classes space references fields o a → is_null_actual a ≡ gives_null references fields o
   null_is operand.Number a h = ap is_null_actual h.1
   null_is operand.Text a h = ap is_null_actual h.1
+  null_is (operand.Array array) a h = ap is_null_actual h.1
+  null_is (operand.Buffer i) a h = ap is_null_actual h.1
+  null_is (operand.Mode mode) a h = ap is_null_actual h.1
+  null_is (operand.IsCopy i) a h = ap is_null_actual h.1
   null_is operand.Null a (inl h) = ap is_null_actual h.is ∙ null_reference h.name None h.reference h.agrees
-  null_is operand.Null a (inr h) = ap is_null_actual h.is ∙ null_field None h.field h.agrees
+  null_is operand.Null a (inr (inl h)) = ap is_null_actual h.is ∙ null_field None h.field h.agrees
+  null_is operand.Null a (inr (inr h)) = ap is_null_actual h
   null_is (operand.Local i) a h = ap is_null_actual h.is ∙ null_reference h.name (operand_at references (operand.Local i)) h.reference h.agrees
   null_is (operand.Static i) a h = ap is_null_actual h.is ∙ null_reference h.name None h.reference h.agrees
   null_is (operand.FieldId i) a h = ap is_null_actual h.is ∙ null_field (field_at fields (operand.FieldId i)) h.field h.agrees
 
-  all_missing : (parameters : List ParameterKind) (operands : List Operand) (args : List Actual) → AllZip (IsGiven classes space references fields) operands args
+  all_missing : (parameters : List ParameterKind) (operands : List Operand) (args : List Actual) → AllZip ActualFits parameters args → AllZip (IsGiven classes space references fields) operands args
       → some_missing references fields parameters operands ≡ list_any is_missing (zip parameters args)
-  all_missing [] operands args h = refl
-  all_missing (p ∷ parameters) [] [] h = refl
-  all_missing (p ∷ parameters) [] (a ∷ args) h = absurd h
-  all_missing (p ∷ parameters) (o ∷ operands) [] h = absurd h
-  all_missing (p ∷ parameters) (o ∷ operands) (a ∷ args) h =
-      let one : (not (may_be_null p) && gives_null references fields o) ≡ is_missing (p, a) = ap (λ b. not (may_be_null p) && b) (sym (null_is o a h.0)) ∙ sym (missing_is p a) in
-      let further = all_missing parameters operands args h.1 in
+  all_missing [] operands args fit h = refl
+  all_missing (p ∷ parameters) operands [] fit h = absurd fit
+  all_missing (p ∷ parameters) [] (a ∷ args) fit h = absurd h
+  all_missing (p ∷ parameters) (o ∷ operands) (a ∷ args) fit h =
+      let one : (not (may_be_null p) && gives_null references fields o) ≡ is_missing (p, a) = ap (λ b. not (may_be_null p) && b) (sym (null_is o a h.0)) ∙ sym (missing_is p a fit.0) in
+      let further = all_missing parameters operands args fit.1 h.1 in
       λ i. one i || further i
 
   -- ---- deleted statics
@@ -99,8 +109,13 @@ module _ (classes : Classes) (space : Space) (references : List (Option ℕ)) (f
   whole : (o : Operand) (a : Actual) → IsGiven classes space references fields o a → is_deleted a ≡ false
   whole operand.Number a h = ap is_deleted h.1
   whole operand.Text a h = ap is_deleted h.1
+  whole (operand.Array array) a h = ap is_deleted h.1
+  whole (operand.Buffer i) a h = ap is_deleted h.1
+  whole (operand.Mode mode) a h = ap is_deleted h.1
+  whole (operand.IsCopy i) a h = ap is_deleted h.1
   whole operand.Null a (inl h) = ap is_deleted h.is ∙ whole_reference h.name h.reference
-  whole operand.Null a (inr h) = ap is_deleted h.is
+  whole operand.Null a (inr (inl h)) = ap is_deleted h.is
+  whole operand.Null a (inr (inr h)) = ap is_deleted h
   whole (operand.Local i) a h = ap is_deleted h.is ∙ whole_reference h.name h.reference
   whole (operand.Static i) a h = ap is_deleted h.is ∙ whole_reference h.name h.reference
   whole (operand.FieldId i) a h = ap is_deleted h.is
@@ -120,14 +135,22 @@ module _ (classes : Classes) (space : Space) (references : List (Option ℕ)) (f
   one_reference : (o : Operand) (a : Actual) → ReferenceIsGiven space references o a → ReferenceAgrees space (operand_at references o) (reference_in_actual (Some a))
   one_reference o a h = subst (λ q. ReferenceAgrees space (operand_at references o) q) (sym (ap (λ b. reference_in_actual (Some b)) h.is ∙ reference_itself h.name h.reference)) h.agrees
 
+  no_reference : (a b : Actual) → a ≡ b → ReferenceAgrees space None (reference_in_actual (Some b)) → ReferenceAgrees space None (reference_in_actual (Some a))
+  no_reference a b is h = subst (λ (c : Actual). ReferenceAgrees space None (reference_in_actual (Some c))) (sym is) h
+
   reference_is : (o : Operand) (a : Actual) → IsGiven classes space references fields o a → ReferenceAgrees space (operand_at references o) (reference_in_actual (Some a))
-  reference_is operand.Number a h = subst (λ b. ReferenceAgrees space None (reference_in_actual (Some b))) (sym h.1) tt
-  reference_is operand.Text a h = subst (λ b. ReferenceAgrees space None (reference_in_actual (Some b))) (sym h.1) tt
+  reference_is operand.Number a h = no_reference a (NumberActual h.0) h.1 tt
+  reference_is operand.Text a h = no_reference a (TextActual h.0) h.1 tt
   reference_is operand.Null a (inl h) = one_reference operand.Null a h
-  reference_is operand.Null a (inr h) = subst (λ b. ReferenceAgrees space None (reference_in_actual (Some b))) (sym h.is) tt
+  reference_is operand.Null a (inr (inl h)) = no_reference a (FieldActual h.field) h.is tt
+  reference_is operand.Null a (inr (inr h)) = no_reference a NothingActual h tt
   reference_is (operand.Local i) a h = one_reference (operand.Local i) a h
   reference_is (operand.Static i) a h = one_reference (operand.Static i) a h
-  reference_is (operand.FieldId i) a h = subst (λ b. ReferenceAgrees space None (reference_in_actual (Some b))) (sym h.is) tt
+  reference_is (operand.FieldId i) a h = no_reference a (FieldActual h.field) h.is tt
+  reference_is (operand.Array array) a h = no_reference a (VariableActual h.0) h.1 tt
+  reference_is (operand.Buffer i) a h = no_reference a (VariableActual h.0) h.1 tt
+  reference_is (operand.Mode mode) a h = no_reference a (ModeActual h.0) h.1 tt
+  reference_is (operand.IsCopy i) a h = no_reference a (VariableActual h.0) h.1 tt
 
   -- the reference at a place
   pub reference_at_place : (operands : List Operand) (args : List Actual) (i : ℕ) → AllZip (IsGiven classes space references fields) operands args → ReferenceAgrees space (operand_at references (operand_of operands i)) (reference_given args i)
@@ -148,8 +171,13 @@ module _ (classes : Classes) (space : Space) (references : List (Option ℕ)) (f
   field_is : (o : Operand) (a : Actual) → IsGiven classes space references fields o a → field_there classes (field_at fields o) ≡ field_in_actual (Some a)
   field_is operand.Number a h = sym (ap (λ b. field_in_actual (Some b)) h.1)
   field_is operand.Text a h = sym (ap (λ b. field_in_actual (Some b)) h.1)
+  field_is (operand.Array array) a h = sym (ap (λ b. field_in_actual (Some b)) h.1)
+  field_is (operand.Buffer i) a h = sym (ap (λ b. field_in_actual (Some b)) h.1)
+  field_is (operand.Mode mode) a h = sym (ap (λ b. field_in_actual (Some b)) h.1)
+  field_is (operand.IsCopy i) a h = sym (ap (λ b. field_in_actual (Some b)) h.1)
   field_is operand.Null a (inl h) = sym (ap (λ b. field_in_actual (Some b)) h.is)
-  field_is operand.Null a (inr h) = field_in None h.field h.agrees ∙ sym (ap (λ b. field_in_actual (Some b)) h.is)
+  field_is operand.Null a (inr (inl h)) = field_in None h.field h.agrees ∙ sym (ap (λ b. field_in_actual (Some b)) h.is)
+  field_is operand.Null a (inr (inr h)) = sym (ap (λ b. field_in_actual (Some b)) h)
   field_is (operand.Local i) a h = sym (ap (λ b. field_in_actual (Some b)) h.is)
   field_is (operand.Static i) a h = sym (ap (λ b. field_in_actual (Some b)) h.is)
   field_is (operand.FieldId i) a h = field_in (field_at fields (operand.FieldId i)) h.field h.agrees ∙ sym (ap (λ b. field_in_actual (Some b)) h.is)
@@ -192,6 +220,18 @@ module _ (classes : Classes) (space : Space) (references : List (Option ℕ)) (f
     field_fits ClassObject f = refl
     field_fits p f = refl
 
+    variable_fits : (p : ParameterKind) (x : Identifier) → is_misfit classes heap (p, VariableActual x) ≡ false
+    variable_fits ClassObject x = refl
+    variable_fits p x = refl
+
+    mode_fits : (p : ParameterKind) (m : ReleaseMode) → is_misfit classes heap (p, ModeActual m) ≡ false
+    mode_fits ClassObject m = refl
+    mode_fits p m = refl
+
+    nothing_fits : (p : ParameterKind) → is_misfit classes heap (p, NothingActual) ≡ false
+    nothing_fits ClassObject = refl
+    nothing_fits p = refl
+
     reference_misfit : (p : ParameterKind) (x : Identifier) (o : Option ℕ) (q : Reference) → ReferenceAgrees space o q → misfits classes space p o ≡ is_misfit classes heap (p, ReferenceActual x (as_static q))
     reference_misfit p x None None h = sym (empty_fits p x)
     reference_misfit p x None (Some n) h = absurd h
@@ -204,8 +244,13 @@ module _ (classes : Classes) (space : Space) (references : List (Option ℕ)) (f
     misfit_is : (p : ParameterKind) (o : Operand) (a : Actual) → IsGiven classes space references fields o a → misfits classes space p (operand_at references o) ≡ is_misfit classes heap (p, a)
     misfit_is p operand.Number a h = sym (ap (λ b. is_misfit classes heap (p, b)) h.1 ∙ number_fits p h.0)
     misfit_is p operand.Text a h = sym (ap (λ b. is_misfit classes heap (p, b)) h.1 ∙ text_fits p h.0)
+    misfit_is p (operand.Array array) a h = sym (ap (λ b. is_misfit classes heap (p, b)) h.1 ∙ variable_fits p h.0)
+    misfit_is p (operand.Buffer i) a h = sym (ap (λ b. is_misfit classes heap (p, b)) h.1 ∙ variable_fits p h.0)
+    misfit_is p (operand.Mode mode) a h = sym (ap (λ b. is_misfit classes heap (p, b)) h.1 ∙ mode_fits p h.0)
+    misfit_is p (operand.IsCopy i) a h = sym (ap (λ b. is_misfit classes heap (p, b)) h.1 ∙ variable_fits p h.0)
     misfit_is p operand.Null a (inl h) = given_misfit p operand.Null a h
-    misfit_is p operand.Null a (inr h) = sym (ap (λ b. is_misfit classes heap (p, b)) h.is ∙ field_fits p h.field)
+    misfit_is p operand.Null a (inr (inl h)) = sym (ap (λ b. is_misfit classes heap (p, b)) h.is ∙ field_fits p h.field)
+    misfit_is p operand.Null a (inr (inr h)) = sym (ap (λ b. is_misfit classes heap (p, b)) h ∙ nothing_fits p)
     misfit_is p (operand.Local i) a h = given_misfit p (operand.Local i) a h
     misfit_is p (operand.Static i) a h = given_misfit p (operand.Static i) a h
     misfit_is p (operand.FieldId i) a h = sym (ap (λ b. is_misfit classes heap (p, b)) h.is ∙ field_fits p h.field)
@@ -267,6 +312,8 @@ module _ (classes : Classes) (space : Space) (references : List (Option ℕ)) (f
     together_is buffer operands args h GetObjectClass e = refl
     together_is buffer operands args h IsInstanceOf e = refl
     together_is buffer operands args h IsAssignableFrom e = refl
+    together_is buffer operands args h NewLocalRef e = refl
+    together_is buffer operands args h IsSameObject e = refl
     together_is buffer operands args h (GetField T) e =
         let field = field_at_place operands args 1 h in
         let class = class_given_is (operand_at references (operand_of operands 0)) (reference_given args 0) (reference_at_place operands args 0 h) in
@@ -319,13 +366,13 @@ module _ (classes : Classes) (space : Space) (references : List (Option ℕ)) (f
 
     -- the trap that is found is the source's
     pub found_is : (is_pending has_room : Bool) (f : JniFunction) (operands : List Operand) (args : List Actual) (s : Shared) (t : Thread) (target : Target) → is_answered f ≡ true → s.heap ≡ heap → is_pending ≡ is_some t.pending
-        → is_full (slice_get t.frames 0) ≡ not has_room → AllZip (IsGiven classes space references fields) operands args
+        → is_full (slice_get t.frames 0) ≡ not has_room → AllZip ActualFits (prototype f).parameters args → AllZip (IsGiven classes space references fields) operands args
         → trap_found classes space is_pending has_room references fields f operands ≡ trap_of_call classes s t target f args
     unfolding call_trap
-    found_is is_pending has_room f operands args s t target built same pending room h =
+    found_is is_pending has_room f operands args s t target built same pending room fit h =
         let buffer = target_element t.variables target in
         let deleted = sym (all_whole operands args h) in
-        let missing = all_missing (prototype f).parameters operands args h in
+        let missing = all_missing (prototype f).parameters operands args fit h in
         let misfit = all_misfit (prototype f).parameters operands args h in
         let together = together_is buffer operands args h f built in
         let lacks = room_is (prototype f).result has_room (slice_get t.frames 0) room ∙ ap (λ fs. lacks_room (prototype f).result (slice_get fs 0)) (same_frames f t.frames built) in

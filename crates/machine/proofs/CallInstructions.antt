@@ -5,7 +5,7 @@ use Rattle.std.specs.List.{AllZip}
 use Rattle.classes.specs.Class.{Classes}
 use Rattle.heap.specs.Heap.{Space}
 use Rattle.jni.specs.BuiltFunctions.{is_built_function}
-use Rattle.jni.specs.JniFunction.{JniFunction, FindClass, GetSuperclass, GetObjectClass, IsInstanceOf, IsAssignableFrom, AllocObject, GetFieldID, GetStaticFieldID, GetField, SetField, GetStaticField, SetStaticField, GetObjectField, SetObjectField, GetStaticObjectField, SetStaticObjectField, GetArrayLength, NewGlobalRef, GetBuffer}
+use Rattle.jni.specs.JniFunction.{JniFunction, FindClass, GetSuperclass, GetObjectClass, IsInstanceOf, IsAssignableFrom, AllocObject, NewLocalRef, IsSameObject, GetFieldID, GetStaticFieldID, GetField, SetField, GetStaticField, SetStaticField, GetObjectField, SetObjectField, GetStaticObjectField, SetStaticObjectField, GetArrayLength, NewGlobalRef, GetBuffer}
 use Rattle.jni.specs.Prototype.{prototype, ResultKind, NewLocal}
 use Rattle.source.specs.Arguments.{Actual}
 use Rattle.source.specs.Object.{Object}
@@ -60,6 +60,8 @@ answered_there GetSuperclass h = refl
 answered_there GetObjectClass h = refl
 answered_there IsInstanceOf h = refl
 answered_there IsAssignableFrom h = refl
+answered_there NewLocalRef h = refl
+answered_there IsSameObject h = refl
 answered_there AllocObject h = refl
 answered_there GetFieldID h = refl
 answered_there GetStaticFieldID h = refl
@@ -198,6 +200,7 @@ module _ (p : Lowered) (w : World) (store : Store) (pending : Option ℕ) (call 
           answered = answered_there f c.built;
           count = c.count;
           kinds = subst (λ (x : Call). AllZip OperandFits (prototype f).parameters x.operands) same c.kinds;
+          fit = c.fit;
           given = given;
           words = c.words;
           texts = ap (λ (x : Call). x.texts) (sym same) ∙ c.texts;

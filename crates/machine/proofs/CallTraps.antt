@@ -63,6 +63,10 @@ module _ (classes : Classes) (space : Space) (references : List (Option ℕ)) (f
   one_address : (o : Operand) (a : Actual) → IsGiven classes space references fields o a → (b : ℕ) → operand_at references o ≡ Some b → IsAddress space b
   one_address operand.Number a h b e = absurd (cc)
   one_address operand.Text a h b e = absurd (cc)
+  one_address (operand.Array array) a h b e = absurd (cc)
+  one_address (operand.Buffer i) a h b e = absurd (cc)
+  one_address (operand.Mode mode) a h b e = absurd (cc)
+  one_address (operand.IsCopy i) a h b e = absurd (cc)
   one_address (operand.FieldId i) a h b e = absurd (cc)
   one_address operand.Null a h b e = absurd (cc)
   one_address (operand.Local i) a h b e = is_address space (operand_at references (operand.Local i)) h.reference b h.agrees e
@@ -71,6 +75,10 @@ module _ (classes : Classes) (space : Space) (references : List (Option ℕ)) (f
   one_handle : (o : Operand) (a : Actual) → IsGiven classes space references fields o a → (g : FieldHandle) → field_at fields o ≡ Some g → IsSome (field_of classes g)
   one_handle operand.Number a h g e = absurd (cc)
   one_handle operand.Text a h g e = absurd (cc)
+  one_handle (operand.Array array) a h g e = absurd (cc)
+  one_handle (operand.Buffer i) a h g e = absurd (cc)
+  one_handle (operand.Mode mode) a h g e = absurd (cc)
+  one_handle (operand.IsCopy i) a h g e = absurd (cc)
   one_handle (operand.FieldId i) a h g e = is_handle classes (field_at fields (operand.FieldId i)) h.field g h.agrees e
   one_handle operand.Null a h g e = absurd (cc)
   one_handle (operand.Local i) a h g e = absurd (cc)
@@ -126,7 +134,7 @@ module _ (p : Lowered) (w : World) (store : Store) (pending : Option ℕ) (call 
   pub found_is : (target : Target) → trap_found w.classes store.heap (is_some pending) (has_room call.frames.items) call.references.items call.fields.items f function.operands ≡ trap_of_call w.classes shared s target f args
   found_is target =
       checks.found_is w.classes store.heap call.references.items call.fields.items shared.heap h.store_agrees.heap.blocks (is_some pending) (has_room call.frames.items) f function.operands args shared s target h.answered refl
-      (same_pending store.heap pending s.pending h.pending_agrees) (full_where store.heap call.frames.items s.frames h.frames_agree) h.given
+      (same_pending store.heap pending s.pending h.pending_agrees) (full_where store.heap call.frames.items s.frames h.frames_agree) h.fit h.given
 
   module _ (target : Target) (free : trap_of_call w.classes shared s target f args ≡ None) where
     passed : Passed (is_some pending && not (is_allowed_pending f)) (some_missing call.references.items call.fields.items (prototype f).parameters function.operands)

@@ -13,6 +13,7 @@ use Rattle.syntax.specs.Views.{unit_tree}
 use Rattle.syntax.specs.declared.unit.Item.{Item}
 use Rattle.classes.specs.Class.{Classes}
 use Rattle.source.specs.declared.journal.Entry.{Entry}
+use Rattle.source.specs.declared.journal.Entry.TheVariants.{Step}
 use Rattle.source.specs.declared.schedule.ScheduleWord.{ScheduleWord}
 use Rattle.source.specs.declared.schedule.ScheduleWord.TheVariants.{Turn, Collect}
 use Rattle.source.specs.World.{World}
@@ -144,13 +145,13 @@ step_of r new e left s is h defined = there (world_step (unit_tree r.unit) r.wor
     there (Some n) d = (n, refl)
 
 -- a step, whose allocation was refused or not
-stepped_once : (r new : Run) (k : ℕ) (refused : Bool) (left : ℕ) (s : State) → new ≡ record r { journal = r.journal ++ record { thread = k; refused = refused } ∷ []; left = left } → replay_of r ≡ Some s → can_turn r s k ≡ true → IsSome (replay_of new) → RunsAlong r new (Turn k ∷ [])
+stepped_once : (r new : Run) (k : ℕ) (refused : Bool) (left : ℕ) (s : State) → new ≡ record r { journal = r.journal ++ Step k refused ∷ []; left = left } → replay_of r ≡ Some s → can_turn r s k ≡ true → IsSome (replay_of new) → RunsAlong r new (Turn k ∷ [])
 stepped_once r new k refused left s is h can defined =
-    let n = step_of r new (record { thread = k; refused = refused }) left s is h defined in
+    let n = step_of r new (Step k refused) left s is h defined in
     subst (λ x. RunsAlong r x (Turn k ∷ [])) (sym is) (record {
       same_unit = refl;
       same_world = refl;
-      steps = record { thread = k; refused = refused } ∷ [];
+      steps = Step k refused ∷ [];
       journal = refl;
       before = s;
       replays = h;

@@ -6,6 +6,7 @@ use Rattle.std.proofs.Math.ListN.{length-set}
 use Rattle.syntax.specs.Views.{unit_tree}
 use Rattle.classes.specs.Class.{Classes}
 use Rattle.source.specs.declared.journal.Entry.{Entry}
+use Rattle.source.specs.declared.journal.Entry.TheVariants.{Step}
 use Rattle.source.specs.declared.printed.Printed.{Printed}
 use Rattle.source.specs.World.{World, loaded_objects}
 use Rattle.source.specs.State.{State, thread_at, set_thread, lent, with_event, advanced}
@@ -144,16 +145,16 @@ module _ (p : Lowered) (world : World) (store : Store) (ts : List Thread) (print
 
   -- what is asked of the entry
   fits_entry : (store' : Store) (refused : Bool) (next : State) → StoreAgrees p world store' next.shared → sizes (take (length c.state.shared.heap) next.shared.heap) ≡ sizes c.state.shared.heap
-      → world_step (unit_tree p.unit) classes c.state (record { thread = k; refused = refused }) ≡ Some next → FitsUnmarked (unit_tree p.unit) world c.state k refused
+      → world_step (unit_tree p.unit) classes c.state (Step k refused) ≡ Some next → FitsUnmarked (unit_tree p.unit) world c.state (Step k refused)
   fits_entry store' true next shares kept step = tt
   fits_entry store' false next shares kept step = has_room p world store' c.state next k shares kept step
 
   -- the machine after the step
   pub steps_on : (store' : Store) (after : Thread) (refused : Bool) (e : Event) → stop ≡ None → t.ending ≡ Unfinished → AdvancesAlways p world store store' t after refused e
-      → Corresponds p world store' (slice_set ts i after) (printed_after printed k e) (stop_after stop k e) (journal ++ record { thread = k; refused = refused } ∷ [])
+      → Corresponds p world store' (slice_set ts i after) (printed_after printed k e) (stop_after stop k e) (journal ++ Step k refused ∷ [])
   steps_on store' after refused e goes live advances =
       let f = the_thread in
-      let entry : Entry = record { thread = k; refused = refused } in
+      let entry : Entry = Step k refused in
       let a = advances (lent c.state) k c.state.shared f.source c.store_agrees f.agrees in
       let next = next_state c.state k a.next_shared a.next e in
       let step : world_step (unit_tree p.unit) classes c.state entry ≡ Some next =
@@ -172,8 +173,8 @@ module _ (p : Lowered) (world : World) (store : Store) (ts : List Thread) (print
             (changed p classes store'.heap count_made a.next_shared ts c.state.threads i after a.next others a.agrees));
         same_printed = printed_next c.state k a.next_shared a.next e ∙ ap (λ l. printed_after l k e) c.same_printed;
         same_stop = stop_next c.state k a.next_shared a.next e stop c.same_stop;
-        fits = each-more (unit_tree p.unit) world (λ s e. FitsUnmarked (unit_tree p.unit) world s e.thread e.refused) (Some (start (unit_tree p.unit) world)) journal entry c.fits
-            (λ s there. let same : c.state ≡ s = cc (sym c.replays, there) in subst (λ (x : State). FitsUnmarked (unit_tree p.unit) world x k refused) same (fits_entry store' refused next shares kept step));
+        fits = each-more (unit_tree p.unit) world (FitsUnmarked (unit_tree p.unit) world) (Some (start (unit_tree p.unit) world)) journal entry c.fits
+            (λ s there. let same : c.state ≡ s = cc (sym c.replays, there) in subst (λ (x : State). FitsUnmarked (unit_tree p.unit) world x (Step k refused)) same (fits_entry store' refused next shares kept step));
         count = length-set ts i after ∙ c.count;
         few = subst (λ n. n ≤ 8) (sym (length-set ts i after)) c.few;
       }

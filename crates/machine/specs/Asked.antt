@@ -7,7 +7,7 @@ use Rattle.jni.specs.Prototype.{prototype}
 use Rattle.source.specs.Arguments.{Actual}
 use Rattle.source.specs.Thread.{Shared, Thread}
 use Rattle.source.specs.World.{World}
-use Rattle.lower.specs.Does.{OperandFits, words_given, texts_given}
+use Rattle.lower.specs.Does.{OperandFits, ActualFits, words_given, texts_given}
 use Rattle.lower.specs.Lowered.{Lowered}
 use Rattle.machine.specs.declared.store.Store.{Store}
 use Rattle.machine.specs.declared.thread.Activation.{Activation}
@@ -25,6 +25,7 @@ pub record IsAsked (p : Lowered) (w : World) (store : Store) (pending : Option �
   pub answered : is_answered f ≡ true
   pub count : length args ≡ length (prototype f).parameters
   pub kinds : AllZip OperandFits (prototype f).parameters function.operands
+  pub fit : AllZip ActualFits (prototype f).parameters args
   pub given : AllZip (IsGiven w.classes store.heap call.references.items call.fields.items) function.operands args
   pub words : call.stack ≡ words_given args
   pub texts : function.texts ≡ texts_given args

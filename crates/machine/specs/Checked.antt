@@ -7,8 +7,8 @@ use Rattle.class_table.specs.declared.class.FieldHandle.{FieldHandle}
 use Rattle.code.specs.declared.instr.Operand.{Operand}
 use Rattle.code.specs.declared.instr.Operand.TheVariants as operand
 use Rattle.heap.specs.Heap.{Space}
-use Rattle.jni.specs.JniFunction.{is_allowed_pending, JniFunction, FindClass, GetSuperclass, GetObjectClass, IsInstanceOf, IsAssignableFrom, AllocObject, GetFieldID, GetStaticFieldID, GetField, SetField, GetStaticField, SetStaticField, GetObjectField, SetObjectField, GetStaticObjectField, SetStaticObjectField, GetArrayLength}
-use Rattle.jni.specs.Prototype.{ParameterKind, Nullable, ClassObject, ObjectArray, StringObject, NumberArray, LocalVariable, StaticVariable, ResultKind, NewLocal, prototype}
+use Rattle.jni.specs.JniFunction.{is_allowed_pending, JniFunction, FindClass, GetSuperclass, GetObjectClass, IsInstanceOf, IsAssignableFrom, AllocObject, NewLocalRef, IsSameObject, GetFieldID, GetStaticFieldID, GetField, SetField, GetStaticField, SetStaticField, GetObjectField, SetObjectField, GetStaticObjectField, SetStaticObjectField, GetArrayLength}
+use Rattle.jni.specs.Prototype.{ParameterKind, Nullable, ClassObject, ObjectArray, StringObject, NumberArray, LocalVariable, StaticVariable, IsCopy, ResultKind, NewLocal, prototype}
 use Rattle.source.specs.Checks.{first_trap, holds_number, holds_reference}
 use Rattle.source.specs.Value.{Trap, NullReference, ExceptionPending, WrongObject, NoCapacity}
 use Rattle.machine.specs.Given.{operand_at, field_at, operand_of, class_there, class_of_given, name_there, fits_there, field_there}
@@ -21,6 +21,8 @@ is_answered GetObjectClass = true
 is_answered IsInstanceOf = true
 is_answered IsAssignableFrom = true
 is_answered AllocObject = true
+is_answered NewLocalRef = true
+is_answered IsSameObject = true
 is_answered GetFieldID = true
 is_answered GetStaticFieldID = true
 is_answered (GetField T) = true
@@ -42,12 +44,17 @@ gives_null references fields (operand.Local i) = is_none (operand_at references 
 gives_null references fields (operand.FieldId i) = is_none (field_at fields (operand.FieldId i))
 gives_null references fields operand.Number = false
 gives_null references fields operand.Text = false
+gives_null references fields (operand.Array array) = false
+gives_null references fields (operand.Buffer i) = false
+gives_null references fields (operand.Mode mode) = false
+gives_null references fields (operand.IsCopy i) = false
 
 -- a parameter may be NULL
 abbrev pub may_be_null : ParameterKind → Bool
 may_be_null Nullable = true
 may_be_null LocalVariable = true
 may_be_null StaticVariable = true
+may_be_null IsCopy = true
 may_be_null p = false
 
 -- some operand gives NULL where that isn't allowed

@@ -9,8 +9,9 @@ use Rattle.class_table.specs.FieldViews.{field_of}
 use Rattle.class_table.specs.declared.class.FieldHandle.{FieldHandle}
 use Rattle.code.specs.declared.instr.Operand.{Operand}
 use Rattle.code.specs.declared.instr.Operand.TheVariants as operand
+use Rattle.code_generator.specs.Coding.{mode_code}
 use Rattle.heap.specs.Heap.{Space, IsAddress, class_at, name_at}
-use Rattle.source.specs.Arguments.{Actual, ReferenceActual, FieldActual, NumberActual, TextActual}
+use Rattle.source.specs.Arguments.{Actual, ReferenceActual, FieldActual, NumberActual, TextActual, VariableActual, ModeActual, NothingActual, ReleaseMode}
 use Rattle.source.specs.Object.{Reference}
 use Rattle.source.specs.Variable.{as_static}
 use Rattle.machine.specs.Agrees.{FieldAgrees}
@@ -44,14 +45,19 @@ pub record FieldIsGiven (classes : Classes) (fields : List (Option FieldHandle))
   pub is : actual ≡ FieldActual field
   pub agrees : FieldAgrees classes (field_at fields operand) field
 
--- an operand gives what the source's argument is; a number is on the stack, and a text among the call's
+-- an operand gives what the source's argument is; a number is on the stack, a text among the call's, and a variable itself
+-- in its slots
 abbrev pub IsGiven : Classes → Space → (references : List (Option ℕ)) → (fields : List (Option FieldHandle)) → Operand → Actual → Type 0
 IsGiven classes space references fields operand.Number actual = (z : ℤ) × (actual ≡ NumberActual z) × FitsSigned w32 z
 IsGiven classes space references fields operand.Text actual = (bytes : List ℕ) × (actual ≡ TextActual bytes)
 IsGiven classes space references fields (operand.FieldId i) actual = FieldIsGiven classes fields (operand.FieldId i) actual
-IsGiven classes space references fields operand.Null actual = ReferenceIsGiven space references operand.Null actual ⊎ FieldIsGiven classes fields operand.Null actual
+IsGiven classes space references fields operand.Null actual = ReferenceIsGiven space references operand.Null actual ⊎ FieldIsGiven classes fields operand.Null actual ⊎ (actual ≡ NothingActual)
 IsGiven classes space references fields (operand.Local i) actual = ReferenceIsGiven space references (operand.Local i) actual
 IsGiven classes space references fields (operand.Static i) actual = ReferenceIsGiven space references (operand.Static i) actual
+IsGiven classes space references fields (operand.Array array) actual = (x : Identifier) × (actual ≡ VariableActual x)
+IsGiven classes space references fields (operand.Buffer i) actual = (x : Identifier) × (actual ≡ VariableActual x)
+IsGiven classes space references fields (operand.Mode mode) actual = (m : ReleaseMode) × (actual ≡ ModeActual m) × (mode ≡ mode_code m)
+IsGiven classes space references fields (operand.IsCopy i) actual = (x : Identifier) × (actual ≡ VariableActual x)
 
 -- each operand is NULL or the address of a block
 abbrev pub AreAddresses : Space → List (Option ℕ) → List Operand → Type 0

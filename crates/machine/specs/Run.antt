@@ -6,6 +6,7 @@ use Rattle.syntax.specs.declared.unit.Item.{Item}
 use Rattle.classes.specs.Class.{Classes}
 use Rattle.syntax.specs.Views.{unit_tree}
 use Rattle.source.specs.declared.journal.Entry.{Entry}
+use Rattle.source.specs.declared.journal.Entry.TheVariants.{Step}
 use Rattle.source.specs.declared.printed.Printed.{Printed}
 use Rattle.source.specs.declared.schedule.ScheduleWord.{ScheduleWord}
 use Rattle.source.specs.declared.schedule.ScheduleWord.TheVariants.{Turn, Collect}
@@ -102,11 +103,11 @@ pub record IsWaiting (classes : Classes) (s : State) (k : ℕ) (all : Bool) : Ty
 
 -- a step of thread k
 abbrev pub entry_of : ℕ → Entry
-entry_of k = record { thread = k; refused = false }
+entry_of k = Step k false
 
 -- a step of thread k whose allocation was refused
 abbrev pub refused_entry_of : ℕ → Entry
-refused_entry_of k = record { thread = k; refused = true }
+refused_entry_of k = Step k true
 
 -- the run with a step of thread k more, after which this many cells are left
 abbrev pub stepped : Run → ℕ → (left : ℕ) → Run

@@ -1,5 +1,5 @@
 -- What the machine works out of a call, by what is in memory.
-use Rattle.std.specs.Prelude.{◌≡◌, ℕ, ◌-◌, nat_lt, List, [], ◌∷◌, length, slice_get, unwrap_or, if◌then◌else◌, Option, Some, None}
+use Rattle.std.specs.Prelude.{◌==◌, ◌≡◌, ℕ, ◌-◌, nat_lt, List, [], ◌∷◌, length, slice_get, unwrap_or, if◌then◌else◌, Option, Some, None}
 use Rattle.base.specs.Element.{ElementType}
 use Rattle.classes.specs.BuiltIns.{no_class_def_found_error, no_such_field_error}
 use Rattle.classes.specs.Class.{Classes, assignable, class_named, superclass}
@@ -12,7 +12,7 @@ use Rattle.code_generator.specs.Coding.{element_of}
 use Rattle.heap.specs.Heap.{Space, values_at}
 use Rattle.heap.specs.declared.value.Value.{Value}
 use Rattle.heap.specs.declared.value.Value.TheVariants as value
-use Rattle.jni.specs.JniFunction.{JniFunction, FindClass, GetSuperclass, GetObjectClass, IsInstanceOf, IsAssignableFrom, AllocObject, GetFieldID, GetStaticFieldID, GetField, SetField, GetStaticField, SetStaticField, GetObjectField, SetObjectField, GetStaticObjectField, SetStaticObjectField, GetArrayLength}
+use Rattle.jni.specs.JniFunction.{JniFunction, FindClass, GetSuperclass, GetObjectClass, IsInstanceOf, IsAssignableFrom, AllocObject, NewLocalRef, IsSameObject, GetFieldID, GetStaticFieldID, GetField, SetField, GetStaticField, SetStaticField, GetObjectField, SetObjectField, GetStaticObjectField, SetStaticObjectField, GetArrayLength}
 use Rattle.machine.specs.declared.answer.Given.TheVariants.{Nothing, Number, Reference}
 use Rattle.machine.specs.declared.answer.Given.TheVariants as given
 use Rattle.machine.specs.declared.answer.Answer.{Answer}
@@ -120,6 +120,8 @@ module _ (classes : Classes) (space : Space) (loaded : List ℕ) (references : L
   worked_out IsInstanceOf = Gives (Number (truth_word (fits_there classes space (reference 0) (name_there space (reference 1)))))
   worked_out IsAssignableFrom = Gives (Number (truth_word (assignable classes (name_there space (reference 0)) (name_there space (reference 1)))))
   worked_out AllocObject = Makes (name_there space (reference 0))
+  worked_out NewLocalRef = Gives (Reference (reference 0))
+  worked_out IsSameObject = Gives (Number (truth_word (name_there space (reference 0) == name_there space (reference 1))))
   worked_out (GetField T) = Gives (Number (word_in (value_there space (reference 0) place)))
   worked_out (SetField T) = writes_there space (reference 0) place (stored T)
   worked_out GetObjectField = Gives (Reference (address_in (value_there space (reference 0) place)))

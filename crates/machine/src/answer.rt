@@ -69,9 +69,6 @@ pub fn work_out(
     let first = reference_at(heap, references, &function.operands, 0);
     let second = reference_at(heap, references, &function.operands, 1);
     let third = reference_at(heap, references, &function.operands, 2);
-    let place = place_of_field(classes, heap, references, fields, &function.operands);
-    let holder = holder_of_static(classes, loaded, fields, &function.operands);
-    let static_place = place_of_static(classes, fields, &function.operands);
     match function.function {
         JniFunction::FindClass => found_class(loaded, classes.find(text_at(&function.texts, 0))),
         JniFunction::GetSuperclass => {
@@ -91,6 +88,11 @@ pub fn work_out(
             Answer::Gives(Given::Number(word_of_truth(fits)))
         }
         JniFunction::AllocObject => Answer::Makes(name_there(heap, first)),
+        JniFunction::NewLocalRef => Answer::Gives(Given::Reference(first)),
+        JniFunction::IsSameObject => {
+            let same = name_there(heap, first) == name_there(heap, second);
+            Answer::Gives(Given::Number(word_of_truth(same)))
+        }
         JniFunction::GetFieldID => {
             find_field(classes, name_there(heap, first), &function.texts, false)
         }
@@ -98,30 +100,40 @@ pub fn work_out(
             find_field(classes, name_there(heap, first), &function.texts, true)
         }
         JniFunction::GetField(_) => {
+            let place = place_of_field(classes, heap, references, fields, &function.operands);
             Answer::Gives(Given::Number(word_in(value_there(heap, first, place))))
         }
         JniFunction::SetField(element) => {
+            let place = place_of_field(classes, heap, references, fields, &function.operands);
             writes_there(heap, first, place, stored(element, stack))
         }
         JniFunction::GetObjectField => {
+            let place = place_of_field(classes, heap, references, fields, &function.operands);
             Answer::Gives(Given::Reference(address_in(value_there(heap, first, place))))
         }
-        JniFunction::SetObjectField => writes_there(heap, first, place, held_reference(third)),
-        JniFunction::GetStaticField(_) => Answer::Gives(Given::Number(word_in(value_there(
-            heap,
-            holder,
-            static_place,
-        )))),
-        JniFunction::SetStaticField(element) => {
-            writes_there(heap, holder, static_place, stored(element, stack))
+        JniFunction::SetObjectField => {
+            let place = place_of_field(classes, heap, references, fields, &function.operands);
+            writes_there(heap, first, place, held_reference(third))
         }
-        JniFunction::GetStaticObjectField => Answer::Gives(Given::Reference(address_in(value_there(
-            heap,
-            holder,
-            static_place,
-        )))),
+        JniFunction::GetStaticField(_) => {
+            let holder = holder_of_static(classes, loaded, fields, &function.operands);
+            let place = place_of_static(classes, fields, &function.operands);
+            Answer::Gives(Given::Number(word_in(value_there(heap, holder, place))))
+        }
+        JniFunction::SetStaticField(element) => {
+            let holder = holder_of_static(classes, loaded, fields, &function.operands);
+            let place = place_of_static(classes, fields, &function.operands);
+            writes_there(heap, holder, place, stored(element, stack))
+        }
+        JniFunction::GetStaticObjectField => {
+            let holder = holder_of_static(classes, loaded, fields, &function.operands);
+            let place = place_of_static(classes, fields, &function.operands);
+            Answer::Gives(Given::Reference(address_in(value_there(heap, holder, place))))
+        }
         JniFunction::SetStaticObjectField => {
-            writes_there(heap, holder, static_place, held_reference(third))
+            let holder = holder_of_static(classes, loaded, fields, &function.operands);
+            let place = place_of_static(classes, fields, &function.operands);
+            writes_there(heap, holder, place, held_reference(third))
         }
         JniFunction::GetArrayLength => Answer::Gives(Given::Number(count_there(heap, first))),
         _ => unreachable!(),

@@ -32,7 +32,8 @@ fn gives_null(references: &[Option<Addr>], fields: &[Option<FieldHandle>], opera
         Operand::Null | Operand::Static(_) => true,
         Operand::Local(_) => reference_in(references, operand).is_none(),
         Operand::FieldId(_) => field_in(fields, operand).is_none(),
-        Operand::Number | Operand::Text => false,
+        Operand::Number | Operand::Text | Operand::Mode(_) => false,
+        Operand::Array(_) | Operand::Buffer(_) | Operand::IsCopy(_) => false,
     }
 }
 
@@ -42,7 +43,10 @@ fn may_be_null(parameter: ParameterKind) -> bool
 {
     matches!(
         parameter,
-        ParameterKind::Nullable | ParameterKind::LocalVariable | ParameterKind::StaticVariable
+        ParameterKind::Nullable
+            | ParameterKind::LocalVariable
+            | ParameterKind::StaticVariable
+            | ParameterKind::IsCopy
     )
 }
 

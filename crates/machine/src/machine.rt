@@ -9,6 +9,7 @@ ghost use Rattle.source.specs.Load.{first_load_fault};
 ghost use Rattle.source.specs.Object.{sizes};
 ghost use Rattle.source.specs.World.{loaded_objects};
 ghost use Rattle.machine.specs.Loading.{IsLoadFault};
+ghost use Rattle.source.specs.declared.journal.Entry.TheVariants.{Step};
 ghost use Rattle.machine.specs.Run.{replay_of, IsUnstarted, CouldStep, TurnHolds, RunsAlong, RunsInto, PrintedBy, IsFinished, has_ended, ReportsRun, GivesNoStep, GivesStep, StoppedBy, printed_after};
 ghost use Rattle.machine.specs.Stops.{stop_after, standing_of, standing_by_ending};
 
@@ -278,9 +279,9 @@ impl<'a> Machine<'a> {
 /// Writes down a step.
 fn write_down(journal: &mut Vec<Entry>, k: u8, refused: bool)
     requires { vec_len journal.old < vec_capacity journal.old }
-    ensures { journal.new.items ≡ journal.old.items ++ record { thread = k; refused = refused } ∷ [] }
+    ensures { journal.new.items ≡ journal.old.items ++ Step k refused ∷ [] }
 {
-    journal.push(Entry { thread: k, refused }).unwrap();
+    journal.push(Entry::Step { thread: k, refused }).unwrap();
 }
 
 /// Writes down what a step lets others see.

@@ -7,6 +7,7 @@ use Rattle.std.specs.Option.{option_map, is_some}
 use Rattle.syntax.specs.Tree.{SourceUnit}
 use Rattle.classes.specs.Class.{Classes}
 use Rattle.source.specs.declared.journal.Entry.{Entry}
+use Rattle.source.specs.declared.journal.Entry.TheVariants as entry
 use Rattle.source.specs.declared.printed.Printed.{Printed}
 use Rattle.source.specs.Report.{ShownRow, ThreadStanding, HasTrapped}
 use Rattle.report.specs.Shown.{report_with}
@@ -100,9 +101,6 @@ is_live_so Unfinished h = refl
 is_live_so Ended h = absurd (cc)
 is_live_so (Uncaught c) h = absurd (cc)
 
-pub entry_is : (e : Entry) (k : ℕ) → e.thread ≡ k → e ≡ record { thread = k; refused = e.refused }
-entry_is e k same = ap (λ (n : ℕ). record { thread = n; refused = e.refused }) same
-
 module _ (unit : SourceUnit) (w : World) (m : StateInMemory) (s : State) (h : Stands unit w m s) (range : AreInRange m.threads.items) where
   stop_is : (o : Option StopInMemory) → is_some o ≡ true → is_none (option_map stop_view o) ≡ false
   stop_is None e = absurd (cc)
@@ -113,37 +111,34 @@ module _ (unit : SourceUnit) (w : World) (m : StateInMemory) (s : State) (h : St
   first_fails false b c e = refl
 
   -- a machine that has stopped takes no step
-  pub stopped : (e : Entry) → is_some m.stop ≡ true → world_step unit w.classes s e ≡ None
+  pub stopped : (k : ℕ) (refused : Bool) → is_some m.stop ≡ true → world_step unit w.classes s (entry.Step k refused) ≡ None
   unfolding world_step
-  stopped e is =
+  stopped k refused is =
       let over : is_none s.stop ≡ false = ap is_none h.stop ∙ stop_is m.stop is in
-      none_else (can_step w.classes s e.thread) (step_of unit w.classes s e.thread e.refused (thread_at s e.thread))
-      (first_fails (is_none s.stop) (is_live (thread_at s e.thread)) (not (is_blocked w.classes s e.thread)) over)
+      none_else (can_step w.classes s k) (step_of unit w.classes s k refused (thread_at s k))
+      (first_fails (is_none s.stop) (is_live (thread_at s k)) (not (is_blocked w.classes s k)) over)
 
   not_stopped : (o : Option StopInMemory) → is_some o ≡ false → option_map stop_view o ≡ None
   not_stopped None e = refl
   not_stopped (Some stop) e = absurd (cc)
 
   -- a thread that isn't there
-  pub not_there : (e : Entry) → thread_at s e.thread ≡ None → world_step unit w.classes s e ≡ None
+  pub not_there : (k : ℕ) (refused : Bool) → thread_at s k ≡ None → world_step unit w.classes s (entry.Step k refused) ≡ None
   unfolding world_step
-  not_there e none = none_both (can_step w.classes s e.thread) (step_of unit w.classes s e.thread e.refused (thread_at s e.thread)) (ap (step_of unit w.classes s e.thread e.refused) none)
+  not_there k refused none = none_both (can_step w.classes s k) (step_of unit w.classes s k refused (thread_at s k)) (ap (step_of unit w.classes s k refused) none)
 
-  pub past_the_end : (e : Entry) → length m.threads.items < e.thread → world_step unit w.classes s e ≡ None
-  past_the_end e past = by_number e.thread refl
-    where
-      by_number : (k : ℕ) → e.thread ≡ k → world_step unit w.classes s e ≡ None
-      by_number zero same = absurd (omega arith)
-      by_number (suc i) same = not_there e (ap (thread_at s) same ∙ missing unit w.classes m.threads.items s.threads i h.threads (omega arith))
+  pub past_the_end : (k : ℕ) (refused : Bool) → length m.threads.items < k → world_step unit w.classes s (entry.Step k refused) ≡ None
+  past_the_end zero refused past = absurd (omega (arith, past))
+  past_the_end (suc i) refused past = not_there (suc i) refused (missing unit w.classes m.threads.items s.threads i h.threads (omega (arith, past)))
 
   -- a thread that has ended
-  pub ended : (e : Entry) (i : ℕ) (t : ThreadInMemory) → e.thread ≡ suc i → slice_get m.threads.items i ≡ Some t → is_unfinished (ending_view t.ending) ≡ false → world_step unit w.classes s e ≡ None
+  pub ended : (k : ℕ) (refused : Bool) (i : ℕ) (t : ThreadInMemory) → k ≡ suc i → slice_get m.threads.items i ≡ Some t → is_unfinished (ending_view t.ending) ≡ false → world_step unit w.classes s (entry.Step k refused) ≡ None
   unfolding world_step
-  ended e i t counted at over =
+  ended k refused i t counted at over =
       let f = found unit w.classes m.threads.items s.threads i t h.threads at in
-      let dead : is_live (thread_at s e.thread) ≡ false = ap (λ k. is_live (thread_at s k)) counted ∙ ap is_live f.is ∙ ap is_unfinished f.stands.ending ∙ over in
-      none_else (can_step w.classes s e.thread) (step_of unit w.classes s e.thread e.refused (thread_at s e.thread))
-      (middle_fails (is_none s.stop) (is_live (thread_at s e.thread)) (not (is_blocked w.classes s e.thread)) dead)
+      let dead : is_live (thread_at s k) ≡ false = ap (λ k. is_live (thread_at s k)) counted ∙ ap is_live f.is ∙ ap is_unfinished f.stands.ending ∙ over in
+      none_else (can_step w.classes s k) (step_of unit w.classes s k refused (thread_at s k))
+      (middle_fails (is_none s.stop) (is_live (thread_at s k)) (not (is_blocked w.classes s k)) dead)
 
   -- no thread waits
   waiting_none : (k : ℕ) (o : Option Thread) → thread_at s k ≡ o → is_waiting w.classes k s.shared o ≡ false
@@ -173,7 +168,7 @@ module _ (unit : SourceUnit) (w : World) (m : StateInMemory) (s : State) (h : St
     the_step : Advance
     the_step = thread_step unit w.classes (lent s) (suc i) (shared_with (null_statics unit) m.store) the_thread.source refused
 
-    step_is : world_step unit w.classes s (record { thread = suc i; refused = refused }) ≡ advanced s (suc i) (thread_step unit w.classes (lent s) (suc i) (shared_with (null_statics unit) m.store) the_thread.source refused)
+    step_is : world_step unit w.classes s (entry.Step (suc i) refused) ≡ advanced s (suc i) (thread_step unit w.classes (lent s) (suc i) (shared_with (null_statics unit) m.store) the_thread.source refused)
     step_is =
         step-thread unit w.classes s (suc i) the_thread.source refused steps_here
         ∙ ap (λ (x : Shared). advanced s (suc i) (thread_step unit w.classes (lent s) (suc i) x the_thread.source refused)) h.shared
@@ -188,7 +183,7 @@ module _ (unit : SourceUnit) (w : World) (m : StateInMemory) (s : State) (h : St
     same_stop o is same = h.stop ∙ ap (option_map stop_view) (sym (is ∙ same))
 
     by_step : (took : Step) → StepIs unit w.classes after_it after took (thread_step unit w.classes (lent s) (suc i) (shared_with (null_statics unit) m.store) the_thread.source refused) → new.printed.items ≡ printed_after m.printed.items (suc i) took
-        → new.stop ≡ stop_after m.stop (suc i) took → Leads unit w s (record { thread = suc i; refused = refused }) new (is_possible took)
+        → new.stop ≡ stop_after m.stop (suc i) took → Leads unit w s (entry.Step (suc i) refused) new (is_possible took)
     by_step step.Quiet l printed stop = (
       with_event (record s { shared = after_it; threads = set_thread s.threads (suc i) l.next }) (suc i) Quiet,
       step_is ∙ ap (advanced s (suc i)) l.advances,
@@ -213,17 +208,17 @@ module _ (unit : SourceUnit) (w : World) (m : StateInMemory) (s : State) (h : St
     by_step step.Impossible l printed stop = step_is ∙ ap (advanced s (suc i)) l
 
     takes_at : (took : Step) → TakesStep unit w.classes refused m.store t took new.store after → new.printed.items ≡ printed_after m.printed.items (suc i) took → new.stop ≡ stop_after m.stop (suc i) took
-        → Leads unit w s (record { thread = suc i; refused = refused }) new (is_possible took)
+        → Leads unit w s (entry.Step (suc i) refused) new (is_possible took)
     takes_at took step printed stop = by_step took (step the_thread.source (lent s) (suc i) the_thread.stands unended) printed stop
 
   -- an entry is possible as far as its thread's step is
-  pub takes : (e : Entry) (i : ℕ) (t after : ThreadInMemory) (took : Step) (new : StateInMemory) → e.thread ≡ suc i → slice_get m.threads.items i ≡ Some t → is_unfinished (ending_view t.ending) ≡ true
-      → is_some m.stop ≡ false → TakesStep unit w.classes e.refused m.store t took new.store after → new.world ≡ m.world → new.threads.items ≡ slice_set m.threads.items i after
-      → new.printed.items ≡ printed_after m.printed.items e.thread took → new.stop ≡ stop_after m.stop e.thread took
-      → Leads unit w s e new (is_possible took)
-  takes e i t after took new counted at live runs step world threads printed stop =
-      subst (λ x. Leads unit w s x new (is_possible took)) (sym (entry_is e (suc i) counted))
-      (takes_at i t after at live runs new world threads e.refused took step (printed ∙ ap (λ k. printed_after m.printed.items k took) counted) (stop ∙ ap (λ k. stop_after m.stop k took) counted))
+  pub takes : (k : ℕ) (refused : Bool) (i : ℕ) (t after : ThreadInMemory) (took : Step) (new : StateInMemory) → k ≡ suc i → slice_get m.threads.items i ≡ Some t → is_unfinished (ending_view t.ending) ≡ true
+      → is_some m.stop ≡ false → TakesStep unit w.classes refused m.store t took new.store after → new.world ≡ m.world → new.threads.items ≡ slice_set m.threads.items i after
+      → new.printed.items ≡ printed_after m.printed.items k took → new.stop ≡ stop_after m.stop k took
+      → Leads unit w s (entry.Step k refused) new (is_possible took)
+  takes k refused i t after took new counted at live runs step world threads printed stop =
+      subst (λ n. Leads unit w s (entry.Step n refused) new (is_possible took)) (sym counted)
+      (takes_at i t after at live runs new world threads refused took step (printed ∙ ap (λ k. printed_after m.printed.items k took) counted) (stop ∙ ap (λ k. stop_after m.stop k took) counted))
 
   -- ---- the report
 

@@ -4,6 +4,7 @@ ghost use Rattle.std.specs.Prelude.{◌≡◌, IfOk, IsTrue, false, map};
 ghost use Rattle.syntax.specs.Limits.{IsTree};
 ghost use Rattle.syntax.specs.Views.{unit_tree};
 ghost use Rattle.types.specs.BuiltCalls.{calls_are_built};
+ghost use Rattle.source.specs.declared.journal.Entry.TheVariants as journal;
 ghost use Rattle.replay.specs.States.{AreInRange, TakesEntry, shown_stop, IsNoted, is_possible, standing_in, standings_in};
 ghost use Rattle.replay.specs.Threads.{ending_view};
 ghost use Rattle.report.specs.ThreadStatus.{standing_view};
@@ -61,7 +62,7 @@ fn note(state: &mut State<'_>, k: u8, step: Step) -> Result<bool, AllocError>
     }
 }
 
-/// Takes the step of an entry; false where the entry isn't possible.
+/// Takes an entry; false where it isn't possible.
 pub(crate) fn take_entry<'a>(
     alloc: Global,
     items: &'a [Item],
@@ -74,29 +75,41 @@ pub(crate) fn take_entry<'a>(
     ensures step { IfOk result (λ possible. TakesEntry (unit_tree items.now) state.old entry possible state.new) }
     ensures range { IfOk result (λ _. AreInRange state.new.threads.items) }
 {
+    match entry {
+        Entry::Step { thread, refused } => take_turn(alloc, items, state, thread, refused),
+    }
+}
+
+/// Takes the step of thread `k`, its allocation refused or not; false where it isn't possible.
+fn take_turn<'a>(
+    alloc: Global,
+    items: &'a [Item],
+    state: &mut State<'a>,
+    k: u8,
+    refused: bool,
+) -> Result<bool, AllocError>
+    requires tree { IsTree (unit_tree items.now) }
+    requires calls { IsTrue (calls_are_built (unit_tree items.now)) }
+    requires range { AreInRange state.old.threads.items }
+    ensures step { IfOk result (λ possible. TakesEntry (unit_tree items.now) state.old (journal.Step k refused) possible state.new) }
+    ensures range { IfOk result (λ _. AreInRange state.new.threads.items) }
+{
     if state.stop.is_some() {
         return Ok(false);
     }
-    let k = usize::from(entry.thread);
-    if k == 0 {
+    let number = usize::from(k);
+    if number == 0 {
         return Ok(false);
     }
-    if state.threads.len() < k {
+    if state.threads.len() < number {
         return Ok(false);
     }
-    let thread = &mut state.threads[k - 1];
+    let thread = &mut state.threads[number - 1];
     if !is_unfinished(thread.ending) {
         return Ok(false);
     }
-    let step = take_step(
-        alloc,
-        items,
-        state.world,
-        &mut state.store,
-        entry.refused,
-        thread,
-    )?;
-    let possible = note(state, entry.thread, step)?;
+    let step = take_step(alloc, items, state.world, &mut state.store, refused, thread)?;
+    let possible = note(state, k, step)?;
     Ok(possible)
 }
 

@@ -40,9 +40,10 @@ fn push_entry(text: &mut ArrayVec<u8, 4096>, entry: Entry)
     requires { array_vec_len text.old + 5 ≤ 4096 }
     ensures { text.new.items ≡ text.old.items ++ (codes " " ++ entry_text entry) }
 {
+    let Entry::Step { thread, refused } = entry;
     text.push(b' ');
-    push_number(text, entry.thread);
-    if entry.refused {
+    push_number(text, thread);
+    if refused {
         text.push(b'!');
     }
 }

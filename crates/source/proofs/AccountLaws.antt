@@ -9,9 +9,9 @@ use Rattle.std.proofs.lemmas.List.{append-nil}
 use Rattle.std.proofs.lemmas.List.Elements.{filter-append}
 use Rattle.syntax.specs.Tree.{SourceUnit}
 use Rattle.classes.specs.Class.{Classes}
-use Rattle.source.specs.declared.journal.Entry.{Entry}
+use Rattle.source.specs.declared.journal.Entry.TheVariants.{Step}
 use Rattle.source.specs.declared.printed.Printed.{Printed}
-use Rattle.source.specs.Journal.{Journal}
+use Rattle.source.specs.Journal.{Journal, is_step_of}
 use Rattle.source.specs.World.{World}
 use Rattle.source.specs.AccountLaws.{OthersStay, StepsMay}
 use Rattle.source.specs.Run.{replay, replay_from, account_at, entries_of, printed_by, ending_of}
@@ -42,9 +42,8 @@ tested false after next h = let bad : None ≡ Some next = h in absurd (cc)
 
 pub may_step : StepsMay
 unfolding world_step
-may_step unit classes s next e h =
-    let k = e.thread in
-    let can = (tested (can_step classes s k) (step_of unit classes s k e.refused (thread_at s k)) next h).0 in
+may_step unit classes s next k refused h =
+    let can = (tested (can_step classes s k) (step_of unit classes s k refused (thread_at s k)) next h).0 in
     let parts = and_parts (is_none s.stop && is_live (thread_at s k)) (not (is_blocked classes s k)) can in
     let first = and_parts (is_none s.stop) (is_live (thread_at s k)) parts.0 in
     record { running = no_stop s.stop first.0; live = first.1; free = not_so (is_blocked classes s k) parts.1 }
@@ -66,10 +65,10 @@ stepped : (unit : SourceUnit) (classes : Classes) (s next : State) (k : ℕ) (re
 stepped unit classes s next k refused None h = let bad : None ≡ Some next = h in absurd (cc)
 stepped unit classes s next k refused (Some t) h = moved s next k (thread_step unit classes (lent s) k s.shared t refused) h
 
-by_step : (unit : SourceUnit) (classes : Classes) (s next : State) (e : Entry) → world_step unit classes s e ≡ Some next → Stepped s e.thread next
+by_step : (unit : SourceUnit) (classes : Classes) (s next : State) (k : ℕ) (refused : Bool) → world_step unit classes s (Step k refused) ≡ Some next → Stepped s k next
 unfolding world_step
-by_step unit classes s next e h =
-    stepped unit classes s next e.thread e.refused (thread_at s e.thread) (tested (can_step classes s e.thread) (step_of unit classes s e.thread e.refused (thread_at s e.thread)) next h).1
+by_step unit classes s next k refused h =
+    stepped unit classes s next k refused (thread_at s k) (tested (can_step classes s k) (step_of unit classes s k refused (thread_at s k)) next h).1
 
 get-set_other : {A : Type 0} (xs : List A) (i j : ℕ) (w : A) → j ≢ i → slice_get (slice_set xs i w) j ≡ slice_get xs j
 get-set_other [] i j w other = refl
@@ -116,30 +115,30 @@ thread_is : (s : State) (k : ℕ) → thread_at s k ≡ thread_of s.threads k
 thread_is s zero = refl
 thread_is s (suc i) = refl
 
-same_account : (unit : SourceUnit) (w : World) (journal : Journal) (e : Entry) (other : ℕ) → other ≢ e.thread → (s next : State) → world_step unit w.classes s e ≡ Some next
-    → account_at (journal ++ e ∷ []) other next ≡ account_at journal other s
-same_account unit w journal e other ne s next h =
-    let step : Stepped s e.thread next = by_step unit w.classes s next e h in
-    let threads = set_thread s.threads e.thread step.thread in
-    let entries : entries_of (journal ++ e ∷ []) other ≡ entries_of journal other = ap length (left_out (λ (x : Entry). x.thread == other) journal e (differ e.thread other ne)) in
-    let printed : printed_by next other ≡ printed_by s other = ap (λ (x : State). printed_by x other) step.is ∙ same_printed s e.thread other ne step.shared threads step.event in
+same_account : (unit : SourceUnit) (w : World) (journal : Journal) (k : ℕ) (refused : Bool) (other : ℕ) → other ≢ k → (s next : State) → world_step unit w.classes s (Step k refused) ≡ Some next
+    → account_at (journal ++ Step k refused ∷ []) other next ≡ account_at journal other s
+same_account unit w journal k refused other ne s next h =
+    let step : Stepped s k next = by_step unit w.classes s next k refused h in
+    let threads = set_thread s.threads k step.thread in
+    let entries : entries_of (journal ++ Step k refused ∷ []) other ≡ entries_of journal other = ap length (left_out (is_step_of other) journal (Step k refused) (differ k other ne)) in
+    let printed : printed_by next other ≡ printed_by s other = ap (λ (x : State). printed_by x other) step.is ∙ same_printed s k other ne step.shared threads step.event in
     let there : thread_at next other ≡ thread_at s other =
-    thread_is next other ∙ ap (λ (x : State). thread_of x.threads other) step.is ∙ ap (λ (ts : List Thread). thread_of ts other) (same_threads s e.thread other ne step.shared threads step.event)
-    ∙ same_thread s.threads e.thread other step.thread ne ∙ sym (thread_is s other) in
+    thread_is next other ∙ ap (λ (x : State). thread_of x.threads other) step.is ∙ ap (λ (ts : List Thread). thread_of ts other) (same_threads s k other ne step.shared threads step.event)
+    ∙ same_thread s.threads k other step.thread ne ∙ sym (thread_is s other) in
     let ending : ending_of next other ≡ ending_of s other = ap (λ (o : Option Thread). option_map_or (λ (t : Thread). t.ending) o Unfinished) there in
     rw (entries, printed, ending) refl
 
 pub others_stay : OthersStay
-others_stay unit w journal e other some ne =
-    let split = replay_from-append unit w (start unit w) journal (e ∷ []) in
-    ap (option_map (account_at (journal ++ e ∷ []) other)) split ∙ before (replay unit w journal) (subst (λ (o : Option State). IsSome o) split some)
+others_stay unit w journal k refused other some ne =
+    let split = replay_from-append unit w (start unit w) journal (Step k refused ∷ []) in
+    ap (option_map (account_at (journal ++ Step k refused ∷ []) other)) split ∙ before (replay unit w journal) (subst (λ (o : Option State). IsSome o) split some)
   where
-    last : (s : State) (o : Option State) → world_step unit w.classes s e ≡ o → IsSome (option_and_then (λ s'. replay_from unit w s' []) o)
-        → option_map (account_at (journal ++ e ∷ []) other) (option_and_then (λ s'. replay_from unit w s' []) o) ≡ Some (account_at journal other s)
+    last : (s : State) (o : Option State) → world_step unit w.classes s (Step k refused) ≡ o → IsSome (option_and_then (λ s'. replay_from unit w s' []) o)
+        → option_map (account_at (journal ++ Step k refused ∷ []) other) (option_and_then (λ s'. replay_from unit w s' []) o) ≡ Some (account_at journal other s)
     last s None is h = absurd (false≢true h)
-    last s (Some next) is h = ap Some (same_account unit w journal e other ne s next is)
+    last s (Some next) is h = ap Some (same_account unit w journal k refused other ne s next is)
 
-    before : (o : Option State) → IsSome (option_and_then (λ s. replay_from unit w s (e ∷ [])) o)
-        → option_map (account_at (journal ++ e ∷ []) other) (option_and_then (λ s. replay_from unit w s (e ∷ [])) o) ≡ option_map (account_at journal other) o
+    before : (o : Option State) → IsSome (option_and_then (λ s. replay_from unit w s (Step k refused ∷ [])) o)
+        → option_map (account_at (journal ++ Step k refused ∷ []) other) (option_and_then (λ s. replay_from unit w s (Step k refused ∷ [])) o) ≡ option_map (account_at journal other) o
     before None h = absurd (false≢true h)
-    before (Some s) h = last s (world_step unit w.classes s e) refl h
+    before (Some s) h = last s (world_step unit w.classes s (Step k refused)) refl h

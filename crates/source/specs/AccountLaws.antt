@@ -1,8 +1,8 @@
 -- What a step of one thread is, and what it leaves of the others' parts.
-use Rattle.std.specs.Prelude.{◌≡◌, ◌≢◌, ℕ, ◌∷◌, [], ◌++◌, Some, None, IsSome, false, true}
+use Rattle.std.specs.Prelude.{◌≡◌, ◌≢◌, ℕ, Bool, ◌∷◌, [], ◌++◌, Some, None, IsSome, false, true}
 use Rattle.syntax.specs.Tree.{SourceUnit}
 use Rattle.classes.specs.Class.{Classes}
-use Rattle.source.specs.declared.journal.Entry.{Entry}
+use Rattle.source.specs.declared.journal.Entry.TheVariants.{Step}
 use Rattle.source.specs.Journal.{Journal}
 use Rattle.source.specs.World.{World}
 use Rattle.source.specs.Run.{replay, account}
@@ -12,8 +12,8 @@ use Rattle.source.specs.Step.{is_blocked, is_live, world_step}
 -- an entry of one thread, marked or not, changes no other thread's part in the journal
 abbrev pub OthersStay : Type 0
 OthersStay =
-    (unit : SourceUnit) (w : World) (journal : Journal) (e : Entry) (other : ℕ) → IsSome (replay unit w (journal ++ e ∷ [])) → other ≢ e.thread
-    → account unit w (journal ++ e ∷ []) other ≡ account unit w journal other
+    (unit : SourceUnit) (w : World) (journal : Journal) (k : ℕ) (refused : Bool) (other : ℕ) → IsSome (replay unit w (journal ++ Step k refused ∷ [])) → other ≢ k
+    → account unit w (journal ++ Step k refused ∷ []) other ≡ account unit w journal other
 
 -- thread k can step: no trap has stopped the machine, and it has neither ended nor waits
 pub record MayStep (classes : Classes) (s : State) (k : ℕ) : Type 0 where
@@ -23,4 +23,4 @@ pub record MayStep (classes : Classes) (s : State) (k : ℕ) : Type 0 where
 
 -- an entry is of a thread that can step
 abbrev pub StepsMay : Type 0
-StepsMay = (unit : SourceUnit) (classes : Classes) (s next : State) (e : Entry) → world_step unit classes s e ≡ Some next → MayStep classes s e.thread
+StepsMay = (unit : SourceUnit) (classes : Classes) (s next : State) (k : ℕ) (refused : Bool) → world_step unit classes s (Step k refused) ≡ Some next → MayStep classes s k

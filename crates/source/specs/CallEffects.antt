@@ -174,9 +174,9 @@ store_effect s t fits object r i = if fits then heap_effect s t (with_value_at s
 
 -- ---- buffers
 
--- a copy of the elements, or NULL where all copies together would be too long
-abbrev pub copy_effect : BuffersInUse → Shared → Thread → List ℤ → CallEffect
-copy_effect lent s t zs = Leaves [] s t (BufferResult (if nat_le (lent.copied + length zs) 65536 then Copy zs else NoBuffer))
+-- a copy of the object's elements, or NULL where all copies together would be too long
+abbrev pub copy_effect : BuffersInUse → Shared → Thread → (object : ℕ) → List ℤ → CallEffect
+copy_effect lent s t object zs = Leaves [] s t (BufferResult (if nat_le (lent.copied + length zs) 65536 then Copy object zs else NoBuffer))
 
 -- a view of the object, or NULL where 64 are out
 abbrev pub view_effect : BuffersInUse → Shared → Thread → ℕ → CallEffect
@@ -184,7 +184,7 @@ view_effect lent s t object = Leaves [] s t (BufferResult (if nat_lt lent.views 
 
 -- the elements of a copy
 abbrev pub copied_elements : Option Variable → List ℤ
-copied_elements (Some (Elements kind (Copy zs))) = zs
+copied_elements (Some (Elements kind (Copy n zs))) = zs
 copied_elements v = []
 
 -- a buffer that is given up

@@ -68,7 +68,7 @@ received kind given t = t
 -- `isCopy`, if it isn't NULL, tells a copy from a view
 abbrev pub tell_copy : Identifier → CallResult → Variables → Variables
 tell_copy [] given vs = vs
-tell_copy x (BufferResult (Copy zs)) vs = assign x (Scalar (Flag true)) vs
+tell_copy x (BufferResult (Copy n zs)) vs = assign x (Scalar (Flag true)) vs
 tell_copy x (BufferResult (View n)) vs = assign x (Scalar (Flag false)) vs
 tell_copy x given vs = vs
 

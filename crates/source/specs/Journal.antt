@@ -1,7 +1,12 @@
--- Journals: the steps that a run took.
-use Rattle.std.specs.Prelude.{List}
+-- Journals: what a run did.
+use Rattle.std.specs.Prelude.{ℕ, Bool, ◌==◌, List}
 use Rattle.source.specs.declared.journal.Entry.{Entry}
+use Rattle.source.specs.declared.journal.Entry.TheVariants.{Step}
 
 -- the entries of a run
 abbrev pub Journal : Type 0
 Journal = List Entry
+
+-- an entry is a step of this thread
+abbrev pub is_step_of : ℕ → Entry → Bool
+is_step_of k (Step thread refused) = thread == k

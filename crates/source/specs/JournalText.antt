@@ -1,11 +1,12 @@
 -- The text of a journal.
 use Rattle.std.specs.Prelude.{ℕ, List, [], ◌∷◌, ◌++◌, codes, decimal, if◌then◌else◌, flat_map}
 use Rattle.source.specs.declared.journal.Entry.{Entry}
+use Rattle.source.specs.declared.journal.Entry.TheVariants.{Step}
 use Rattle.source.specs.Journal.{Journal}
 
 -- `1`, or `1!` where the allocation was refused
 abbrev pub entry_text : Entry → List ℕ
-entry_text e = decimal e.thread ++ (if e.refused then codes "!" else [])
+entry_text (Step k refused) = decimal k ++ (if refused then codes "!" else [])
 
 -- the words of the line of a journal, after the first
 abbrev pub spelled_entries : List Entry → List ℕ

@@ -3,7 +3,8 @@ use Rattle.std.specs.Prelude.{◌≡◌, ◌≢◌, ℕ, ◌+◌, ◌<◌, ◌�
 use Rattle.std.specs.Option.{option_and_then, option_map, option_map_or}
 use Rattle.syntax.specs.Tree.{SourceUnit}
 use Rattle.source.specs.declared.journal.Entry.{Entry}
-use Rattle.source.specs.Journal.{Journal}
+use Rattle.source.specs.declared.journal.Entry.TheVariants.{Step}
+use Rattle.source.specs.Journal.{Journal, is_step_of}
 use Rattle.source.specs.Object.{Object, sizes}
 use Rattle.source.specs.declared.printed.Printed.{Printed}
 use Rattle.source.specs.declared.schedule.ScheduleWord.TheVariants.{Turn, Collect}
@@ -34,7 +35,7 @@ pub data Follows (unit : SourceUnit) (w : World) : State → Journal → Schedul
   Over : (s : State) → Follows unit w s [] [] s
   Collects : (s end : State) (journal : Journal) (words : Schedule) → Follows unit w s journal words end → Follows unit w s journal (Collect ∷ words) end
   Waits : (s end : State) (k : ℕ) (journal : Journal) (words : Schedule) → can_step w.classes s k ≡ false → Follows unit w s journal words end → Follows unit w s journal (Turn k ∷ words) end
-  Steps : (s next end : State) (k : ℕ) (refused : Bool) (journal : Journal) (words : Schedule) → can_step w.classes s k ≡ true → world_step unit w.classes s (record { thread = k; refused = refused }) ≡ Some next → Follows unit w next journal words end → Follows unit w s (record { thread = k; refused = refused } ∷ journal) (Turn k ∷ words) end
+  Steps : (s next end : State) (k : ℕ) (refused : Bool) (journal : Journal) (words : Schedule) → can_step w.classes s k ≡ true → world_step unit w.classes s (Step k refused) ≡ Some next → Follows unit w next journal words end → Follows unit w s (Step k refused ∷ journal) (Turn k ∷ words) end
 
 -- the journal is one of a run by the schedule
 abbrev pub JournalFollows : SourceUnit → World → Journal → Schedule → Type 0
@@ -49,7 +50,7 @@ made_between s (Some next) = drop (length s.shared.heap) next.shared.heap
 
 -- the objects that thread k's next step makes, if nothing is refused
 abbrev pub made : SourceUnit → World → State → ℕ → List Object
-made unit w s k = made_between s (world_step unit w.classes s (record { thread = k; refused = false }))
+made unit w s k = made_between s (world_step unit w.classes s (Step k false))
 
 -- the cells that are reachable before a thread's next step, and those of what it makes
 abbrev pub wanted : SourceUnit → World → State → ℕ → ℕ
@@ -64,13 +65,13 @@ abbrev pub Fits : SourceUnit → World → State → ℕ → Type 0
 Fits unit w s k = (made unit w s k ≢ []) → wanted unit w s k ≤ w.cells
 
 -- what is asked of an entry that isn't marked as refused, and of one that is
-abbrev pub FitsUnmarked : SourceUnit → World → State → ℕ → (refused : Bool) → Type 0
-FitsUnmarked unit w s k true = Unit {0}
-FitsUnmarked unit w s k false = Fits unit w s k
+abbrev pub FitsUnmarked : SourceUnit → World → State → Entry → Type 0
+FitsUnmarked unit w s (Step k true) = Unit {0}
+FitsUnmarked unit w s (Step k false) = Fits unit w s k
 
-abbrev pub IsFairMarked : SourceUnit → World → State → ℕ → (refused : Bool) → Type 0
-IsFairMarked unit w s k true = IsFair unit w s k
-IsFairMarked unit w s k false = Unit {0}
+abbrev pub IsFairMarked : SourceUnit → World → State → Entry → Type 0
+IsFairMarked unit w s (Step k true) = IsFair unit w s k
+IsFairMarked unit w s (Step k false) = Unit {0}
 
 -- what holds of each entry of a journal and of the state to which the entries before it have led
 abbrev pub EachFrom : SourceUnit → World → (State → Entry → Type 0) → Option State → Journal → Type 0
@@ -80,11 +81,11 @@ EachFrom unit w Holds (Some s) (e ∷ rest) = Holds s e × EachFrom unit w Holds
 
 -- each unmarked entry of a run's journal fits
 abbrev pub UnmarkedFit : SourceUnit → World → Journal → Type 0
-UnmarkedFit unit w journal = EachFrom unit w (λ s e. FitsUnmarked unit w s e.thread e.refused) (Some (start unit w)) journal
+UnmarkedFit unit w journal = EachFrom unit w (FitsUnmarked unit w) (Some (start unit w)) journal
 
 -- each marked entry of a run's journal is fair
 abbrev pub MarkedAreFair : SourceUnit → World → Journal → Type 0
-MarkedAreFair unit w journal = EachFrom unit w (λ s e. IsFairMarked unit w s e.thread e.refused) (Some (start unit w)) journal
+MarkedAreFair unit w journal = EachFrom unit w (IsFairMarked unit w) (Some (start unit w)) journal
 
 -- ---- a thread's part in a journal
 
@@ -96,7 +97,7 @@ pub record Account : Type 0 where
 
 -- how many entries a thread has
 abbrev pub entries_of : Journal → ℕ → ℕ
-entries_of journal k = length (filter (λ (e : Entry). e.thread == k) journal)
+entries_of journal k = length (filter (is_step_of k) journal)
 
 -- the numbers that a thread printed
 abbrev pub printed_by : State → ℕ → List ℤ

@@ -45,7 +45,7 @@ holds_null None s = static_is_null s
 
 -- the numbers that a buffer or an array shows; a view shows the object's present ones
 abbrev pub elements_of : Heap → Option Variable → Outcome (List ℤ)
-elements_of heap (Some (Elements kind (Copy zs))) = Gives zs
+elements_of heap (Some (Elements kind (Copy n zs))) = Gives zs
 elements_of heap (Some (Elements kind (View n))) = Gives (numbers_of heap n)
 elements_of heap (Some (LocalArray kind zs)) = Gives zs
 elements_of heap v = Stuck

@@ -3,6 +3,7 @@ use Rattle.std.specs.Prelude.{ℕ, Bool, true, false, if◌then◌else◌, is_no
 use Rattle.syntax.specs.Tree.{SourceUnit}
 use Rattle.classes.specs.Class.{Classes}
 use Rattle.source.specs.declared.journal.Entry.{Entry}
+use Rattle.source.specs.declared.journal.Entry.TheVariants.{Step}
 use Rattle.source.specs.State.{State, thread_at, lent, advanced}
 use Rattle.source.specs.Thread.{Ending, Unfinished, Thread, Shared}
 use Rattle.source.specs.ThreadStep.{waits, thread_step}
@@ -37,4 +38,4 @@ step_of unit classes s k refused (Some t) = advanced s k (thread_step unit class
 
 -- the state after an entry, where it is possible
 unfoldable pub world_step : SourceUnit → Classes → State → Entry → Option State
-world_step unit classes s e = if can_step classes s e.thread then step_of unit classes s e.thread e.refused (thread_at s e.thread) else None
+world_step unit classes s (Step k refused) = if can_step classes s k then step_of unit classes s k refused (thread_at s k) else None

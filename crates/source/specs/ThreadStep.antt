@@ -23,7 +23,7 @@ set_variable s t x v = Advances s (record t { variables = assign x v t.variables
 -- an element that is there is written, converted to its type; a view writes the object itself
 abbrev pub set_element : Shared → Thread → Identifier → ℕ → ℤ → Option Variable → Advance
 set_element s t x i z (Some (LocalArray T zs)) = set_variable s t x (LocalArray T (slice_set zs i (convert T z)))
-set_element s t x i z (Some (Elements T (Copy zs))) = set_variable s t x (Elements T (Copy (slice_set zs i (convert T z))))
+set_element s t x i z (Some (Elements T (Copy n zs))) = set_variable s t x (Elements T (Copy n (slice_set zs i (convert T z))))
 set_element s t x i z (Some (Elements T (View n))) = Advances (record s { heap = with_value_at s.heap n i (Number (convert T z)) }) t Quiet
 set_element s t x i z v = NoAdvance
 

@@ -7,10 +7,10 @@ use Rattle.classes.specs.Fields.{FieldId}
 use Rattle.source.specs.Object.{Reference}
 use Rattle.source.specs.Value.{Value}
 
--- an element buffer: NULL, a copy of the elements, or a view of the array or string of this name
+-- an element buffer: NULL, a copy of the elements of the array or string of this name, or a view of it
 pub data Buffer : Type 0 where
   NoBuffer : Buffer
-  Copy : List ℤ → Buffer
+  Copy : (object : ℕ) → List ℤ → Buffer
   View : (object : ℕ) → Buffer
 
 -- A local reference has its level, the number of frames at its declaration.
@@ -52,7 +52,7 @@ as_static (Some n) = Live n
 
 -- how many copied elements a variable holds
 abbrev pub copied_length : Variable → ℕ
-copied_length (Elements kind (Copy zs)) = length zs
+copied_length (Elements kind (Copy n zs)) = length zs
 copied_length v = 0
 
 -- the object that a variable shows

@@ -1,10 +1,8 @@
 //! The entries of journals.
 
-/// A step that a run took.
+/// What a run did.
 #[derive(Clone, Copy, Debug, PartialEq, Eq)]
-pub struct Entry {
-    /// The thread's number, from 1.
-    pub thread: u8,
-    /// Whether the step's allocation was refused.
-    pub refused: bool,
+pub enum Entry {
+    /// The thread of this number, from 1, took a step; and whether the step's allocation was refused.
+    Step { thread: u8, refused: bool },
 }

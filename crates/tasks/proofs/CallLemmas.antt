@@ -8,7 +8,7 @@ use Rattle.classes.specs.BuiltIns.{no_class_def_found_error, no_such_field_error
 use Rattle.classes.specs.Class.{Classes}
 use Rattle.classes.specs.Fields.{FieldId}
 use Rattle.jni.specs.BuiltFunctions.{is_built_function}
-use Rattle.jni.specs.JniFunction.{JniFunction, FindClass, GetSuperclass, GetObjectClass, IsInstanceOf, IsAssignableFrom, AllocObject, GetFieldID, GetStaticFieldID, GetField, SetField, GetStaticField, SetStaticField, GetObjectField, SetObjectField, GetStaticObjectField, SetStaticObjectField, GetArrayLength, PopLocalFrame, is_allowed_pending}
+use Rattle.jni.specs.JniFunction.{JniFunction, FindClass, GetSuperclass, GetObjectClass, IsInstanceOf, IsAssignableFrom, AllocObject, NewLocalRef, IsSameObject, GetFieldID, GetStaticFieldID, GetField, SetField, GetStaticField, SetStaticField, GetObjectField, SetObjectField, GetStaticObjectField, SetStaticObjectField, GetArrayLength, PopLocalFrame, is_allowed_pending}
 use Rattle.jni.specs.Prototype.{ResultKind, NewLocal, prototype}
 use Rattle.source.specs.Arguments.{Actual, variable_given}
 use Rattle.source.specs.CallEffects.{CallResult, CallEffect, found_class_effect, found_field_effect, out_of_memory}
@@ -81,6 +81,8 @@ module _ (classes : Classes) (heap : Heap) (buffer : ElementType) (args : List A
   together GetObjectClass built = refl
   together IsInstanceOf built = refl
   together IsAssignableFrom built = refl
+  together NewLocalRef built = refl
+  together IsSameObject built = refl
   together AllocObject built = refl
   together GetFieldID built = refl
   together GetStaticFieldID built = refl
@@ -125,6 +127,8 @@ module _ (classes : Classes) (lent : BuffersInUse) (k : ℕ) (s : Shared) (t : T
   effects GetObjectClass built = refl
   effects IsInstanceOf built = refl
   effects IsAssignableFrom built = refl
+  effects NewLocalRef built = refl
+  effects IsSameObject built = refl
   effects AllocObject built = refl
   effects GetFieldID built = field_found _
   effects GetStaticFieldID built = field_found _

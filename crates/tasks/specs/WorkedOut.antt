@@ -3,9 +3,9 @@ use Rattle.std.specs.Prelude.{ℕ, ℤ, pos, List, length, Option, Some, None}
 use Rattle.classes.specs.BuiltIns.{no_class_def_found_error, no_such_field_error}
 use Rattle.classes.specs.Class.{Classes, class_named, superclass, assignable}
 use Rattle.classes.specs.Fields.{FieldId, find_field, find_static}
-use Rattle.jni.specs.JniFunction.{JniFunction, FindClass, GetSuperclass, GetObjectClass, IsInstanceOf, IsAssignableFrom, AllocObject, GetFieldID, GetStaticFieldID, GetField, SetField, GetStaticField, SetStaticField, GetObjectField, SetObjectField, GetStaticObjectField, SetStaticObjectField, GetArrayLength}
+use Rattle.jni.specs.JniFunction.{JniFunction, FindClass, GetSuperclass, GetObjectClass, IsInstanceOf, IsAssignableFrom, AllocObject, NewLocalRef, IsSameObject, GetFieldID, GetStaticFieldID, GetField, SetField, GetStaticField, SetStaticField, GetObjectField, SetObjectField, GetStaticObjectField, SetStaticObjectField, GetArrayLength}
 use Rattle.source.specs.Arguments.{Actual, reference_given, object_given, number_given, text_given, field_given}
-use Rattle.source.specs.CallEffects.{NoResult, ScalarResult, ReferenceResult, FieldResult}
+use Rattle.source.specs.CallEffects.{NoResult, ScalarResult, ReferenceResult, FieldResult, same_reference}
 use Rattle.source.specs.Heap.{Heap, class_of, values_of, value_at, number_in, reference_in, field_place, static_place, fits_class}
 use Rattle.source.specs.Object.{Number, Refers}
 use Rattle.source.specs.Value.{Int, Flag, convert}
@@ -53,6 +53,8 @@ module _ (classes : Classes) (heap : Heap) (args : List Actual) where
   worked_out IsInstanceOf = Gives (ScalarResult (Flag (fits_class classes heap (reference 0) (object 1))))
   worked_out IsAssignableFrom = Gives (ScalarResult (Flag (assignable classes (object 0) (object 1))))
   worked_out AllocObject = Makes (object 0)
+  worked_out NewLocalRef = Gives (ReferenceResult (reference 0))
+  worked_out IsSameObject = Gives (ScalarResult (Flag (same_reference (reference 0) (reference 1))))
   worked_out GetFieldID = found_field (find_field classes (object 0) (text 1) (text 2))
   worked_out GetStaticFieldID = found_field (find_static classes (object 0) (text 1) (text 2))
   worked_out (GetField T) = Gives (ScalarResult (Int (number_in (value_at heap (object 0) place))))

@@ -5,6 +5,7 @@ ghost use Rattle.std.specs.Option.{option_map};
 ghost use Rattle.class_table.specs.FieldViews.{field_id_view};
 ghost use Rattle.jni.specs.BuiltFunctions.{is_built_function};
 ghost use Rattle.jni.specs.Table.{function_value};
+ghost use Rattle.source.specs.CallEffects.{same_reference};
 ghost use Rattle.source.specs.Heap.{field_place, fits_class, number_in, reference_in, static_place};
 ghost use Rattle.source.specs.Object.{Refers};
 ghost use Rattle.source.specs.Arguments.{field_given, object_given};
@@ -67,6 +68,13 @@ pub(crate) fn work_out<'a>(
             Ok(Answer::Gives(Given::Flag(classes.assignable(first, second))))
         }
         JniFunction::AllocObject => Ok(Answer::Makes(first)),
+        JniFunction::NewLocalRef => {
+            Ok(Answer::Gives(Given::Reference(reference_given(actuals, 0))))
+        }
+        JniFunction::IsSameObject => {
+            let same = same_reference(reference_given(actuals, 0), reference_given(actuals, 1));
+            Ok(Answer::Gives(Given::Flag(same)))
+        }
         JniFunction::GetFieldID => {
             let (name, text) = (text_given(actuals, 1), text_given(actuals, 2));
             Ok(found_field(classes.field(first, name, text, false)))
@@ -133,6 +141,17 @@ fn found_field(field: Option<FieldId<'_>>) -> Answer<'_>
     match field {
         Some(field) => Answer::Gives(Given::Field(Some(field))),
         None => Answer::Raises(NO_SUCH_FIELD_ERROR),
+    }
+}
+
+/// Whether both are NULL, or one object.
+fn same_reference(first: Option<usize>, second: Option<usize>) -> bool
+    ensures { result ≡ same_reference first second }
+{
+    match (first, second) {
+        (None, None) => true,
+        (Some(first), Some(second)) => first == second,
+        _ => false,
     }
 }
 

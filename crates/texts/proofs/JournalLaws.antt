@@ -8,24 +8,27 @@ use Rattle.std.proofs.lemmas.Bool.Decides.{nat_tests}
 use Rattle.std.proofs.lemmas.Fmt.{decimal_digit}
 use Rattle.base.specs.Bytes.{is_some_byte}
 use Rattle.source.specs.declared.journal.Entry.{Entry}
+use Rattle.source.specs.declared.journal.Entry.TheVariants.{Step}
 use Rattle.source.specs.Journal.{Journal}
 use Rattle.source.specs.JournalText.{entry_text}
-use Rattle.texts.specs.JournalMeaning.{IsJournalText}
+use Rattle.texts.specs.JournalMeaning.{IsJournalText, has_thread}
 use Rattle.texts.specs.Split.{parts_of}
-use Rattle.texts.specs.ReadingJournals.{entry_named, entry_of, journal_of}
+use Rattle.texts.specs.ReadingJournals.{entry_named, entry_of, is_up_to, journal_of}
 use Rattle.texts.specs.Reading.{Gives}
 use Rattle.texts.specs.ReadingWords.{formed_words}
 use Rattle.texts.specs.declared.fault.ReadError.{ReadError}
-use Rattle.texts.specs.Words.{is_thread}
 use Rattle.texts.proofs.JournalLemmas.{counted}
 use Rattle.texts.proofs.ScheduleLaws.{guarded, guarded_option, some_with}
 use Rattle.texts.proofs.WordLaws.{words_of-parts, all_parts, both_true, are_words}
 
 -- ---- one word
 
+abbrev thread_of : Entry → ℕ
+thread_of (Step k refused) = k
+
 pub record IsEntry (bytes : List ℕ) (e : Entry) : Type 0 where
   pub spelled : bytes ≡ entry_text e
-  pub low : 1 ≤ e.thread
+  pub low : 1 ≤ thread_of e
 
 -- the mark of a refused allocation
 abbrev mark : Bool → List ℕ
@@ -33,7 +36,7 @@ mark refused = cond refused (33 ∷ []) []
 
 entry_read : (name : ℕ) (refused : Bool) (e : Entry) → entry_named name refused ≡ Some e → IsEntry (name ∷ mark refused) e
 entry_read name refused e h =
-    let g = guarded (nat_le 49 name && nat_le name 56) (record { thread = name - 48; refused = refused }) e h in
+    let g = guarded (nat_le 49 name && nat_le name 56) (Step (name - 48) refused) e h in
     let t = both_true (nat_le 49 name) (nat_le name 56) g.0 in
     let low : 49 ≤ name = grind (arith, nat_tests, t.0) in
     let high : name ≤ 56 = grind (arith, nat_tests, t.1) in
@@ -53,7 +56,10 @@ word_read (name ∷ sign ∷ more ∷ bytes) e h = absurd (cc)
 
 pub record AreEntriesOf (parts : List (List ℕ)) (es : Journal) : Type 0 where
   pub spelled : filter is_some_byte parts ≡ map entry_text es
-  pub known : (threads : ℕ) → list_all (λ (e : Entry). nat_le e.thread threads) es ≡ true → list_all (λ (e : Entry). is_thread threads e.thread) es ≡ true
+  pub known : (threads : ℕ) → list_all (is_up_to threads) es ≡ true → list_all (has_thread threads) es ≡ true
+
+there : (threads : ℕ) (e : Entry) → 1 ≤ thread_of e → is_up_to threads e ≡ true → has_thread threads e ≡ true
+there threads (Step k refused) low high = let one : nat_le 1 k ≡ true = grind (arith, nat_tests, low) in and_from (nat_le 1 k) (nat_le k threads) one high
 
 entries_read : (parts : List (List ℕ)) (es : Journal) → formed_words entry_of parts ≡ Some es → AreEntriesOf parts es
 entries_read [] es h = let none : [] ≡ es = cc in subst (AreEntriesOf []) none (record { spelled = refl; known = λ threads k. refl })
@@ -65,15 +71,14 @@ entries_read ((c ∷ cs) ∷ parts) es h =
     subst (AreEntriesOf ((c ∷ cs) ∷ parts)) (sym w.4) (record {
       spelled = ap (λ (b : List ℕ). b ∷ filter is_some_byte parts) first.spelled ∙ ap (λ (bs : List (List ℕ)). entry_text w.0 ∷ bs) a.spelled;
       known = λ threads k.
-          let both = both_true (nat_le w.0.thread threads) (list_all (λ (e : Entry). nat_le e.thread threads) w.1) k in
-          let one : nat_le 1 w.0.thread ≡ true = grind (arith, nat_tests, first.low) in
-          and_from (is_thread threads w.0.thread) (list_all (λ (e : Entry). is_thread threads e.thread) w.1) (and_from (nat_le 1 w.0.thread) (nat_le w.0.thread threads) one both.0) (a.known threads both.1);
+          let both = both_true (is_up_to threads w.0) (list_all (is_up_to threads) w.1) k in
+          and_from (has_thread threads w.0) (list_all (has_thread threads) w.1) (there threads w.0 first.low both.0) (a.known threads both.1);
     })
 
 -- what is read is meant
 pub journal_is_meant : (threads : ℕ) (text : List ℕ) (journal : Journal) → journal_of text threads ≡ Ok journal → IsJournalText threads text journal
 journal_is_meant threads text journal h =
-    let ws = are_words entry_of (λ e. nat_le e.thread threads) (λ e. 1) 1 0 (parts_of 10 text) journal (omega arith) h in
+    let ws = are_words entry_of (is_up_to threads) (λ e. 1) 1 0 (parts_of 10 text) journal (omega arith) h in
     let es = entries_read (all_parts text) journal ws.formed in
     record { spelled = words_of-parts text ∙ es.spelled; threads_known = es.known threads ws.all_known; few = omega (arith, counted journal, ws.few) }
 

@@ -12,12 +12,11 @@ use source::Entry;
 use std::alloc::Global;
 
 impl Word for Entry {
-    ghost use Rattle.std.specs.Prelude.{nat_le};
-    ghost use Rattle.texts.specs.ReadingJournals.{entry_of};
+    ghost use Rattle.texts.specs.ReadingJournals.{entry_of, is_up_to};
 
     ghost spelled = { entry_of };
 
-    ghost known = { λ threads entry. nat_le entry.thread threads };
+    ghost known = { is_up_to };
 
     ghost times = { λ _. 1 };
 
@@ -30,14 +29,15 @@ impl Word for Entry {
         match name {
             b'1'..=b'8' => {
                 let thread = name - b'0';
-                Some(Entry { thread, refused })
+                Some(Entry::Step { thread, refused })
             }
             _ => None,
         }
     }
 
     fn is_known(&self, threads: u8) -> bool {
-        self.thread <= threads
+        let Entry::Step { thread, .. } = self;
+        *thread <= threads
     }
 
     fn times(&self) -> u32 {

@@ -14,10 +14,11 @@ use Rattle.classes.specs.Mangling.{unmangle}
 use Rattle.jni.specs.Prototype.{function_named}
 use Rattle.types.specs.SortRules.{SortRule, sort_rule_number, IsSorted}
 use Rattle.source.specs.declared.journal.Entry.{Entry}
+use Rattle.source.specs.declared.journal.Entry.TheVariants.{Step}
 use Rattle.source.specs.declared.schedule.ScheduleWord.{ScheduleWord}
 use Rattle.source.specs.declared.schedule.ScheduleWord.TheVariants.{Turn, Collect}
 use Rattle.source.specs.Journal.{Journal}
-use Rattle.texts.specs.JournalMeaning.{IsJournalText}
+use Rattle.texts.specs.JournalMeaning.{IsJournalText, has_thread}
 use Rattle.source.specs.JournalText.{entry_text, journal_line}
 use Rattle.source.specs.Object.{Object, sizes}
 use Rattle.world_text.specs.ReadingValues.{value_named}
@@ -27,7 +28,7 @@ use Rattle.world_text.specs.ReadingWorlds.{line_read, lines_read, heap_read, wor
 use Rattle.report.specs.ReportText.{report_text}
 use Rattle.source.specs.Schedule.{Schedule}
 use Rattle.texts.specs.ScheduleText.{IsScheduleText, schedule_word, words_meant, is_turn, is_count}
-use Rattle.texts.specs.Words.{words_of, is_thread}
+use Rattle.texts.specs.Words.{words_of}
 use Rattle.source.specs.World.{World}
 use Rattle.world.specs.WorldLines.{WorldLine, Lines, has_words, line_text, spaced, text_lines}
 use Rattle.world.specs.WorldMeaning.{world_of}
@@ -162,11 +163,11 @@ schedule-text threads text words spelled h =
 
 -- the entries of a journal are those of threads, and not too many
 abbrev pub is_journal : ℕ → Journal → Bool
-is_journal threads journal = list_all (λ (e : Entry). is_thread threads e.thread) journal && nat_le (length journal) 1000000
+is_journal threads journal = list_all (has_thread threads) journal && nat_le (length journal) 1000000
 
 journal-text : (threads : ℕ) (text : List ℕ) (journal : Journal) → words_of text ≡ map entry_text journal → IsTrue (is_journal threads journal) → IsJournalText threads text journal
 journal-text threads text journal spelled h =
-    let parts = both (list_all (λ (e : Entry). is_thread threads e.thread) journal) (nat_le (length journal) 1000000) h in
+    let parts = both (list_all (has_thread threads) journal) (nat_le (length journal) 1000000) h in
     record { spelled = spelled; threads_known = parts.0; few = leb-true _ _ parts.1 }
 
 abbrev pub begins : (unit : SourceUnit) (world : List ℕ) (w : World) → IsAccepted unit → IsWorldText world w → first_load_fault unit w ≡ None → Beginning unit world
@@ -189,9 +190,9 @@ if_true : (b : Bool) (o : Option State) (next : State) → (if b then o else Non
 if_true true o next h = refl
 if_true false o next h = absurd cc
 
-can-step : (unit : SourceUnit) (classes : Classes) (s next : State) (e : Entry) → world_step unit classes s e ≡ Some next → can_step classes s e.thread ≡ true
+can-step : (unit : SourceUnit) (classes : Classes) (s next : State) (k : ℕ) (refused : Bool) → world_step unit classes s (Step k refused) ≡ Some next → can_step classes s k ≡ true
 unfolding world_step
-can-step unit classes s next e h = if_true (can_step classes s e.thread) (step_of unit classes s e.thread e.refused (thread_at s e.thread)) next h
+can-step unit classes s next k refused h = if_true (can_step classes s k) (step_of unit classes s k refused (thread_at s k)) next h
 
 -- a journal in front of others, turned round
 abbrev pub onto : Journal → Journal → Journal
@@ -214,8 +215,8 @@ pub record Lawful (unit : SourceUnit) (w : World) (s : State) (words : Schedule)
   pub journal : Journal
   pub adds : whole ≡ onto journal latest
   pub follows : Follows unit w s journal words end
-  pub fits : EachFrom unit w (λ s e. FitsUnmarked unit w s e.thread e.refused) (Some s) journal
-  pub fair : EachFrom unit w (λ s e. IsFairMarked unit w s e.thread e.refused) (Some s) journal
+  pub fits : EachFrom unit w (FitsUnmarked unit w) (Some s) journal
+  pub fair : EachFrom unit w (IsFairMarked unit w) (Some s) journal
 
 module _ (unit : SourceUnit) (w : World) where
   -- ---- room
@@ -248,11 +249,11 @@ module _ (unit : SourceUnit) (w : World) where
   fits-room s k [] e h = λ some. absurd (some e)
   fits-room s k (o ∷ objects) e h = λ some. subst (λ xs. live_size w s + sizes xs ≤ w.cells) (sym e) (leb-true _ _ h)
 
-  step-fits : (s next : State) (k : ℕ) (refused : Bool) → world_step unit w.classes s (entry k refused) ≡ Some next → IsTrue (has_room s k refused next) → FitsUnmarked unit w s k refused
+  step-fits : (s next : State) (k : ℕ) (refused : Bool) → world_step unit w.classes s (entry k refused) ≡ Some next → IsTrue (has_room s k refused next) → FitsUnmarked unit w s (Step k refused)
   step-fits s next k true e h = tt
   step-fits s next k false e h = fits-room s k (made_between s (Some next)) (ap (made_between s) e) h
 
-  step-fair : (s next : State) (k : ℕ) (refused : Bool) → IsTrue (has_room s k refused next) → IsFairMarked unit w s k refused
+  step-fair : (s next : State) (k : ℕ) (refused : Bool) → IsTrue (has_room s k refused next) → IsFairMarked unit w s (Step k refused)
   step-fair s next k true h = refused-room s k (views s) refl h
   step-fair s next k false h = tt
 
@@ -300,9 +301,9 @@ module _ (unit : SourceUnit) (w : World) where
       record {
         journal = entry k refused ∷ h.journal;
         adds = h.adds;
-        follows = Steps s next end k refused h.journal words (can-step unit w.classes s next (entry k refused) e) e h.follows;
-        fits = (step-fits s next k refused e is, subst (λ o. EachFrom unit w (λ s e. FitsUnmarked unit w s e.thread e.refused) o h.journal) (sym e) h.fits);
-        fair = (step-fair s next k refused is, subst (λ o. EachFrom unit w (λ s e. IsFairMarked unit w s e.thread e.refused) o h.journal) (sym e) h.fair);
+        follows = Steps s next end k refused h.journal words (can-step unit w.classes s next k refused e) e h.follows;
+        fits = (step-fits s next k refused e is, subst (λ o. EachFrom unit w (FitsUnmarked unit w) o h.journal) (sym e) h.fits);
+        fair = (step-fair s next k refused is, subst (λ o. EachFrom unit w (IsFairMarked unit w) o h.journal) (sym e) h.fair);
       }
 
   steps : (s next : State) (k : ℕ) (words : Schedule) (go : State → List Bool → Journal → Option (State × Journal)) (marks : List Bool) (latest : Journal) (room : Bool) → world_step unit w.classes s (entry k (first_mark marks)) ≡ Some next → has_room s k (first_mark marks) next ≡ room → IsLawful next words (entry k (first_mark marks) ∷ latest) (go next (later_marks marks) (entry k (first_mark marks) ∷ latest)) → IsLawful s (Turn k ∷ words) latest (after_step go next (later_marks marks) (entry k (first_mark marks) ∷ latest) room)

@@ -3,6 +3,7 @@ use Rattle.std.specs.Prelude.{ℕ, Bool, false, List, [], ◌∷◌, codes, repl
 use Rattle.base.specs.Bytes.{Identifier}
 use Rattle.syntax.specs.Tree.{Argument, Call, Variable, Stmt, Block, End, Next, ReferenceType, ResultType, Parameter, IntParameter, ReferenceParameter, Item, StaticItem, FunctionItem, SourceUnit}
 use Rattle.source.specs.declared.journal.Entry.{Entry}
+use Rattle.source.specs.declared.journal.Entry.TheVariants.{Step}
 use Rattle.source.specs.Journal.{Journal}
 
 -- ---- programs
@@ -51,7 +52,7 @@ given x = Argument.Value (Variable x)
 
 -- an entry
 abbrev pub entry : (thread : ℕ) → Bool → Entry
-entry thread refused = record { thread = thread; refused = refused }
+entry thread refused = Step thread refused
 
 -- this many entries of a thread, none refused
 abbrev pub entries : (thread n : ℕ) → Journal

@@ -2,6 +2,7 @@
 use Rattle.std.specs.Prelude.{◌≡◌, true, false, [], ◌∷◌, Some, None, codes, refl}
 use Rattle.std.proofs.Common.{arith}
 use Rattle.std.specs.Fmt.{digits}
+use Rattle.source.specs.declared.journal.Entry.TheVariants.{Step}
 use Rattle.source.specs.declared.schedule.ScheduleWord.TheVariants.{Turn, Collect}
 use Rattle.texts.specs.JournalMeaning.{IsJournalText}
 use Rattle.texts.specs.ScheduleText.{schedule_word, IsScheduleText}
@@ -19,6 +20,6 @@ schedule-text : IsScheduleText 2 (codes "1*3 c\n2") (Turn 1 ∷ Turn 1 ∷ Turn 
 unfolding digits
 schedule-text = record { words = (Turn 1, Some 3) ∷ (Collect, None) ∷ (Turn 2, None) ∷ []; spelled = refl; counted = refl; meant = refl; few = omega arith }
 
-journal-text : IsJournalText 2 (codes "1 2! 1") (record { thread = 1; refused = false } ∷ record { thread = 2; refused = true } ∷ record { thread = 1; refused = false } ∷ [])
+journal-text : IsJournalText 2 (codes "1 2! 1") (Step 1 false ∷ Step 2 true ∷ Step 1 false ∷ [])
 unfolding digits
 journal-text = record { spelled = refl; threads_known = refl; few = omega arith }

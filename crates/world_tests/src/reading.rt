@@ -19,7 +19,7 @@ fn a_schedule(rt: HostRuntime) -> Result<(), Fail> {
 #[test]
 fn a_journal(rt: HostRuntime) -> Result<(), Fail> {
     let entries = read_journal(rt.alloc(), b"1 1! 2\n", 2)?;
-    let expected = [(1, false), (1, true), (2, false)].map(|(thread, refused)| Entry {
+    let expected = [(1, false), (1, true), (2, false)].map(|(thread, refused)| Entry::Step {
         thread,
         refused,
     });

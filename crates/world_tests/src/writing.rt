@@ -80,19 +80,19 @@ const STANDINGS: [ThreadStatus; 4] = [
 ];
 
 const ENTRIES: [Entry; 4] = [
-    Entry {
+    Entry::Step {
         thread: 1,
         refused: false,
     },
-    Entry {
+    Entry::Step {
         thread: 1,
         refused: true,
     },
-    Entry {
+    Entry::Step {
         thread: 10,
         refused: false,
     },
-    Entry {
+    Entry::Step {
         thread: 255,
         refused: true,
     },

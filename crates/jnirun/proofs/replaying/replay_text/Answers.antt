@@ -1,7 +1,7 @@
 use Rattle.std.proofs.Common.{◌≡◌, length, ap}
 use Rattle.std.proofs.lemmas.List.{length-map}
 use Rattle.syntax.specs.Views.{unit_tree}
-use Rattle.jnirun.proofs.ReplayLemmas.{refused_program, refused_world, refused_journal, replayed, stopped, from_outside, replayable}
+use Rattle.jnirun.proofs.ReplayLemmas.{refused_program, refused_world, refused_journal, replayed, stopped, from_outside, replayable, unread_journal}
 use Rattle.jnirun.proofs.replaying.replay_text.Goals as goal
 
 pub returns-in-Err-clause-replay : goal.returns-in-Err-clause-replay
@@ -38,3 +38,9 @@ returns-clause-accepted g c = λ p.
     rw c.of_replay.ensures (from_outside c.args.program_text.now c.args.world_text.now c.args.journal_text.now (g.W.Sink.written c.args.out.now) c.in-Err-replay.fault
     (c.in-Err-replay.ensures.only (rw c.deref.ensures.value (replayable c.args.program_text.now c.args.world_text.now c.args.journal_text.now (g.W.Sink.written c.args.out.now) (unit_tree c.in-Ok.checked) c.in-Ok-read_world.world c.in-Ok-read_journal.journal.items p
     (c.in-Ok.ensures.only p.meaning.unit p.meaning.of_program) c.in-Ok-read_world.ensures.read (rw count at c.in-Ok-read_journal.ensures.read)))))
+
+pub returns-in-Err-read_journal-clause-accepted : goal.returns-in-Err-read_journal-clause-accepted
+returns-in-Err-read_journal-clause-accepted g c = λ p.
+    let count : length c.threads.result.now ≡ length c.in-Ok-read_world.world.threads = simp length-map at (ap length c.threads.ensures.calls) in
+    rw c.of_reading-in-Err-read_journal.ensures (unread_journal c.args.program_text.now c.args.world_text.now c.args.journal_text.now (g.W.Sink.written c.args.out.now) c.in-Ok-read_world.world c.in-Err-read_journal.error p
+    c.in-Ok-read_world.ensures.read (rw count at c.in-Err-read_journal.ensures.read))

@@ -2,6 +2,7 @@ use Rattle.std.proofs.Common.{get_or, false, subst}
 use Rattle.std.proofs.lemmas.Option.{slice_get-get_or}
 use Rattle.syntax.specs.Views.{unit_tree}
 use Rattle.source.specs.declared.journal.Entry.{Entry}
+use Rattle.source.specs.declared.journal.Entry.TheVariants.{Step}
 use Rattle.replay.specs.States.{TakesEntry}
 use Rattle.replay.proofs.RunLemmas.{stops, goes_on}
 use Rattle.replay.proofs.journal.run.Goals as goal
@@ -9,16 +10,16 @@ use Rattle.replay.proofs.journal.run.Goals as goal
 pub returns-then-not-branch-clause-refused : goal.returns-then-not-branch-clause-refused
 returns-then-not-branch-clause-refused c =
     let journal = c.args.journal.now in
-    let entry : Entry = get_or journal c.loop-done.done (record { thread = 0; refused = false }) in
-    let at = slice_get-get_or journal c.loop-done.done (record { thread = 0; refused = false }) c.loop-done-test.true in
+    let entry : Entry = get_or journal c.loop-done.done (Step 0 false) in
+    let at = slice_get-get_or journal c.loop-done.done (Step 0 false) c.loop-done-test.true in
     stops (unit_tree c.args.items.now) c.args.world.now journal c.loop-done.done entry c.loop-done.state c.take_entry.new.state at c.loop-done.invariant.replayed c.loop-done-test.true
     (subst (λ b. TakesEntry (unit_tree c.args.items.now) c.loop-done.state entry b c.take_entry.new.state) c.if-not-branch.true c.in_ok-take_entry.ensures.step)
 
 pub loop-done-preserved : goal.loop-done-preserved
 loop-done-preserved c =
     let journal = c.args.journal.now in
-    let entry : Entry = get_or journal c.loop-done.done (record { thread = 0; refused = false }) in
-    let at = slice_get-get_or journal c.loop-done.done (record { thread = 0; refused = false }) c.loop-done-test.true in
+    let entry : Entry = get_or journal c.loop-done.done (Step 0 false) in
+    let at = slice_get-get_or journal c.loop-done.done (Step 0 false) c.loop-done-test.true in
     record {
       replayed = goes_on (unit_tree c.args.items.now) c.args.world.now journal c.loop-done.done entry c.loop-done.state c.take_entry.new.state at c.loop-done.invariant.replayed
           (subst (λ b. TakesEntry (unit_tree c.args.items.now) c.loop-done.state entry b c.take_entry.new.state) c.if-not-branch.false c.in_ok-take_entry.ensures.step)

@@ -1,0 +1,188 @@
+-- Calls that are quiet, by their functions.
+use Rattle.std.proofs.Common.{◌≡◌, ℕ, ◌+◌, Bool, true, false, List, [], ◌∷◌, length, Option, Some, None, refl}
+use Rattle.std.specs.Prelude.{ℤ, pos, negsuc, nat_lt, nat_le, ◌==◌}
+use Rattle.base.specs.Bytes.{Identifier, lookup}
+use Rattle.std.proofs.lemmas.Bool.{cond_both}
+use Rattle.classes.specs.Class.{Classes}
+use Rattle.classes.specs.Fields.{FieldId, find_field, find_static}
+use Rattle.jni.specs.JniFunction as jni
+use Rattle.jni.specs.JniFunction.{JniFunction}
+use Rattle.jni.specs.Prototype.{prototype, NewLocal, GivesField, GivesInt, GivesNothing, ResultKind}
+use Rattle.source.specs.Arguments.{Actual, number_given, object_given, text_given}
+use Rattle.source.specs.CallEffects.{CallEffect, ReferenceResult, found_field_effect, found_class_effect, new_array_effect, at_index, at_region, store_effect, set_region_effect, local_array, with_capacity, ensure_effect, enter_effect, exit_effect}
+use Rattle.source.specs.CallStep.{failure}
+use Rattle.source.specs.CallTable.{call_effect}
+use Rattle.source.specs.Thread.{Frame, Thread, Shared, BuffersInUse, Monitor, capacities, monitor_of}
+use Rattle.source.specs.Object.{ObjectValue, Reference}
+use Rattle.safety.proofs.ResultLaws.{Simple, AnInt, AFlag, AField, NoField, AGlobal, NoGlobal, NoLocal, NullLocal, NoResultThere}
+use Rattle.safety.proofs.QuietLaws.{Gives, Plainly, ALocal, IsQuiet}
+use Rattle.safety.proofs.FrameLaws.{references_of}
+
+-- the functions of which this is shown
+abbrev pub IsQuietFunction : JniFunction → Type 0
+IsQuietFunction jni.FindClass = Unit {0}
+IsQuietFunction jni.GetSuperclass = Unit {0}
+IsQuietFunction jni.GetObjectClass = Unit {0}
+IsQuietFunction jni.IsInstanceOf = Unit {0}
+IsQuietFunction jni.IsAssignableFrom = Unit {0}
+IsQuietFunction jni.AllocObject = Unit {0}
+IsQuietFunction jni.NewLocalRef = Unit {0}
+IsQuietFunction jni.NewGlobalRef = Unit {0}
+IsQuietFunction jni.IsSameObject = Unit {0}
+IsQuietFunction jni.EnsureLocalCapacity = Unit {0}
+IsQuietFunction jni.GetFieldID = Unit {0}
+IsQuietFunction jni.GetStaticFieldID = Unit {0}
+IsQuietFunction (jni.GetField T) = Unit {0}
+IsQuietFunction (jni.SetField T) = Unit {0}
+IsQuietFunction jni.GetObjectField = Unit {0}
+IsQuietFunction jni.SetObjectField = Unit {0}
+IsQuietFunction (jni.GetStaticField T) = Unit {0}
+IsQuietFunction (jni.SetStaticField T) = Unit {0}
+IsQuietFunction jni.GetStaticObjectField = Unit {0}
+IsQuietFunction jni.SetStaticObjectField = Unit {0}
+IsQuietFunction jni.GetArrayLength = Unit {0}
+IsQuietFunction (jni.NewArray T) = Unit {0}
+IsQuietFunction jni.NewObjectArray = Unit {0}
+IsQuietFunction jni.GetObjectArrayElement = Unit {0}
+IsQuietFunction jni.SetObjectArrayElement = Unit {0}
+IsQuietFunction (jni.SetArrayRegion T) = Unit {0}
+IsQuietFunction jni.NewStringUTF = Unit {0}
+IsQuietFunction jni.GetStringLength = Unit {0}
+IsQuietFunction jni.Throw = Unit {0}
+IsQuietFunction jni.ThrowNew = Unit {0}
+IsQuietFunction jni.ExceptionOccurred = Unit {0}
+IsQuietFunction jni.ExceptionCheck = Unit {0}
+IsQuietFunction jni.ExceptionClear = Unit {0}
+IsQuietFunction jni.FatalError = Unit {0}
+IsQuietFunction jni.MonitorEnter = Unit {0}
+IsQuietFunction jni.MonitorExit = Unit {0}
+IsQuietFunction f = ⊥
+
+module _ (classes : Classes) (lent : BuffersInUse) (k : ℕ) (s : Shared) (t : Thread) (args : List Actual) where
+  field_quiet : (c : ℕ) (o : Option FieldId) → IsQuiet s t GivesField (found_field_effect s t c o)
+  field_quiet c None = NoField
+  field_quiet c (Some f) = (refl, refl, refl, Plainly (AField (Some f)))
+
+  enter_quiet : (n : ℕ) (m : Option Monitor) → IsQuiet s t GivesInt (enter_effect k s t n m)
+  enter_quiet n None = (refl, refl, refl, Plainly (AnInt _))
+  enter_quiet n (Some m) = cond_both (nat_lt m.count 255) _ _ (IsQuiet s t GivesInt) (λ e. (refl, refl, refl, Plainly (AnInt _))) (λ e. (refl, refl, refl, Plainly (AnInt _)))
+
+  exit_quiet : (n : ℕ) (m : Option Monitor) → IsQuiet s t GivesInt (exit_effect k s t n m)
+  exit_quiet n None = AnInt _
+  exit_quiet n (Some m) = cond_both (m.owner == k) _ _ (IsQuiet s t GivesInt) (λ e. (refl, refl, refl, Plainly (AnInt _))) (λ e. AnInt _)
+
+  reference_given_quiet : (r : Reference) → Gives NewLocal (ReferenceResult r)
+  reference_given_quiet None = Plainly NullLocal
+  reference_given_quiet (Some n) = ALocal n
+
+  class_quiet : (c : ℕ) (o : Option ℕ) → IsQuiet s t NewLocal (found_class_effect s t c o)
+  class_quiet c None = NoLocal
+  class_quiet c (Some n) = (refl, refl, refl, ALocal n)
+
+  array_quiet : (class : ℕ) (z : ℤ) (v : ObjectValue) → IsQuiet s t NewLocal (new_array_effect s t class z v)
+  array_quiet class (pos n) v = (refl, refl, refl, ALocal _)
+  array_quiet class (negsuc n) v = NoLocal
+
+  index_quiet : (kind : ResultKind) (c n : ℕ) (z : ℤ) (go : ℕ → CallEffect) → Simple kind (failure kind) → ((i : ℕ) → IsQuiet s t kind (go i)) → IsQuiet s t kind (at_index c n z go)
+  index_quiet kind c n (pos i) go fails h = cond_both (nat_lt i n) _ _ (IsQuiet s t kind) (λ e. h i) (λ e. fails)
+  index_quiet kind c n (negsuc i) go fails h = fails
+
+  region_quiet : (kind : ResultKind) (c n : ℕ) (z l : ℤ) (go : ℕ → ℕ → CallEffect) → Simple kind (failure kind) → ((i j : ℕ) → IsQuiet s t kind (go i j)) → IsQuiet s t kind (at_region c n z l go)
+  region_quiet kind c n (pos i) (pos j) go fails h = cond_both (nat_le (i + j) n) _ _ (IsQuiet s t kind) (λ e. h i j) (λ e. fails)
+  region_quiet kind c n (pos i) (negsuc j) go fails h = fails
+  region_quiet kind c n (negsuc i) l go fails h = fails
+
+  store_quiet : (fits : Bool) (n : ℕ) (r : Reference) (i : ℕ) → IsQuiet s t GivesNothing (store_effect s t fits n r i)
+  store_quiet true n r i = (refl, refl, refl, Plainly NoResultThere)
+  store_quiet false n r i = NoResultThere
+
+  set_region_quiet : (n : ℕ) (x : Identifier) (i j : ℕ) → IsQuiet s t GivesNothing (set_region_effect s t n x i j)
+  set_region_quiet n x i j = cond_both (nat_le j (length (local_array (lookup x t.variables)))) _ _ (IsQuiet s t GivesNothing) (λ e. (refl, refl, refl, Plainly NoResultThere)) (λ e. tt)
+
+  capacity_stays : (n : ℕ) (frames : List Frame) → references_of (with_capacity n frames) ≡ references_of frames
+  capacity_stays n [] = refl
+  capacity_stays n (frame ∷ below) = refl
+
+  ensure_quiet : (z : ℤ) → IsQuiet s t GivesInt (ensure_effect classes s t z)
+  ensure_quiet (pos n) = cond_both (nat_le (capacities (with_capacity n t.frames)) 1024) _ _ (IsQuiet s t GivesInt) (λ e. (refl, capacity_stays n t.frames, refl, Plainly (AnInt _))) (λ e. (refl, refl, refl, Plainly (AnInt _)))
+  ensure_quiet (negsuc n) = (refl, refl, refl, Plainly (AnInt _))
+
+  pub effect_quiet : (f : JniFunction) → IsQuietFunction f → IsQuiet s t (prototype f).result (call_effect classes lent k s t args f)
+  unfolding call_effect
+  effect_quiet jni.FindClass h = class_quiet _ _
+  effect_quiet jni.GetSuperclass h = (refl, refl, refl, reference_given_quiet _)
+  effect_quiet jni.GetObjectClass h = (refl, refl, refl, ALocal _)
+  effect_quiet jni.IsInstanceOf h = (refl, refl, refl, Plainly (AFlag _))
+  effect_quiet jni.IsAssignableFrom h = (refl, refl, refl, Plainly (AFlag _))
+  effect_quiet jni.AllocObject h = (refl, refl, refl, ALocal _)
+  effect_quiet jni.NewLocalRef h = (refl, refl, refl, reference_given_quiet _)
+  effect_quiet jni.NewGlobalRef h = (refl, refl, refl, Plainly (AGlobal _))
+  effect_quiet jni.IsSameObject h = (refl, refl, refl, Plainly (AFlag _))
+  effect_quiet jni.EnsureLocalCapacity h = ensure_quiet (number_given args 0)
+  effect_quiet jni.GetFieldID h = field_quiet _ (find_field classes (object_given args 0) (text_given args 1) (text_given args 2))
+  effect_quiet jni.GetStaticFieldID h = field_quiet _ (find_static classes (object_given args 0) (text_given args 1) (text_given args 2))
+  effect_quiet (jni.GetField T) h = (refl, refl, refl, Plainly (AnInt _))
+  effect_quiet (jni.SetField T) h = (refl, refl, refl, Plainly NoResultThere)
+  effect_quiet jni.GetObjectField h = (refl, refl, refl, reference_given_quiet _)
+  effect_quiet jni.SetObjectField h = (refl, refl, refl, Plainly NoResultThere)
+  effect_quiet (jni.GetStaticField T) h = (refl, refl, refl, Plainly (AnInt _))
+  effect_quiet (jni.SetStaticField T) h = (refl, refl, refl, Plainly NoResultThere)
+  effect_quiet jni.GetStaticObjectField h = (refl, refl, refl, reference_given_quiet _)
+  effect_quiet jni.SetStaticObjectField h = (refl, refl, refl, Plainly NoResultThere)
+  effect_quiet jni.GetArrayLength h = (refl, refl, refl, Plainly (AnInt _))
+  effect_quiet (jni.NewArray T) h = array_quiet _ (number_given args 0) _
+  effect_quiet jni.NewObjectArray h = array_quiet _ (number_given args 0) _
+  effect_quiet jni.GetObjectArrayElement h = index_quiet NewLocal _ _ (number_given args 1) _ NoLocal (λ i. (refl, refl, refl, reference_given_quiet _))
+  effect_quiet jni.SetObjectArrayElement h = index_quiet GivesNothing _ _ (number_given args 1) _ NoResultThere (λ i. store_quiet _ _ _ i)
+  effect_quiet (jni.SetArrayRegion T) h = region_quiet GivesNothing _ _ (number_given args 1) (number_given args 2) _ NoResultThere (λ i j. set_region_quiet _ _ i j)
+  effect_quiet jni.NewStringUTF h = (refl, refl, refl, ALocal _)
+  effect_quiet jni.GetStringLength h = (refl, refl, refl, Plainly (AnInt _))
+  effect_quiet jni.Throw h = (refl, refl, refl, Plainly (AnInt _))
+  effect_quiet jni.ThrowNew h = (refl, refl, refl, Plainly (AnInt _))
+  effect_quiet jni.ExceptionOccurred h = (refl, refl, refl, reference_given_quiet _)
+  effect_quiet jni.ExceptionCheck h = (refl, refl, refl, Plainly (AFlag _))
+  effect_quiet jni.ExceptionClear h = (refl, refl, refl, Plainly NoResultThere)
+  effect_quiet jni.FatalError h = tt
+  effect_quiet jni.MonitorEnter h = enter_quiet (object_given args 0) (monitor_of s.monitors (object_given args 0))
+  effect_quiet jni.MonitorExit h = exit_quiet (object_given args 0) (monitor_of s.monitors (object_given args 0))
+  effect_quiet f h = absurd h
+
+-- what such a function gives where it fails
+pub fails_simply : (f : JniFunction) → IsQuietFunction f → Simple (prototype f).result (failure (prototype f).result)
+fails_simply jni.FindClass h = NoLocal
+fails_simply jni.GetSuperclass h = NoLocal
+fails_simply jni.GetObjectClass h = NoLocal
+fails_simply jni.IsInstanceOf h = AFlag _
+fails_simply jni.IsAssignableFrom h = AFlag _
+fails_simply jni.AllocObject h = NoLocal
+fails_simply jni.NewLocalRef h = NoLocal
+fails_simply jni.NewGlobalRef h = NoGlobal
+fails_simply jni.IsSameObject h = AFlag _
+fails_simply jni.EnsureLocalCapacity h = AnInt _
+fails_simply jni.GetFieldID h = NoField
+fails_simply jni.GetStaticFieldID h = NoField
+fails_simply (jni.GetField T) h = AnInt _
+fails_simply (jni.SetField T) h = NoResultThere
+fails_simply jni.GetObjectField h = NoLocal
+fails_simply jni.SetObjectField h = NoResultThere
+fails_simply (jni.GetStaticField T) h = AnInt _
+fails_simply (jni.SetStaticField T) h = NoResultThere
+fails_simply jni.GetStaticObjectField h = NoLocal
+fails_simply jni.SetStaticObjectField h = NoResultThere
+fails_simply jni.GetArrayLength h = AnInt _
+fails_simply (jni.NewArray T) h = NoLocal
+fails_simply jni.NewObjectArray h = NoLocal
+fails_simply jni.GetObjectArrayElement h = NoLocal
+fails_simply jni.SetObjectArrayElement h = NoResultThere
+fails_simply (jni.SetArrayRegion T) h = NoResultThere
+fails_simply jni.NewStringUTF h = NoLocal
+fails_simply jni.GetStringLength h = AnInt _
+fails_simply jni.Throw h = AnInt _
+fails_simply jni.ThrowNew h = AnInt _
+fails_simply jni.ExceptionOccurred h = NoLocal
+fails_simply jni.ExceptionCheck h = AFlag _
+fails_simply jni.ExceptionClear h = NoResultThere
+fails_simply jni.FatalError h = NoResultThere
+fails_simply jni.MonitorEnter h = AnInt _
+fails_simply jni.MonitorExit h = AnInt _
+fails_simply f h = absurd h

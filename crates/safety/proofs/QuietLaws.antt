@@ -1,0 +1,175 @@
+-- Calls that change no variable, no static and no reference of a frame, and give no buffer.
+use Rattle.std.proofs.Common.{◌≡◌, ℕ, ◌≤◌, Bool, true, false, List, [], ◌∷◌, ◌++◌, Some, refl, sym, ap, ◌∙◌, subst}
+use Rattle.base.specs.Bytes.{Identifier}
+use Rattle.classes.specs.Class.{Classes}
+use Rattle.syntax.specs.Tree.{Argument}
+use Rattle.jni.specs.JniFunction.{JniFunction, ReleaseBuffer, DeleteLocalRef, PopLocalFrame}
+use Rattle.jni.specs.Prototype.{ResultKind, NewLocal, prototype}
+use Rattle.source.specs.Object.{Object}
+use Rattle.source.specs.World.{fresh_object}
+use Rattle.source.specs.Arguments.{Actual, variable_given}
+use Rattle.source.specs.CallEffects.{CallResult, ReferenceResult, CallEffect, Throws, Halts, Leaves, with_local, out_of_memory}
+use Rattle.source.specs.CallStep.{put, received, tell_copy, failure, is_zero, completed, after_call, after_refusal}
+use Rattle.regions.specs.RegionStates as states
+use Rattle.regions.specs.RegionStates.{RegionState, get_of}
+use Rattle.source.specs.Effect.{tasks_after}
+use Rattle.source.specs.Heap.{next_name}
+use Rattle.source.specs.Task.{Task, Target, Declared, Assigned, Tested, Dropped}
+use Rattle.source.specs.Thread.{Thread, Shared, BuffersInUse, Frame, Advance, Advances, NoAdvance}
+use Rattle.source.specs.ThreadStep.{with_tasks}
+use Rattle.source.specs.Variable.{Variables, Statics}
+use Rattle.safety.specs.Points.{Point, owners}
+use Rattle.safety.specs.Stands.{copies, Goes, Stands}
+use Rattle.safety.specs.Wanted.{ResultGoes, GoesOn}
+use Rattle.safety.proofs.ResultLaws.{Simple, AnInt, AFlag, AField, NoField, AGlobal, NoGlobal, NoLocal, NullLocal, NoResultThere, result_lands}
+use Rattle.safety.proofs.FrameLaws.{references_of, same_references, same_length, HasFrame, frame_again}
+use Rattle.safety.proofs.ReferenceLaws.{local_lands}
+use Rattle.safety.proofs.StepLaws.{Lands}
+
+-- a function that the region rules don't know apart, but for what it fills
+abbrev pub IsFree : JniFunction → Type 0
+IsFree (ReleaseBuffer access) = ⊥
+IsFree DeleteLocalRef = ⊥
+IsFree PopLocalFrame = ⊥
+IsFree f = Unit {0}
+
+pub free_call : (f : JniFunction) (regions : RegionState) (args : List Argument) → IsFree f → states.after_call regions (Some (f, args)) ≡ regions
+free_call (ReleaseBuffer access) regions args h = absurd h
+free_call DeleteLocalRef regions args h = absurd h
+free_call PopLocalFrame regions args h = absurd h
+free_call f regions args h = refl
+
+-- a target that isn't a test
+abbrev pub IsNoTest : Target → Type 0
+IsNoTest (Tested a b) = ⊥
+IsNoTest target = Unit {0}
+
+-- what a call gives of a kind: such a result, or a new local reference
+pub data Gives : ResultKind → CallResult → Type 0 where
+  Plainly : {kind : ResultKind} {given : CallResult} → Simple kind given → Gives kind given
+  ALocal : (n : ℕ) → Gives NewLocal (ReferenceResult (Some n))
+
+-- an effect that leaves variables, statics and the references in frames as they were
+abbrev pub IsQuiet : Shared → Thread → ResultKind → CallEffect → Type 0
+IsQuiet s t kind (Throws c) = Simple kind (failure kind)
+IsQuiet s t kind (Halts trap) = Unit {0}
+IsQuiet s t kind (Leaves made s' t' given) = (t'.variables ≡ t.variables) × (references_of t'.frames ≡ references_of t.frames) × (s'.statics ≡ s.statics) × Gives kind given
+
+-- a step that leads to a point again, if it is possible
+abbrev pub LandsIfPossible : Statics → Advance → Type 0
+LandsIfPossible ss NoAdvance = Unit {0}
+LandsIfPossible ss (Advances s t event) = Lands ss (Advances s t event)
+
+pub if_possible : (ss : Statics) (e : Advance) → Lands ss e → LandsIfPossible ss e
+if_possible ss NoAdvance h = tt
+if_possible ss (Advances s t event) h = h
+
+module _ (t : Thread) (line : ℕ) (rest : List Task) where
+  received_is : (kind : ResultKind) (given : CallResult) → Simple kind given → received kind given t ≡ t
+  received_is kind given (AnInt z) = refl
+  received_is kind given (AFlag b) = refl
+  received_is kind given (AField f) = refl
+  received_is kind given NoField = refl
+  received_is kind given (AGlobal r) = refl
+  received_is kind given NoGlobal = refl
+  received_is kind given NoLocal = refl
+  received_is kind given NullLocal = refl
+  received_is kind given NoResultThere = refl
+
+  pub told : (x : Identifier) (vs : Variables) (kind : ResultKind) (given : CallResult) → Simple kind given → tell_copy x given vs ≡ vs
+  told [] vs kind given simple = refl
+  told (c ∷ x) vs kind given (AnInt z) = refl
+  told (c ∷ x) vs kind given (AFlag b) = refl
+  told (c ∷ x) vs kind given (AField f) = refl
+  told (c ∷ x) vs kind given NoField = refl
+  told (c ∷ x) vs kind given (AGlobal r) = refl
+  told (c ∷ x) vs kind given NoGlobal = refl
+  told (c ∷ x) vs kind given NoLocal = refl
+  told (c ∷ x) vs kind given NullLocal = refl
+  told (c ∷ x) vs kind given NoResultThere = refl
+
+  pub nothing_after : (target : Target) (zero : Bool) → IsNoTest target → tasks_after line target zero ++ rest ≡ rest
+  nothing_after (Declared kind x) zero h = refl
+  nothing_after (Assigned x) zero h = refl
+  nothing_after (Tested a b) zero h = absurd h
+  nothing_after Dropped zero h = refl
+
+  pub resumed_is : (target : Target) (x : Identifier) (kind : ResultKind) (given : CallResult) → IsNoTest target → Simple kind given
+      → record (received kind given t) { tasks = Some (tasks_after line target (is_zero given) ++ rest); variables = tell_copy x given t.variables } ≡ with_tasks t rest
+  resumed_is target x kind given h simple =
+      ap (λ (r : Thread). record r { tasks = Some (tasks_after line target (is_zero given) ++ rest); variables = tell_copy x given t.variables }) (received_is kind given simple)
+      ∙ ap (λ (tasks : List Task). record t { tasks = Some tasks; variables = tell_copy x given t.variables }) (nothing_after target (is_zero given) h)
+      ∙ ap (λ (vs : Variables). record t { tasks = Some rest; variables = vs }) (told x t.variables kind given simple)
+
+  local_told : (x : Identifier) (n : ℕ) (vs : Variables) → tell_copy x (ReferenceResult (Some n)) vs ≡ vs
+  local_told [] n vs = refl
+  local_told (c ∷ x) n vs = refl
+
+  -- the same with a local reference in the current frame
+  pub resumed_local : (target : Target) (x : Identifier) (n : ℕ) → IsNoTest target
+      → record (received NewLocal (ReferenceResult (Some n)) t) { tasks = Some (tasks_after line target (is_zero (ReferenceResult (Some n))) ++ rest); variables = tell_copy x (ReferenceResult (Some n)) t.variables }
+      ≡ record t { frames = with_local n t.frames; tasks = Some rest }
+  resumed_local target x n h =
+      ap (λ (tasks : List Task). record t { frames = with_local n t.frames; tasks = Some tasks; variables = tell_copy x (ReferenceResult (Some n)) t.variables }) (nothing_after target false h)
+      ∙ ap (λ (vs : Variables). record t { frames = with_local n t.frames; tasks = Some rest; variables = vs }) (local_told x n t.variables)
+
+module _ (classes : Classes) (lent : BuffersInUse) (k : ℕ) (s : Shared) (t : Thread) (line : ℕ) (target : Target) (f : JniFunction) (args : List Actual) (rest : List Task) (p : Point) where
+  -- a local reference goes into a frame that is there
+  local_completed : (shared : Shared) (t' : Thread) (n : ℕ) (get : _) (frames : List Frame) → t'.frames ≡ frames → HasFrame frames → Stands shared.statics t'.variables t'.frames p → ResultGoes target NewLocal get (GoesOn rest) p
+      → Lands shared.statics (put target (ReferenceResult (Some n)) shared (record t' { frames = with_local n t'.frames; tasks = Some rest }))
+  local_completed shared t' n get [] e room there h = absurd room
+  local_completed shared t' n get (frame ∷ below) e room there h =
+      subst (λ (frames : List Frame). Lands shared.statics (put target (ReferenceResult (Some n)) shared (record t' { frames = with_local n frames; tasks = Some rest }))) (sym e)
+      (local_lands shared t' rest frame below p (subst (λ (frames : List Frame). Stands shared.statics t'.variables frames p) e there) n target get h)
+
+  -- the same for any result
+  pub given_lands : (kind : ResultKind) (made : List Object) (s' : Shared) (t' : Thread) (given : CallResult) (get : _) → (prototype f).result ≡ kind → IsNoTest target → (kind ≡ NewLocal → HasFrame t'.frames) → Stands s'.statics t'.variables t'.frames p → Gives kind given
+      → ResultGoes target kind get (GoesOn rest) p → Lands s'.statics (completed classes lent k s t line target f args rest made s' t' given)
+  given_lands kind made s' t' given get is away room there (Plainly simple) h =
+      let shared : Shared = record s' { heap = s'.heap ++ made } in
+      subst (λ (result : ResultKind). Lands s'.statics (put target given shared (record (received result given t') { tasks = Some (tasks_after line target (is_zero given) ++ rest); variables = tell_copy (variable_given args 1) given t'.variables }))) (sym is)
+      (subst (λ (r : Thread). Lands s'.statics (put target given shared r)) (sym (resumed_is t' line rest target (variable_given args 1) kind given away simple))
+      (result_lands classes lent k shared t' rest p there target kind given get simple h))
+  given_lands kind made s' t' given get is away room there (ALocal n) h =
+      let shared : Shared = record s' { heap = s'.heap ++ made } in
+      subst (λ (result : ResultKind). Lands s'.statics (put target (ReferenceResult (Some n)) shared (record (received result (ReferenceResult (Some n)) t') { tasks = Some (tasks_after line target false ++ rest); variables = tell_copy (variable_given args 1) (ReferenceResult (Some n)) t'.variables }))) (sym is)
+      (subst (λ (r : Thread). Lands s'.statics (put target (ReferenceResult (Some n)) shared r)) (sym (resumed_local t' line rest target (variable_given args 1) n away))
+      (local_completed shared t' n get t'.frames refl (room refl) there h))
+
+module _ (classes : Classes) (lent : BuffersInUse) (k : ℕ) (s : Shared) (t : Thread) (line : ℕ) (target : Target) (f : JniFunction) (args : List Actual) (rest : List Task) (p : Point) (stands : Stands s.statics t.variables t.frames p) where
+  -- the thread at its point, where a call has left its variables, its references and the statics as they were
+  stands_again : (s' : Shared) (t' : Thread) → t'.variables ≡ t.variables → references_of t'.frames ≡ references_of t.frames → s'.statics ≡ s.statics → Stands s'.statics t'.variables t'.frames p
+  stands_again s' t' vs fs ss =
+      subst (λ (statics : Statics). Stands statics t'.variables t'.frames p) (sym ss) (subst (λ (variables : Variables). Stands s.statics variables t'.frames p) (sym vs) (record {
+        sorts = stands.sorts;
+        shows = stands.shows;
+        held = stands.held;
+        once = stands.once;
+        known_once = stands.known_once;
+        depth = same_length t'.frames t.frames fs ∙ stands.depth;
+        backed = λ level n. subst (λ (l : List ℕ). owners p.regions t.variables level n ≤ copies l n) (sym (same_references level t'.frames t.frames fs)) (stands.backed level n);
+      }))
+
+  pub completed_lands : (made : List Object) (s' : Shared) (t' : Thread) (given : CallResult) (get : _) → IsNoTest target → t'.variables ≡ t.variables → references_of t'.frames ≡ references_of t.frames → s'.statics ≡ s.statics → Simple (prototype f).result given → ResultGoes target (prototype f).result get (GoesOn rest) p
+      → Lands s'.statics (completed classes lent k s t line target f args rest made s' t' given)
+  completed_lands made s' t' given get away vs fs ss simple h =
+      let shared : Shared = record s' { heap = s'.heap ++ made } in
+      subst (λ (r : Thread). Lands s'.statics (put target given shared r)) (sym (resumed_is t' line rest target (variable_given args 1) (prototype f).result given away simple))
+      (result_lands classes lent k shared t' rest p (stands_again s' t' vs fs ss) target (prototype f).result given get simple h)
+
+  -- such a call leads to a point again
+  pub quiet_lands : (get : _) (e : CallEffect) → IsNoTest target → Goes s.statics t t.tasks → ((prototype f).result ≡ NewLocal → HasFrame t.frames) → IsQuiet s t (prototype f).result e → ResultGoes target (prototype f).result get (GoesOn rest) p
+      → Lands s.statics (after_call classes lent k s t line target f args rest e)
+  quiet_lands get (Throws c) away whole room quiet h = completed_lands (fresh_object classes c ∷ []) s (record t { pending = Some (next_name s.heap) }) (failure (prototype f).result) get away refl refl refl quiet h
+  quiet_lands get (Halts trap) away whole room quiet h = (whole, λ x r e. (r, e))
+  quiet_lands get (Leaves made s' t' given) away whole room quiet h =
+      subst (λ (ss : Statics). Lands ss (completed classes lent k s t line target f args rest made s' t' given)) quiet.2
+      (given_lands classes lent k s t line target f args rest p (prototype f).result made s' t' given get refl away (λ e. frame_again t'.frames t.frames quiet.1 (room e)) (stands_again s' t' quiet.0 quiet.1 quiet.2) quiet.3 h)
+
+  -- and so does one whose allocation is refused, if it has one
+  pub refused_lands : (get : _) (makes : Bool) → IsNoTest target → Simple (prototype f).result (failure (prototype f).result) → ResultGoes target (prototype f).result get (GoesOn rest) p
+      → LandsIfPossible s.statics (after_refusal classes lent k s t line target f args rest makes)
+  refused_lands get true away simple h =
+      if_possible s.statics (completed classes lent k s t line target f args rest [] s (record t { pending = Some (out_of_memory classes) }) (failure (prototype f).result))
+      (completed_lands [] s (record t { pending = Some (out_of_memory classes) }) (failure (prototype f).result) get away refl refl refl simple h)
+  refused_lands get false away simple h = tt

@@ -1,0 +1,99 @@
+-- What no thread of an accepted unit ever does, in any replay.
+use Rattle.std.specs.Prelude.{◌≡◌, ◌≢◌, ℕ, ◌-◌, ◌==◌, nat_le, if◌then◌else◌, Bool, true, false, List, [], ◌∷◌, length, slice_get, Option, Some, None, IsTrue}
+use Rattle.std.specs.List.{list_any, list_all, AllByRecursion}
+use Rattle.base.specs.Bytes.{lookup}
+use Rattle.syntax.specs.Tree.{SourceUnit}
+use Rattle.jni.specs.JniFunction.{ReleaseBuffer}
+use Rattle.types.specs.SortRules.{IsSorted}
+use Rattle.source.specs.declared.journal.Entry.TheVariants.{Step}
+use Rattle.source.specs.Journal.{Journal}
+use Rattle.source.specs.World.{Invocation, World}
+use Rattle.source.specs.Arguments.{Actual, object_given, variable_given}
+use Rattle.source.specs.Effect.{Calls, Returns}
+use Rattle.source.specs.Load.{Loads}
+use Rattle.regions.specs.RegionRules.{is_critical_call}
+use Rattle.regions.specs.Regions.{HasRegions}
+use Rattle.source.specs.Run.{replay}
+use Rattle.source.specs.State.{State, thread_at}
+use Rattle.source.specs.Step.{can_step, world_step}
+use Rattle.source.specs.Task.{Task, Invoke, Print}
+use Rattle.source.specs.Thread.{Thread, Frame, viewed_by}
+use Rattle.source.specs.ThreadStep.{next_effect}
+use Rattle.source.specs.Variable.{Variable, LocalRef, Elements, NoBuffer, Copy, View}
+use Rattle.safety.specs.Used.{task_names}
+
+-- ---- a view
+
+-- what a thread may do while it has a view: no call of the JNI but the critical ones, and no number printed
+abbrev pub MayMeetView : Task → Type 0
+MayMeetView (Invoke line target f operands) = IsTrue (is_critical_call f)
+MayMeetView (Print line t) = ⊥
+MayMeetView task = Unit {0}
+
+-- ---- a return
+
+-- a copied list or a view
+abbrev pub is_lent : Variable → Bool
+is_lent (Elements kind NoBuffer) = false
+is_lent (Elements kind b) = true
+is_lent v = false
+
+-- no copied list, no view, and one frame
+abbrev pub MayReturn : Thread → Type 0
+MayReturn t = (list_any (λ v. is_lent v.1) t.variables ≡ false) × (length t.frames ≡ 1)
+
+-- ---- a reference
+
+-- the references of a frame, if it is there
+abbrev pub references_in : Option Frame → List ℕ
+references_in None = []
+references_in (Some frame) = frame.references
+
+-- of a level, counted from the lowest; none where there is no frame of that level
+abbrev pub references_at : ℕ → List Frame → List ℕ
+references_at level frames = if nat_le level (length frames) then references_in (slice_get frames (length frames - level)) else []
+
+-- a variable that is NULL, no local reference, or one whose frame has its name yet
+abbrev pub IsAlive : List Frame → Option Variable → Type 0
+IsAlive frames (Some (LocalRef level (Some n))) = IsTrue (list_any (λ m. n == m) (references_at level frames))
+IsAlive frames v = Unit {0}
+
+-- ---- a release
+
+-- the array or string that a buffer came from
+abbrev pub came_from : Option Variable → Option ℕ
+came_from (Some (Elements kind (Copy n zs))) = Some n
+came_from (Some (Elements kind (View n))) = Some n
+came_from v = None
+
+-- ---- each step
+
+-- thread k, which is t, does none of what JNI leaves undefined, and can go on
+pub record StepSafe (unit : SourceUnit) (w : World) (s : State) (k : ℕ) (t : Thread) : Type 0 where
+  -- with a view it begins no call but the critical ones, and prints nothing
+  pub view : (task : Task) (rest : List Task) → t.tasks ≡ Some (task ∷ rest) → viewed_by t ≢ [] → MayMeetView task
+  -- a return finds no copied list, no view and one frame
+  pub return : next_effect s.shared t t.tasks ≡ Returns → MayReturn t
+  -- a step uses no dead reference
+  pub references : (task : Task) (rest : List Task) → t.tasks ≡ Some (task ∷ rest) → AllByRecursion (λ x. IsAlive t.frames (lookup x t.variables)) (task_names task)
+  -- a release names the array that its buffer came from
+  pub release : (line : ℕ) (target : _) (access : _) (args : List Actual) → next_effect s.shared t t.tasks ≡ Calls line target (ReleaseBuffer access) args → came_from (lookup (variable_given args 1) t.variables) ≡ Some (object_given args 0)
+  -- if it isn't ended, blocked or stopped, it can step
+  pub progress : can_step w.classes s k ≡ true → (next : State) × (world_step unit w.classes s (Step k false) ≡ Some next)
+
+-- each thread has a call to make
+abbrev pub has_calls : List Invocation → Bool
+has_calls [] = false
+has_calls (call ∷ calls) = true
+
+-- each thread of the world has a call to make, as each thread of a world's text has
+abbrev pub HasCalls : World → Type 0
+HasCalls w = IsTrue (list_all has_calls w.threads)
+
+-- after each journal that can be replayed, each thread's next step is safe
+abbrev pub IsSafe : SourceUnit → World → Type 0
+IsSafe unit w = (journal : Journal) (s : State) (k : ℕ) (t : Thread) → replay unit w journal ≡ Some s → thread_at s k ≡ Some t → StepSafe unit w s k t
+
+-- an accepted unit is safe in each world that goes with it
+abbrev pub AcceptedIsSafe : Type 0
+AcceptedIsSafe = (unit : SourceUnit) (w : World) → IsSorted unit → HasRegions unit → Loads unit w → HasCalls w → IsSafe unit w
