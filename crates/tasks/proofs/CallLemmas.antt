@@ -1,5 +1,5 @@
 -- What a call in memory does is the call's step.
-use Rattle.std.proofs.Common.{◌≡◌, ℕ, Bool, true, false, List, [], ◌∷◌, ◌++◌, map, Option, Some, None, refl, sym, ap, ◌∙◌, subst, append-nil, IfOk, Result, Ok, Err}
+use Rattle.std.proofs.Common.{◌≡◌, ℕ, Bool, true, false, List, [], ◌∷◌, ◌++◌, map, Option, Some, None, refl, sym, ap, ◌∙◌, subst, append-nil, arith, IfOk, Result, Ok, Err}
 use Rattle.std.specs.Prelude.{ℤ, pos, negsuc, ◌+◌, max, nat_le, if◌then◌else◌, length, is_some, not, zip, ◌&&◌, ◌||◌}
 use Rattle.std.specs.List.{list_any}
 use Rattle.base.specs.Bytes.{Identifier}
@@ -11,7 +11,7 @@ use Rattle.jni.specs.BuiltFunctions.{is_built_function}
 use Rattle.jni.specs.JniFunction.{JniFunction, FindClass, GetSuperclass, GetObjectClass, IsInstanceOf, IsAssignableFrom, AllocObject, NewLocalRef, IsSameObject, EnsureLocalCapacity, GetFieldID, GetStaticFieldID, GetField, SetField, GetStaticField, SetStaticField, GetObjectField, SetObjectField, GetStaticObjectField, SetStaticObjectField, GetArrayLength, PopLocalFrame, is_allowed_pending}
 use Rattle.jni.specs.Prototype.{ResultKind, NewLocal, prototype}
 use Rattle.source.specs.Arguments.{Actual, variable_given}
-use Rattle.source.specs.CallEffects.{CallResult, CallEffect, found_class_effect, ensure_effect, found_field_effect, frames_effect, out_of_memory, with_capacity}
+use Rattle.source.specs.CallEffects.{CallResult, CallEffect, found_class_effect, ensure_effect, found_field_effect, frames_effect, out_of_memory, refuses_frames, with_capacity}
 use Rattle.source.specs.CallStep.{after_call, after_refusal, call_step, checked, completed, failure, makes_objects, put, received, target_element, tell_copy, is_zero}
 use Rattle.source.specs.CallTable.{call_effect}
 use Rattle.source.specs.Checks.{call_trap, first_trap, frames_after, go_together, is_deleted, is_misfit, is_missing}
@@ -120,13 +120,18 @@ module _ (classes : Classes) (lent : BuffersInUse) (k : ℕ) (s : Shared) (t : T
   field_found None = refl
   field_found (Some f) = refl
 
-  -- a capacity of the one frame
+  -- a capacity of the one frame, if it may have it
+  abbrev by_test : ℕ → Bool → CallEffect
+  by_test capacity b = if b then effect_as classes s t frame (Ensures capacity) else refuses_frames classes s t
+
+  tested : (capacity : ℕ) (b : Bool) → by_test capacity b ≡ effect_as classes s t frame (given_room (if b then Some capacity else None))
+  tested capacity true = refl
+  tested capacity false = refl
+
   with_frames : (capacity : ℕ) → frames_effect classes s t (record frame { capacity = capacity } ∷ []) ≡ effect_as classes s t frame (given_room (if nat_le capacity 1024 then Some capacity else None))
-  with_frames capacity = by_test (nat_le capacity 1024) refl
-    where
-      by_test : (b : Bool) → nat_le capacity 1024 ≡ b → frames_effect classes s t (record frame { capacity = capacity } ∷ []) ≡ effect_as classes s t frame (given_room (if nat_le capacity 1024 then Some capacity else None))
-      by_test true is = rw is refl
-      by_test false is = rw is refl
+  with_frames capacity =
+      let alone : 0 + capacity ≡ capacity = omega arith in
+      ap (λ (total : ℕ). by_test capacity (nat_le total 1024)) alone ∙ tested capacity (nat_le capacity 1024)
 
   ensures : (n : ℤ) → t.frames ≡ frame ∷ [] → ensure_effect classes s t n ≡ effect_as classes s t frame (ensured frame n)
   ensures (pos n) frames = ap (λ (fs : List Frame). frames_effect classes s t (with_capacity n fs)) frames ∙ with_frames (max frame.capacity (length frame.references + n))
