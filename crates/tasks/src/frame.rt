@@ -26,9 +26,8 @@ const MOST_REFERENCES: usize = 1_024;
 pub(crate) fn with_room(frame: &Frame, more: usize) -> Option<usize>
     ensures { result ≡ with_room (frame_view frame.now) more }
 {
-    let capacity = frame
-        .capacity
-        .max(frame.references.len().checked_add(more)?);
+    let needed = frame.references.len().checked_add(more)?;
+    let capacity = frame.capacity.max(needed);
     if capacity > MOST_REFERENCES {
         return None;
     }
