@@ -1,6 +1,6 @@
 -- What a call in memory does is the call's step.
-use Rattle.std.proofs.Common.{◌≡◌, ℕ, Bool, true, false, List, [], ◌∷◌, ◌++◌, map, Option, Some, None, refl, sym, ap, ◌∙◌, subst, append-nil, IfOk, Result, Ok, Err}
-use Rattle.std.specs.Prelude.{is_some, not, zip, ◌&&◌, ◌||◌}
+use Rattle.std.proofs.Common.{◌≡◌, ℕ, Bool, true, false, List, [], ◌∷◌, ◌++◌, map, Option, Some, None, refl, sym, ap, ◌∙◌, subst, append-nil, arith, IfOk, Result, Ok, Err}
+use Rattle.std.specs.Prelude.{ℤ, pos, negsuc, ◌+◌, max, nat_le, if◌then◌else◌, length, is_some, not, zip, ◌&&◌, ◌||◌}
 use Rattle.std.specs.List.{list_any}
 use Rattle.base.specs.Bytes.{Identifier}
 use Rattle.base.specs.Element.{ElementType}
@@ -8,10 +8,10 @@ use Rattle.classes.specs.BuiltIns.{no_class_def_found_error, no_such_field_error
 use Rattle.classes.specs.Class.{Classes}
 use Rattle.classes.specs.Fields.{FieldId}
 use Rattle.jni.specs.BuiltFunctions.{is_built_function}
-use Rattle.jni.specs.JniFunction.{JniFunction, FindClass, GetSuperclass, GetObjectClass, IsInstanceOf, IsAssignableFrom, AllocObject, NewLocalRef, IsSameObject, GetFieldID, GetStaticFieldID, GetField, SetField, GetStaticField, SetStaticField, GetObjectField, SetObjectField, GetStaticObjectField, SetStaticObjectField, GetArrayLength, PopLocalFrame, is_allowed_pending}
+use Rattle.jni.specs.JniFunction.{JniFunction, FindClass, GetSuperclass, GetObjectClass, IsInstanceOf, IsAssignableFrom, AllocObject, NewLocalRef, IsSameObject, EnsureLocalCapacity, GetFieldID, GetStaticFieldID, GetField, SetField, GetStaticField, SetStaticField, GetObjectField, SetObjectField, GetStaticObjectField, SetStaticObjectField, GetArrayLength, PopLocalFrame, is_allowed_pending}
 use Rattle.jni.specs.Prototype.{ResultKind, NewLocal, prototype}
 use Rattle.source.specs.Arguments.{Actual, variable_given}
-use Rattle.source.specs.CallEffects.{CallResult, CallEffect, found_class_effect, found_field_effect, out_of_memory}
+use Rattle.source.specs.CallEffects.{CallResult, CallEffect, found_class_effect, ensure_effect, found_field_effect, frames_effect, out_of_memory, refuses_frames, with_capacity}
 use Rattle.source.specs.CallStep.{after_call, after_refusal, call_step, checked, completed, failure, makes_objects, put, received, target_element, tell_copy, is_zero}
 use Rattle.source.specs.CallTable.{call_effect}
 use Rattle.source.specs.Checks.{call_trap, first_trap, frames_after, go_together, is_deleted, is_misfit, is_missing}
@@ -33,14 +33,14 @@ use Rattle.tasks.specs.declared.outcome.Target.{Target as TargetInMemory}
 use Rattle.tasks.specs.declared.outcome.Target.TheVariants as target
 use Rattle.terms.specs.declared.trap.Trap.{Trap as TrapInMemory}
 use Rattle.tasks.specs.Actuals.{actual_view}
-use Rattle.tasks.specs.Answers.{Answer, Gives, Writes, Makes, Raises, effect_as, frame_with, given_after, given_view, heap_after, makes_object, pending_after}
+use Rattle.tasks.specs.Answers.{Answer, Gives, Writes, Makes, Raises, Ensures, RefusesFrames, effect_as, frame_after, frame_with, given_after, given_view, heap_after, makes_object, pending_after}
 use Rattle.tasks.specs.Calls.{MakesCall}
 use Rattle.tasks.specs.Checked.{fit_together, lacks_room, trap_found}
 use Rattle.tasks.specs.Outcomes.{target_view}
 use Rattle.tasks.specs.Steps.{in_frame}
 use Rattle.tasks.specs.Stores.{shared_with}
 use Rattle.tasks.specs.Tasks.{task_view}
-use Rattle.tasks.specs.WorkedOut.{found_class, found_field, worked_out}
+use Rattle.tasks.specs.WorkedOut.{ensured, found_class, found_field, given_room, worked_out}
 use Rattle.terms.specs.Views.{trap_view}
 use Rattle.tasks.proofs.TaskLemmas.{same_frame, same_thread}
 
@@ -84,6 +84,7 @@ module _ (classes : Classes) (heap : Heap) (buffer : ElementType) (args : List A
   together NewLocalRef built = refl
   together IsSameObject built = refl
   together AllocObject built = refl
+  together EnsureLocalCapacity built = refl
   together GetFieldID built = refl
   together GetStaticFieldID built = refl
   together (GetField T) built = refl
@@ -110,38 +111,56 @@ trap_is classes heap buffer args f t frame pending built frames is =
 
 -- ---- effects
 
-module _ (classes : Classes) (lent : BuffersInUse) (k : ℕ) (s : Shared) (t : Thread) (args : List Actual) where
-  class_found : (o : Option ℕ) → found_class_effect s t no_class_def_found_error o ≡ effect_as classes s t (found_class o)
+module _ (classes : Classes) (lent : BuffersInUse) (k : ℕ) (s : Shared) (t : Thread) (frame : Frame) (args : List Actual) where
+  class_found : (o : Option ℕ) → found_class_effect s t no_class_def_found_error o ≡ effect_as classes s t frame (found_class o)
   class_found None = refl
   class_found (Some c) = refl
 
-  field_found : (o : Option FieldId) → found_field_effect s t no_such_field_error o ≡ effect_as classes s t (found_field o)
+  field_found : (o : Option FieldId) → found_field_effect s t no_such_field_error o ≡ effect_as classes s t frame (found_field o)
   field_found None = refl
   field_found (Some f) = refl
 
+  -- a capacity of the one frame, if it may have it
+  abbrev by_test : ℕ → Bool → CallEffect
+  by_test capacity b = if b then effect_as classes s t frame (Ensures capacity) else refuses_frames classes s t
+
+  tested : (capacity : ℕ) (b : Bool) → by_test capacity b ≡ effect_as classes s t frame (given_room (if b then Some capacity else None))
+  tested capacity true = refl
+  tested capacity false = refl
+
+  with_frames : (capacity : ℕ) → frames_effect classes s t (record frame { capacity = capacity } ∷ []) ≡ effect_as classes s t frame (given_room (if nat_le capacity 1024 then Some capacity else None))
+  with_frames capacity =
+      let alone : 0 + capacity ≡ capacity = omega arith in
+      ap (λ (total : ℕ). by_test capacity (nat_le total 1024)) alone ∙ tested capacity (nat_le capacity 1024)
+
+  ensures : (n : ℤ) → t.frames ≡ frame ∷ [] → ensure_effect classes s t n ≡ effect_as classes s t frame (ensured frame n)
+  ensures (pos n) frames = ap (λ (fs : List Frame). frames_effect classes s t (with_capacity n fs)) frames ∙ with_frames (max frame.capacity (length frame.references + n))
+  ensures (negsuc n) frames = refl
+
   -- what is worked out is the effect
-  effects : (f : JniFunction) → is_built_function f ≡ true → call_effect classes lent k s t args f ≡ effect_as classes s t (worked_out classes s.heap args f)
+  effects : (f : JniFunction) → is_built_function f ≡ true → t.frames ≡ frame ∷ [] → call_effect classes lent k s t args f ≡ effect_as classes s t frame (worked_out classes s.heap frame args f)
   unfolding call_effect
-  effects FindClass built = class_found _
-  effects GetSuperclass built = refl
-  effects GetObjectClass built = refl
-  effects IsInstanceOf built = refl
-  effects IsAssignableFrom built = refl
-  effects NewLocalRef built = refl
-  effects IsSameObject built = refl
-  effects AllocObject built = refl
-  effects GetFieldID built = field_found _
-  effects GetStaticFieldID built = field_found _
-  effects (GetField T) built = refl
-  effects (SetField T) built = refl
-  effects (GetStaticField T) built = refl
-  effects (SetStaticField T) built = refl
-  effects GetObjectField built = refl
-  effects SetObjectField built = refl
-  effects GetStaticObjectField built = refl
-  effects SetStaticObjectField built = refl
-  effects GetArrayLength built = refl
-  effects f built = absurd (cc)
+  effects FindClass built frames = class_found _
+  effects GetSuperclass built frames = refl
+  effects GetObjectClass built frames = refl
+  effects IsInstanceOf built frames = refl
+  effects IsAssignableFrom built frames = refl
+  effects NewLocalRef built frames = refl
+  effects IsSameObject built frames = refl
+  effects AllocObject built frames = refl
+  effects EnsureLocalCapacity built frames = ensures _ frames
+  effects GetFieldID built frames = field_found _
+  effects GetStaticFieldID built frames = field_found _
+  effects (GetField T) built frames = refl
+  effects (SetField T) built frames = refl
+  effects (GetStaticField T) built frames = refl
+  effects (SetStaticField T) built frames = refl
+  effects GetObjectField built frames = refl
+  effects SetObjectField built frames = refl
+  effects GetStaticObjectField built frames = refl
+  effects SetStaticObjectField built frames = refl
+  effects GetArrayLength built frames = refl
+  effects f built frames = absurd (cc)
 
 -- ---- what a call leaves
 
@@ -178,11 +197,13 @@ failed_frame NewLocal frame = refl
 failed_frame kind frame = refl
 
 -- whether an effect makes objects
-makes_alike : (classes : Classes) (s : Shared) (t : Thread) (a : Answer) → makes_objects (effect_as classes s t a) ≡ makes_object a
-makes_alike classes s t (Gives g) = refl
-makes_alike classes s t (Writes n i v) = refl
-makes_alike classes s t (Makes c) = refl
-makes_alike classes s t (Raises c) = refl
+makes_alike : (classes : Classes) (s : Shared) (t : Thread) (frame : Frame) (a : Answer) → makes_objects (effect_as classes s t frame a) ≡ makes_object a
+makes_alike classes s t frame (Gives g) = refl
+makes_alike classes s t frame (Writes n i v) = refl
+makes_alike classes s t frame (Makes c) = refl
+makes_alike classes s t frame (Raises c) = refl
+makes_alike classes s t frame (Ensures n) = refl
+makes_alike classes s t frame RefusesFrames = refl
 
 module _ (classes : Classes) (lent : BuffersInUse) (k : ℕ) (statics : Statics) (heap : Heap) (line : ℕ) (to : TargetInMemory) (f : JniFunction) (args : List Actual) (rest : List Task) where
   abbrev kind : ResultKind
@@ -208,8 +229,8 @@ module _ (classes : Classes) (lent : BuffersInUse) (k : ℕ) (statics : Statics)
 
   -- so it is after each answer
   answered : (t : Thread) (a : Answer) (g : Given) (frame : Frame) (pending : Reference) → t.frames ≡ frame ∷ [] → t.pending ≡ pending → given_view g ≡ given_after heap kind a
-      → after_call classes lent k (shared heap) t line (target_view to) f args rest (effect_as classes (shared heap) t a)
-      ≡ put (target_view to) (given_view g) (shared (heap_after classes heap a)) (with_tasks (in_frame t (frame_with kind (given_view g) frame) (pending_after heap pending a)) rest)
+      → after_call classes lent k (shared heap) t line (target_view to) f args rest (effect_as classes (shared heap) t frame a)
+      ≡ put (target_view to) (given_view g) (shared (heap_after classes heap a)) (with_tasks (in_frame t (frame_with kind (given_view g) (frame_after frame a)) (pending_after classes heap pending a)) rest)
   answered t (Gives c) g frame pending frames is same =
       ap (completes t [] heap t) (sym same) ∙ completed_is t [] heap t g frame pending frames is
       ∙ ap (λ (now : Heap). put (target_view to) (given_view g) (shared now) (with_tasks (in_frame t (frame_with kind (given_view g) frame) pending) rest)) (append-nil heap)
@@ -221,6 +242,15 @@ module _ (classes : Classes) (lent : BuffersInUse) (k : ℕ) (statics : Statics)
   answered t (Raises c) g frame pending frames is same =
       let u : Thread = record t { pending = Some (next_name heap) } in
       ap (completes t (fresh_object classes c ∷ []) heap u) (sym same) ∙ completed_is t (fresh_object classes c ∷ []) heap u g frame (Some (next_name heap)) frames refl
+  answered t (Ensures n) g frame pending frames is same =
+      let after : Frame = frame_after frame (Ensures n) in
+      let u : Thread = record t { frames = after ∷ [] } in
+      ap (completes t [] heap u) (sym same) ∙ completed_is t [] heap u g after pending refl is
+      ∙ ap (λ (now : Heap). put (target_view to) (given_view g) (shared now) (with_tasks (in_frame t (frame_with kind (given_view g) after) pending) rest)) (append-nil heap)
+  answered t RefusesFrames g frame pending frames is same =
+      let u : Thread = record t { pending = Some (out_of_memory classes) } in
+      ap (completes t [] heap u) (sym same) ∙ completed_is t [] heap u g frame (Some (out_of_memory classes)) frames refl
+      ∙ ap (λ (now : Heap). put (target_view to) (given_view g) (shared now) (with_tasks (in_frame t (frame_with kind (given_view g) frame) (Some (out_of_memory classes))) rest)) (append-nil heap)
 
   -- and where its object is refused
   refused_is : (t : Thread) (g : Given) (frame : Frame) → t.frames ≡ frame ∷ [] → given_view g ≡ failure kind
@@ -256,13 +286,13 @@ module _ (classes : Classes) (heap : Heap) (frame : Frame) (pending : Reference)
     by_trap true = ap (λ (o : Option Trap). by_effect true (checked o (call_effect classes lent k (shared_with statics heap) t actuals f))) same_trap
 
     abbrev told : Answer
-    told = worked_out classes heap actuals f
+    told = worked_out classes heap frame actuals f
 
-    passed : (refused : Bool) → trap ≡ None → stepped refused ≡ by_effect refused (effect_as classes (shared_with statics heap) t told)
+    passed : (refused : Bool) → trap ≡ None → stepped refused ≡ by_effect refused (effect_as classes (shared_with statics heap) t frame told)
     passed refused none =
         by_trap refused
         ∙ ap (λ (o : Option Trap). by_effect refused (checked o (call_effect classes lent k (shared_with statics heap) t actuals f))) none
-        ∙ ap (by_effect refused) (effects classes lent k (shared_with statics heap) t actuals f built)
+        ∙ ap (by_effect refused) (effects classes lent k (shared_with statics heap) t frame actuals f built frames)
 
   -- a trap
   pub call_traps : (found : TrapInMemory) → trap ≡ Some (trap_view found) → MakesCall false classes heap frame pending line to f actuals (outcome.Trapped found line) heap frame pending
@@ -280,43 +310,43 @@ module _ (classes : Classes) (heap : Heap) (frame : Frame) (pending : Reference)
 
   module _ (none : trap ≡ None) where
     -- the call is made
-    pub call_made : (a : Answer) (g : Given) → a ≡ worked_out classes heap actuals f → given_view g ≡ given_after heap (prototype f).result a
-        → MakesCall false classes heap frame pending line to f actuals (outcome.Gives to g) (heap_after classes heap a) (frame_with (prototype f).result (given_view g) frame) (pending_after heap pending a)
+    pub call_made : (a : Answer) (g : Given) → a ≡ worked_out classes heap frame actuals f → given_view g ≡ given_after heap (prototype f).result a
+        → MakesCall false classes heap frame pending line to f actuals (outcome.Gives to g) (heap_after classes heap a) (frame_with (prototype f).result (given_view g) (frame_after frame a)) (pending_after classes heap pending a)
     call_made a g same given = λ statics lent k t rest new frames is has.
         passed statics lent k t rest frames is false none
-        ∙ ap (λ (b : Answer). by_effect statics lent k t rest frames is false (effect_as classes (shared_with statics heap) t b)) (sym same)
+        ∙ ap (λ (b : Answer). by_effect statics lent k t rest frames is false (effect_as classes (shared_with statics heap) t frame b)) (sym same)
         ∙ answered classes lent k statics heap line to f actuals rest t a g frame pending frames is given
 
-    by_makes : (refused : Bool) (a : Answer) (b : Bool) → makes_object a ≡ b → a ≡ worked_out classes heap actuals f → (statics : Statics) (lent : BuffersInUse) (k : ℕ) (t : Thread) (rest : List Task) (frames : t.frames ≡ frame ∷ []) (is : t.pending ≡ pending)
+    by_makes : (refused : Bool) (a : Answer) (b : Bool) → makes_object a ≡ b → a ≡ worked_out classes heap frame actuals f → (statics : Statics) (lent : BuffersInUse) (k : ℕ) (t : Thread) (rest : List Task) (frames : t.frames ≡ frame ∷ []) (is : t.pending ≡ pending)
         → stepped statics lent k t rest frames is true ≡ after_refusal classes lent k (shared_with statics heap) t line (target_view to) f actuals rest b
     by_makes refused a b makes same = λ statics lent k t rest frames is.
         passed statics lent k t rest frames is true none
-        ∙ ap (λ (c : Answer). by_effect statics lent k t rest frames is true (effect_as classes (shared_with statics heap) t c)) (sym same)
-        ∙ ap (after_refusal classes lent k (shared_with statics heap) t line (target_view to) f actuals rest) (makes_alike classes (shared_with statics heap) t a ∙ makes)
+        ∙ ap (λ (c : Answer). by_effect statics lent k t rest frames is true (effect_as classes (shared_with statics heap) t frame c)) (sym same)
+        ∙ ap (after_refusal classes lent k (shared_with statics heap) t line (target_view to) f actuals rest) (makes_alike classes (shared_with statics heap) t frame a ∙ makes)
 
     -- it makes no object that can be refused
-    pub none_refused : (a : Answer) → a ≡ worked_out classes heap actuals f → makes_object a ≡ false → MakesCall true classes heap frame pending line to f actuals outcome.Impossible heap frame pending
+    pub none_refused : (a : Answer) → a ≡ worked_out classes heap frame actuals f → makes_object a ≡ false → MakesCall true classes heap frame pending line to f actuals outcome.Impossible heap frame pending
     none_refused a same makes = λ statics lent k t rest new frames is has. by_makes true a false makes same statics lent k t rest frames is
 
     -- its object is refused
-    pub object_refused : (a : Answer) (g : Given) → a ≡ worked_out classes heap actuals f → makes_object a ≡ true → given_view g ≡ failure (prototype f).result
+    pub object_refused : (a : Answer) (g : Given) → a ≡ worked_out classes heap frame actuals f → makes_object a ≡ true → given_view g ≡ failure (prototype f).result
         → MakesCall true classes heap frame pending line to f actuals (outcome.Gives to g) heap frame (Some (out_of_memory classes))
     object_refused a g same makes failed = λ statics lent k t rest new frames is has.
         by_makes true a true makes same statics lent k t rest frames is
         ∙ refused_is classes lent k statics heap line to f actuals rest t g frame frames failed
 
     -- the same, by what it leaves
-    pub call_made_so : (refused : Bool) (a : Answer) (g : Given) (kind : ResultKind) (heap' : Heap) (frame' : Frame) (pending' : Reference) → refused ≡ false → a ≡ worked_out classes heap actuals f → kind ≡ (prototype f).result
-        → given_view g ≡ given_after heap kind a → heap' ≡ heap_after classes heap a → frame' ≡ frame_with kind (given_view g) frame → pending' ≡ pending_after heap pending a
+    pub call_made_so : (refused : Bool) (a : Answer) (g : Given) (kind : ResultKind) (heap' : Heap) (between frame' : Frame) (pending' : Reference) → refused ≡ false → a ≡ worked_out classes heap frame actuals f → kind ≡ (prototype f).result
+        → given_view g ≡ given_after heap kind a → heap' ≡ heap_after classes heap a → between ≡ frame_after frame a → frame' ≡ frame_with kind (given_view g) between → pending' ≡ pending_after classes heap pending a
         → MakesCall refused classes heap frame pending line to f actuals (outcome.Gives to g) heap' frame' pending'
-    call_made_so refused a g kind heap' frame' pending' possible same is given left framed pended =
+    call_made_so refused a g kind heap' between frame' pending' possible same is given left changed framed pended =
         subst (λ b. MakesCall b classes heap frame pending line to f actuals (outcome.Gives to g) heap' frame' pending') (sym possible)
         (subst (λ (h : Heap). MakesCall false classes heap frame pending line to f actuals (outcome.Gives to g) h frame' pending') (sym left)
-        (subst (λ (x : Frame). MakesCall false classes heap frame pending line to f actuals (outcome.Gives to g) (heap_after classes heap a) x pending') (sym (framed ∙ ap (λ (k : ResultKind). frame_with k (given_view g) frame) is))
-        (subst (λ (r : Reference). MakesCall false classes heap frame pending line to f actuals (outcome.Gives to g) (heap_after classes heap a) (frame_with (prototype f).result (given_view g) frame) r) (sym pended)
+        (subst (λ (x : Frame). MakesCall false classes heap frame pending line to f actuals (outcome.Gives to g) (heap_after classes heap a) x pending') (sym (framed ∙ ap (frame_with kind (given_view g)) changed ∙ ap (λ (k : ResultKind). frame_with k (given_view g) (frame_after frame a)) is))
+        (subst (λ (r : Reference). MakesCall false classes heap frame pending line to f actuals (outcome.Gives to g) (heap_after classes heap a) (frame_with (prototype f).result (given_view g) (frame_after frame a)) r) (sym pended)
         (call_made a g same (given ∙ ap (λ (k : ResultKind). given_after heap k a) is)))))
 
-    pub object_refused_so : (refused : Bool) (a : Answer) (g : Given) (kind : ResultKind) (pending' : Reference) → refused ≡ true → a ≡ worked_out classes heap actuals f → makes_object a ≡ true → kind ≡ (prototype f).result
+    pub object_refused_so : (refused : Bool) (a : Answer) (g : Given) (kind : ResultKind) (pending' : Reference) → refused ≡ true → a ≡ worked_out classes heap frame actuals f → makes_object a ≡ true → kind ≡ (prototype f).result
         → given_view g ≡ failure kind → pending' ≡ Some (out_of_memory classes) → MakesCall refused classes heap frame pending line to f actuals (outcome.Gives to g) heap frame pending'
     object_refused_so refused a g kind pending' marked same makes is failed pended =
         subst (λ b. MakesCall b classes heap frame pending line to f actuals (outcome.Gives to g) heap frame pending') (sym marked)

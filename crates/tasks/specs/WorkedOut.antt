@@ -1,15 +1,16 @@
 -- What is worked out of a call, its arguments being looked up and its checks passed.
-use Rattle.std.specs.Prelude.{ℕ, ℤ, pos, List, length, Option, Some, None}
+use Rattle.std.specs.Prelude.{ℕ, ◌+◌, max, nat_le, if◌then◌else◌, ℤ, pos, negsuc, List, length, Option, Some, None}
 use Rattle.classes.specs.BuiltIns.{no_class_def_found_error, no_such_field_error}
 use Rattle.classes.specs.Class.{Classes, class_named, superclass, assignable}
 use Rattle.classes.specs.Fields.{FieldId, find_field, find_static}
-use Rattle.jni.specs.JniFunction.{JniFunction, FindClass, GetSuperclass, GetObjectClass, IsInstanceOf, IsAssignableFrom, AllocObject, NewLocalRef, IsSameObject, GetFieldID, GetStaticFieldID, GetField, SetField, GetStaticField, SetStaticField, GetObjectField, SetObjectField, GetStaticObjectField, SetStaticObjectField, GetArrayLength}
+use Rattle.jni.specs.JniFunction.{JniFunction, FindClass, GetSuperclass, GetObjectClass, IsInstanceOf, IsAssignableFrom, AllocObject, NewLocalRef, IsSameObject, EnsureLocalCapacity, GetFieldID, GetStaticFieldID, GetField, SetField, GetStaticField, SetStaticField, GetObjectField, SetObjectField, GetStaticObjectField, SetStaticObjectField, GetArrayLength}
 use Rattle.source.specs.Arguments.{Actual, reference_given, object_given, number_given, text_given, field_given}
 use Rattle.source.specs.CallEffects.{NoResult, ScalarResult, ReferenceResult, FieldResult, same_reference}
 use Rattle.source.specs.Heap.{Heap, class_of, values_of, value_at, number_in, reference_in, field_place, static_place, fits_class}
 use Rattle.source.specs.Object.{Number, Refers}
+use Rattle.source.specs.Thread.{Frame}
 use Rattle.source.specs.Value.{Int, Flag, convert}
-use Rattle.tasks.specs.Answers.{Answer, Gives, Writes, Makes, Raises}
+use Rattle.tasks.specs.Answers.{Answer, Gives, Writes, Makes, Raises, Ensures, RefusesFrames}
 
 -- a class that was found, or else an exception
 abbrev pub found_class : Option ℕ → Answer
@@ -21,7 +22,23 @@ abbrev pub found_field : Option FieldId → Answer
 found_field None = Raises no_such_field_error
 found_field (Some f) = Gives (FieldResult (Some f))
 
-module _ (classes : Classes) (heap : Heap) (args : List Actual) where
+-- the capacity of a frame with room for n more, unless it would be too large
+abbrev pub with_room : Frame → ℕ → Option ℕ
+with_room frame n =
+    let capacity : ℕ = max frame.capacity (length frame.references + n) in
+    if nat_le capacity 1024 then Some capacity else None
+
+-- such a capacity, or else no frames are to be had
+abbrev pub given_room : Option ℕ → Answer
+given_room (Some capacity) = Ensures capacity
+given_room None = RefusesFrames
+
+-- room for so many references more in the current frame
+abbrev pub ensured : Frame → ℤ → Answer
+ensured frame (pos n) = given_room (with_room frame n)
+ensured frame (negsuc n) = RefusesFrames
+
+module _ (classes : Classes) (heap : Heap) (frame : Frame) (args : List Actual) where
   abbrev pub reference : ℕ → Option ℕ
   reference i = reference_given args i
 
@@ -55,6 +72,7 @@ module _ (classes : Classes) (heap : Heap) (args : List Actual) where
   worked_out AllocObject = Makes (object 0)
   worked_out NewLocalRef = Gives (ReferenceResult (reference 0))
   worked_out IsSameObject = Gives (ScalarResult (Flag (same_reference (reference 0) (reference 1))))
+  worked_out EnsureLocalCapacity = ensured frame (number 0)
   worked_out GetFieldID = found_field (find_field classes (object 0) (text 1) (text 2))
   worked_out GetStaticFieldID = found_field (find_static classes (object 0) (text 1) (text 2))
   worked_out (GetField T) = Gives (ScalarResult (Int (number_in (value_at heap (object 0) place))))

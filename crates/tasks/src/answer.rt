@@ -11,11 +11,13 @@ ghost use Rattle.source.specs.Object.{Refers};
 ghost use Rattle.source.specs.Arguments.{field_given, object_given};
 ghost use Rattle.tasks.specs.Actuals.{actual_view};
 ghost use Rattle.tasks.specs.Answers.{answer_view};
-ghost use Rattle.tasks.specs.WorkedOut.{found_class, found_field, worked_out};
+ghost use Rattle.tasks.specs.Stores.{frame_view};
+ghost use Rattle.tasks.specs.WorkedOut.{ensured, found_class, found_field, worked_out};
 ghost use Rattle.world.specs.Views.{object_value_view};
 
 use crate::actual::{Actual, field_given, number_given, object_given, reference_given, text_given};
 use crate::field;
+use crate::frame::{Frame, with_room};
 use crate::given::Given;
 use crate::store::Store;
 use class_table::built_ins::{NO_CLASS_DEF_FOUND_ERROR, NO_SUCH_FIELD_ERROR};
@@ -37,17 +39,22 @@ pub(crate) enum Answer<'a> {
     Makes(usize),
     /// An exception of the class of this number is made and is pending.
     Raises(usize),
+    /// The current frame's capacity becomes this, and 0 is given.
+    Ensures(usize),
+    /// -4 is given, and the OutOfMemoryError object is pending: the current frame can't have so large a capacity.
+    RefusesFrames,
 }
 
 /// What a function does, all checks being passed. A reference whose name is no `u32` is refused, as memory is.
 pub(crate) fn work_out<'a>(
     classes: &'a ClassTable,
     store: &Store,
+    frame: &Frame,
     function: JniFunction,
     actuals: &[Actual<'a>],
 ) -> Result<Answer<'a>, AllocError>
     requires { IsTrue (is_built_function (function_value function)) }
-    ensures { IfOk result (λ a. answer_view a ≡ worked_out classes.now store.now (map actual_view actuals.now) (function_value function)) }
+    ensures { IfOk result (λ a. answer_view a ≡ worked_out classes.now store.now (frame_view frame.now) (map actual_view actuals.now) (function_value function)) }
 {
     let first = object_given(actuals, 0);
     let second = object_given(actuals, 1);
@@ -75,6 +82,7 @@ pub(crate) fn work_out<'a>(
             let same = same_reference(reference_given(actuals, 0), reference_given(actuals, 1));
             Ok(Answer::Gives(Given::Flag(same)))
         }
+        JniFunction::EnsureLocalCapacity => Ok(ensured(frame, number_given(actuals, 0))),
         JniFunction::GetFieldID => {
             let (name, text) = (text_given(actuals, 1), text_given(actuals, 2));
             Ok(found_field(classes.field(first, name, text, false)))
@@ -141,6 +149,19 @@ fn found_field(field: Option<FieldId<'_>>) -> Answer<'_>
     match field {
         Some(field) => Answer::Gives(Given::Field(Some(field))),
         None => Answer::Raises(NO_SUCH_FIELD_ERROR),
+    }
+}
+
+/// Room for this number of references more in the current frame, if it may have it.
+fn ensured<'a>(frame: &Frame, more: i32) -> Answer<'a>
+    ensures { answer_view result ≡ ensured (frame_view frame.now) more }
+{
+    if more < 0 {
+        return Answer::RefusesFrames;
+    }
+    match with_room(frame, more as usize) {
+        Some(capacity) => Answer::Ensures(capacity),
+        None => Answer::RefusesFrames,
     }
 }
 

@@ -1,4 +1,4 @@
-//! What the answer of a function does to the objects and to the pending exception.
+//! What the answer of a function does to the objects, to the current frame and to the pending exception.
 
 ghost use Rattle.std.specs.Prelude.{◌≡◌, ◌++◌, ◌∷◌, [], IfOk, Some};
 ghost use Rattle.jni.specs.Table.{result_value};
@@ -6,9 +6,11 @@ ghost use Rattle.source.specs.CallEffects.{out_of_memory};
 ghost use Rattle.source.specs.CallStep.{failure};
 ghost use Rattle.source.specs.Heap.{next_name};
 ghost use Rattle.source.specs.World.{fresh_object};
-ghost use Rattle.tasks.specs.Answers.{answer_view, given_after, given_view, heap_after, makes_object, pending_after};
+ghost use Rattle.tasks.specs.Answers.{answer_view, frame_after, given_after, given_view, heap_after, makes_object, pending_after};
+ghost use Rattle.tasks.specs.Stores.{frame_view};
 
 use crate::answer::Answer;
+use crate::frame::Frame;
 use crate::given::{Given, failed};
 use crate::loaded::fresh_values;
 use crate::store::Store;
@@ -21,12 +23,14 @@ pub(crate) fn carry_out<'a>(
     alloc: Global,
     classes: &ClassTable,
     store: &mut Store,
+    frame: &mut Frame,
     pending: &mut Option<usize>,
     kind: ResultKind,
     answer: Answer<'a>,
 ) -> Result<Given<'a>, AllocError>
     ensures store { IfOk result (λ _. store.new ≡ heap_after classes.now store.old (answer_view answer.entry)) }
-    ensures pending { IfOk result (λ _. pending.new ≡ pending_after store.old pending.old (answer_view answer.entry)) }
+    ensures frame { IfOk result (λ _. frame_view frame.new ≡ frame_after (frame_view frame.old) (answer_view answer.entry)) }
+    ensures pending { IfOk result (λ _. pending.new ≡ pending_after classes.now store.old pending.old (answer_view answer.entry)) }
     ensures given { IfOk result (λ g. given_view g ≡ given_after store.old (result_value kind) (answer_view answer.entry)) }
 {
     match answer {
@@ -43,6 +47,14 @@ pub(crate) fn carry_out<'a>(
             let name = make(alloc, classes, store, class)?;
             *pending = Some(name);
             Ok(failed(kind))
+        }
+        Answer::Ensures(capacity) => {
+            frame.capacity = capacity;
+            Ok(Given::Number(0))
+        }
+        Answer::RefusesFrames => {
+            run_out(classes, pending);
+            Ok(Given::Number(-4))
         }
     }
 }
@@ -70,11 +82,11 @@ pub(crate) fn makes_object(answer: Answer<'_>) -> bool
     match answer {
         Answer::Gives(_) | Answer::Writes(_, _, _) => false,
         Answer::Makes(_) | Answer::Raises(_) => true,
+        Answer::Ensures(_) | Answer::RefusesFrames => false,
     }
 }
 
-/// The object of a call is refused: the OutOfMemoryError object, which is made right after the class objects, is pending, and
-/// the call fails.
+/// The object of a call is refused: the OutOfMemoryError object is pending, and the call fails.
 pub(crate) fn refuse<'a>(
     classes: &ClassTable,
     pending: &mut Option<usize>,
@@ -83,6 +95,13 @@ pub(crate) fn refuse<'a>(
     ensures pending { pending.new ≡ Some (out_of_memory classes.now) }
     ensures given { given_view result ≡ failure (result_value kind) }
 {
-    *pending = Some(classes.len() + 1);
+    run_out(classes, pending);
     failed(kind)
+}
+
+/// The OutOfMemoryError object, which is made right after the class objects, is pending.
+fn run_out(classes: &ClassTable, pending: &mut Option<usize>)
+    ensures { pending.new ≡ Some (out_of_memory classes.now) }
+{
+    *pending = Some(classes.len() + 1);
 }

@@ -4,6 +4,7 @@ ghost use Rattle.std.specs.Prelude.{◌≡◌, IfOk};
 ghost use Rattle.jni.specs.Table.{result_value};
 ghost use Rattle.tasks.specs.Answers.{frame_with, given_view};
 ghost use Rattle.tasks.specs.Stores.{frame_view};
+ghost use Rattle.tasks.specs.WorkedOut.{with_room};
 
 use crate::given::Given;
 use jni::ResultKind;
@@ -16,6 +17,21 @@ pub struct Frame {
     pub capacity: usize,
     /// The names of objects. The last one put is the last.
     pub references: Vec<usize>,
+}
+
+/// The capacities of all frames of a thread together are at most this.
+const MOST_REFERENCES: usize = 1_024;
+
+/// The capacity of the frame with room for so many references more; none where it would be too large.
+pub(crate) fn with_room(frame: &Frame, more: usize) -> Option<usize>
+    ensures { result ≡ with_room (frame_view frame.now) more }
+{
+    let needed = frame.references.len().checked_add(more)?;
+    let capacity = frame.capacity.max(needed);
+    if capacity > MOST_REFERENCES {
+        return None;
+    }
+    Some(capacity)
 }
 
 /// Puts what a call of this kind of result gave into the current frame, if it is a new local reference.

@@ -141,7 +141,7 @@ fn call<'a>(
         }
         return Ok(Outcome::Trapped(trap, line));
     }
-    let answer = work_out(classes, store, function, actuals)?;
+    let answer = work_out(classes, store, frame, function, actuals)?;
     let kind = function.prototype().result;
     if refused {
         if !makes_object(answer) {
@@ -149,7 +149,7 @@ fn call<'a>(
         }
         return Ok(Outcome::Gives(target, refuse(classes, pending, kind)));
     }
-    let given = carry_out(alloc, classes, store, pending, kind, answer)?;
+    let given = carry_out(alloc, classes, store, frame, pending, kind, answer)?;
     put_local(frame, kind, given)?;
     Ok(Outcome::Gives(target, given))
 }

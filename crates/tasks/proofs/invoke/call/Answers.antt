@@ -65,5 +65,5 @@ returns-clause-step c =
     let args = c.args.actuals.now in
     let passed = ap (λ b. trap_found classes heap frame b f (map actual_view args)) (sym c.is_some.ensures) ∙ sym c.check.ensures ∙ ap (option_map trap_view) c.in_default.is in
     call_made_so classes heap frame c.args.pending.now c.args.line c.args.target f args c.requires passed c.args.refused (answer_view c.in_ok-answer.answer) c.in_ok-given.given (result_value c.prototype.result.now.result)
-    c.carry_out.new.store (frame_view c.put_local.new.frame) c.carry_out.new.pending
-    c.if-refused-2.false c.in_ok-answer.ensures (ap (λ (x : Facts). x.prototype.result) c.prototype.ensures) c.in_ok-given.ensures.given c.in_ok-given.ensures.store c.in_ok-put_local.ensures c.in_ok-given.ensures.pending
+    c.carry_out.new.store (frame_view c.carry_out.new.frame) (frame_view c.put_local.new.frame) c.carry_out.new.pending
+    c.if-refused-2.false c.in_ok-answer.ensures (ap (λ (x : Facts). x.prototype.result) c.prototype.ensures) c.in_ok-given.ensures.given c.in_ok-given.ensures.store c.in_ok-given.ensures.frame c.in_ok-put_local.ensures c.in_ok-given.ensures.pending
