@@ -33,7 +33,7 @@ abbrev pub given_room : Option ℕ → Answer
 given_room (Some capacity) = Ensures capacity
 given_room None = RefusesFrames
 
--- room for so many references more in the current frame
+-- room for this number of references more in the current frame
 abbrev pub ensured : Frame → ℤ → Answer
 ensured frame (pos n) = given_room (with_room frame n)
 ensured frame (negsuc n) = RefusesFrames

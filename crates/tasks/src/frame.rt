@@ -22,7 +22,7 @@ pub struct Frame {
 /// The capacities of all frames of a thread together are at most this.
 const MOST_REFERENCES: usize = 1_024;
 
-/// The capacity of the frame with room for so many references more; none where it would be too large.
+/// The capacity of the frame with room for this number of references more; none where it would be too large.
 pub(crate) fn with_room(frame: &Frame, more: usize) -> Option<usize>
     ensures { result ≡ with_room (frame_view frame.now) more }
 {
