@@ -84,8 +84,8 @@ module _ (p : Lowered) (w : World) (store : Store) (pending : Option ℕ) (call 
         (subst (λ (l : List ℕ). IsWorkedOut w.classes store.heap l references fields call.stack (call_view function) (function_value function.function) answer) same_loaded
         (subst (λ (t : Classes). IsWorkedOut t store.heap loaded references fields call.stack (call_view function) (function_value function.function) answer) same_classes works))))))
 
-    can_carry : (kind : ResultKind) → kind ≡ (prototype (function_value function.function)).result → IsPossible p w store pending kind shared s
-    can_carry kind same = subst (λ (x : ResultKind). IsPossible p w store pending x shared s) (sym (kind_is kind same)) (possible p w store pending call function shared s task rest h)
+    can_carry : (kind : ResultKind) → kind ≡ (prototype (function_value function.function)).result → IsPossible p w store pending call.frames.items kind shared s
+    can_carry kind same = subst (λ (x : ResultKind). IsPossible p w store pending call.frames.items x shared s) (sym (kind_is kind same)) (possible p w store pending call function shared s task rest h)
 
     framed : (kind : ResultKind) → kind ≡ (prototype (function_value function.function)).result → HasFrame kind call
     framed kind same = subst (λ (x : ResultKind). HasFrame x call) (sym (kind_is kind same)) (has_frame p w store pending call function shared s task rest h free)
