@@ -6,7 +6,7 @@ use Rattle.classes.specs.Class.{Classes}
 use Rattle.heap.specs.Heap.{Space, with_value}
 use Rattle.heap.specs.declared.value.Value.{Value}
 use Rattle.jni.specs.Prototype.{ResultKind, NewLocal, NewGlobal, GivesFlag, GivesInt, GivesField, GivesNothing, GivesBuffer}
-use Rattle.source.specs.CallEffects.{Leaves, NoResult, ReferenceResult, ScalarResult, CallEffect, frames_effect, out_of_memory, refuses_frames, with_capacity}
+use Rattle.source.specs.CallEffects.{Leaves, NoResult, ReferenceResult, ScalarResult, CallEffect, out_of_memory, refuses_frames, with_capacity}
 use Rattle.source.specs.CallStep.{failure, makes_objects}
 use Rattle.source.specs.Heap.{Heap, next_name}
 use Rattle.source.specs.Thread as source

@@ -21,7 +21,7 @@ pub struct Frame {
 }
 
 impl Model for Frame {
-    ghost use Rattle.std.specs.Prelude.{◌≤◌, ◌×◌, vec_capacity};
+    ghost use Rattle.std.specs.Prelude.{◌≤◌, vec_capacity};
     ghost use Rattle.machine.specs.Frames.{Frame, most_locals};
 
     ghost Value = { Frame };
@@ -59,14 +59,14 @@ impl Frame {
         self.references.len() < self.capacity
     }
 
-    /// The capacity with room for so many references more.
+    /// The capacity with room for this number of references more.
     fn wanted(&self, more: u32) -> usize
         ensures { result ≡ wanted self.now more }
     {
         self.capacity.max(self.references.len() + more as usize)
     }
 
-    /// Makes room for so many references more. It takes no host memory.
+    /// Makes room for this number of references more. It takes no host memory.
     fn ensure(&mut self, more: u32)
         requires { wanted self.old more ≤ most_locals }
         ensures { self.new ≡ with_room self.old more }
@@ -113,7 +113,7 @@ fn capacities(frames: &[Frame]) -> usize
     total
 }
 
-/// Makes room for so many references more in the current frame, which is the last, if the frames can have them. It takes no
+/// Makes room for this number of references more in the current frame, which is the last, if the frames can have them. It takes no
 /// host memory, and a step for each frame.
 pub fn ensure_capacity(frames: &mut Vec<Frame>, more: u32) -> bool
     ensures possible { result ≡ can_ensure frames.old.items more }

@@ -1,5 +1,5 @@
-use Rattle.std.proofs.Common.{◌≡◌, ℕ, ◌<◌, ◌≤◌, ◌^◌, List, Option, Some, None, length, true, false, sym, subst, arith}
-use Rattle.std.specs.Prelude.{slice_get}
+use Rattle.std.proofs.Common.{◌≡◌, ℕ, ◌-◌, ◌<◌, ◌≤◌, ◌^◌, Bool, List, Option, Some, None, length, true, false, refl, sym, ap, ◌∙◌, subst, arith}
+use Rattle.std.specs.Prelude.{slice_get, if◌then◌else◌}
 use Rattle.classes.specs.Class.{Classes}
 use Rattle.heap.specs.Heap.{Space}
 use Rattle.jni.specs.Prototype.{ResultKind}
@@ -17,7 +17,7 @@ use Rattle.machine.specs.declared.carry_out.Carried.{Carried}
 use Rattle.machine.specs.declared.store.Store.{Store}
 use Rattle.machine.specs.Answers.{IsAnswer}
 use Rattle.machine.specs.CarriedOut.{CarriesOut, failed}
-use Rattle.machine.specs.Frames.{Frame}
+use Rattle.machine.specs.Frames.{Frame, can_ensure, with_capacity}
 use Rattle.machine.specs.Made.{HasMade, Makes}
 use Rattle.machine.proofs.AnswerCases.{makes_it, throws_it}
 use Rattle.machine.proofs.CarryOuts as carries
@@ -113,3 +113,48 @@ returns-in-None-make-clause-carried c p shared s effect h does =
     refused_in p w old.heap k shared s effect old c.make-in-Throws.new.store c.refuse-in-None-make.new.pending c.args.frames.now.items c.refuse-in-None-make.result
     (unchanged c.classes-in-Throws.result.now old c.make-in-Throws.new.store c.in-Throws.class c.make-in-Throws.result c.make-in-Throws.ensures c.in-None-make.is) c.refuse-in-None-make.ensures.pending c.refuse-in-None-make.ensures.carried
     (carries.refuses_exception p w old c.args.pending.now c.args.frames.now.items k shared s h c.in-Throws.class effect throws)
+
+-- what was told of frames that can't have the room
+told_of_frames : (p : Lowered) (w : World) (space : Space) (kind : ResultKind) (shared : Shared) (s : Thread) (effect : CallEffect) (store : Store) (after : Option ℕ) (frames old : List Frame) (carried : Carried) → frames ≡ old → after ≡ slice_get store.loaded.items (length w.classes)
+    → carried ≡ record { given = given.Number (2 ^ 32 - 4); refused = false }
+    → CarriesOut p w space kind shared s effect false store (slice_get store.loaded.items (length w.classes)) old (given.Number (2 ^ 32 - 4)) → CarriesOut p w space kind shared s effect carried.refused store after frames carried.given
+told_of_frames p w space kind shared s effect store after frames old carried same is told h =
+    subst (λ (r : Carried). CarriesOut p w space kind shared s effect r.refused store after frames r.given) (sym told)
+    (subst (λ (o : Option ℕ). CarriesOut p w space kind shared s effect false store o frames (given.Number (2 ^ 32 - 4))) (sym is)
+    (subst (λ (l : List Frame). CarriesOut p w space kind shared s effect false store (slice_get store.loaded.items (length w.classes)) l (given.Number (2 ^ 32 - 4))) (sym same) h))
+
+pub returns-then-ensure_capacity-clause-carried : goal.returns-then-ensure_capacity-clause-carried
+returns-then-ensure_capacity-clause-carried c p shared s effect h does =
+    let w = c.args.world.now in
+    let k = result_value c.args.kind in
+    let old = c.args.store.now in
+    let frames = c.args.frames.now.items in
+    let more = c.in-Ensures.more in
+    let ensures = subst (λ (a : Answer). IsAnswer w.classes old.heap k shared s a effect) c.in-Ensures.is does in
+    let can : can_ensure frames more ≡ true = sym c.ensure_capacity.ensures.possible ∙ c.if-ensure_capacity.true in
+    let are : c.ensure_capacity.new.frames.items ≡ with_capacity frames more = c.ensure_capacity.ensures.frames ∙ ap (λ (b : Bool). if b then with_capacity frames more else frames) can in
+    subst (λ (l : List Frame). CarriesOut p w old.heap k shared s effect false old c.args.pending.now l (given.Number 0)) (sym are)
+    (carries.ensures p w old c.args.pending.now frames k shared s h more effect ensures can)
+
+pub returns-else-ensure_capacity-clause-carried : goal.returns-else-ensure_capacity-clause-carried
+returns-else-ensure_capacity-clause-carried c p shared s effect h does =
+    let w = c.args.world.now in
+    let k = result_value c.args.kind in
+    let old = c.args.store.now in
+    let frames = c.args.frames.now.items in
+    let more = c.in-Ensures.more in
+    let ensures = subst (λ (a : Answer). IsAnswer w.classes old.heap k shared s a effect) c.in-Ensures.is does in
+    let can : can_ensure frames more ≡ false = sym c.ensure_capacity.ensures.possible ∙ c.if-ensure_capacity.false in
+    let are : c.ensure_capacity.new.frames.items ≡ frames = c.ensure_capacity.ensures.frames ∙ ap (λ (b : Bool). if b then with_capacity frames more else frames) can in
+    told_of_frames p w old.heap k shared s effect old c.refuse_frames.new.pending c.ensure_capacity.new.frames.items frames c.refuse_frames.result are c.refuse_frames.ensures.pending c.refuse_frames.ensures.carried
+    (carries.ensures_not p w old c.args.pending.now frames k shared s h more effect ensures can)
+
+pub returns-in-RefusesFrames-clause-carried : goal.returns-in-RefusesFrames-clause-carried
+returns-in-RefusesFrames-clause-carried c p shared s effect h does =
+    let w = c.args.world.now in
+    let k = result_value c.args.kind in
+    let old = c.args.store.now in
+    let frames = c.args.frames.now.items in
+    let refuses = subst (λ (a : Answer). IsAnswer w.classes old.heap k shared s a effect) c.in-RefusesFrames.is does in
+    told_of_frames p w old.heap k shared s effect old c.refuse_frames-in-RefusesFrames.new.pending frames frames c.refuse_frames-in-RefusesFrames.result refl c.refuse_frames-in-RefusesFrames.ensures.pending c.refuse_frames-in-RefusesFrames.ensures.carried
+    (carries.refuses_room p w old c.args.pending.now frames k shared s h effect refuses)
