@@ -1,9 +1,10 @@
 -- What the machine works out of calls is what the source's calls do.
-use Rattle.std.proofs.Common.{inl, inr, ◌≡◌, ℕ, pos, zero, suc, ◌+◌, ◌-◌, ◌<◌, ◌≤◌, ◌^◌, Bool, true, false, not, List, [], ◌∷◌, ◌++◌, length, Option, Some, None, is_none, slice_get, refl, sym, ap, ◌∙◌, subst, arith, eqb, ⊎_elim, ℤ}
+use Rattle.std.proofs.Common.{inl, inr, ◌≡◌, ℕ, pos, negsuc, zero, suc, ◌+◌, ◌-◌, ◌<◌, ◌≤◌, ◌^◌, Bool, true, false, not, List, [], ◌∷◌, ◌++◌, length, Option, Some, None, is_none, slice_get, refl, sym, ap, ◌∙◌, subst, arith, eqb, ⊎_elim, ℤ}
 use Rattle.std.specs.Prelude.{◌||◌, ◌==◌, unwrap_or, FitsSigned, ◌&&◌}
-use Rattle.std.specs.Int.{w32, cast_unsigned}
+use Rattle.std.specs.Int.{w32, cast_signed, cast_unsigned}
 use Rattle.std.specs.List.{AllZip}
 use Rattle.std.specs.Option.{option_map_or}
+use Rattle.std.proofs.Math.Facts.{to_z-of_z}
 use Rattle.std.proofs.lemmas.Bool.Decides.{eqb_tells, nat_tests}
 use Rattle.classes.specs.BuiltIns.{class_class, has_own_making, no_class_def_found_error, no_such_field_error, string_class}
 use Rattle.classes.specs.Class.{Class, Classes, class_at, class_kind, class_named, is_plain, superclass, assignable}
@@ -15,10 +16,10 @@ use Rattle.code.specs.Effect.{truth_word, element_word}
 use Rattle.code.specs.declared.instr.Operand.{Operand}
 use Rattle.code.specs.declared.instr.Operand.TheVariants as operand
 use Rattle.heap.specs.Heap.{Space, IsLaidOut, name_at}
-use Rattle.jni.specs.JniFunction.{JniFunction, FindClass, AllocObject, NewLocalRef, IsSameObject, GetFieldID, GetStaticFieldID, GetArrayLength, GetSuperclass, GetObjectClass, IsInstanceOf, IsAssignableFrom, GetField, SetField, GetObjectField, SetObjectField, GetStaticField, SetStaticField, GetStaticObjectField, SetStaticObjectField}
-use Rattle.jni.specs.Prototype.{prototype, ParameterKind, ClassObject, FieldID, IntNumber, NonNull, TextBytes, NewLocal, GivesField, Nullable, GivesNothing}
+use Rattle.jni.specs.JniFunction.{JniFunction, FindClass, AllocObject, NewLocalRef, IsSameObject, EnsureLocalCapacity, GetFieldID, GetStaticFieldID, GetArrayLength, GetSuperclass, GetObjectClass, IsInstanceOf, IsAssignableFrom, GetField, SetField, GetObjectField, SetObjectField, GetStaticField, SetStaticField, GetStaticObjectField, SetStaticObjectField}
+use Rattle.jni.specs.Prototype.{prototype, ParameterKind, ClassObject, FieldID, IntNumber, NonNull, TextBytes, NewLocal, GivesField, GivesInt, Nullable, GivesNothing}
 use Rattle.source.specs.Arguments.{Actual, reference_given, object_given, name_or_zero, text_given, text_in_actual, NumberActual, field_given, number_given, number_in_actual}
-use Rattle.source.specs.CallEffects.{found_class_effect, found_field_effect, heap_effect, same_reference, CallEffect}
+use Rattle.source.specs.CallEffects.{ensure_effect, found_class_effect, found_field_effect, heap_effect, same_reference, CallEffect}
 use Rattle.source.specs.CallStep.{trap_of_call}
 use Rattle.source.specs.CallTable.{call_effect}
 use Rattle.source.specs.Heap.{Heap, class_of, object_at, values_of, field_place, number_in, place_in, value_at, reference_in, static_place, with_value_at}
@@ -51,7 +52,7 @@ use Rattle.machine.specs.Asked.{IsAsked}
 use Rattle.machine.specs.Checked.{gives_null, is_answered, misfits, some_misfit, some_missing, may_be_null}
 use Rattle.machine.specs.Given.{operand_at, operand_of, class_of_given, class_there, fits_there, name_there, IsGiven, field_at, field_there}
 use Rattle.machine.specs.HeapAgrees.{HeapAgrees, ReferenceAgrees, BlocksAgree, IsTable, ValueAgrees}
-use Rattle.machine.specs.WorkedOut.{count_there, class_object, found_class, IsFoundField, IsWorkedOut, place_there, value_there, word_in, address_in, held_reference, top_word, writes_there}
+use Rattle.machine.specs.WorkedOut.{count_there, class_object, found_class, IsFoundField, IsWorkedOut, place_there, value_there, word_in, address_in, held_reference, room_for, top_word, writes_there}
 use Rattle.machine.proofs.CallChecks.{class_given_is, class_is, field_at_place, fits_is, name_is, reference_at_place, handle_of}
 use Rattle.machine.proofs.BlockObjects.{Named, named, name_within}
 use Rattle.machine.proofs.CallTraps.{has_passed, none_lacking, none_unfit, handles_there}
@@ -239,6 +240,30 @@ module _ (classes : Classes) (space : Space) (references : List (Option ℕ)) (f
       let later = second_of (not (may_be_null p) && gives_null references fields o) (some_missing references fields (FieldID ∷ parameters) (x ∷ operands)) missing in
       handle_in x fits.1.0 (first_of (gives_null references fields x) (some_missing references fields parameters operands) later)
 
+  is_number : (o : Operand) (a : Actual) → OperandFits IntNumber o → IsGiven classes space references fields o a → (z : ℤ) × (a ≡ NumberActual z) × FitsSigned w32 z
+  is_number operand.Number a fits h = h
+  is_number operand.Text a fits h = absurd (cc)
+  is_number operand.Null a fits h = absurd fits
+  is_number (operand.Array array) a fits h = absurd (let e = fits.1 in cc)
+  is_number (operand.Buffer i) a fits h = absurd (let e = fits.1 in cc)
+  is_number (operand.Mode mode) a fits h = absurd (cc)
+  is_number (operand.IsCopy i) a fits h = absurd (cc)
+  is_number (operand.Local i) a fits h = absurd fits
+  is_number (operand.Static i) a fits h = absurd fits
+  is_number (operand.FieldId i) a fits h = absurd (cc)
+
+  -- the number of the only argument is on top
+  only_number : (operands : List Operand) (args : List Actual) → AllZip OperandFits (IntNumber ∷ []) operands → AllZip (IsGiven classes space references fields) operands args
+      → (z : ℤ) × (number_given args 0 ≡ z) × FitsSigned w32 z × (words_given args ≡ word_of (Int z) ∷ [])
+  only_number [] args fits given = absurd fits
+  only_number (x ∷ y ∷ more) args fits given = absurd fits.1
+  only_number (x ∷ []) [] fits given = absurd given
+  only_number (x ∷ []) (a ∷ b ∷ more) fits given = absurd given.1
+  only_number (x ∷ []) (a ∷ []) fits given =
+      let number = is_number x a fits.0 given.0 in
+      let word : does.word_given a ≡ word_of (Int number.0) ∷ [] = ap does.word_given number.1 in
+      (number.0, ap (λ (q : Actual). number_in_actual (Some q)) number.1, number.2, λ i. [] ++ word i)
+
   -- the number of the third argument is on top
   third_number : (p : ParameterKind) (operands : List Operand) (args : List Actual) → IsReferenceKind p → AllZip OperandFits (p ∷ FieldID ∷ IntNumber ∷ []) operands → AllZip (IsGiven classes space references fields) operands args
       → (z : ℤ) × (number_given args 2 ≡ z) × FitsSigned w32 z × (words_given args ≡ word_of (Int z) ∷ [])
@@ -257,18 +282,6 @@ module _ (classes : Classes) (space : Space) (references : List (Option ℕ)) (f
       let word : does.word_given d ≡ word_of (Int number.0) ∷ [] = ap does.word_given number.1 in
       (number.0, ap (λ (q : Actual). number_in_actual (Some q)) number.1, number.2, λ i. ((([] ++ word i) ++ field i) ++ none i))
     where
-      is_number : (o : Operand) (a : Actual) → OperandFits IntNumber o → IsGiven classes space references fields o a → (z : ℤ) × (a ≡ NumberActual z) × FitsSigned w32 z
-      is_number operand.Number a fits h = h
-      is_number operand.Text a fits h = absurd (cc)
-      is_number operand.Null a fits h = absurd fits
-      is_number (operand.Array array) a fits h = absurd (let e = fits.1 in cc)
-      is_number (operand.Buffer i) a fits h = absurd (let e = fits.1 in cc)
-      is_number (operand.Mode mode) a fits h = absurd (cc)
-      is_number (operand.IsCopy i) a fits h = absurd (cc)
-      is_number (operand.Local i) a fits h = absurd fits
-      is_number (operand.Static i) a fits h = absurd fits
-      is_number (operand.FieldId i) a fits h = absurd (cc)
-
       no_word : (o : Operand) (a : Actual) → IsReferenceKind p → OperandFits p o → IsGiven classes space references fields o a → does.word_given a ≡ []
       no_word operand.Number a kind fits h = absurd (subst IsReferenceKind fits kind)
       no_word operand.Text a kind fits h = ap does.word_given h.1
@@ -411,6 +424,19 @@ module _ (p : Lowered) (w : World) (store : Store) (pending : Option ℕ) (call 
   answers_same h answer is =
       subst (λ (x : Answer). Does IsSameObject x) (sym is)
       (refl, refl, ap truth_word ((λ i. name_of IsSameObject h 0 i == name_of IsSameObject h 1 i) ∙ same_names (at 0) (at 1) (reference_given args 0) (reference_given args 1) h.store_agrees.heap (agrees IsSameObject h 0) (agrees IsSameObject h 1)))
+
+  -- room for references
+  answers_ensure : Asked EnsureLocalCapacity → (answer : Answer) → Works EnsureLocalCapacity answer → Does EnsureLocalCapacity answer
+  unfolding call_effect
+  answers_ensure h answer is =
+      let only = only_number w.classes store.heap references fields function.operands args h.kinds h.given in
+      let word : cast_signed w32 (top_word call.stack) ≡ only.0 = ap (λ (l : List ℕ). cast_signed w32 (top_word l)) (h.words ∙ only.3) ∙ to_z-of_z {w = w32} only.2 in
+      subst (λ (x : Answer). Does EnsureLocalCapacity x) (sym (is ∙ ap room_for word))
+      (subst (λ (z : ℤ). IsAnswer w.classes store.heap GivesInt shared s (room_for only.0) (ensure_effect w.classes shared s z)) (sym only.1) (by_number only.0))
+    where
+      by_number : (z : ℤ) → IsAnswer w.classes store.heap GivesInt shared s (room_for z) (ensure_effect w.classes shared s z)
+      by_number (pos n) = (refl, refl)
+      by_number (negsuc n) = (refl, refl)
 
   -- the class objects are the first of the table
   answers_superclass : Asked GetSuperclass → (answer : Answer) → Works GetSuperclass answer → Does GetSuperclass answer
@@ -680,6 +706,7 @@ module _ (p : Lowered) (w : World) (store : Store) (pending : Option ℕ) (call 
   answers IsAssignableFrom h target free answer is = answers_assignable h answer is
   answers NewLocalRef h target free answer is = answers_new_local h answer is
   answers IsSameObject h target free answer is = answers_same h answer is
+  answers EnsureLocalCapacity h target free answer is = answers_ensure h answer is
   answers AllocObject h target free answer is = answers_alloc h target free answer is
   answers GetFieldID h target free answer is = answers_field h answer is
   answers GetStaticFieldID h target free answer is = answers_static h answer is

@@ -1,15 +1,16 @@
 -- A call that the machine makes does what the source's call does.
-use Rattle.std.proofs.Common.{◌≡◌, ℕ, Bool, true, false, not, List, length, Option, Some, None, refl, sym, ap, ◌∙◌, subst, arith, append-nil}
-use Rattle.std.specs.Prelude.{◌&&◌}
+use Rattle.std.proofs.Common.{◌≡◌, ℕ, pos, Bool, true, false, not, List, [], length, Option, Some, None, refl, sym, ap, ◌∙◌, subst, arith, append-nil}
+use Rattle.std.specs.Global.{Vec}
+use Rattle.std.specs.Prelude.{◌&&◌, nat_le, if◌then◌else◌}
 use Rattle.std.specs.List.{AllZip}
 use Rattle.classes.specs.Class.{Classes}
 use Rattle.heap.specs.Heap.{Space}
 use Rattle.jni.specs.BuiltFunctions.{is_built_function}
-use Rattle.jni.specs.JniFunction.{JniFunction, FindClass, GetSuperclass, GetObjectClass, IsInstanceOf, IsAssignableFrom, AllocObject, NewLocalRef, IsSameObject, GetFieldID, GetStaticFieldID, GetField, SetField, GetStaticField, SetStaticField, GetObjectField, SetObjectField, GetStaticObjectField, SetStaticObjectField, GetArrayLength, NewGlobalRef, GetBuffer}
+use Rattle.jni.specs.JniFunction.{JniFunction, FindClass, GetSuperclass, GetObjectClass, IsInstanceOf, IsAssignableFrom, AllocObject, NewLocalRef, IsSameObject, EnsureLocalCapacity, GetFieldID, GetStaticFieldID, GetField, SetField, GetStaticField, SetStaticField, GetObjectField, SetObjectField, GetStaticObjectField, SetStaticObjectField, GetArrayLength, NewGlobalRef, GetBuffer}
 use Rattle.jni.specs.Prototype.{prototype, ResultKind, NewLocal}
 use Rattle.source.specs.Arguments.{Actual}
 use Rattle.source.specs.Object.{Object}
-use Rattle.source.specs.CallEffects.{CallEffect, CallResult, Halts, Leaves, Throws}
+use Rattle.source.specs.CallEffects.{CallEffect, CallResult, Halts, Leaves, ScalarResult, Throws, refuses_frames, with_capacity}
 use Rattle.source.specs.CallStep.{after_call, after_refusal, call_step, checked, effect_of_call, makes_objects, put, trap_of_call}
 use Rattle.source.specs.CallTable.{call_effect}
 use Rattle.source.specs.Effect.{Calls, Effect, effect_of}
@@ -17,7 +18,7 @@ use Rattle.source.specs.Heap.{Heap}
 use Rattle.source.specs.Task.{Assigned, Declared, Dropped, Target, Task, Tested}
 use Rattle.source.specs.Thread as source
 use Rattle.source.specs.Thread.{BuffersInUse, Shared, sight_of, viewed_by}
-use Rattle.source.specs.Value.{Trap as SourceTrap}
+use Rattle.source.specs.Value.{Int, Trap as SourceTrap}
 use Rattle.source.specs.World.{World}
 use Rattle.code.specs.Call.{Call, call_view}
 use Rattle.code.specs.Depth.{Listing, depth_after}
@@ -39,9 +40,9 @@ use Rattle.machine.specs.declared.thread.Executed.TheVariants.{Did}
 use Rattle.machine.specs.Agrees.{Executes, GoesOn, WorkAgrees, after_any}
 use Rattle.machine.specs.Answers.{IsAnswer}
 use Rattle.machine.specs.Asked.{IsAsked}
-use Rattle.machine.specs.CarriedOut.{CarriesOut, IsPossible, can_fail, pending_after, result_after, shared_after}
+use Rattle.machine.specs.CarriedOut.{CarriesOut, IsPossible, can_fail, frames_left, pending_after, result_after, shared_after}
 use Rattle.machine.specs.Checked.{is_answered, puts_local}
-use Rattle.machine.specs.Frames.{has_room}
+use Rattle.machine.specs.Frames.{Frame, has_room}
 use Rattle.machine.specs.Invoked.{AtCall}
 use Rattle.machine.specs.Received.{HasFrame, HasTarget, Receives}
 use Rattle.machine.specs.Stops.{trap_view}
@@ -62,6 +63,7 @@ answered_there IsInstanceOf h = refl
 answered_there IsAssignableFrom h = refl
 answered_there NewLocalRef h = refl
 answered_there IsSameObject h = refl
+answered_there EnsureLocalCapacity h = refl
 answered_there AllocObject h = refl
 answered_there GetFieldID h = refl
 answered_there GetStaticFieldID h = refl
@@ -84,35 +86,37 @@ answered_fails f h = refl
 
 -- ---- the source's step
 
--- an effect that leaves the thread as it was, but for an exception
+-- an effect that leaves the thread as it was, but for its frames and an exception
 abbrev pub StaysBut : source.Thread → CallEffect → Type 0
 StaysBut s (Throws c) = Unit {0}
 StaysBut s (Halts trap) = ⊥
-StaysBut s (Leaves made s' t' c) = t' ≡ s
+StaysBut s (Leaves made s' t' c) = t' ≡ record s { frames = t'.frames; pending = t'.pending }
 
 module _ (classes : Classes) (lent : BuffersInUse) (k : ℕ) (shared : Shared) (s : source.Thread) (line : ℕ) (target : Target) (f : JniFunction) (args : List Actual) (rest : List Task) where
   -- what an effect leaves, or the same with its allocation refused
   abbrev pub left_by : (refused : Bool) → CallEffect → source.Advance
   left_by refused effect =
       put target (result_after (prototype f).result refused effect) (shared_after classes refused shared effect)
-      (resumption line f args rest s (pending_after classes refused shared s effect) (result_after (prototype f).result refused effect) target)
+      (resumption line f args rest s (frames_left refused s effect) (pending_after classes refused shared s effect) (result_after (prototype f).result refused effect) target)
 
   pub step_leaves : (refused : Bool) (effect : CallEffect) → effect_of_call classes lent k shared s line target f args rest ≡ effect → StaysBut s effect → (refused ≡ true → makes_objects effect ≡ true)
       → call_step classes lent k shared s line target f args rest refused ≡ left_by refused effect
   step_leaves true effect is stays could =
       ap (λ (e : CallEffect). after_refusal classes lent k shared s line target f args rest (makes_objects e)) is
       ∙ ap (after_refusal classes lent k shared s line target f args rest) (could refl)
-      ∙ ap (λ (h : Heap). let r : Shared = record shared { heap = h } in put target (result_after (prototype f).result true effect) r (resumption line f args rest s (pending_after classes true shared s effect) (result_after (prototype f).result true effect) target)) (append-nil shared.heap)
+      ∙ ap (λ (h : Heap). let r : Shared = record shared { heap = h } in put target (result_after (prototype f).result true effect) r (resumption line f args rest s (frames_left true s effect) (pending_after classes true shared s effect) (result_after (prototype f).result true effect) target)) (append-nil shared.heap)
   step_leaves false (Throws c) is stays could = ap (after_call classes lent k shared s line target f args rest) is
   step_leaves false (Halts trap) is stays could = absurd stays
   step_leaves false (Leaves made s' t' c) is stays could =
       ap (after_call classes lent k shared s line target f args rest) is
       ∙ ap (λ (t : source.Thread). after_call classes lent k shared s line target f args rest (Leaves made s' t c)) stays
-      ∙ ap (λ (t : source.Thread). left_by false (Leaves made s' t c)) (sym stays)
 
 -- the thread that an effect leaves
 same_thread : {made made' : List Object} {s s' : Shared} {t t' : source.Thread} {c c' : CallResult} → Leaves made s t c ≡ Leaves made' s' t' c' → t ≡ t'
 same_thread e = cc
+
+stays_same : (s t : source.Thread) → t ≡ s → t ≡ record s { frames = t.frames; pending = t.pending }
+stays_same s t e = subst (λ (u : source.Thread). t ≡ record u { frames = t.frames; pending = t.pending }) e refl
 
 stays_with : (classes : Classes) (space : Space) (kind : ResultKind) (shared : Shared) (s : source.Thread) (answer : Answer) (effect : CallEffect) → IsAnswer classes space kind shared s answer effect → StaysBut s effect
 stays_with classes space kind shared s answer (Throws c) h = tt
@@ -123,10 +127,22 @@ stays_with classes space kind shared s answer (Halts trap) h = no_halt answer h
     no_halt (answers.Writes a place v) h = h
     no_halt (answers.Makes c) h = h
     no_halt (answers.Throws c) h = h
-stays_with classes space kind shared s (answers.Gives g) (Leaves made s' t' c) h = same_thread (gives_it classes space kind shared s g (Leaves made s' t' c) h).is
-stays_with classes space kind shared s (answers.Writes a place v) (Leaves made s' t' c) h = same_thread (writes_it classes space kind shared s a place v (Leaves made s' t' c) h).is
-stays_with classes space kind shared s (answers.Makes class) (Leaves made s' t' c) h = same_thread (makes_it classes space kind shared s class (Leaves made s' t' c) h).is
+    no_halt (answers.Ensures more) h = no_halt_of_frames (nat_le (source.capacities (with_capacity more s.frames)) 1024) h.1
+      where
+        no_halt_of_frames : (b : Bool) → Halts trap ≡ (if b then Leaves [] shared (record s { frames = with_capacity more s.frames }) (ScalarResult (Int (pos 0))) else refuses_frames classes shared s) → ⊥
+        no_halt_of_frames true e = cc
+        no_halt_of_frames false e = cc
+    no_halt answers.RefusesFrames h = let e = h.1 in cc
+stays_with classes space kind shared s (answers.Gives g) (Leaves made s' t' c) h = stays_same s t' (same_thread (gives_it classes space kind shared s g (Leaves made s' t' c) h).is)
+stays_with classes space kind shared s (answers.Writes a place v) (Leaves made s' t' c) h = stays_same s t' (same_thread (writes_it classes space kind shared s a place v (Leaves made s' t' c) h).is)
+stays_with classes space kind shared s (answers.Makes class) (Leaves made s' t' c) h = stays_same s t' (same_thread (makes_it classes space kind shared s class (Leaves made s' t' c) h).is)
 stays_with classes space kind shared s (answers.Throws class) (Leaves made s' t' c) h = absurd h
+stays_with classes space kind shared s (answers.Ensures more) (Leaves made s' t' c) h = subst (StaysBut s) (sym h.1) (stays_framed (nat_le (source.capacities (with_capacity more s.frames)) 1024))
+  where
+    stays_framed : (b : Bool) → StaysBut s (if b then Leaves [] shared (record s { frames = with_capacity more s.frames }) (ScalarResult (Int (pos 0))) else refuses_frames classes shared s)
+    stays_framed true = refl
+    stays_framed false = refl
+stays_with classes space kind shared s answers.RefusesFrames (Leaves made s' t' c) h = subst (StaysBut s) (sym h.1) refl
 
 -- ---- the place
 
@@ -218,8 +234,8 @@ module _ (p : Lowered) (w : World) (store : Store) (pending : Option ℕ) (call 
   has_target = target_there p w.classes store.heap call h.code (visible_to shared s) s.frames task rest r function.target (prototype called.f).result called.target called.goes
 
   -- a call of it can be carried out
-  pub possible : IsPossible p w store pending (prototype called.f).result shared s
-  possible = record { store_agrees = h.shares; pending_agrees = h.pending_agrees; fails = answered_fails called.f called.asked.answered }
+  pub possible : IsPossible p w store pending call.frames.items (prototype called.f).result shared s
+  possible = record { store_agrees = h.shares; pending_agrees = h.pending_agrees; frames_agree = r.frames_agree; fails = answered_fails called.f called.asked.answered }
 
   -- nothing was found
   module _ (free : trap_of_call w.classes shared s called.target called.f called.args ≡ None) where
@@ -257,22 +273,23 @@ module _ (p : Lowered) (w : World) (store : Store) (pending : Option ℕ) (call 
     stepped true t next h = h
 
     -- what was carried out and received is what the source's call leaves
-    pub goes_on : (refused : Bool) (store' : Store) (pending' : Option ℕ) (g : Given) (after : Activation) (answer : Answer) → (free : trap_of_call w.classes shared s called.target called.f called.args ≡ None)
+    pub goes_on : (refused : Bool) (store' : Store) (pending' : Option ℕ) (frames : Vec Frame) (g : Given) (after : Activation) (answer : Answer) → (free : trap_of_call w.classes shared s called.target called.f called.args ≡ None)
         → IsAnswer w.classes store.heap (prototype called.f).result shared s answer (call_effect w.classes lent k shared s called.args called.f)
-        → CarriesOut p w store.heap (prototype called.f).result shared s (call_effect w.classes lent k shared s called.args called.f) refused store' pending' g
-        → Receives function.target (prototype called.f).result g call after
+        → CarriesOut p w store.heap (prototype called.f).result shared s (call_effect w.classes lent k shared s called.args called.f) refused store' pending' frames.items g
+        → Receives function.target (prototype called.f).result g (record call { frames = frames }) after
         → GoesOn p w store.heap store' lent k shared s rest after pending' (effect_of (sight_of shared s) task) refused event.Quiet
-    goes_on refused store' pending' g after answer free does carried received =
+    goes_on refused store' pending' frames g after answer free does carried received =
         let effect = call_effect w.classes lent k shared s called.args called.f in
         let next = shared_after w.classes refused shared effect in
+        let left = frames_left refused s effect in
         let q = pending_after w.classes refused shared s effect in
         let c = result_after (prototype called.f).result refused effect in
-        let ends = finishes p w store.heap store'.heap shared next carried.keeps s h.viewless call h.code task rest r called.line called.f called.args q g c carried.given_agrees function h.at called.left after function.target called.target called.goes received in
+        let ends = finishes p w store.heap store'.heap shared next carried.keeps s h.viewless call h.code task rest r called.line called.f called.args frames left carried.frames_agree q g c carried.given_agrees function h.at called.left after function.target called.target called.goes received in
         let steps = step_leaves w.classes lent k shared s called.line called.target called.f called.args rest refused effect (effect_is free lent k) (stays_with w.classes store.heap (prototype called.f).result shared s answer effect does) carried.could_refuse in
         subst (λ (e : Effect). GoesOn p w store.heap store' lent k shared s rest after pending' e refused event.Quiet) (sym called.is) (record {
           next_shared = next;
-          next = going called.line called.f called.args rest s q c ends.variables;
-          steps = stepped refused (going called.line called.f called.args rest s q c ends.variables) next (steps ∙ ends.steps);
+          next = going called.line called.f called.args rest s left q c ends.variables;
+          steps = stepped refused (going called.line called.f called.args rest s left q c ends.variables) next (steps ∙ ends.steps);
           store_agrees = carried.store_agrees;
           keeps = carried.keeps;
           work = ends.stands;

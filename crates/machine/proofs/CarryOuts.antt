@@ -1,15 +1,17 @@
 -- What is carried out is what the source's call leaves.
-use Rattle.std.proofs.Common.{◌≡◌, ℕ, zero, suc, ◌<◌, Bool, true, false, List, [], ◌∷◌, ◌++◌, length, Option, Some, refl, sym, ap, subst, arith, append-nil}
-use Rattle.std.specs.Prelude.{slice_get}
+use Rattle.std.proofs.Common.{◌≡◌, ℕ, pos, negsuc, zero, suc, ◌-◌, ◌<◌, ◌^◌, Bool, true, false, List, [], ◌∷◌, ◌++◌, length, Option, Some, refl, sym, ap, ◌∙◌, subst, arith, append-nil}
+use Rattle.std.specs.Prelude.{slice_get, nat_le, if◌then◌else◌}
 use Rattle.std.proofs.lemmas.Option.{slice_get_within}
 use Rattle.classes.specs.Class.{Classes}
 use Rattle.heap.specs.Heap.{Space, with_value}
 use Rattle.heap.specs.declared.value.Value.{Value}
 use Rattle.jni.specs.Prototype.{ResultKind, NewLocal, NewGlobal, GivesFlag, GivesInt, GivesField, GivesNothing, GivesBuffer}
-use Rattle.source.specs.CallEffects.{NoResult, ReferenceResult, CallEffect, out_of_memory}
+use Rattle.source.specs.CallEffects.{Leaves, NoResult, ReferenceResult, ScalarResult, CallEffect, out_of_memory, refuses_frames, with_capacity}
 use Rattle.source.specs.CallStep.{failure, makes_objects}
 use Rattle.source.specs.Heap.{Heap, next_name}
+use Rattle.source.specs.Thread as source
 use Rattle.source.specs.Thread.{Shared, Thread}
+use Rattle.source.specs.Value.{Int}
 use Rattle.source.specs.World.{World, fresh_object, loaded_objects}
 use Rattle.world.proofs.LoadedWorlds.{loaded_error}
 use Rattle.lower.specs.Lowered.{Lowered}
@@ -21,11 +23,14 @@ use Rattle.machine.specs.declared.store.Store.{Store}
 use Rattle.machine.specs.Agrees.{StoreAgrees, Keeps}
 use Rattle.machine.specs.Answers.{GivenAgrees, IsAnswer}
 use Rattle.machine.specs.CarriedOut.{CarriesOut, IsPossible, can_fail, failed}
+use Rattle.machine.specs.Frames as memory
+use Rattle.machine.specs.Frames.{Frame, can_ensure}
 use Rattle.machine.specs.HeapAgrees.{ReferenceAgrees}
 use Rattle.machine.specs.Made.{HasMade}
 use Rattle.machine.proofs.AnswerCases.{gives_it, makes_it, throws_it, writes_it}
-use Rattle.machine.proofs.Keeping.{keeps_same, reference_stays}
+use Rattle.machine.proofs.Keeping.{frames_stay, keeps_same, reference_stays}
 use Rattle.machine.proofs.Makes as making
+use Rattle.machine.proofs.Receives.{room_ensured, same_capacities}
 use Rattle.machine.proofs.Writes as writing
 
 -- a call that fails gives what it gives in the source
@@ -43,10 +48,10 @@ get_below [] i h = absurd (omega (arith, h))
 get_below (x ∷ xs) zero h = (x, refl)
 get_below (x ∷ xs) (suc i) h = get_below xs i (omega (arith, h))
 
-module _ (p : Lowered) (w : World) (store : Store) (pending : Option ℕ) (kind : ResultKind) (shared : Shared) (s : Thread) (h : IsPossible p w store pending kind shared s) where
-  -- what is left of an effect
+module _ (p : Lowered) (w : World) (store : Store) (pending : Option ℕ) (frames : List Frame) (kind : ResultKind) (shared : Shared) (s : Thread) (h : IsPossible p w store pending frames kind shared s) where
+  -- what is left of an effect, with the frames as they were
   abbrev Carries : CallEffect → Bool → Store → Option ℕ → Given → Type 0
-  Carries effect refused after pending' g = CarriesOut p w store.heap kind shared s effect refused after pending' g
+  Carries effect refused after pending' g = CarriesOut p w store.heap kind shared s effect refused after pending' frames g
 
   -- the OutOfMemoryError object is there
   error_there : ReferenceAgrees store.heap (slice_get store.loaded.items (length w.classes)) (Some (out_of_memory w.classes))
@@ -62,6 +67,7 @@ module _ (p : Lowered) (w : World) (store : Store) (pending : Option ℕ) (kind 
     store_agrees = h.store_agrees;
     keeps = keeps_same store.heap shared;
     pending_agrees = error_there;
+    frames_agree = h.frames_agree;
     given_agrees = failed_agrees w.classes store.heap kind h.fails;
     could_refuse = λ e. makes;
   }
@@ -86,6 +92,7 @@ module _ (p : Lowered) (w : World) (store : Store) (pending : Option ℕ) (kind 
         store_agrees = subst (StoreAgrees p w store) (sym (same_heap shared)) h.store_agrees;
         keeps = subst (Keeps store.heap shared store.heap) (sym (same_heap shared)) (keeps_same store.heap shared);
         pending_agrees = h.pending_agrees;
+        frames_agree = h.frames_agree;
         given_agrees = it.agrees;
         could_refuse = λ e. absurd (cc);
       })
@@ -100,9 +107,48 @@ module _ (p : Lowered) (w : World) (store : Store) (pending : Option ℕ) (kind 
         store_agrees = subst (StoreAgrees p w after) (sym (same_heap it.after)) agrees;
         keeps = subst (Keeps store.heap shared after.heap) (sym (same_heap it.after)) keeps;
         pending_agrees = reference_stays store.heap after.heap keeps.names pending s.pending h.pending_agrees;
+        frames_agree = frames_stay store.heap after.heap keeps.names frames s.frames h.frames_agree;
         given_agrees = subst (λ (k : ResultKind). GivenAgrees w.classes after.heap k given.Nothing NoResult) (sym it.kind_is) tt;
         could_refuse = λ e. absurd (cc);
       })
+
+  -- the frames can't have more room
+  no_room : kind ≡ GivesInt → (effect : CallEffect) → effect ≡ refuses_frames w.classes shared s → Carries effect false store (slice_get store.loaded.items (length w.classes)) (given.Number (2 ^ 32 - 4))
+  no_room int effect is =
+      subst (λ (e : CallEffect). Carries e false store (slice_get store.loaded.items (length w.classes)) (given.Number (2 ^ 32 - 4))) (sym is) (record {
+        store_agrees = subst (StoreAgrees p w store) (sym (same_heap shared)) h.store_agrees;
+        keeps = subst (Keeps store.heap shared store.heap) (sym (same_heap shared)) (keeps_same store.heap shared);
+        pending_agrees = error_there;
+        frames_agree = h.frames_agree;
+        given_agrees = subst (λ (k : ResultKind). GivenAgrees w.classes store.heap k (given.Number (2 ^ 32 - 4)) (ScalarResult (Int (negsuc 3)))) (sym int) (refl, record { sfits = omega arith });
+        could_refuse = λ e. absurd (cc);
+      })
+
+  pub refuses_room : (effect : CallEffect) → Does answer.RefusesFrames effect → Carries effect false store (slice_get store.loaded.items (length w.classes)) (given.Number (2 ^ 32 - 4))
+  refuses_room effect does = no_room does.0 effect does.1
+
+  module _ (more : ℕ) (effect : CallEffect) (does : Does (answer.Ensures more) effect) where
+    -- the frames with more room have as many references at most in the source
+    can_is : can_ensure frames more ≡ nat_le (source.capacities (with_capacity more s.frames)) 1024
+    can_is = ap (λ (n : ℕ). nat_le n 1024) (same_capacities store.heap (memory.with_capacity frames more) (with_capacity more s.frames) (room_ensured store.heap frames s.frames more h.frames_agree))
+
+    decided : (b : Bool) → can_ensure frames more ≡ b
+        → effect ≡ (if b then Leaves [] shared (record s { frames = with_capacity more s.frames }) (ScalarResult (Int (pos 0))) else refuses_frames w.classes shared s)
+    decided b is = does.1 ∙ ap (λ (b : Bool). if b then Leaves [] shared (record s { frames = with_capacity more s.frames }) (ScalarResult (Int (pos 0))) else refuses_frames w.classes shared s) (sym can_is ∙ is)
+
+    pub ensures : can_ensure frames more ≡ true → CarriesOut p w store.heap kind shared s effect false store pending (memory.with_capacity frames more) (given.Number 0)
+    ensures can =
+        subst (λ (e : CallEffect). CarriesOut p w store.heap kind shared s e false store pending (memory.with_capacity frames more) (given.Number 0)) (sym (decided true can)) (record {
+          store_agrees = subst (StoreAgrees p w store) (sym (same_heap shared)) h.store_agrees;
+          keeps = subst (Keeps store.heap shared store.heap) (sym (same_heap shared)) (keeps_same store.heap shared);
+          pending_agrees = h.pending_agrees;
+          frames_agree = room_ensured store.heap frames s.frames more h.frames_agree;
+          given_agrees = subst (λ (k : ResultKind). GivenAgrees w.classes store.heap k (given.Number 0) (ScalarResult (Int (pos 0)))) (sym does.0) (refl, record { sfits = omega arith });
+          could_refuse = λ e. absurd (cc);
+        })
+
+    pub ensures_not : can_ensure frames more ≡ false → Carries effect false store (slice_get store.loaded.items (length w.classes)) (given.Number (2 ^ 32 - 4))
+    ensures_not can = no_room does.0 effect (decided false can)
 
   module _ (new : Store) (class a : ℕ) (made : HasMade w.classes store class new a) where
     pub makes : (effect : CallEffect) → Does (answer.Makes class) effect → Carries effect false new pending (given.Reference (Some a))
@@ -112,6 +158,7 @@ module _ (p : Lowered) (w : World) (store : Store) (pending : Option ℕ) (kind 
           store_agrees = making.made_agrees p w store new shared class a h.store_agrees made it.makeable;
           keeps = making.made_keeps p w store new shared class a h.store_agrees made;
           pending_agrees = reference_stays store.heap new.heap (making.names_stay p w store new shared class a h.store_agrees made) pending s.pending h.pending_agrees;
+          frames_agree = frames_stay store.heap new.heap (making.names_stay p w store new shared class a h.store_agrees made) frames s.frames h.frames_agree;
           given_agrees = subst (λ (k : ResultKind). GivenAgrees w.classes new.heap k (given.Reference (Some a)) (ReferenceResult (Some (next_name shared.heap)))) (sym it.kind_is)
               (making.made_named p w store new shared class a h.store_agrees made);
           could_refuse = λ e. absurd (cc);
@@ -124,6 +171,7 @@ module _ (p : Lowered) (w : World) (store : Store) (pending : Option ℕ) (kind 
           store_agrees = making.made_agrees p w store new shared class a h.store_agrees made it.makeable;
           keeps = making.made_keeps p w store new shared class a h.store_agrees made;
           pending_agrees = making.made_named p w store new shared class a h.store_agrees made;
+          frames_agree = frames_stay store.heap new.heap (making.names_stay p w store new shared class a h.store_agrees made) frames s.frames h.frames_agree;
           given_agrees = failed_agrees w.classes new.heap kind h.fails;
           could_refuse = λ e. absurd (cc);
         })

@@ -1,5 +1,6 @@
 -- After a call the machine's call in progress stands for the source's thread.
 use Rattle.std.proofs.Common.{◌≡◌, ℕ, ◌+◌, List, [], ◌++◌, length, Option, Some, None, refl, sym, ap, ◌∙◌, subst}
+use Rattle.std.specs.Global.{Vec}
 use Rattle.std.specs.Prelude.{slice_get, slice_set}
 use Rattle.base.specs.Bytes.{Identifier, lookup}
 use Rattle.classes.specs.Class.{Classes}
@@ -41,33 +42,33 @@ use Rattle.machine.specs.HeapAgrees.{ReferenceAgrees}
 use Rattle.machine.specs.Received.{Receives, fields_with, numbers_with, references_with}
 use Rattle.machine.proofs.Calls.{Ready, depth_behind, slots_of}
 use Rattle.machine.proofs.Changes.{field_by_kind, is_field_set, is_referred, is_set, local_by_kind, scalar_by_kind}
-use Rattle.machine.proofs.Keeping.{frames_stay, references_stay, shows_stay}
+use Rattle.machine.proofs.Keeping.{references_stay, shows_stay}
 use Rattle.machine.proofs.Receives.{IsNoBuffer, field_put, frames_agree, frames_received, no_buffer, nothing_told, received_is, reference_put}
 use Rattle.machine.proofs.Views.{assigned_viewless}
 
 -- ---- the source's thread
 
--- the thread of a call of function f, with this exception pending and this given
-module _ (line : ℕ) (f : JniFunction) (args : List Actual) (rest : List Task) (s : source.Thread) (q : Reference) (c : CallResult) where
+-- the thread of a call of function f, with these frames, this exception pending and this given
+module _ (line : ℕ) (f : JniFunction) (args : List Actual) (rest : List Task) (s : source.Thread) (left : List source.Frame) (q : Reference) (c : CallResult) where
   -- before what was given goes to its target
   abbrev pub resumption : Target → source.Thread
-  resumption target = record (received (prototype f).result c (record s { pending = q })) { tasks = Some (tasks_after line target (is_zero c) ++ rest); variables = tell_copy (variable_given args 1) c s.variables }
+  resumption target = record (received (prototype f).result c (record s { frames = left; pending = q })) { tasks = Some (tasks_after line target (is_zero c) ++ rest); variables = tell_copy (variable_given args 1) c s.variables }
 
   -- and afterwards, with these variables
   abbrev pub going : Variables → source.Thread
-  going vs = record s { tasks = Some rest; variables = vs; frames = frames_received (prototype f).result c s.frames; pending = q }
+  going vs = record s { tasks = Some rest; variables = vs; frames = frames_received (prototype f).result c left; pending = q }
 
   module _ (plain : IsNoBuffer c) where
     resumed_is : (target : Target) → resumption target ≡ record (going s.variables) { tasks = Some (tasks_after line target (is_zero c) ++ rest) }
     resumed_is target =
-        ap (λ (t : source.Thread). let r : source.Thread = record t { tasks = Some (tasks_after line target (is_zero c) ++ rest); variables = tell_copy (variable_given args 1) c s.variables } in r) (received_is (prototype f).result c (record s { pending = q }))
+        ap (λ (t : source.Thread). let r : source.Thread = record t { tasks = Some (tasks_after line target (is_zero c) ++ rest); variables = tell_copy (variable_given args 1) c s.variables } in r) (received_is (prototype f).result c (record s { frames = left; pending = q }))
         ∙ ap (λ (vs : Variables). let r : source.Thread = record (going vs) { tasks = Some (tasks_after line target (is_zero c) ++ rest) } in r) (nothing_told (variable_given args 1) c s.variables plain)
 
     module _ (next : Shared) where
       dropped_is : put Dropped c next (resumption Dropped) ≡ source.Advances next (going s.variables) source.Quiet
       dropped_is = ap (put Dropped c next) (resumed_is Dropped)
 
-      declared_is : (kind : VariableKind) (x : Identifier) (v : Variable) → filled (blank kind (length (frames_received (prototype f).result c s.frames))) c ≡ v
+      declared_is : (kind : VariableKind) (x : Identifier) (v : Variable) → filled (blank kind (length (frames_received (prototype f).result c left))) c ≡ v
           → put (Declared kind x) c next (resumption (Declared kind x)) ≡ source.Advances next (going (assign x v s.variables)) source.Quiet
       declared_is kind x v is = ap (put (Declared kind x) c next) (resumed_is (Declared kind x)) ∙ ap (λ (w : Variable). source.Advances next (going (assign x w s.variables)) source.Quiet) is
 
@@ -155,41 +156,45 @@ field_given classes space (given.Reference a) c h = absurd h
 -- ---- the end of a call
 
 -- the thread goes on with the rest, and the machine's call stands for it
-pub record Finishes (p : Lowered) (w : World) (space : Space) (next : Shared) (line : ℕ) (target : Target) (f : JniFunction) (args : List Actual) (rest : List Task) (s : source.Thread) (q : Reference) (c : CallResult) (after : Activation) : Type 0 where
+pub record Finishes (p : Lowered) (w : World) (space : Space) (next : Shared) (line : ℕ) (target : Target) (f : JniFunction) (args : List Actual) (rest : List Task) (s : source.Thread) (left : List source.Frame) (q : Reference) (c : CallResult) (after : Activation) : Type 0 where
   pub variables : Variables
-  pub steps : put target c next (resumption line f args rest s q c target) ≡ source.Advances next (going line f args rest s q c variables) source.Quiet
-  pub stands : CallStands p w.classes space after (visible_to next (going line f args rest s q c variables)) (frames_received (prototype f).result c s.frames) rest
-  pub viewless : viewed_by (going line f args rest s q c variables) ≡ []
+  pub steps : put target c next (resumption line f args rest s left q c target) ≡ source.Advances next (going line f args rest s left q c variables) source.Quiet
+  pub stands : CallStands p w.classes space after (visible_to next (going line f args rest s left q c variables)) (frames_received (prototype f).result c left) rest
+  pub viewless : viewed_by (going line f args rest s left q c variables) ≡ []
 
 module _ (p : Lowered) (w : World) (old space : Space) (shared next : Shared) (keeps : Keeps old shared space next) (s : source.Thread) (none : viewed_by s ≡ []) (call : Activation) (code : Listing) (task : Task) (rest : List Task)
-    (r : Ready p w.classes old call code (visible_to shared s) s.frames task rest) (line : ℕ) (f : JniFunction) (args : List Actual) (q : Reference) (g : Given) (c : CallResult) (agrees : GivenAgrees w.classes space (prototype f).result g c)
-    (function : Call) (at : slice_get code.instrs call.place ≡ Some (instr.Call function)) (left : depth_after (instr.Call function) (length call.stack) ≡ Some 0) (after : Activation) where
+    (r : Ready p w.classes old call code (visible_to shared s) s.frames task rest) (line : ℕ) (f : JniFunction) (args : List Actual) (frames : Vec Frame) (left : List source.Frame) (framed : FramesAgree space frames.items left) (q : Reference) (g : Given) (c : CallResult) (agrees : GivenAgrees w.classes space (prototype f).result g c)
+    (function : Call) (at : slice_get code.instrs call.place ≡ Some (instr.Call function)) (none_left : depth_after (instr.Call function) (length call.stack) ≡ Some 0) (after : Activation) where
   abbrev kind : ResultKind
   kind = (prototype f).result
+
+  -- the call with the frames that the effect leaves
+  abbrev pub carried : Activation
+  carried = record call { frames = frames }
 
   plain : IsNoBuffer c
   plain = no_buffer w.classes space kind g c agrees
 
   abbrev then : Variables → source.Thread
-  then vs = going line f args rest s q c vs
+  then vs = going line f args rest s left q c vs
 
   abbrev held : Slots
   held = slots_of call r.references r.fields
 
   abbrev Ends : Target → Type 0
-  Ends target = Finishes p w space next line target f args rest s q c after
+  Ends target = Finishes p w space next line target f args rest s left q c after
 
   same_references : ReferencesAgree space call.references.items r.references
   same_references = references_stay old space keeps.names call.references.items r.references r.agree
 
-  frames_after : (d : Destination) → Receives d kind g call after → FramesAgree space after.frames.items (frames_received kind c s.frames)
+  frames_after : (d : Destination) → Receives d kind g carried after → FramesAgree space after.frames.items (frames_received kind c left)
   frames_after d receives =
-      subst (λ (l : List Frame). FramesAgree space l (frames_received kind c s.frames)) (sym receives.frames)
-      (frames_agree space w.classes kind g c call.frames.items s.frames agrees (frames_stay old space keeps.names call.frames.items s.frames r.frames_agree))
+      subst (λ (l : List Frame). FramesAgree space l (frames_received kind c left)) (sym receives.frames)
+      (frames_agree space w.classes kind g c frames.items left agrees framed)
 
-  stands_after : (d : Destination) → Receives d kind g call after → (names : Known) (vs : Variables) (references : List Reference) (fields : List (Option FieldId)) → ReferencesAgree space after.references.items references → FieldsAgree w.classes after.fields.items fields
+  stands_after : (d : Destination) → Receives d kind g carried after → (names : Known) (vs : Variables) (references : List Reference) (fields : List (Option FieldId)) → ReferencesAgree space after.references.items references → FieldsAgree w.classes after.fields.items fields
       → StandsFor code names (call.place + 1) [] rest → Shows code names (visible_to shared (then vs)) (record { numbers = after.numbers.items; references = references; fields = fields })
-      → CallStands p w.classes space after (visible_to next (then vs)) (frames_received kind c s.frames) rest
+      → CallStands p w.classes space after (visible_to next (then vs)) (frames_received kind c left) rest
   stands_after d receives names vs references fields agree fields_agree stands shows = record {
     code = code;
     of_function = ap (slice_get p.codes) receives.function ∙ r.of_function;
@@ -202,15 +207,15 @@ module _ (p : Lowered) (w : World) (old space : Space) (shared next : Shared) (k
     shows = shows_stay shared next keeps.statics (then vs) code names (record { numbers = after.numbers.items; references = references; fields = fields }) shows;
     depth =
         ap (depth_at code.instrs) receives.place
-        ∙ depth_behind p w.classes old call code (visible_to shared s) s.frames task rest r (instr.Call function) at 0 (λ leaves. leaves) left
+        ∙ depth_behind p w.classes old call code (visible_to shared s) s.frames task rest r (instr.Call function) at 0 (λ leaves. leaves) none_left
         ∙ ap (λ (l : List ℕ). Some (length l)) (sym receives.stack);
     frames_agree = frames_after d receives;
   }
 
   -- ---- a number
 
-  module _ (i : ℕ) (receives : Receives (destination.Number i) kind g call after) (of : Sort) (x : Identifier) (takes : TakesNumber code r.known call.place call.stack held (visible_to shared s) of i x rest) (n : IsNumber g c of) where
-    number_stands : CallStands p w.classes space after (visible_to next (then (assign x (Scalar n.value) s.variables))) (frames_received kind c s.frames) rest
+  module _ (i : ℕ) (receives : Receives (destination.Number i) kind g carried after) (of : Sort) (x : Identifier) (takes : TakesNumber code r.known call.place call.stack held (visible_to shared s) of i x rest) (n : IsNumber g c of) where
+    number_stands : CallStands p w.classes space after (visible_to next (then (assign x (Scalar n.value) s.variables))) (frames_received kind c left) rest
     number_stands =
         let vs = assign x (Scalar n.value) s.variables in
         let numbers : after.numbers.items ≡ slice_set call.numbers.items i (word_of n.value) = receives.numbers ∙ ap (λ (h : Given). numbers_with (destination.Number i) h call.numbers.items) n.same in
@@ -222,10 +227,10 @@ module _ (p : Lowered) (w : World) (old space : Space) (shared next : Shared) (k
     number_viewless : viewed_by (then (assign x (Scalar n.value) s.variables)) ≡ []
     number_viewless = assigned_viewless x (Scalar n.value) s.variables refl none
 
-  number_finishes : (i : ℕ) (target : Target) → Receives (destination.Number i) kind g call after → (of : Sort) → IsNumber g c of → GoesInto code r.known call.place call.stack held (visible_to shared s) ScalarKind target (λ x. TakesNumber code r.known call.place call.stack held (visible_to shared s) of i x rest) → Ends target
+  number_finishes : (i : ℕ) (target : Target) → Receives (destination.Number i) kind g carried after → (of : Sort) → IsNumber g c of → GoesInto code r.known call.place call.stack held (visible_to shared s) ScalarKind target (λ x. TakesNumber code r.known call.place call.stack held (visible_to shared s) of i x rest) → Ends target
   number_finishes i (Declared declared x) receives of n goes = record {
     variables = assign x (Scalar n.value) s.variables;
-    steps = declared_is line f args rest s q c plain next declared x (Scalar n.value) (ap (λ (k : VariableKind). filled (blank k (length (frames_received kind c s.frames))) c) goes.0 ∙ ap (filled (blank ScalarKind 0)) n.gave);
+    steps = declared_is line f args rest s left q c plain next declared x (Scalar n.value) (ap (λ (k : VariableKind). filled (blank k (length (frames_received kind c left))) c) goes.0 ∙ ap (filled (blank ScalarKind 0)) n.gave);
     stands = number_stands i receives of x goes.1 n;
     viewless = number_viewless i receives of x goes.1 n;
   }
@@ -233,7 +238,7 @@ module _ (p : Lowered) (w : World) (old space : Space) (shared next : Shared) (k
       let old = scalar_by_kind (lookup x s.variables) goes.0 in
       record {
         variables = assign x (Scalar n.value) s.variables;
-        steps = assigned_is line f args rest s q c plain next x (Scalar old.0) (Scalar n.value) old.1 (ap (filled (Scalar old.0)) n.gave);
+        steps = assigned_is line f args rest s left q c plain next x (Scalar old.0) (Scalar n.value) old.1 (ap (filled (Scalar old.0)) n.gave);
         stands = number_stands i receives of x goes.1 n;
         viewless = number_viewless i receives of x goes.1 n;
       }
@@ -242,8 +247,8 @@ module _ (p : Lowered) (w : World) (old space : Space) (shared next : Shared) (k
 
   -- ---- a reference
 
-  module _ (i : ℕ) (receives : Receives (destination.Local i) kind g call after) (x : Identifier) (takes : TakesReference code r.known call.place call.stack held (visible_to shared s) i x rest) (n : IsReference space g c) (level : ℕ) where
-    reference_stands : CallStands p w.classes space after (visible_to next (then (assign x (LocalRef level n.reference) s.variables))) (frames_received kind c s.frames) rest
+  module _ (i : ℕ) (receives : Receives (destination.Local i) kind g carried after) (x : Identifier) (takes : TakesReference code r.known call.place call.stack held (visible_to shared s) i x rest) (n : IsReference space g c) (level : ℕ) where
+    reference_stands : CallStands p w.classes space after (visible_to next (then (assign x (LocalRef level n.reference) s.variables))) (frames_received kind c left) rest
     reference_stands =
         let vs = assign x (LocalRef level n.reference) s.variables in
         let references : after.references.items ≡ slice_set call.references.items i n.address = receives.references ∙ ap (λ (h : Given). references_with (destination.Local i) h call.references.items) n.same in
@@ -256,12 +261,12 @@ module _ (p : Lowered) (w : World) (old space : Space) (shared next : Shared) (k
     reference_viewless : viewed_by (then (assign x (LocalRef level n.reference) s.variables)) ≡ []
     reference_viewless = assigned_viewless x (LocalRef level n.reference) s.variables refl none
 
-  reference_finishes : (i : ℕ) (target : Target) → Receives (destination.Local i) kind g call after → IsReference space g c → GoesInto code r.known call.place call.stack held (visible_to shared s) ReferenceKind target (λ x. TakesReference code r.known call.place call.stack held (visible_to shared s) i x rest) → Ends target
+  reference_finishes : (i : ℕ) (target : Target) → Receives (destination.Local i) kind g carried after → IsReference space g c → GoesInto code r.known call.place call.stack held (visible_to shared s) ReferenceKind target (λ x. TakesReference code r.known call.place call.stack held (visible_to shared s) i x rest) → Ends target
   reference_finishes i (Declared declared x) receives n goes =
-      let level = length (frames_received kind c s.frames) in
+      let level = length (frames_received kind c left) in
       record {
         variables = assign x (LocalRef level n.reference) s.variables;
-        steps = declared_is line f args rest s q c plain next declared x (LocalRef level n.reference) (ap (λ (k : VariableKind). filled (blank k level) c) goes.0 ∙ n.fills level None);
+        steps = declared_is line f args rest s left q c plain next declared x (LocalRef level n.reference) (ap (λ (k : VariableKind). filled (blank k level) c) goes.0 ∙ n.fills level None);
         stands = reference_stands i receives x goes.1 n level;
         viewless = reference_viewless i receives x goes.1 n level;
       }
@@ -269,7 +274,7 @@ module _ (p : Lowered) (w : World) (old space : Space) (shared next : Shared) (k
       let old = local_by_kind (lookup x s.variables) goes.0 in
       record {
         variables = assign x (LocalRef old.0 n.reference) s.variables;
-        steps = assigned_is line f args rest s q c plain next x (LocalRef old.0 old.1) (LocalRef old.0 n.reference) old.2 (n.fills old.0 old.1);
+        steps = assigned_is line f args rest s left q c plain next x (LocalRef old.0 old.1) (LocalRef old.0 n.reference) old.2 (n.fills old.0 old.1);
         stands = reference_stands i receives x goes.1 n old.0;
         viewless = reference_viewless i receives x goes.1 n old.0;
       }
@@ -278,8 +283,8 @@ module _ (p : Lowered) (w : World) (old space : Space) (shared next : Shared) (k
 
   -- ---- a field ID
 
-  module _ (i : ℕ) (receives : Receives (destination.FieldId i) kind g call after) (x : Identifier) (takes : TakesField code r.known call.place call.stack held (visible_to shared s) i x rest) (n : IsField w.classes g c) where
-    field_stands : CallStands p w.classes space after (visible_to next (then (assign x (FieldHandle n.field) s.variables))) (frames_received kind c s.frames) rest
+  module _ (i : ℕ) (receives : Receives (destination.FieldId i) kind g carried after) (x : Identifier) (takes : TakesField code r.known call.place call.stack held (visible_to shared s) i x rest) (n : IsField w.classes g c) where
+    field_stands : CallStands p w.classes space after (visible_to next (then (assign x (FieldHandle n.field) s.variables))) (frames_received kind c left) rest
     field_stands =
         let vs = assign x (FieldHandle n.field) s.variables in
         let fields : after.fields.items ≡ slice_set call.fields.items i n.handle = receives.fields ∙ ap (λ (h : Given). fields_with (destination.FieldId i) h call.fields.items) n.same in
@@ -291,10 +296,10 @@ module _ (p : Lowered) (w : World) (old space : Space) (shared next : Shared) (k
     field_viewless : viewed_by (then (assign x (FieldHandle n.field) s.variables)) ≡ []
     field_viewless = assigned_viewless x (FieldHandle n.field) s.variables refl none
 
-  field_finishes : (i : ℕ) (target : Target) → Receives (destination.FieldId i) kind g call after → IsField w.classes g c → GoesInto code r.known call.place call.stack held (visible_to shared s) FieldKind target (λ x. TakesField code r.known call.place call.stack held (visible_to shared s) i x rest) → Ends target
+  field_finishes : (i : ℕ) (target : Target) → Receives (destination.FieldId i) kind g carried after → IsField w.classes g c → GoesInto code r.known call.place call.stack held (visible_to shared s) FieldKind target (λ x. TakesField code r.known call.place call.stack held (visible_to shared s) i x rest) → Ends target
   field_finishes i (Declared declared x) receives n goes = record {
     variables = assign x (FieldHandle n.field) s.variables;
-    steps = declared_is line f args rest s q c plain next declared x (FieldHandle n.field) (ap (λ (k : VariableKind). filled (blank k (length (frames_received kind c s.frames))) c) goes.0 ∙ n.fills None);
+    steps = declared_is line f args rest s left q c plain next declared x (FieldHandle n.field) (ap (λ (k : VariableKind). filled (blank k (length (frames_received kind c left))) c) goes.0 ∙ n.fills None);
     stands = field_stands i receives x goes.1 n;
     viewless = field_viewless i receives x goes.1 n;
   }
@@ -302,7 +307,7 @@ module _ (p : Lowered) (w : World) (old space : Space) (shared next : Shared) (k
       let old = field_by_kind (lookup x s.variables) goes.0 in
       record {
         variables = assign x (FieldHandle n.field) s.variables;
-        steps = assigned_is line f args rest s q c plain next x (FieldHandle old.0) (FieldHandle n.field) old.1 (n.fills old.0);
+        steps = assigned_is line f args rest s left q c plain next x (FieldHandle old.0) (FieldHandle n.field) old.1 (n.fills old.0);
         stands = field_stands i receives x goes.1 n;
         viewless = field_viewless i receives x goes.1 n;
       }
@@ -311,7 +316,7 @@ module _ (p : Lowered) (w : World) (old space : Space) (shared next : Shared) (k
 
   -- ---- by where it goes
 
-  pub finishes : (d : Destination) (target : Target) → TakesResult code r.known call.place call.stack held (visible_to shared s) d kind target rest → Receives d kind g call after → Ends target
+  pub finishes : (d : Destination) (target : Target) → TakesResult code r.known call.place call.stack held (visible_to shared s) d kind target rest → Receives d kind g carried after → Ends target
   finishes (destination.Number i) target goes receives = number_finishes i target receives goes.0 (number_given w.classes space kind g c goes.0 agrees goes.1) goes.2
   finishes (destination.Local i) target goes receives =
       reference_finishes i target receives (reference_given w.classes space g c (subst (λ (k : ResultKind). GivenAgrees w.classes space k g c) goes.0 agrees)) goes.1
@@ -320,7 +325,7 @@ module _ (p : Lowered) (w : World) (old space : Space) (shared next : Shared) (k
   finishes destination.Dropped target goes receives =
       subst Ends (sym goes.0) (record {
         variables = s.variables;
-        steps = dropped_is line f args rest s q c plain next;
+        steps = dropped_is line f args rest s left q c plain next;
         stands = stands_after destination.Dropped receives r.known s.variables r.references r.fields (subst (λ (l : List (Option ℕ)). ReferencesAgree space l r.references) (sym receives.references) same_references)
             (subst (λ (l : List (Option Handle)). FieldsAgree w.classes l r.fields) (sym receives.fields) r.fields_agree) goes.1
             (subst (λ (l : List ℕ). Shows code r.known (visible_to shared (then s.variables)) (record { numbers = l; references = r.references; fields = r.fields })) (sym receives.numbers) r.shows);

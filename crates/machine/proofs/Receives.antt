@@ -1,15 +1,17 @@
 -- What a call in progress has received is what the source's thread has.
-use Rattle.std.proofs.Common.{◌≡◌, ℕ, zero, suc, List, [], ◌∷◌, ◌++◌, reverse, Option, Some, None, refl, sym, ap, ◌∙◌, subst}
+use Rattle.std.proofs.Common.{◌≡◌, ℕ, zero, suc, ◌+◌, max, length, List, [], ◌∷◌, ◌++◌, reverse, Option, Some, None, refl, sym, ap, ◌∙◌, subst}
 use Rattle.std.specs.Prelude.{slice_set}
 use Rattle.std.specs.List.{AllZip}
+use Rattle.std.proofs.Math.ListN.{length-reverse}
 use Rattle.std.proofs.lemmas.List.{reverse-append}
+use Rattle.std.proofs.lemmas.List.Sums.{sum_by-cons}
 use Rattle.base.specs.Bytes.{Identifier}
 use Rattle.classes.specs.Class.{Classes}
 use Rattle.classes.specs.Fields.{FieldId}
 use Rattle.class_table.specs.declared.class.FieldHandle.{FieldHandle}
 use Rattle.heap.specs.Heap.{Space, name_at}
 use Rattle.jni.specs.Prototype.{ResultKind, NewLocal, NewGlobal, GivesFlag, GivesInt, GivesField, GivesNothing, GivesBuffer}
-use Rattle.source.specs.CallEffects.{CallResult, NoResult, NullResult, ScalarResult, ReferenceResult, FieldResult, BufferResult, with_local}
+use Rattle.source.specs.CallEffects.{CallResult, NoResult, NullResult, ScalarResult, ReferenceResult, FieldResult, BufferResult, with_capacity, with_local}
 use Rattle.source.specs.CallStep.{received, tell_copy}
 use Rattle.source.specs.Object.{Reference}
 use Rattle.source.specs.Thread as source
@@ -22,6 +24,7 @@ use Rattle.machine.specs.Frames as memory
 use Rattle.machine.specs.Frames.{Frame}
 use Rattle.machine.specs.HeapAgrees.{NamesAgree, ReferenceAgrees}
 use Rattle.machine.specs.Received.{frames_with}
+use Rattle.machine.proofs.Frames.{capacities_back}
 
 -- ---- no buffers
 
@@ -92,39 +95,78 @@ received_is GivesField c t = refl
 received_is GivesNothing c t = refl
 received_is (GivesBuffer a) c t = refl
 
--- the last of frames in memory is the first of the source's
-record Last (frames : List Frame) (a : ℕ) : Type 0 where
+-- the last of frames in memory, which changes, is the first of the source's
+record Last (change : Frame → Frame) (frames : List Frame) : Type 0 where
   pub frame : Frame
   pub below : List Frame
   pub is : reverse frames ≡ frame ∷ below
-  pub with_it : reverse (memory.with_local frames a) ≡ memory.with_reference frame a ∷ below
+  pub with_it : reverse (memory.with_last change frames) ≡ change frame ∷ below
 
-last_of : (f : Frame) (frames : List Frame) (a : ℕ) → Last (f ∷ frames) a
-last_of f [] a = record { frame = f; below = []; is = refl; with_it = refl }
-last_of f (g ∷ frames) a =
-    let later = last_of g frames a in
+last_of : (change : Frame → Frame) (f : Frame) (frames : List Frame) → Last change (f ∷ frames)
+last_of change f [] = record { frame = f; below = []; is = refl; with_it = refl }
+last_of change f (g ∷ frames) =
+    let later = last_of change g frames in
     record {
       frame = later.frame;
       below = later.below ++ f ∷ [];
       is = reverse-append (f ∷ []) (g ∷ frames) ∙ ap (λ (l : List Frame). l ++ f ∷ []) later.is;
-      with_it = reverse-append (f ∷ []) (memory.with_local (g ∷ frames) a) ∙ ap (λ (l : List Frame). l ++ f ∷ []) later.with_it;
+      with_it = reverse-append (f ∷ []) (memory.with_last change (g ∷ frames)) ∙ ap (λ (l : List Frame). l ++ f ∷ []) later.with_it;
     }
 
 module _ (space : Space) where
   frame_received : (f : Frame) (g : source.Frame) (a n : ℕ) → name_at space a ≡ Some n → FrameAgrees space f g → FrameAgrees space (memory.with_reference f a) (record g { references = n ∷ g.references })
   frame_received f g a n named h = record { capacity = h.capacity; references = subst (λ (l : List ℕ). NamesAgree space l (n ∷ g.references)) (sym (reverse-append f.references (a ∷ []))) (named, h.references) }
 
+  -- what becomes of the current frame in memory and in the source
+  module _ (change : Frame → Frame) (other : List source.Frame → List source.Frame) (none : AllZip (FrameAgrees space) [] (other []))
+      (one : (f : Frame) (below : List Frame) (g : source.Frame) (gs : List source.Frame) → AllZip (FrameAgrees space) (f ∷ below) (g ∷ gs) → AllZip (FrameAgrees space) (change f ∷ below) (other (g ∷ gs))) where
+    current_changed : (frames : List Frame) (gs : List source.Frame) → FramesAgree space frames gs → FramesAgree space (memory.with_last change frames) (other gs)
+    current_changed [] [] h = none
+    current_changed [] (g ∷ gs) h = absurd h
+    current_changed (f ∷ frames) gs h =
+        let last = last_of change f frames in
+        subst (λ (l : List Frame). AllZip (FrameAgrees space) l (other gs)) (sym last.with_it)
+        (by_frames gs last.frame last.below (subst (λ (l : List Frame). AllZip (FrameAgrees space) l gs) last.is h))
+      where
+        by_frames : (gs : List source.Frame) (f : Frame) (below : List Frame) → AllZip (FrameAgrees space) (f ∷ below) gs → AllZip (FrameAgrees space) (change f ∷ below) (other gs)
+        by_frames [] f below h = absurd h
+        by_frames (g ∷ gs) f below h = one f below g gs h
+
   local_received : (frames : List Frame) (gs : List source.Frame) (a n : ℕ) → name_at space a ≡ Some n → FramesAgree space frames gs → FramesAgree space (memory.with_local frames a) (with_local n gs)
-  local_received [] [] a n named h = tt
-  local_received [] (g ∷ gs) a n named h = absurd h
-  local_received (f ∷ frames) gs a n named h =
-      let last = last_of f frames a in
-      subst (λ (l : List Frame). AllZip (FrameAgrees space) l (with_local n gs)) (sym last.with_it)
-      (by_frames gs last (subst (λ (l : List Frame). AllZip (FrameAgrees space) l gs) last.is h))
+  local_received frames gs a n named h = current_changed (λ (f : Frame). memory.with_reference f a) (with_local n) tt (λ f below g gs h. (frame_received f g a n named h.0, h.1)) frames gs h
+
+  -- ---- room
+
+  frame_ensured : (f : Frame) (g : source.Frame) (more : ℕ) → FrameAgrees space f g → FrameAgrees space (memory.with_room f more) (record g { capacity = max g.capacity (length g.references + more) })
+  frame_ensured f g more h = record {
+    capacity = let count : length f.references ≡ length g.references = sym (length-reverse f.references) ∙ names_count (reverse f.references) g.references h.references in (λ i. max (h.capacity i) (count i + more));
+    references = h.references;
+  }
     where
-      by_frames : (gs : List source.Frame) (last : Last (f ∷ frames) a) → AllZip (FrameAgrees space) (last.frame ∷ last.below) gs → AllZip (FrameAgrees space) (memory.with_reference last.frame a ∷ last.below) (with_local n gs)
-      by_frames [] last h = absurd h
-      by_frames (g ∷ gs) last h = (frame_received last.frame g a n named h.0, h.1)
+      names_count : (xs ns : List ℕ) → NamesAgree space xs ns → length xs ≡ length ns
+      names_count [] [] h = refl
+      names_count [] (n ∷ ns) h = absurd h
+      names_count (x ∷ xs) [] h = absurd h
+      names_count (x ∷ xs) (n ∷ ns) h = ap suc (names_count xs ns h.1)
+
+  -- room in the current frame
+  pub room_ensured : (frames : List Frame) (gs : List source.Frame) (more : ℕ) → FramesAgree space frames gs → FramesAgree space (memory.with_capacity frames more) (with_capacity more gs)
+  room_ensured frames gs more h = current_changed (λ (f : Frame). memory.with_room f more) (with_capacity more) tt (λ f below g gs h. (frame_ensured f g more h.0, h.1)) frames gs h
+
+  same_sums : (frames : List Frame) (gs : List source.Frame) → AllZip (FrameAgrees space) frames gs → memory.capacities frames ≡ source.capacities gs
+  same_sums [] [] h = refl
+  same_sums [] (g ∷ gs) h = absurd h
+  same_sums (f ∷ frames) [] h = absurd h
+  same_sums (f ∷ frames) (g ∷ gs) h =
+      sum_by-cons (λ (x : Frame). x.capacity) f frames
+      ∙ (λ i. h.0.capacity i + same_sums frames gs h.1 i)
+      ∙ sym (sum_by-cons (λ (x : source.Frame). x.capacity) g gs)
+
+  -- the capacities together
+  pub same_capacities : (frames : List Frame) (gs : List source.Frame) → FramesAgree space frames gs → memory.capacities frames ≡ source.capacities gs
+  same_capacities frames gs h = sym (capacities_back frames) ∙ same_sums (reverse frames) gs h
+
+  -- ---- what was given
 
   -- the frames with what was given
   pub frames_agree : (classes : Classes) (kind : ResultKind) (g : Given) (c : CallResult) (frames : List Frame) (gs : List source.Frame) → GivenAgrees classes space kind g c → FramesAgree space frames gs → FramesAgree space (frames_with kind g frames) (frames_received kind c gs)

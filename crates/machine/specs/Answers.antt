@@ -6,7 +6,7 @@ use Rattle.classes.specs.Class.{Classes}
 use Rattle.heap.specs.Heap.{Space, name_at, values_at}
 use Rattle.heap.specs.declared.value.Value.{Value}
 use Rattle.jni.specs.Prototype.{ResultKind, NewLocal, GivesFlag, GivesInt, GivesField, GivesNothing}
-use Rattle.source.specs.CallEffects.{CallResult, NoResult, NullResult, ScalarResult, ReferenceResult, FieldResult, CallEffect, Leaves, Throws}
+use Rattle.source.specs.CallEffects.{CallResult, NoResult, NullResult, ScalarResult, ReferenceResult, FieldResult, CallEffect, Leaves, Throws, frames_effect, refuses_frames, with_capacity}
 use Rattle.source.specs.Heap.{next_name, with_value_at}
 use Rattle.source.specs.Object.{ObjectValue}
 use Rattle.source.specs.Thread.{Shared, Thread}
@@ -53,4 +53,6 @@ IsAnswer classes space kind s t (answer.Gives given) (Leaves [] s' t' c) = (s' �
 IsAnswer classes space kind s t (answer.Writes a place v) (Leaves [] s' t' NoResult) = (t' ≡ t) × (kind ≡ GivesNothing) × WritesAt space s s' a place v
 IsAnswer classes space kind s t (answer.Makes c) (Leaves (o ∷ []) s' t' (ReferenceResult r)) =
     (s' ≡ s) × (t' ≡ t) × (kind ≡ NewLocal) × (r ≡ Some (next_name s.heap)) × (o ≡ fresh_object classes c) × IsMakeable classes c
+IsAnswer classes space kind s t (answer.Ensures more) effect = (kind ≡ GivesInt) × (effect ≡ frames_effect classes s t (with_capacity more t.frames))
+IsAnswer classes space kind s t answer.RefusesFrames effect = (kind ≡ GivesInt) × (effect ≡ refuses_frames classes s t)
 IsAnswer classes space kind s t answer effect = ⊥

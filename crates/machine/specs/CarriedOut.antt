@@ -1,5 +1,5 @@
 -- What carrying out an answer leaves, by the effect of the source's call.
-use Rattle.std.specs.Prelude.{◌≡◌, ℕ, ◌-◌, ◌^◌, Bool, true, false, [], ◌∷◌, ◌++◌, Option, Some, None}
+use Rattle.std.specs.Prelude.{◌≡◌, ℕ, ◌-◌, ◌^◌, Bool, true, false, List, [], ◌∷◌, ◌++◌, Option, Some, None}
 use Rattle.classes.specs.Class.{Classes}
 use Rattle.heap.specs.Heap.{Space}
 use Rattle.jni.specs.Prototype.{ResultKind, NewLocal, GivesFlag, GivesInt, GivesField, GivesNothing}
@@ -7,14 +7,16 @@ use Rattle.source.specs.CallEffects.{CallResult, NoResult, CallEffect, Leaves, T
 use Rattle.source.specs.CallStep.{failure, makes_objects}
 use Rattle.source.specs.Heap.{next_name}
 use Rattle.source.specs.Object.{Reference}
+use Rattle.source.specs.Thread as source
 use Rattle.source.specs.Thread.{Shared, Thread}
 use Rattle.source.specs.World.{World, fresh_object}
 use Rattle.lower.specs.Lowered.{Lowered}
 use Rattle.machine.specs.declared.answer.Given.{Given}
 use Rattle.machine.specs.declared.answer.Given.TheVariants as given
 use Rattle.machine.specs.declared.store.Store.{Store}
-use Rattle.machine.specs.Agrees.{StoreAgrees, Keeps}
+use Rattle.machine.specs.Agrees.{StoreAgrees, FramesAgree, Keeps}
 use Rattle.machine.specs.Answers.{GivenAgrees}
+use Rattle.machine.specs.Frames.{Frame}
 use Rattle.machine.specs.HeapAgrees.{ReferenceAgrees}
 
 -- the shared state after a call of this effect, or after the same with its allocation refused
@@ -31,6 +33,13 @@ pending_after classes false s t (Leaves made s' t' given) = t'.pending
 pending_after classes false s t (Throws c) = Some (next_name s.heap)
 pending_after classes false s t (Halts trap) = t.pending
 
+-- the frames of the thread then, before a result is put into them
+abbrev pub frames_left : (refused : Bool) → Thread → CallEffect → List source.Frame
+frames_left true t effect = t.frames
+frames_left false t (Leaves made s' t' given) = t'.frames
+frames_left false t (Throws c) = t.frames
+frames_left false t (Halts trap) = t.frames
+
 -- what a call of this kind of result gives
 abbrev pub result_after : ResultKind → (refused : Bool) → CallEffect → CallResult
 result_after kind true effect = failure kind
@@ -38,12 +47,13 @@ result_after kind false (Leaves made s' t' given) = given
 result_after kind false (Throws c) = failure kind
 result_after kind false (Halts trap) = NoResult
 
--- The store and the exception that is pending are those that the effect leaves, and what is given is what the call gives. Only
--- what makes objects can be refused.
-pub record CarriesOut (p : Lowered) (w : World) (old : Space) (kind : ResultKind) (shared : Shared) (s : Thread) (effect : CallEffect) (refused : Bool) (store : Store) (pending : Option ℕ) (given : Given) : Type 0 where
+-- The store, the frames and the exception that is pending are those that the effect leaves, and what is given is what the call
+-- gives. Only what makes objects can be refused.
+pub record CarriesOut (p : Lowered) (w : World) (old : Space) (kind : ResultKind) (shared : Shared) (s : Thread) (effect : CallEffect) (refused : Bool) (store : Store) (pending : Option ℕ) (frames : List Frame) (given : Given) : Type 0 where
   pub store_agrees : StoreAgrees p w store (shared_after w.classes refused shared effect)
   pub keeps : Keeps old shared store.heap (shared_after w.classes refused shared effect)
   pub pending_agrees : ReferenceAgrees store.heap pending (pending_after w.classes refused shared s effect)
+  pub frames_agree : FramesAgree store.heap frames (frames_left refused s effect)
   pub given_agrees : GivenAgrees w.classes store.heap kind given (result_after kind refused effect)
   pub could_refuse : refused ≡ true → makes_objects effect ≡ true
 
@@ -64,8 +74,10 @@ can_fail GivesFlag = true
 can_fail GivesNothing = true
 can_fail kind = false
 
--- A call of a function of this kind of result can be carried out: the store and the exception that is pending agree with the source's.
-pub record IsPossible (p : Lowered) (w : World) (store : Store) (pending : Option ℕ) (kind : ResultKind) (shared : Shared) (s : Thread) : Type 0 where
+-- A call of a function of this kind of result can be carried out: the store, the exception that is pending and the frames agree with
+-- the source's.
+pub record IsPossible (p : Lowered) (w : World) (store : Store) (pending : Option ℕ) (frames : List Frame) (kind : ResultKind) (shared : Shared) (s : Thread) : Type 0 where
   pub store_agrees : StoreAgrees p w store shared
   pub pending_agrees : ReferenceAgrees store.heap pending s.pending
+  pub frames_agree : FramesAgree store.heap frames s.frames
   pub fails : can_fail kind ≡ true

@@ -1,5 +1,6 @@
 -- What the machine works out of a call, by what is in memory.
-use Rattle.std.specs.Prelude.{◌==◌, ◌≡◌, ℕ, ◌-◌, nat_lt, List, [], ◌∷◌, length, slice_get, unwrap_or, if◌then◌else◌, Option, Some, None}
+use Rattle.std.specs.Prelude.{◌==◌, ◌≡◌, ℕ, ◌-◌, ℤ, pos, negsuc, nat_lt, List, [], ◌∷◌, length, slice_get, unwrap_or, if◌then◌else◌, Option, Some, None}
+use Rattle.std.specs.Int.{w32, cast_signed}
 use Rattle.base.specs.Element.{ElementType}
 use Rattle.classes.specs.BuiltIns.{no_class_def_found_error, no_such_field_error}
 use Rattle.classes.specs.Class.{Classes, assignable, class_named, superclass}
@@ -12,11 +13,11 @@ use Rattle.code_generator.specs.Coding.{element_of}
 use Rattle.heap.specs.Heap.{Space, values_at}
 use Rattle.heap.specs.declared.value.Value.{Value}
 use Rattle.heap.specs.declared.value.Value.TheVariants as value
-use Rattle.jni.specs.JniFunction.{JniFunction, FindClass, GetSuperclass, GetObjectClass, IsInstanceOf, IsAssignableFrom, AllocObject, NewLocalRef, IsSameObject, GetFieldID, GetStaticFieldID, GetField, SetField, GetStaticField, SetStaticField, GetObjectField, SetObjectField, GetStaticObjectField, SetStaticObjectField, GetArrayLength}
+use Rattle.jni.specs.JniFunction.{JniFunction, FindClass, GetSuperclass, GetObjectClass, IsInstanceOf, IsAssignableFrom, AllocObject, NewLocalRef, IsSameObject, EnsureLocalCapacity, GetFieldID, GetStaticFieldID, GetField, SetField, GetStaticField, SetStaticField, GetObjectField, SetObjectField, GetStaticObjectField, SetStaticObjectField, GetArrayLength}
 use Rattle.machine.specs.declared.answer.Given.TheVariants.{Nothing, Number, Reference}
 use Rattle.machine.specs.declared.answer.Given.TheVariants as given
 use Rattle.machine.specs.declared.answer.Answer.{Answer}
-use Rattle.machine.specs.declared.answer.Answer.TheVariants.{Gives, Writes, Makes, Throws}
+use Rattle.machine.specs.declared.answer.Answer.TheVariants.{Gives, Writes, Makes, Throws, Ensures, RefusesFrames}
 use Rattle.machine.specs.Given.{operand_at, operand_of, field_at, class_of_given, name_there, fits_there, field_there}
 
 -- the number of values of the object at an address, and 0 for NULL
@@ -38,6 +39,11 @@ found_class loaded (Some c) = Gives (Reference (class_object loaded (Some c)))
 abbrev pub IsFoundField : Classes → Option FieldId → Answer → Type 0
 IsFoundField classes None answer = answer ≡ Throws no_such_field_error
 IsFoundField classes (Some f) answer = (h : FieldHandle) × (answer ≡ Gives (given.FieldId (Some h))) × (field_of classes h ≡ Some f)
+
+-- room for so many references more, which is refused for a negative number
+abbrev pub room_for : ℤ → Answer
+room_for (pos more) = Ensures more
+room_for (negsuc n) = RefusesFrames
 
 -- ---- cells
 
@@ -122,6 +128,7 @@ module _ (classes : Classes) (space : Space) (loaded : List ℕ) (references : L
   worked_out AllocObject = Makes (name_there space (reference 0))
   worked_out NewLocalRef = Gives (Reference (reference 0))
   worked_out IsSameObject = Gives (Number (truth_word (name_there space (reference 0) == name_there space (reference 1))))
+  worked_out EnsureLocalCapacity = room_for (cast_signed w32 (top_word stack))
   worked_out (GetField T) = Gives (Number (word_in (value_there space (reference 0) place)))
   worked_out (SetField T) = writes_there space (reference 0) place (stored T)
   worked_out GetObjectField = Gives (Reference (address_in (value_there space (reference 0) place)))

@@ -1,6 +1,7 @@
 //! What a function of the JNI does, as data.
 
 ghost use Rattle.std.specs.Prelude.{◌≡◌, ◌<◌, ◌^◌, ℕ, [], Some, None, IsSome, true, false, unwrap_or, slice_get, map};
+ghost use Rattle.std.specs.Int.{cast_signed, w32};
 ghost use Rattle.class_table.specs.FieldViews.{field_of, find_as};
 ghost use Rattle.classes.specs.Fields.{layout, own_statics};
 ghost use Rattle.classes.specs.Grown.{IsGrown};
@@ -11,7 +12,7 @@ ghost use Rattle.heap.specs.Heap.{IsAddress};
 ghost use Rattle.jni.specs.Table.{function_value};
 ghost use Rattle.machine.specs.Checked.{fit_together, is_answered};
 ghost use Rattle.machine.specs.Given.{class_of_given, field_at, field_there, operand_at, operand_of, AreAddresses, AreHandles};
-ghost use Rattle.machine.specs.WorkedOut.{address_in, class_object, count_there, found_class, held_reference, place_there, top_word, value_there, word_in, writes_there, IsFoundField, IsWorkedOut};
+ghost use Rattle.machine.specs.WorkedOut.{address_in, class_object, count_there, found_class, held_reference, place_there, room_for, top_word, value_there, word_in, writes_there, IsFoundField, IsWorkedOut};
 ghost use Rattle.syntax.specs.Views.{element_tree};
 
 use crate::operands::{class_of_given, declaring, fits_there, handle_at, name_there, reference_at};
@@ -45,6 +46,11 @@ pub enum Answer {
     Makes(usize),
     /// An exception of the class of this number is made and is pending.
     Throws(usize),
+    /// The current frame gets room for so many references more, and 0 is given, where the frames can have them; else as
+    /// `RefusesFrames`.
+    Ensures(u32),
+    /// -4 is given, and the OutOfMemoryError object is pending, but nothing is made.
+    RefusesFrames,
 }
 
 /// What a function does, all checks being passed. `loaded` has the addresses of the objects made at load, of which the class
@@ -93,6 +99,7 @@ pub fn work_out(
             let same = name_there(heap, first) == name_there(heap, second);
             Answer::Gives(Given::Number(word_of_truth(same)))
         }
+        JniFunction::EnsureLocalCapacity => room_for(top_word(stack).cast_signed()),
         JniFunction::GetFieldID => {
             find_field(classes, name_there(heap, first), &function.texts, false)
         }
@@ -157,6 +164,17 @@ fn found_class(loaded: &[Addr], class: Option<usize>) -> Answer
     match class {
         Some(class) => Answer::Gives(Given::Reference(class_object(loaded, Some(class)))),
         None => Answer::Throws(NO_CLASS_DEF_FOUND_ERROR),
+    }
+}
+
+/// Room for so many references more in the current frame; it is refused where the number is negative.
+fn room_for(more: i32) -> Answer
+    ensures { result ≡ room_for more }
+{
+    if more < 0 {
+        Answer::RefusesFrames
+    } else {
+        Answer::Ensures(more as u32)
     }
 }
 

@@ -1,14 +1,17 @@
 //! What a call does to the store, and which exception is pending then.
 
-ghost use Rattle.std.specs.Prelude.{◌≡◌, ℕ, length, slice_get, true};
+ghost use Rattle.std.specs.Prelude.{◌≡◌, ◌-◌, ◌^◌, ℕ, length, slice_get, true, false};
 ghost use Rattle.jni.specs.Table.{result_value};
 ghost use Rattle.source.specs.CallEffects.{CallEffect};
 ghost use Rattle.source.specs.Thread.{Shared, Thread as SourceThread};
 ghost use Rattle.lower.specs.Lowered.{Lowered};
 ghost use Rattle.machine.specs.Answers.{IsAnswer};
 ghost use Rattle.machine.specs.CarriedOut.{CarriesOut, IsPossible, failed};
+ghost use Rattle.machine.specs.Received.{HasRoom};
+ghost use Rattle.machine.specs.declared.answer.Given.TheVariants.{Number};
 
 use crate::answer::{Answer, Given};
+use crate::frame::{Frame, ensure_capacity};
 use crate::make::make;
 use crate::store::Store;
 use heap::Addr;
@@ -22,20 +25,22 @@ pub struct Carried {
     pub refused: bool,
 }
 
-/// Does to the store what a function of this kind of result answers. An object or an exception that has no room in the heap is
-/// refused: then the OutOfMemoryError object is pending, and the call fails. It takes no host memory.
+/// Does to the store and to a call's frames what a function of this kind of result answers. An object or an exception that has
+/// no room in the heap is refused: then the OutOfMemoryError object is pending, and the call fails. It takes no host memory.
 pub fn carry_out(
     world: &World,
     store: &mut Store,
     pending: &mut Option<Addr>,
+    frames: &mut Vec<Frame>,
     kind: ResultKind,
     answer: Answer,
 ) -> Carried
-    requires possible { (p : Lowered) × (shared : Shared) × (s : SourceThread) × (effect : CallEffect) × IsPossible p world.now store.old pending.old (result_value kind) shared s
+    requires possible { (p : Lowered) × (shared : Shared) × (s : SourceThread) × (effect : CallEffect) × IsPossible p world.now store.old pending.old frames.old.items (result_value kind) shared s
         × IsAnswer world.now.classes store.old.heap (result_value kind) shared s answer effect }
-    ensures { (p : Lowered) (shared : Shared) (s : SourceThread) (effect : CallEffect) → IsPossible p world.now store.old pending.old (result_value kind) shared s
+    ensures carried { (p : Lowered) (shared : Shared) (s : SourceThread) (effect : CallEffect) → IsPossible p world.now store.old pending.old frames.old.items (result_value kind) shared s
         → IsAnswer world.now.classes store.old.heap (result_value kind) shared s answer effect
-        → CarriesOut p world.now store.old.heap (result_value kind) shared s effect result.refused store.new pending.new result.given }
+        → CarriesOut p world.now store.old.heap (result_value kind) shared s effect result.refused store.new pending.new frames.new.items result.given }
+    ensures room { HasRoom (result_value kind) frames.old.items → HasRoom (result_value kind) frames.new.items }
 {
     // Here the proof takes up what is known of a world.
     let _ = world.threads();
@@ -68,15 +73,45 @@ pub fn carry_out(
             }
             None => refuse(world, store, pending, kind),
         },
+        Answer::Ensures(more) => {
+            if ensure_capacity(frames, more) {
+                Carried {
+                    given: Given::Number(0),
+                    refused: false,
+                }
+            } else {
+                refuse_frames(world, store, pending)
+            }
+        }
+        Answer::RefusesFrames => refuse_frames(world, store, pending),
     }
 }
 
-/// The OutOfMemoryError object, which is made right after the class objects, is pending, and the call fails.
+/// The OutOfMemoryError object, which is made right after the class objects.
+fn out_of_memory(world: &World, store: &Store) -> Option<Addr>
+    ensures { result ≡ slice_get store.now.loaded.items (length world.now.classes) }
+{
+    store.loaded.get(world.classes().len()).copied()
+}
+
+/// The current frame gets no more room: -4, which is `JNI_ENOMEM`, is given, and the OutOfMemoryError object is pending.
+fn refuse_frames(world: &World, store: &Store, pending: &mut Option<Addr>) -> Carried
+    ensures carried { result ≡ record { given = Number (2 ^ 32 - 4); refused = false } }
+    ensures pending { pending.new ≡ slice_get store.now.loaded.items (length world.now.classes) }
+{
+    *pending = out_of_memory(world, store);
+    Carried {
+        given: Given::Number(u32::MAX - 3),
+        refused: false,
+    }
+}
+
+/// The OutOfMemoryError object is pending, and the call fails.
 fn refuse(world: &World, store: &Store, pending: &mut Option<Addr>, kind: ResultKind) -> Carried
     ensures carried { result ≡ record { given = failed (result_value kind); refused = true } }
     ensures pending { pending.new ≡ slice_get store.now.loaded.items (length world.now.classes) }
 {
-    *pending = store.loaded.get(world.classes().len()).copied();
+    *pending = out_of_memory(world, store);
     Carried {
         given: failed(kind),
         refused: true,

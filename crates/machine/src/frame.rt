@@ -1,14 +1,19 @@
 //! Frames of local references.
 
-ghost use Rattle.std.specs.Prelude.{◌≡◌, ◌+◌, ◌<◌, ◌^◌, length, nat_lt, true, IfOk};
-ghost use Rattle.machine.specs.Frames.{has_room, with_local, with_reference};
+ghost use Rattle.std.specs.Prelude.{◌≡◌, ◌+◌, ◌-◌, ◌<◌, ◌≤◌, ◌^◌, min, length, nat_lt, true, IfOk, if◌then◌else◌};
+ghost use Rattle.machine.specs.Frames.{can_ensure, capacities, has_room, most_locals, wanted, with_capacity, with_local, with_reference, with_room};
 
 use heap::Addr;
 use std::alloc::AllocError;
 use std::marker::Model;
 
+/// How many local references the frames of a call may have together, where more are asked for. The JNI leaves this limit to
+/// its implementation.
+const MOST_LOCALS: usize = 1024;
+
 /// Local references of a call, of which there may be at most a number (JNI Specification, chapter 2, "Local and Global
-/// References"). The host memory for all of them is taken when the frame is made.
+/// References"). The host memory for all of them, and for `MOST_LOCALS`, is taken when the frame is made, so that a greater
+/// number takes no more.
 #[derive(Drop)]
 pub struct Frame {
     capacity: usize,
@@ -17,13 +22,13 @@ pub struct Frame {
 
 impl Model for Frame {
     ghost use Rattle.std.specs.Prelude.{◌≤◌, vec_capacity};
-    ghost use Rattle.machine.specs.Frames.{Frame};
+    ghost use Rattle.machine.specs.Frames.{Frame, most_locals};
 
     ghost Value = { Frame };
 
     ghost view = { λ f. record { capacity = f.capacity; references = f.references.items } };
 
-    ghost invariant = { λ f. f.capacity ≤ vec_capacity f.references };
+    ghost invariant = { λ f. (f.capacity ≤ vec_capacity f.references) × (most_locals ≤ vec_capacity f.references) };
 }
 
 impl Frame {
@@ -33,7 +38,7 @@ impl Frame {
         ensures { IfOk result (λ f. f ≡ record { capacity = length references.items + more; references = references.items }) }
     {
         let mut references = references;
-        references.reserve(more)?;
+        references.reserve(more.max(MOST_LOCALS.saturating_sub(references.len())))?;
         Ok(Frame {
             capacity: references.len() + more,
             references,
@@ -52,6 +57,21 @@ impl Frame {
         ensures { result ≡ nat_lt (length self.now.references) self.now.capacity }
     {
         self.references.len() < self.capacity
+    }
+
+    /// The capacity with room for this number of references more.
+    fn wanted(&self, more: u32) -> usize
+        ensures { result ≡ wanted self.now more }
+    {
+        self.capacity.max(self.references.len() + more as usize)
+    }
+
+    /// Makes room for this number of references more. It takes no host memory.
+    fn ensure(&mut self, more: u32)
+        requires { wanted self.old more ≤ most_locals }
+        ensures { self.new ≡ with_room self.old more }
+    {
+        self.capacity = self.wanted(more);
     }
 
     /// Puts a reference.
@@ -80,4 +100,33 @@ pub fn put_local(frames: &mut Vec<Frame>, addr: Addr)
 {
     let last = frames.len() - 1;
     frames[last].put(addr);
+}
+
+/// The capacities of frames together, at most `usize::MAX`.
+fn capacities(frames: &[Frame]) -> usize
+    ensures { result ≡ min (capacities frames.now) (2 ^ 64 - 1) }
+{
+    let mut total: usize = 0;
+    for frame in frames {
+        total = total.saturating_add(frame.capacity);
+    }
+    total
+}
+
+/// Makes room for this number of references more in the current frame, which is the last, if the frames can have them. It takes no
+/// host memory, and a step for each frame.
+pub fn ensure_capacity(frames: &mut Vec<Frame>, more: u32) -> bool
+    ensures possible { result ≡ can_ensure frames.old.items more }
+    ensures frames { frames.new.items ≡ (if can_ensure frames.old.items more then with_capacity frames.old.items more else frames.old.items) }
+{
+    if frames.is_empty() {
+        return true;
+    }
+    let last = frames.len() - 1;
+    let wanted = frames[last].wanted(more);
+    if capacities(&frames[..last]).saturating_add(wanted) > MOST_LOCALS {
+        return false;
+    }
+    frames[last].ensure(more);
+    true
 }

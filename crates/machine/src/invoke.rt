@@ -54,7 +54,7 @@ pub fn invoke(
         function,
     );
     let kind = function.function.prototype().result;
-    let carried = carry_out(world, store, pending, kind, answer);
+    let carried = carry_out(world, store, pending, &mut call.frames, kind, answer);
     receive(call, function.target, kind, &carried.given);
     if carried.refused {
         Executed::Refused

@@ -1,5 +1,5 @@
-use Rattle.std.proofs.Common.{◌≡◌, ℕ, ◌<◌, ◌≤◌, ◌^◌, Option, Some, None, length, true, false, sym, subst, arith}
-use Rattle.std.specs.Prelude.{slice_get}
+use Rattle.std.proofs.Common.{◌≡◌, ℕ, ◌-◌, ◌<◌, ◌≤◌, ◌^◌, Bool, List, Option, Some, None, length, true, false, refl, sym, ap, ◌∙◌, subst, arith}
+use Rattle.std.specs.Prelude.{slice_get, if◌then◌else◌}
 use Rattle.classes.specs.Class.{Classes}
 use Rattle.heap.specs.Heap.{Space}
 use Rattle.jni.specs.Prototype.{ResultKind}
@@ -17,6 +17,7 @@ use Rattle.machine.specs.declared.carry_out.Carried.{Carried}
 use Rattle.machine.specs.declared.store.Store.{Store}
 use Rattle.machine.specs.Answers.{IsAnswer}
 use Rattle.machine.specs.CarriedOut.{CarriesOut, failed}
+use Rattle.machine.specs.Frames.{Frame, can_ensure, with_capacity}
 use Rattle.machine.specs.Made.{HasMade, Makes}
 use Rattle.machine.proofs.AnswerCases.{makes_it, throws_it}
 use Rattle.machine.proofs.CarryOuts as carries
@@ -36,12 +37,12 @@ unchanged : (table : Classes) (old new : Store) (class : ℕ) (o : Option ℕ) �
 unchanged table old new class o made is = (subst (Makes table old class new) is made).0
 
 -- what was refused, told of a store that is as it was
-refused_in : (p : Lowered) (w : World) (space : Space) (kind : ResultKind) (shared : Shared) (s : Thread) (effect : CallEffect) (old new : Store) (pending after : Option ℕ) (carried : Carried) → new ≡ old → after ≡ slice_get new.loaded.items (length w.classes) → carried ≡ record { given = failed kind; refused = true }
-    → CarriesOut p w space kind shared s effect true old (slice_get old.loaded.items (length w.classes)) (failed kind) → CarriesOut p w space kind shared s effect carried.refused new after carried.given
-refused_in p w space kind shared s effect old new pending after carried same is told h =
-    subst (λ (r : Carried). CarriesOut p w space kind shared s effect r.refused new after r.given) (sym told)
-    (subst (λ (o : Option ℕ). CarriesOut p w space kind shared s effect true new o (failed kind)) (sym is)
-    (subst (λ (t : Store). CarriesOut p w space kind shared s effect true t (slice_get t.loaded.items (length w.classes)) (failed kind)) (sym same) h))
+refused_in : (p : Lowered) (w : World) (space : Space) (kind : ResultKind) (shared : Shared) (s : Thread) (effect : CallEffect) (old new : Store) (after : Option ℕ) (frames : List Frame) (carried : Carried) → new ≡ old → after ≡ slice_get new.loaded.items (length w.classes) → carried ≡ record { given = failed kind; refused = true }
+    → CarriesOut p w space kind shared s effect true old (slice_get old.loaded.items (length w.classes)) frames (failed kind) → CarriesOut p w space kind shared s effect carried.refused new after frames carried.given
+refused_in p w space kind shared s effect old new after frames carried same is told h =
+    subst (λ (r : Carried). CarriesOut p w space kind shared s effect r.refused new after frames r.given) (sym told)
+    (subst (λ (o : Option ℕ). CarriesOut p w space kind shared s effect true new o frames (failed kind)) (sym is)
+    (subst (λ (t : Store). CarriesOut p w space kind shared s effect true t (slice_get t.loaded.items (length w.classes)) frames (failed kind)) (sym same) h))
 
 pub make-requires-clause-class : goal.make-requires-clause-class
 make-requires-clause-class c =
@@ -65,50 +66,95 @@ make-requires-in-Throws-clause-class c =
 pub make-requires-in-Throws-clause-few : goal.make-requires-in-Throws-clause-few
 make-requires-in-Throws-clause-few c = few_births c.requires.possible.0 c.args.world.now c.args.store.now c.requires.possible.1 c.requires.possible.4.store_agrees c.threads.ensures.sound.cells
 
-pub returns-in-Writes : goal.returns-in-Writes
-returns-in-Writes c p shared s effect h does =
+pub returns-in-Writes-clause-carried : goal.returns-in-Writes-clause-carried
+returns-in-Writes-clause-carried c p shared s effect h does =
     let w = c.args.world.now in
     let k = result_value c.args.kind in
     let old = c.args.store.now in
     let writes = subst (λ (a : Answer). IsAnswer w.classes old.heap k shared s a effect) c.in-Writes.is does in
-    subst (λ (space : Space). CarriesOut p w old.heap k shared s effect false (record old { heap = space }) c.args.pending.now given.Nothing) (sym c.set.ensures)
-    (carries.writes p w old c.args.pending.now k shared s h c.in-Writes.addr c.in-Writes.place c.in-Writes.value effect writes)
+    subst (λ (space : Space). CarriesOut p w old.heap k shared s effect false (record old { heap = space }) c.args.pending.now c.args.frames.now.items given.Nothing) (sym c.set.ensures)
+    (carries.writes p w old c.args.pending.now c.args.frames.now.items k shared s h c.in-Writes.addr c.in-Writes.place c.in-Writes.value effect writes)
 
-pub returns-in-Some : goal.returns-in-Some
-returns-in-Some c p shared s effect h does =
+pub returns-in-Some-clause-carried : goal.returns-in-Some-clause-carried
+returns-in-Some-clause-carried c p shared s effect h does =
     let w = c.args.world.now in
     let k = result_value c.args.kind in
     let old = c.args.store.now in
     let makes = subst (λ (a : Answer). IsAnswer w.classes old.heap k shared s a effect) c.in-Makes.is does in
-    carries.makes p w old c.args.pending.now k shared s h c.make.new.store c.in-Makes.class c.in-Some.addr
+    carries.makes p w old c.args.pending.now c.args.frames.now.items k shared s h c.make.new.store c.in-Makes.class c.in-Some.addr
     (has_made w.classes c.classes.result.now old c.make.new.store c.in-Makes.class c.in-Some.addr c.make.result c.classes.ensures.classes c.make.ensures c.in-Some.is) effect makes
 
-pub returns-in-None : goal.returns-in-None
-returns-in-None c p shared s effect h does =
+pub returns-in-None-clause-carried : goal.returns-in-None-clause-carried
+returns-in-None-clause-carried c p shared s effect h does =
     let w = c.args.world.now in
     let k = result_value c.args.kind in
     let old = c.args.store.now in
     let makes = subst (λ (a : Answer). IsAnswer w.classes old.heap k shared s a effect) c.in-Makes.is does in
-    refused_in p w old.heap k shared s effect old c.make.new.store c.args.pending.now c.refuse.new.pending c.refuse.result
+    refused_in p w old.heap k shared s effect old c.make.new.store c.refuse.new.pending c.args.frames.now.items c.refuse.result
     (unchanged c.classes.result.now old c.make.new.store c.in-Makes.class c.make.result c.make.ensures c.in-None.is) c.refuse.ensures.pending c.refuse.ensures.carried
-    (carries.refuses_object p w old c.args.pending.now k shared s h c.in-Makes.class effect makes)
+    (carries.refuses_object p w old c.args.pending.now c.args.frames.now.items k shared s h c.in-Makes.class effect makes)
 
-pub returns-in-Some-make : goal.returns-in-Some-make
-returns-in-Some-make c p shared s effect h does =
+pub returns-in-Some-make-clause-carried : goal.returns-in-Some-make-clause-carried
+returns-in-Some-make-clause-carried c p shared s effect h does =
     let w = c.args.world.now in
     let k = result_value c.args.kind in
     let old = c.args.store.now in
     let throws = subst (λ (a : Answer). IsAnswer w.classes old.heap k shared s a effect) c.in-Throws.is does in
-    subst (λ (g : Given). CarriesOut p w old.heap k shared s effect false c.make-in-Throws.new.store (Some c.in-Some-make.addr) g) (sym c.failed.ensures)
-    (carries.throws p w old c.args.pending.now k shared s h c.make-in-Throws.new.store c.in-Throws.class c.in-Some-make.addr
+    subst (λ (g : Given). CarriesOut p w old.heap k shared s effect false c.make-in-Throws.new.store (Some c.in-Some-make.addr) c.args.frames.now.items g) (sym c.failed.ensures)
+    (carries.throws p w old c.args.pending.now c.args.frames.now.items k shared s h c.make-in-Throws.new.store c.in-Throws.class c.in-Some-make.addr
     (has_made w.classes c.classes-in-Throws.result.now old c.make-in-Throws.new.store c.in-Throws.class c.in-Some-make.addr c.make-in-Throws.result c.classes-in-Throws.ensures.classes c.make-in-Throws.ensures c.in-Some-make.is) effect throws)
 
-pub returns-in-None-make : goal.returns-in-None-make
-returns-in-None-make c p shared s effect h does =
+pub returns-in-None-make-clause-carried : goal.returns-in-None-make-clause-carried
+returns-in-None-make-clause-carried c p shared s effect h does =
     let w = c.args.world.now in
     let k = result_value c.args.kind in
     let old = c.args.store.now in
     let throws = subst (λ (a : Answer). IsAnswer w.classes old.heap k shared s a effect) c.in-Throws.is does in
-    refused_in p w old.heap k shared s effect old c.make-in-Throws.new.store c.args.pending.now c.refuse-in-None-make.new.pending c.refuse-in-None-make.result
+    refused_in p w old.heap k shared s effect old c.make-in-Throws.new.store c.refuse-in-None-make.new.pending c.args.frames.now.items c.refuse-in-None-make.result
     (unchanged c.classes-in-Throws.result.now old c.make-in-Throws.new.store c.in-Throws.class c.make-in-Throws.result c.make-in-Throws.ensures c.in-None-make.is) c.refuse-in-None-make.ensures.pending c.refuse-in-None-make.ensures.carried
-    (carries.refuses_exception p w old c.args.pending.now k shared s h c.in-Throws.class effect throws)
+    (carries.refuses_exception p w old c.args.pending.now c.args.frames.now.items k shared s h c.in-Throws.class effect throws)
+
+-- what was told of frames that can't have the room
+told_of_frames : (p : Lowered) (w : World) (space : Space) (kind : ResultKind) (shared : Shared) (s : Thread) (effect : CallEffect) (store : Store) (after : Option ℕ) (frames old : List Frame) (carried : Carried) → frames ≡ old → after ≡ slice_get store.loaded.items (length w.classes)
+    → carried ≡ record { given = given.Number (2 ^ 32 - 4); refused = false }
+    → CarriesOut p w space kind shared s effect false store (slice_get store.loaded.items (length w.classes)) old (given.Number (2 ^ 32 - 4)) → CarriesOut p w space kind shared s effect carried.refused store after frames carried.given
+told_of_frames p w space kind shared s effect store after frames old carried same is told h =
+    subst (λ (r : Carried). CarriesOut p w space kind shared s effect r.refused store after frames r.given) (sym told)
+    (subst (λ (o : Option ℕ). CarriesOut p w space kind shared s effect false store o frames (given.Number (2 ^ 32 - 4))) (sym is)
+    (subst (λ (l : List Frame). CarriesOut p w space kind shared s effect false store (slice_get store.loaded.items (length w.classes)) l (given.Number (2 ^ 32 - 4))) (sym same) h))
+
+pub returns-then-ensure_capacity-clause-carried : goal.returns-then-ensure_capacity-clause-carried
+returns-then-ensure_capacity-clause-carried c p shared s effect h does =
+    let w = c.args.world.now in
+    let k = result_value c.args.kind in
+    let old = c.args.store.now in
+    let frames = c.args.frames.now.items in
+    let more = c.in-Ensures.more in
+    let ensures = subst (λ (a : Answer). IsAnswer w.classes old.heap k shared s a effect) c.in-Ensures.is does in
+    let can : can_ensure frames more ≡ true = sym c.ensure_capacity.ensures.possible ∙ c.if-ensure_capacity.true in
+    let are : c.ensure_capacity.new.frames.items ≡ with_capacity frames more = c.ensure_capacity.ensures.frames ∙ ap (λ (b : Bool). if b then with_capacity frames more else frames) can in
+    subst (λ (l : List Frame). CarriesOut p w old.heap k shared s effect false old c.args.pending.now l (given.Number 0)) (sym are)
+    (carries.ensures p w old c.args.pending.now frames k shared s h more effect ensures can)
+
+pub returns-else-ensure_capacity-clause-carried : goal.returns-else-ensure_capacity-clause-carried
+returns-else-ensure_capacity-clause-carried c p shared s effect h does =
+    let w = c.args.world.now in
+    let k = result_value c.args.kind in
+    let old = c.args.store.now in
+    let frames = c.args.frames.now.items in
+    let more = c.in-Ensures.more in
+    let ensures = subst (λ (a : Answer). IsAnswer w.classes old.heap k shared s a effect) c.in-Ensures.is does in
+    let can : can_ensure frames more ≡ false = sym c.ensure_capacity.ensures.possible ∙ c.if-ensure_capacity.false in
+    let are : c.ensure_capacity.new.frames.items ≡ frames = c.ensure_capacity.ensures.frames ∙ ap (λ (b : Bool). if b then with_capacity frames more else frames) can in
+    told_of_frames p w old.heap k shared s effect old c.refuse_frames.new.pending c.ensure_capacity.new.frames.items frames c.refuse_frames.result are c.refuse_frames.ensures.pending c.refuse_frames.ensures.carried
+    (carries.ensures_not p w old c.args.pending.now frames k shared s h more effect ensures can)
+
+pub returns-in-RefusesFrames-clause-carried : goal.returns-in-RefusesFrames-clause-carried
+returns-in-RefusesFrames-clause-carried c p shared s effect h does =
+    let w = c.args.world.now in
+    let k = result_value c.args.kind in
+    let old = c.args.store.now in
+    let frames = c.args.frames.now.items in
+    let refuses = subst (λ (a : Answer). IsAnswer w.classes old.heap k shared s a effect) c.in-RefusesFrames.is does in
+    told_of_frames p w old.heap k shared s effect old c.refuse_frames-in-RefusesFrames.new.pending frames frames c.refuse_frames-in-RefusesFrames.result refl c.refuse_frames-in-RefusesFrames.ensures.pending c.refuse_frames-in-RefusesFrames.ensures.carried
+    (carries.refuses_room p w old c.args.pending.now frames k shared s h effect refuses)

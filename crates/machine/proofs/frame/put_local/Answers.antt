@@ -18,4 +18,4 @@ returns c =
     let f = c.index_mut.result.now in
     let last : (c.len-last.result - 1) + 1 ≡ length frames = let some = some_frame frames c.requires in omega (arith, some, c.len-last.ensures) in
     ap (slice_set frames (c.len-last.result - 1)) (c.put.ensures ∙ ap (λ (g : Frame). with_reference g c.args.addr) c.index_mut.ensures.value)
-    ∙ set_last frames (c.len-last.result - 1) f c.args.addr last
+    ∙ set_last (λ (g : Frame). with_reference g c.args.addr) frames (c.len-last.result - 1) f last

@@ -84,8 +84,8 @@ module _ (p : Lowered) (w : World) (store : Store) (pending : Option ℕ) (call 
         (subst (λ (l : List ℕ). IsWorkedOut w.classes store.heap l references fields call.stack (call_view function) (function_value function.function) answer) same_loaded
         (subst (λ (t : Classes). IsWorkedOut t store.heap loaded references fields call.stack (call_view function) (function_value function.function) answer) same_classes works))))))
 
-    can_carry : (kind : ResultKind) → kind ≡ (prototype (function_value function.function)).result → IsPossible p w store pending kind shared s
-    can_carry kind same = subst (λ (x : ResultKind). IsPossible p w store pending x shared s) (sym (kind_is kind same)) (possible p w store pending call function shared s task rest h)
+    can_carry : (kind : ResultKind) → kind ≡ (prototype (function_value function.function)).result → IsPossible p w store pending call.frames.items kind shared s
+    can_carry kind same = subst (λ (x : ResultKind). IsPossible p w store pending call.frames.items x shared s) (sym (kind_is kind same)) (possible p w store pending call function shared s task rest h)
 
     framed : (kind : ResultKind) → kind ≡ (prototype (function_value function.function)).result → HasFrame kind call
     framed kind same = subst (λ (x : ResultKind). HasFrame x call) (sym (kind_is kind same)) (has_frame p w store pending call function shared s task rest h free)
@@ -176,7 +176,8 @@ receive-requires-clause-frame c =
     let w = c.args.world.now in
     let found = told a.0 w c.args.store.now c.args.pending.now c.args.call.now c.args.function.now a.1 a.2 a.3 a.4 a.5 c.classes.result.now c.is_some.result c.has_room.result c.deref-2.result.now c.deref-3.result.now c.check-trap.result
     c.classes.ensures.classes c.is_some.ensures (c.has_room.ensures ∙ ap has_room c.deref.ensures.value) c.deref-2.ensures.value c.deref-3.ensures.value c.check-trap.ensures in
-    framed a.0 w c.args.store.now c.args.pending.now c.args.call.now c.args.function.now a.1 a.2 a.3 a.4 a.5 (no_trap c.check-trap.result _ found c.in_default.is) (result_value c.prototype.result.now.result) (ap (λ (x : Facts). x.prototype.result) c.prototype.ensures)
+    c.carry_out-carried.ensures.room
+    (framed a.0 w c.args.store.now c.args.pending.now c.args.call.now c.args.function.now a.1 a.2 a.3 a.4 a.5 (no_trap c.check-trap.result _ found c.in_default.is) (result_value c.prototype.result.now.result) (ap (λ (x : Facts). x.prototype.result) c.prototype.ensures))
 
 pub returns-then-carried : goal.returns-then-carried
 returns-then-carried c p lent k shared s task rest h =
@@ -195,12 +196,12 @@ returns-then-carried c p lent k shared s task rest h =
     let is = kind_is p w store pending call function shared s task rest h kind same in
     let answer = answered p w store pending call function shared s task rest h free c.classes.ensures.sound lent k c.classes-2.result.now c.deref-4.result.now c.deref-5.result.now c.deref-6.result.now kind c.work_out-answer.result
     c.classes-2.ensures.classes c.deref-4.ensures.value c.deref-5.ensures.value c.deref-6.ensures.value same c.work_out-answer.ensures in
-    let carried = c.carry_out-carried.ensures p shared s effect (can_carry p w store pending call function shared s task rest h free kind same) answer in
-    let told_refused = subst (λ (b : Bool). CarriesOut p w store.heap kind shared s effect b c.carry_out-carried.new.store c.carry_out-carried.new.pending c.carry_out-carried.result.given) c.if-carried.true carried in
-    goes_on p w store pending call function shared s task rest h lent k true c.carry_out-carried.new.store c.carry_out-carried.new.pending c.carry_out-carried.result.given c.receive.new.call c.work_out-answer.result free
+    let carried = c.carry_out-carried.ensures.carried p shared s effect (can_carry p w store pending call function shared s task rest h free kind same) answer in
+    let told_refused = subst (λ (b : Bool). CarriesOut p w store.heap kind shared s effect b c.carry_out-carried.new.store c.carry_out-carried.new.pending c.carry_out-carried.new.frames.items c.carry_out-carried.result.given) c.if-carried.true carried in
+    goes_on p w store pending call function shared s task rest h lent k true c.carry_out-carried.new.store c.carry_out-carried.new.pending c.carry_out-carried.new.frames c.carry_out-carried.result.given c.receive.new.call c.work_out-answer.result free
     (subst (λ (x : ResultKind). IsAnswer w.classes store.heap x shared s c.work_out-answer.result effect) is answer)
-    (subst (λ (x : ResultKind). CarriesOut p w store.heap x shared s effect true c.carry_out-carried.new.store c.carry_out-carried.new.pending c.carry_out-carried.result.given) is told_refused)
-    (subst (λ (x : ResultKind). Receives function.target x c.carry_out-carried.result.given call c.receive.new.call) is c.receive.ensures)
+    (subst (λ (x : ResultKind). CarriesOut p w store.heap x shared s effect true c.carry_out-carried.new.store c.carry_out-carried.new.pending c.carry_out-carried.new.frames.items c.carry_out-carried.result.given) is told_refused)
+    (subst (λ (x : ResultKind). Receives function.target x c.carry_out-carried.result.given (record call { frames = c.carry_out-carried.new.frames }) c.receive.new.call) is c.receive.ensures)
 
 pub returns-else-carried : goal.returns-else-carried
 returns-else-carried c p lent k shared s task rest h =
@@ -219,9 +220,9 @@ returns-else-carried c p lent k shared s task rest h =
     let is = kind_is p w store pending call function shared s task rest h kind same in
     let answer = answered p w store pending call function shared s task rest h free c.classes.ensures.sound lent k c.classes-2.result.now c.deref-4.result.now c.deref-5.result.now c.deref-6.result.now kind c.work_out-answer.result
     c.classes-2.ensures.classes c.deref-4.ensures.value c.deref-5.ensures.value c.deref-6.ensures.value same c.work_out-answer.ensures in
-    let carried = c.carry_out-carried.ensures p shared s effect (can_carry p w store pending call function shared s task rest h free kind same) answer in
-    let told_refused = subst (λ (b : Bool). CarriesOut p w store.heap kind shared s effect b c.carry_out-carried.new.store c.carry_out-carried.new.pending c.carry_out-carried.result.given) c.if-carried.false carried in
-    goes_on p w store pending call function shared s task rest h lent k false c.carry_out-carried.new.store c.carry_out-carried.new.pending c.carry_out-carried.result.given c.receive.new.call c.work_out-answer.result free
+    let carried = c.carry_out-carried.ensures.carried p shared s effect (can_carry p w store pending call function shared s task rest h free kind same) answer in
+    let told_refused = subst (λ (b : Bool). CarriesOut p w store.heap kind shared s effect b c.carry_out-carried.new.store c.carry_out-carried.new.pending c.carry_out-carried.new.frames.items c.carry_out-carried.result.given) c.if-carried.false carried in
+    goes_on p w store pending call function shared s task rest h lent k false c.carry_out-carried.new.store c.carry_out-carried.new.pending c.carry_out-carried.new.frames c.carry_out-carried.result.given c.receive.new.call c.work_out-answer.result free
     (subst (λ (x : ResultKind). IsAnswer w.classes store.heap x shared s c.work_out-answer.result effect) is answer)
-    (subst (λ (x : ResultKind). CarriesOut p w store.heap x shared s effect false c.carry_out-carried.new.store c.carry_out-carried.new.pending c.carry_out-carried.result.given) is told_refused)
-    (subst (λ (x : ResultKind). Receives function.target x c.carry_out-carried.result.given call c.receive.new.call) is c.receive.ensures)
+    (subst (λ (x : ResultKind). CarriesOut p w store.heap x shared s effect false c.carry_out-carried.new.store c.carry_out-carried.new.pending c.carry_out-carried.new.frames.items c.carry_out-carried.result.given) is told_refused)
+    (subst (λ (x : ResultKind). Receives function.target x c.carry_out-carried.result.given (record call { frames = c.carry_out-carried.new.frames }) c.receive.new.call) is c.receive.ensures)
