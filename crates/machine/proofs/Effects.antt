@@ -143,7 +143,7 @@ has_slot addresses handles slots (nullable.Static i) count held h = tt
 has_slot addresses handles slots (nullable.FieldId i) count held h = let below : i < slots.field_ids = ltb-true i slots.field_ids h in omega (arith, below, held)
 has_slot addresses handles slots (nullable.Buffer i) count held h = tt
 
--- one word more than so many
+-- one word more than this number
 one_more : (n : ℕ) → IsSome (depth_after (instr.Push 0) n) → depth_after (instr.Push 0) n ≡ Some (suc n)
 one_more n h = by_test (nat_lt n 64) h
   where

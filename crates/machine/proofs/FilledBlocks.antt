@@ -20,7 +20,7 @@ use Rattle.machine.proofs.LoadLemmas.{in_range}
 
 -- ---- cells
 
--- cells of which the first so many hold these values, and the others NULL
+-- cells of which the first, this number of them, hold these values, and the others NULL
 abbrev pub cells_so_far : List Value → ℕ → List Value
 cells_so_far [] i = []
 cells_so_far (v ∷ vs) zero = Null ∷ cells_so_far vs zero

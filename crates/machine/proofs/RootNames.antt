@@ -28,7 +28,7 @@ drop_at (y ∷ xs) (suc k) x h e = let next : suc k + 1 ≡ suc (k + 1) = omega 
 reverse_front : {X : Type 0} (x : X) (xs : List X) → reverse (x ∷ xs) ≡ reverse xs ++ x ∷ []
 reverse_front x xs = reverse-append (x ∷ []) xs
 
--- so many of the last ones are done
+-- this number of the last ones is done
 pub nothing_back : {X : Type 0} (xs : List X) → drop (length xs - 0) xs ≡ []
 nothing_back xs = drop_all (length xs - 0) xs (omega arith)
 

@@ -57,7 +57,7 @@ event_view (Trapped trap line) = source.Trapped (trap_view trap) line
 
 -- ---- calls
 
--- A call to come, where so many objects were made at load. A function's number is its place among the unit's functions.
+-- A call to come, where this number of objects were made at load. A function's number is its place among the unit's functions.
 pub record CallAgrees (p : Lowered) (classes : Classes) (made : ℕ) (next : PendingCall) (call : Invocation) : Type 0 where
   pub function : Function
   pub named : function_at (unit_tree p.unit) call.function ≡ Some function
@@ -155,7 +155,7 @@ WorkAgrees p classes space visible None frames (Some tasks) = ⊥
 WorkAgrees p classes space visible (Some call) frames None = ⊥
 WorkAgrees p classes space visible (Some call) frames (Some tasks) = CallStands p classes space call visible frames tasks
 
--- a thread stands for one of the source, with this heap, where so many objects were made at load
+-- a thread stands for one of the source, with this heap, where this number of objects were made at load
 pub record ThreadAgrees (p : Lowered) (classes : Classes) (space : Space) (made : ℕ) (shared : Shared) (t : Thread) (s : source.Thread) : Type 0 where
   pub calls : CallsAgree p classes made t.calls.items s.calls
   pub work : WorkAgrees p classes space (visible_to shared s) t.call s.frames s.tasks

@@ -23,13 +23,13 @@ named_address loaded (Number z) = None
 named_address loaded (Refers None) = None
 named_address loaded (Refers (Some n)) = Some (slice_get loaded (n - 1))
 
--- so many slots, the first of which hold the numbers among the arguments
+-- this number of slots, the first of which hold the numbers among the arguments
 pub record IsNumbersOf (count : ℕ) (arguments : List ObjectValue) (slots : List ℕ) : Type 0 where
   pub counted : length slots ≡ count
   pub more : List ℕ
   pub given : slots ≡ filter_map argument_word arguments ++ more
 
--- so many slots, the first of which hold the class and the references among the arguments; the others hold NULL
+-- this number of slots, the first of which hold the class and the references among the arguments; the others hold NULL
 pub record IsReferencesOf (count : ℕ) (loaded : List ℕ) (class : ℕ) (arguments : List ObjectValue) (slots : List (Option ℕ)) : Type 0 where
   pub counted : length slots ≡ count
   pub more : ℕ
@@ -58,7 +58,7 @@ pub record Begins (p : Lowered) (loaded : List ℕ) (next : PendingCall) (call :
   pub of_function : slice_get p.codes next.function ≡ Some code
   pub begins : BeginsIn code loaded next call
 
--- the class and the arguments of a call are among so many objects, and its code has room for them
+-- the class and the arguments of a call are among this number of objects, and its code has room for them
 pub record IsReady (p : Lowered) (made : ℕ) (next : PendingCall) : Type 0 where
   pub class : (0 < next.class) × (next.class ≤ made)
   pub given : IsTrue (list_all (is_argument made) (map object_value_view next.arguments.items))

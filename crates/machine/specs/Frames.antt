@@ -10,7 +10,7 @@ pub record Frame : Type 0 where
 abbrev pub with_reference : Frame → ℕ → Frame
 with_reference f a = record f { references = f.references ++ a ∷ [] }
 
--- the capacity that a frame has with room for so many references more
+-- the capacity that a frame has with room for this number of references more
 abbrev pub wanted : Frame → (more : ℕ) → ℕ
 wanted f more = max f.capacity (length f.references + more)
 
@@ -34,7 +34,7 @@ with_last change (f ∷ g ∷ rest) = f ∷ with_last change (g ∷ rest)
 abbrev pub with_local : List Frame → ℕ → List Frame
 with_local frames a = with_last (λ (f : Frame). with_reference f a) frames
 
--- the frames with room for so many references more in the last
+-- the frames with room for this number of references more in the last
 abbrev pub with_capacity : List Frame → (more : ℕ) → List Frame
 with_capacity frames more = with_last (λ (f : Frame). with_room f more) frames
 
@@ -46,6 +46,6 @@ capacities frames = sum_by (λ (f : Frame). f.capacity) frames
 abbrev pub most_locals : ℕ
 most_locals = 1024
 
--- the frames with so much room can be had
+-- the frames with this much room can be had
 abbrev pub can_ensure : List Frame → (more : ℕ) → Bool
 can_ensure frames more = nat_le (capacities (with_capacity frames more)) most_locals

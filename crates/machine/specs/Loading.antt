@@ -20,7 +20,7 @@ pub record IsNumberOf (p : Lowered) (name : List ℕ) (number : ℕ) (f : Functi
   pub numbered : slice_get (functions_of (unit_tree p.unit)) number ≡ Some (function_tree f)
   pub has_name : f.name ≡ name
 
--- a call to come, where so many objects are made at load; none where the call doesn't load
+-- a call to come, where this number of objects are made at load; none where the call doesn't load
 abbrev pub IsCallOf : Lowered → Classes → (made : ℕ) → Invocation → Option PendingCall → Type 0
 IsCallOf p classes made call None = call_loads (unit_tree p.unit) classes call ≡ false
 IsCallOf p classes made call (Some next) = CallAgrees p classes made next call × (call_loads (unit_tree p.unit) classes call ≡ true)

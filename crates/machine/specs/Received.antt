@@ -29,17 +29,17 @@ abbrev pub frames_with : ResultKind → Given → List Frame → List Frame
 frames_with NewLocal (given.Reference (Some a)) frames = with_local frames a
 frames_with kind g frames = frames
 
--- the target's slot is among so many number slots
+-- the target's slot is among this number of slots of numbers
 abbrev pub HasNumber : Target → ℕ → Type 0
 HasNumber (Number i) count = i < count
 HasNumber target count = Unit {0}
 
--- among so many slots of references
+-- among this number of slots of references
 abbrev pub HasReference : Target → ℕ → Type 0
 HasReference (Local i) count = i < count
 HasReference target count = Unit {0}
 
--- among so many slots of field IDs
+-- among this number of slots of field IDs
 abbrev pub HasField : Target → ℕ → Type 0
 HasField (FieldId i) count = i < count
 HasField target count = Unit {0}

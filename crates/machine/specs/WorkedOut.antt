@@ -40,7 +40,7 @@ abbrev pub IsFoundField : Classes → Option FieldId → Answer → Type 0
 IsFoundField classes None answer = answer ≡ Throws no_such_field_error
 IsFoundField classes (Some f) answer = (h : FieldHandle) × (answer ≡ Gives (given.FieldId (Some h))) × (field_of classes h ≡ Some f)
 
--- room for so many references more, which is refused for a negative number
+-- room for this number of references more, which is refused for a negative number
 abbrev pub room_for : ℤ → Answer
 room_for (pos more) = Ensures more
 room_for (negsuc n) = RefusesFrames

@@ -46,7 +46,7 @@ pub enum Answer {
     Makes(usize),
     /// An exception of the class of this number is made and is pending.
     Throws(usize),
-    /// The current frame gets room for so many references more, and 0 is given, where the frames can have them; else as
+    /// The current frame gets room for this number of references more, and 0 is given, where the frames can have them; else as
     /// `RefusesFrames`.
     Ensures(u32),
     /// -4 is given, and the OutOfMemoryError object is pending, but nothing is made.
@@ -167,7 +167,7 @@ fn found_class(loaded: &[Addr], class: Option<usize>) -> Answer
     }
 }
 
-/// Room for so many references more in the current frame; it is refused where the number is negative.
+/// Room for this number of references more in the current frame; it is refused where the number is negative.
 fn room_for(more: i32) -> Answer
     ensures { result ≡ room_for more }
 {

@@ -18,7 +18,7 @@ reference_slots-requires-clause-room c =
 pub number_slots-requires-clause-given : goal.number_slots-requires-clause-given
 number_slots-requires-clause-given c = (length c.args.loaded.now, rw c.deref-2.ensures.value c.requires.given)
 
--- so many slots are NULL
+-- this number of slots is NULL
 resized : (items : List (Option FieldHandle)) (n m len : ℕ) → items ≡ [] → len ≡ 0 → m ≡ n → take m items ++ replicate (m - len) None ≡ replicate n None
 resized items n m len none short same =
     let few : length items ≤ m = omega (arith, ap length none) in
