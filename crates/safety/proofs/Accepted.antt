@@ -93,7 +93,7 @@ sees_more : (ss : Statics) (scope : Scope) (g : Static) → IsThere ss g → See
 sees_more ss scope g there sees x s e = by_test (bytes_eq x g.name) refl e
   where
     by_test : (b : Bool) → bytes_eq x g.name ≡ b → (if b then Some Global else sort_in scope x) ≡ Some s → (s ≡ Global) × ((r : StaticReference) × (lookup x ss ≡ Some r))
-    by_test true same at = (let is : s ≡ Global = cc in is, there.0, ap (λ (y : Identifier). lookup y ss) ((bytes_eq-Decides x g.name).0 same) ∙ there.1)
+    by_test true same at = (let is : s ≡ Global = cc in is, (there.0, ap (λ (y : Identifier). lookup y ss) ((bytes_eq-Decides x g.name).0 same) ∙ there.1))
     by_test false other at = sees x s at
 
 -- ---- functions

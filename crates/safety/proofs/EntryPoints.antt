@@ -166,7 +166,7 @@ one_fits (ReferenceParameter t) (Refers r) g h = (1, r, refl)
 
 module _ (ss : Statics) (scope : Scope) (sees : SeesStatics scope ss) where
   static_fits : (x : Identifier) (s : Sort) → sort_in scope x ≡ Some s → VariableFits s None (lookup x ss)
-  static_fits x s e = let found = sees x s e in subst (λ (t : Sort). VariableFits t None (lookup x ss)) (sym found.0) (refl, found.1.0, found.1.1)
+  static_fits x s e = let found = sees x s e in subst (λ (t : Sort). VariableFits t None (lookup x ss)) (sym found.0) (refl, (found.1.0, found.1.1))
 
   parameters_fit : (ps : List Parameter) (vs : List ObjectValue) → fit_parameters ps vs ≡ true → (x : Identifier) (s : Sort) → sort_in (map {B = Identifier × Sort} (λ p. (p.name, parameter_sort p.type)) ps ++ scope) x ≡ Some s
       → VariableFits s (lookup x (listed ps vs)) (lookup x ss)
@@ -186,12 +186,12 @@ IsReference v o = (v ≡ ReferenceAt 1 true) × ((r : Reference) × (o ≡ Some 
 
 first_shown : (b : Bool) (v : VariableState) (r : Reference) (inner : Option VariableState) (o : Option Variable) → (if b then Some (ReferenceAt 1 true) else inner) ≡ Some v → (inner ≡ Some v → IsReference v o)
     → IsReference v (if b then Some (LocalRef 1 r) else o)
-first_shown true v r inner o e later = (let same : v ≡ ReferenceAt 1 true = cc in same, r, refl)
+first_shown true v r inner o e later = (let same : v ≡ ReferenceAt 1 true = cc in same, (r, refl))
 first_shown false v r inner o e later = later e
 
 one_shown : (type : ParameterType) (w : ObjectValue) (y : Identifier) (states : ByName VariableState) (vs : Variables) → fits_parameter type w ≡ true → lookup y vs ≡ None → (x : Identifier) (v : VariableState)
     → lookup x (cons_option (known_at y type) states) ≡ Some v → (lookup x states ≡ Some v → IsReference v (lookup x vs)) → IsReference v (lookup x ((y, argument_variable w) ∷ vs))
-one_shown IntParameter w y states vs h none x v e later = let is = later e in (is.0, is.1.0, found_further x y (argument_variable w) (LocalRef 1 is.1.0) vs none is.1.1)
+one_shown IntParameter w y states vs h none x v e later = let is = later e in (is.0, (is.1.0, found_further x y (argument_variable w) (LocalRef 1 is.1.0) vs none is.1.1))
 one_shown (ReferenceParameter t) (Number z) y states vs h none x v e later = absurd (cc)
 one_shown (ReferenceParameter t) (Refers r) y states vs h none x v e later = first_shown (bytes_eq x y) v r (lookup x states) (lookup x vs) e later
 
@@ -203,7 +203,7 @@ parameters_shown (p ∷ ps) (w ∷ vs) h once x v e =
     one_shown p.type w p.name (known ps) (listed ps vs) both.0 once.0 x v e (parameters_shown ps vs both.1 once.1 x v)
 
 shown : (vs : Variables) (v : VariableState) (o : Option Variable) → IsReference v o → Shows vs v o
-shown vs v o (is, r, e) = subst (λ (w : VariableState). Shows vs w o) (sym is) (r, e)
+shown vs v o (is, (r, e)) = subst (λ (w : VariableState). Shows vs w o) (sym is) (r, e)
 
 -- ---- no buffer, and one level
 

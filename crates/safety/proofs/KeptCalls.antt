@@ -1,5 +1,5 @@
 -- A step within a call leaves the calls to come as they were, or drops them all.
-use Rattle.std.proofs.Common.{◌≡◌, ◌⊎◌, inl, inr, ℕ, ◌+◌, Bool, true, false, List, [], ◌∷◌, length, Option, Some, None, refl, ◌∙◌}
+use Rattle.std.proofs.Common.{◌≡◌, ◌⊎◌, inl, inr, ℕ, ◌+◌, Bool, true, false, List, [], ◌∷◌, ◌++◌, length, Option, Some, None, refl, ◌∙◌}
 use Rattle.std.specs.Prelude.{ℤ, pos, negsuc, nat_lt, nat_le, ◌==◌}
 use Rattle.std.proofs.lemmas.Bool.{cond_both}
 use Rattle.base.specs.Bytes.{Identifier, lookup}
@@ -11,17 +11,18 @@ use Rattle.jni.specs.JniFunction.{JniFunction}
 use Rattle.jni.specs.Prototype.{ResultKind, NewLocal, prototype}
 use Rattle.source.specs.Activation.{ending_after, calls_after, return_step}
 use Rattle.source.specs.Arguments.{Actual, ReleaseMode, CopyBackAndFree, CopyBack, FreeUncopied, number_given, object_given, reference_given, text_given, variable_given, mode_given}
-use Rattle.source.specs.CallEffects.{CallResult, NoResult, NullResult, ScalarResult, ReferenceResult, FieldResult, BufferResult, CallEffect, Throws, Halts, Leaves, with_capacity, ensure_effect, push_effect, delete_local_effect, delete_global_effect, found_class_effect, found_field_effect, new_array_effect, at_index, at_region, local_array, get_region_effect, set_region_effect, store_effect, release_effect, enter_effect, exit_effect}
-use Rattle.source.specs.CallStep.{put, put_assigned, received, trap_of_call, checked, makes_objects, completed, after_call, after_refusal, call_step}
+use Rattle.source.specs.CallEffects.{CallResult, NoResult, NullResult, ScalarResult, ReferenceResult, FieldResult, BufferResult, CallEffect, Throws, Halts, Leaves, out_of_memory, with_capacity, ensure_effect, push_effect, delete_local_effect, delete_global_effect, found_class_effect, found_field_effect, new_array_effect, at_index, at_region, local_array, get_region_effect, set_region_effect, store_effect, release_effect, enter_effect, exit_effect}
+use Rattle.source.specs.CallStep.{put, put_assigned, received, failure, resumed, trap_of_call, checked, makes_objects, completed, after_call, after_refusal, call_step}
 use Rattle.source.specs.CallTable.{call_effect}
 use Rattle.source.specs.Effect.{Effect, Becomes, Sets, SetsNull, SetsElement, MakesArray, Prints, Calls, Returns, TrapsAt, NoEffect, effect_of}
+use Rattle.source.specs.Heap.{next_name}
 use Rattle.source.specs.Object.{Object, ObjectValue, Reference}
 use Rattle.source.specs.Task.{Task, Target, Declared, Assigned, Tested, Dropped}
 use Rattle.source.specs.Thread.{Thread, Shared, BuffersInUse, Monitor, Ending, Unfinished, Ended, Uncaught, Advance, Advances, NoAdvance, capacities, monitor_of, sight_of}
 use Rattle.source.specs.ThreadStep.{set_element, with_tasks, after_effect, after_refused_effect, step_within}
 use Rattle.source.specs.Value.{Trap}
 use Rattle.source.specs.Variable.{Variable, Scalar, LocalRef, FieldHandle, Elements, LocalArray, NoBuffer, Copy, View}
-use Rattle.source.specs.World.{Invocation}
+use Rattle.source.specs.World.{Invocation, fresh_object}
 
 -- what a step leaves has these calls, or none
 abbrev pub KeepsCalls : List Invocation → Advance → Type 0
@@ -154,15 +155,15 @@ module _ (classes : Classes) (lent : BuffersInUse) (k : ℕ) (s : Shared) (t : T
 
   module _ (line : ℕ) (target : Target) (f : JniFunction) (args : List Actual) (rest : List Task) where
     completed_keeps : (made : List Object) (s' : Shared) (t' : Thread) (given : CallResult) → t'.calls ≡ t.calls → KeepsCalls t.calls (completed classes lent k s t line target f args rest made s' t' given)
-    completed_keeps made s' t' given e = put_keeps target given _ _ t.calls (received_calls (prototype f).result given t' ∙ e)
+    completed_keeps made s' t' given e = put_keeps target given (record s' { heap = s'.heap ++ made }) (resumed classes lent k s t line target f args rest t' given) t.calls (received_calls (prototype f).result given t' ∙ e)
 
     after_keeps : (e : CallEffect) → EffectKeeps t.calls e → KeepsCalls t.calls (after_call classes lent k s t line target f args rest e)
-    after_keeps (Throws c) h = completed_keeps _ _ _ _ refl
+    after_keeps (Throws c) h = completed_keeps (fresh_object classes c ∷ []) s (record t { pending = Some (next_name s.heap) }) (failure (prototype f).result) refl
     after_keeps (Halts trap) h = inl refl
     after_keeps (Leaves made s' t' given) h = completed_keeps made s' t' given h
 
     refusal_keeps : (makes : Bool) → KeepsCalls t.calls (after_refusal classes lent k s t line target f args rest makes)
-    refusal_keeps true = completed_keeps _ _ _ _ refl
+    refusal_keeps true = completed_keeps [] s (record t { pending = Some (out_of_memory classes) }) (failure (prototype f).result) refl
     refusal_keeps false = tt
 
     call_keeps : (refused : Bool) → KeepsCalls t.calls (call_step classes lent k s t line target f args rest refused)

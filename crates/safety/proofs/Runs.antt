@@ -50,7 +50,7 @@ abbrev pub Enters : Statics → Function → Type 0
 Enters ss f = (scope : Scope) × SeesStatics scope ss × HasNamesOnce f scope × GoesOn (tasks_of f.body) (entry_point f scope)
 
 fits_later : (s : Sort) (v : Option Variable) (g h : Option StaticReference) → ((r : StaticReference) → g ≡ Some r → (q : StaticReference) × (h ≡ Some q)) → VariableFits s v g → VariableFits s v h
-fits_later Global v g h stay (none, r, e) = (none, stay r e)
+fits_later Global v g h stay (none, (r, e)) = (none, stay r e)
 fits_later Ref v g h stay fits = fits
 fits_later sort.FieldId v g h stay fits = fits
 fits_later (Buffer t writable) v g h stay fits = fits
