@@ -3,7 +3,6 @@ use Rattle.std.proofs.Common.{◌≡◌, ℕ, Bool, true, false, ◌||◌, List,
 use Rattle.std.specs.Prelude.{flat_map}
 use Rattle.std.specs.List.{list_any, AllByRecursion}
 use Rattle.std.specs.Str.{bytes_eq}
-use Rattle.std.proofs.lemmas.Grind.{flat_map-append}
 use Rattle.std.proofs.lemmas.Slice.Eq.{bytes_eq-Decides}
 use Rattle.base.specs.Bytes.{Identifier, lookup}
 use Rattle.syntax.specs.Parts.{functions_of, statics_of, parameter_names}
@@ -18,43 +17,10 @@ use Rattle.safety.specs.StepSafe.{AcceptedIsSafe}
 use Rattle.safety.specs.Wanted.{GoesOn}
 use Rattle.safety.proofs.EntryPoints.{entry_scope, entry_point, SeesStatics, HasNamesOnce}
 use Rattle.safety.proofs.NameLaws.{front_same}
+use Rattle.safety.proofs.PlaceLists.{AreUnbroken, first_empty, second_empty, front_unbroken, back_unbroken, none_broken, first_false, second_false}
 use Rattle.safety.proofs.Runs.{Enters, runs_are_safe}
 
--- ---- places
-
--- no rule is broken at any of the places
-abbrev pub AreUnbroken : List Place → Type 0
-AreUnbroken places = flat_map broken_at places ≡ []
-
-first_empty : {A : Type 0} (xs ys : List A) → xs ++ ys ≡ [] → xs ≡ []
-first_empty [] ys e = refl
-first_empty (x ∷ xs) ys e = absurd (cc)
-
-second_empty : {A : Type 0} (xs ys : List A) → xs ++ ys ≡ [] → ys ≡ []
-second_empty [] ys e = e
-second_empty (x ∷ xs) ys e = absurd (cc)
-
-front_unbroken : (xs ys : List Place) → AreUnbroken (xs ++ ys) → AreUnbroken xs
-front_unbroken xs ys h = first_empty (flat_map broken_at xs) (flat_map broken_at ys) (sym (flat_map-append broken_at xs ys) ∙ h)
-
-back_unbroken : (xs ys : List Place) → AreUnbroken (xs ++ ys) → AreUnbroken ys
-back_unbroken xs ys h = second_empty (flat_map broken_at xs) (flat_map broken_at ys) (sym (flat_map-append broken_at xs ys) ∙ h)
-
-none_broken : (p : SortRule → Bool) (line : ℕ) (rules : List SortRule) → map {B = ℕ × SortRule} (λ rule. (line, rule)) (filter p rules) ≡ [] → list_any p rules ≡ false
-none_broken p line [] none = refl
-none_broken p line (rule ∷ rules) none = by_test (p rule) none (none_broken p line rules)
-  where
-    by_test : (b : Bool) → map {B = ℕ × SortRule} (λ r. (line, r)) (if b then rule ∷ filter p rules else filter p rules) ≡ [] → (map {B = ℕ × SortRule} (λ r. (line, r)) (filter p rules) ≡ [] → list_any p rules ≡ false) → (b || list_any p rules) ≡ false
-    by_test true e later = absurd (cc)
-    by_test false e later = later e
-
-first_false : (a b : Bool) → (a || b) ≡ false → a ≡ false
-first_false true b h = absurd (cc)
-first_false false b h = refl
-
-second_false : (a b : Bool) → (a || b) ≡ false → b ≡ false
-second_false true b h = absurd (cc)
-second_false false b h = h
+-- ---- heads
 
 -- the place of a function's head
 abbrev head_place : List Identifier → Scope → Function → Place

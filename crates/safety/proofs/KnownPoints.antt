@@ -45,8 +45,8 @@ known_more p taken more covers k = record {
 
 pub holds_of : (p : Point) (x : Identifier) (b : BufferState) (access : Access) (a : Identifier) → state_of p.regions x ≡ Some (BufferIn b) → held_by b ≡ Some (access, a) → Holds p x access a
 holds_of p x Free access a e h = absurd (cc)
-holds_of p x (Untested own array) access a e h = inl (let one : own ≡ access = cc in let two : array ≡ a = cc in e ∙ ap (λ (c : Access). Some (BufferIn (Untested c array))) one ∙ ap (λ (y : Identifier). Some (BufferIn (Untested access y))) two)
-holds_of p x (Usable own array) access a e h = inr (let one : own ≡ access = cc in let two : array ≡ a = cc in e ∙ ap (λ (c : Access). Some (BufferIn (Usable c array))) one ∙ ap (λ (y : Identifier). Some (BufferIn (Usable access y))) two)
+holds_of p x (Untested own array) access a e h = inl (let pair : (own, array) ≡ (access, a) = cc in let one : own ≡ access = ap (λ (w : Access × Identifier). w.0) pair in let two : array ≡ a = ap (λ (w : Access × Identifier). w.1) pair in e ∙ ap (λ (c : Access). Some (BufferIn (Untested c array))) one ∙ ap (λ (y : Identifier). Some (BufferIn (Untested access y))) two)
+holds_of p x (Usable own array) access a e h = inr (let pair : (own, array) ≡ (access, a) = cc in let one : own ≡ access = ap (λ (w : Access × Identifier). w.0) pair in let two : array ≡ a = ap (λ (w : Access × Identifier). w.1) pair in e ∙ ap (λ (c : Access). Some (BufferIn (Usable c array))) one ∙ ap (λ (y : Identifier). Some (BufferIn (Usable access y))) two)
 
 pub held_of : (p : Point) (x : Identifier) (access : Access) (a : Identifier) → Holds p x access a → (b : BufferState) × (state_of p.regions x ≡ Some (BufferIn b)) × (held_by b ≡ Some (access, a))
 held_of p x access a (inl h) = (Untested access a, h, refl)
