@@ -107,6 +107,10 @@ module _ (p : Point) (taken : List Identifier) (k : IsKnown p taken) where
   known_false (TestExpr e) = k
   known_false (TestCall c) = k
 
+not_true : (b : Bool) → not b ≡ true → b ≡ false
+not_true true h = absurd (cc)
+not_true false h = refl
+
 -- ---- ways
 
 on_same : (a b : RegionState) → On a ≡ On b → a ≡ b
@@ -116,13 +120,13 @@ not_on : (a : RegionState) → Returned ≡ On a → ⊥
 not_on a e = cc
 
 -- where one way of an if goes on, the whole goes on as it does
-first_on : (yes no way : Way) (after : RegionState) → Join yes no way → yes ≡ On after → way ≡ On after
-first_on Returned no way after j e = absurd (not_on after e)
+first_on : (one other way : Way) (after : RegionState) → Join one other way → one ≡ On after → way ≡ On after
+first_on Returned other way after j e = absurd (not_on after e)
 first_on (On a) Returned way after j e = j ∙ e
 first_on (On a) (On b) way after j e = j.1 ∙ e
 
-second_on : (yes no way : Way) (after : RegionState) → Join yes no way → no ≡ On after → way ≡ On after
-second_on Returned no way after j e = j ∙ e
+second_on : (one other way : Way) (after : RegionState) → Join one other way → other ≡ On after → way ≡ On after
+second_on Returned other way after j e = j ∙ e
 second_on (On a) Returned way after j e = absurd (not_on after e)
 second_on (On a) (On b) way after j e = j.1 ∙ ap (λ (s : RegionState). On s) j.0 ∙ e
 
@@ -178,3 +182,97 @@ abbrev pub Pushes : Type 1
 Pushes =
     (p : Point) (taken : List Identifier) (returns : ResultType) (line : ℕ) (c : tree.Call) (then' else' : Block) (s : Stmt) → (s ≡ If line (TestCall c) then') ⊎ (s ≡ IfElse line (TestCall c) then' else') → IsKnown p taken → IsKept p.names taken returns s → Obeys p.regions s → (on_true on_false : Point → Type 0)
     → on_true (at p (record p.regions { frames = p.regions.frames + 1 })) → on_false p → RunsPush (task_of s) on_true on_false p
+
+-- ---- blocks
+
+module _ (plain : (s : Stmt) → IsPlain s → Gives s) (pushes : Pushes) where
+  mutual
+    pub stmt_gives : (s : Stmt) (p : Point) (taken : List Identifier) (returns : ResultType) (way : Way) (k : Point → Type 0) → IsKnown p taken → AreUnbroken (places_within returns p.names taken s) → Keeps p.regions s way
+        → ((after : RegionState) → way ≡ On after → IsKnown (point_after p s after) (taken ++ names_declared (statements_within s)) → k (point_after p s after)) → RunsStmt s k p
+    stmt_gives (If line (TestExpr e) then') p taken returns way k known sorted (obeys, yes', keeps, join) h =
+        let s = If line (TestExpr e) then' in
+        let kept = own_kept returns p.names taken s sorted in
+        let reads = first_read p.regions e [] (statement_reads p.regions s obeys) in
+        let a = at p (where_true p.regions (TestExpr e)) in
+        let b = at p (where_false p.regions (TestExpr e)) in
+        let on_a : IsKnown a taken = known_true p taken known (TestExpr e) in
+        let on_b : IsKnown b taken = known_false p taken known (TestExpr e) in (
+          expression_fits p known.stated e Truth reads.0 (is_a_truth (sort_of p.names e) kept.fits) tt,
+          (
+            a, b, teaches p e,
+            block_gives then' p a taken taken returns yes' k known on_a (λ x r at. at) (inside_kept returns p.names taken s sorted) keeps (λ after is now. h after (first_on yes' (On b.regions) way after join is) now),
+            (b, closes_same b taken on_b, h b.regions (second_on yes' (On b.regions) way b.regions join refl) (known_more b taken (taken ++ names_declared (statements_of then')) (covers_front taken (names_declared (statements_of then'))) on_b)),
+          ),
+        )
+    stmt_gives (If line (TestCall c) then') p taken returns way k known sorted (obeys, yes', keeps, join) h =
+        let s = If line (TestCall c) then' in
+        let a = at p (where_true p.regions (TestCall c)) in
+        let on_a : IsKnown a taken = known_true p taken known (TestCall c) in
+        pushes p taken returns line c then' then' s (inl refl) known (own_kept returns p.names taken s sorted) obeys (RunsBlock then' (Outside k)) (Outside k)
+        (block_gives then' p a taken taken returns yes' k known on_a (λ x r at. at) (inside_kept returns p.names taken s sorted) keeps (λ after is now. h after (first_on yes' (On p.regions) way after join is) now))
+        (p, closes_same p taken known, h p.regions (second_on yes' (On p.regions) way p.regions join refl) (known_more p taken (taken ++ names_declared (statements_of then')) (covers_front taken (names_declared (statements_of then'))) known))
+    stmt_gives (IfElse line (TestExpr e) then' else') p taken returns way k known sorted (obeys, one, other, keeps, keeps', join) h =
+        let s = IfElse line (TestExpr e) then' else' in
+        let kept = own_kept returns p.names taken s sorted in
+        let reads = first_read p.regions e [] (statement_reads p.regions s obeys) in
+        let a = at p (where_true p.regions (TestExpr e)) in
+        let b = at p (where_false p.regions (TestExpr e)) in
+        let middle = taken ++ names_declared (statements_of then') in
+        let inside = inside_kept returns p.names taken s sorted in
+        let first = front_unbroken (places_of returns p.names taken then') (places_of returns p.names middle else') inside in
+        let second = back_unbroken (places_of returns p.names taken then') (places_of returns p.names middle else') inside in
+        let all = taken ++ names_declared (statements_of then' ++ statements_of else') in
+        let on_a : IsKnown a taken = known_true p taken known (TestExpr e) in
+        let on_b : IsKnown b middle = known_more b taken middle (covers_front taken (names_declared (statements_of then'))) (known_false p taken known (TestExpr e)) in (
+          expression_fits p known.stated e Truth reads.0 (is_a_truth (sort_of p.names e) kept.fits) tt,
+          (
+            a, b, teaches p e,
+            block_gives then' p a taken taken returns one k known on_a (λ x r at. at) first keeps (λ after is now. h after (first_on one other way after join is) (known_more (point_after p s after) middle all (covers_skipped taken (statements_of then') (statements_of else')) now)),
+            block_gives else' p b taken middle returns other k known on_b (λ x r at. at) second keeps' (λ after is now. h after (second_on one other way after join is) (known_more (point_after p s after) (middle ++ names_declared (statements_of else')) all (covers_parts taken (statements_of then') (statements_of else')) now)),
+          ),
+        )
+    stmt_gives (IfElse line (TestCall c) then' else') p taken returns way k known sorted (obeys, one, other, keeps, keeps', join) h =
+        let s = IfElse line (TestCall c) then' else' in
+        let a = at p (where_true p.regions (TestCall c)) in
+        let middle = taken ++ names_declared (statements_of then') in
+        let inside = inside_kept returns p.names taken s sorted in
+        let first = front_unbroken (places_of returns p.names taken then') (places_of returns p.names middle else') inside in
+        let second = back_unbroken (places_of returns p.names taken then') (places_of returns p.names middle else') inside in
+        let all = taken ++ names_declared (statements_of then' ++ statements_of else') in
+        let on_a : IsKnown a taken = known_true p taken known (TestCall c) in
+        let on_b : IsKnown p middle = known_more p taken middle (covers_front taken (names_declared (statements_of then'))) known in
+        pushes p taken returns line c then' else' s (inr refl) known (own_kept returns p.names taken s sorted) obeys (RunsBlock then' (Outside k)) (RunsBlock else' (Outside k))
+        (block_gives then' p a taken taken returns one k known on_a (λ x r at. at) first keeps (λ after is now. h after (first_on one other way after join is) (known_more (point_after p s after) middle all (covers_skipped taken (statements_of then') (statements_of else')) now)))
+        (block_gives else' p p taken middle returns other k known on_b (λ x r at. at) second keeps' (λ after is now. h after (second_on one other way after join is) (known_more (point_after p s after) (middle ++ names_declared (statements_of else')) all (covers_parts taken (statements_of then') (statements_of else')) now)))
+    stmt_gives (While line e body) p taken returns way k known sorted (obeys, turn, keeps, back, is) h =
+        let s = While line e body in
+        let kept = own_kept returns p.names taken s sorted in
+        let reads = first_read p.regions e [] (statement_reads p.regions s obeys) in (
+          expression_fits p known.stated e Truth reads.0 (is_a_truth (sort_of p.names e) kept.fits) tt,
+          block_more body (Outside (λ r. r ≡ p)) (λ q. Closes q p) (λ q o. subst (Closes q) o.2 o.1) p
+          (block_gives body p p taken taken returns turn (λ r. r ≡ p) known known (λ x r at. at) (inside_kept returns p.names taken s sorted) keeps (λ after on now. ap (λ (r : RegionState). at p r) (comes_back p.regions turn after back on))),
+          h p.regions is (known_more p taken (taken ++ names_declared (statements_of body)) (covers_front taken (names_declared (statements_of body))) known),
+        )
+    stmt_gives s p taken returns way k known sorted keeps h = plain s tt p taken returns way k known (own_kept returns p.names taken s sorted) keeps h
+
+    pub block_gives : (b : Block) (outer p : Point) (before taken : List Identifier) (returns : ResultType) (way : Way) (k : Point → Type 0) → IsKnown outer before → IsKnown p taken → IsWithin outer p → AreUnbroken (places_of returns p.names taken b)
+        → KeepsBlock outer.regions p.regions b way → ((after : RegionState) → way ≡ On after → IsKnown (at outer after) (taken ++ names_declared (statements_of b)) → k (at outer after)) → RunsBlock b (Outside k) p
+    block_gives (End line) outer p before taken returns way k around known within sorted (none, is) h = (
+      end_point outer p,
+      closes_end outer p before taken around known within (not_true (holds_own outer.regions p.regions) none),
+      h (left outer.regions p.regions) is (known_more (end_point outer p) taken (taken ++ []) (covers_front taken []) (known_end outer p before taken around known within)),
+    )
+    block_gives (Next s rest) outer p before taken returns way k around known within sorted (inl (middle, keeps, further)) h =
+        let later = taken ++ names_declared (statements_within s) in
+        let first = front_unbroken (places_within returns p.names taken s) (places_of returns (with_declared p.names s) later rest) sorted in
+        let second = back_unbroken (places_within returns p.names taken s) (places_of returns (with_declared p.names s) later rest) sorted in
+        let kept = own_kept returns p.names taken s first in
+        stmt_gives s p taken returns (On middle) (RunsBlock rest (Outside k)) known first keeps
+        (λ after is now.
+            block_gives rest outer (point_after p s after) before later returns way k around now (declared_within outer p taken s within known kept.new after) second
+            (subst (λ (r : RegionState). KeepsBlock outer.regions r rest way) (on_same middle after is) further)
+            (λ end on there. h end on (known_more (at outer end) (later ++ names_declared (statements_of rest)) (taken ++ names_declared (statements_within s ++ statements_of rest)) (covers_parts taken (statements_within s) (statements_of rest)) there)))
+    block_gives (Next s rest) outer p before taken returns way k around known within sorted (inr (keeps, over, is)) h =
+        let later = taken ++ names_declared (statements_within s) in
+        let first = front_unbroken (places_within returns p.names taken s) (places_of returns (with_declared p.names s) later rest) sorted in
+        stmt_gives s p taken returns Returned (RunsBlock rest (Outside k)) known first keeps (λ after on now. absurd (not_on after on))
