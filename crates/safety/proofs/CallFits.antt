@@ -375,11 +375,14 @@ module _ (p : Point) (stated : AreStated p) where
     call_operands : OperandsFit p (prototype f).parameters (operands_of f arguments)
     call_operands = operands_fit p stated (prototype f).parameters arguments count fit modes arguments_read (tested_at f arguments (tested_rule p s obeys f arguments called))
 
+    -- what the call asks, of its arguments themselves
+    pub call_rules : CallKeeps p f arguments
+    call_rules = call_keeps p f arguments count call_operands arguments_read (get_rule p s obeys f arguments called) (release_rule p s obeys f arguments called) (deleted_rule p s obeys f arguments called) (popped_rule p s obeys f arguments called) (last_rule p s obeys f arguments called)
+
     -- a call that keeps the rules fits
     pub call_fits : CallFits p f (operands_of f arguments)
     call_fits = record {
       sorts = call_operands;
       views = views_met p s obeys f arguments called;
-      rules = keeps_seen arguments p f count
-          (call_keeps p f arguments count call_operands arguments_read (get_rule p s obeys f arguments called) (release_rule p s obeys f arguments called) (deleted_rule p s obeys f arguments called) (popped_rule p s obeys f arguments called) (last_rule p s obeys f arguments called));
+      rules = keeps_seen arguments p f count call_rules;
     }

@@ -20,12 +20,20 @@ use Rattle.safety.proofs.ExpressionFits.{AreStated}
 use Rattle.safety.proofs.NameLaws.{one_or_other, front_same, front_other}
 use Rattle.safety.proofs.SetLaws.{once_changed}
 
+-- the sorts with a state
+abbrev pub HasState : Sort → Type 0
+HasState Ref = Unit {0}
+HasState (Buffer t writable) = Unit {0}
+HasState s = ⊥
+
 -- what is known at a point, after the names that were taken
 pub record IsKnown (p : Point) (taken : List Identifier) : Type 0 where
   pub stated : AreStated p
   pub named_taken : (x : Identifier) (s : Sort) → sort_in p.names x ≡ Some s → has_name taken x ≡ true
   pub known_taken : (x : Identifier) (v : VariableState) → state_of p.regions x ≡ Some v → has_name taken x ≡ true
   pub arrays_taken : (x : Identifier) (access : Access) (a : Identifier) → Holds p x access a → has_name taken a ≡ true
+  pub stateful : (x : Identifier) (v : VariableState) → state_of p.regions x ≡ Some v → (s : Sort) × (sort_in p.names x ≡ Some s) × HasState s
+  pub framed : 1 ≤ p.regions.frames
   pub once : AreOnce p.regions.variables
 
 -- each name of the first list is in the other
@@ -38,6 +46,8 @@ known_more p taken more covers k = record {
   named_taken = λ x s e. covers x (k.named_taken x s e);
   known_taken = λ x v e. covers x (k.known_taken x v e);
   arrays_taken = λ x access a h. covers a (k.arrays_taken x access a h);
+  stateful = k.stateful;
+  framed = k.framed;
   once = k.once;
 }
 
@@ -89,7 +99,7 @@ from_map : (change : VariableState → VariableState) (o : Option VariableState)
 from_map change None v e = absurd (cc)
 from_map change (Some u) v e = (u, refl, cc)
 
-module _ (p : Point) (taken : List Identifier) (k : IsKnown p taken) (change : Identifier → VariableState → VariableState) (frames : ℕ) (kin : (x : Identifier) (u : VariableState) → state_of p.regions x ≡ Some u → Kin taken u (change x u)) where
+module _ (p : Point) (taken : List Identifier) (k : IsKnown p taken) (change : Identifier → VariableState → VariableState) (frames : ℕ) (some : 1 ≤ frames) (kin : (x : Identifier) (u : VariableState) → state_of p.regions x ≡ Some u → Kin taken u (change x u)) where
   abbrev pub changed_state : RegionState
   changed_state = record { variables = map (λ (v : Identifier × VariableState). (v.0, change v.0 v.1)) p.regions.variables; frames = frames }
 
@@ -119,6 +129,8 @@ module _ (p : Point) (taken : List Identifier) (k : IsKnown p taken) (change : I
         let held = held_of (at p changed_state) x access a h in
         let old = changed_from x (BufferIn held.0) held.1 in
         kin_array taken old.0 held.0 access a (subst (Kin taken old.0) old.2 (kin x old.0 old.1)) held.2;
+    stateful = λ x v e. let old = changed_from x v e in k.stateful x old.0 old.1;
+    framed = some;
     once = once_changed change p.regions.variables k.once;
   }
 
@@ -187,6 +199,8 @@ module _ (p : Point) (taken : List Identifier) (k : IsKnown p taken) (x : Identi
     named_taken = λ y r e. named_now s r y e;
     known_taken = λ y v e. in_front taken (x ∷ []) y (k.known_taken y v e);
     arrays_taken = λ y access a h. in_front taken (x ∷ []) a (k.arrays_taken y access a h);
+    stateful = λ y v e. let old = k.stateful y v e in (old.0, front_other x y s p.names (apart_names taken x y new (k.known_taken y v e)) ∙ old.1, old.2);
+    framed = k.framed;
     once = k.once;
   }
 
@@ -210,6 +224,11 @@ module _ (p : Point) (taken : List Identifier) (k : IsKnown p taken) (x : Identi
   fits_no_truth Ref (ReferenceAt level live) h e = cc
   fits_no_truth (Buffer u w) (BufferIn b) h e = cc
   fits_no_truth s v h e = h
+
+  fits_state : (s : Sort) (v : VariableState) → FitsState s v → HasState s
+  fits_state Ref (ReferenceAt level live) h = tt
+  fits_state (Buffer u w) (BufferIn b) h = tt
+  fits_state s v h = absurd h
 
   fits_array : (s : Sort) (b : BufferState) (access : Access) (a : Identifier) → FitsState s (BufferIn b) → held_by b ≡ Some (access, a) → has_name taken a ≡ true
   fits_array (Buffer u w) b access a h e = h access a e
@@ -259,6 +278,11 @@ module _ (p : Point) (taken : List Identifier) (k : IsKnown p taken) (x : Identi
             | inl here ↦ fits_array s held.0 access a (subst (FitsState s) here.1 fits) held.2
             | inr old ↦ k.arrays_taken y access a (holds_of p y held.0 access a old.1 held.2)
           ]);
+      stateful = λ y u e. elim (state_old u y e) [
+        | inl here ↦ (s, subst (λ (z : Identifier). sort_in ((x, s) ∷ p.names) z ≡ Some s) (sym here.0) (front_same x s p.names), fits_state s v fits)
+        | inr old ↦ let was = k.stateful y u old.1 in (was.0, front_other x y s p.names old.0 ∙ was.1, was.2)
+      ];
+      framed = k.framed;
       once = (none_at taken x (state_of p.regions x) (k.known_taken x) new, k.once);
     }
 
@@ -360,6 +384,22 @@ is_variable ((y, w) ∷ vs) x v h = by_test (bytes_eq x y) refl h (is_variable v
     by_test true e g later = ap (λ (b : Bool). b || list_any (λ (w : Identifier × VariableState). bytes_eq w.0 x) vs) ((bytes_eq-Decides y x).1 (sym ((bytes_eq-Decides x y).0 e)))
     by_test false e g later = or_true (bytes_eq y x) (list_any (λ (w : Identifier × VariableState). bytes_eq w.0 x) vs) (later g)
 
+variable_is : (vs : ByName VariableState) (x : Identifier) → list_any (λ (w : Identifier × VariableState). bytes_eq w.0 x) vs ≡ true → (v : VariableState) × (lookup x vs ≡ Some v)
+variable_is [] x h = absurd (cc)
+variable_is ((y, w) ∷ vs) x h = by_test (bytes_eq x y) refl (variable_is vs x)
+  where
+    by_test : (b : Bool) → bytes_eq x y ≡ b → (list_any (λ (w : Identifier × VariableState). bytes_eq w.0 x) vs ≡ true → (v : VariableState) × (lookup x vs ≡ Some v)) → (v : VariableState) × ((if b then Some w else lookup x vs) ≡ Some v)
+    by_test true e later = (w, refl)
+    by_test false e later = later (rest_of (bytes_eq y x) (turned (bytes_eq y x) refl e) h)
+      where
+        turned : (c : Bool) → bytes_eq y x ≡ c → bytes_eq x y ≡ false → c ≡ false
+        turned false g f = refl
+        turned true g f = absurd (let there : bytes_eq x y ≡ true = (bytes_eq-Decides x y).1 (sym ((bytes_eq-Decides y x).0 g)) in let c : true ≡ false = sym there ∙ f in cc)
+
+        rest_of : (c : Bool) → c ≡ false → (c || list_any (λ (w : Identifier × VariableState). bytes_eq w.0 x) vs) ≡ true → list_any (λ (w : Identifier × VariableState). bytes_eq w.0 x) vs ≡ true
+        rest_of false f g = g
+        rest_of true f g = absurd (cc)
+
 -- the names of the outer point are known inside
 abbrev pub IsWithin : (outer p : Point) → Type 0
 IsWithin outer p = (x : Identifier) (s : Sort) → sort_in outer.names x ≡ Some s → sort_in p.names x ≡ Some s
@@ -374,6 +414,13 @@ module _ (outer p : Point) (before taken : List Identifier) (around : IsKnown ou
 
   stayed : (x : Identifier) (v : VariableState) → state_of (end_point outer p).regions x ≡ Some v → state_of p.regions x ≡ Some v
   stayed x v e = filtered_back (has_variable outer.regions) x p.regions.variables v e
+
+  is_outer : (x : Identifier) (v : VariableState) → state_of (end_point outer p).regions x ≡ Some v → has_variable outer.regions x ≡ true
+  is_outer x v e = by_test (has_variable outer.regions x) refl
+    where
+      by_test : (t : Bool) → has_variable outer.regions x ≡ t → t ≡ true
+      by_test true g = refl
+      by_test false g = absurd (let none = filtered_out (has_variable outer.regions) x p.regions.variables g in let c : None ≡ Some v = sym none ∙ e in cc)
 
   pub known_end : IsKnown (end_point outer p) taken
   known_end = record {
@@ -391,6 +438,8 @@ module _ (outer p : Point) (before taken : List Identifier) (around : IsKnown ou
     named_taken = λ x s e. k.named_taken x s (within x s e);
     known_taken = λ x v e. k.known_taken x v (stayed x v e);
     arrays_taken = λ x access a h. let held = held_of (end_point outer p) x access a h in k.arrays_taken x access a (holds_of p x held.0 access a (stayed x (BufferIn held.0) held.1) held.2);
+    stateful = λ x v e. let was = variable_is outer.regions.variables x (is_outer x v e) in around.stateful x was.0 was.1;
+    framed = k.framed;
     once = filtered_once (has_variable outer.regions) p.regions.variables k.once;
   }
 

@@ -1,5 +1,5 @@
 -- From what is known at a point, a statement and a block that keep the rules break none as they run.
-use Rattle.std.proofs.Common.{◌≡◌, ℕ, ◌+◌, arith, ◌⊎◌, inl, inr, Bool, true, false, not, ◌||◌, List, [], ◌∷◌, ◌++◌, map, Option, Some, None, refl, sym, ap, ◌∙◌, subst, if◌then◌else◌}
+use Rattle.std.proofs.Common.{◌≡◌, ℕ, ◌+◌, ◌≤◌, arith, ◌⊎◌, inl, inr, Bool, true, false, not, ◌||◌, List, [], ◌∷◌, ◌++◌, map, Option, Some, None, refl, sym, ap, ◌∙◌, subst, if◌then◌else◌}
 use Rattle.std.specs.Prelude.{IsTrue}
 use Rattle.std.specs.List.{list_any}
 use Rattle.std.specs.Option.{is_none}
@@ -77,7 +77,7 @@ kin_if false taken u v h g = g
 module _ (p : Point) (taken : List Identifier) (k : IsKnown p taken) where
   -- one variable's state changes
   pub known_one : (x : Identifier) (f : VariableState → VariableState) → ((y : Identifier) (u : VariableState) → state_of p.regions y ≡ Some u → Kin taken u (f u)) → IsKnown (at p (with_changed p.regions x f)) taken
-  known_one x f kin = known_changed p taken k (λ y old. if bytes_eq x y then f old else old) p.regions.frames (λ y u e. kin_if (bytes_eq x y) taken u (f u) (kin y u e) (kin_same p taken k y u e))
+  known_one x f kin = known_changed p taken k (λ y old. if bytes_eq x y then f old else old) p.regions.frames k.framed (λ y u e. kin_if (bytes_eq x y) taken u (f u) (kin y u e) (kin_same p taken k y u e))
 
   known_free : (x : Identifier) → IsKnown (at p (with_changed p.regions x made_free)) taken
   known_free x = known_one x made_free (λ y u e. free_kin taken u)
@@ -86,12 +86,14 @@ module _ (p : Point) (taken : List Identifier) (k : IsKnown p taken) where
   known_usable x = known_one x made_usable (usable_kin p taken k)
 
   -- the number of frames is no matter
-  pub known_frames : (frames : ℕ) → IsKnown (at p (record p.regions { frames = frames })) taken
-  known_frames frames = record {
+  pub known_frames : (frames : ℕ) → 1 ≤ frames → IsKnown (at p (record p.regions { frames = frames })) taken
+  known_frames frames some = record {
     stated = record { no_truth = k.stated.no_truth; reference = k.stated.reference; buffer = k.stated.buffer };
     named_taken = k.named_taken;
     known_taken = k.known_taken;
     arrays_taken = k.arrays_taken;
+    stateful = k.stateful;
+    framed = some;
     once = k.once;
   }
 
@@ -99,7 +101,7 @@ module _ (p : Point) (taken : List Identifier) (k : IsKnown p taken) where
   known_true (TestExpr (tree.Binary tree.Equal (tree.Variable x) (tree.Named tree.Null))) = known_free x
   known_true (TestExpr (tree.Binary tree.NotEqual (tree.Variable x) (tree.Named tree.Null))) = known_usable x
   known_true (TestExpr e) = k
-  known_true (TestCall c) = known_frames (p.regions.frames + 1)
+  known_true (TestCall c) = known_frames (p.regions.frames + 1) (omega arith)
 
   known_false : (test : Test) → IsKnown (at p (where_false p.regions test)) taken
   known_false (TestExpr (tree.Binary tree.Equal (tree.Variable x) (tree.Named tree.Null))) = known_usable x
