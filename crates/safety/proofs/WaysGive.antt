@@ -31,7 +31,7 @@ use Rattle.safety.proofs.PlaceLists.{AreUnbroken, front_unbroken, back_unbroken}
 
 -- ---- taken names
 
-covers_front : (taken more : List Identifier) → Covers taken (taken ++ more)
+pub covers_front : (taken more : List Identifier) → Covers taken (taken ++ more)
 covers_front taken more x h = list_any-append (bytes_eq x) taken more ∙ ap (λ (b : Bool). b || has_name more x) h
 
 -- names of two parts in one
@@ -60,7 +60,7 @@ teaches p (tree.Binary tree.Equal (tree.Variable x) (tree.Named tree.Null)) = Fo
 teaches p (tree.Binary tree.NotEqual (tree.Variable x) (tree.Named tree.Null)) = ForOther x
 teaches p e = Nothing (term_of e)
 
-free_kin : (taken : List Identifier) (u : VariableState) → Kin taken u (made_free u)
+pub free_kin : (taken : List Identifier) (u : VariableState) → Kin taken u (made_free u)
 free_kin taken (ReferenceAt level live) = tt
 free_kin taken (BufferIn b) = λ access a h. absurd (cc)
 
