@@ -26,15 +26,15 @@ use Rattle.safety.proofs.ExpressionFits.{AreStated}
 
 -- ---- tests, turned round
 
-neither : (a b : Bool) → (a || b) ≡ false → (a ≡ false) × (b ≡ false)
+pub neither : (a b : Bool) → (a || b) ≡ false → (a ≡ false) × (b ≡ false)
 neither true b h = absurd (cc)
 neither false b h = (refl, h)
 
-both_so : (a b : Bool) → (a && b) ≡ true → (a ≡ true) × (b ≡ true)
+pub both_so : (a b : Bool) → (a && b) ≡ true → (a ≡ true) × (b ≡ true)
 both_so true b h = (refl, h)
 both_so false b h = absurd (cc)
 
-second_fails : (a b : Bool) → (a && b) ≡ false → a ≡ true → b ≡ false
+pub second_fails : (a b : Bool) → (a && b) ≡ false → a ≡ true → b ≡ false
 second_fails true b h e = h
 second_fails false b h e = absurd (cc)
 
@@ -58,7 +58,7 @@ second_or : (a b : Bool) → b ≡ true → (a || b) ≡ true
 second_or true b h = refl
 second_or false b h = h
 
-some_any : (p : Identifier → Bool) (xs ys : List Identifier) → list_any p (xs ++ ys) ≡ false → (list_any p xs ≡ false) × (list_any p ys ≡ false)
+pub some_any : (p : Identifier → Bool) (xs ys : List Identifier) → list_any p (xs ++ ys) ≡ false → (list_any p xs ≡ false) × (list_any p ys ≡ false)
 some_any p [] ys h = (refl, h)
 some_any p (x ∷ xs) ys h =
     let both = neither (p x) (list_any p (xs ++ ys)) h in

@@ -106,7 +106,7 @@ operands Order (Some Jint) (Some Jint) s h = (Jint, refl, refl, tt, inr (tt, cc)
 operands OnWords (Some Word) (Some Word) s h = (Word, refl, refl, tt, inr (refl, cc))
 operands g a b s h = absurd (cc)
 
-number_is_value : (s : Sort) → IsNumberSort s → IsValueSort s
+pub number_is_value : (s : Sort) → IsNumberSort s → IsValueSort s
 number_is_value Word h = tt
 number_is_value Jint h = tt
 number_is_value Flag h = tt
