@@ -6,7 +6,7 @@ use Rattle.base.specs.Element.{ElementType, JChar}
 use Rattle.syntax.specs.Tree as tree
 use Rattle.syntax.specs.Tree.{VariableType, UInt32, JIntVariable, JSize, JBoolean, JFieldId, ReferenceVariable, Null, Expr, Argument, Call, FromExpr, FromCall, Stmt}
 use Rattle.jni.specs.JniFunction.{Access, JniFunction, GetBuffer}
-use Rattle.jni.specs.Prototype.{ResultKind, NewLocal, GivesFlag, GivesInt, GivesField, GivesBuffer, prototype}
+use Rattle.jni.specs.Prototype.{ResultKind, NewLocal, NewGlobal, GivesFlag, GivesInt, GivesField, GivesBuffer, prototype}
 use Rattle.types.specs.Sorts.{Sort, Word, Jint, Flag, Ref, Buffer, sort_of, is_word, is_null, name_sort}
 use Rattle.types.specs.Sorts as sort
 use Rattle.types.specs.SortRules as rules
@@ -77,11 +77,20 @@ no_buffer_type (ReferenceVariable r) u w e = cc
 no_buffer_result : (t : VariableType) (access : Access) → result_fits (Some (variable_sort t)) (GivesBuffer access) ≡ true → ⊥
 no_buffer_result t access h = let is = buffer_for access (Some (variable_sort t)) h in no_buffer_type t is.0 is.1 is.2
 
+no_global_result : (t : VariableType) → result_fits (Some (variable_sort t)) NewGlobal ≡ true → ⊥
+no_global_result UInt32 h = cc
+no_global_result JIntVariable h = cc
+no_global_result JSize h = cc
+no_global_result JBoolean h = cc
+no_global_result JFieldId h = cc
+no_global_result (ReferenceVariable r) h = cc
+
 module _ (q : Point) (taken : List Identifier) (known : IsKnown q taken) (x : Identifier) (new : has_name taken x ≡ false) (k : Point → Type 0) where
   declared_result : (line : ℕ) (c : Call) (t : VariableType) (result : ResultKind) (get : Option (Access × Option Identifier)) → result_fits (Some (variable_sort t)) result ≡ true
       → (IsKnown (record { names = (x, variable_sort t) ∷ q.names; regions = with_set q.regions (tree.Declare line t x (FromCall c)) }) (taken ++ x ∷ []) → k (record { names = (x, variable_sort t) ∷ q.names; regions = with_set q.regions (tree.Declare line t x (FromCall c)) }))
       → DeclaresResult q (kind_of t) x result get k
   declared_result line c t (GivesBuffer access) get fit h = absurd (no_buffer_result t access fit)
+  declared_result line c t NewGlobal get fit h = absurd (no_global_result t fit)
   declared_result line c JIntVariable GivesInt get fit h = (is_new q taken x known new, h (known_named q taken known x new Jint tt))
   declared_result line c JSize GivesInt get fit h = (is_new q taken x known new, h (known_named q taken known x new Jint tt))
   declared_result line c JBoolean GivesFlag get fit h = (is_new q taken x known new, h (known_named q taken known x new Flag tt))

@@ -148,7 +148,7 @@ perform_gives line c p taken returns way k known kept (obeys, is) h =
 
 -- ---- declarations
 
-null_is : (e : Expr) → is_null e ≡ true → e ≡ tree.Named Null
+pub null_is : (e : Expr) → is_null e ≡ true → e ≡ tree.Named Null
 null_is (tree.Named Null) h = refl
 null_is e h = absurd (cc)
 
