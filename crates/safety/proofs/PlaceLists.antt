@@ -38,4 +38,3 @@ first_false false b h = refl
 pub second_false : (a b : Bool) → (a || b) ≡ false → b ≡ false
 second_false true b h = absurd (cc)
 second_false false b h = h
-

@@ -201,7 +201,9 @@ module _ (plain : (s : Stmt) → IsPlain s → Gives s) (pushes : Pushes) where
         let on_b : IsKnown b taken = known_false p taken known (TestExpr e) in (
           expression_fits p known.stated e Truth reads.0 (is_a_truth (sort_of p.names e) kept.fits) tt,
           (
-            a, b, teaches p e,
+            a,
+            b,
+            teaches p e,
             block_gives then' p a taken taken returns yes' k known on_a (λ x r at. at) (inside_kept returns p.names taken s sorted) keeps (λ after is now. h after (first_on yes' (On b.regions) way after join is) now),
             (b, closes_same b taken on_b, h b.regions (second_on yes' (On b.regions) way b.regions join refl) (known_more b taken (taken ++ names_declared (statements_of then')) (covers_front taken (names_declared (statements_of then'))) on_b)),
           ),
@@ -228,7 +230,9 @@ module _ (plain : (s : Stmt) → IsPlain s → Gives s) (pushes : Pushes) where
         let on_b : IsKnown b middle = known_more b taken middle (covers_front taken (names_declared (statements_of then'))) (known_false p taken known (TestExpr e)) in (
           expression_fits p known.stated e Truth reads.0 (is_a_truth (sort_of p.names e) kept.fits) tt,
           (
-            a, b, teaches p e,
+            a,
+            b,
+            teaches p e,
             block_gives then' p a taken taken returns one k known on_a (λ x r at. at) first keeps (λ after is now. h after (first_on one other way after join is) (known_more (point_after p s after) middle all (covers_skipped taken (statements_of then') (statements_of else')) now)),
             block_gives else' p b taken middle returns other k known on_b (λ x r at. at) second keeps' (λ after is now. h after (second_on one other way after join is) (known_more (point_after p s after) (middle ++ names_declared (statements_of else')) all (covers_parts taken (statements_of then') (statements_of else')) now)),
           ),
@@ -252,7 +256,7 @@ module _ (plain : (s : Stmt) → IsPlain s → Gives s) (pushes : Pushes) where
         let reads = first_read p.regions e [] (statement_reads p.regions s obeys) in (
           expression_fits p known.stated e Truth reads.0 (is_a_truth (sort_of p.names e) kept.fits) tt,
           block_more body (Outside (λ r. r ≡ p)) (λ q. Closes q p) (λ q o. subst (Closes q) o.2 o.1) p
-          (block_gives body p p taken taken returns turn (λ r. r ≡ p) known known (λ x r at. at) (inside_kept returns p.names taken s sorted) keeps (λ after on now. ap (λ (r : RegionState). at p r) (comes_back p.regions turn after back on))),
+              (block_gives body p p taken taken returns turn (λ r. r ≡ p) known known (λ x r at. at) (inside_kept returns p.names taken s sorted) keeps (λ after on now. ap (λ (r : RegionState). at p r) (comes_back p.regions turn after back on))),
           h p.regions is (known_more p taken (taken ++ names_declared (statements_of body)) (covers_front taken (names_declared (statements_of body))) known),
         )
     stmt_gives s p taken returns way k known sorted keeps h = plain s tt p taken returns way k known (own_kept returns p.names taken s sorted) keeps h
@@ -271,9 +275,9 @@ module _ (plain : (s : Stmt) → IsPlain s → Gives s) (pushes : Pushes) where
         let kept = own_kept returns p.names taken s first in
         stmt_gives s p taken returns (On middle) (RunsBlock rest (Outside k)) known first keeps
         (λ after is now.
-            block_gives rest outer (point_after p s after) before later returns way k around now (declared_within outer p taken s within known kept.new after) second
-            (subst (λ (r : RegionState). KeepsBlock outer.regions r rest way) (on_same middle after is) further)
-            (λ end on there. h end on (known_more (at outer end) (later ++ names_declared (statements_of rest)) (taken ++ names_declared (statements_within s ++ statements_of rest)) (covers_parts taken (statements_within s) (statements_of rest)) there)))
+        block_gives rest outer (point_after p s after) before later returns way k around now (declared_within outer p taken s within known kept.new after) second
+        (subst (λ (r : RegionState). KeepsBlock outer.regions r rest way) (on_same middle after is) further)
+        (λ end on there. h end on (known_more (at outer end) (later ++ names_declared (statements_of rest)) (taken ++ names_declared (statements_within s ++ statements_of rest)) (covers_parts taken (statements_within s) (statements_of rest)) there)))
     block_gives (Next s rest) outer p before taken returns way k around known within sorted (inr (keeps, over, is)) h =
         let later = taken ++ names_declared (statements_within s) in
         let first = front_unbroken (places_within returns p.names taken s) (places_of returns (with_declared p.names s) later rest) sorted in
