@@ -68,11 +68,11 @@ listed_is (p ∷ ps) (v ∷ vs) =
 
 -- ---- what is known of them
 
-abbrev known_at : Identifier → ParameterType → Option (Identifier × VariableState)
+abbrev pub known_at : Identifier → ParameterType → Option (Identifier × VariableState)
 known_at x IntParameter = None
 known_at x (ReferenceParameter r) = Some (x, ReferenceAt 1 true)
 
-abbrev known : List Parameter → ByName VariableState
+abbrev pub known : List Parameter → ByName VariableState
 known [] = []
 known (p ∷ ps) = cons_option (known_at p.name p.type) (known ps)
 
@@ -80,7 +80,7 @@ state_is : (x : Identifier) (type : ParameterType) → elim type [ IntParameter 
 state_is x IntParameter = refl
 state_is x (ReferenceParameter r) = refl
 
-known_is : (ps : List Parameter) → filter_map parameter_state ps ≡ known ps
+pub known_is : (ps : List Parameter) → filter_map parameter_state ps ≡ known ps
 known_is [] = refl
 known_is (p ∷ ps) =
     ap (λ (o : Option (Identifier × VariableState)). cons_option o (filter_map parameter_state ps)) (state_is p.name p.type)
@@ -88,7 +88,7 @@ known_is (p ∷ ps) =
 
 -- ---- names once
 
-or_false : (a b : Bool) → (a || b) ≡ false → (a ≡ false) × (b ≡ false)
+pub or_false : (a b : Bool) → (a || b) ≡ false → (a ≡ false) × (b ≡ false)
 or_false true b h = absurd (cc)
 or_false false b h = (refl, h)
 
@@ -102,7 +102,7 @@ absent_listed x (p ∷ ps) (v ∷ vs) more h =
     let both = or_false (bytes_eq x p.name) (has_name (map (λ p. p.name) ps ++ more) x) h in
     absent_first x p.name (argument_variable v) (listed ps vs) both.0 (absent_listed x ps vs more both.1)
 
-absent_known : (x : Identifier) (ps : List Parameter) (more : List Identifier) → has_name (map (λ p. p.name) ps ++ more) x ≡ false → lookup x (known ps) ≡ None
+pub absent_known : (x : Identifier) (ps : List Parameter) (more : List Identifier) → has_name (map (λ p. p.name) ps ++ more) x ≡ false → lookup x (known ps) ≡ None
 absent_known x [] more h = refl
 absent_known x (p ∷ ps) more h = let both = or_false (bytes_eq x p.name) (has_name (map (λ p. p.name) ps ++ more) x) h in by_type p.type both.0 (absent_known x ps more both.1)
   where
@@ -117,7 +117,7 @@ once_listed (p ∷ ps) (v ∷ vs) more h =
     let both = or_false (has_name (map (λ p. p.name) ps ++ more) p.name) (has_repeated (map (λ p. p.name) ps ++ more)) h in
     (absent_listed p.name ps vs more both.0, once_listed ps vs more both.1)
 
-once_known : (ps : List Parameter) (more : List Identifier) → has_repeated (map (λ p. p.name) ps ++ more) ≡ false → AreOnce (known ps)
+pub once_known : (ps : List Parameter) (more : List Identifier) → has_repeated (map (λ p. p.name) ps ++ more) ≡ false → AreOnce (known ps)
 once_known [] more h = tt
 once_known (p ∷ ps) more h =
     let both = or_false (has_name (map (λ p. p.name) ps ++ more) p.name) (has_repeated (map (λ p. p.name) ps ++ more)) h in
@@ -148,7 +148,7 @@ each_there : (vs : Variables) → AreOnce vs → HasEach vs vs
 each_there [] h = tt
 each_there ((x, v) ∷ rest) h = (front_same x v rest, each_further x v rest rest h.0 (each_there rest h.1))
 
-found_further : {A : Type 0} (x y : Identifier) (w v : A) (vs : ByName A) → lookup y vs ≡ None → lookup x vs ≡ Some v → lookup x ((y, w) ∷ vs) ≡ Some v
+pub found_further : {A : Type 0} (x y : Identifier) (w v : A) (vs : ByName A) → lookup y vs ≡ None → lookup x vs ≡ Some v → lookup x ((y, w) ∷ vs) ≡ Some v
 found_further x y w v vs none found = front_other y x w vs (λ same. none_some (lookup x vs) v (ap (λ (z : Identifier). lookup z vs) same ∙ none) found) ∙ found
 
 -- ---- sorts
