@@ -5,10 +5,12 @@ use Rattle.std.specs.Str.{bytes_eq}
 use Rattle.base.specs.Bytes.{Identifier, ByName, lookup}
 use Rattle.syntax.specs.Tree.{ParameterType, IntParameter, ReferenceParameter, Parameter}
 use Rattle.types.specs.Sorts.{Sort, Jint, Ref, Global, Scope, sort_in}
-use Rattle.types.specs.SortRules.{parameter_sort, has_name}
+use Rattle.types.specs.SortRules.{parameter_sort, has_name, has_repeated}
 use Rattle.regions.specs.RegionStates.{VariableState, ReferenceAt}
 use Rattle.safety.proofs.Accepted.{AreGlobals}
-use Rattle.safety.proofs.EntryPoints.{known, known_at}
+use Rattle.safety.proofs.EntryPoints.{known, known_at, absent_known, or_false}
+use Rattle.safety.proofs.NameLaws.{front_other}
+use Rattle.safety.proofs.SetLaws.{none_some}
 
 abbrev scope_of : List Parameter → Scope → Scope
 scope_of ps scope = map {B = Identifier × Sort} (λ p. (p.name, parameter_sort p.type)) ps ++ scope
@@ -37,3 +39,40 @@ scope_taken ((y, t) ∷ scope) x s e = one_taken (bytes_eq x y) s t (sort_in sco
 pub names_taken : (ps : List Parameter) (scope : Scope) (x : Identifier) (s : Sort) → sort_in (scope_of ps scope) x ≡ Some s → has_name (map (λ p. p.name) ps ++ map (λ s. s.0) scope) x ≡ true
 names_taken [] scope x s e = scope_taken scope x s e
 names_taken (p ∷ ps) scope x s e = one_taken (bytes_eq x p.name) s (parameter_sort p.type) (sort_in (scope_of ps scope) x) (has_name (map (λ p. p.name) ps ++ map (λ s. s.0) scope) x) e (names_taken ps scope x s)
+
+one_state : (type : ParameterType) (x y : Identifier) (v : VariableState) (inner : Scope) (states : ByName VariableState) → lookup y states ≡ None → lookup x (cons_option (known_at y type) states) ≡ Some v → (lookup x states ≡ Some v → (v ≡ ReferenceAt 1 true) × (sort_in inner x ≡ Some Ref))
+    → (v ≡ ReferenceAt 1 true) × (sort_in ((y, parameter_sort type) ∷ inner) x ≡ Some Ref)
+one_state IntParameter x y v inner states none e later =
+    let is = later e in
+    (is.0, front_other y x Jint inner (λ same. none_some (lookup x states) v (ap (λ (z : Identifier). lookup z states) same ∙ none) e) ∙ is.1)
+one_state (ReferenceParameter r) x y v inner states none e later = by_test (bytes_eq x y) e
+  where
+    by_test : (b : Bool) → (if b then Some (ReferenceAt 1 true) else lookup x states) ≡ Some v → (v ≡ ReferenceAt 1 true) × ((if b then Some Ref else sort_in inner x) ≡ Some Ref)
+    by_test true g = (cc, refl)
+    by_test false g = later g
+
+-- each state is a live reference's
+pub state_named : (ps : List Parameter) (scope : Scope) (x : Identifier) (v : VariableState) → has_repeated (map (λ p. p.name) ps ++ map (λ s. s.0) scope) ≡ false → lookup x (known ps) ≡ Some v → (v ≡ ReferenceAt 1 true) × (sort_in (scope_of ps scope) x ≡ Some Ref)
+state_named [] scope x v h e = absurd (cc)
+state_named (p ∷ ps) scope x v h e =
+    let both = or_false (has_name (map (λ p. p.name) ps ++ map (λ s. s.0) scope) p.name) (has_repeated (map (λ p. p.name) ps ++ map (λ s. s.0) scope)) h in
+    one_state p.type x p.name v (scope_of ps scope) (known ps) (absent_known p.name ps (map (λ s. s.0) scope) both.0) e (state_named ps scope x v both.1)
+
+-- the sorts at an entry
+abbrev pub IsEntrySort : Sort → Type 0
+IsEntrySort Jint = Unit {0}
+IsEntrySort Ref = Unit {0}
+IsEntrySort Global = Unit {0}
+IsEntrySort s = ⊥
+
+parameter_entry : (type : ParameterType) → IsEntrySort (parameter_sort type)
+parameter_entry IntParameter = tt
+parameter_entry (ReferenceParameter r) = tt
+
+one_entry : (b : Bool) (s t : Sort) (inner : Option Sort) → (if b then Some t else inner) ≡ Some s → IsEntrySort t → (inner ≡ Some s → IsEntrySort s) → IsEntrySort s
+one_entry true s t inner e h later = let same : t ≡ s = cc in subst IsEntrySort same h
+one_entry false s t inner e h later = later e
+
+pub entry_sort : (ps : List Parameter) (scope : Scope) (x : Identifier) (s : Sort) → AreGlobals scope → sort_in (scope_of ps scope) x ≡ Some s → IsEntrySort s
+entry_sort [] scope x s globals e = subst IsEntrySort (sym (globals x s e)) tt
+entry_sort (p ∷ ps) scope x s globals e = one_entry (bytes_eq x p.name) s (parameter_sort p.type) (sort_in (scope_of ps scope) x) e (parameter_entry p.type) (entry_sort ps scope x s globals)
