@@ -1,14 +1,18 @@
 -- What is known of the names at a function's entry.
-use Rattle.std.proofs.Common.{◌≡◌, ℕ, ◌||◌, Bool, true, false, List, [], ◌∷◌, ◌++◌, map, Option, Some, None, refl, sym, ap, ◌∙◌, subst, if◌then◌else◌}
+use Rattle.std.proofs.Common.{◌≡◌, ℕ, arith, ◌||◌, Bool, true, false, List, [], ◌∷◌, ◌++◌, map, Option, Some, None, refl, sym, ap, ◌∙◌, subst, if◌then◌else◌}
 use Rattle.std.specs.List.{cons_option}
 use Rattle.std.specs.Str.{bytes_eq}
 use Rattle.base.specs.Bytes.{Identifier, ByName, lookup}
-use Rattle.syntax.specs.Tree.{ParameterType, IntParameter, ReferenceParameter, Parameter}
-use Rattle.types.specs.Sorts.{Sort, Jint, Ref, Global, Scope, sort_in}
+use Rattle.syntax.specs.Tree.{ParameterType, IntParameter, ReferenceParameter, Parameter, Function, JClass}
+use Rattle.types.specs.Sorts.{Sort, Jint, Ref, Global, Truth, Buffer, Scope, sort_in}
 use Rattle.types.specs.SortRules.{parameter_sort, has_name, has_repeated}
-use Rattle.regions.specs.RegionStates.{VariableState, ReferenceAt}
+use Rattle.regions.specs.RegionStates.{VariableState, BufferState, ReferenceAt, BufferIn}
 use Rattle.safety.proofs.Accepted.{AreGlobals}
-use Rattle.safety.proofs.EntryPoints.{known, known_at, absent_known, or_false}
+use Rattle.safety.proofs.EntryPoints.{known, known_at, known_is, once_known, absent_known, or_false, entry_scope, entry_point, HasNamesOnce}
+use Rattle.safety.proofs.KnownPoints.{IsKnown, held_of}
+use Rattle.safety.specs.Points.{Point}
+use Rattle.syntax.specs.Parts.{parameter_names}
+use Rattle.jni.specs.JniFunction.{Access}
 use Rattle.safety.proofs.NameLaws.{front_other}
 use Rattle.safety.proofs.SetLaws.{none_some}
 
@@ -76,3 +80,24 @@ one_entry false s t inner e h later = later e
 pub entry_sort : (ps : List Parameter) (scope : Scope) (x : Identifier) (s : Sort) → AreGlobals scope → sort_in (scope_of ps scope) x ≡ Some s → IsEntrySort s
 entry_sort [] scope x s globals e = subst IsEntrySort (sym (globals x s e)) tt
 entry_sort (p ∷ ps) scope x s globals e = one_entry (bytes_eq x p.name) s (parameter_sort p.type) (sort_in (scope_of ps scope) x) e (parameter_entry p.type) (entry_sort ps scope x s globals)
+
+no_held : (access : Access) (a : Identifier) (b : BufferState) → BufferIn b ≡ ReferenceAt 1 true → ⊥
+no_held access a b e = cc
+
+-- what is known at the entry of a function
+pub entry_known : (f : Function) (scope : Scope) → AreGlobals scope → HasNamesOnce f scope → IsKnown (entry_point f scope) (parameter_names f ++ map (λ s. s.0) scope)
+entry_known f scope globals once =
+    let ps : List Parameter = record { type = ReferenceParameter JClass; name = f.class_name } ∷ f.parameters in
+    subst (λ (states : ByName VariableState). IsKnown (record { names = entry_scope f scope; regions = record { variables = (f.class_name, ReferenceAt 1 true) ∷ states; frames = 1 } }) (parameter_names f ++ map (λ s. s.0) scope)) (sym (known_is f.parameters)) (record {
+      stated = record {
+        no_truth = λ x e. entry_sort ps scope x Truth globals e;
+        reference = λ x e. (1, true, reference_known ps scope x globals e);
+        buffer = λ x t writable e. absurd (entry_sort ps scope x (Buffer t writable) globals e);
+      };
+      named_taken = names_taken ps scope;
+      known_taken = λ x v e. names_taken ps scope x Ref (state_named ps scope x v once e).1;
+      arrays_taken = λ x access a h. let p : Point = record { names = entry_scope f scope; regions = record { variables = known ps; frames = 1 } } in let held = held_of p x access a h in absurd (no_held access a held.0 (state_named ps scope x (BufferIn held.0) once held.1).0);
+      stateful = λ x v e. (Ref, (state_named ps scope x v once e).1, tt);
+      framed = omega arith;
+      once = once_known ps (map (λ s. s.0) scope) once;
+    })
