@@ -1,4 +1,4 @@
--- An accepted function's tasks break no rule from its entry on, by what assignments give and what is known at the entry.
+-- An accepted function's tasks break no rule from its entry on, by what assignments give.
 use Rattle.std.proofs.Common.{◌≡◌, ℕ, List, [], ◌∷◌, ◌++◌, map, refl, ap, subst}
 use Rattle.base.specs.Bytes.{Identifier}
 use Rattle.syntax.specs.Parts.{parameter_names}
@@ -10,10 +10,11 @@ use Rattle.regions.specs.RegionStates.{RegionState}
 use Rattle.source.specs.Task.{Task, tasks_of}
 use Rattle.safety.specs.StepSafe.{AcceptedIsSafe}
 use Rattle.safety.specs.Wanted.{Outside, GoesOn}
-use Rattle.safety.proofs.Accepted.{AreGlobals, GivesWanted, accepted_is_safe}
+use Rattle.safety.proofs.Accepted.{GivesWanted, accepted_is_safe}
 use Rattle.safety.proofs.BlockLaws.{block_goes}
 use Rattle.safety.proofs.Declarations.{declare_value, declare_buffer, declare_chars, declare_call, buffer_call, chars_call}
-use Rattle.safety.proofs.EntryPoints.{entry_point, HasNamesOnce}
+use Rattle.safety.proofs.EntryKnown.{entry_known}
+use Rattle.safety.proofs.EntryPoints.{entry_point}
 use Rattle.safety.proofs.KnownPoints.{IsKnown}
 use Rattle.safety.proofs.PlainStatements.{return_gives, value_gives, print_gives, element_gives, array_gives, perform_gives}
 use Rattle.safety.proofs.StatementCalls.{push_gives}
@@ -26,11 +27,7 @@ nil_after (task ∷ l) = ap (λ (m : List Task). task ∷ m) (nil_after l)
 goes_nowhere : (after : RegionState) → Returned ≡ On after → ⊥
 goes_nowhere after e = cc
 
--- what is known at the entry of a function
-abbrev pub EntryIsKnown : Function → Scope → Type 0
-EntryIsKnown f scope = AreGlobals scope → HasNamesOnce f scope → IsKnown (entry_point f scope) (parameter_names f ++ map (λ s. s.0) scope)
-
-module _ (assigns : (line : ℕ) (x : Identifier) (r : RightSide) → Gives (tree.Assign line x r)) (entry : (f : Function) (scope : Scope) → EntryIsKnown f scope) where
+module _ (assigns : (line : ℕ) (x : Identifier) (r : RightSide) → Gives (tree.Assign line x r)) where
   plain_gives : (s : Stmt) → IsPlain s → Gives s
   plain_gives (tree.Declare line t x (FromExpr e)) h = declare_value line t x e
   plain_gives (tree.Declare line t x (FromCall c)) h = declare_call t line x c
@@ -53,7 +50,7 @@ module _ (assigns : (line : ℕ) (x : Identifier) (r : RightSide) → Gives (tre
   function_gives f scope globals once sorted accepted =
       let p = entry_point f scope in
       let taken = parameter_names f ++ map (λ s. s.0) scope in
-      let known : IsKnown p taken = entry f scope globals once in
+      let known : IsKnown p taken = entry_known f scope globals once in
       subst (λ (l : List Task). GoesOn l p) (nil_after (tasks_of f.body))
       (block_goes f.body (Outside (λ q. ⊥)) [] (λ q o. o.2) p
       (block_gives plain_gives push_gives f.body p p taken taken f.result Returned (λ q. ⊥) known known (λ x s e. e) sorted accepted (λ after e now. goes_nowhere after e)))
