@@ -1,13 +1,12 @@
 -- The arguments of a call that fit by the rules of sorts, and whose names may be used, are operands that fit.
-use Rattle.std.proofs.Common.{◌≡◌, ℕ, Bool, true, false, not, ◌&&◌, ◌||◌, List, [], ◌∷◌, ◌++◌, map, length, Option, Some, None, refl, sym, ap, ◌∙◌, subst}
-use Rattle.std.specs.Prelude.{flat_map, zip, ◌==◌}
-use Rattle.std.specs.List.{list_any, list_all}
-use Rattle.std.proofs.lemmas.Bool.Decides.{Decides-eqb}
+use Rattle.std.proofs.Common.{◌≡◌, ℕ, Bool, true, false, not, ◌&&◌, ◌||◌, List, [], ◌∷◌, ◌++◌, map, length, Option, Some, None, refl, sym, ap, ◌∙◌}
+use Rattle.std.specs.Prelude.{flat_map, zip}
+use Rattle.std.specs.List.{list_any}
 use Rattle.std.proofs.lemmas.Grind.{flat_map-append}
 use Rattle.base.specs.Bytes.{Identifier}
 use Rattle.base.specs.Element.{ElementType, JInt, JShort, JByte, JChar, same_element}
 use Rattle.syntax.specs.Parts.{names_in, elements_in, argument_expressions}
-use Rattle.syntax.specs.Tree.{Constant, True, False, Commit, Abort, Null, Expr, Number, Named, Variable, Element, Prefix, Binary, Paren, Argument, Value, Text, AddressOf}
+use Rattle.syntax.specs.Tree.{Null, Expr, Number, Named, Variable, Element, Prefix, Binary, Paren, Argument, Value, Text, AddressOf}
 use Rattle.jni.specs.JniFunction.{Access, ElementsCopy, ArrayView, CharsCopy, CharsView}
 use Rattle.jni.specs.Prototype.{ParameterKind, Nullable, NonNull, ClassObject, ObjectArray, StringObject, NumberArray, LocalVariable, StaticVariable, FieldID, IntNumber, TextBytes, ArrayVariable, BufferVariable, Mode, IsCopy}
 use Rattle.types.specs.Sorts.{Sort, Word, Jint, Flag, Truth, Ref, Global, Buffer, Array, Scope, sort_in, sort_of, is_jint, is_flag, is_ref, is_global, is_reference, is_field, is_array_of, is_buffer_for, is_null, name_sort, argument_fits, arguments_fit}
@@ -15,7 +14,7 @@ use Rattle.types.specs.Sorts as sort
 use Rattle.types.specs.SortRules.{is_mode, is_mode_parameter, modes_fit}
 use Rattle.regions.specs.RegionRules.{is_dead, is_untested, is_free}
 use Rattle.regions.specs.RegionStates.{RegionState, state_of}
-use Rattle.source.specs.Task.{Operand, operand}
+use Rattle.source.specs.Task.{operand}
 use Rattle.safety.specs.Points.{Point, ReferenceFits, ReferenceArgumentFits, GivenFits, OperandFits, OperandsFit}
 use Rattle.safety.proofs.ExpressionFits.{AreStated, MayRead, is_live, usable_if, expression_fits}
 

@@ -1,27 +1,27 @@
 -- A call that keeps the rules of sorts and regions fits at its point.
-use Rattle.std.proofs.Common.{◌≡◌, ℕ, ◌<◌, arith, ◌⊎◌, inl, inr, Bool, true, false, not, ◌&&◌, ◌||◌, List, [], ◌∷◌, ◌++◌, map, length, nat_le, Option, Some, None, refl, sym, ap, ◌∙◌, subst, if◌then◌else◌}
-use Rattle.std.specs.Prelude.{IsTrue, flat_map, filter_map, zip, ◌==◌}
+use Rattle.std.proofs.Common.{◌≡◌, ℕ, ◌<◌, arith, inl, inr, Bool, true, false, not, ◌&&◌, ◌||◌, List, [], ◌∷◌, ◌++◌, map, length, nat_le, Option, Some, None, refl, sym, ap, ◌∙◌, subst, if◌then◌else◌}
+use Rattle.std.specs.Prelude.{flat_map, filter_map, zip, ◌==◌}
 use Rattle.std.specs.List.{list_any, cons_option}
 use Rattle.std.specs.Option.{option_and_then, option_to_list}
 use Rattle.std.specs.Str.{bytes_eq}
 use Rattle.std.proofs.lemmas.Bool.Decides.{Decides-eqb, nat_tests}
 use Rattle.std.proofs.lemmas.Slice.Eq.{bytes_eq-Decides}
 use Rattle.base.specs.Bytes.{Identifier, ByName, lookup}
-use Rattle.base.specs.Element.{ElementType, JInt, JShort, JByte, JChar}
+use Rattle.base.specs.Element.{ElementType}
 use Rattle.base.specs.Options.{some_passes}
 use Rattle.syntax.specs.Parts.{names_in, elements_in, argument_expressions, own_expressions, own_call, used_names, addresses_in, written_name, assigned_name}
-use Rattle.syntax.specs.Tree.{Expr, Number, Named, Variable, Element, Prefix, Binary, Paren, Argument, Value, Text, AddressOf, Stmt}
+use Rattle.syntax.specs.Tree.{Variable, Argument, Value, Stmt}
 use Rattle.jni.specs.JniFunction.{Access, ElementsCopy, ArrayView, CharsCopy, CharsView, is_critical, same_access, JniFunction, GetBuffer, ReleaseBuffer, DeleteLocalRef, PopLocalFrame}
-use Rattle.jni.specs.Prototype.{ParameterKind, LocalVariable, IntNumber, BufferVariable, Mode, owner, release_mode, prototype}
+use Rattle.jni.specs.Prototype.{ParameterKind, IntNumber, BufferVariable, Mode, owner, release_mode, prototype}
 use Rattle.types.specs.Sorts.{arguments_fit}
 use Rattle.types.specs.SortRules.{modes_fit}
 use Rattle.regions.specs.RegionRules.{RegionRule, CallWhileCritical, UntestedBuffer, WrongBuffer, PopLastFrame, DeadReference, ArrayInUse, is_put_jint, is_critical_call, is_dead, is_reference_now, is_untested, is_free, is_mismatched, is_array_in_use, is_level, breaks_region_rule, Obeys}
-use Rattle.regions.specs.RegionStates.{VariableState, BufferState, Untested, Usable, ReferenceAt, BufferIn, RegionState, state_of, buffer_of, held_by, held_buffers, FunctionCall, function_called, argument_name, first_name, get_of, has_commit, Release, release_of, deleted_name, pops, after_call}
+use Rattle.regions.specs.RegionStates.{VariableState, BufferState, Untested, Usable, ReferenceAt, BufferIn, RegionState, state_of, buffer_of, held_by, held_buffers, FunctionCall, function_called, argument_name, get_of, has_commit, Release, release_of, deleted_name, pops, after_call}
 use Rattle.regions.proofs.BrokenWays.{kept}
 use Rattle.source.specs.Task.{Operand, operand}
 use Rattle.safety.specs.Points.{Point, IsLive, IsUsable, NameFits, OperandsFit}
-use Rattle.safety.specs.Wanted.{Holds, IsUnused, CallKeeps, MeetsViews, CallFits, operand_argument, call_seen}
-use Rattle.safety.proofs.ArgumentFits.{MayReadAll, first_read, both_read, element_same, BufferTested, BuffersTested, operands_fit}
+use Rattle.safety.specs.Wanted.{Holds, CallKeeps, MeetsViews, CallFits, operand_argument, call_seen}
+use Rattle.safety.proofs.ArgumentFits.{MayReadAll, both_read, element_same, BufferTested, BuffersTested, operands_fit}
 use Rattle.safety.proofs.ExpressionFits.{AreStated}
 
 -- ---- tests, turned round

@@ -1,5 +1,5 @@
 -- Declarations run from what is known before them.
-use Rattle.std.proofs.Common.{◌≡◌, ℕ, inl, inr, Bool, true, false, not, ◌&&◌, ◌||◌, List, [], ◌∷◌, ◌++◌, Option, Some, None, refl, sym, ap, ◌∙◌, subst}
+use Rattle.std.proofs.Common.{◌≡◌, ℕ, inr, Bool, true, false, not, ◌||◌, List, [], ◌∷◌, ◌++◌, Option, Some, refl, sym, ap, ◌∙◌, subst}
 use Rattle.std.specs.Option.{is_some}
 use Rattle.base.specs.Bytes.{Identifier}
 use Rattle.base.specs.Element.{ElementType, JChar}
@@ -12,7 +12,7 @@ use Rattle.types.specs.Sorts as sort
 use Rattle.types.specs.SortRules as rules
 use Rattle.types.specs.SortRules.{has_name, variable_sort, result_fits, call_fits}
 use Rattle.regions.specs.RegionStates.{Free, BufferIn, ReferenceAt, held_by, get_of, buffer_from, function_called, after_call, with_new, with_set, FunctionCall}
-use Rattle.source.specs.Task.{Target, Declared, ScalarKind, ReferenceKind, FieldKind, BufferKind, set_task, kind_of}
+use Rattle.source.specs.Task.{Declared, ScalarKind, ReferenceKind, FieldKind, BufferKind, set_task, kind_of}
 use Rattle.safety.specs.Points.{Point}
 use Rattle.safety.specs.Wanted.{CallKeeps, DeclaresResult, RunsPlain, at}
 use Rattle.safety.proofs.ArgumentFits.{first_read, is_a_jint, is_a_flag, buffer_for}
@@ -22,11 +22,11 @@ use Rattle.safety.proofs.PlainStatements.{null_is, scalar_runs}
 use Rattle.safety.proofs.StatementCalls.{call_there, known_called, call_runs}
 use Rattle.safety.proofs.WaysGive.{Gives}
 
-is_a_word : (o : Option Sort) → is_word o ≡ true → o ≡ Some Word
+pub is_a_word : (o : Option Sort) → is_word o ≡ true → o ≡ Some Word
 is_a_word (Some Word) h = refl
 is_a_word o h = absurd (cc)
 
-first_so : (a b : Bool) → (a || b) ≡ true → b ≡ false → a ≡ true
+pub first_so : (a b : Bool) → (a || b) ≡ true → b ≡ false → a ≡ true
 first_so true b h e = refl
 first_so false b h e = absurd (let c : true ≡ false = sym h ∙ e in cc)
 

@@ -1,5 +1,5 @@
 -- What is known of the names at a function's entry.
-use Rattle.std.proofs.Common.{◌≡◌, ℕ, arith, ◌||◌, Bool, true, false, List, [], ◌∷◌, ◌++◌, map, Option, Some, None, refl, sym, ap, ◌∙◌, subst, if◌then◌else◌}
+use Rattle.std.proofs.Common.{◌≡◌, arith, ◌||◌, Bool, true, false, List, [], ◌∷◌, ◌++◌, map, Option, Some, None, refl, sym, ap, ◌∙◌, subst, if◌then◌else◌}
 use Rattle.std.specs.List.{cons_option}
 use Rattle.std.specs.Str.{bytes_eq}
 use Rattle.base.specs.Bytes.{Identifier, ByName, lookup}

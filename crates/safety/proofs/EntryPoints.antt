@@ -1,7 +1,7 @@
 -- How a thread stands at the first statement of a function.
-use Rattle.std.proofs.Common.{◌≡◌, ◌≢◌, ◌⊎◌, inl, inr, ℕ, zero, suc, ◌≤◌, arith, Bool, true, false, ◌&&◌, ◌||◌, List, [], ◌∷◌, ◌++◌, map, filter, length, Option, Some, None, refl, sym, ap, ◌∙◌, subst, if◌then◌else◌}
-use Rattle.std.specs.Prelude.{filter_map, zip, pos, ◌==◌}
-use Rattle.std.specs.List.{cons_option, list_any}
+use Rattle.std.proofs.Common.{◌≡◌, ◌≢◌, ℕ, ◌≤◌, arith, Bool, true, false, ◌&&◌, ◌||◌, List, [], ◌∷◌, ◌++◌, map, filter, length, Option, Some, None, refl, sym, ap, ◌∙◌, subst, if◌then◌else◌}
+use Rattle.std.specs.Prelude.{filter_map, zip, ◌==◌}
+use Rattle.std.specs.List.{cons_option}
 use Rattle.std.specs.Str.{bytes_eq}
 use Rattle.std.proofs.lemmas.Bool.Decides.{Decides-eqb, nat_tests}
 use Rattle.std.proofs.lemmas.Slice.Eq.{bytes_eq-Decides}
@@ -11,14 +11,14 @@ use Rattle.syntax.specs.Parts.{parameter_names}
 use Rattle.syntax.specs.Tree.{ParameterType, IntParameter, ReferenceParameter, Parameter, Function}
 use Rattle.types.specs.Sorts.{Sort, Ref, Global, Scope, sort_in}
 use Rattle.types.specs.SortRules.{parameter_sort, has_name, has_repeated}
-use Rattle.regions.specs.RegionStates.{VariableState, ReferenceAt, BufferIn, parameter_state, state_at_entry, state_of}
+use Rattle.regions.specs.RegionStates.{VariableState, ReferenceAt, BufferIn, parameter_state, state_at_entry}
 use Rattle.source.specs.Activation.{parameter_variable, parameter_variables, named_object, entry_frame}
 use Rattle.source.specs.Load.{fits_parameter, fit_parameters}
 use Rattle.source.specs.Object.{ObjectValue, Number, Refers, Reference}
 use Rattle.source.specs.Thread.{Frame}
 use Rattle.source.specs.Value.{Int}
 use Rattle.source.specs.Variable.{Variable, Scalar, LocalRef, FieldHandle, Elements, LocalArray, Buffer, StaticReference, Variables, Statics}
-use Rattle.safety.specs.Points.{Point, AreOnce, is_copy, owns, owners}
+use Rattle.safety.specs.Points.{Point, AreOnce, is_copy, owns}
 use Rattle.safety.specs.Stands.{VariableFits, Shows, copies, Stands}
 use Rattle.safety.specs.StepSafe.{references_at}
 use Rattle.safety.proofs.FrameLaws.{both_true}

@@ -1,5 +1,5 @@
 -- An expression that has a sort, and whose names are neither dead, free nor untested, is a term with that sort.
-use Rattle.std.proofs.Common.{◌≡◌, ℕ, ◌⊎◌, inl, inr, Bool, true, false, ◌&&◌, ◌||◌, List, [], ◌∷◌, ◌++◌, Option, Some, None, refl, sym, ap, ◌∙◌, subst, if◌then◌else◌}
+use Rattle.std.proofs.Common.{◌≡◌, ℕ, ◌⊎◌, inl, inr, Bool, true, false, ◌&&◌, ◌||◌, List, ◌++◌, Option, Some, None, refl, sym, ap, ◌∙◌, subst, if◌then◌else◌}
 use Rattle.std.specs.List.{list_any}
 use Rattle.std.specs.Option.{option_or}
 use Rattle.std.proofs.lemmas.List.Folds.{list_any-append}
@@ -10,7 +10,7 @@ use Rattle.syntax.specs.Tree.{Constant, True, False, Null, PrefixOp, LogicalNot,
 use Rattle.types.specs.Sorts.{Sort, Word, Jint, Flag, Truth, Ref, Global, Buffer, Array, Scope, OperatorGroup, Logic, Equality, Order, OnWords, group, binary_sort, prefix_sort, is_castable, is_index, has_elements, is_nullable, constant_sort, null_test_sort, sort_in, sort_of}
 use Rattle.types.specs.Sorts as sort
 use Rattle.regions.specs.RegionRules.{is_dead, is_untested, is_free}
-use Rattle.regions.specs.RegionStates.{RegionState, VariableState, BufferState, Free, Untested, Usable, ReferenceAt, BufferIn, state_of}
+use Rattle.regions.specs.RegionStates.{RegionState, BufferState, Free, Untested, Usable, ReferenceAt, BufferIn, state_of}
 use Rattle.source.specs.Term as term
 use Rattle.source.specs.Term.{Term, binary_term, term_of}
 use Rattle.safety.specs.Points.{Point, IsLive, IsUsable, NullTestFits, ElementsFit, IsNumberSort, IsIndexSort, OperatorFits, HasSort}

@@ -9,10 +9,10 @@ use Rattle.syntax.specs.Tree.{SourceUnit}
 use Rattle.jni.specs.JniFunction as jni
 use Rattle.jni.specs.JniFunction.{JniFunction}
 use Rattle.jni.specs.Prototype.{ResultKind, NewLocal, prototype}
-use Rattle.source.specs.Activation.{ending_after, calls_after, return_step}
+use Rattle.source.specs.Activation.{ending_after, calls_after}
 use Rattle.source.specs.Arguments.{Actual, ReleaseMode, CopyBackAndFree, CopyBack, FreeUncopied, number_given, object_given, reference_given, text_given, variable_given, mode_given}
 use Rattle.source.specs.CallEffects.{CallResult, NoResult, NullResult, ScalarResult, ReferenceResult, FieldResult, BufferResult, CallEffect, Throws, Halts, Leaves, out_of_memory, with_capacity, ensure_effect, push_effect, delete_local_effect, delete_global_effect, found_class_effect, found_field_effect, new_array_effect, at_index, at_region, local_array, get_region_effect, set_region_effect, store_effect, release_effect, enter_effect, exit_effect}
-use Rattle.source.specs.CallStep.{put, put_assigned, received, failure, resumed, trap_of_call, checked, makes_objects, completed, after_call, after_refusal, call_step}
+use Rattle.source.specs.CallStep.{put, put_assigned, received, failure, resumed, trap_of_call, checked, completed, after_call, after_refusal, call_step}
 use Rattle.source.specs.CallTable.{call_effect}
 use Rattle.source.specs.Effect.{Effect, Becomes, Sets, SetsNull, SetsElement, MakesArray, Prints, Calls, Returns, TrapsAt, NoEffect, effect_of}
 use Rattle.source.specs.Heap.{next_name}

@@ -1,16 +1,16 @@
 -- What is known of a statement that breaks no rule of sorts, and of the statements inside it.
-use Rattle.std.proofs.Common.{◌≡◌, ℕ, Bool, true, false, not, ◌&&◌, ◌||◌, List, [], ◌∷◌, ◌++◌, map, filter, refl, sym, ◌∙◌}
+use Rattle.std.proofs.Common.{◌≡◌, Bool, true, false, not, ◌||◌, List, [], ◌∷◌, ◌++◌, refl}
 use Rattle.std.specs.Prelude.{flat_map}
 use Rattle.std.specs.List.{list_any, list_all}
 use Rattle.std.specs.Option.{is_none}
 use Rattle.base.specs.Bytes.{Identifier}
 use Rattle.base.specs.Options.{some_passes}
-use Rattle.syntax.specs.Parts.{statements_of, statements_within, line_of, declared_name, right_side, own_call, own_expressions, names_declared}
-use Rattle.syntax.specs.Tree.{ResultType, Test, Stmt, If, IfElse, While, Block, Next}
+use Rattle.syntax.specs.Parts.{statements_of, line_of, declared_name, right_side, own_call, own_expressions, names_declared}
+use Rattle.syntax.specs.Tree.{ResultType, Stmt, If, IfElse, While}
 use Rattle.jni.specs.Prototype.{function_named}
 use Rattle.types.specs.Sorts.{Scope, call_arguments_fit}
-use Rattle.types.specs.SortRules.{SortRule, UnknownName, DeclaredTwice, SortMisfit, UnknownFunction, ArgumentCount, ReferenceCopied, BadMode, ReadOnlyWrite, sort_rules, Place, StatementForm, has_name, is_formed, statement_fits, has_wrong_count, has_wrong_mode, copies_reference, set_sort, breaks, broken_at, with_declared, places_within, places_of}
-use Rattle.safety.proofs.PlaceLists.{AreUnbroken, first_empty, second_empty, front_unbroken, back_unbroken, none_broken, first_false, second_false}
+use Rattle.types.specs.SortRules.{SortRule, UnknownName, DeclaredTwice, SortMisfit, UnknownFunction, ArgumentCount, ReferenceCopied, BadMode, ReadOnlyWrite, sort_rules, Place, StatementForm, has_name, is_formed, statement_fits, has_wrong_count, has_wrong_mode, copies_reference, set_sort, breaks, broken_at, places_within, places_of}
+use Rattle.safety.proofs.PlaceLists.{AreUnbroken, first_empty, second_empty, none_broken, first_false, second_false}
 
 -- what a statement that breaks no rule is known for
 pub record IsKept (known : Scope) (taken : List Identifier) (returns : ResultType) (s : Stmt) : Type 0 where

@@ -8,14 +8,13 @@ use Rattle.std.proofs.lemmas.Slice.Eq.{bytes_eq-Decides}
 use Rattle.base.specs.Bytes.{Identifier, ByName, lookup}
 use Rattle.base.specs.Element.{ElementType}
 use Rattle.jni.specs.JniFunction.{Access}
-use Rattle.types.specs.Sorts.{Sort, Ref, Truth, Buffer, Scope, sort_in}
+use Rattle.types.specs.Sorts.{Sort, Ref, Truth, Buffer, sort_in}
 use Rattle.types.specs.SortRules.{has_name}
 use Rattle.regions.specs.RegionRules.{is_held}
 use Rattle.regions.specs.RegionStates.{VariableState, BufferState, Free, Untested, Usable, ReferenceAt, BufferIn, RegionState, state_of, held_by, with_new}
 use Rattle.regions.specs.Regions.{has_variable, left, holds_own}
-use Rattle.source.specs.Variable.{Variables}
-use Rattle.safety.specs.Points.{Point, AreOnce, owns, owners}
-use Rattle.safety.specs.Wanted.{Holds, Closes, IsUnused, IsNew, at, named}
+use Rattle.safety.specs.Points.{Point, AreOnce, owns}
+use Rattle.safety.specs.Wanted.{Holds, Closes, IsNew, at, named}
 use Rattle.safety.proofs.ExpressionFits.{AreStated}
 use Rattle.safety.proofs.NameLaws.{one_or_other, front_same, front_other}
 use Rattle.safety.proofs.SetLaws.{once_changed}
@@ -86,7 +85,7 @@ pub kin_same : (p : Point) (taken : List Identifier) → IsKnown p taken → (x 
 kin_same p taken k x (ReferenceAt l a) e = tt
 kin_same p taken k x (BufferIn b) e = λ access a h. k.arrays_taken x access a (holds_of p x b access a e h)
 
-each_found : (change : Identifier → VariableState → VariableState) (x : Identifier) (vs : ByName VariableState) → lookup x (map (λ (v : Identifier × VariableState). (v.0, change v.0 v.1)) vs) ≡ option_map (change x) (lookup x vs)
+pub each_found : (change : Identifier → VariableState → VariableState) (x : Identifier) (vs : ByName VariableState) → lookup x (map (λ (v : Identifier × VariableState). (v.0, change v.0 v.1)) vs) ≡ option_map (change x) (lookup x vs)
 each_found change x [] = refl
 each_found change x ((y, v) ∷ vs) = by_test (bytes_eq x y) refl (each_found change x vs)
   where
@@ -95,7 +94,7 @@ each_found change x ((y, v) ∷ vs) = by_test (bytes_eq x y) refl (each_found ch
     by_test true e later = ap (λ (z : Identifier). Some (change z v)) (sym ((bytes_eq-Decides x y).0 e))
     by_test false e later = later
 
-from_map : (change : VariableState → VariableState) (o : Option VariableState) (v : VariableState) → option_map change o ≡ Some v → (u : VariableState) × (o ≡ Some u) × (change u ≡ v)
+pub from_map : (change : VariableState → VariableState) (o : Option VariableState) (v : VariableState) → option_map change o ≡ Some v → (u : VariableState) × (o ≡ Some u) × (change u ≡ v)
 from_map change None v e = absurd (cc)
 from_map change (Some u) v e = (u, refl, cc)
 

@@ -1,37 +1,33 @@
 -- The statements without blocks run from what is known before them: returns, prints, elements, arrays, calls and declarations.
-use Rattle.std.proofs.Common.{◌≡◌, ℕ, ◌≤◌, arith, Bool, true, false, not, ◌&&◌, ◌||◌, List, [], ◌∷◌, ◌++◌, Option, Some, None, refl, sym, ap, ◌∙◌, subst, if◌then◌else◌}
+use Rattle.std.proofs.Common.{◌≡◌, ℕ, ◌≤◌, arith, Bool, true, false, not, ◌&&◌, ◌||◌, List, [], ◌∷◌, ◌++◌, Some, refl, sym, ap, ◌∙◌, subst, if◌then◌else◌}
 use Rattle.std.specs.Prelude.{flat_map, nat_lt}
 use Rattle.std.specs.List.{list_any}
-use Rattle.std.specs.Option.{is_some}
 use Rattle.std.specs.Str.{bytes_eq}
 use Rattle.std.proofs.lemmas.Bool.Decides.{nat_tests}
 use Rattle.base.specs.Bytes.{Identifier, ByName, lookup}
-use Rattle.base.specs.Element.{ElementType, JChar}
+use Rattle.base.specs.Element.{ElementType}
 use Rattle.base.specs.Options.{some_passes}
-use Rattle.syntax.specs.Parts.{own_expressions, elements_in, used_names, names_in, addresses_in}
+use Rattle.syntax.specs.Parts.{elements_in, used_names, names_in}
 use Rattle.syntax.specs.Tree as tree
 use Rattle.syntax.specs.Tree.{ResultType, Void, IntResult, ReferenceResult, VariableType, UInt32, JIntVariable, JSize, JBoolean, JFieldId, ReferenceVariable, Constant, True, False, Commit, Abort, Null, Expr, Argument, Call, RightSide, FromExpr, FromCall, Stmt}
-use Rattle.jni.specs.JniFunction.{Access, is_critical, JniFunction, GetBuffer}
-use Rattle.jni.specs.Prototype.{ResultKind, NewLocal, NewGlobal, GivesFlag, GivesInt, GivesField, GivesNothing, GivesBuffer, function_named, prototype}
-use Rattle.types.specs.Sorts.{Sort, Word, Jint, Flag, Truth, Ref, Global, Buffer, Array, Scope, sort_in, sort_of, is_word, is_jint, is_flag, is_ref, is_index, has_elements, is_buffer_for, is_null, name_sort}
-use Rattle.types.specs.Sorts as sort
+use Rattle.jni.specs.JniFunction.{Access, is_critical}
+use Rattle.jni.specs.Prototype.{ResultKind, NewGlobal, GivesBuffer, prototype}
+use Rattle.types.specs.Sorts.{Sort, Jint, Array, sort_in, sort_of, is_jint, is_ref, is_index, has_elements, is_null, name_sort}
 use Rattle.types.specs.SortRules as rules
 use Rattle.types.specs.SortRules.{has_name, variable_sort, result_fits, call_fits, may_be_dropped, is_droppable, return_fits, value_sets}
 use Rattle.regions.specs.RegionRules.{CallWhileCritical, ReturnWithBuffer, ReturnInFrame, UntestedBuffer, WrongBuffer, is_return, is_put_jint, is_critical_call, is_dead, is_held, is_free, is_untested, holds_buffer, Obeys}
-use Rattle.regions.specs.RegionStates.{VariableState, BufferState, Free, Untested, Usable, ReferenceAt, BufferIn, RegionState, state_of, held_by, held_buffers, function_called, get_of, buffer_from, after_call, with_set, state_after, FunctionCall}
-use Rattle.regions.specs.Regions.{Way, On, Returned, Keeps}
-use Rattle.source.specs.Task.{Target, Declared, Dropped, ScalarKind, set_task, kind_of}
+use Rattle.regions.specs.RegionStates.{VariableState, BufferState, Free, Untested, Usable, BufferIn, state_of, held_by, held_buffers, function_called, after_call}
+use Rattle.source.specs.Task.{Target, Dropped, set_task}
 use Rattle.source.specs.Term as term
 use Rattle.source.specs.Term.{Term, Read, term_of}
-use Rattle.safety.specs.Points.{Point, IsLive, IsNumberSort, HasSort}
-use Rattle.safety.specs.Wanted.{Holds, HasNoView, MayReturnFrom, ReturnedFits, ReturnFits, SetsNumber, MayDrop, CallKeeps, DeclaresResult, RunsPlain, at, named}
-use Rattle.safety.proofs.ArgumentFits.{MayReadAll, first_read, is_a_jint, is_a_flag, is_a_ref, buffer_for}
+use Rattle.safety.specs.Points.{Point, IsNumberSort, HasSort}
+use Rattle.safety.specs.Wanted.{HasNoView, MayReturnFrom, ReturnedFits, ReturnFits, SetsNumber, MayDrop, RunsPlain, at}
+use Rattle.safety.proofs.ArgumentFits.{first_read, is_a_jint, is_a_ref}
 use Rattle.safety.proofs.CallFits.{neither, both_so, second_fails, some_any, unbroken, statement_reads, holds_any}
-use Rattle.safety.proofs.ExpressionFits.{MayRead, IsValueSort, is_live, indexed, index_is_value, number_is_value, elements_fit, expression_fits}
-use Rattle.safety.proofs.KeptPlaces.{IsKept}
-use Rattle.safety.proofs.KnownPoints.{IsKnown, known_more, held_of, is_new, known_named, known_new}
-use Rattle.safety.proofs.StatementCalls.{IsCalled, call_there, known_called, call_runs}
-use Rattle.safety.proofs.WaysGive.{Gives, covers_front, point_after}
+use Rattle.safety.proofs.ExpressionFits.{MayRead, is_live, indexed, index_is_value, number_is_value, elements_fit, expression_fits}
+use Rattle.safety.proofs.KnownPoints.{IsKnown, known_more, held_of, is_new, known_named}
+use Rattle.safety.proofs.StatementCalls.{call_there, known_called, call_runs}
+use Rattle.safety.proofs.WaysGive.{Gives, covers_front}
 
 -- ---- returns
 

@@ -1,12 +1,12 @@
 -- The call of a statement that keeps the rules, and what is known after it.
-use Rattle.std.proofs.Common.{◌≡◌, ℕ, ◌+◌, ◌-◌, ◌<◌, ◌≤◌, arith, ◌⊎◌, inl, inr, Bool, true, false, not, ◌&&◌, List, [], ◌∷◌, length, Option, Some, None, refl, sym, ap, ◌∙◌, subst, nat_le, if◌then◌else◌}
+use Rattle.std.proofs.Common.{◌≡◌, ℕ, ◌+◌, ◌-◌, ◌<◌, ◌≤◌, arith, inl, inr, Bool, true, false, not, ◌&&◌, List, length, Option, Some, None, refl, sym, ap, ◌∙◌, subst, nat_le, if◌then◌else◌}
 use Rattle.std.specs.Prelude.{flat_map, ◌==◌}
 use Rattle.std.specs.Option.{is_none, option_and_then, option_map}
 use Rattle.std.proofs.lemmas.Bool.Decides.{Decides-eqb, nat_tests}
 use Rattle.base.specs.Bytes.{Identifier}
 use Rattle.base.specs.Options.{some_passes}
 use Rattle.syntax.specs.Parts.{argument_expressions, own_expressions, own_call}
-use Rattle.syntax.specs.Tree.{ResultType, Call, Test, TestCall, Stmt, If, IfElse, Block, End}
+use Rattle.syntax.specs.Tree.{ResultType, Call, TestCall, Stmt, If, IfElse, End}
 use Rattle.jni.specs.JniFunction.{JniFunction, PushLocalFrame}
 use Rattle.jni.specs.Prototype.{function_named, prototype}
 use Rattle.types.specs.Sorts.{call_arguments_fit, arguments_fit}
@@ -14,7 +14,7 @@ use Rattle.types.specs.SortRules as rules
 use Rattle.types.specs.SortRules.{has_wrong_count, has_wrong_mode, modes_fit, may_be_tested}
 use Rattle.regions.specs.RegionRules.{PopLastFrame, Obeys}
 use Rattle.regions.specs.RegionStates.{VariableState, ReferenceAt, BufferIn, RegionState, FunctionCall, function_called, Release, release_of, deleted_name, pops, made_free, killed, killed_from, with_some_changed, after_release, after_pop, after_call, get_of}
-use Rattle.source.specs.Task.{Task, Target, Tested, invocation, task_of}
+use Rattle.source.specs.Task.{Target, Tested, invocation, task_of}
 use Rattle.safety.specs.Points.{Point}
 use Rattle.safety.specs.Wanted.{CallFits, CallKeeps, ResultGoes, RunsPlain, RunsPush, call_seen, is_push, at}
 use Rattle.safety.proofs.CallFits.{operands_of, after_same, get_same, call_rules, call_fits, unbroken}

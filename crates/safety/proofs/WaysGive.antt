@@ -1,24 +1,21 @@
 -- From what is known at a point, a statement and a block that keep the rules break none as they run.
-use Rattle.std.proofs.Common.{◌≡◌, ℕ, ◌+◌, ◌≤◌, arith, ◌⊎◌, inl, inr, Bool, true, false, not, ◌||◌, List, [], ◌∷◌, ◌++◌, map, Option, Some, None, refl, sym, ap, ◌∙◌, subst, if◌then◌else◌}
-use Rattle.std.specs.Prelude.{IsTrue}
-use Rattle.std.specs.List.{list_any}
-use Rattle.std.specs.Option.{is_none}
+use Rattle.std.proofs.Common.{◌≡◌, ℕ, ◌+◌, ◌≤◌, arith, ◌⊎◌, inl, inr, Bool, true, false, not, ◌||◌, List, [], ◌∷◌, ◌++◌, Option, Some, refl, sym, ap, ◌∙◌, subst, if◌then◌else◌}
 use Rattle.std.specs.Str.{bytes_eq}
 use Rattle.std.proofs.lemmas.List.Elements.{filter_map-append}
 use Rattle.std.proofs.lemmas.List.Folds.{list_any-append}
 use Rattle.base.specs.Bytes.{Identifier}
 use Rattle.base.specs.Options.{some_passes}
-use Rattle.syntax.specs.Parts.{statements_of, statements_within, declared_name, names_declared, own_expressions}
+use Rattle.syntax.specs.Parts.{statements_of, statements_within, declared_name, names_declared}
 use Rattle.syntax.specs.Tree as tree
 use Rattle.syntax.specs.Tree.{ResultType, Expr, Test, TestExpr, TestCall, Stmt, If, IfElse, While, Block, End, Next}
-use Rattle.types.specs.Sorts.{Sort, Truth, Scope, sort_in, sort_of, is_truth}
+use Rattle.types.specs.Sorts.{Sort, Truth, sort_in, sort_of, is_truth}
 use Rattle.types.specs.SortRules.{has_name, with_declared, places_within, places_of}
 use Rattle.regions.specs.RegionRules.{Obeys}
-use Rattle.regions.specs.RegionStates.{VariableState, BufferState, Free, Untested, Usable, ReferenceAt, BufferIn, RegionState, state_of, made_free, with_changed, held_by}
-use Rattle.regions.specs.Regions.{made_usable, where_true, where_false, left, holds_own, Way, On, Returned, Join, ComesBack, IsEnd, Keeps, KeepsBlock}
+use Rattle.regions.specs.RegionStates.{VariableState, Free, Untested, Usable, ReferenceAt, BufferIn, RegionState, state_of, made_free, with_changed}
+use Rattle.regions.specs.Regions.{made_usable, where_true, where_false, left, holds_own, Way, On, Returned, Join, ComesBack, Keeps, KeepsBlock}
 use Rattle.source.specs.Task.{task_of}
-use Rattle.source.specs.Term.{Term, IsNull, term_of}
-use Rattle.safety.specs.Points.{Point, HasSort}
+use Rattle.source.specs.Term.{term_of}
+use Rattle.safety.specs.Points.{Point}
 use Rattle.safety.specs.Wanted.{Closes, Outside, Teaches, Nothing, ForNull, ForOther, RunsBlock, RunsStmt, RunsPush, at}
 use Rattle.safety.proofs.ArgumentFits.{first_read}
 use Rattle.safety.proofs.BlockLaws.{block_more}
