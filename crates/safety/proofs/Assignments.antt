@@ -23,7 +23,7 @@ use Rattle.source.specs.Task.{Assigned, set_task}
 use Rattle.safety.specs.Points.{Point, AreOnce, IsNumberSort}
 use Rattle.safety.specs.Wanted.{Holds, IsUnused, MaySet, AssignsNull, AssignsResult, RunsPlain, revived, at}
 use Rattle.safety.proofs.ArgumentFits.{first_read, is_a_jint, is_a_flag, is_a_ref, buffer_for}
-use Rattle.safety.proofs.CallFits.{neither, both_so, second_fails, unbroken, none_holds, statement_reads}
+use Rattle.safety.proofs.CallFits.{not_so, neither, both_so, second_fails, unbroken, none_holds, statement_reads}
 use Rattle.safety.proofs.ExpressionFits.{MayRead}
 use Rattle.safety.proofs.PlainStatements.{null_is, scalar_runs}
 use Rattle.safety.proofs.Declarations.{called_taken, first_so, is_a_word}
@@ -203,10 +203,6 @@ held_before p call y access a h =
     by_case : (b : BufferState) → held_by b ≡ Some (access, a) → (u : VariableState) → state_of p.regions y ≡ Some u → (u ≡ BufferIn b) ⊎ (b ≡ Free) → Holds p y access a
     by_case b is u e (inl same) = holds_of p y b access a (e ∙ ap (λ (v : VariableState). Some v) same) is
     by_case b is u e (inr free) = absurd (let none : None ≡ Some (access, a) = sym (ap held_by free) ∙ is in cc)
-
-not_so : (b : Bool) → not b ≡ false → b ≡ true
-not_so true h = refl
-not_so false h = absurd (cc)
 
 level_rule : (n : ℕ) (o : Option VariableState) (l : ℕ) (a : Bool) → o ≡ Some (ReferenceAt l a) → (is_reference_now o && not (is_level n o)) ≡ false → l ≡ n
 level_rule n o l a e h = (Decides-eqb l n).0 (not_so (l == n) (ap (λ (o : Option VariableState). is_reference_now o && not (is_level n o)) (sym e) ∙ h))

@@ -42,7 +42,7 @@ first_fails : (a b : Bool) → (a && b) ≡ false → b ≡ true → a ≡ false
 first_fails true b h e = sym e ∙ h
 first_fails false b h e = refl
 
-not_so : (b : Bool) → not b ≡ false → b ≡ true
+pub not_so : (b : Bool) → not b ≡ false → b ≡ true
 not_so true h = refl
 not_so false h = absurd (cc)
 

@@ -17,7 +17,7 @@ use Rattle.regions.specs.RegionStates.{VariableState, ReferenceAt, BufferIn, Reg
 use Rattle.source.specs.Task.{Target, Tested, invocation, task_of}
 use Rattle.safety.specs.Points.{Point}
 use Rattle.safety.specs.Wanted.{CallFits, CallKeeps, ResultGoes, RunsPlain, RunsPush, call_seen, is_push, at}
-use Rattle.safety.proofs.CallFits.{operands_of, after_same, get_same, call_rules, call_fits, unbroken}
+use Rattle.safety.proofs.CallFits.{not_so, operands_of, after_same, get_same, call_rules, call_fits, unbroken}
 use Rattle.safety.proofs.KeptPlaces.{IsKept}
 use Rattle.safety.proofs.KnownPoints.{IsKnown, Kin, kin_same, known_changed}
 use Rattle.safety.proofs.WaysGive.{Pushes, free_kin, known_one}
@@ -30,10 +30,6 @@ pub record IsCalled (p : Point) (s : Stmt) (c : Call) : Type 0 where
   pub count : length c.arguments ≡ length (prototype function).parameters
   pub fits : CallFits p function (operands_of function c.arguments)
   pub keeps : CallKeeps p function c.arguments
-
-not_so : (b : Bool) → not b ≡ false → b ≡ true
-not_so true h = refl
-not_so false h = absurd (cc)
 
 function_there : (o : Option JniFunction) → is_none o ≡ false → (f : JniFunction) × (o ≡ Some f)
 function_there None h = absurd (cc)
