@@ -83,7 +83,7 @@ test_more : (y n u v : Point → Type 0) → y ⇒ u → n ⇒ v → (t : Term) 
 test_more y n u v h g t p (s, (a, b, e, r, q)) = (s, (a, b, e, h a r, g b q))
 
 mutual
-  block_more : (b : Block) (k l : Point → Type 0) → k ⇒ l → RunsBlock b k ⇒ RunsBlock b l
+  pub block_more : (b : Block) (k l : Point → Type 0) → k ⇒ l → RunsBlock b k ⇒ RunsBlock b l
   block_more (End line) k l h p r = h p r
   block_more (Next s rest) k l h p r = stmt_more s (RunsBlock rest k) (RunsBlock rest l) (block_more rest k l h) p r
 

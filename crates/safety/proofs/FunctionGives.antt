@@ -1,0 +1,60 @@
+-- An accepted function's tasks break no rule from its entry on.
+use Rattle.std.proofs.Common.{◌≡◌, List, [], ◌∷◌, ◌++◌, map, refl, ap, subst}
+use Rattle.syntax.specs.Parts.{parameter_names}
+use Rattle.syntax.specs.Tree as tree
+use Rattle.syntax.specs.Tree.{RightSide, FromExpr, FromCall, Stmt, Function}
+use Rattle.types.specs.Sorts.{Scope}
+use Rattle.regions.specs.Regions.{On, Returned}
+use Rattle.regions.specs.RegionStates.{RegionState}
+use Rattle.source.specs.Task.{Task, tasks_of}
+use Rattle.safety.specs.StepSafe.{AcceptedIsSafe}
+use Rattle.safety.specs.Wanted.{Outside, GoesOn}
+use Rattle.safety.proofs.Accepted.{GivesWanted, accepted_is_safe}
+use Rattle.safety.proofs.Assignments.{assign_value, assign_call}
+use Rattle.safety.proofs.BlockLaws.{block_goes}
+use Rattle.safety.proofs.Declarations.{declare_value, declare_buffer, declare_chars, declare_call, buffer_call, chars_call}
+use Rattle.safety.proofs.EntryKnown.{entry_known}
+use Rattle.safety.proofs.EntryPoints.{entry_point}
+use Rattle.safety.proofs.KnownPoints.{IsKnown}
+use Rattle.safety.proofs.PlainStatements.{return_gives, value_gives, print_gives, element_gives, array_gives, perform_gives}
+use Rattle.safety.proofs.StatementCalls.{push_gives}
+use Rattle.safety.proofs.WaysGive.{Gives, IsPlain, block_gives}
+
+nil_after : (l : List Task) → l ++ [] ≡ l
+nil_after [] = refl
+nil_after (task ∷ l) = ap (λ (m : List Task). task ∷ m) (nil_after l)
+
+goes_nowhere : (after : RegionState) → Returned ≡ On after → ⊥
+goes_nowhere after e = cc
+
+plain_gives : (s : Stmt) → IsPlain s → Gives s
+plain_gives (tree.Declare line t x (FromExpr e)) h = declare_value line t x e
+plain_gives (tree.Declare line t x (FromCall c)) h = declare_call t line x c
+plain_gives (tree.DeclareBuffer line t x (FromExpr e)) h = declare_buffer line t x e
+plain_gives (tree.DeclareBuffer line t x (FromCall c)) h = buffer_call line t x c
+plain_gives (tree.DeclareChars line x (FromExpr e)) h = declare_chars line x e
+plain_gives (tree.DeclareChars line x (FromCall c)) h = chars_call line x c
+plain_gives (tree.DeclareArray line t x size) h = array_gives line t x size
+plain_gives (tree.Assign line x (FromExpr e)) h = assign_value line x e
+plain_gives (tree.Assign line x (FromCall c)) h = assign_call line x c
+plain_gives (tree.AssignElement line x i e) h = element_gives line x i e
+plain_gives (tree.Perform line c) h = perform_gives line c
+plain_gives (tree.PutJint line e) h = print_gives line e
+plain_gives (tree.Return line) h = return_gives line
+plain_gives (tree.ReturnValue line e) h = value_gives line e
+plain_gives (tree.If line test then') h = absurd h
+plain_gives (tree.IfElse line test then' else') h = absurd h
+plain_gives (tree.While line e body) h = absurd h
+
+function_gives : (f : Function) (scope : Scope) → GivesWanted f scope
+function_gives f scope globals once sorted accepted =
+    let p = entry_point f scope in
+    let taken = parameter_names f ++ map (λ s. s.0) scope in
+    let known : IsKnown p taken = entry_known f scope globals once in
+    subst (λ (l : List Task). GoesOn l p) (nil_after (tasks_of f.body))
+    (block_goes f.body (Outside (λ q. ⊥)) [] (λ q o. o.2) p
+    (block_gives plain_gives push_gives f.body p p taken taken f.result Returned (λ q. ⊥) known known (λ x s e. e) sorted accepted (λ after e now. goes_nowhere after e)))
+
+-- an accepted unit is safe
+pub unit_is_safe : AcceptedIsSafe
+unit_is_safe = accepted_is_safe function_gives
