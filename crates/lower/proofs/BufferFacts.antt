@@ -18,10 +18,10 @@ use Rattle.types.specs.BuiltCalls.{is_built_call, calls_unbuilt}
 use Rattle.types.specs.Sorts.{Buffer, Array}
 use Rattle.types.specs.SortRules.{variable_sort, has_name}
 use Rattle.regions.specs.RegionRules.{breaks_region_rule, is_free, Obeys, RegionRule, CallWhileCritical, ReturnWithBuffer, HeldBuffer, UntestedBuffer, WrongBuffer, ReturnInFrame, PopLastFrame, DeadReference, ArrayInUse, WrongLevel, is_mismatched}
-use Rattle.regions.specs.RegionStates.{Free, BufferState, VariableState, ReferenceAt, BufferIn, RegionState, FunctionCall, call_of, function_called, made_free, with_changed, after_call, release_of, get_of, buffer_from, buffer_set_to, set_to, with_set, state_after, state_of}
+use Rattle.regions.specs.RegionStates.{Free, BufferState, VariableState, ReferenceAt, BufferIn, RegionState, FunctionCall, call_of, function_called, made_free, killed, killed_from, with_changed, with_some_changed, after_release, after_pop, after_call, Release, release_of, deleted_name, pops, get_of, buffer_from, buffer_set_to, set_to, with_set, state_after, state_of}
 use Rattle.regions.specs.Regions.{made_usable, where_true, where_false, has_variable, left, Way, On, Returned, Join, Keeps, KeepsBlock}
 use Rattle.code_generator.specs.Layout.{Slot, Known, Layout, new_slot, layout_after}
-use Rattle.lower.proofs.BuiltCalls.{built_call, keeps_state, gets_nothing}
+use Rattle.lower.proofs.BuiltCalls.{built_call, gets_nothing}
 use Rattle.lower.proofs.PlaceFacts.{or_left, or_right, and_left, and_right, not_false, not_true}
 use Rattle.lower.proofs.SortFacts.{IsNoBuffer, ElementsFit}
 
@@ -40,10 +40,6 @@ calm None h = inl refl
 calm (Some c) h =
     let is = built_call c (not_false (is_built_call c) h) in
     inr (is.function, c.arguments, is.built, ap (elim [ None ↦ None | Some f ↦ Some (f, c.arguments) ]) is.named)
-
-calm_after : (state : RegionState) (call : Option FunctionCall) → IsCalm call → after_call state call ≡ state
-calm_after state call (inl e) = ap (after_call state) e
-calm_after state call (inr e) = ap (after_call state) e.3 ∙ keeps_state e.0 e.2 state e.1
 
 -- ---- a free buffer stays free
 
@@ -73,6 +69,26 @@ kept_if false change h = refl
 
 changed_free : (state : RegionState) (x y : Identifier) (change : VariableState → VariableState) → KeepsFree change → IsFreeIn state x → IsFreeIn (with_changed state y change) x
 changed_free state x y change keeps h = mapped_free state.variables x (λ z old. if bytes_eq y z then change old else old) (λ z. kept_if (bytes_eq y z) change keeps) h
+
+some_free : (state : RegionState) (o : Option Identifier) (x : Identifier) (change : VariableState → VariableState) → KeepsFree change → IsFreeIn state x → IsFreeIn (with_some_changed state o change) x
+some_free state None x change keeps h = h
+some_free state (Some y) x change keeps h = changed_free state x y change keeps h
+
+released_free : (state : RegionState) (o : Option Release) (x : Identifier) → IsFreeIn state x → IsFreeIn (after_release state o) x
+released_free state None x h = h
+released_free state (Some release) x h = by_test release.commits
+  where
+    by_test : (b : Bool) → IsFreeIn (if b then state else with_some_changed state release.buffer made_free) x
+    by_test true = h
+    by_test false = some_free state release.buffer x made_free refl h
+
+-- no call holds a buffer
+called_free : (state : RegionState) (call : Option FunctionCall) (x : Identifier) → IsFreeIn state x → IsFreeIn (after_call state call) x
+called_free state call x h = by_test (pops call)
+  where
+    by_test : (b : Bool) → IsFreeIn (if b then after_pop state else with_some_changed (after_release state (release_of call)) (deleted_name call) killed) x
+    by_test true = mapped_free state.variables x (λ z old. killed_from state.frames old) (λ z. refl) h
+    by_test false = some_free (after_release state (release_of call)) (deleted_name call) x killed refl (released_free state (release_of call) x h)
 
 pub true_free : (state : RegionState) (test : Test) (x : Identifier) → IsFreeIn state x → IsFreeIn (where_true state test) x
 true_free state (TestExpr (tree.Binary tree.Equal (tree.Variable y) (tree.Named tree.Null))) x h = changed_free state x y made_free refl h
@@ -110,7 +126,7 @@ set_free (tree.Assign line y r) state x built other h = changed_free state x y (
 set_free s state x built other h = h
 
 after_free : (s : Stmt) (state : RegionState) (x : Identifier) → IsBuilt (own_call s) → DeclaresOther s x → IsFreeIn state x → IsFreeIn (state_after state s) x
-after_free s state x built other h = subst (λ (after : RegionState). IsFreeIn (with_set after s) x) (sym (calm_after state (function_called s) (calm (own_call s) built))) (set_free s state x built other h)
+after_free s state x built other h = set_free s (after_call state (function_called s)) x built other (called_free state (function_called s) x h)
 
 -- ---- ends of blocks
 
@@ -255,10 +271,6 @@ no_buffer (tree.ReferenceVariable r) u w e = cc
 no_array : (t u : ElementType) (size : ℕ) (w : Bool) → Array t size ≡ Buffer u w → ⊥
 no_array t u size w e = cc
 
--- the state after a statement that goes on is that of its definition
-goes_on : (before after : RegionState) (s : Stmt) → On after ≡ On (state_after before s) → IsBuilt (own_call s) → after ≡ with_set before s
-goes_on before after s h built = sym (same_state after (state_after before s) h) ∙ ap (λ (state : RegionState). with_set state s) (calm_after before (function_called s) (calm (own_call s) built))
-
 others_free : (s : Stmt) (before after : RegionState) (y : Identifier) → declared_name s ≡ Some y → IsBuilt (own_call s) → On after ≡ On (state_after before s) → (x : Identifier) → bytes_eq x y ≡ false → IsFreeIn before x → IsFreeIn after x
 others_free s before after y declares built goes x other free =
     subst (λ (state : RegionState). IsFreeIn state x) (same_state after (state_after before s) goes) (after_free s before x built (ap (some_passes (bytes_eq x)) declares ∙ other) free)
@@ -271,12 +283,12 @@ free_after (tree.Declare line t y r) l before after built others h free =
 free_after (tree.DeclareBuffer line t y r) l before after built others h free =
     let calls = first_built (tree.DeclareBuffer line t y r) built in
     declared_free l.known before after y (new_slot (Buffer t true) l) free
-    (λ u w e. subst (λ (state : RegionState). lookup y state.variables ≡ Some (BufferIn Free)) (sym (goes_on before after (tree.DeclareBuffer line t y r) h.1 calls)) (new_free before.variables y (buffer_set_to r) (free_from r calls)))
+    (λ u w e. subst (λ (state : RegionState). lookup y state.variables ≡ Some (BufferIn Free)) (same_state after (state_after before (tree.DeclareBuffer line t y r)) h.1) (new_free (after_call before (function_called (tree.DeclareBuffer line t y r))).variables y (buffer_set_to r) (free_from r calls)))
     (others_free (tree.DeclareBuffer line t y r) before after y refl calls h.1)
 free_after (tree.DeclareChars line y r) l before after built others h free =
     let calls = first_built (tree.DeclareChars line y r) built in
     declared_free l.known before after y (new_slot (Buffer JChar false) l) free
-    (λ u w e. subst (λ (state : RegionState). lookup y state.variables ≡ Some (BufferIn Free)) (sym (goes_on before after (tree.DeclareChars line y r) h.1 calls)) (new_free before.variables y (buffer_set_to r) (free_from r calls)))
+    (λ u w e. subst (λ (state : RegionState). lookup y state.variables ≡ Some (BufferIn Free)) (same_state after (state_after before (tree.DeclareChars line y r)) h.1) (new_free (after_call before (function_called (tree.DeclareChars line y r))).variables y (buffer_set_to r) (free_from r calls)))
     (others_free (tree.DeclareChars line y r) before after y refl calls h.1)
 free_after (tree.DeclareArray line t y size) l before after built others h free =
     declared_free l.known before after y (new_slot (Array t size) l) free (λ u w e. absurd (no_array t u size w e))

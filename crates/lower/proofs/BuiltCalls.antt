@@ -2,12 +2,12 @@
 use Rattle.std.proofs.Common.{◌≡◌, Bool, true, false, List, Option, Some, None, refl}
 use Rattle.base.specs.Options.{some_passes}
 use Rattle.syntax.specs.Tree.{Argument, Call}
-use Rattle.jni.specs.JniFunction.{JniFunction, DeleteLocalRef, PushLocalFrame, PopLocalFrame, NewGlobalRef, GetBuffer, ReleaseBuffer}
+use Rattle.jni.specs.JniFunction.{JniFunction, PushLocalFrame, NewGlobalRef, GetBuffer}
 use Rattle.jni.specs.Prototype.{ResultKind, NewGlobal, GivesBuffer, function_named, prototype}
 use Rattle.jni.specs.BuiltFunctions.{is_built_function}
 use Rattle.types.specs.BuiltCalls.{is_built_call}
 use Rattle.types.specs.SortRules.{may_be_tested}
-use Rattle.regions.specs.RegionStates.{RegionState, after_call, get_of}
+use Rattle.regions.specs.RegionStates.{get_of}
 
 -- the function of a call, which is built
 pub record BuiltCall (c : Call) : Type 0 where
@@ -41,14 +41,7 @@ pub is_not_tested : (f : JniFunction) → is_built_function f ≡ true → may_b
 is_not_tested PushLocalFrame h = absurd (cc)
 is_not_tested f h = refl
 
--- it does nothing to buffers, references and frames
-pub keeps_state : (f : JniFunction) → is_built_function f ≡ true → (state : RegionState) (arguments : List Argument) → after_call state (Some (f, arguments)) ≡ state
-keeps_state (ReleaseBuffer a) h state arguments = absurd (cc)
-keeps_state DeleteLocalRef h state arguments = absurd (cc)
-keeps_state PopLocalFrame h state arguments = absurd (cc)
-keeps_state f h state arguments = refl
-
--- and gets no buffer
+-- it gets no buffer
 pub gets_nothing : (f : JniFunction) → is_built_function f ≡ true → (arguments : List Argument) → get_of (Some (f, arguments)) ≡ None
 gets_nothing (GetBuffer a) h arguments = absurd (cc)
 gets_nothing f h arguments = refl
