@@ -1,14 +1,14 @@
 -- What answers are, by the effects of the source's calls.
-use Rattle.std.specs.Prelude.{◌≡◌, ℕ, ◌<◌, ◌≤◌, [], ◌∷◌, length, Some, None, FitsSigned}
+use Rattle.std.specs.Prelude.{◌≡◌, ℕ, ◌<◌, ◌≤◌, [], ◌∷◌, drop, length, Option, Some, None, FitsSigned}
 use Rattle.std.specs.Int.{w32}
 use Rattle.classes.specs.BuiltIns.{class_class}
 use Rattle.classes.specs.Class.{Classes}
 use Rattle.heap.specs.Heap.{Space, name_at, values_at}
 use Rattle.heap.specs.declared.value.Value.{Value}
 use Rattle.jni.specs.Prototype.{ResultKind, NewLocal, GivesFlag, GivesInt, GivesField, GivesNothing}
-use Rattle.source.specs.CallEffects.{CallResult, NoResult, NullResult, ScalarResult, ReferenceResult, FieldResult, CallEffect, Leaves, Throws, frames_effect, refuses_frames, with_capacity}
+use Rattle.source.specs.CallEffects.{CallResult, NoResult, NullResult, ScalarResult, ReferenceResult, FieldResult, CallEffect, Leaves, Throws, frames_effect, refuses_frames, with_capacity, without_local}
 use Rattle.source.specs.Heap.{next_name, with_value_at}
-use Rattle.source.specs.Object.{ObjectValue}
+use Rattle.source.specs.Object.{ObjectValue, Reference}
 use Rattle.source.specs.Thread.{Shared, Thread}
 use Rattle.source.specs.Value.{Int, Flag}
 use Rattle.source.specs.World.{fresh_object}
@@ -54,5 +54,9 @@ IsAnswer classes space kind s t (answer.Writes a place v) (Leaves [] s' t' NoRes
 IsAnswer classes space kind s t (answer.Makes c) (Leaves (o ∷ []) s' t' (ReferenceResult r)) =
     (s' ≡ s) × (t' ≡ t) × (kind ≡ NewLocal) × (r ≡ Some (next_name s.heap)) × (o ≡ fresh_object classes c) × IsMakeable classes c
 IsAnswer classes space kind s t (answer.Ensures more) effect = (kind ≡ GivesInt) × (effect ≡ frames_effect classes s t (with_capacity more t.frames))
+IsAnswer classes space kind s t (answer.Pushes capacity) effect = (kind ≡ GivesInt) × (effect ≡ frames_effect classes s t (record { capacity = capacity; references = [] } ∷ t.frames))
+IsAnswer classes space kind s t (answer.Pops a) effect = (kind ≡ NewLocal) × ((r : Reference) × ReferenceAgrees space a r × (effect ≡ Leaves [] s (record t { frames = drop 1 t.frames }) (ReferenceResult r)))
+IsAnswer classes space kind s t (answer.Deletes level a) effect =
+    (kind ≡ GivesNothing) × (0 < level) × (level ≤ length t.frames) × ((n : ℕ) × (name_at space a ≡ Some n) × (effect ≡ Leaves [] s (record t { frames = without_local level n t.frames }) NoResult))
 IsAnswer classes space kind s t answer.RefusesFrames effect = (kind ≡ GivesInt) × (effect ≡ refuses_frames classes s t)
 IsAnswer classes space kind s t answer effect = ⊥

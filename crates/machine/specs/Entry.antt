@@ -47,6 +47,7 @@ pub record BeginsIn (code : Listing) (loaded : List ℕ) (next : PendingCall) (c
   pub stack : call.stack ≡ []
   pub numbers : IsNumbersOf code.slots.numbers (map object_value_view next.arguments.items) call.numbers.items
   pub references : IsReferencesOf code.slots.references loaded next.class (map object_value_view next.arguments.items) call.references.items
+  pub levels : call.levels.items ≡ replicate code.slots.references 1
   pub fields : call.fields.items ≡ replicate code.slots.field_ids None
   pub frame : Frame
   pub frames : call.frames.items ≡ frame ∷ []

@@ -27,6 +27,11 @@ abbrev pub operand_at : List (Option ℕ) → Operand → Option ℕ
 operand_at references (operand.Local i) = held_in (slice_get references i)
 operand_at references o = None
 
+-- the level of the local reference that an operand gives
+abbrev pub level_at : List ℕ → Operand → ℕ
+level_at levels (operand.Local i) = unwrap_or (slice_get levels i) 0
+level_at levels o = 0
+
 -- the field ID that an operand gives
 abbrev pub field_at : List (Option FieldHandle) → Operand → Option FieldHandle
 field_at fields (operand.FieldId i) = held_in (slice_get fields i)

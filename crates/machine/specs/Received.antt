@@ -9,6 +9,10 @@ use Rattle.machine.specs.declared.answer.Given.TheVariants as given
 use Rattle.machine.specs.declared.thread.Activation.{Activation}
 use Rattle.machine.specs.Frames.{Frame, has_room, with_local}
 
+-- the stack, on which the test of an `if` finds the truth whether a number is 0
+abbrev pub stack_with : Target → Given → List ℕ
+stack_with target g = []
+
 -- the number slots with what is given in the target
 abbrev pub numbers_with : Target → Given → List ℕ → List ℕ
 numbers_with (Number i) (given.Number word) numbers = slice_set numbers i word
@@ -18,6 +22,11 @@ numbers_with target g numbers = numbers
 abbrev pub references_with : Target → Given → List (Option ℕ) → List (Option ℕ)
 references_with (Local i) (given.Reference a) references = slice_set references i a
 references_with target g references = references
+
+-- the levels of references, with that of a reference that goes into the target
+abbrev pub levels_with : Target → (level : ℕ) → List ℕ → List ℕ
+levels_with (Local i) level levels = slice_set levels i level
+levels_with target level levels = levels
 
 -- the slots of field IDs with it
 abbrev pub fields_with : Target → Given → List (Option FieldHandle) → List (Option FieldHandle)
@@ -46,7 +55,7 @@ HasField target count = Unit {0}
 
 -- the target's slot is there
 abbrev pub HasTarget : Target → Activation → Type 0
-HasTarget target call = HasNumber target (length call.numbers.items) × HasReference target (length call.references.items) × HasField target (length call.fields.items)
+HasTarget target call = HasNumber target (length call.numbers.items) × HasReference target (length call.references.items) × HasReference target (length call.levels.items) × HasField target (length call.fields.items)
 
 -- a local reference, where a function of this kind of result puts one, has room in the current frame
 abbrev pub HasRoom : ResultKind → List Frame → Type 0
@@ -57,12 +66,13 @@ HasRoom kind frames = Unit {0}
 abbrev pub HasFrame : ResultKind → Activation → Type 0
 HasFrame kind call = HasRoom kind call.frames.items
 
--- the call goes on after the instruction, with no words and with what is given where it belongs
+-- the call goes on after the instruction, with what is given where it belongs
 pub record Receives (target : Target) (kind : ResultKind) (g : Given) (call after : Activation) : Type 0 where
   pub function : after.function ≡ call.function
   pub place : after.place ≡ call.place + 1
-  pub stack : after.stack ≡ []
+  pub stack : after.stack ≡ stack_with target g
   pub numbers : after.numbers.items ≡ numbers_with target g call.numbers.items
   pub references : after.references.items ≡ references_with target g call.references.items
+  pub levels : after.levels.items ≡ levels_with target (length call.frames.items) call.levels.items
   pub fields : after.fields.items ≡ fields_with target g call.fields.items
   pub frames : after.frames.items ≡ frames_with kind g call.frames.items

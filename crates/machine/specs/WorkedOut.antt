@@ -45,6 +45,16 @@ abbrev pub room_for : ℤ → Answer
 room_for (pos more) = Ensures more
 room_for (negsuc n) = RefusesFrames
 
+-- a frame with room for this number of references, which is refused for a negative number
+abbrev pub frame_for : ℤ → Answer
+frame_for (pos capacity) = Pushes capacity
+frame_for (negsuc n) = RefusesFrames
+
+-- a local reference less, for one that isn't NULL, in the frame of this level
+abbrev pub deletes : Option ℕ → (level : ℕ) → Answer
+deletes None level = Gives Nothing
+deletes (Some a) level = Deletes level a
+
 -- ---- cells
 
 -- a value of an object, where the object has it
@@ -85,7 +95,7 @@ place_there classes (Some h) fields = place_among (field_there classes (Some h))
 -- ---- what a function does
 
 -- A call with these words on the stack.
-module _ (classes : Classes) (space : Space) (loaded : List ℕ) (references : List (Option ℕ)) (fields : List (Option FieldHandle)) (stack : List ℕ) (call : Call) where
+module _ (classes : Classes) (space : Space) (loaded : List ℕ) (references : List (Option ℕ)) (levels : List ℕ) (fields : List (Option FieldHandle)) (stack : List ℕ) (call : Call) where
   -- the reference of an operand
   abbrev pub reference : ℕ → Option ℕ
   reference i = operand_at references (operand_of call.operands i)
@@ -127,8 +137,11 @@ module _ (classes : Classes) (space : Space) (loaded : List ℕ) (references : L
   worked_out IsAssignableFrom = Gives (Number (truth_word (assignable classes (name_there space (reference 0)) (name_there space (reference 1)))))
   worked_out AllocObject = Makes (name_there space (reference 0))
   worked_out NewLocalRef = Gives (Reference (reference 0))
+  worked_out DeleteLocalRef = deletes (reference 0) (level_at levels (operand_of call.operands 0))
   worked_out IsSameObject = Gives (Number (truth_word (name_there space (reference 0) == name_there space (reference 1))))
   worked_out EnsureLocalCapacity = room_for (cast_signed w32 (top_word stack))
+  worked_out PushLocalFrame = frame_for (cast_signed w32 (top_word stack))
+  worked_out PopLocalFrame = Pops (reference 0)
   worked_out (GetField T) = Gives (Number (word_in (value_there space (reference 0) place)))
   worked_out (SetField T) = writes_there space (reference 0) place (stored T)
   worked_out GetObjectField = Gives (Reference (address_in (value_there space (reference 0) place)))

@@ -12,10 +12,10 @@ ghost use Rattle.heap.specs.Heap.{IsAddress};
 ghost use Rattle.jni.specs.Table.{function_value};
 ghost use Rattle.machine.specs.Checked.{fit_together, is_answered};
 ghost use Rattle.machine.specs.Given.{class_of_given, field_at, field_there, operand_at, operand_of, AreAddresses, AreHandles};
-ghost use Rattle.machine.specs.WorkedOut.{address_in, class_object, count_there, found_class, held_reference, place_there, room_for, top_word, value_there, word_in, writes_there, IsFoundField, IsWorkedOut};
+ghost use Rattle.machine.specs.WorkedOut.{address_in, class_object, count_there, deletes, found_class, frame_for, held_reference, place_there, room_for, top_word, value_there, word_in, writes_there, IsFoundField, IsWorkedOut};
 ghost use Rattle.syntax.specs.Views.{element_tree};
 
-use crate::operands::{class_of_given, declaring, fits_there, handle_at, name_there, reference_at};
+use crate::operands::{class_of_given, declaring, fits_there, handle_at, level_in, name_there, operand_of, reference_at};
 use class_table::built_ins::{NO_CLASS_DEF_FOUND_ERROR, NO_SUCH_FIELD_ERROR};
 use class_table::class::FieldHandle;
 use class_table::table::ClassTable;
@@ -49,8 +49,15 @@ pub enum Answer {
     /// The current frame gets room for this number of references more, and 0 is given, where the frames can have them; else as
     /// `RefusesFrames`.
     Ensures(u32),
+    /// A frame with room for this number of references is made, and 0 is given, where the frames can have it; else as
+    /// `RefusesFrames`.
+    Pushes(u32),
     /// -4 is given, and the OutOfMemoryError object is pending, but nothing is made.
     RefusesFrames,
+    /// The current frame ends, and this reference is given.
+    Pops(Option<Addr>),
+    /// There is one reference less to the object at this address in the frame of this level, counted from 1.
+    Deletes(usize, Addr),
 }
 
 /// What a function does, all checks being passed. `loaded` has the addresses of the objects made at load, of which the class
@@ -60,6 +67,7 @@ pub fn work_out(
     heap: &Heap,
     loaded: &[Addr],
     references: &[Option<Addr>],
+    levels: &[usize],
     fields: &[Option<FieldHandle>],
     stack: &Stack,
     function: &Call,
@@ -70,7 +78,7 @@ pub fn work_out(
     requires handles { AreHandles classes.now fields.now function.now.operands.items }
     requires answered { is_answered (function_value function.now.function) ≡ true }
     requires passed { fit_together classes.now heap.now references.now fields.now function.now.operands.items (function_value function.now.function) ≡ true }
-    ensures { IsWorkedOut classes.now heap.now loaded.now references.now fields.now stack.now (call_view function.now) (function_value function.now.function) result }
+    ensures { IsWorkedOut classes.now heap.now loaded.now references.now levels.now fields.now stack.now (call_view function.now) (function_value function.now.function) result }
 {
     let first = reference_at(heap, references, &function.operands, 0);
     let second = reference_at(heap, references, &function.operands, 1);
@@ -99,7 +107,12 @@ pub fn work_out(
             let same = name_there(heap, first) == name_there(heap, second);
             Answer::Gives(Given::Number(word_of_truth(same)))
         }
+        JniFunction::DeleteLocalRef => {
+            deletes(first, level_in(levels, operand_of(&function.operands, 0)))
+        }
         JniFunction::EnsureLocalCapacity => room_for(top_word(stack).cast_signed()),
+        JniFunction::PushLocalFrame => frame_for(top_word(stack).cast_signed()),
+        JniFunction::PopLocalFrame => Answer::Pops(first),
         JniFunction::GetFieldID => {
             find_field(classes, name_there(heap, first), &function.texts, false)
         }
@@ -175,6 +188,27 @@ fn room_for(more: i32) -> Answer
         Answer::RefusesFrames
     } else {
         Answer::Ensures(more as u32)
+    }
+}
+
+/// A frame with room for this number of references; it is refused where the number is negative.
+fn frame_for(capacity: i32) -> Answer
+    ensures { result ≡ frame_for capacity }
+{
+    if capacity < 0 {
+        Answer::RefusesFrames
+    } else {
+        Answer::Pushes(capacity as u32)
+    }
+}
+
+/// A local reference less, for one that isn't NULL, with the level of its variable.
+fn deletes(reference: Option<Addr>, level: usize) -> Answer
+    ensures { result ≡ deletes reference level }
+{
+    match reference {
+        Some(addr) => Answer::Deletes(level, addr),
+        None => Answer::Gives(Given::Nothing),
     }
 }
 

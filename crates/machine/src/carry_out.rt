@@ -1,21 +1,22 @@
 //! What a call does to the store, and which exception is pending then.
 
-ghost use Rattle.std.specs.Prelude.{◌≡◌, ◌-◌, ◌^◌, ℕ, length, slice_get, true, false};
+ghost use Rattle.std.specs.Prelude.{◌≡◌, ◌-◌, ◌^◌, ℕ, length, slice_get, true, false, IfOk, OnOk, OnErr};
 ghost use Rattle.jni.specs.Table.{result_value};
 ghost use Rattle.source.specs.CallEffects.{CallEffect};
 ghost use Rattle.source.specs.Thread.{Shared, Thread as SourceThread};
 ghost use Rattle.lower.specs.Lowered.{Lowered};
 ghost use Rattle.machine.specs.Answers.{IsAnswer};
-ghost use Rattle.machine.specs.CarriedOut.{CarriesOut, IsPossible, failed};
+ghost use Rattle.machine.specs.CarriedOut.{CarriesOut, IsPossible, failed, frames_left_by};
 ghost use Rattle.machine.specs.Received.{HasRoom};
 ghost use Rattle.machine.specs.declared.answer.Given.TheVariants.{Number};
 
 use crate::answer::{Answer, Given};
-use crate::frame::{Frame, ensure_capacity};
+use crate::frame::{Frame, delete_local, ensure_capacity, pop_frame, push_frame};
 use crate::make::make;
 use crate::store::Store;
 use heap::Addr;
 use jni::ResultKind;
+use std::alloc::AllocError;
 use world::World;
 
 /// What a call gives, and whether its allocation was refused.
@@ -26,7 +27,9 @@ pub struct Carried {
 }
 
 /// Does to the store and to a call's frames what a function of this kind of result answers. An object or an exception that has
-/// no room in the heap is refused: then the OutOfMemoryError object is pending, and the call fails. It takes no host memory.
+/// no room in the heap is refused: then the OutOfMemoryError object is pending, and the call fails.
+///
+/// An error says that host memory for a frame was refused; then all is as before.
 pub fn carry_out(
     world: &World,
     store: &mut Store,
@@ -34,56 +37,69 @@ pub fn carry_out(
     frames: &mut Vec<Frame>,
     kind: ResultKind,
     answer: Answer,
-) -> Carried
+) -> Result<Carried, AllocError>
     requires possible { (p : Lowered) × (shared : Shared) × (s : SourceThread) × (effect : CallEffect) × IsPossible p world.now store.old pending.old frames.old.items (result_value kind) shared s
         × IsAnswer world.now.classes store.old.heap (result_value kind) shared s answer effect }
-    ensures carried { (p : Lowered) (shared : Shared) (s : SourceThread) (effect : CallEffect) → IsPossible p world.now store.old pending.old frames.old.items (result_value kind) shared s
+    ensures carried { IfOk result (λ carried. (p : Lowered) (shared : Shared) (s : SourceThread) (effect : CallEffect) → IsPossible p world.now store.old pending.old frames.old.items (result_value kind) shared s
         → IsAnswer world.now.classes store.old.heap (result_value kind) shared s answer effect
-        → CarriesOut p world.now store.old.heap (result_value kind) shared s effect result.refused store.new pending.new frames.new.items result.given }
-    ensures room { HasRoom (result_value kind) frames.old.items → HasRoom (result_value kind) frames.new.items }
+        → CarriesOut p world.now store.old.heap (result_value kind) shared s effect carried.refused store.new pending.new frames.new.items carried.given) }
+    ensures room { OnOk result (HasRoom (result_value kind) (frames_left_by answer frames.old.items) → HasRoom (result_value kind) frames.new.items) }
+    ensures store { OnErr result (store.new ≡ store.old) }
+    ensures pending { OnErr result (pending.new ≡ pending.old) }
+    ensures frames { OnErr result (frames.new ≡ frames.old) }
 {
     // Here the proof takes up what is known of a world.
     let _ = world.threads();
-    match answer {
-        Answer::Gives(given) => Carried {
-            given,
-            refused: false,
-        },
+    Ok(match answer {
+        Answer::Gives(given) => gives(given),
         Answer::Writes(addr, place, value) => {
             store.heap.set(addr, place, value);
-            Carried {
-                given: Given::Nothing,
-                refused: false,
-            }
+            gives(Given::Nothing)
         }
         Answer::Makes(class) => match make(world.classes(), store, class) {
-            Some(addr) => Carried {
-                given: Given::Reference(Some(addr)),
-                refused: false,
-            },
+            Some(addr) => gives(Given::Reference(Some(addr))),
             None => refuse(world, store, pending, kind),
         },
         Answer::Throws(class) => match make(world.classes(), store, class) {
             Some(addr) => {
                 *pending = Some(addr);
-                Carried {
-                    given: failed(kind),
-                    refused: false,
-                }
+                gives(failed(kind))
             }
             None => refuse(world, store, pending, kind),
         },
         Answer::Ensures(more) => {
             if ensure_capacity(frames, more) {
-                Carried {
-                    given: Given::Number(0),
-                    refused: false,
-                }
+                gives(Given::Number(0))
+            } else {
+                refuse_frames(world, store, pending)
+            }
+        }
+        Answer::Pushes(capacity) => {
+            if push_frame(frames, capacity)? {
+                gives(Given::Number(0))
             } else {
                 refuse_frames(world, store, pending)
             }
         }
         Answer::RefusesFrames => refuse_frames(world, store, pending),
+        Answer::Pops(reference) => {
+            pop_frame(frames);
+            gives(Given::Reference(reference))
+        }
+        Answer::Deletes(level, addr) => {
+            delete_local(frames, level, addr);
+            gives(Given::Nothing)
+        }
+    })
+}
+
+/// This is given, and no allocation was refused.
+fn gives(given: Given) -> Carried
+    ensures { result ≡ record { given = given; refused = false } }
+{
+    Carried {
+        given,
+        refused: false,
     }
 }
 

@@ -35,6 +35,8 @@ pub fn begin(
     let slots = code.slots();
     let mut fields = Vec::new(alloc);
     fields.resize(slots.field_ids as usize, None)?;
+    let mut levels = Vec::new(alloc);
+    levels.resize(slots.references as usize, 1)?;
     let mut frames = Vec::new(alloc);
     frames.push(entry_frame(alloc, loaded, next.class, &next.arguments)?)?;
     Ok(Activation {
@@ -49,6 +51,7 @@ pub fn begin(
             &next.arguments,
             slots.references as usize,
         )?,
+        levels,
         fields,
         frames,
     })

@@ -1,9 +1,12 @@
 //! Frames of local references.
 
-ghost use Rattle.std.specs.Prelude.{◌≡◌, ◌+◌, ◌-◌, ◌<◌, ◌≤◌, ◌^◌, min, length, nat_lt, true, IfOk, if◌then◌else◌};
-ghost use Rattle.machine.specs.Frames.{can_ensure, capacities, has_room, most_locals, wanted, with_capacity, with_local, with_reference, with_room};
+ghost use Rattle.std.specs.Prelude.{◌≡◌, ◌+◌, ◌-◌, ◌<◌, ◌≤◌, ◌^◌, [], min, length, nat_lt, reverse, true, vec_capacity, IfOk, OnErr, OnOk, if◌then◌else◌};
+ghost use Rattle.source.specs.CallEffects.{without_one};
+ghost use Rattle.machine.specs.Frames.{can_ensure, can_push, capacities, deleted, frames_after, has_room, most_locals, wanted, with_capacity, with_frame, with_local, with_reference, with_room, without_last, without_local};
+ghost use Rattle.jni.specs.Table.{function_value};
 
 use heap::Addr;
+use jni::JniFunction;
 use std::alloc::AllocError;
 use std::marker::Model;
 
@@ -81,6 +84,27 @@ impl Frame {
     {
         self.references.push(addr).unwrap();
     }
+
+    /// Takes out the reference to the object at an address that was put last, if there is one. The cost goes by how many were put
+    /// after it.
+    fn delete(&mut self, addr: Addr)
+        ensures { self.new ≡ deleted self.old addr }
+    {
+        delete_last(&mut self.references, addr);
+    }
+}
+
+/// Takes out the last place of an address, if there is one.
+fn delete_last(references: &mut Vec<Addr>, addr: Addr)
+    ensures items { references.new.items ≡ reverse (without_one addr (reverse references.old.items)) }
+    ensures capacity { vec_capacity references.new ≡ vec_capacity references.old }
+{
+    if let Some(last) = references.pop() {
+        if last != addr {
+            delete_last(references, addr);
+            references.push(last).unwrap();
+        }
+    }
 }
 
 /// Whether the current frame, which is the last, has room for a further reference.
@@ -129,4 +153,46 @@ pub fn ensure_capacity(frames: &mut Vec<Frame>, more: u32) -> bool
     }
     frames[last].ensure(more);
     true
+}
+
+/// Takes one reference to the object at an address out of the frame of this level, counted from 1, if it is there.
+pub fn delete_local(frames: &mut [Frame], level: usize, addr: Addr)
+    requires { (0 < level) × (level ≤ length frames.old) }
+    ensures { frames.new ≡ without_local level addr frames.old }
+{
+    frames[level - 1].delete(addr);
+}
+
+/// Makes a frame with room for this number of references, which is then the current one, if the frames can have it.
+///
+/// An error says that host memory was refused.
+pub fn push_frame(frames: &mut Vec<Frame>, capacity: u32) -> Result<bool, AllocError>
+    ensures possible { IfOk result (λ made. made ≡ can_push frames.old.items capacity) }
+    ensures frames { OnOk result (frames.new.items ≡ (if can_push frames.old.items capacity then with_frame frames.old.items capacity else frames.old.items)) }
+    ensures err { OnErr result (frames.new ≡ frames.old) }
+{
+    let room = capacity as usize;
+    if capacities(frames).saturating_add(room) > MOST_LOCALS {
+        return Ok(false);
+    }
+    let frame = Frame::new(Vec::new(*frames.allocator()), room)?;
+    frames.push(frame)?;
+    Ok(true)
+}
+
+/// Ends the current frame, which is the last.
+pub fn pop_frame(frames: &mut Vec<Frame>)
+    ensures { frames.new.items ≡ without_last frames.old.items }
+{
+    let _ = frames.pop();
+}
+
+/// The frames that are there when a function's result is put into the current one.
+pub fn frames_after(function: JniFunction, frames: &[Frame]) -> &[Frame]
+    ensures { result.now ≡ frames_after (function_value function) frames.now }
+{
+    match function {
+        JniFunction::PopLocalFrame => &frames[..frames.len().saturating_sub(1)],
+        _ => frames,
+    }
 }

@@ -1,6 +1,6 @@
 //! Calls of functions of the JNI (JNI Specification, chapter 4).
 
-ghost use Rattle.std.specs.Prelude.{◌≡◌, ◌+◌, ◌<◌, ◌^◌, ℕ, List, Option};
+ghost use Rattle.std.specs.Prelude.{◌≡◌, ◌+◌, ◌<◌, ◌^◌, ℕ, List, Option, IfOk, OnErr};
 ghost use Rattle.source.specs.Effect.{effect_of};
 ghost use Rattle.source.specs.Task.{Task};
 ghost use Rattle.source.specs.Thread.{BuffersInUse, Shared, Thread as SourceThread, sight_of};
@@ -11,54 +11,59 @@ ghost use Rattle.machine.specs.Invoked.{AtCall};
 use crate::answer::work_out;
 use crate::carry_out::carry_out;
 use crate::check::check;
-use crate::frame::has_room;
+use crate::frame::{frames_after, has_room};
 use crate::receive::receive;
 use crate::store::Store;
 use crate::thread::{Activation, Event, Executed};
 use code::instr::Call;
 use heap::Addr;
+use std::alloc::AllocError;
 use world::World;
 
-/// The instruction that calls a function. It takes no host memory.
+/// The instruction that calls a function. Only a new frame takes host memory.
 pub fn invoke(
     world: &World,
     store: &mut Store,
     pending: &mut Option<Addr>,
     call: &mut Activation,
     function: &Call,
-) -> Executed
+) -> Result<Executed, AllocError>
     requires at_call { (p : Lowered) × (shared : Shared) × (s : SourceThread) × (task : Task) × (rest : List Task) × AtCall p world.now store.old pending.old call.old function.now shared s task rest }
     requires place { call.old.place + 1 < 2 ^ 64 }
-    ensures { (p : Lowered) (lent : BuffersInUse) (k : ℕ) (shared : Shared) (s : SourceThread) (task : Task) (rest : List Task) → AtCall p world.now store.old pending.old call.old function.now shared s task rest
-        → Executes p world.now store.old.heap store.new lent k shared s rest call.new pending.new (effect_of (sight_of shared s) task) result }
+    ensures done { IfOk result (λ done. (p : Lowered) (lent : BuffersInUse) (k : ℕ) (shared : Shared) (s : SourceThread) (task : Task) (rest : List Task) → AtCall p world.now store.old pending.old call.old function.now shared s task rest
+        → Executes p world.now store.old.heap store.new lent k shared s rest call.new pending.new (effect_of (sight_of shared s) task) done) }
+    ensures store { OnErr result (store.new ≡ store.old) }
+    ensures pending { OnErr result (pending.new ≡ pending.old) }
+    ensures call { OnErr result (call.new ≡ call.old) }
 {
     let trap = check(
         world.classes(),
         &store.heap,
         pending.is_some(),
-        has_room(&call.frames),
+        has_room(frames_after(function.function, &call.frames)),
         &call.references,
         &call.fields,
         function,
     );
     if let Some(trap) = trap {
-        return Executed::Did(Event::Trapped(trap, function.line as usize));
+        return Ok(Executed::Did(Event::Trapped(trap, function.line as usize)));
     }
     let answer = work_out(
         world.classes(),
         &store.heap,
         &store.loaded,
         &call.references,
+        &call.levels,
         &call.fields,
         &call.stack,
         function,
     );
     let kind = function.function.prototype().result;
-    let carried = carry_out(world, store, pending, &mut call.frames, kind, answer);
+    let carried = carry_out(world, store, pending, &mut call.frames, kind, answer)?;
     receive(call, function.target, kind, &carried.given);
-    if carried.refused {
+    Ok(if carried.refused {
         Executed::Refused
     } else {
         Executed::Did(Event::Quiet)
-    }
+    })
 }

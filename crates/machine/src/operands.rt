@@ -4,7 +4,7 @@ ghost use Rattle.std.specs.Prelude.{◌≡◌, ℕ, Some, IsSome};
 ghost use Rattle.class_table.specs.FieldViews.{field_of};
 ghost use Rattle.class_table.specs.Views.{element_view, field_type_view};
 ghost use Rattle.heap.specs.Heap.{IsAddress};
-ghost use Rattle.machine.specs.Given.{operand_at, field_at, operand_of, class_of_given, name_there, fits_there, field_there, AreAddresses, AreHandles};
+ghost use Rattle.machine.specs.Given.{operand_at, level_at, field_at, operand_of, class_of_given, name_there, fits_there, field_there, AreAddresses, AreHandles};
 ghost use Rattle.syntax.specs.Views.{element_tree};
 
 use class_table::class::{ElementType, FieldHandle, FieldType};
@@ -26,6 +26,16 @@ pub fn reference_in(references: &[Option<Addr>], operand: Operand) -> Option<Add
     match operand {
         Operand::Local(slot) => references.get(slot as usize).copied().unwrap_or(None),
         _ => None,
+    }
+}
+
+/// The level of the local reference that an operand gives.
+pub fn level_in(levels: &[usize], operand: Operand) -> usize
+    ensures { result ≡ level_at levels.now operand }
+{
+    match operand {
+        Operand::Local(slot) => levels.get(slot as usize).copied().unwrap_or(0),
+        _ => 0,
     }
 }
 

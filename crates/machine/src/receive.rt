@@ -2,7 +2,7 @@
 
 ghost use Rattle.std.specs.Prelude.{◌≡◌, ◌<◌, ◌^◌, ◌+◌, length};
 ghost use Rattle.jni.specs.Table.{result_value};
-ghost use Rattle.machine.specs.Received.{HasTarget, HasFrame, Receives, numbers_with, references_with, fields_with, frames_with, HasNumber, HasReference, HasField, HasRoom};
+ghost use Rattle.machine.specs.Received.{HasTarget, HasFrame, Receives, numbers_with, references_with, levels_with, fields_with, frames_with, HasNumber, HasReference, HasField, HasRoom};
 
 use crate::answer::Given;
 use crate::frame::{Frame, put_local};
@@ -24,8 +24,20 @@ pub fn receive(call: &mut Activation, target: Target, kind: ResultKind, given: &
     call.place += 1;
     put_number(&mut call.numbers, target, given);
     put_reference(&mut call.references, target, given);
+    put_level(&mut call.levels, target, call.frames.len());
     put_field(&mut call.fields, target, given);
     put_frame(&mut call.frames, kind, given);
+}
+
+/// Puts the level of a reference, the number of frames, beside its slot.
+fn put_level(levels: &mut [usize], target: Target, level: usize)
+    requires { HasReference target (length levels.old) }
+    ensures { levels.new ≡ levels_with target level levels.old }
+{
+    match target {
+        Target::Local(slot) => levels[slot as usize] = level,
+        _ => {}
+    }
 }
 
 /// Puts a number into its slot.

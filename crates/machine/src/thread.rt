@@ -67,7 +67,7 @@ pub struct PendingCall {
 }
 
 /// A call in progress: its place in its function's code, its operands, the slots of its variables, and its frames. A
-/// reference is NULL or the address of an object.
+/// reference is NULL or the address of an object, and has a level: the number of frames where its variable was declared.
 #[derive(Drop)]
 pub struct Activation {
     pub function: usize,
@@ -75,6 +75,7 @@ pub struct Activation {
     pub stack: Stack,
     pub numbers: Vec<u32>,
     pub references: Vec<Option<Addr>>,
+    pub levels: Vec<usize>,
     pub fields: Vec<Option<FieldHandle>>,
     /// The current frame is the last.
     pub frames: Vec<Frame>,
@@ -97,7 +98,7 @@ pub enum Advanced {
     Refused,
 }
 
-/// Takes one step of a thread that has not ended. Only the entry into a call takes host memory.
+/// Takes one step of a thread that has not ended. Only the entry into a call and a new frame take host memory.
 pub fn advance(
     program: &Program<'_>,
     world: &World,
@@ -118,7 +119,7 @@ pub fn advance(
             enter(program, &store.loaded, thread)?;
             Ok(Advanced::Did(Event::Quiet))
         }
-        Some(call) => match execute(program, world, store, &mut thread.pending, call) {
+        Some(call) => match execute(program, world, store, &mut thread.pending, call)? {
             Executed::Did(event) => Ok(Advanced::Did(event)),
             Executed::Refused => Ok(Advanced::Refused),
             Executed::Returned => {
@@ -178,15 +179,21 @@ fn execute(
     store: &mut Store,
     pending: &mut Option<Addr>,
     call: &mut Activation,
-) -> Executed
+) -> Result<Executed, AllocError>
     requires lowered { IsLowered program.now }
     requires stands { (shared : Shared) × (s : SourceThread) × (task : Task) × (rest : List Task) × IsExecuting program.now world.now store.old call.old pending.old shared s task rest }
-    ensures { (lent : BuffersInUse) (k : ℕ) (shared : Shared) (s : SourceThread) (task : Task) (rest : List Task) → IsExecuting program.now world.now store.old call.old pending.old shared s task rest
-        → Executes program.now world.now store.old.heap store.new lent k shared s rest call.new pending.new (effect_of (sight_of shared s) task) result }
+    ensures done { IfOk result (λ done. (lent : BuffersInUse) (k : ℕ) (shared : Shared) (s : SourceThread) (task : Task) (rest : List Task) → IsExecuting program.now world.now store.old call.old pending.old shared s task rest
+        → Executes program.now world.now store.old.heap store.new lent k shared s rest call.new pending.new (effect_of (sight_of shared s) task) done) }
+    ensures store { OnErr result (store.new ≡ store.old) }
+    ensures pending { OnErr result (pending.new ≡ pending.old) }
+    ensures call { OnErr result (call.new ≡ call.old) }
 {
     let code = program.code(call.function).unwrap();
     let instr = code.get(call.place).unwrap();
-    match instr {
+    if let Instr::Call(boxed) = instr {
+        return invoke(world, store, pending, call, boxed.call());
+    }
+    Ok(match instr {
         Instr::TestNull { variable, equal } => {
             let null = is_null(&call.references, &call.fields, *variable);
             call.stack.push(u32::from(null == *equal));
@@ -203,7 +210,6 @@ fn execute(
             call.place += 1;
             Executed::Did(Event::Printed(word.cast_signed()))
         }
-        Instr::Call(boxed) => invoke(world, store, pending, call, boxed.call()),
         Instr::Return | Instr::ReturnJint | Instr::ReturnReference(_) => Executed::Returned,
         _ => match plain(instr, &mut call.stack, &mut call.numbers) {
             Plain::Next => {
@@ -220,5 +226,5 @@ fn execute(
             }
             Plain::Trap(trap, line) => Executed::Did(Event::Trapped(trap_of(trap), line as usize)),
         },
-    }
+    })
 }
