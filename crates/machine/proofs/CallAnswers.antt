@@ -16,10 +16,10 @@ use Rattle.code.specs.Effect.{truth_word, element_word}
 use Rattle.code.specs.declared.instr.Operand.{Operand}
 use Rattle.code.specs.declared.instr.Operand.TheVariants as operand
 use Rattle.heap.specs.Heap.{Space, IsLaidOut, name_at}
-use Rattle.jni.specs.JniFunction.{JniFunction, FindClass, AllocObject, NewLocalRef, IsSameObject, EnsureLocalCapacity, GetFieldID, GetStaticFieldID, GetArrayLength, GetSuperclass, GetObjectClass, IsInstanceOf, IsAssignableFrom, GetField, SetField, GetObjectField, SetObjectField, GetStaticField, SetStaticField, GetStaticObjectField, SetStaticObjectField}
+use Rattle.jni.specs.JniFunction.{JniFunction, FindClass, AllocObject, NewLocalRef, DeleteLocalRef, IsSameObject, EnsureLocalCapacity, PushLocalFrame, PopLocalFrame, GetFieldID, GetStaticFieldID, GetArrayLength, GetSuperclass, GetObjectClass, IsInstanceOf, IsAssignableFrom, GetField, SetField, GetObjectField, SetObjectField, GetStaticField, SetStaticField, GetStaticObjectField, SetStaticObjectField}
 use Rattle.jni.specs.Prototype.{prototype, ParameterKind, ClassObject, FieldID, IntNumber, NonNull, TextBytes, NewLocal, GivesField, GivesInt, Nullable, GivesNothing}
 use Rattle.source.specs.Arguments.{Actual, reference_given, object_given, name_or_zero, text_given, text_in_actual, NumberActual, field_given, number_given, number_in_actual}
-use Rattle.source.specs.CallEffects.{ensure_effect, found_class_effect, found_field_effect, heap_effect, same_reference, CallEffect}
+use Rattle.source.specs.CallEffects.{delete_local_effect, ensure_effect, push_effect, without_local, Leaves, NoResult, found_class_effect, found_field_effect, heap_effect, same_reference, CallEffect}
 use Rattle.source.specs.CallStep.{trap_of_call}
 use Rattle.source.specs.CallTable.{call_effect}
 use Rattle.source.specs.Heap.{Heap, class_of, object_at, values_of, field_place, number_in, place_in, value_at, reference_in, static_place, with_value_at}
@@ -345,7 +345,7 @@ module _ (p : Lowered) (w : World) (store : Store) (pending : Option ℕ) (call 
 
   -- what is worked out for it
   abbrev Works : JniFunction → Answer → Type 0
-  Works f answer = IsWorkedOut w.classes store.heap store.loaded.items references fields call.stack function f answer
+  Works f answer = IsWorkedOut w.classes store.heap store.loaded.items references call.levels.items fields call.stack function f answer
 
   -- the answer is what it does
   abbrev Does : JniFunction → Answer → Type 0
@@ -437,6 +437,41 @@ module _ (p : Lowered) (w : World) (store : Store) (pending : Option ℕ) (call 
       by_number : (z : ℤ) → IsAnswer w.classes store.heap GivesInt shared s (room_for z) (ensure_effect w.classes shared s z)
       by_number (pos n) = (refl, refl)
       by_number (negsuc n) = (refl, refl)
+
+  answers_push : Asked PushLocalFrame → (answer : Answer) → Works PushLocalFrame answer → Does PushLocalFrame answer
+  unfolding call_effect
+  answers_push h answer is =
+      let only = only_number w.classes store.heap references fields function.operands args h.kinds h.given in
+      let word : cast_signed w32 (top_word call.stack) ≡ only.0 = ap (λ (l : List ℕ). cast_signed w32 (top_word l)) (h.words ∙ only.3) ∙ to_z-of_z {w = w32} only.2 in
+      subst (λ (x : Answer). Does PushLocalFrame x) (sym (is ∙ ap frame_for word))
+      (subst (λ (z : ℤ). IsAnswer w.classes store.heap GivesInt shared s (frame_for only.0) (push_effect w.classes shared s z)) (sym only.1) (by_number only.0))
+    where
+      by_number : (z : ℤ) → IsAnswer w.classes store.heap GivesInt shared s (frame_for z) (push_effect w.classes shared s z)
+      by_number (pos n) = (refl, refl)
+      by_number (negsuc n) = (refl, refl)
+
+  answers_pop : Asked PopLocalFrame → (answer : Answer) → Works PopLocalFrame answer → Does PopLocalFrame answer
+  unfolding call_effect
+  answers_pop h answer is = subst (λ (x : Answer). Does PopLocalFrame x) (sym is) (refl, (reference_given args 0, agrees PopLocalFrame h 0, refl))
+
+  answers_delete : Asked DeleteLocalRef → (answer : Answer) → Works DeleteLocalRef answer → Does DeleteLocalRef answer
+  unfolding call_effect
+  answers_delete h answer is =
+      subst (λ (x : Answer). Does DeleteLocalRef x) (sym is) (by_reference (operand_at references (operand_of function.operands 0)) (reference_given args 0) refl (agrees DeleteLocalRef h 0))
+    where
+      level : ℕ
+      level = level_at call.levels.items (operand_of function.operands 0)
+
+      variable : Option Variable
+      variable = lookup (variable_given args 0) s.variables
+
+      by_reference : (o : Option ℕ) (r : Reference) → reference_given args 0 ≡ r → ReferenceAgrees store.heap o r → IsAnswer w.classes store.heap GivesNothing shared s (deletes o level) (delete_local_effect shared s variable r)
+      by_reference None None e agree = (refl, refl, tt)
+      by_reference None (Some n) e agree = absurd agree
+      by_reference (Some a) None e agree = absurd agree
+      by_reference (Some a) (Some n) e agree =
+          let there = h.level refl n e in
+          (refl, there.low, there.high, (n, agree, ap (λ (l : ℕ). Leaves [] shared (record s { frames = without_local l n s.frames }) NoResult) (sym there.same)))
 
   -- the class objects are the first of the table
   answers_superclass : Asked GetSuperclass → (answer : Answer) → Works GetSuperclass answer → Does GetSuperclass answer
@@ -707,6 +742,9 @@ module _ (p : Lowered) (w : World) (store : Store) (pending : Option ℕ) (call 
   answers NewLocalRef h target free answer is = answers_new_local h answer is
   answers IsSameObject h target free answer is = answers_same h answer is
   answers EnsureLocalCapacity h target free answer is = answers_ensure h answer is
+  answers PushLocalFrame h target free answer is = answers_push h answer is
+  answers PopLocalFrame h target free answer is = answers_pop h answer is
+  answers DeleteLocalRef h target free answer is = answers_delete h answer is
   answers AllocObject h target free answer is = answers_alloc h target free answer is
   answers GetFieldID h target free answer is = answers_field h answer is
   answers GetStaticFieldID h target free answer is = answers_static h answer is

@@ -357,17 +357,13 @@ module _ (classes : Classes) (space : Space) (references : List (Option ℕ)) (f
     room_is NewLocal has_room frame h = sym h
     room_is kind has_room frame h = refl
 
-    same_frames : (f : JniFunction) (frames : List Frame) → is_answered f ≡ true → frames ≡ frames_after f frames
-    same_frames PopLocalFrame frames e = absurd (cc)
-    same_frames f frames e = refl
-
     with_deleted : (p m w r : Bool) → first_trap ((p, ExceptionPending) ∷ (m, NullReference) ∷ (w, WrongObject) ∷ (r, NoCapacity) ∷ []) ≡ first_trap ((p, ExceptionPending) ∷ (false, DeletedReference) ∷ (m, NullReference) ∷ (w, WrongObject) ∷ (r, NoCapacity) ∷ [])
     with_deleted true m w r = refl
     with_deleted false m w r = refl
 
     -- the trap that is found is the source's
     pub found_is : (is_pending has_room : Bool) (f : JniFunction) (operands : List Operand) (args : List Actual) (s : Shared) (t : Thread) (target : Target) → is_answered f ≡ true → s.heap ≡ heap → is_pending ≡ is_some t.pending
-        → is_full (slice_get t.frames 0) ≡ not has_room → AllZip ActualFits (prototype f).parameters args → AllZip (IsGiven classes space references fields) operands args
+        → is_full (slice_get (frames_after f t.frames) 0) ≡ not has_room → AllZip ActualFits (prototype f).parameters args → AllZip (IsGiven classes space references fields) operands args
         → trap_found classes space is_pending has_room references fields f operands ≡ trap_of_call classes s t target f args
     unfolding call_trap
     found_is is_pending has_room f operands args s t target built same pending room fit h =
@@ -376,7 +372,7 @@ module _ (classes : Classes) (space : Space) (references : List (Option ℕ)) (f
         let missing = all_missing (prototype f).parameters operands args fit h in
         let misfit = all_misfit (prototype f).parameters operands args h in
         let together = together_is buffer operands args h f built in
-        let lacks = room_is (prototype f).result has_room (slice_get t.frames 0) room ∙ ap (λ fs. lacks_room (prototype f).result (slice_get fs 0)) (same_frames f t.frames built) in
+        let lacks = room_is (prototype f).result has_room (slice_get (frames_after f t.frames) 0) room in
         with_deleted (is_pending && not (is_allowed_pending f)) (some_missing references fields (prototype f).parameters operands) (some_misfit classes space references (prototype f).parameters operands || not (fit_together classes space references fields operands f)) (puts_local (prototype f).result && not has_room)
         ∙ (λ i. first_trap ((pending i && not (is_allowed_pending f), ExceptionPending) ∷ (deleted i, DeletedReference) ∷ (missing i, NullReference) ∷ (misfit i || not (together i), WrongObject) ∷ (lacks i, NoCapacity) ∷ []))
         ∙ ap (λ g. call_trap classes g t buffer f args) (sym same)

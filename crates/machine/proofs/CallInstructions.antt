@@ -1,12 +1,12 @@
 -- A call that the machine makes does what the source's call does.
-use Rattle.std.proofs.Common.{◌≡◌, ℕ, pos, Bool, true, false, not, List, [], length, Option, Some, None, refl, sym, ap, ◌∙◌, subst, arith, append-nil}
+use Rattle.std.proofs.Common.{◌≡◌, ℕ, pos, Bool, true, false, not, List, [], ◌∷◌, length, Option, Some, None, refl, sym, ap, ◌∙◌, subst, arith, append-nil}
 use Rattle.std.specs.Global.{Vec}
 use Rattle.std.specs.Prelude.{◌&&◌, nat_le, if◌then◌else◌}
 use Rattle.std.specs.List.{AllZip}
 use Rattle.classes.specs.Class.{Classes}
 use Rattle.heap.specs.Heap.{Space}
 use Rattle.jni.specs.BuiltFunctions.{is_built_function}
-use Rattle.jni.specs.JniFunction.{JniFunction, FindClass, GetSuperclass, GetObjectClass, IsInstanceOf, IsAssignableFrom, AllocObject, NewLocalRef, IsSameObject, EnsureLocalCapacity, GetFieldID, GetStaticFieldID, GetField, SetField, GetStaticField, SetStaticField, GetObjectField, SetObjectField, GetStaticObjectField, SetStaticObjectField, GetArrayLength, NewGlobalRef, GetBuffer}
+use Rattle.jni.specs.JniFunction.{JniFunction, FindClass, GetSuperclass, GetObjectClass, IsInstanceOf, IsAssignableFrom, AllocObject, NewLocalRef, DeleteLocalRef, IsSameObject, EnsureLocalCapacity, PushLocalFrame, PopLocalFrame, GetFieldID, GetStaticFieldID, GetField, SetField, GetStaticField, SetStaticField, GetObjectField, SetObjectField, GetStaticObjectField, SetStaticObjectField, GetArrayLength, NewGlobalRef, GetBuffer}
 use Rattle.jni.specs.Prototype.{prototype, ResultKind, NewLocal}
 use Rattle.source.specs.Arguments.{Actual}
 use Rattle.source.specs.Object.{Object}
@@ -42,9 +42,9 @@ use Rattle.machine.specs.Answers.{IsAnswer}
 use Rattle.machine.specs.Asked.{IsAsked}
 use Rattle.machine.specs.CarriedOut.{CarriesOut, IsPossible, can_fail, frames_left, pending_after, result_after, shared_after}
 use Rattle.machine.specs.Checked.{is_answered, puts_local}
-use Rattle.machine.specs.Frames.{Frame, has_room}
+use Rattle.machine.specs.Frames.{Frame, frames_after, has_room}
 use Rattle.machine.specs.Invoked.{AtCall}
-use Rattle.machine.specs.Received.{HasFrame, HasTarget, Receives}
+use Rattle.machine.specs.Received.{HasRoom, HasTarget, Receives}
 use Rattle.machine.specs.Stops.{trap_view}
 use Rattle.machine.proofs.AnswerCases.{gives_it, makes_it, writes_it}
 use Rattle.machine.proofs.Arguments.{all_given, none_left_after}
@@ -62,8 +62,11 @@ answered_there GetObjectClass h = refl
 answered_there IsInstanceOf h = refl
 answered_there IsAssignableFrom h = refl
 answered_there NewLocalRef h = refl
+answered_there DeleteLocalRef h = refl
 answered_there IsSameObject h = refl
 answered_there EnsureLocalCapacity h = refl
+answered_there PushLocalFrame h = refl
+answered_there PopLocalFrame h = refl
 answered_there AllocObject h = refl
 answered_there GetFieldID h = refl
 answered_there GetStaticFieldID h = refl
@@ -132,6 +135,13 @@ stays_with classes space kind shared s answer (Halts trap) h = no_halt answer h
         no_halt_of_frames : (b : Bool) → Halts trap ≡ (if b then Leaves [] shared (record s { frames = with_capacity more s.frames }) (ScalarResult (Int (pos 0))) else refuses_frames classes shared s) → ⊥
         no_halt_of_frames true e = cc
         no_halt_of_frames false e = cc
+    no_halt (answers.Pushes capacity) h = no_halt_of_frame (nat_le (source.capacities (record { capacity = capacity; references = [] } ∷ s.frames)) 1024) h.1
+      where
+        no_halt_of_frame : (b : Bool) → Halts trap ≡ (if b then Leaves [] shared (record s { frames = record { capacity = capacity; references = [] } ∷ s.frames }) (ScalarResult (Int (pos 0))) else refuses_frames classes shared s) → ⊥
+        no_halt_of_frame true e = cc
+        no_halt_of_frame false e = cc
+    no_halt (answers.Pops a) h = let e = h.1.2 in cc
+    no_halt (answers.Deletes level a) h = let e = h.3.2 in cc
     no_halt answers.RefusesFrames h = let e = h.1 in cc
 stays_with classes space kind shared s (answers.Gives g) (Leaves made s' t' c) h = stays_same s t' (same_thread (gives_it classes space kind shared s g (Leaves made s' t' c) h).is)
 stays_with classes space kind shared s (answers.Writes a place v) (Leaves made s' t' c) h = stays_same s t' (same_thread (writes_it classes space kind shared s a place v (Leaves made s' t' c) h).is)
@@ -142,6 +152,13 @@ stays_with classes space kind shared s (answers.Ensures more) (Leaves made s' t'
     stays_framed : (b : Bool) → StaysBut s (if b then Leaves [] shared (record s { frames = with_capacity more s.frames }) (ScalarResult (Int (pos 0))) else refuses_frames classes shared s)
     stays_framed true = refl
     stays_framed false = refl
+stays_with classes space kind shared s (answers.Pushes capacity) (Leaves made s' t' c) h = subst (StaysBut s) (sym h.1) (stays_framed (nat_le (source.capacities (record { capacity = capacity; references = [] } ∷ s.frames)) 1024))
+  where
+    stays_framed : (b : Bool) → StaysBut s (if b then Leaves [] shared (record s { frames = record { capacity = capacity; references = [] } ∷ s.frames }) (ScalarResult (Int (pos 0))) else refuses_frames classes shared s)
+    stays_framed true = refl
+    stays_framed false = refl
+stays_with classes space kind shared s (answers.Pops a) (Leaves made s' t' c) h = subst (StaysBut s) (sym h.1.2) refl
+stays_with classes space kind shared s (answers.Deletes level a) (Leaves made s' t' c) h = subst (StaysBut s) (sym h.3.2) refl
 stays_with classes space kind shared s answers.RefusesFrames (Leaves made s' t' c) h = subst (StaysBut s) (sym h.1) refl
 
 -- ---- the place
@@ -149,28 +166,28 @@ stays_with classes space kind shared s answers.RefusesFrames (Leaves made s' t' 
 -- where the result goes is there
 module _ (p : Lowered) (classes : Classes) (space : Space) (call : Activation) (code : Listing) (visible : Visible) (frames : List source.Frame) (task : Task) (rest : List Task) (r : Ready p classes space call code visible frames task rest) where
   target_there : (d : Destination) (kind : ResultKind) (target : Target) → TakesResult code r.known call.place call.stack (slots_of call r.references r.fields) visible d kind target rest → HasTarget d call
-  target_there destination.Dropped kind target h = (tt, tt, tt)
-  target_there (destination.Number i) kind (Declared declared x) h = (h.2.1.within, tt, tt)
-  target_there (destination.Number i) kind (Assigned x) h = (h.2.1.within, tt, tt)
+  target_there destination.Dropped kind target h = (tt, tt, tt, tt)
+  target_there (destination.Number i) kind (Declared declared x) h = (h.2.1.within, tt, tt, tt)
+  target_there (destination.Number i) kind (Assigned x) h = (h.2.1.within, tt, tt, tt)
   target_there (destination.Number i) kind (Tested a b) h = absurd h.2
   target_there (destination.Number i) kind Dropped h = absurd h.2
-  target_there (destination.Local i) kind (Declared declared x) h = (tt, omega (arith, h.1.1.within, agree_count space call.references.items r.references r.agree), tt)
-  target_there (destination.Local i) kind (Assigned x) h = (tt, omega (arith, h.1.1.within, agree_count space call.references.items r.references r.agree), tt)
+  target_there (destination.Local i) kind (Declared declared x) h = (tt, omega (arith, h.1.1.within, agree_count space call.references.items r.references r.agree), omega (arith, h.1.1.within, r.level_count, agree_count space call.references.items r.references r.agree), tt)
+  target_there (destination.Local i) kind (Assigned x) h = (tt, omega (arith, h.1.1.within, agree_count space call.references.items r.references r.agree), omega (arith, h.1.1.within, r.level_count, agree_count space call.references.items r.references r.agree), tt)
   target_there (destination.Local i) kind (Tested a b) h = absurd h.1
   target_there (destination.Local i) kind Dropped h = absurd h.1
-  target_there (destination.FieldId i) kind (Declared declared x) h = (tt, tt, omega (arith, h.1.1.within, fields_count classes call.fields.items r.fields r.fields_agree))
-  target_there (destination.FieldId i) kind (Assigned x) h = (tt, tt, omega (arith, h.1.1.within, fields_count classes call.fields.items r.fields r.fields_agree))
+  target_there (destination.FieldId i) kind (Declared declared x) h = (tt, tt, tt, omega (arith, h.1.1.within, fields_count classes call.fields.items r.fields r.fields_agree))
+  target_there (destination.FieldId i) kind (Assigned x) h = (tt, tt, tt, omega (arith, h.1.1.within, fields_count classes call.fields.items r.fields r.fields_agree))
   target_there (destination.FieldId i) kind (Tested a b) h = absurd h.1
   target_there (destination.FieldId i) kind Dropped h = absurd h.1
 
 -- a local reference has room
-frame_by : (kind : ResultKind) (call : Activation) → (puts_local kind && not (has_room call.frames.items)) ≡ false → HasFrame kind call
-frame_by NewLocal call h = by_room (has_room call.frames.items) h
+frame_by : (kind : ResultKind) (frames : List Frame) → (puts_local kind && not (has_room frames)) ≡ false → HasRoom kind frames
+frame_by NewLocal frames h = by_room (has_room frames) h
   where
     by_room : (b : Bool) → (true && not b) ≡ false → b ≡ true
     by_room true h = refl
     by_room false h = absurd (cc)
-frame_by kind call h = tt
+frame_by kind frames h = tt
 
 -- ---- the call
 
@@ -239,8 +256,8 @@ module _ (p : Lowered) (w : World) (store : Store) (pending : Option ℕ) (call 
 
   -- nothing was found
   module _ (free : trap_of_call w.classes shared s called.target called.f called.args ≡ None) where
-    pub has_frame : HasFrame (prototype called.f).result call
-    has_frame = frame_by (prototype called.f).result call (room_left p w store pending call function shared s called.f called.args called.asked called.target free)
+    pub has_frame : HasRoom (prototype called.f).result (frames_after called.f call.frames.items)
+    has_frame = frame_by (prototype called.f).result (frames_after called.f call.frames.items) (room_left p w store pending call function shared s called.f called.args called.asked called.target free)
 
     -- the effect of the source's call
     pub effect_is : (lent : BuffersInUse) (k : ℕ) → effect_of_call w.classes lent k shared s called.line called.target called.f called.args rest ≡ call_effect w.classes lent k shared s called.args called.f

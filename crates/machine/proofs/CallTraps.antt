@@ -15,7 +15,7 @@ use Rattle.jni.specs.JniFunction.{JniFunction, is_allowed_pending}
 use Rattle.jni.specs.Prototype.{prototype}
 use Rattle.source.specs.Arguments.{Actual}
 use Rattle.source.specs.CallStep.{trap_of_call}
-use Rattle.source.specs.Checks.{first_trap}
+use Rattle.source.specs.Checks.{first_trap, frames_after}
 use Rattle.source.specs.Object.{Reference}
 use Rattle.source.specs.Task.{Target}
 use Rattle.source.specs.Thread.{Shared, Thread}
@@ -27,10 +27,12 @@ use Rattle.machine.specs.declared.thread.Activation.{Activation}
 use Rattle.machine.specs.Agrees.{FieldAgrees}
 use Rattle.machine.specs.Asked.{IsAsked}
 use Rattle.machine.specs.Checked.{fit_together, some_missing, some_misfit, puts_local, trap_found}
+use Rattle.machine.specs.Frames as memory
 use Rattle.machine.specs.Frames.{has_room}
 use Rattle.machine.specs.Given.{operand_at, field_at, AreAddresses, AreHandles, IsGiven}
 use Rattle.machine.specs.HeapAgrees.{ReferenceAgrees}
 use Rattle.machine.proofs.CallChecks as checks
+use Rattle.machine.proofs.FrameChanges.{frames_left}
 use Rattle.machine.proofs.Rooms.{full_where}
 
 -- ---- operands
@@ -131,16 +133,16 @@ module _ (p : Lowered) (w : World) (store : Store) (pending : Option ℕ) (call 
   pub handles_there : AreHandles w.classes call.fields.items function.operands
   handles_there = all_handles w.classes store.heap call.references.items call.fields.items function.operands args h.given
 
-  pub found_is : (target : Target) → trap_found w.classes store.heap (is_some pending) (has_room call.frames.items) call.references.items call.fields.items f function.operands ≡ trap_of_call w.classes shared s target f args
+  pub found_is : (target : Target) → trap_found w.classes store.heap (is_some pending) (has_room (memory.frames_after f call.frames.items)) call.references.items call.fields.items f function.operands ≡ trap_of_call w.classes shared s target f args
   found_is target =
-      checks.found_is w.classes store.heap call.references.items call.fields.items shared.heap h.store_agrees.heap.blocks (is_some pending) (has_room call.frames.items) f function.operands args shared s target h.answered refl
-      (same_pending store.heap pending s.pending h.pending_agrees) (full_where store.heap call.frames.items s.frames h.frames_agree) h.fit h.given
+      checks.found_is w.classes store.heap call.references.items call.fields.items shared.heap h.store_agrees.heap.blocks (is_some pending) (has_room (memory.frames_after f call.frames.items)) f function.operands args shared s target h.answered refl
+      (same_pending store.heap pending s.pending h.pending_agrees) (full_where store.heap (memory.frames_after f call.frames.items) (frames_after f s.frames) (frames_left store.heap f call.frames.items s.frames h.frames_agree)) h.fit h.given
 
   module _ (target : Target) (free : trap_of_call w.classes shared s target f args ≡ None) where
     passed : Passed (is_some pending && not (is_allowed_pending f)) (some_missing call.references.items call.fields.items (prototype f).parameters function.operands)
-        (some_misfit w.classes store.heap call.references.items (prototype f).parameters function.operands || not (fit_together w.classes store.heap call.references.items call.fields.items function.operands f)) (puts_local (prototype f).result && not (has_room call.frames.items))
+        (some_misfit w.classes store.heap call.references.items (prototype f).parameters function.operands || not (fit_together w.classes store.heap call.references.items call.fields.items function.operands f)) (puts_local (prototype f).result && not (has_room (memory.frames_after f call.frames.items)))
     passed = all_passed (is_some pending && not (is_allowed_pending f)) (some_missing call.references.items call.fields.items (prototype f).parameters function.operands)
-        (some_misfit w.classes store.heap call.references.items (prototype f).parameters function.operands || not (fit_together w.classes store.heap call.references.items call.fields.items function.operands f)) (puts_local (prototype f).result && not (has_room call.frames.items)) (found_is target ∙ free)
+        (some_misfit w.classes store.heap call.references.items (prototype f).parameters function.operands || not (fit_together w.classes store.heap call.references.items call.fields.items function.operands f)) (puts_local (prototype f).result && not (has_room (memory.frames_after f call.frames.items))) (found_is target ∙ free)
 
     fitting : (some_misfit w.classes store.heap call.references.items (prototype f).parameters function.operands ≡ false) × (fit_together w.classes store.heap call.references.items call.fields.items function.operands f ≡ true)
     fitting = neither (some_misfit w.classes store.heap call.references.items (prototype f).parameters function.operands) (fit_together w.classes store.heap call.references.items call.fields.items function.operands f) passed.wrong
@@ -158,5 +160,5 @@ module _ (p : Lowered) (w : World) (store : Store) (pending : Option ℕ) (call 
     none_unfit = fitting.0
 
     -- a local reference has room
-    pub room_left : (puts_local (prototype f).result && not (has_room call.frames.items)) ≡ false
+    pub room_left : (puts_local (prototype f).result && not (has_room (memory.frames_after f call.frames.items))) ≡ false
     room_left = passed.room

@@ -30,6 +30,7 @@ pub mod FieldValues
 pub mod CallAnswers
 pub mod CallInstructions
 pub mod Frames
+pub mod FrameChanges
 pub mod Rooms
 pub mod Handles
 pub mod FewValues

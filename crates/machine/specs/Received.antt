@@ -11,6 +11,7 @@ use Rattle.machine.specs.Frames.{Frame, has_room, with_local}
 
 -- the stack, on which the test of an `if` finds the truth whether a number is 0
 abbrev pub stack_with : Target → Given → List ℕ
+stack_with Test (given.Number word) = truth_word (word == 0) ∷ []
 stack_with target g = []
 
 -- the number slots with what is given in the target

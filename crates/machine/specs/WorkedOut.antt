@@ -13,12 +13,12 @@ use Rattle.code_generator.specs.Coding.{element_of}
 use Rattle.heap.specs.Heap.{Space, values_at}
 use Rattle.heap.specs.declared.value.Value.{Value}
 use Rattle.heap.specs.declared.value.Value.TheVariants as value
-use Rattle.jni.specs.JniFunction.{JniFunction, FindClass, GetSuperclass, GetObjectClass, IsInstanceOf, IsAssignableFrom, AllocObject, NewLocalRef, IsSameObject, EnsureLocalCapacity, GetFieldID, GetStaticFieldID, GetField, SetField, GetStaticField, SetStaticField, GetObjectField, SetObjectField, GetStaticObjectField, SetStaticObjectField, GetArrayLength}
+use Rattle.jni.specs.JniFunction.{JniFunction, FindClass, GetSuperclass, GetObjectClass, IsInstanceOf, IsAssignableFrom, AllocObject, NewLocalRef, DeleteLocalRef, IsSameObject, EnsureLocalCapacity, PushLocalFrame, PopLocalFrame, GetFieldID, GetStaticFieldID, GetField, SetField, GetStaticField, SetStaticField, GetObjectField, SetObjectField, GetStaticObjectField, SetStaticObjectField, GetArrayLength}
 use Rattle.machine.specs.declared.answer.Given.TheVariants.{Nothing, Number, Reference}
 use Rattle.machine.specs.declared.answer.Given.TheVariants as given
 use Rattle.machine.specs.declared.answer.Answer.{Answer}
-use Rattle.machine.specs.declared.answer.Answer.TheVariants.{Gives, Writes, Makes, Throws, Ensures, RefusesFrames}
-use Rattle.machine.specs.Given.{operand_at, operand_of, field_at, class_of_given, name_there, fits_there, field_there}
+use Rattle.machine.specs.declared.answer.Answer.TheVariants.{Gives, Writes, Makes, Throws, Ensures, Pushes, RefusesFrames, Pops, Deletes}
+use Rattle.machine.specs.Given.{operand_at, level_at, operand_of, field_at, class_of_given, name_there, fits_there, field_there}
 
 -- the number of values of the object at an address, and 0 for NULL
 abbrev pub count_there : Space → Option ℕ → ℕ
