@@ -1,4 +1,5 @@
 pub mod CodePlaces
+pub mod StaticPlaces
 pub mod SlotLaws
 pub mod TermSteps
 pub mod ElementWords
