@@ -26,7 +26,7 @@ use Rattle.code_generator.specs.Coding.{nullable_of}
 use Rattle.lower.specs.Slots.{word_of, ValueHasSort, IsNumberSort, Visible, IsAsBefore, OthersStay, IsSet, IsNulled, IsReferred, IsFieldSet, IsMade, IsElementSet, IsHeld, HasNoVariable, is_empty, nulled_statics, static_index, Slots, ShowsNumber, ShowsElement, ShowsStatic, ShowsSlot, Shows, with_null}
 use Rattle.lower.specs.Fits.{IsPlaceOf, IsOwn, IndexWithin}
 use Rattle.lower.specs.Stands.{AreAmong, IsSlotOf}
-use Rattle.lower.proofs.StaticPlaces.{StaticStays, statics_stay, assigned_stays, assigned_at, same_name}
+use Rattle.lower.proofs.StaticPlaces.{StaticStays, statics_stay, assigned_stays, assigned_place, assigned_held, same_name}
 
 -- ---- a slot is written
 
@@ -90,26 +90,26 @@ number_place_at kind i h = absurd h
 pub number_place : (s : Slot) → IsNumberSort s.sort → IsPlaceOf s s.index
 number_place s h = number_place_at s.sort s.index h
 
-module _ (old new : Visible) (x : Identifier) (slots slots' : Slots) (same : IsAsBefore old new x) (static : StaticStays old.statics new.statics x) where
+module _ (old new : Visible) (x : Identifier) (slots slots' : Slots) (same : IsAsBefore old new x) where
   number_stays : (kind : Sort) (i : ℕ) → slice_get slots'.numbers i ≡ slice_get slots.numbers i → ShowsNumber old x slots.numbers (record { sort = kind; index = i }) → ShowsNumber new x slots'.numbers (record { sort = kind; index = i })
   number_stays kind i word h = record { value = h.value; is = same.number ∙ h.is; kind = same.kind ∙ h.kind; sort = h.sort; word = word ∙ h.word }
 
   pub slot_stays : (kind : Sort) (i : ℕ) → ((k : ℕ) → IsPlaceOf (record { sort = kind; index = i }) k → slice_get slots'.numbers k ≡ slice_get slots.numbers k) → (kind ≡ Ref → slice_get slots'.references i ≡ slice_get slots.references i) → (kind ≡ FieldId → slice_get slots'.fields i ≡ slice_get slots.fields i)
-      → ShowsSlot old x slots (record { sort = kind; index = i }) kind → ShowsSlot new x slots' (record { sort = kind; index = i }) kind
-  slot_stays sort.Word i numbers references fields h = number_stays sort.Word i (numbers i (omega arith, omega arith)) h
-  slot_stays Jint i numbers references fields h = number_stays Jint i (numbers i (omega arith, omega arith)) h
-  slot_stays sort.Flag i numbers references fields h = number_stays sort.Flag i (numbers i (omega arith, omega arith)) h
-  slot_stays sort.Truth i numbers references fields h = tt
-  slot_stays Ref i numbers references fields h = record { reference = h.reference; is = same.reference ∙ h.is; is_null = same.is_null ∙ h.is_null; no_number = same.number ∙ h.no_number; kind = same.kind ∙ h.kind; there = references refl ∙ h.there }
-  slot_stays Global i numbers references fields h = record {
-    static = record { place = static.place ∙ h.static.place; held = h.static.held; there = static.there ∙ h.static.there };
+      → (kind ≡ Global → StaticStays old.statics new.statics x) → ShowsSlot old x slots (record { sort = kind; index = i }) kind → ShowsSlot new x slots' (record { sort = kind; index = i }) kind
+  slot_stays sort.Word i numbers references fields statics h = number_stays sort.Word i (numbers i (omega arith, omega arith)) h
+  slot_stays Jint i numbers references fields statics h = number_stays Jint i (numbers i (omega arith, omega arith)) h
+  slot_stays sort.Flag i numbers references fields statics h = number_stays sort.Flag i (numbers i (omega arith, omega arith)) h
+  slot_stays sort.Truth i numbers references fields statics h = tt
+  slot_stays Ref i numbers references fields statics h = record { reference = h.reference; is = same.reference ∙ h.is; is_null = same.is_null ∙ h.is_null; no_number = same.number ∙ h.no_number; kind = same.kind ∙ h.kind; there = references refl ∙ h.there }
+  slot_stays Global i numbers references fields statics h = record {
+    static = record { place = (statics refl).place ∙ h.static.place; held = h.static.held; there = (statics refl).there ∙ h.static.there };
     no_variable = record { number = same.number ∙ h.no_variable.number; array_type = same.array_type ∙ h.no_variable.array_type; kind = same.kind ∙ h.no_variable.kind };
     is_null = same.is_null ∙ h.is_null;
     reference = same.reference ∙ h.reference;
   }
-  slot_stays FieldId i numbers references fields h = record { field = h.field; is = same.field ∙ h.is; is_null = same.is_null ∙ h.is_null; no_number = same.number ∙ h.no_number; kind = same.kind ∙ h.kind; there = fields refl ∙ h.there }
-  slot_stays (Buffer t writable) i numbers references fields h = record { is_null = same.is_null ∙ h.is_null; kind = same.kind ∙ h.kind }
-  slot_stays (Array t size) i numbers references fields h = record {
+  slot_stays FieldId i numbers references fields statics h = record { field = h.field; is = same.field ∙ h.is; is_null = same.is_null ∙ h.is_null; no_number = same.number ∙ h.no_number; kind = same.kind ∙ h.kind; there = fields refl ∙ h.there }
+  slot_stays (Buffer t writable) i numbers references fields statics h = record { is_null = same.is_null ∙ h.is_null; kind = same.kind ∙ h.kind }
+  slot_stays (Array t size) i numbers references fields statics h = record {
     few = h.few;
     array_type = same.array_type ∙ h.array_type;
     elements = λ k below.
@@ -132,10 +132,11 @@ module _ (code : Listing) (known : Known) (old new : Visible) (slots slots' : Sl
         (λ same is. subst (λ (z : Identifier). ShowsSlot new z slots' t t.sort) (sym same) (subst (λ (r : Slot). ShowsSlot new x slots' r r.sort) is here))
         (λ other h.
         let apart = own y t h other in
-        slot_stays old new y slots slots' (others y other) (statics y other) t.sort t.index
+        slot_stays old new y slots slots' (others y other) t.sort t.index
         (λ k p. number k (λ q. apart.numbers k p q))
         (λ e. reference t.index (λ e'. apart.references e e'))
         (λ e. field t.index (λ e'. apart.fields e e'))
+        (λ e. statics y other)
         (shows.each y t h)) at;
   }
 
@@ -186,17 +187,16 @@ shows_field_set code known old new slots x i f shows own set =
 
 -- ---- a static holds something else
 
-assigned_elsewhere_stays : (old new : Visible) (x y : Identifier) (h : StaticReference) → new.statics ≡ assign x h old.statics → y ≢ x → StaticStays old.statics new.statics y
-assigned_elsewhere_stays old new x y h is other =
+others_assigned : (old new : Visible) (x y : Identifier) (h : StaticReference) → new.statics ≡ assign x h old.statics → y ≢ x → StaticStays old.statics new.statics y
+others_assigned old new x y h is other =
     let stays = assigned_stays x y h old.statics other in
     record { place = ap (static_index y) is ∙ stays.place; there = ap (λ (ss : Statics). lookup y ss) is ∙ stays.there }
 
 -- the static that is assigned shows what it holds then
 static_holds : (old new : Visible) (x : Identifier) (i : ℕ) (h : StaticReference) → ShowsStatic old x i → new.statics ≡ assign x h old.statics → HasNoVariable new x → new.sight.is_null x ≡ Gives (is_empty h) → new.sight.reference x ≡ h → ShowsStatic new x i
 static_holds old new x i h shown is none is_null reference =
-    let there = assigned_at x h i old.statics shown.static.place in
     record {
-      static = record { place = ap (static_index x) is ∙ there.0; held = h; there = ap (λ (ss : Statics). lookup x ss) is ∙ there.1 };
+      static = record { place = ap (static_index x) is ∙ assigned_place x h i old.statics shown.static.place; held = h; there = ap (λ (ss : Statics). lookup x ss) is ∙ assigned_held x h old.statics };
       no_variable = none;
       is_null = is_null;
       reference = reference;
@@ -227,7 +227,7 @@ static_changes code known old new slots x h shows held = record {
           subst (λ (z : Identifier). ShowsSlot new z slots s s.sort) (sym same) (no_variable_shown old new x slots h s s.sort held (subst (λ (z : Identifier). ShowsSlot old z slots s s.sort) same (shows.each y s at)))
         | false ↦ λ e.
           let other : y ≢ x = not_from_Decides (bytes_eq y x) (bytes_eq-Decides y x) e in
-          slot_stays old new y slots slots (held.others y other) (assigned_elsewhere_stays old new x y h held.statics other) s.sort s.index (λ k p. refl) (λ r. refl) (λ r. refl) (shows.each y s at)
+          slot_stays old new y slots slots (held.others y other) s.sort s.index (λ k p. refl) (λ r. refl) (λ r. refl) (λ r. others_assigned old new x y h held.statics other) (shows.each y s at)
       ] refl;
 }
 
@@ -255,7 +255,7 @@ shows_nulled code known old new slots x Global kind i variable shows own same e 
     let is : nullable.Static i ≡ variable = cc in
     let assigned : new.statics ≡ assign x Empty old.statics = set.statics ∙ ap (λ (o : Option VariableKind). nulled_statics o x old.statics) e.0 in
     subst (λ v. Shows code ((x, record { sort = Global; index = i }) ∷ known) new (with_null v slots)) is
-    (with_changed code known old new slots slots x (record { sort = Global; index = i }) shows own.own set.others (λ y other. assigned_elsewhere_stays old new x y Empty assigned other) refl refl refl (λ k outside. refl) (λ j other. refl) (λ j other. refl)
+    (with_changed code known old new slots slots x (record { sort = Global; index = i }) shows own.own set.others (λ y other. others_assigned old new x y Empty assigned other) refl refl refl (λ k outside. refl) (λ j other. refl) (λ j other. refl)
     (static_holds old new x i Empty e.1 assigned (record { number = set.number; array_type = set.array_type; kind = set.same_kind ∙ e.0 }) set.is_null set.reference))
 shows_nulled code known old new slots x FieldId kind i variable shows own same e set =
     let is : nullable.FieldId i ≡ variable = cc in
