@@ -347,15 +347,17 @@ if_stands code line (TestCall c) then' else' l slots_else place tail at test fit
     let W = ways_code (block_code l then') (block_code (record { known = l.known; slots = slots_else }) else' ++ instr.Jump 0 ∷ []) in
     let end : place + length (T ++ W) ≡ place + length T + length W = omega (arith, length-append T W) in
     let after = subst (λ p. TasksStand code l.known p [] tail) end further in
-    call_stands code l.known line place tail (Tested then' else') destination.Test c test.fits (has_front code.instrs place T W at)
-    (jint_given (prototype test.fits.function).result test.result, record {
-      then' = then';
-      else' = else';
-      is = refl;
-      ways = λ gave_zero.
-          branch_stands code line (Done (Truth gave_zero)) (truth_word gave_zero ∷ []) then' else' l slots_else (place + length T) tail (has_back code.instrs place T W at) (record { sort = refl; begun = tt; operands = refl })
-          fits fits' laid laid' room room' after;
-    })
+    call_stands code l.known line place tail (Tested then' else') destination.Test c test.fits (has_front code.instrs place T W at) (
+      jint_given (prototype test.fits.function).result test.result,
+      record {
+        then' = then';
+        else' = else';
+        is = refl;
+        ways = λ gave_zero.
+            branch_stands code line (Done (Truth gave_zero)) (truth_word gave_zero ∷ []) then' else' l slots_else (place + length T) tail (has_back code.instrs place T W at) (record { sort = refl; begun = tt; operands = refl })
+            fits fits' laid laid' room room' after;
+      },
+    )
 
 loop_stands : (code : Listing) (line : ℕ) (test : Expr) (body : Block) → StmtBegins code (tree.While line test body)
 loop_stands code line test body l place tail at fits laid room further =

@@ -223,11 +223,11 @@ static_changes code known old new slots x h shows held = record {
   each = λ y s at.
       elim (bytes_eq y x) as (λ b. bytes_eq y x ≡ b → ShowsSlot new y slots s s.sort) [
         | true ↦ λ e.
-          let same : y ≡ x = same_name y x e in
-          subst (λ (z : Identifier). ShowsSlot new z slots s s.sort) (sym same) (no_variable_shown old new x slots h s s.sort held (subst (λ (z : Identifier). ShowsSlot old z slots s s.sort) same (shows.each y s at)))
+            let same : y ≡ x = same_name y x e in
+            subst (λ (z : Identifier). ShowsSlot new z slots s s.sort) (sym same) (no_variable_shown old new x slots h s s.sort held (subst (λ (z : Identifier). ShowsSlot old z slots s s.sort) same (shows.each y s at)))
         | false ↦ λ e.
-          let other : y ≢ x = not_from_Decides (bytes_eq y x) (bytes_eq-Decides y x) e in
-          slot_stays old new y slots slots (held.others y other) s.sort s.index (λ k p. refl) (λ r. refl) (λ r. refl) (λ r. others_assigned old new x y h held.statics other) (shows.each y s at)
+            let other : y ≢ x = not_from_Decides (bytes_eq y x) (bytes_eq-Decides y x) e in
+            slot_stays old new y slots slots (held.others y other) s.sort s.index (λ k p. refl) (λ r. refl) (λ r. refl) (λ r. others_assigned old new x y h held.statics other) (shows.each y s at)
       ] refl;
 }
 

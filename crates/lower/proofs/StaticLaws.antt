@@ -92,11 +92,11 @@ module _ (shared : Shared) (t : Thread) (x : Identifier) (h : StaticReference) w
         each = λ y s at.
             elim (bytes_eq y x) as (λ b. bytes_eq y x ≡ b → ShowsSlot (visible_to after t) y slots s s.sort) [
               | true ↦ λ e.
-                let same : y ≡ x = same_name y x e in
-                subst (λ (z : Identifier). ShowsSlot (visible_to after t) z slots s s.sort) (sym same) (variable_shown v is slots s (subst (λ (z : Identifier). ShowsSlot (visible_to shared t) z slots s s.sort) same (shows.each y s at)))
+                  let same : y ≡ x = same_name y x e in
+                  subst (λ (z : Identifier). ShowsSlot (visible_to after t) z slots s s.sort) (sym same) (variable_shown v is slots s (subst (λ (z : Identifier). ShowsSlot (visible_to shared t) z slots s s.sort) same (shows.each y s at)))
               | false ↦ λ e.
-                let other : y ≢ x = not_from_Decides (bytes_eq y x) (bytes_eq-Decides y x) e in
-                slot_stays (visible_to shared t) (visible_to after t) y slots slots (others_as_before y other) s.sort s.index (λ k p. refl) (λ r. refl) (λ r. refl) (λ r. assigned_stays x y h shared.statics other) (shows.each y s at)
+                  let other : y ≢ x = not_from_Decides (bytes_eq y x) (bytes_eq-Decides y x) e in
+                  slot_stays (visible_to shared t) (visible_to after t) y slots slots (others_as_before y other) s.sort s.index (λ k p. refl) (λ r. refl) (λ r. refl) (λ r. assigned_stays x y h shared.statics other) (shows.each y s at)
             ] refl;
       }
 

@@ -43,13 +43,13 @@ assigned_stays x y h ((z, w) ∷ rest) other =
     let further = assigned_stays x y h rest other in
     elim (bytes_eq x z) as (λ b. bytes_eq x z ≡ b → StaticStays ((z, w) ∷ rest) (if b then (x, h) ∷ rest else (z, w) ∷ assign x h rest) y) [
       | true ↦ λ e.
-        let none : bytes_eq y x ≡ false = other_bytes y x other in
-        let none' : bytes_eq y z ≡ false = subst (λ (n : Identifier). bytes_eq y n ≡ false) (same_name x z e) none in
-        record { place = rw (none, none') refl; there = rw (none, none') refl }
+          let none : bytes_eq y x ≡ false = other_bytes y x other in
+          let none' : bytes_eq y z ≡ false = subst (λ (n : Identifier). bytes_eq y n ≡ false) (same_name x z e) none in
+          record { place = rw (none, none') refl; there = rw (none, none') refl }
       | false ↦ λ e. record {
-          place = ap (λ (o : Option ℕ). if bytes_eq y z then Some 0 else option_map suc o) further.place;
-          there = ap (λ (o : Option StaticReference). if bytes_eq y z then Some w else o) further.there;
-        }
+        place = ap (λ (o : Option ℕ). if bytes_eq y z then Some 0 else option_map suc o) further.place;
+        there = ap (λ (o : Option StaticReference). if bytes_eq y z then Some w else o) further.there;
+      }
     ] refl
 
 -- ---- the name itself
