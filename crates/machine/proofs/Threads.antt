@@ -221,36 +221,39 @@ module _ (p : Lowered) (w : World) (old : Space) (lent : BuffersInUse) (k : ℕ)
 
 -- ---- an entry
 
--- the statics before a function are among those of the file
-abbrev AreAmongStatics : (statics : Known) → List Static → Type 0
-AreAmongStatics statics all = (x : Identifier) (slot : Slot) → lookup x statics ≡ Some slot → IsTrue (list_any (λ (g : Static). bytes_eq x g.name) all)
+-- the names of statics
+abbrev names_of : List Static → List Identifier
+names_of statics = map (λ (g : Static). g.name) statics
+
+-- the statics that are known before a function are the first of the file, each by its place
+record AreFirst (statics : Known) (first : List Static) : Type 0 where
+  counted : length statics ≡ length first
+  placed : (x : Identifier) → option_map (λ (s : Slot). s.index) (lookup x statics) ≡ name_place x (names_of first)
 
 -- a function's code, after statics of the file
 record HasCode (all : List Static) (codes : List Listing) (n : ℕ) (f : Function) : Type 0 where
   code : Listing
   at : slice_get codes n ≡ Some code
   statics : Known
-  among : AreAmongStatics statics all
+  first : List Static
+  more : List Static
+  among : all ≡ first ++ more
+  placed : AreFirst statics first
   is : IsCodeOf statics f code
 
 -- so it is one after a code more
 later : (all : List Static) (c : Listing) (codes : List Listing) (n : ℕ) (f : Function) → HasCode all codes n f → HasCode all (c ∷ codes) (suc n) f
-later all c codes n f h = record { code = h.code; at = h.at; statics = h.statics; among = h.among; is = h.is }
+later all c codes n f h = record { code = h.code; at = h.at; statics = h.statics; first = h.first; more = h.more; among = h.among; placed = h.placed; is = h.is }
 
-any_there : (x : Identifier) (front : List Static) (s : Static) (back : List Static) → bytes_eq x s.name ≡ true → IsTrue (list_any (λ (g : Static). bytes_eq x g.name) (front ++ s ∷ back))
-any_there x [] s back h = rw h refl
-any_there x (g ∷ front) s back h = either (bytes_eq x g.name) (any_there x front s back h)
+one_more_static : (statics : Known) (front : List Static) (s : Static) → lookup s.name statics ≡ None → AreFirst statics front → AreFirst (with_static s statics) (front ++ s ∷ [])
+one_more_static statics front s new h = record {
+  counted = let count : length statics ≡ length front = h.counted in omega (arith, count, length-append front (s ∷ []));
+  placed = λ x. ap (name_place x) (sym (map-append (λ (g : Static). g.name) front (s ∷ []))) ∙> by_test x (bytes_eq x s.name) refl;
+}
   where
-    either : (b : Bool) {c : Bool} → c ≡ true → (b || c) ≡ true
-    either true h = refl
-    either false h = h
-
-one_more_static : (statics : Known) (front : List Static) (s : Static) (back : List Static) → AreAmongStatics statics (front ++ s ∷ back) → AreAmongStatics (with_static s statics) (front ++ s ∷ back)
-one_more_static statics front s back among x slot h = by_test (bytes_eq x s.name) refl h
-  where
-    by_test : (b : Bool) → bytes_eq x s.name ≡ b → (if b then Some (record { sort = Global; index = length statics }) else lookup x statics) ≡ Some slot → IsTrue (list_any (λ (g : Static). bytes_eq x g.name) (front ++ s ∷ back))
-    by_test true e k = any_there x front s back e
-    by_test false e k = among x slot k
+    by_test : (x : Identifier) (b : Bool) → bytes_eq x s.name ≡ b → option_map (λ (t : Slot). t.index) (if b then Some (record { sort = Global; index = length statics }) else lookup x statics) ≡ name_place x (names_of front ++ s.name ∷ [])
+    by_test x true e = ?
+    by_test x false e = ?
 
 -- the statics of items
 abbrev statics_in : List Item → List Static

@@ -15,6 +15,11 @@ use Rattle.machine.specs.Agrees.{StoreAgrees, FramesAgree}
 use Rattle.machine.specs.Checked.{is_answered}
 use Rattle.machine.specs.Given.{IsGiven}
 use Rattle.machine.specs.HeapAgrees.{ReferenceAgrees}
+use Rattle.machine.specs.Statics.{References, all_held}
+
+-- the references that the operands of a call name
+abbrev pub references_of : Store → Activation → References
+references_of store call = record { locals = call.references.items; statics = all_held store.globals store.statics.items }
 
 -- Store, frames and pending exception agree with the source's, and each operand gives what the argument at its place is.
 pub record IsAsked (p : Lowered) (w : World) (store : Store) (pending : Option ℕ) (call : Activation) (function : Call) (shared : Shared) (s : Thread) (f : JniFunction) (args : List Actual) : Type 0 where
@@ -26,6 +31,6 @@ pub record IsAsked (p : Lowered) (w : World) (store : Store) (pending : Option �
   pub count : length args ≡ length (prototype f).parameters
   pub kinds : AllZip OperandFits (prototype f).parameters function.operands
   pub fit : AllZip ActualFits (prototype f).parameters args
-  pub given : AllZip (IsGiven w.classes store.heap call.references.items call.fields.items) function.operands args
+  pub given : AllZip (IsGiven w.classes store.heap (references_of store call) call.fields.items) function.operands args
   pub words : call.stack ≡ words_given args
   pub texts : function.texts ≡ texts_given args

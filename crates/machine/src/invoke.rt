@@ -13,6 +13,7 @@ use crate::carry_out::carry_out;
 use crate::check::check;
 use crate::frame::has_room;
 use crate::receive::receive;
+use crate::statics::References;
 use crate::store::Store;
 use crate::thread::{Activation, Event, Executed};
 use code::instr::Call;
@@ -32,12 +33,13 @@ pub fn invoke(
     ensures { (p : Lowered) (lent : BuffersInUse) (k : ℕ) (shared : Shared) (s : SourceThread) (task : Task) (rest : List Task) → AtCall p world.now store.old pending.old call.old function.now shared s task rest
         → Executes p world.now store.old.heap store.new lent k shared s rest call.new pending.new (effect_of (sight_of shared s) task) result }
 {
+    let references = References::new(&call.references, &store.statics, &store.globals);
     let trap = check(
         world.classes(),
         &store.heap,
         pending.is_some(),
         has_room(&call.frames),
-        &call.references,
+        &references,
         &call.fields,
         function,
     );
@@ -48,7 +50,7 @@ pub fn invoke(
         world.classes(),
         &store.heap,
         &store.loaded,
-        &call.references,
+        &references,
         &call.fields,
         &call.stack,
         function,

@@ -42,7 +42,7 @@ module _ (p : Lowered) (w : World) (store : Store) (pending : Option ℕ) (call 
   it = called p w store pending call function shared s task rest h
 
   -- the trap that was found is the source's
-  told : (classes : Classes) (is_pending room : Bool) (references : List (Option ℕ)) (fields : List (Option FieldHandle)) (o : Option Trap) → classes ≡ w.classes → is_pending ≡ is_some pending → room ≡ has_room call.frames.items → references ≡ call.references.items → fields ≡ call.fields.items
+  told : (classes : Classes) (is_pending room : Bool) (references : References) (fields : List (Option FieldHandle)) (o : Option Trap) → classes ≡ w.classes → is_pending ≡ is_some pending → room ≡ has_room call.frames.items → references ≡ references_of store call → fields ≡ call.fields.items
       → option_map trap_view o ≡ trap_found classes store.heap is_pending room references fields (function_value function.function) function.operands.items
       → option_map trap_view o ≡ trap_of_call w.classes shared s it.target it.f it.args
   told classes is_pending room references fields o same_classes same_pending same_room same_references same_fields found =
@@ -50,8 +50,8 @@ module _ (p : Lowered) (w : World) (store : Store) (pending : Option ℕ) (call 
       ∙ (λ i. trap_found (same_classes i) store.heap (same_pending i) (same_room i) (same_references i) (same_fields i) (it.asked.same_function i) function.operands.items)
       ∙ found_is p w store pending call (call_view function) shared s it.f it.args it.asked it.target
 
-  there : (references : List (Option ℕ)) → references ≡ call.references.items → AreAddresses store.heap references function.operands.items
-  there references same = subst (λ (l : List (Option ℕ)). AreAddresses store.heap l function.operands.items) (sym same) (objects_there p w store pending call (call_view function) shared s it.f it.args it.asked)
+  there : (references : References) → references ≡ references_of store call → AreAddresses store.heap references function.operands.items
+  there references same = subst (λ (l : References). AreAddresses store.heap l function.operands.items) (sym same) (objects_there p w store pending call (call_view function) shared s it.f it.args it.asked)
 
   handled : (classes : Classes) (fields : List (Option FieldHandle)) → classes ≡ w.classes → fields ≡ call.fields.items → AreHandles classes fields function.operands.items
   handled classes fields same_classes same =
@@ -66,21 +66,21 @@ module _ (p : Lowered) (w : World) (store : Store) (pending : Option ℕ) (call 
   kind_is kind same = same ∙ ap (λ (f : JniFunction). (prototype f).result) it.asked.same_function
 
   module _ (free : trap_of_call w.classes shared s it.target it.f it.args ≡ None) where
-    passes : (classes : Classes) (references : List (Option ℕ)) (fields : List (Option FieldHandle)) → classes ≡ w.classes → references ≡ call.references.items → fields ≡ call.fields.items
+    passes : (classes : Classes) (references : References) (fields : List (Option FieldHandle)) → classes ≡ w.classes → references ≡ references_of store call → fields ≡ call.fields.items
         → fit_together classes store.heap references fields function.operands.items (function_value function.function) ≡ true
     passes classes references fields same_classes same_references same_fields =
         (λ i. fit_together (same_classes i) store.heap (same_references i) (same_fields i) function.operands.items (it.asked.same_function i))
         ∙ has_passed p w store pending call (call_view function) shared s it.f it.args it.asked it.target free
 
-    answered : (sound : IsSound w) (lent : BuffersInUse) (k : ℕ) (classes : Classes) (loaded : List ℕ) (references : List (Option ℕ)) (fields : List (Option FieldHandle)) (kind : ResultKind) (answer : Answer) → classes ≡ w.classes → loaded ≡ store.loaded.items → references ≡ call.references.items → fields ≡ call.fields.items
+    answered : (sound : IsSound w) (lent : BuffersInUse) (k : ℕ) (classes : Classes) (loaded : List ℕ) (references : References) (fields : List (Option FieldHandle)) (kind : ResultKind) (answer : Answer) → classes ≡ w.classes → loaded ≡ store.loaded.items → references ≡ references_of store call → fields ≡ call.fields.items
         → kind ≡ (prototype (function_value function.function)).result → IsWorkedOut classes store.heap loaded references fields call.stack (call_view function) (function_value function.function) answer
         → IsAnswer w.classes store.heap kind shared s answer (call_effect w.classes lent k shared s it.args it.f)
     answered sound lent k classes loaded references fields kind answer same_classes same_loaded same_references same_fields same_kind works =
         subst (λ (x : ResultKind). IsAnswer w.classes store.heap x shared s answer (call_effect w.classes lent k shared s it.args it.f)) (sym (kind_is kind same_kind))
         (answers p w store pending call (call_view function) shared s sound lent k it.args it.f it.asked it.target free answer
-        (subst (λ (x : JniFunction). IsWorkedOut w.classes store.heap store.loaded.items call.references.items call.fields.items call.stack (call_view function) x answer) it.asked.same_function
-        (subst (λ (l : List (Option FieldHandle)). IsWorkedOut w.classes store.heap store.loaded.items call.references.items l call.stack (call_view function) (function_value function.function) answer) same_fields
-        (subst (λ (l : List (Option ℕ)). IsWorkedOut w.classes store.heap store.loaded.items l fields call.stack (call_view function) (function_value function.function) answer) same_references
+        (subst (λ (x : JniFunction). IsWorkedOut w.classes store.heap store.loaded.items (references_of store call) call.fields.items call.stack (call_view function) x answer) it.asked.same_function
+        (subst (λ (l : List (Option FieldHandle)). IsWorkedOut w.classes store.heap store.loaded.items (references_of store call) l call.stack (call_view function) (function_value function.function) answer) same_fields
+        (subst (λ (l : References). IsWorkedOut w.classes store.heap store.loaded.items l fields call.stack (call_view function) (function_value function.function) answer) same_references
         (subst (λ (l : List ℕ). IsWorkedOut w.classes store.heap l references fields call.stack (call_view function) (function_value function.function) answer) same_loaded
         (subst (λ (t : Classes). IsWorkedOut t store.heap loaded references fields call.stack (call_view function) (function_value function.function) answer) same_classes works))))))
 
