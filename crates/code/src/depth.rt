@@ -2,9 +2,9 @@
 
 ghost use Rattle.std.specs.Prelude.{◌≡◌, ◌+◌, ◌-◌, ◌<◌, ◌≤◌, ◌↔◌, List, IsTrue, IsSome, IfSome, IfOk, length, slice_index};
 ghost use Rattle.code.specs.declared.instr.Instr.{Instr};
-ghost use Rattle.code.specs.Depth.{depth_after, words_taken, with_fewer, depths, IsDepthTable, Leaves, EndsByLeaving, Lands, JumpsLand};
+ghost use Rattle.code.specs.Depth.{depth_after, words_taken, with_fewer, with_result, depths, IsDepthTable, Leaves, EndsByLeaving, Lands, JumpsLand};
 
-use crate::instr::{Instr, Operand};
+use crate::instr::{Instr, Operand, Target};
 use std::alloc::{AllocError, Global};
 
 /// The number of words at each place of the code, or none where an instruction finds too few of them or no room.
@@ -45,7 +45,10 @@ fn next_depth(instr: &Instr, depth: usize) -> Option<usize>
         | Instr::PutJint => depth.checked_sub(1),
         Instr::ReturnJint => (depth > 0).then_some(0),
         Instr::ClearArray(_) | Instr::StoreNull(_) => Some(depth),
-        Instr::Call(boxed) => fewer(words_taken(&boxed.call().operands), depth),
+        Instr::Call(boxed) => {
+            let call = boxed.call();
+            with_result(call.target, fewer(words_taken(&call.operands), depth)?)
+        }
         Instr::Jump(_) | Instr::JumpBack(_) | Instr::Return | Instr::ReturnReference(_) => Some(0),
     }
 }
@@ -70,6 +73,18 @@ fn fewer(taken: usize, depth: usize) -> Option<usize>
         Some(depth - taken)
     } else {
         None
+    }
+}
+
+/// And with a call's result, if it goes onto the stack.
+fn with_result(target: Target, depth: usize) -> Option<usize>
+    requires { depth ≤ 64 }
+    ensures next { result ≡ with_result target depth }
+    ensures limit { IfSome result (λ d. d ≤ 64) }
+{
+    match target {
+        Target::Test => (depth < 64).then_some(depth + 1),
+        _ => Some(depth),
     }
 }
 

@@ -138,7 +138,7 @@ pub enum Operand {
     IsCopy(u32),
 }
 
-/// Where a call's result goes.
+/// Where a call's result goes. Slots of each kind, and statics, are counted from 0.
 #[derive(Clone, Copy, Debug, PartialEq, Eq)]
 pub enum Target {
     /// Nowhere.
@@ -149,6 +149,10 @@ pub enum Target {
     Local(u32),
     /// Into this slot of field IDs.
     FieldId(u32),
+    /// Into the global reference of this static.
+    Static(u32),
+    /// Onto the stack: the truth whether the result, a `jint`, is 0, which is the test of an `if` (6.8.4.1).
+    Test,
 }
 
 /// A call of a function of the JNI, in a statement on this line (JNI Specification, chapter 4).

@@ -74,6 +74,8 @@ fn target_within(target: Target, slots: SlotCounts) -> bool
         Target::Number(slot) => slot < slots.numbers,
         Target::Local(slot) => slot < slots.references,
         Target::FieldId(slot) => slot < slots.field_ids,
+        Target::Static(index) => index < slots.statics,
+        Target::Test => true,
     }
 }
 

@@ -217,6 +217,7 @@ arguments_texts arguments = flat_map argument_text arguments
 -- where a result for a variable of this sort goes
 abbrev pub result_target : Sort → ℕ → Target
 result_target Ref i = target.Local i
+result_target Global i = target.Static i
 result_target FieldId i = target.FieldId i
 result_target s i = target.Number i
 
@@ -278,7 +279,7 @@ loop_code test body = test ++ turn_code test body
 -- a test
 abbrev pub test_code : Known → (line : ℕ) → Test → List Instr
 test_code known line (TestExpr e) = expr_code known line e
-test_code known line (TestCall c) = []
+test_code known line (TestCall c) = named_call_code known line target.Test (function_named c.function) c.arguments
 
 -- an `if` with the code of its ways
 abbrev pub if_code : Known → (line : ℕ) → Test → (then' else' : List Instr) → List Instr

@@ -5,22 +5,25 @@ use Rattle.std.specs.List.{AllZip}
 use Rattle.std.specs.Int.{w32, cast_signed}
 use Rattle.base.specs.Bytes.{Identifier, lookup}
 use Rattle.base.specs.Element.{ElementType}
+use Rattle.syntax.specs.Tree.{Block}
 use Rattle.jni.specs.JniFunction.{Access, JniFunction}
 use Rattle.jni.specs.BuiltFunctions.{is_built_function}
-use Rattle.jni.specs.Prototype.{ParameterKind, FieldID, IntNumber, TextBytes, ArrayVariable, BufferVariable, Mode, IsCopy, ResultKind, NewLocal, GivesField, prototype}
+use Rattle.jni.specs.Prototype.{ParameterKind, FieldID, IntNumber, TextBytes, ArrayVariable, BufferVariable, Mode, IsCopy, ResultKind, NewLocal, NewGlobal, GivesInt, GivesField, prototype}
 use Rattle.types.specs.Sorts.{Sort, Flag, Ref, Global, FieldId, Buffer}
 use Rattle.classes.specs.Fields as source
 use Rattle.source.specs.Object.{Reference}
 use Rattle.source.specs.Arguments.{Actual, ReferenceActual, FieldActual, NumberActual, TextActual, VariableActual, ModeActual, NothingActual, ReleaseMode}
 use Rattle.source.specs.Effect.{Effect, Becomes, Sets, SetsNull, SetsElement, MakesArray, Prints, Calls, Returns, TrapsAt, NoEffect}
-use Rattle.source.specs.Task.{Task, Target, Declared, Assigned, Dropped, VariableKind, ScalarKind, ReferenceKind, FieldKind}
+use Rattle.source.specs.Task.{Task, Branch, Target, Declared, Assigned, Tested, Dropped, VariableKind, ScalarKind, ReferenceKind, FieldKind, BufferKind}
+use Rattle.source.specs.Term.{Done}
 use Rattle.source.specs.Value.{Value, Trap, Int, Gives}
 use Rattle.source.specs.Value as value
-use Rattle.source.specs.Variable.{Empty}
+use Rattle.source.specs.Variable.{StaticReference, Empty}
 use Rattle.code.specs.Call.{Call}
 use Rattle.code.specs.declared.instr.Operand.{Operand as Where}
 use Rattle.code.specs.declared.instr.Operand.TheVariants as operand
 use Rattle.code.specs.declared.instr.NullableVariable.{NullableVariable}
+use Rattle.code.specs.declared.instr.NullableVariable.TheVariants as nullable
 use Rattle.code.specs.declared.instr.Target.{Target as Destination}
 use Rattle.code.specs.declared.instr.Target.TheVariants as destination
 use Rattle.code.specs.declared.instr.Instr.{Instr}
@@ -33,7 +36,7 @@ use Rattle.code.specs.Depth.{Listing}
 use Rattle.code.specs.Effect.{truth_word, plain_of}
 use Rattle.code_generator.specs.Coding.{mode_code}
 use Rattle.code_generator.specs.Layout.{Known}
-use Rattle.lower.specs.Slots.{word_of, ValueHasSort, Visible, Slots, Shows, IsSet, IsNulled, IsReferred, IsFieldSet, IsMade, IsElementSet, holds_null, with_null}
+use Rattle.lower.specs.Slots.{word_of, ValueHasSort, Visible, Slots, Shows, IsSet, IsNulled, IsReferred, IsFieldSet, IsMade, IsElementSet, IsHeld, ShowsStatic, holds_null, with_null}
 use Rattle.lower.specs.Stands.{target_name, number_sort, StandsFor}
 use Rattle.lower.specs.Fits.{IsReferenceKind, TakesNull, IsArray}
 
@@ -50,11 +53,12 @@ trap_of trap.DivisionByZero = value.DivisionByZero
 trap_of trap.ShiftTooFar = value.ShiftTooFar
 trap_of trap.OutOfRange = value.OutOfRange
 
--- an instruction works on the stack alone: where it leads, and the stack after it; a null test looks at the slots too
-abbrev pub Works : Slots → Instr → (stack : List ℕ) → Plain → (after : List ℕ) → Type 0
-Works slots (instr.TestNull variable equal) stack way after =
-    (null : Bool) × (holds_null slots variable ≡ Some null) × (way ≡ plain.Next) × (after ≡ truth_word (beq null equal) ∷ stack)
-Works slots i stack way after = plain_of i stack slots.numbers ≡ Some (way, after, slots.numbers)
+-- an instruction works on the stack alone: where it leads, and the stack after it; a null test looks at the slots and the
+-- statics too
+abbrev pub Works : Visible → Slots → Instr → (stack : List ℕ) → Plain → (after : List ℕ) → Type 0
+Works visible slots (instr.TestNull variable equal) stack way after =
+    (null : Bool) × (holds_null visible slots variable ≡ Some null) × (way ≡ plain.Next) × (after ≡ truth_word (beq null equal) ∷ stack)
+Works visible slots i stack way after = plain_of i stack slots.numbers ≡ Some (way, after, slots.numbers)
 
 -- what holds at the place that a way leads to
 abbrev pub AtEnd : (ℕ → Type 0) → (place : ℕ) → Plain → Type 0
@@ -120,7 +124,7 @@ module _ (code : Listing) (known : Known) (place : ℕ) (stack : List ℕ) (slot
     pub way : Plain
     pub after : List ℕ
     pub at : slice_get code.instrs place ≡ Some here
-    pub works : Works slots here stack way after
+    pub works : Works visible slots here stack way after
     pub names : Known
     pub shows : Shows code names visible slots
     pub stands : AtEnd (λ p. StandsFor code names p after tasks) place way
@@ -148,6 +152,13 @@ module _ (code : Listing) (known : Known) (place : ℕ) (stack : List ℕ) (slot
   kind_of_target (Assigned x) = visible.kind x
   kind_of_target target = None
 
+  -- a variable in a slot is of the kind that it has there, and a static, which is of none, has the number of its place
+  abbrev pub IsStoredIn : NullableVariable → Option VariableKind → Identifier → Type 0
+  IsStoredIn (nullable.Local i) kind x = kind ≡ Some ReferenceKind
+  IsStoredIn (nullable.Static i) kind x = (kind ≡ None) × ShowsStatic visible x i
+  IsStoredIn (nullable.FieldId i) kind x = kind ≡ Some FieldKind
+  IsStoredIn (nullable.Buffer i) kind x = (t : ElementType) × (kind ≡ Some (BufferKind t))
+
   -- it makes a variable NULL, and the next place stands for these tasks
   pub record StoresNull (target : Target) (tasks : List Task) : Type 0 where
     pub empty : stack ≡ []
@@ -155,6 +166,7 @@ module _ (code : Listing) (known : Known) (place : ℕ) (stack : List ℕ) (slot
     pub is : target_name target ≡ Some name
     pub takes : CanBeNull target
     pub variable : NullableVariable
+    pub stored : IsStoredIn variable (kind_of_target target) name
     pub at : slice_get code.instrs place ≡ Some (instr.StoreNull variable)
     pub names : Known
     pub shows : (new : Visible) → IsNulled visible (kind_of_target target) name new → Shows code names new (with_null variable slots)
@@ -207,18 +219,35 @@ module _ (code : Listing) (known : Known) (place : ℕ) (stack : List ℕ) (slot
     pub shows : (f : Option source.FieldId) (new : Visible) → IsFieldSet visible x f new → Shows code names new (record slots { fields = slice_set slots.fields i f })
     pub stands : StandsFor code names (place + 1) [] tasks
 
+  -- the same of a global reference, which a static that is known holds then
+  pub record TakesStatic (i : ℕ) (x : Identifier) (tasks : List Task) : Type 0 where
+    pub static : ShowsStatic visible x i
+    pub names : Known
+    pub shows : (h : StaticReference) (new : Visible) → IsHeld visible x h new → Shows code names new slots
+    pub stands : StandsFor code names (place + 1) [] tasks
+
+  -- The result is tested by an `if` on this line: with the truth whether it is 0 on the stack the next place stands for its
+  -- ways, and then for these tasks.
+  pub record TakesTest (line : ℕ) (target : Target) (tasks : List Task) : Type 0 where
+    pub then' : Block
+    pub else' : Block
+    pub is : target ≡ Tested then' else'
+    pub stands : (gave_zero : Bool) → StandsFor code known (place + 1) (truth_word gave_zero ∷ []) (Branch line (Done (value.Truth gave_zero)) then' else' ∷ tasks)
+
   -- a new variable of this kind takes what is taken, or one that is of this kind already
   abbrev pub GoesInto : VariableKind → Target → (Takes : Identifier → Type 0) → Type 0
   GoesInto kind (Declared declared x) Takes = (declared ≡ kind) × Takes x
   GoesInto kind (Assigned x) Takes = (visible.kind x ≡ Some kind) × Takes x
   GoesInto kind target Takes = ⊥
 
-  -- where the result of a call goes, by what the function gives, and what comes then
-  abbrev pub TakesResult : Destination → ResultKind → Target → List Task → Type 0
-  TakesResult (destination.Number i) gives target tasks = (s : Sort) × (number_sort gives ≡ Some s) × GoesInto ScalarKind target (λ x. TakesNumber s i x tasks)
-  TakesResult (destination.Local i) gives target tasks = (gives ≡ NewLocal) × GoesInto ReferenceKind target (λ x. TakesReference i x tasks)
-  TakesResult (destination.FieldId i) gives target tasks = (gives ≡ GivesField) × GoesInto FieldKind target (λ x. TakesField i x tasks)
-  TakesResult destination.Dropped gives target tasks = (target ≡ Dropped) × StandsFor code known (place + 1) [] tasks
+  -- where the result of a call in a statement on this line goes, by what the function gives, and what comes then
+  abbrev pub TakesResult : (line : ℕ) → Destination → ResultKind → Target → List Task → Type 0
+  TakesResult line (destination.Number i) gives target tasks = (s : Sort) × (number_sort gives ≡ Some s) × GoesInto ScalarKind target (λ x. TakesNumber s i x tasks)
+  TakesResult line (destination.Local i) gives target tasks = (gives ≡ NewLocal) × GoesInto ReferenceKind target (λ x. TakesReference i x tasks)
+  TakesResult line (destination.FieldId i) gives target tasks = (gives ≡ GivesField) × GoesInto FieldKind target (λ x. TakesField i x tasks)
+  TakesResult line (destination.Static i) gives target tasks = (gives ≡ NewGlobal) × ((x : Identifier) × (target ≡ Assigned x) × TakesStatic i x tasks)
+  TakesResult line destination.Test gives target tasks = (gives ≡ GivesInt) × TakesTest line target tasks
+  TakesResult line destination.Dropped gives target tasks = (target ≡ Dropped) × StandsFor code known (place + 1) [] tasks
 
   -- it calls this function with these arguments
   pub record CallsFunction (line : ℕ) (target : Target) (f : JniFunction) (args : List Actual) (tasks : List Task) : Type 0 where
@@ -233,7 +262,7 @@ module _ (code : Listing) (known : Known) (place : ℕ) (stack : List ℕ) (slot
     pub kinds : AllZip OperandFits (prototype f).parameters call.operands
     pub fit : AllZip ActualFits (prototype f).parameters args
     pub given : AllZip IsOperand call.operands args
-    pub goes : TakesResult call.target (prototype f).result target tasks
+    pub goes : TakesResult line call.target (prototype f).result target tasks
 
   -- it leaves the function
   pub record LeavesCall : Type 0 where

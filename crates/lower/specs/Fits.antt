@@ -7,7 +7,7 @@ use Rattle.syntax.specs.Tree as tree
 use Rattle.syntax.specs.Tree.{LogicalNot, Complement, ToWord, ToInt, Expr, Argument, Call, RightSide, FromExpr, FromCall, Test, TestExpr, TestCall, Stmt, Block, End, Next, Function}
 use Rattle.jni.specs.JniFunction.{Access, JniFunction}
 use Rattle.jni.specs.BuiltFunctions.{is_built_function}
-use Rattle.jni.specs.Prototype.{ParameterKind, Nullable, NonNull, ClassObject, ObjectArray, StringObject, NumberArray, LocalVariable, StaticVariable, FieldID, IntNumber, TextBytes, ArrayVariable, BufferVariable, Mode, IsCopy, ResultKind, NewLocal, GivesFlag, GivesInt, GivesField, function_named, prototype}
+use Rattle.jni.specs.Prototype.{ParameterKind, Nullable, NonNull, ClassObject, ObjectArray, StringObject, NumberArray, LocalVariable, StaticVariable, FieldID, IntNumber, TextBytes, ArrayVariable, BufferVariable, Mode, IsCopy, ResultKind, NewLocal, NewGlobal, GivesFlag, GivesInt, GivesField, function_named, prototype}
 use Rattle.types.specs.Sorts.{Sort, Word, Jint, Flag, Truth, Ref, Global, FieldId, Buffer, Array, OperatorGroup, Logic, Equality, Order, OnWords, group, is_buffer_for}
 use Rattle.types.specs.SortRules.{variable_sort, is_mode}
 use Rattle.code.specs.declared.slots.SlotCounts.{SlotCounts}
@@ -206,11 +206,12 @@ ValueFits known Truth e = ⊥
 ValueFits known (Array t size) e = ⊥
 ValueFits known s e = e ≡ tree.Named tree.Null
 
--- what a function gives fits a variable of this sort: a number, a local reference or a field ID today
+-- what a function gives fits a variable of this sort: a number, a reference or a field ID today
 abbrev pub ResultFits : Sort → ResultKind → Type 0
 ResultFits s GivesInt = s ≡ Jint
 ResultFits s GivesFlag = s ≡ Flag
 ResultFits s NewLocal = s ≡ Ref
+ResultFits s NewGlobal = s ≡ Global
 ResultFits s GivesField = s ≡ FieldId
 ResultFits s gives = ⊥
 
@@ -224,10 +225,10 @@ abbrev pub RightFits : Known → Sort → RightSide → Type 0
 RightFits known s (FromExpr e) = ValueFits known s e
 RightFits known s (FromCall c) = CallGives known s c
 
--- what an `if` tests
+-- what an `if` tests: a truth, or whether a call gives 0
 abbrev pub TestFits : Known → Test → Type 0
 TestFits known (TestExpr e) = NumberFits known (term_of e) Truth
-TestFits known (TestCall c) = ⊥
+TestFits known (TestCall c) = CallGives known Jint c
 
 -- what is returned: NULL, a local reference or a number
 abbrev pub ReturnFits : Known → Term → Type 0

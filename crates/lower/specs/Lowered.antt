@@ -12,7 +12,7 @@ use Rattle.source.specs.Thread.{Shared, Thread}
 use Rattle.code.specs.Depth.{Listing, IsValid}
 use Rattle.code_generator.specs.Layout.{Known, with_static, entry_layout}
 use Rattle.lower.specs.Length.{function_steps, step_limit}
-use Rattle.lower.specs.Slots.{Visible, visible_to, Slots, Shows, ArgumentsFit, EntrySlots, HasRoom, AreNull}
+use Rattle.lower.specs.Slots.{Visible, visible_to, Slots, Shows, ArgumentsFit, EntrySlots, HasRoom, AreShared}
 use Rattle.lower.specs.Stands.{StandsFor}
 use Rattle.lower.specs.Does.{DoesEffect}
 
@@ -22,7 +22,7 @@ pub record Lowered : Type 0 where
   pub codes : List Listing
 
 -- The code begins at the function's first statement, where the slots, of which there are enough, show the arguments, and the
--- statics before the function are NULL. Each instruction is one step of the source, whatever can be seen that the slots show. There
+-- statics before the function are seen as they are. Each instruction is one step of the source, whatever can be seen that the slots show. There
 -- is one for each step, and a return at the end of the body.
 pub record IsCodeOf (statics : Known) (f : Function) (code : Listing) : Type 0 where
   pub valid : IsValid code
@@ -31,7 +31,7 @@ pub record IsCodeOf (statics : Known) (f : Function) (code : Listing) : Type 0 w
   pub begins : StandsFor code (entry_layout statics f).known 0 [] (tasks_of f.body)
   pub room : (arguments : List ObjectValue) → ArgumentsFit f.parameters arguments → HasRoom code arguments
   pub shows : (shared : Shared) (thread : Thread) (calls : List Invocation) (class : ℕ) (arguments : List ObjectValue) (slots : Slots)
-      → ArgumentsFit f.parameters arguments → EntrySlots code class arguments slots → AreNull statics shared
+      → ArgumentsFit f.parameters arguments → EntrySlots code class arguments slots → AreShared statics shared
       → Shows code (entry_layout statics f).known (visible_to shared (entered thread calls f class arguments)) slots
   pub steps : (visible : Visible) (known : Known) (slots : Slots) (place : ℕ) (stack : List ℕ) (task : Task) (rest : List Task)
       → Shows code known visible slots → StandsFor code known place stack (task ∷ rest)

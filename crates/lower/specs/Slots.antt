@@ -1,19 +1,21 @@
 -- What the slots of an activation hold of what can be seen.
-use Rattle.std.specs.Prelude.{◌≡◌, ◌≢◌, ℕ, ◌+◌, ◌^◌, ◌<◌, ◌≤◌, Bool, true, ℤ, pos, List, [], ◌∷◌, ◌++◌, length, filter_map, is_none, slice_get, slice_set, Option, Some, None, FitsSigned}
+use Rattle.std.specs.Prelude.{◌≡◌, ◌≢◌, ℕ, suc, ◌+◌, ◌^◌, ◌<◌, ◌≤◌, Bool, true, ℤ, pos, List, [], ◌∷◌, ◌++◌, length, filter_map, is_none, slice_get, slice_set, if◌then◌else◌, Option, Some, None, FitsSigned}
 use Rattle.std.specs.Int.{w32, cast_unsigned}
 use Rattle.std.specs.Option.{option_map}
+use Rattle.std.specs.Str.{bytes_eq}
 use Rattle.base.specs.Bytes.{Identifier, lookup}
 use Rattle.base.specs.Element.{ElementType}
 use Rattle.syntax.specs.Tree.{ParameterType, IntParameter, ReferenceParameter, Parameter}
 use Rattle.types.specs.Sorts.{Sort, Jint, Ref, Global, FieldId, Buffer, Array}
 use Rattle.types.specs.Sorts as sort
 use Rattle.classes.specs.Fields as source
+use Rattle.source.specs.CallEffects.{level_of}
 use Rattle.source.specs.Object.{ObjectValue, Number, Refers, Reference}
 use Rattle.source.specs.Sight.{Sight}
 use Rattle.source.specs.Task.{VariableKind, ScalarKind, ReferenceKind, FieldKind, BufferKind}
 use Rattle.source.specs.Thread.{Shared, Thread, sight_of}
 use Rattle.source.specs.Value.{Value, Word, Int, Flag, Truth, OutOfRange, Outcome, Gives, Traps, Stuck, convert}
-use Rattle.source.specs.Variable.{Variable, Scalar, LocalRef, FieldHandle, Elements, LocalArray, Empty, as_static}
+use Rattle.source.specs.Variable.{Variable, Scalar, LocalRef, FieldHandle, Elements, LocalArray, StaticReference, Empty, Live, Deleted, Statics, as_static, assign}
 use Rattle.code.specs.declared.instr.NullableVariable.{NullableVariable}
 use Rattle.code.specs.declared.instr.NullableVariable.TheVariants as nullable
 use Rattle.code.specs.Depth.{Listing}
@@ -45,11 +47,14 @@ IsNumberSort s = ⊥
 
 -- ---- what can be seen
 
--- what can be seen, the element types of local arrays, and of what kind the other variables are declared
+-- what can be seen, the element types of local arrays, of what kind the other variables are declared, the levels of local
+-- references, and what the statics hold, in the unit's order
 pub record Visible : Type 0 where
   pub sight : Sight
   pub array_type : Identifier → Option ElementType
   pub kind : Identifier → Option VariableKind
+  pub level : Identifier → ℕ
+  pub statics : Statics
 
 -- the element type of a local array
 abbrev pub type_of_array : Option Variable → Option ElementType
@@ -67,7 +72,13 @@ kind_of_variable None = None
 
 -- what a thread can see
 abbrev pub visible_to : Shared → Thread → Visible
-visible_to s t = record { sight = sight_of s t; array_type = λ x. type_of_array (lookup x t.variables); kind = λ x. kind_of_variable (lookup x t.variables) }
+visible_to s t = record {
+  sight = sight_of s t;
+  array_type = λ x. type_of_array (lookup x t.variables);
+  kind = λ x. kind_of_variable (lookup x t.variables);
+  level = λ x. level_of (lookup x t.variables);
+  statics = s.statics;
+}
 
 -- a name shows what it did
 pub record IsAsBefore (old new : Visible) (x : Identifier) : Type 0 where
@@ -78,6 +89,7 @@ pub record IsAsBefore (old new : Visible) (x : Identifier) : Type 0 where
   pub field : new.sight.field x ≡ old.sight.field x
   pub array_type : new.array_type x ≡ old.array_type x
   pub kind : new.kind x ≡ old.kind x
+  pub level : new.level x ≡ old.level x
 
 -- each other name shows what it did
 abbrev pub OthersStay : (old new : Visible) → Identifier → Type 0
@@ -87,15 +99,23 @@ OthersStay old new x = (y : Identifier) → y ≢ x → IsAsBefore old new y
 pub record IsSet (old : Visible) (x : Identifier) (v : Value) (new : Visible) : Type 0 where
   pub is : new.sight.number x ≡ Gives v
   pub kind : new.kind x ≡ Some ScalarKind
+  pub statics : new.statics ≡ old.statics
   pub others : OthersStay old new x
 
--- a variable that can be NULL, declared as of this kind, is NULL
+-- the statics once NULL is stored in a name: they stay where it is a variable of some kind
+abbrev pub nulled_statics : Option VariableKind → Identifier → Statics → Statics
+nulled_statics (Some kind) x statics = statics
+nulled_statics None x statics = assign x Empty statics
+
+-- a variable that can be NULL, declared as of this kind, is NULL, or a static is, which has none
 pub record IsNulled (old : Visible) (kind : Option VariableKind) (x : Identifier) (new : Visible) : Type 0 where
   pub number : new.sight.number x ≡ Stuck
   pub is_null : new.sight.is_null x ≡ Gives true
   pub reference : new.sight.reference x ≡ Empty
   pub field : new.sight.field x ≡ None
+  pub array_type : new.array_type x ≡ None
   pub same_kind : new.kind x ≡ kind
+  pub statics : new.statics ≡ nulled_statics kind x old.statics
   pub others : OthersStay old new x
 
 -- a local reference is NULL or refers to this object
@@ -104,6 +124,28 @@ pub record IsReferred (old : Visible) (x : Identifier) (r : Reference) (new : Vi
   pub is_null : new.sight.is_null x ≡ Gives (is_none r)
   pub reference : new.sight.reference x ≡ as_static r
   pub kind : new.kind x ≡ Some ReferenceKind
+  pub statics : new.statics ≡ old.statics
+  pub others : OthersStay old new x
+
+-- whether a static holds NULL; one that is deleted doesn't
+abbrev pub is_empty : StaticReference → Bool
+is_empty Empty = true
+is_empty (Live n) = false
+is_empty Deleted = false
+
+-- no variable has this name
+pub record HasNoVariable (visible : Visible) (x : Identifier) : Type 0 where
+  pub number : visible.sight.number x ≡ Stuck
+  pub array_type : visible.array_type x ≡ None
+  pub kind : visible.kind x ≡ None
+
+-- a static, whose name no variable has, holds this
+pub record IsHeld (old : Visible) (x : Identifier) (h : StaticReference) (new : Visible) : Type 0 where
+  pub before : HasNoVariable old x
+  pub after : HasNoVariable new x
+  pub is_null : new.sight.is_null x ≡ Gives (is_empty h)
+  pub reference : new.sight.reference x ≡ h
+  pub statics : new.statics ≡ assign x h old.statics
   pub others : OthersStay old new x
 
 -- a field ID is NULL or that of this field
@@ -112,6 +154,7 @@ pub record IsFieldSet (old : Visible) (x : Identifier) (f : Option source.FieldI
   pub is_null : new.sight.is_null x ≡ Gives (is_none f)
   pub field : new.sight.field x ≡ f
   pub kind : new.kind x ≡ Some FieldKind
+  pub statics : new.statics ≡ old.statics
   pub others : OthersStay old new x
 
 -- a local array has this number of zeros
@@ -119,6 +162,7 @@ pub record IsMade (old : Visible) (t : ElementType) (x : Identifier) (size : ℕ
   pub array_type : new.array_type x ≡ Some t
   pub zeros : (i : ℕ) → i < size → new.sight.element x i ≡ Gives (pos 0)
   pub past : (i : ℕ) → size ≤ i → new.sight.element x i ≡ Traps OutOfRange
+  pub statics : new.statics ≡ old.statics
   pub others : OthersStay old new x
 
 -- an element of a local array of this type is this number, converted
@@ -126,6 +170,7 @@ pub record IsElementSet (old : Visible) (t : ElementType) (x : Identifier) (inde
   pub array_type : new.array_type x ≡ old.array_type x
   pub is : new.sight.element x index ≡ Gives (convert t z)
   pub elements : (i : ℕ) → i ≢ index → new.sight.element x i ≡ old.sight.element x i
+  pub statics : new.statics ≡ old.statics
   pub others : OthersStay old new x
 
 -- ---- slots
@@ -176,21 +221,39 @@ pub record ShowsArray (visible : Visible) (x : Identifier) (numbers : List ℕ) 
   pub elements : (i : ℕ) → i < size → ShowsElement (visible.sight.element x i) numbers (start + i)
   pub past : (i : ℕ) → size ≤ i → visible.sight.element x i ≡ Traps OutOfRange
 
--- nothing but NULL is stored in a static yet
-pub record ShowsStatic (sight : Sight) (x : Identifier) : Type 0 where
-  pub is_null : sight.is_null x ≡ Gives true
-  pub reference : sight.reference x ≡ Empty
+-- the place of a name among the statics
+abbrev pub static_index : Identifier → Statics → Option ℕ
+static_index x [] = None
+static_index x ((y, h) ∷ rest) = let further = static_index x rest in if bytes_eq x y then Some 0 else option_map suc further
 
--- what the slots show of a name with a slot of this sort; buffers hold nothing but NULL yet
+-- a static stands at this place among them
+pub record IsStaticAt (statics : Statics) (x : Identifier) (i : ℕ) : Type 0 where
+  pub place : static_index x statics ≡ Some i
+  pub held : StaticReference
+  pub there : lookup x statics ≡ Some held
+
+-- a static, which no slot has, is seen as it is
+pub record ShowsStatic (visible : Visible) (x : Identifier) (i : ℕ) : Type 0 where
+  pub static : IsStaticAt visible.statics x i
+  pub no_variable : HasNoVariable visible x
+  pub is_null : visible.sight.is_null x ≡ Gives (is_empty static.held)
+  pub reference : visible.sight.reference x ≡ static.held
+
+-- a buffer holds nothing but NULL yet
+pub record ShowsBuffer (visible : Visible) (x : Identifier) (t : ElementType) : Type 0 where
+  pub is_null : visible.sight.is_null x ≡ Gives true
+  pub kind : visible.kind x ≡ Some (BufferKind t)
+
+-- what the slots show of a name with a slot of this sort
 abbrev pub ShowsSlot : Visible → Identifier → Slots → Slot → Sort → Type 0
 ShowsSlot visible x slots s sort.Word = ShowsNumber visible x slots.numbers s
 ShowsSlot visible x slots s Jint = ShowsNumber visible x slots.numbers s
 ShowsSlot visible x slots s sort.Flag = ShowsNumber visible x slots.numbers s
 ShowsSlot visible x slots s sort.Truth = Unit {0}
 ShowsSlot visible x slots s Ref = ShowsReference visible x slots.references s.index
-ShowsSlot visible x slots s Global = ShowsStatic visible.sight x
+ShowsSlot visible x slots s Global = ShowsStatic visible x s.index
 ShowsSlot visible x slots s FieldId = ShowsField visible x slots.fields s.index
-ShowsSlot visible x slots s (Buffer t writable) = visible.sight.is_null x ≡ Gives true
+ShowsSlot visible x slots s (Buffer t writable) = ShowsBuffer visible x t
 ShowsSlot visible x slots s (Array t size) = ShowsArray visible x slots.numbers t size s.index
 
 -- the slots show each known name, and there are as many of each kind as the code wants
@@ -202,13 +265,14 @@ pub record Shows (code : Listing) (known : Known) (visible : Visible) (slots : S
 
 -- ---- NULL
 
--- whether a variable is NULL; a static and a buffer are
-abbrev pub holds_null : Slots → NullableVariable → Option Bool
-holds_null slots (nullable.Local i) = option_map is_none (slice_get slots.references i)
-holds_null slots (nullable.FieldId i) = option_map is_none (slice_get slots.fields i)
-holds_null slots v = Some true
+-- whether a variable is NULL; a buffer is
+abbrev pub holds_null : Visible → Slots → NullableVariable → Option Bool
+holds_null visible slots (nullable.Local i) = option_map is_none (slice_get slots.references i)
+holds_null visible slots (nullable.Static i) = option_map (λ (named : Identifier × StaticReference). is_empty named.1) (slice_get visible.statics i)
+holds_null visible slots (nullable.FieldId i) = option_map is_none (slice_get slots.fields i)
+holds_null visible slots (nullable.Buffer i) = Some true
 
--- the slots with NULL in a variable
+-- the slots with NULL in a variable; a static has none
 abbrev pub with_null : NullableVariable → Slots → Slots
 with_null (nullable.Local i) slots = record slots { references = slice_set slots.references i None }
 with_null (nullable.FieldId i) slots = record slots { fields = slice_set slots.fields i None }
@@ -255,6 +319,6 @@ pub record HasRoom (code : Listing) (arguments : List ObjectValue) : Type 0 wher
   pub numbers : length (filter_map argument_word arguments) ≤ code.slots.numbers
   pub references : length (filter_map argument_reference arguments) < code.slots.references
 
--- the statics are NULL
-abbrev pub AreNull : (statics : Known) → Shared → Type 0
-AreNull statics shared = (x : Identifier) (s : Slot) → lookup x statics ≡ Some s → lookup x shared.statics ≡ Some Empty
+-- each of these statics stands among those shared, at the place that is its slot's
+abbrev pub AreShared : (statics : Known) → Shared → Type 0
+AreShared statics shared = (x : Identifier) (s : Slot) → lookup x statics ≡ Some s → IsStaticAt shared.statics x s.index

@@ -7,13 +7,14 @@ use Rattle.syntax.specs.Tree as tree
 use Rattle.syntax.specs.Tree.{BitOr, Expr, Stmt, Block, End, Next}
 use Rattle.jni.specs.JniFunction.{Access, JniFunction}
 use Rattle.jni.specs.BuiltFunctions.{is_built_function}
-use Rattle.jni.specs.Prototype.{ParameterKind, FieldID, IntNumber, TextBytes, ArrayVariable, BufferVariable, Mode, IsCopy, ResultKind, NewLocal, GivesFlag, GivesInt, GivesField, prototype}
-use Rattle.types.specs.Sorts.{Sort, Jint, Truth, Ref, Global, FieldId, Buffer, Array}
+use Rattle.jni.specs.Prototype.{ParameterKind, FieldID, IntNumber, TextBytes, ArrayVariable, BufferVariable, Mode, IsCopy, ResultKind, NewLocal, NewGlobal, GivesFlag, GivesInt, GivesField, prototype}
+use Rattle.types.specs.Sorts.{Sort, Jint, Ref, Global, FieldId, Buffer, Array}
 use Rattle.types.specs.Sorts as sort
 use Rattle.source.specs.Arguments.{mode_of}
 use Rattle.source.specs.Task.{Task, SetScalar, SetElement, SetNull, MakeArray, Invoke, Print, Branch, EndIf, Loop, EndTurn, Return, ReturnValue, Impossible, Target, Declared, Assigned, Tested, Dropped, VariableKind, ScalarKind, ReferenceKind, FieldKind, BufferKind, Operand, NumberOperand, Given}
 use Rattle.source.specs.Term as term
 use Rattle.source.specs.Term.{Term, Done, Read, And, Or, Prefix, Binary, term_of}
+use Rattle.source.specs.Value.{Truth}
 use Rattle.code.specs.Call.{Call}
 use Rattle.code.specs.declared.instr.Operand.{Operand as Where}
 use Rattle.code.specs.declared.instr.Operand.TheVariants as operand
@@ -27,6 +28,7 @@ use Rattle.code.specs.declared.instr.Instr.{Instr}
 use Rattle.code.specs.declared.instr.Instr.TheVariants as instr
 use Rattle.code.specs.declared.slots.SlotCounts.{SlotCounts}
 use Rattle.code.specs.Depth.{Listing}
+use Rattle.code.specs.Effect.{truth_word}
 use Rattle.code_generator.specs.Layout.{Slot, Known, Layout, block_layout}
 use Rattle.code_generator.specs.Coding.{mode_code, nullable_of, element_of, term_code, expr_code, ways_code, turn_code, block_code}
 use Rattle.lower.specs.Fits.{IsReferenceKind, TakesNull, IsArray, IsIndexSort, TermHasSort, IsUntouched, NumberFits, IndexWithin, IsOwn, IsLaidOut, HasRoomFor, BlockFits}
@@ -154,6 +156,29 @@ pub record MakeArrayStands (code : Listing) (known : Known) (place : ℕ) (stack
   pub at : slice_get code.instrs place ≡ Some (instr.ClearArray (record { start = start; len = size }))
   pub own : IsSlotOf code known x (record { sort = Array t size; index = start })
   pub further : ComesAfter after (place + 1) ((x, record { sort = Array t size; index = start }) ∷ known)
+
+-- ---- blocks
+
+-- the code of a block may stand here, with these slots
+pub record BlockStands (code : Listing) (l : Layout) (place : ℕ) (b : Block) : Type 0 where
+  pub at : HasAt code.instrs place (block_code l b)
+  pub fits : BlockFits l b
+  pub laid : IsLaidOut l.known l.slots
+  pub room : HasRoomFor code.slots (block_layout l b).slots
+
+-- an `if` whose test is under way, with its two ways, each of which ends by a jump
+pub record BranchStands (code : Listing) (known : Known) (place : ℕ) (stack : List ℕ) (after : After) (line : ℕ) (t : Term) (then' else' : Block) : Type 0 where
+  pub slots : SlotCounts
+  pub slots_else : SlotCounts
+  pub test : IsUnderWay known sort.Truth t stack
+  pub then_code : List Instr
+  pub then_is : then_code ≡ block_code (record { known = known; slots = slots }) then'
+  pub else_code : List Instr
+  pub else_is : else_code ≡ block_code (record { known = known; slots = slots_else }) else'
+  pub at : HasAt code.instrs place (term_code known line t ++ ways_code then_code (else_code ++ instr.Jump 0 ∷ []))
+  pub first : BlockStands code (record { known = known; slots = slots }) (place + length (term_code known line t) + 1) then'
+  pub second : BlockStands code (record { known = known; slots = slots_else }) (place + length (term_code known line t) + 1 + length then_code + 1) else'
+  pub further : after (place + length (term_code known line t) + 1 + length then_code + 1 + length else_code + 1) known
 
 -- ---- calls
 
@@ -286,13 +311,29 @@ number_sort GivesInt = Some Jint
 number_sort GivesFlag = Some sort.Flag
 number_sort kind = None
 
--- where a call's result goes, as an instruction has it, and then what comes
-abbrev pub TargetStands : Listing → Known → After → (place : ℕ) → Destination → ResultKind → Target → Type 0
-TargetStands code known after place (destination.Number i) gives target =
+-- a static that is known takes it, and then this comes
+pub record StaticStands (known : Known) (after : After) (place : ℕ) (i : ℕ) (target : Target) : Type 0 where
+  pub name : Identifier
+  pub is : target ≡ Assigned name
+  pub there : lookup name known ≡ Some (record { sort = Global; index = i })
+  pub further : after place known
+
+-- it is the test of an `if`, which stands there with either truth on the stack
+pub record TestStands (code : Listing) (known : Known) (after : After) (place : ℕ) (line : ℕ) (target : Target) : Type 0 where
+  pub then' : Block
+  pub else' : Block
+  pub is : target ≡ Tested then' else'
+  pub ways : (gave_zero : Bool) → BranchStands code known place (truth_word gave_zero ∷ []) after line (Done (Truth gave_zero)) then' else'
+
+-- where the result of a call in a statement on this line goes, as an instruction has it, and then what comes
+abbrev pub TargetStands : Listing → Known → After → (place : ℕ) → (line : ℕ) → Destination → ResultKind → Target → Type 0
+TargetStands code known after place line (destination.Number i) gives target =
     (s : Sort) × (number_sort gives ≡ Some s) × ResultGoes code known after place (record { sort = s; index = i }) ScalarKind target
-TargetStands code known after place (destination.Local i) gives target = (gives ≡ NewLocal) × ResultGoes code known after place (record { sort = Ref; index = i }) ReferenceKind target
-TargetStands code known after place (destination.FieldId i) gives target = (gives ≡ GivesField) × ResultGoes code known after place (record { sort = FieldId; index = i }) FieldKind target
-TargetStands code known after place destination.Dropped gives target = (target ≡ Dropped) × after place known
+TargetStands code known after place line (destination.Local i) gives target = (gives ≡ NewLocal) × ResultGoes code known after place (record { sort = Ref; index = i }) ReferenceKind target
+TargetStands code known after place line (destination.FieldId i) gives target = (gives ≡ GivesField) × ResultGoes code known after place (record { sort = FieldId; index = i }) FieldKind target
+TargetStands code known after place line (destination.Static i) gives target = (gives ≡ NewGlobal) × StaticStands known after place i target
+TargetStands code known after place line destination.Test gives target = (gives ≡ GivesInt) × TestStands code known after place line target
+TargetStands code known after place line destination.Dropped gives target = (target ≡ Dropped) × after place known
 
 -- what is left to be worked out for a call is at the place, and then its instruction, and then what comes
 pub record InvokeStands (code : Listing) (known : Known) (place : ℕ) (stack : List ℕ) (after : After) (line : ℕ) (target : Target) (f : JniFunction) (operands : List Operand) : Type 0 where
@@ -306,30 +347,9 @@ pub record InvokeStands (code : Listing) (known : Known) (place : ℕ) (stack : 
   pub texts : call.texts ≡ operands_texts operands
   pub count : length operands ≡ length (prototype f).parameters
   pub operands_stand : AllZip (OperandStands known) call.operands (zip (prototype f).parameters operands)
-  pub goes : TargetStands code known after (place + length (operands_rest known line operands) + 1) call.target (prototype f).result target
+  pub goes : TargetStands code known after (place + length (operands_rest known line operands) + 1) line call.target (prototype f).result target
 
--- ---- blocks
-
--- the code of a block may stand here, with these slots
-pub record BlockStands (code : Listing) (l : Layout) (place : ℕ) (b : Block) : Type 0 where
-  pub at : HasAt code.instrs place (block_code l b)
-  pub fits : BlockFits l b
-  pub laid : IsLaidOut l.known l.slots
-  pub room : HasRoomFor code.slots (block_layout l b).slots
-
--- an `if` whose test is under way, with its two ways, each of which ends by a jump
-pub record BranchStands (code : Listing) (known : Known) (place : ℕ) (stack : List ℕ) (after : After) (line : ℕ) (t : Term) (then' else' : Block) : Type 0 where
-  pub slots : SlotCounts
-  pub slots_else : SlotCounts
-  pub test : IsUnderWay known Truth t stack
-  pub then_code : List Instr
-  pub then_is : then_code ≡ block_code (record { known = known; slots = slots }) then'
-  pub else_code : List Instr
-  pub else_is : else_code ≡ block_code (record { known = known; slots = slots_else }) else'
-  pub at : HasAt code.instrs place (term_code known line t ++ ways_code then_code (else_code ++ instr.Jump 0 ∷ []))
-  pub first : BlockStands code (record { known = known; slots = slots }) (place + length (term_code known line t) + 1) then'
-  pub second : BlockStands code (record { known = known; slots = slots_else }) (place + length (term_code known line t) + 1 + length then_code + 1) else'
-  pub further : after (place + length (term_code known line t) + 1 + length then_code + 1 + length else_code + 1) known
+-- ---- ways and loops
 
 -- the jump at the end of a way
 pub record EndStands (code : Listing) (known : Known) (place : ℕ) (stack : List ℕ) (after : After) : Type 0 where
@@ -342,8 +362,8 @@ pub record EndStands (code : Listing) (known : Known) (place : ℕ) (stack : Lis
 pub record LoopStands (code : Listing) (known : Known) (place : ℕ) (stack : List ℕ) (after : After) (line : ℕ) (test : Expr) (t : Term) (body : Block) : Type 0 where
   pub slots : SlotCounts
   pub start : ℕ
-  pub under_way : IsUnderWay known Truth t stack
-  pub fits : NumberFits known (term_of test) Truth
+  pub under_way : IsUnderWay known sort.Truth t stack
+  pub fits : NumberFits known (term_of test) sort.Truth
   pub test_code : List Instr
   pub test_is : test_code ≡ expr_code known line test
   pub body_code : List Instr
