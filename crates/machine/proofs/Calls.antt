@@ -86,9 +86,9 @@ plain_instr (instr.ReturnReference operand) s m x h = absurd (cc)
 plain_instr i s m x h = tt
 
 -- a plain instruction works on the stack
-pub plain_works : (slots : Slots) (i : Instr) (stack : List ℕ) (way : Plain) (after : List ℕ) → IsPlain i → Works slots i stack way after → plain_of i stack slots.numbers ≡ Some (way, after, slots.numbers)
-plain_works slots (instr.TestNull variable equal) stack way after p h = absurd p
-plain_works slots i stack way after p h = h
+pub plain_works : (visible : Visible) (slots : Slots) (i : Instr) (stack : List ℕ) (way : Plain) (after : List ℕ) → IsPlain i → Works visible slots i stack way after → plain_of i stack slots.numbers ≡ Some (way, after, slots.numbers)
+plain_works visible slots (instr.TestNull variable equal) stack way after p h = absurd p
+plain_works visible slots i stack way after p h = h
 
 -- what works on the stack is plain, or a test of NULL
 abbrev pub IsNullTest : Instr → Type 0

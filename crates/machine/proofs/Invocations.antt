@@ -1,6 +1,7 @@
 -- After a call the machine's call in progress stands for the source's thread.
 use Rattle.std.proofs.Common.{◌≡◌, ℕ, ◌+◌, List, [], ◌++◌, length, Option, Some, None, refl, sym, ap, ◌∙◌, subst}
 use Rattle.std.specs.Global.{Vec}
+use Rattle.std.specs.Option.{option_and_then}
 use Rattle.std.specs.Prelude.{slice_get, slice_set}
 use Rattle.base.specs.Bytes.{Identifier, lookup}
 use Rattle.classes.specs.Class.{Classes}
@@ -23,7 +24,7 @@ use Rattle.source.specs.Value.{Value, Word, Int, Flag, Truth}
 use Rattle.source.specs.Variable.{Variable, Variables, Scalar, LocalRef, FieldHandle, assign}
 use Rattle.source.specs.World.{World}
 use Rattle.code.specs.Call.{Call}
-use Rattle.code.specs.Depth.{Listing, depth_after, depth_at}
+use Rattle.code.specs.Depth.{Listing, depth_at, with_fewer, with_result, words_taken}
 use Rattle.code.specs.declared.instr.Instr.TheVariants as instr
 use Rattle.code.specs.declared.instr.Target.{Target as Destination}
 use Rattle.code.specs.declared.instr.Target.TheVariants as destination
@@ -164,7 +165,7 @@ pub record Finishes (p : Lowered) (w : World) (space : Space) (next : Shared) (l
 
 module _ (p : Lowered) (w : World) (old space : Space) (shared next : Shared) (keeps : Keeps old shared space next) (s : source.Thread) (none : viewed_by s ≡ []) (call : Activation) (code : Listing) (task : Task) (rest : List Task)
     (r : Ready p w.classes old call code (visible_to shared s) s.frames task rest) (line : ℕ) (f : JniFunction) (args : List Actual) (frames : Vec Frame) (left : List source.Frame) (framed : FramesAgree space frames.items left) (q : Reference) (g : Given) (c : CallResult) (agrees : GivenAgrees w.classes space (prototype f).result g c)
-    (function : Call) (at : slice_get code.instrs call.place ≡ Some (instr.Call function)) (none_left : depth_after (instr.Call function) (length call.stack) ≡ Some 0) (after : Activation) where
+    (function : Call) (at : slice_get code.instrs call.place ≡ Some (instr.Call function)) (none_left : with_fewer (words_taken function.operands) (length call.stack) ≡ Some 0) (after : Activation) where
   abbrev kind : ResultKind
   kind = (prototype f).result
 
@@ -192,10 +193,14 @@ module _ (p : Lowered) (w : World) (old space : Space) (shared next : Shared) (k
       subst (λ (l : List Frame). FramesAgree space l (frames_received kind c left)) (sym receives.frames)
       (frames_agree space w.classes kind g c frames.items left agrees framed)
 
-  stands_after : (d : Destination) → Receives d kind g carried after → (names : Known) (vs : Variables) (references : List Reference) (fields : List (Option FieldId)) → ReferencesAgree space after.references.items references → FieldsAgree w.classes after.fields.items fields
+  -- no word is on the stack afterwards
+  abbrev HasNoWord : Type 0
+  HasNoWord = with_result function.target 0 ≡ Some 0
+
+  stands_after : HasNoWord → (d : Destination) → Receives d kind g carried after → (names : Known) (vs : Variables) (references : List Reference) (fields : List (Option FieldId)) → ReferencesAgree space after.references.items references → FieldsAgree w.classes after.fields.items fields
       → StandsFor code names (call.place + 1) [] rest → Shows code names (visible_to shared (then vs)) (record { numbers = after.numbers.items; references = references; fields = fields })
       → CallStands p w.classes space after (visible_to next (then vs)) (frames_received kind c left) rest
-  stands_after d receives names vs references fields agree fields_agree stands shows = record {
+  stands_after no_word d receives names vs references fields agree fields_agree stands shows = record {
     code = code;
     of_function = ap (slice_get p.codes) receives.function ∙ r.of_function;
     known = names;
@@ -207,19 +212,19 @@ module _ (p : Lowered) (w : World) (old space : Space) (shared next : Shared) (k
     shows = shows_stay shared next keeps.statics (then vs) code names (record { numbers = after.numbers.items; references = references; fields = fields }) shows;
     depth =
         ap (depth_at code.instrs) receives.place
-        ∙ depth_behind p w.classes old call code (visible_to shared s) s.frames task rest r (instr.Call function) at 0 (λ leaves. leaves) none_left
+        ∙ depth_behind p w.classes old call code (visible_to shared s) s.frames task rest r (instr.Call function) at 0 (λ leaves. leaves) (ap (option_and_then (with_result function.target)) none_left ∙ no_word)
         ∙ ap (λ (l : List ℕ). Some (length l)) (sym receives.stack);
     frames_agree = frames_after d receives;
   }
 
   -- ---- a number
 
-  module _ (i : ℕ) (receives : Receives (destination.Number i) kind g carried after) (of : Sort) (x : Identifier) (takes : TakesNumber code r.known call.place call.stack held (visible_to shared s) of i x rest) (n : IsNumber g c of) where
+  module _ (no_word : HasNoWord) (i : ℕ) (receives : Receives (destination.Number i) kind g carried after) (of : Sort) (x : Identifier) (takes : TakesNumber code r.known call.place call.stack held (visible_to shared s) of i x rest) (n : IsNumber g c of) where
     number_stands : CallStands p w.classes space after (visible_to next (then (assign x (Scalar n.value) s.variables))) (frames_received kind c left) rest
     number_stands =
         let vs = assign x (Scalar n.value) s.variables in
         let numbers : after.numbers.items ≡ slice_set call.numbers.items i (word_of n.value) = receives.numbers ∙ ap (λ (h : Given). numbers_with (destination.Number i) h call.numbers.items) n.same in
-        stands_after (destination.Number i) receives takes.names vs r.references r.fields (subst (λ (l : List (Option ℕ)). ReferencesAgree space l r.references) (sym receives.references) same_references)
+        stands_after no_word (destination.Number i) receives takes.names vs r.references r.fields (subst (λ (l : List (Option ℕ)). ReferencesAgree space l r.references) (sym receives.references) same_references)
         (subst (λ (l : List (Option Handle)). FieldsAgree w.classes l r.fields) (sym receives.fields) r.fields_agree) takes.stands
         (subst (λ (l : List ℕ). Shows code takes.names (visible_to shared (then vs)) (record { numbers = l; references = r.references; fields = r.fields })) (sym numbers)
         (takes.shows n.value (visible_to shared (then vs)) n.sorted (is_set shared s (then vs) x n.value refl)))
@@ -227,32 +232,32 @@ module _ (p : Lowered) (w : World) (old space : Space) (shared next : Shared) (k
     number_viewless : viewed_by (then (assign x (Scalar n.value) s.variables)) ≡ []
     number_viewless = assigned_viewless x (Scalar n.value) s.variables refl none
 
-  number_finishes : (i : ℕ) (target : Target) → Receives (destination.Number i) kind g carried after → (of : Sort) → IsNumber g c of → GoesInto code r.known call.place call.stack held (visible_to shared s) ScalarKind target (λ x. TakesNumber code r.known call.place call.stack held (visible_to shared s) of i x rest) → Ends target
-  number_finishes i (Declared declared x) receives of n goes = record {
+  number_finishes : HasNoWord → (i : ℕ) (target : Target) → Receives (destination.Number i) kind g carried after → (of : Sort) → IsNumber g c of → GoesInto code r.known call.place call.stack held (visible_to shared s) ScalarKind target (λ x. TakesNumber code r.known call.place call.stack held (visible_to shared s) of i x rest) → Ends target
+  number_finishes no_word i (Declared declared x) receives of n goes = record {
     variables = assign x (Scalar n.value) s.variables;
     steps = declared_is line f args rest s left q c plain next declared x (Scalar n.value) (ap (λ (k : VariableKind). filled (blank k (length (frames_received kind c left))) c) goes.0 ∙ ap (filled (blank ScalarKind 0)) n.gave);
-    stands = number_stands i receives of x goes.1 n;
-    viewless = number_viewless i receives of x goes.1 n;
+    stands = number_stands no_word i receives of x goes.1 n;
+    viewless = number_viewless no_word i receives of x goes.1 n;
   }
-  number_finishes i (Assigned x) receives of n goes =
+  number_finishes no_word i (Assigned x) receives of n goes =
       let old = scalar_by_kind (lookup x s.variables) goes.0 in
       record {
         variables = assign x (Scalar n.value) s.variables;
         steps = assigned_is line f args rest s left q c plain next x (Scalar old.0) (Scalar n.value) old.1 (ap (filled (Scalar old.0)) n.gave);
-        stands = number_stands i receives of x goes.1 n;
-        viewless = number_viewless i receives of x goes.1 n;
+        stands = number_stands no_word i receives of x goes.1 n;
+        viewless = number_viewless no_word i receives of x goes.1 n;
       }
-  number_finishes i (Tested a b) receives of n goes = absurd goes
-  number_finishes i Dropped receives of n goes = absurd goes
+  number_finishes no_word i (Tested a b) receives of n goes = absurd goes
+  number_finishes no_word i Dropped receives of n goes = absurd goes
 
   -- ---- a reference
 
-  module _ (i : ℕ) (receives : Receives (destination.Local i) kind g carried after) (x : Identifier) (takes : TakesReference code r.known call.place call.stack held (visible_to shared s) i x rest) (n : IsReference space g c) (level : ℕ) where
+  module _ (no_word : HasNoWord) (i : ℕ) (receives : Receives (destination.Local i) kind g carried after) (x : Identifier) (takes : TakesReference code r.known call.place call.stack held (visible_to shared s) i x rest) (n : IsReference space g c) (level : ℕ) where
     reference_stands : CallStands p w.classes space after (visible_to next (then (assign x (LocalRef level n.reference) s.variables))) (frames_received kind c left) rest
     reference_stands =
         let vs = assign x (LocalRef level n.reference) s.variables in
         let references : after.references.items ≡ slice_set call.references.items i n.address = receives.references ∙ ap (λ (h : Given). references_with (destination.Local i) h call.references.items) n.same in
-        stands_after (destination.Local i) receives takes.names vs (slice_set r.references i n.reference) r.fields
+        stands_after no_word (destination.Local i) receives takes.names vs (slice_set r.references i n.reference) r.fields
         (subst (λ (l : List (Option ℕ)). ReferencesAgree space l (slice_set r.references i n.reference)) (sym references) (reference_put space call.references.items r.references i n.address n.reference same_references n.agrees))
         (subst (λ (l : List (Option Handle)). FieldsAgree w.classes l r.fields) (sym receives.fields) r.fields_agree) takes.stands
         (subst (λ (l : List ℕ). Shows code takes.names (visible_to shared (then vs)) (record { numbers = l; references = slice_set r.references i n.reference; fields = r.fields })) (sym receives.numbers)
@@ -261,34 +266,34 @@ module _ (p : Lowered) (w : World) (old space : Space) (shared next : Shared) (k
     reference_viewless : viewed_by (then (assign x (LocalRef level n.reference) s.variables)) ≡ []
     reference_viewless = assigned_viewless x (LocalRef level n.reference) s.variables refl none
 
-  reference_finishes : (i : ℕ) (target : Target) → Receives (destination.Local i) kind g carried after → IsReference space g c → GoesInto code r.known call.place call.stack held (visible_to shared s) ReferenceKind target (λ x. TakesReference code r.known call.place call.stack held (visible_to shared s) i x rest) → Ends target
-  reference_finishes i (Declared declared x) receives n goes =
+  reference_finishes : HasNoWord → (i : ℕ) (target : Target) → Receives (destination.Local i) kind g carried after → IsReference space g c → GoesInto code r.known call.place call.stack held (visible_to shared s) ReferenceKind target (λ x. TakesReference code r.known call.place call.stack held (visible_to shared s) i x rest) → Ends target
+  reference_finishes no_word i (Declared declared x) receives n goes =
       let level = length (frames_received kind c left) in
       record {
         variables = assign x (LocalRef level n.reference) s.variables;
         steps = declared_is line f args rest s left q c plain next declared x (LocalRef level n.reference) (ap (λ (k : VariableKind). filled (blank k level) c) goes.0 ∙ n.fills level None);
-        stands = reference_stands i receives x goes.1 n level;
-        viewless = reference_viewless i receives x goes.1 n level;
+        stands = reference_stands no_word i receives x goes.1 n level;
+        viewless = reference_viewless no_word i receives x goes.1 n level;
       }
-  reference_finishes i (Assigned x) receives n goes =
+  reference_finishes no_word i (Assigned x) receives n goes =
       let old = local_by_kind (lookup x s.variables) goes.0 in
       record {
         variables = assign x (LocalRef old.0 n.reference) s.variables;
         steps = assigned_is line f args rest s left q c plain next x (LocalRef old.0 old.1) (LocalRef old.0 n.reference) old.2 (n.fills old.0 old.1);
-        stands = reference_stands i receives x goes.1 n old.0;
-        viewless = reference_viewless i receives x goes.1 n old.0;
+        stands = reference_stands no_word i receives x goes.1 n old.0;
+        viewless = reference_viewless no_word i receives x goes.1 n old.0;
       }
-  reference_finishes i (Tested a b) receives n goes = absurd goes
-  reference_finishes i Dropped receives n goes = absurd goes
+  reference_finishes no_word i (Tested a b) receives n goes = absurd goes
+  reference_finishes no_word i Dropped receives n goes = absurd goes
 
   -- ---- a field ID
 
-  module _ (i : ℕ) (receives : Receives (destination.FieldId i) kind g carried after) (x : Identifier) (takes : TakesField code r.known call.place call.stack held (visible_to shared s) i x rest) (n : IsField w.classes g c) where
+  module _ (no_word : HasNoWord) (i : ℕ) (receives : Receives (destination.FieldId i) kind g carried after) (x : Identifier) (takes : TakesField code r.known call.place call.stack held (visible_to shared s) i x rest) (n : IsField w.classes g c) where
     field_stands : CallStands p w.classes space after (visible_to next (then (assign x (FieldHandle n.field) s.variables))) (frames_received kind c left) rest
     field_stands =
         let vs = assign x (FieldHandle n.field) s.variables in
         let fields : after.fields.items ≡ slice_set call.fields.items i n.handle = receives.fields ∙ ap (λ (h : Given). fields_with (destination.FieldId i) h call.fields.items) n.same in
-        stands_after (destination.FieldId i) receives takes.names vs r.references (slice_set r.fields i n.field) (subst (λ (l : List (Option ℕ)). ReferencesAgree space l r.references) (sym receives.references) same_references)
+        stands_after no_word (destination.FieldId i) receives takes.names vs r.references (slice_set r.fields i n.field) (subst (λ (l : List (Option ℕ)). ReferencesAgree space l r.references) (sym receives.references) same_references)
         (subst (λ (l : List (Option Handle)). FieldsAgree w.classes l (slice_set r.fields i n.field)) (sym fields) (field_put w.classes call.fields.items r.fields i n.handle n.field r.fields_agree n.agrees)) takes.stands
         (subst (λ (l : List ℕ). Shows code takes.names (visible_to shared (then vs)) (record { numbers = l; references = r.references; fields = slice_set r.fields i n.field })) (sym receives.numbers)
         (takes.shows n.field (visible_to shared (then vs)) (is_field_set shared s (then vs) x n.field refl)))
@@ -296,37 +301,39 @@ module _ (p : Lowered) (w : World) (old space : Space) (shared next : Shared) (k
     field_viewless : viewed_by (then (assign x (FieldHandle n.field) s.variables)) ≡ []
     field_viewless = assigned_viewless x (FieldHandle n.field) s.variables refl none
 
-  field_finishes : (i : ℕ) (target : Target) → Receives (destination.FieldId i) kind g carried after → IsField w.classes g c → GoesInto code r.known call.place call.stack held (visible_to shared s) FieldKind target (λ x. TakesField code r.known call.place call.stack held (visible_to shared s) i x rest) → Ends target
-  field_finishes i (Declared declared x) receives n goes = record {
+  field_finishes : HasNoWord → (i : ℕ) (target : Target) → Receives (destination.FieldId i) kind g carried after → IsField w.classes g c → GoesInto code r.known call.place call.stack held (visible_to shared s) FieldKind target (λ x. TakesField code r.known call.place call.stack held (visible_to shared s) i x rest) → Ends target
+  field_finishes no_word i (Declared declared x) receives n goes = record {
     variables = assign x (FieldHandle n.field) s.variables;
     steps = declared_is line f args rest s left q c plain next declared x (FieldHandle n.field) (ap (λ (k : VariableKind). filled (blank k (length (frames_received kind c left))) c) goes.0 ∙ n.fills None);
-    stands = field_stands i receives x goes.1 n;
-    viewless = field_viewless i receives x goes.1 n;
+    stands = field_stands no_word i receives x goes.1 n;
+    viewless = field_viewless no_word i receives x goes.1 n;
   }
-  field_finishes i (Assigned x) receives n goes =
+  field_finishes no_word i (Assigned x) receives n goes =
       let old = field_by_kind (lookup x s.variables) goes.0 in
       record {
         variables = assign x (FieldHandle n.field) s.variables;
         steps = assigned_is line f args rest s left q c plain next x (FieldHandle old.0) (FieldHandle n.field) old.1 (n.fills old.0);
-        stands = field_stands i receives x goes.1 n;
-        viewless = field_viewless i receives x goes.1 n;
+        stands = field_stands no_word i receives x goes.1 n;
+        viewless = field_viewless no_word i receives x goes.1 n;
       }
-  field_finishes i (Tested a b) receives n goes = absurd goes
-  field_finishes i Dropped receives n goes = absurd goes
+  field_finishes no_word i (Tested a b) receives n goes = absurd goes
+  field_finishes no_word i Dropped receives n goes = absurd goes
 
   -- ---- by where it goes
 
-  pub finishes : (d : Destination) (target : Target) → TakesResult code r.known call.place call.stack held (visible_to shared s) d kind target rest → Receives d kind g carried after → Ends target
-  finishes (destination.Number i) target goes receives = number_finishes i target receives goes.0 (number_given w.classes space kind g c goes.0 agrees goes.1) goes.2
-  finishes (destination.Local i) target goes receives =
-      reference_finishes i target receives (reference_given w.classes space g c (subst (λ (k : ResultKind). GivenAgrees w.classes space k g c) goes.0 agrees)) goes.1
-  finishes (destination.FieldId i) target goes receives =
-      field_finishes i target receives (field_given w.classes space g c (subst (λ (k : ResultKind). GivenAgrees w.classes space k g c) goes.0 agrees)) goes.1
-  finishes destination.Dropped target goes receives =
+  pub finishes : (d : Destination) (target : Target) → function.target ≡ d → TakesResult code r.known call.place call.stack held (visible_to shared s) line d kind target rest → Receives d kind g carried after → Ends target
+  finishes (destination.Number i) target same goes receives = number_finishes (ap (λ (d : Destination). with_result d 0) same) i target receives goes.0 (number_given w.classes space kind g c goes.0 agrees goes.1) goes.2
+  finishes (destination.Local i) target same goes receives =
+      reference_finishes (ap (λ (d : Destination). with_result d 0) same) i target receives (reference_given w.classes space g c (subst (λ (k : ResultKind). GivenAgrees w.classes space k g c) goes.0 agrees)) goes.1
+  finishes (destination.FieldId i) target same goes receives =
+      field_finishes (ap (λ (d : Destination). with_result d 0) same) i target receives (field_given w.classes space g c (subst (λ (k : ResultKind). GivenAgrees w.classes space k g c) goes.0 agrees)) goes.1
+  finishes (destination.Static i) target same goes receives = absurd (subst (λ (k : ResultKind). GivenAgrees w.classes space k g c) goes.0 agrees)
+  finishes destination.Test target same goes receives = ?
+  finishes destination.Dropped target same goes receives =
       subst Ends (sym goes.0) (record {
         variables = s.variables;
         steps = dropped_is line f args rest s left q c plain next;
-        stands = stands_after destination.Dropped receives r.known s.variables r.references r.fields (subst (λ (l : List (Option ℕ)). ReferencesAgree space l r.references) (sym receives.references) same_references)
+        stands = stands_after (ap (λ (d : Destination). with_result d 0) same) destination.Dropped receives r.known s.variables r.references r.fields (subst (λ (l : List (Option ℕ)). ReferencesAgree space l r.references) (sym receives.references) same_references)
             (subst (λ (l : List (Option Handle)). FieldsAgree w.classes l r.fields) (sym receives.fields) r.fields_agree) goes.1
             (subst (λ (l : List ℕ). Shows code r.known (visible_to shared (then s.variables)) (record { numbers = l; references = r.references; fields = r.fields })) (sym receives.numbers) r.shows);
         viewless = none;

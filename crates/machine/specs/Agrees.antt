@@ -1,5 +1,5 @@
 -- How the machine stands for a state of the source.
-use Rattle.std.specs.Prelude.{◌≡◌, ℕ, ◌<◌, ◌≤◌, Bool, true, false, List, [], ◌∷◌, length, map, reverse, take, Option, Some, None, IsPermutation, IsTrue, slice_get}
+use Rattle.std.specs.Prelude.{◌≡◌, ℕ, ◌<◌, ◌≤◌, Bool, true, false, List, [], ◌∷◌, length, map, reverse, take, Option, Some, None, ◌⊎◌, IsPermutation, IsTrue, slice_get}
 use Rattle.std.specs.List.{list_all, AllZip}
 use Rattle.base.specs.Bytes.{Identifier}
 use Rattle.syntax.specs.Parts.{functions_of, statics_of}
@@ -21,7 +21,7 @@ use Rattle.source.specs.Reachable.{IsName}
 use Rattle.source.specs.Task.{Task}
 use Rattle.source.specs.Thread as source
 use Rattle.source.specs.Thread.{BuffersInUse, Shared, Advance, viewed_by}
-use Rattle.source.specs.Variable.{StaticReference, Empty, Live, Deleted, Statics}
+use Rattle.source.specs.Variable.{StaticReference, Empty, Live, Deleted, Statics, assign}
 use Rattle.source.specs.ThreadStep.{thread_step, after_effect, after_refused_effect}
 use Rattle.code_generator.specs.Layout.{Known}
 use Rattle.lower.specs.Slots.{ArgumentsFit, Visible, visible_to, Shows}
@@ -96,6 +96,10 @@ StaticsAgree space [] (s ∷ statics) = ⊥
 StaticsAgree space (h ∷ helds) [] = ⊥
 StaticsAgree space (h ∷ helds) (s ∷ statics) = HeldAgrees space h s.1 × StaticsAgree space helds statics
 
+-- they are those of the unit, in its order
+abbrev pub AreNamed : Lowered → Shared → Type 0
+AreNamed p shared = map (λ (s : Identifier × StaticReference). s.0) shared.statics ≡ map (λ (g : Static). g.name) (statics_of (unit_tree p.unit))
+
 -- the global references are those of the source, which have no order
 pub record GlobalsAgree (space : Space) (globals : List (Option ℕ)) (source_globals : List ℕ) : Type 0 where
   pub names : List ℕ
@@ -117,18 +121,21 @@ pub record StoreAgrees (p : Lowered) (w : World) (store : Store) (shared : Share
   pub births : store.births ≡ length shared.heap
   pub classed : AreClassed w.classes shared.heap
   pub statics : StaticsAgree store.heap (all_held store.globals store.statics.items) shared.statics
-  -- they are the unit's, in its order
-  pub named : map (λ (s : Identifier × StaticReference). s.0) shared.statics ≡ map (λ (g : Static). g.name) (statics_of (unit_tree p.unit))
+  pub named : AreNamed p shared
   pub keys : HaveKeys store.globals store.statics.items
   pub globals : GlobalsAgree store.heap store.globals shared.globals
   -- no call that can be made yet changes these
   pub monitors : shared.monitors ≡ []
 
+-- at most one of the statics holds something else
+abbrev pub MayChange : Statics → Statics → Type 0
+MayChange before after = (after ≡ before) ⊎ ((x : Identifier) × (r : StaticReference) × (after ≡ assign x r before))
+
 -- what a step of one thread leaves as it was for the others
 pub record Keeps (space : Space) (shared : Shared) (space' : Space) (shared' : Shared) : Type 0 where
   -- objects stay where they are
   pub names : (a n : ℕ) → name_at space a ≡ Some n → name_at space' a ≡ Some n
-  pub statics : shared'.statics ≡ shared.statics
+  pub statics : MayChange shared.statics shared'.statics
   -- none is taken out, and none takes more cells or fewer
   pub sizes : sizes (take (length shared.heap) shared'.heap) ≡ sizes shared.heap
 

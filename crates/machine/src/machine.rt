@@ -260,7 +260,7 @@ impl<'a> Machine<'a> {
         let standings = standings_of(classes, &self.threads, self.stop);
         let heap = &self.store.heap;
         let objects = named_blocks(alloc, heap, self.store.births)?;
-        let names = root_names(alloc, heap, &self.threads)?;
+        let names = root_names(alloc, heap, &self.store.globals, &self.threads)?;
         let rows = reached_rows(alloc, classes, &objects, self.store.loaded.len(), &names)?;
         match write_run(
             sink,

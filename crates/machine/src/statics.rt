@@ -27,7 +27,7 @@ pub enum Held {
 }
 
 /// The references that operands can name: the local ones of a call, and the statics.
-#[derive(Clone, Copy)]
+#[derive(Drop)]
 pub struct References<'a> {
     locals: &'a [Option<Addr>],
     statics: &'a [StaticReference],

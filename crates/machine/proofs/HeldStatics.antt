@@ -1,11 +1,13 @@
 -- What statics hold stands for what they hold in the source.
-use Rattle.std.proofs.Common.{inl, inr, ◌≡◌, ◌≢◌, ℕ, zero, suc, ◌<◌, Bool, true, false, List, [], ◌∷◌, ◌++◌, length, map, Option, Some, None, refl, sym, ap, ◌∙◌, subst, arith, if◌then◌else◌}
+use Rattle.std.proofs.Common.{inl, inr, ◌≡◌, ◌≢◌, ℕ, zero, suc, ◌<◌, Bool, true, false, List, [], ◌∷◌, ◌++◌, length, map, replicate, Option, Some, None, refl, sym, ap, ◌∙◌, subst, arith, if◌then◌else◌}
 use Rattle.std.specs.Prelude.{slice_get, slice_set, IsSome}
 use Rattle.std.specs.Option.{option_map}
 use Rattle.std.specs.Str.{bytes_eq}
 use Rattle.std.proofs.lemmas.Slice.Eq.{bytes_eq-Decides}
 use Rattle.base.specs.Bytes.{Identifier, ByName, lookup}
-use Rattle.heap.specs.Heap.{Space, name_at}
+use Rattle.heap.specs.Heap.{Space}
+use Rattle.syntax.specs.Tree.{Static}
+use Rattle.source.specs.Start.{null_static}
 use Rattle.source.specs.Variable.{StaticReference, Empty, Live, Deleted, Statics, assign}
 use Rattle.lower.specs.Slots.{is_empty, static_index}
 use Rattle.tables.specs.References.{address_at}
@@ -181,3 +183,23 @@ held_there x ((y, q) ∷ statics) i h =
     place_cases x y (static_index x statics) i (bytes_eq x y) refl h
     (λ e zero_is. (q, ap (λ (b : Bool). if b then Some q else lookup x statics) e))
     (λ e j at is. let further = held_there x statics j at in (further.0, ap (λ (b : Bool). if b then Some q else lookup x statics) e ∙ further.1))
+
+-- ---- at the beginning
+
+-- the statics of a unit are NULL
+pub statics_begin : (space : Space) (statics : List Static) → StaticsAgree space (all_held [] (replicate (length statics) static.Empty)) (map null_static statics)
+statics_begin space [] = tt
+statics_begin space (g ∷ statics) = (tt, statics_begin space statics)
+
+pub names_begin : (statics : List Static) → map (λ (s : Identifier × StaticReference). s.0) (map null_static statics) ≡ map (λ (g : Static). g.name) statics
+names_begin [] = refl
+names_begin (g ∷ statics) = ap (λ (names : List Identifier). g.name ∷ names) (names_begin statics)
+
+-- and have no keys
+pub no_keys : (globals : List (Option ℕ)) (n : ℕ) → HaveKeys globals (replicate n static.Empty)
+no_keys globals n = record { live = λ i key at. absurd (none n i key at); own = λ i j key at also. absurd (none n i key at) }
+  where
+    none : (n i key : ℕ) → slice_get (replicate n static.Empty) i ≡ Some (static.Live key) → ⊥
+    none zero i key at = cc
+    none (suc n) zero key at = cc
+    none (suc n) (suc i) key at = none n i key at
