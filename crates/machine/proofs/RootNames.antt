@@ -60,7 +60,7 @@ flat_back {X = X} f xs start done x h e =
 
 -- ---- names
 
-names_are : (space : Space) (places ns : List ℕ) → NamesAgree space places ns → map (name_of space) places ≡ ns
+pub names_are : (space : Space) (places ns : List ℕ) → NamesAgree space places ns → map (name_of space) places ≡ ns
 names_are space [] [] h = refl
 names_are space [] (n ∷ ns) h = absurd h
 names_are space (a ∷ places) [] h = absurd h
@@ -106,7 +106,7 @@ threads_are space (t ∷ ts) (s ∷ ss) h =
 
 -- ---- they are there
 
-names_there : (space : Space) (places ns : List ℕ) → NamesAgree space places ns → AreAddresses space places
+pub names_there : (space : Space) (places ns : List ℕ) → NamesAgree space places ns → AreAddresses space places
 names_there space [] ns h i a e = absurd (cc)
 names_there space (b ∷ places) [] h i a e = absurd h
 names_there space (b ∷ places) (n ∷ ns) h zero a e = let same : b ≡ a = cc in is_address space a n (subst (λ x. name_at space x ≡ Some n) same h.0)
