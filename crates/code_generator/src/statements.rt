@@ -170,7 +170,7 @@ fn close_turn(code: &mut Vec<Instr>, start: usize, jump: usize) -> Result<(), Al
     Ok(())
 }
 
-/// A test; no call is tested yet.
+/// A test, whose truth is on the stack then.
 fn emit_test(
     code: &mut Vec<Instr>,
     names: &Names<'_>,
@@ -181,7 +181,7 @@ fn emit_test(
 {
     match test {
         Test::Expr(expr) => emit_expr(code, names, line, expr),
-        Test::Call(_) => Ok(()),
+        Test::Call(call) => emit_call(code, names, line, Target::Test, call),
     }
 }
 
@@ -275,6 +275,7 @@ fn result_target(slot: Slot) -> Target
 {
     match slot.sort {
         Sort::Reference => Target::Local(slot.index),
+        Sort::Static => Target::Static(slot.index),
         Sort::FieldId => Target::FieldId(slot.index),
         _ => Target::Number(slot.index),
     }

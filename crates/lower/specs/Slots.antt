@@ -1,5 +1,5 @@
 -- What the slots of an activation hold of what can be seen.
-use Rattle.std.specs.Prelude.{◌≡◌, ◌≢◌, ℕ, suc, ◌+◌, ◌^◌, ◌<◌, ◌≤◌, Bool, true, ℤ, pos, List, [], ◌∷◌, ◌++◌, length, filter_map, is_none, slice_get, slice_set, if◌then◌else◌, Option, Some, None, FitsSigned}
+use Rattle.std.specs.Prelude.{◌≡◌, ◌≢◌, ℕ, suc, ◌+◌, ◌^◌, ◌<◌, ◌≤◌, Bool, true, false, ℤ, pos, List, [], ◌∷◌, ◌++◌, length, filter_map, is_none, slice_get, slice_set, if◌then◌else◌, Option, Some, None, FitsSigned}
 use Rattle.std.specs.Int.{w32, cast_unsigned}
 use Rattle.std.specs.Option.{option_map}
 use Rattle.std.specs.Str.{bytes_eq}
