@@ -1,13 +1,14 @@
 -- Each function of an accepted unit fits.
-use Rattle.std.proofs.Common.{◌≡◌, ℕ, ◌+◌, ◌≤◌, true, not, List, [], ◌∷◌, ◌++◌, length, map, nat_le, Some, refl, sym, ap, ◌∙◌, subst, arith, leb-true, length-append}
+use Rattle.std.proofs.Common.{◌≡◌, ℕ, ◌+◌, ◌≤◌, true, not, List, [], ◌∷◌, ◌++◌, length, map, nat_le, Some, None, refl, sym, ap, ◌∙◌, subst, arith, leb-true, length-append}
 use Rattle.std.specs.Prelude.{IsTrue}
 use Rattle.std.specs.List.{list_all, AllByRecursion}
+use Rattle.std.specs.Str.{bytes_eq}
 use Rattle.base.specs.Bytes.{Identifier, lookup}
 use Rattle.syntax.specs.Limits.{numbers_in_range, block_height, block_well_formed, IsTree}
 use Rattle.syntax.specs.Parts.{functions_of, statements_of, own_expressions, parameter_names}
 use Rattle.syntax.specs.Tree.{ParameterType, IntParameter, ReferenceParameter, Parameter, Function, Void, Item, StaticItem, FunctionItem, SourceUnit}
 use Rattle.types.specs.Sorts.{Sort, Jint, Ref, Global, Buffer, Scope}
-use Rattle.types.specs.SortRules.{IsSorted, StaticForm, HeadForm, parameter_sort, places_of, function_places, item_places}
+use Rattle.types.specs.SortRules.{IsSorted, StaticForm, HeadForm, has_name, parameter_sort, places_of, function_places, item_places}
 use Rattle.types.specs.BuiltCalls.{calls_unbuilt, calls_are_built}
 use Rattle.code.specs.declared.instr.Instr.TheVariants as instr
 use Rattle.regions.specs.RegionStates.{RegionState, state_at_entry}
@@ -20,7 +21,7 @@ use Rattle.lower.specs.Stands.{block_returns}
 use Rattle.lower.proofs.SlotLaws.{first_or_after}
 use Rattle.lower.proofs.EntryLayouts.{no_statics, one_static_more}
 use Rattle.lower.proofs.SortFacts.{scope_of, HasNoTruth}
-use Rattle.lower.proofs.PlaceFacts.{and_left, and_right, AreKept, front_kept, back_kept, rest_kept}
+use Rattle.lower.proofs.PlaceFacts.{and_left, and_right, or_right, static_kept, AreKept, first_kept, front_kept, back_kept, rest_kept}
 use Rattle.lower.proofs.NameFacts.{AreTaken, taken_first}
 use Rattle.lower.proofs.BufferFacts.{AreBuilt, AreFree}
 use Rattle.lower.proofs.BodyFacts.{AreInRange, block_fits}
@@ -30,7 +31,7 @@ use Rattle.lower.proofs.RegionFacts.{function_returns}
 -- each function satisfies what lowering asks for, after the statics before it
 abbrev pub AllFit : (statics : Known) → List Item → Type 0
 AllFit statics [] = Unit {0}
-AllFit statics (StaticItem s ∷ items) = AllFit (with_static s statics) items
+AllFit statics (StaticItem s ∷ items) = (lookup s.name statics ≡ None) × AllFit (with_static s statics) items
 AllFit statics (FunctionItem f ∷ items) = AreStatics statics × FunctionFits statics f × IsTrue (block_returns f.body) × (length (function_code statics f) ≡ function_steps f + 1) × AllFit statics items
 
 -- ---- the names at a function's beginning
@@ -142,13 +143,16 @@ record HoldAll (items : List Item) : Type 0 where
   low : list_all (λ f. nat_le (block_height f.body) 32) (functions_in items) ≡ true
   regions : AllByRecursion AcceptedFunction (functions_in items)
 
-all_fit : (items : List Item) (names : List Identifier) (statics : Known) → AreStatics statics → AreKept (item_places names (scope_of statics) items) → HoldAll items → AllFit statics items
-all_fit [] names statics known sorted h = tt
-all_fit (StaticItem s ∷ items) names statics known sorted h =
-    all_fit items (s.name ∷ names) (with_static s statics) (one_static_more s statics known)
-    (rest_kept (record { line = s.line; known = scope_of statics; taken = names; returns = Void; form = StaticForm s }) (item_places (s.name ∷ names) (scope_of (with_static s statics)) items) sorted)
-    (record { numbers = h.numbers; calls = h.calls; formed = h.formed; low = h.low; regions = h.regions })
-all_fit (FunctionItem f ∷ items) names statics known sorted h =
+all_fit : (items : List Item) (names : List Identifier) (statics : Known) → AreStatics statics → AreTaken names statics → AreKept (item_places names (scope_of statics) items) → HoldAll items → AllFit statics items
+all_fit [] names statics known taken sorted h = tt
+all_fit (StaticItem s ∷ items) names statics known taken sorted h =
+    let place = record { line = s.line; known = scope_of statics; taken = names; returns = Void; form = StaticForm s } in
+    let further = item_places (s.name ∷ names) (scope_of (with_static s statics)) items in (
+      taken s.name (static_kept s.line (scope_of statics) names Void s (first_kept place further sorted)),
+      all_fit items (s.name ∷ names) (with_static s statics) (one_static_more s statics known) (taken_first names statics s.name (record { sort = Global; index = length statics }) taken) (rest_kept place further sorted)
+          (record { numbers = h.numbers; calls = h.calls; formed = h.formed; low = h.low; regions = h.regions }),
+    )
+all_fit (FunctionItem f ∷ items) names statics known taken sorted h =
     let further = item_places (f.name ∷ names) (scope_of statics) items in
     let all = functions_in items in
     let kept = body_kept statics f known names (front_kept (function_places names (scope_of statics) f) further sorted) in
@@ -161,7 +165,7 @@ all_fit (FunctionItem f ∷ items) names statics known sorted h =
       fits,
       function_returns f h.regions.0,
       function_counted statics f known fits kept,
-      all_fit items (f.name ∷ names) statics known (back_kept (function_places names (scope_of statics) f) further sorted) (record {
+      all_fit items (f.name ∷ names) statics known (λ x none. taken x (or_right (bytes_eq x f.name) (has_name names x) none)) (back_kept (function_places names (scope_of statics) f) further sorted) (record {
         numbers = and_right (list_all (λ s. list_all numbers_in_range (own_expressions s)) (statements_of f.body)) _ h.numbers;
         calls = and_right (list_all (λ s. not (calls_unbuilt s)) (statements_of f.body)) _ h.calls;
         formed = and_right (block_well_formed f.body) _ h.formed;
@@ -171,4 +175,4 @@ all_fit (FunctionItem f ∷ items) names statics known sorted h =
     )
 
 pub accepted_fits : (unit : SourceUnit) → IsTree unit → IsSorted unit → IsTrue (calls_are_built unit) → HasRegions unit → AllFit [] unit.items
-accepted_fits unit tree sorted calls regions = all_fit unit.items [] [] no_statics sorted (record { numbers = tree.numbers; calls = calls; formed = tree.forms; low = tree.low; regions = regions })
+accepted_fits unit tree sorted calls regions = all_fit unit.items [] [] no_statics (λ x none. refl) sorted (record { numbers = tree.numbers; calls = calls; formed = tree.forms; low = tree.low; regions = regions })

@@ -24,7 +24,7 @@ pub none_done : (all : List Item) → AllFit [] all → AreLeft all [] all []
 none_done all fit = record { fit = fit; lowered = λ further h. h; long = refl }
 
 pub static_done : (all : List Item) (statics : Known) (s : Static) (rest : List Item) (codes : List Listing) → AreLeft all statics (StaticItem s ∷ rest) codes → AreLeft all (with_static s statics) rest codes
-static_done all statics s rest codes h = record { fit = h.fit; lowered = h.lowered; long = h.long }
+static_done all statics s rest codes h = record { fit = h.fit.1; lowered = λ further k. h.lowered further (h.fit.0, k); long = h.long }
 
 pub function_done : (all : List Item) (statics : Known) (f : Function) (rest : List Item) (codes : List Listing) (c : Listing) → AreLeft all statics (FunctionItem f ∷ rest) codes → IsCodeOf statics f c
     → AreLeft all statics rest (codes ++ c ∷ [])

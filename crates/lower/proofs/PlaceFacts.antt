@@ -5,10 +5,10 @@ use Rattle.std.proofs.lemmas.Grind.{flat_map-append}
 use Rattle.base.specs.Bytes.{Identifier}
 use Rattle.base.specs.Options.{some_passes}
 use Rattle.syntax.specs.Parts.{statements_of, statements_within, line_of, declared_name, right_side, own_call, own_expressions, names_declared}
-use Rattle.syntax.specs.Tree.{ResultType, Test, Stmt, If, IfElse, While, Block, Next}
+use Rattle.syntax.specs.Tree.{ResultType, Static, Test, Stmt, If, IfElse, While, Block, Next}
 use Rattle.jni.specs.Prototype.{function_named}
 use Rattle.types.specs.Sorts.{Scope, call_arguments_fit}
-use Rattle.types.specs.SortRules.{SortRule, UnknownName, DeclaredTwice, SortMisfit, UnknownFunction, ArgumentCount, ReferenceCopied, BadMode, ReadOnlyWrite, sort_rules, Place, StatementForm, has_name, is_formed, statement_fits, has_wrong_count, has_wrong_mode, copies_reference, set_sort, breaks, broken_at, with_declared, places_within, places_of}
+use Rattle.types.specs.SortRules.{SortRule, UnknownName, DeclaredTwice, SortMisfit, UnknownFunction, ArgumentCount, ReferenceCopied, BadMode, ReadOnlyWrite, sort_rules, Place, StaticForm, StatementForm, has_name, is_formed, statement_fits, has_wrong_count, has_wrong_mode, copies_reference, set_sort, breaks, broken_at, with_declared, places_within, places_of}
 
 -- ---- tests
 
@@ -110,6 +110,13 @@ is_kept returns known taken s none =
     }
 
 -- ---- places inside
+
+-- the name of a static isn't taken
+pub static_kept : (line : ℕ) (known : Scope) (taken : List Identifier) (returns : ResultType) (g : Static) → broken_at (record { line = line; known = known; taken = taken; returns = returns; form = StaticForm g }) ≡ [] → has_name taken g.name ≡ false
+static_kept line known taken returns g none =
+    let place : Place = record { line = line; known = known; taken = taken; returns = returns; form = StaticForm g } in
+    let p : SortRule → Bool = λ rule. breaks rule place place.form in
+    or_left (p DeclaredTwice) (list_any p after_twice) (or_right (p UnknownName) (list_any p after_names) (none_passes p line sort_rules none))
 
 -- no rule is broken at any of the places
 abbrev pub AreKept : List Place → Type 0

@@ -1,5 +1,6 @@
 -- What a lowered program is.
-use Rattle.std.specs.Prelude.{◌≡◌, ℕ, ◌+◌, ◌≤◌, List, [], ◌∷◌, length}
+use Rattle.std.specs.Prelude.{◌≡◌, ℕ, ◌+◌, ◌≤◌, List, [], ◌∷◌, length, None}
+use Rattle.base.specs.Bytes.{lookup}
 use Rattle.syntax.specs.declared.unit.Item.{Item as ItemInMemory}
 use Rattle.syntax.specs.Tree.{Function, Item, StaticItem, FunctionItem}
 use Rattle.syntax.specs.Views.{unit_tree}
@@ -37,11 +38,11 @@ pub record IsCodeOf (statics : Known) (f : Function) (code : Listing) : Type 0 w
       → Shows code known visible slots → StandsFor code known place stack (task ∷ rest)
       → DoesEffect code known place stack slots visible rest (effect_of visible.sight task)
 
--- one code for each function, in their order, after the statics so far
+-- one code for each function, in their order, after the statics so far, each of which has a name of its own
 abbrev pub AreCodesOf : (statics : Known) → List Item → List Listing → Type 0
 AreCodesOf statics [] [] = Unit {0}
 AreCodesOf statics [] (c ∷ codes) = ⊥
-AreCodesOf statics (StaticItem s ∷ items) codes = AreCodesOf (with_static s statics) items codes
+AreCodesOf statics (StaticItem s ∷ items) codes = (lookup s.name statics ≡ None) × AreCodesOf (with_static s statics) items codes
 AreCodesOf statics (FunctionItem f ∷ items) [] = ⊥
 AreCodesOf statics (FunctionItem f ∷ items) (c ∷ codes) = IsCodeOf statics f c × AreCodesOf statics items codes
 
