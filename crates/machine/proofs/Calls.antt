@@ -40,7 +40,7 @@ use Rattle.machine.specs.Agrees.{CallStands, ReferencesAgree, FieldsAgree, Frame
 pub code_lowered : (statics : Known) (items : List Item) (codes : List Listing) (n : ℕ) (code : Listing) → AreCodesOf statics items codes → slice_get codes n ≡ Some code → (before : Known) × (f : Function) × IsCodeOf before f code
 code_lowered statics [] [] n code h e = absurd (cc)
 code_lowered statics [] (c ∷ codes) n code h e = absurd h
-code_lowered statics (StaticItem s ∷ items) codes n code h e = code_lowered (with_static s statics) items codes n code h e
+code_lowered statics (StaticItem s ∷ items) codes n code h e = code_lowered (with_static s statics) items codes n code h.1 e
 code_lowered statics (FunctionItem f ∷ items) [] n code h e = absurd h
 code_lowered statics (FunctionItem f ∷ items) (c ∷ codes) zero code h e = (statics, f, let s : c ≡ code = cc in subst (IsCodeOf statics f) s h.0)
 code_lowered statics (FunctionItem f ∷ items) (c ∷ codes) (suc n) code h e = code_lowered statics items codes n code h.1 e
