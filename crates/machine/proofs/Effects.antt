@@ -53,7 +53,7 @@ use Rattle.machine.proofs.Changes.{array_of, is_set, is_made, is_element_set}
 use Rattle.machine.proofs.Keeping.{keeps_same}
 use Rattle.machine.proofs.Elements.{SetsWhatIsThere, sets_what_is_there}
 use Rattle.machine.proofs.NullLaws.{puts_null, nulled_agree, variable_null_agrees}
-use Rattle.machine.proofs.StaticStores.{keeps_but_statics, may_be_nulled, nulled}
+use Rattle.machine.proofs.StaticStores.{keeps_but_statics, may_be_nulled, store_nulled}
 use Rattle.machine.proofs.HeldStatics.{place_below}
 
 -- ---- a plain instruction
@@ -397,7 +397,7 @@ module _ (p : Lowered) (w : World) (store : Store) (lent : BuffersInUse) (k : �
                 (depth_behind p classes space call code seen s.frames task rest r i at 0 (λ leaves. subst Leaves is leaves) (ap (λ (j : Instr). depth_after j (length call.stack)) is ∙ ap (λ (st : List ℕ). Some (length st)) h.empty)) m' nulled.references nulled.fields h.stands
                 (subst (λ (v : NullableVariable). Shows code h.names (visible_to now next) (lower.with_null v held)) same (h.shows (visible_to now next) null.nulled));
             next_shared = now;
-            store_agrees = nulled p w store shared shares code r.known call.place call.stack held s statics h.name variable kind stored nulled_are;
+            store_agrees = store_nulled p w store shared shares code r.known call.place call.stack held s statics h.name variable kind stored nulled_are;
             keeps = keeps_but_statics p w store shared shares now.statics shared.globals (may_be_nulled kind h.name shared.statics);
             pending_agrees = pends;
             calls = refl;

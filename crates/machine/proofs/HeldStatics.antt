@@ -116,7 +116,7 @@ held_set globals (x ∷ statics) zero s = refl
 held_set globals (x ∷ statics) (suc i) s = ap (λ (l : List Held). held_of globals x ∷ l) (held_set globals statics i s)
 
 -- one that isn't live has no key
-pub IsDead : InMemory → Type 0
+abbrev pub IsDead : InMemory → Type 0
 IsDead s = (key : ℕ) → s ≡ static.Live key → ⊥
 
 -- the others keep their keys

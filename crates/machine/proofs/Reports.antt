@@ -1,5 +1,5 @@
 -- The report of the state that a machine's journal leads to.
-use Rattle.std.proofs.Common.{append-nil, ◌≡◌, ℕ, zero, suc, ◌+◌, Bool, false, cond, List, [], ◌∷◌, ◌++◌, length, map, Option, Some, None, Result, refl, sym, ap, ◌∙◌, subst}
+use Rattle.std.proofs.Common.{append-nil, append_assoc, ◌≡◌, ℕ, zero, suc, ◌+◌, Bool, false, cond, List, [], ◌∷◌, ◌++◌, length, map, Option, Some, None, Result, refl, sym, ap, ◌∙◌, subst}
 use Rattle.std.specs.Prelude.{slice_get, flat_map, ◌==◌, is_some, not, ◌||◌, ◌&&◌}
 use Rattle.std.specs.List.{list_all, enumerate_from, AllZip}
 use Rattle.std.specs.Option.{option_map}
@@ -174,17 +174,18 @@ module _ (p : Lowered) (world : World) (store : Store) (ts : List Thread) (print
   globals_there = names_there store.heap (references_in store.globals) c.store_agrees.globals.names c.store_agrees.globals.agree
 
   -- the state's roots are the objects made at load, the global references and what the threads refer to
-  roots_are : roots world c.state ≡ from_one (length store.loaded.items) ++ c.state.shared.globals ++ flat_map (thread_names store.heap) ts
+  roots_are : roots world c.state ≡ (from_one (length store.loaded.items) ++ c.state.shared.globals) ++ flat_map (thread_names store.heap) ts
   roots_are =
       let names = flat_map thread_roots c.state.threads in
       let globals = c.state.shared.globals in
       let count : loaded_count world ≡ length store.loaded.items = sym (length-loaded world) ∙ sym c.store_agrees.table.counted in
       let views_none : views c.state ≡ [] = no_views p world.classes store.heap (length (loaded_objects world)) c.state.shared ts c.state.threads c.threads_agree in
-      ap (λ (ms : List Monitor). from_one (loaded_count world) ++ globals ++ names ++ map (λ (m : Monitor). m.object) ms ++ views c.state) c.store_agrees.monitors
-      ∙ ap (λ (l : List ℕ). from_one (loaded_count world) ++ globals ++ names ++ l) views_none
-      ∙ ap (λ (l : List ℕ). from_one (loaded_count world) ++ globals ++ l) (append-nil names)
-      ∙ ap (λ n. from_one n ++ globals ++ names) count
-      ∙ ap (λ (l : List ℕ). from_one (length store.loaded.items) ++ globals ++ l) (sym (threads_are store.heap ts c.state.threads roots_in))
+      ap (λ (ms : List Monitor). (((from_one (loaded_count world) ++ globals) ++ names) ++ map (λ (m : Monitor). m.object) ms) ++ views c.state) c.store_agrees.monitors
+      ∙ ap (λ (l : List ℕ). l ++ views c.state) (append-nil ((from_one (loaded_count world) ++ globals) ++ names))
+      ∙ ap (λ (l : List ℕ). ((from_one (loaded_count world) ++ globals) ++ names) ++ l) views_none
+      ∙ append-nil ((from_one (loaded_count world) ++ globals) ++ names)
+      ∙ ap (λ n. (from_one n ++ globals) ++ names) count
+      ∙ ap (λ (l : List ℕ). (from_one (length store.loaded.items) ++ globals) ++ l) (sym (threads_are store.heap ts c.state.threads roots_in))
 
   -- the rows of what can be reached from them are the state's
   pub rows_are : (classes : Classes) (objects : Heap) (loaded : ℕ) (names : List ℕ) (rows : List ShownRow)
@@ -193,11 +194,12 @@ module _ (p : Lowered) (world : World) (store : Store) (ts : List Thread) (print
   unfolding report
   rows_are classes objects loaded names rows k h l n told =
       let of_threads = flat_map (thread_names store.heap) ts in
-      let permuted : IsPermutation (from_one loaded ++ c.store_agrees.globals.names ++ of_threads) (from_one loaded ++ c.state.shared.globals ++ of_threads) =
+      let permuted : IsPermutation (from_one loaded ++ (c.store_agrees.globals.names ++ of_threads)) (from_one loaded ++ (c.state.shared.globals ++ of_threads)) =
       IsPermutation-append_right (from_one loaded) (c.store_agrees.globals.names ++ of_threads) (c.state.shared.globals ++ of_threads) (IsPermutation-append_left of_threads c.store_agrees.globals.names c.state.shared.globals c.store_agrees.globals.same) in
-      let given : from_one loaded ++ c.store_agrees.globals.names ++ of_threads ≡ from_one loaded ++ names = ap (λ (ns : List ℕ). from_one loaded ++ ns) (sym (n ∙ ap (λ (ns : List ℕ). ns ++ of_threads) globals_are)) in
-      let same : from_one loaded ++ c.state.shared.globals ++ of_threads ≡ roots world c.state = sym (roots_are ∙ ap (λ m. from_one m ++ c.state.shared.globals ++ of_threads) (sym l)) in
-      told world c.state (record { classes = sym k; heap = sym h; roots = subst (IsPermutation (from_one loaded ++ names)) same (subst (λ (ns : List ℕ). IsPermutation ns (from_one loaded ++ c.state.shared.globals ++ of_threads)) given permuted) })
+      let given : from_one loaded ++ (c.store_agrees.globals.names ++ of_threads) ≡ from_one loaded ++ names = ap (λ (ns : List ℕ). from_one loaded ++ ns) (sym (n ∙ ap (λ (ns : List ℕ). ns ++ of_threads) globals_are)) in
+      let same : from_one loaded ++ (c.state.shared.globals ++ of_threads) ≡ roots world c.state =
+      sym (roots_are ∙ ap (λ m. (from_one m ++ c.state.shared.globals) ++ of_threads) (sym l) ∙ append_assoc (from_one loaded) c.state.shared.globals of_threads) in
+      told world c.state (record { classes = sym k; heap = sym h; roots = subst (IsPermutation (from_one loaded ++ names)) same (subst (λ (ns : List ℕ). IsPermutation ns (from_one loaded ++ (c.state.shared.globals ++ of_threads))) given permuted) })
 
 -- what is written of these parts is what the run writes
 pub writes_run : {T E : Type 0} (p : Lowered) (world : World) (store : Store) (ts : List Thread) (printed : List Printed) (stop : Option Stop) (journal : List Entry) (c : Corresponds p world store ts printed stop journal) (now : Run)

@@ -19,19 +19,19 @@ use Rattle.machine.proofs.Changes.{lookup_other, lookup_same}
 -- the places stay
 pub place_kept : (x y : Identifier) (r : StaticReference) (statics : Statics) (i : ℕ) → static_index y statics ≡ Some i → static_index y (assign x r statics) ≡ Some i
 place_kept x y r [] i h = absurd (cc)
-place_kept x y r ((z, q) ∷ statics) i h = by_test (bytes_eq x z) refl
+place_kept x y r ((z, q) ∷ statics) i h = by_test (bytes_eq x z) refl (λ j k. place_kept x y r statics j k)
   where
-    further : (b : Bool) (j : ℕ) → (if b then Some 0 else option_map suc (static_index y statics)) ≡ Some j → (if b then Some 0 else option_map suc (static_index y (assign x r statics))) ≡ Some j
-    further true j k = k
-    further false j k = by_place (static_index y statics) refl k
+    further : ((j : ℕ) → static_index y statics ≡ Some j → static_index y (assign x r statics) ≡ Some j) → (b : Bool) → (if b then Some 0 else option_map suc (static_index y statics)) ≡ Some i → (if b then Some 0 else option_map suc (static_index y (assign x r statics))) ≡ Some i
+    further later true k = k
+    further later false k = by_place (static_index y statics) refl k
       where
-        by_place : (o : Option ℕ) → static_index y statics ≡ o → option_map suc o ≡ Some j → option_map suc (static_index y (assign x r statics)) ≡ Some j
+        by_place : (o : Option ℕ) → static_index y statics ≡ o → option_map suc o ≡ Some i → option_map suc (static_index y (assign x r statics)) ≡ Some i
         by_place None e k = absurd (cc)
-        by_place (Some m) e k = ap (option_map suc) (place_kept x y r statics m e) ∙ k
+        by_place (Some m) e k = ap (option_map suc) (later m e) ∙ k
 
-    by_test : (b : Bool) → bytes_eq x z ≡ b → static_index y (if b then (x, r) ∷ statics else (z, q) ∷ assign x r statics) ≡ Some i
-    by_test true e = ap (λ (n : Identifier). if bytes_eq y n then Some 0 else option_map suc (static_index y statics)) ((bytes_eq-Decides x z).0 e) ∙ h
-    by_test false e = further (bytes_eq y z) i h
+    by_test : (b : Bool) → bytes_eq x z ≡ b → ((j : ℕ) → static_index y statics ≡ Some j → static_index y (assign x r statics) ≡ Some j) → static_index y (if b then (x, r) ∷ statics else (z, q) ∷ assign x r statics) ≡ Some i
+    by_test true e later = ap (λ (n : Identifier). if bytes_eq y n then Some 0 else option_map suc (static_index y statics)) ((bytes_eq-Decides x z).0 e) ∙ h
+    by_test false e later = further later (bytes_eq y z) h
 
 -- no variable has a name of no kind that is no array
 no_variable : (o : Option Variable) → kind_of_variable o ≡ None → type_of_array o ≡ None → o ≡ None

@@ -64,12 +64,12 @@ module _ (p : Lowered) (w : World) (store : Store) (shared : Shared) (h : StoreA
 
   module _ (code : Listing) (known : Known) (place : ℕ) (stack : List ℕ) (slots : Slots) (s : _) (statics : Vec InMemory) (x : Identifier) where
     -- NULL was stored
-    pub nulled : (variable : NullableVariable) (kind : Option VariableKind) → IsStoredIn code known place stack slots (visible_to shared s) variable kind x → statics.items ≡ nulled_statics variable store.statics.items
+    pub store_nulled : (variable : NullableVariable) (kind : Option VariableKind) → IsStoredIn code known place stack slots (visible_to shared s) variable kind x → statics.items ≡ nulled_statics variable store.statics.items
         → StoreAgrees p w (record store { statics = statics }) (record shared { statics = lower.nulled_statics kind x shared.statics })
-    nulled (nullable.Local i) kind stored is = subst (λ (k : Option VariableKind). StoreAgrees p w (record store { statics = statics }) (record shared { statics = lower.nulled_statics k x shared.statics })) (sym stored) (with_same statics is)
-    nulled (nullable.FieldId i) kind stored is = subst (λ (k : Option VariableKind). StoreAgrees p w (record store { statics = statics }) (record shared { statics = lower.nulled_statics k x shared.statics })) (sym stored) (with_same statics is)
-    nulled (nullable.Buffer i) kind stored is = subst (λ (k : Option VariableKind). StoreAgrees p w (record store { statics = statics }) (record shared { statics = lower.nulled_statics k x shared.statics })) (sym stored.1) (with_same statics is)
-    nulled (nullable.Static i) kind stored is =
+    store_nulled (nullable.Local i) kind stored is = subst (λ (k : Option VariableKind). StoreAgrees p w (record store { statics = statics }) (record shared { statics = lower.nulled_statics k x shared.statics })) (sym stored) (with_same statics is)
+    store_nulled (nullable.FieldId i) kind stored is = subst (λ (k : Option VariableKind). StoreAgrees p w (record store { statics = statics }) (record shared { statics = lower.nulled_statics k x shared.statics })) (sym stored) (with_same statics is)
+    store_nulled (nullable.Buffer i) kind stored is = subst (λ (k : Option VariableKind). StoreAgrees p w (record store { statics = statics }) (record shared { statics = lower.nulled_statics k x shared.statics })) (sym stored.1) (with_same statics is)
+    store_nulled (nullable.Static i) kind stored is =
         subst (λ (k : Option VariableKind). StoreAgrees p w (record store { statics = statics }) (record shared { statics = lower.nulled_statics k x shared.statics })) (sym stored.0)
         (with_static statics x i static.Empty Empty is stored.1.static.place tt (keys_left store.globals store.statics.items i static.Empty (λ key e. cc) h.keys))
 

@@ -1,7 +1,7 @@
 //! What global references and threads refer to, by name: the roots of a report beside the objects made at load.
 
 ghost use Rattle.std.specs.Prelude.{◌≡◌, ◌++◌, IfOk, flat_map, map};
-ghost use Rattle.machine.specs.Roots.{AreAddresses, FramesAreThere, CallIsThere, PendingIsThere, ThreadsAreThere, frame_names, name_of, frames_names, call_names, pending_names, thread_names};
+ghost use Rattle.machine.specs.Roots.{AreAddresses, FramesAreThere, CallIsThere, ReferenceIsThere, ThreadsAreThere, frame_names, name_of, frames_names, call_names, reference_names, thread_names};
 ghost use Rattle.tables.specs.References.{references_in};
 
 use crate::frame::Frame;
@@ -25,7 +25,7 @@ pub fn root_names(
     let mut names = global_names(alloc, heap, globals)?;
     for thread in threads {
         push_call(&mut names, heap, &thread.call)?;
-        push_pending(&mut names, heap, thread.pending)?;
+        push_reference(&mut names, heap, thread.pending)?;
     }
     Ok(names)
 }
@@ -37,9 +37,7 @@ fn global_names(alloc: Global, heap: &Heap, globals: &Globals) -> Result<Vec<usi
 {
     let mut names = Vec::new(alloc);
     for place in 0..globals.len() {
-        if let Some(addr) = globals.root(place) {
-            names.push(heap.birth_of(addr) as usize)?;
-        }
+        push_reference(&mut names, heap, globals.root(place))?;
     }
     Ok(names)
 }
@@ -59,16 +57,16 @@ fn push_call(
     }
 }
 
-/// Adds the name of a pending exception.
-fn push_pending(
+/// Adds the name of the object of a reference, that of a pending exception or of a global reference, if it isn't NULL.
+fn push_reference(
     names: &mut Vec<usize>,
     heap: &Heap,
-    pending: Option<Addr>,
+    reference: Option<Addr>,
 ) -> Result<(), AllocError>
-    requires { PendingIsThere heap.now pending }
-    ensures { IfOk result (λ _. names.new.items ≡ names.old.items ++ pending_names heap.now pending) }
+    requires { ReferenceIsThere heap.now reference }
+    ensures { IfOk result (λ _. names.new.items ≡ names.old.items ++ reference_names heap.now reference) }
 {
-    match pending {
+    match reference {
         None => Ok(()),
         Some(addr) => {
             names.push(heap.birth_of(addr) as usize)?;
