@@ -291,8 +291,8 @@ module _ (p : Lowered) (w : World) (store : Store) (pending : Option ℕ) (call 
         let steps = step_leaves w.classes lent k shared s called.line called.target called.f called.args rest refused effect (effect_is free lent k) (stays_with w.classes store.heap (prototype called.f).result shared s answer effect does) carried.could_refuse in
         subst (λ (e : Effect). GoesOn p w store.heap store' lent k shared s rest after pending' e refused event.Quiet) (sym called.is) (record {
           next_shared = next;
-          next = going called.line called.f called.args rest s left q c ends.variables;
-          steps = stepped refused (going called.line called.f called.args rest s left q c ends.variables) next (steps ∙ ends.steps);
+          next = going called.line called.f called.args ends.tasks s left q c ends.variables;
+          steps = stepped refused (going called.line called.f called.args ends.tasks s left q c ends.variables) next (steps ∙ ends.steps);
           store_agrees = carried.store_agrees;
           keeps = carried.keeps;
           work = ends.stands;

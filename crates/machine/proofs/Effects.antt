@@ -195,9 +195,9 @@ module _ (p : Lowered) (classes : Classes) (space : Space) (call : Activation) (
   slot_there (nullable.Static j) statics is same =
       other_cases (λ effect. j < statics) (λ plain. subst IsPlain is plain) (λ test tasks h. absurd (subst IsNullTest is test))
       (λ target h met.
-        let variable : h.variable ≡ nullable.Static j = let both : instr.StoreNull h.variable ≡ instr.StoreNull (nullable.Static j) = sym met ∙ is in cc in
-        let stored = subst (λ (v : NullableVariable). IsStoredIn code r.known call.place call.stack slots visible v (kind_of_target code r.known call.place call.stack slots visible target) h.name) variable h.stored in
-        omega (arith, same, place_below h.name visible.statics j stored.1.static.place))
+      let variable : h.variable ≡ nullable.Static j = let both : instr.StoreNull h.variable ≡ instr.StoreNull (nullable.Static j) = sym met ∙ is in cc in
+      let stored = subst (λ (v : NullableVariable). IsStoredIn code r.known call.place call.stack slots visible v (kind_of_target code r.known call.place call.stack slots visible target) h.name) variable h.stored in
+      omega (arith, same, place_below h.name visible.statics j stored.1.static.place))
       (λ z h met. absurd (let both : instr.PutJint ≡ instr.StoreNull (nullable.Static j) = sym met ∙ is in cc))
       (λ line target f args h met. absurd (let both : instr.Call h.call ≡ instr.StoreNull (nullable.Static j) = sym met ∙ is in cc))
       (λ returns. absurd (subst IsReturn is returns))

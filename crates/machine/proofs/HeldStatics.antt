@@ -67,11 +67,11 @@ module _ (space : Space) where
   static_there x (k ∷ helds) ((y, q) ∷ statics) i r h place at =
       place_cases x y (static_index x statics) i (bytes_eq x y) refl place
       (λ e zero_is.
-        let same : q ≡ r = let one : Some q ≡ Some r = sym (ap (λ (b : Bool). if b then Some q else lookup x statics) e) ∙ at in cc in
-        subst (λ (j : ℕ). HeldAgrees space (held_or_null (slice_get (k ∷ helds) j)) r) (sym zero_is) (subst (λ (u : StaticReference). HeldAgrees space k u) same h.0))
+      let same : q ≡ r = let one : Some q ≡ Some r = sym (ap (λ (b : Bool). if b then Some q else lookup x statics) e) ∙ at in cc in
+      subst (λ (j : ℕ). HeldAgrees space (held_or_null (slice_get (k ∷ helds) j)) r) (sym zero_is) (subst (λ (u : StaticReference). HeldAgrees space k u) same h.0))
       (λ e j further is.
-        subst (λ (n : ℕ). HeldAgrees space (held_or_null (slice_get (k ∷ helds) n)) r) (sym is)
-        (static_there x helds statics j r h.1 further (sym (ap (λ (b : Bool). if b then Some q else lookup x statics) e) ∙ at)))
+      subst (λ (n : ℕ). HeldAgrees space (held_or_null (slice_get (k ∷ helds) n)) r) (sym is)
+      (static_there x helds statics j r h.1 further (sym (ap (λ (b : Bool). if b then Some q else lookup x statics) e) ∙ at)))
 
   -- whether it is NULL
   pub null_at : (helds : List Held) (statics : Statics) (i : ℕ) (null : Bool) → StaticsAgree space helds statics → option_map (λ (s : Identifier × StaticReference). is_empty s.1) (slice_get statics i) ≡ Some null → holds_null (held_or_null (slice_get helds i)) ≡ null
@@ -89,11 +89,11 @@ module _ (space : Space) where
   static_put x (k ∷ helds) ((y, q) ∷ statics) i h r agree place new =
       place_cases x y (static_index x statics) i (bytes_eq x y) refl place
       (λ e zero_is.
-        subst (λ (n : ℕ). StaticsAgree space (slice_set (k ∷ helds) n h) (assign x r ((y, q) ∷ statics))) (sym zero_is)
-        (subst (λ (b : Bool). StaticsAgree space (h ∷ helds) (if b then (x, r) ∷ statics else (y, q) ∷ assign x r statics)) (sym e) (new, agree.1)))
+      subst (λ (n : ℕ). StaticsAgree space (slice_set (k ∷ helds) n h) (assign x r ((y, q) ∷ statics))) (sym zero_is)
+      (subst (λ (b : Bool). StaticsAgree space (h ∷ helds) (if b then (x, r) ∷ statics else (y, q) ∷ assign x r statics)) (sym e) (new, agree.1)))
       (λ e j further is.
-        subst (λ (n : ℕ). StaticsAgree space (slice_set (k ∷ helds) n h) (assign x r ((y, q) ∷ statics))) (sym is)
-        (subst (λ (b : Bool). StaticsAgree space (k ∷ slice_set helds j h) (if b then (x, r) ∷ statics else (y, q) ∷ assign x r statics)) (sym e) (agree.0, static_put x helds statics j h r agree.1 further new)))
+      subst (λ (n : ℕ). StaticsAgree space (slice_set (k ∷ helds) n h) (assign x r ((y, q) ∷ statics))) (sym is)
+      (subst (λ (b : Bool). StaticsAgree space (k ∷ slice_set helds j h) (if b then (x, r) ∷ statics else (y, q) ∷ assign x r statics)) (sym e) (agree.0, static_put x helds statics j h r agree.1 further new)))
 
 -- they have the names that they had
 pub same_names : (x : Identifier) (r : StaticReference) (statics : Statics) (i : ℕ) → static_index x statics ≡ Some i → map (λ (s : Identifier × StaticReference). s.0) (assign x r statics) ≡ map (λ (s : Identifier × StaticReference). s.0) statics
@@ -101,11 +101,11 @@ same_names x r [] i place = absurd (cc)
 same_names x r ((y, q) ∷ statics) i place =
     place_cases x y (static_index x statics) i (bytes_eq x y) refl place
     (λ e zero_is.
-      ap (λ (b : Bool). map (λ (s : Identifier × StaticReference). s.0) (if b then (x, r) ∷ statics else (y, q) ∷ assign x r statics)) e
-      ∙ ap (λ (z : Identifier). z ∷ map (λ (s : Identifier × StaticReference). s.0) statics) ((bytes_eq-Decides x y).0 e))
+    ap (λ (b : Bool). map (λ (s : Identifier × StaticReference). s.0) (if b then (x, r) ∷ statics else (y, q) ∷ assign x r statics)) e
+    ∙ ap (λ (z : Identifier). z ∷ map (λ (s : Identifier × StaticReference). s.0) statics) ((bytes_eq-Decides x y).0 e))
     (λ e j further is.
-      ap (λ (b : Bool). map (λ (s : Identifier × StaticReference). s.0) (if b then (x, r) ∷ statics else (y, q) ∷ assign x r statics)) e
-      ∙ ap (λ (names : List Identifier). y ∷ names) (same_names x r statics j further))
+    ap (λ (b : Bool). map (λ (s : Identifier × StaticReference). s.0) (if b then (x, r) ∷ statics else (y, q) ∷ assign x r statics)) e
+    ∙ ap (λ (names : List Identifier). y ∷ names) (same_names x r statics j further))
 
 -- ---- the table
 
@@ -154,9 +154,9 @@ place_in_front x (y ∷ front) back i h =
     place_cases x y (name_place x front) i (bytes_eq x y) refl h
     (λ e zero_is. ap (λ (b : Bool). if b then Some 0 else option_map suc (name_place x (front ++ back))) e ∙ ap (λ (n : ℕ). Some n) (sym zero_is))
     (λ e j at is.
-      ap (λ (b : Bool). if b then Some 0 else option_map suc (name_place x (front ++ back))) e
-      ∙ ap (option_map suc) (place_in_front x front back j at)
-      ∙ ap (λ (n : ℕ). Some n) (sym is))
+    ap (λ (b : Bool). if b then Some 0 else option_map suc (name_place x (front ++ back))) e
+    ∙ ap (option_map suc) (place_in_front x front back j at)
+    ∙ ap (λ (n : ℕ). Some n) (sym is))
 
 -- another name after them
 pub other_after : (x : Identifier) (front : List Identifier) (y : Identifier) → bytes_eq x y ≡ false → name_place x (front ++ y ∷ []) ≡ name_place x front

@@ -1,13 +1,19 @@
 -- What a call in progress is after what a function gives is put where it belongs.
-use Rattle.std.specs.Prelude.{◌≡◌, ℕ, ◌+◌, ◌<◌, true, List, [], length, slice_set, Option, Some}
+use Rattle.std.specs.Prelude.{◌≡◌, ℕ, ◌+◌, ◌<◌, ◌==◌, true, List, [], ◌∷◌, length, slice_set, Option, Some}
+use Rattle.code.specs.Effect.{truth_word}
 use Rattle.class_table.specs.declared.class.FieldHandle.{FieldHandle}
 use Rattle.code.specs.declared.instr.Target.{Target}
-use Rattle.code.specs.declared.instr.Target.TheVariants.{Number, Local, FieldId}
+use Rattle.code.specs.declared.instr.Target.TheVariants.{Number, Local, FieldId, Test}
 use Rattle.jni.specs.Prototype.{ResultKind, NewLocal}
 use Rattle.machine.specs.declared.answer.Given.{Given}
 use Rattle.machine.specs.declared.answer.Given.TheVariants as given
 use Rattle.machine.specs.declared.thread.Activation.{Activation}
 use Rattle.machine.specs.Frames.{Frame, has_room, with_local}
+
+-- the stack, on which the test of an `if` finds the truth whether a number is 0
+abbrev pub stack_with : Target → Given → List ℕ
+stack_with Test (given.Number word) = truth_word (word == 0) ∷ []
+stack_with target g = []
 
 -- the number slots with what is given in the target
 abbrev pub numbers_with : Target → Given → List ℕ → List ℕ
@@ -57,11 +63,11 @@ HasRoom kind frames = Unit {0}
 abbrev pub HasFrame : ResultKind → Activation → Type 0
 HasFrame kind call = HasRoom kind call.frames.items
 
--- the call goes on after the instruction, with no words and with what is given where it belongs
+-- the call goes on after the instruction, with what is given where it belongs
 pub record Receives (target : Target) (kind : ResultKind) (g : Given) (call after : Activation) : Type 0 where
   pub function : after.function ≡ call.function
   pub place : after.place ≡ call.place + 1
-  pub stack : after.stack ≡ []
+  pub stack : after.stack ≡ stack_with target g
   pub numbers : after.numbers.items ≡ numbers_with target g call.numbers.items
   pub references : after.references.items ≡ references_with target g call.references.items
   pub fields : after.fields.items ≡ fields_with target g call.fields.items

@@ -1,14 +1,15 @@
 //! Where what a function gives goes.
 
-ghost use Rattle.std.specs.Prelude.{◌≡◌, ◌<◌, ◌^◌, ◌+◌, length};
+ghost use Rattle.std.specs.Prelude.{◌≡◌, ◌<◌, ◌^◌, ◌+◌, [], length};
 ghost use Rattle.jni.specs.Table.{result_value};
-ghost use Rattle.machine.specs.Received.{HasTarget, HasFrame, Receives, numbers_with, references_with, fields_with, frames_with, HasNumber, HasReference, HasField, HasRoom};
+ghost use Rattle.machine.specs.Received.{HasTarget, HasFrame, Receives, stack_with, numbers_with, references_with, fields_with, frames_with, HasNumber, HasReference, HasField, HasRoom};
 
 use crate::answer::Given;
 use crate::frame::{Frame, put_local};
 use crate::thread::Activation;
 use class_table::class::FieldHandle;
 use code::instr::Target;
+use code::stack::Stack;
 use heap::Addr;
 use jni::ResultKind;
 
@@ -22,10 +23,22 @@ pub fn receive(call: &mut Activation, target: Target, kind: ResultKind, given: &
 {
     call.stack.clear();
     call.place += 1;
+    put_test(&mut call.stack, target, given);
     put_number(&mut call.numbers, target, given);
     put_reference(&mut call.references, target, given);
     put_field(&mut call.fields, target, given);
     put_frame(&mut call.frames, kind, given);
+}
+
+/// Puts the truth whether a number is 0 onto the stack, for the test of an `if`.
+fn put_test(stack: &mut Stack, target: Target, given: &Given)
+    requires { stack.old ≡ [] }
+    ensures { stack.new ≡ stack_with target given.now }
+{
+    match (target, *given) {
+        (Target::Test, Given::Number(word)) => stack.push(u32::from(word == 0)),
+        _ => {}
+    }
 }
 
 /// Puts a number into its slot.
