@@ -8,7 +8,7 @@ use Rattle.syntax.specs.Limits.{numbers_in_range, block_height, block_well_forme
 use Rattle.syntax.specs.Parts.{functions_of, statements_of, own_expressions, parameter_names}
 use Rattle.syntax.specs.Tree.{ParameterType, IntParameter, ReferenceParameter, Parameter, Function, Void, Item, StaticItem, FunctionItem, SourceUnit}
 use Rattle.types.specs.Sorts.{Sort, Jint, Ref, Global, Buffer, Scope}
-use Rattle.types.specs.SortRules.{IsSorted, StaticForm, HeadForm, has_name, parameter_sort, places_of, function_places, item_places}
+use Rattle.types.specs.SortRules.{IsSorted, Place, StaticForm, HeadForm, has_name, parameter_sort, places_of, function_places, item_places}
 use Rattle.types.specs.BuiltCalls.{calls_unbuilt, calls_are_built}
 use Rattle.code.specs.declared.instr.Instr.TheVariants as instr
 use Rattle.regions.specs.RegionStates.{RegionState, state_at_entry}
@@ -146,7 +146,7 @@ record HoldAll (items : List Item) : Type 0 where
 all_fit : (items : List Item) (names : List Identifier) (statics : Known) → AreStatics statics → AreTaken names statics → AreKept (item_places names (scope_of statics) items) → HoldAll items → AllFit statics items
 all_fit [] names statics known taken sorted h = tt
 all_fit (StaticItem s ∷ items) names statics known taken sorted h =
-    let place = record { line = s.line; known = scope_of statics; taken = names; returns = Void; form = StaticForm s } in
+    let place : Place = record { line = s.line; known = scope_of statics; taken = names; returns = Void; form = StaticForm s } in
     let further = item_places (s.name ∷ names) (scope_of (with_static s statics)) items in (
       taken s.name (static_kept s.line (scope_of statics) names Void s (first_kept place further sorted)),
       all_fit items (s.name ∷ names) (with_static s statics) (one_static_more s statics known) (taken_first names statics s.name (record { sort = Global; index = length statics }) taken) (rest_kept place further sorted)

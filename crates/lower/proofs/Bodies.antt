@@ -10,7 +10,7 @@ use Rattle.base.specs.Element.{ElementType, JChar}
 use Rattle.syntax.specs.Tree as tree
 use Rattle.syntax.specs.Tree.{Expr, Argument, RightSide, FromExpr, FromCall, Test, TestExpr, TestCall, Stmt, Block, End, Next, VariableType, BitOr, Call}
 use Rattle.jni.specs.JniFunction.{Access, ElementsCopy, ArrayView, CharsCopy, CharsView}
-use Rattle.jni.specs.Prototype.{ParameterKind, FieldID, IntNumber, TextBytes, ArrayVariable, BufferVariable, Mode, IsCopy, ResultKind, NewLocal, GivesFlag, GivesInt, GivesField, function_named, prototype}
+use Rattle.jni.specs.Prototype.{ParameterKind, FieldID, IntNumber, TextBytes, ArrayVariable, BufferVariable, Mode, IsCopy, ResultKind, NewLocal, NewGlobal, GivesFlag, GivesInt, GivesField, function_named, prototype}
 use Rattle.types.specs.Sorts.{Sort, Jint, Ref, Global, FieldId, Buffer, Array, is_buffer_for}
 use Rattle.types.specs.Sorts as sort
 use Rattle.types.specs.SortRules.{variable_sort}
@@ -20,15 +20,17 @@ use Rattle.code.specs.declared.instr.NullableVariable.TheVariants as nullable
 use Rattle.code.specs.declared.instr.Target.TheVariants as destination
 use Rattle.code.specs.declared.instr.Instr.TheVariants as instr
 use Rattle.code.specs.Depth.{Listing}
+use Rattle.code.specs.Effect.{truth_word}
+use Rattle.source.specs.Value.{Truth}
 use Rattle.source.specs.Term as term
 use Rattle.source.specs.Term.{Term, Done, Read, Binary, term_of}
-use Rattle.source.specs.Task.{Task, SetScalar, Branch, ReturnValue, Target, Declared, Assigned, Dropped, VariableKind, ScalarKind, ReferenceKind, FieldKind, BufferKind, kind_of, set_task, invocation, call_task, right_side_task, if_task, task_of, tasks_of, operand, Given, Operand}
+use Rattle.source.specs.Task.{Task, SetScalar, Branch, ReturnValue, Target, Declared, Assigned, Tested, Dropped, VariableKind, ScalarKind, ReferenceKind, FieldKind, BufferKind, kind_of, set_task, invocation, call_task, right_side_task, if_task, task_of, tasks_of, operand, Given, Operand}
 use Rattle.code_generator.specs.Layout.{Slot, Known, Layout, new_slot, closed, layout_after, block_layout}
 use Rattle.code_generator.specs.Coding.{nullable_of, store_of, element_of, write_code, of_slot, operand_of, address_operand, term_code, expr_code, value_code, right_code, assign_code, returned_code, return_code, ways_code, turn_code, loop_code, if_code, stmt_code, block_code, named_call_code, operand_code, argument_code, arguments_code, argument_text, arguments_texts, result_target}
 use Rattle.lower.specs.Slots.{IsNumberSort}
 use Rattle.lower.specs.Fits.{IsUntouched, NumberFits, IndexWithin, IsLaidOut, HasRoomFor, IsVariable, IsReferenceKind, ArrayFits, BufferFits, ArgumentFits, ValueFits, RightFits, TestFits, ReturnFits, StmtFits, BlockFits, CallFits, ReferenceFits, FieldFits, ResultFits}
-use Rattle.lower.specs.Stands.{held, IsBegun, IsUnderWay, HasAt, AreAmong, IsSlotOf, kind_of_sort, GoesTo, ResultStands, ResultGoes, TargetStands, operand_text, operands_texts, target_name, BlockStands, TasksStand, OperandStands, AreUntouched, operand_rest, operands_rest}
-use Rattle.lower.proofs.SlotLaws.{known_among, all_among}
+use Rattle.lower.specs.Stands.{held, IsBegun, IsUnderWay, HasAt, AreAmong, IsSlotOf, kind_of_sort, GoesTo, ResultStands, ResultGoes, StaticStands, TargetStands, operand_text, operands_texts, target_name, BlockStands, TasksStand, OperandStands, AreUntouched, operand_rest, operands_rest}
+use Rattle.lower.proofs.SlotLaws.{known_among, known_again, all_among}
 use Rattle.lower.proofs.CodePlaces.{has_front, has_back}
 use Rattle.lower.proofs.TermSteps.{untouched_held, untouched_begun}
 use Rattle.lower.proofs.Layouts.{block_grows, room_before, room_at_least, index_more, laid_more, declared_slot, variable_size, laid_after, known_after_stmt}
@@ -215,7 +217,7 @@ module _ (code : Listing) (known : Known) (line place : ℕ) (tail : List Task) 
 
   -- what is to be worked out for a call is at the place, and then its instruction, and what comes after it
   call_stands : (target : Target) (goes : Destination) (c : Call) → (fits : CallFits known c) → HasAt code.instrs place (named_call_code known line goes (function_named c.function) c.arguments)
-      → TargetStands code known (λ p names. TasksStand code names p [] tail) (place + length (named_call_code known line goes (function_named c.function) c.arguments)) goes (prototype fits.function).result target → TasksStand code known place [] (call_task line target c ∷ tail)
+      → TargetStands code known (λ p names. TasksStand code names p [] tail) (place + length (named_call_code known line goes (function_named c.function) c.arguments)) line goes (prototype fits.function).result target → TasksStand code known place [] (call_task line target c ∷ tail)
   call_stands target goes c fits at stands =
       let parameters = (prototype fits.function).parameters in
       let given = zip parameters c.arguments in
@@ -236,7 +238,7 @@ module _ (code : Listing) (known : Known) (line place : ℕ) (tail : List Task) 
         texts = all_texts parameters c.arguments fits.arguments;
         count = operand_count parameters c.arguments fits.arguments;
         operands_stand = arguments_found parameters c.arguments fits.arguments;
-        goes = subst (λ p. TargetStands code known (λ q names. TasksStand code names q [] tail) p goes (prototype fits.function).result target) size stands;
+        goes = subst (λ p. TargetStands code known (λ q names. TasksStand code names q [] tail) p line goes (prototype fits.function).result target) size stands;
       })
 
   -- a variable takes the result, a new one or the one that has the slot
@@ -251,16 +253,28 @@ module _ (code : Listing) (known : Known) (line place : ℕ) (tail : List Task) 
       (subst (λ (z : Identifier). ResultStands code known (λ q names. TasksStand code names q [] tail) p s z) same stands, goes)
   result_goes p kind s target x is name goes stands = absurd goes
 
+  -- a static that is known takes it
+  static_goes : (p i : ℕ) (target : Target) (x : Identifier) → target_name target ≡ Some x → GoesTo known (record { sort = Global; index = i }) target → ResultStands code known (λ q names. TasksStand code names q [] tail) p (record { sort = Global; index = i }) x
+      → StaticStands known (λ q names. TasksStand code names q [] tail) p i target
+  static_goes p i (Declared kind y) x name goes stands = absurd (cc)
+  static_goes p i (Assigned y) x name goes stands =
+      let same : y ≡ x = cc in
+      let slot : Slot = record { sort = Global; index = i } in
+      let found = subst (λ (z : Identifier). lookup z known ≡ Some slot) same goes in
+      record { name = y; is = refl; there = goes; further = (stands.further.0, λ z t at. known_again x slot known found z t (stands.further.1 z t at), stands.further.2) }
+  static_goes p i target x name goes stands = absurd goes
+
   -- the slot is one of what the function gives
   abbrev ResultComes : (p i : ℕ) → ResultKind → Target → Identifier → Sort → Type 0
   ResultComes p i gives target x s =
       GoesTo known (record { sort = s; index = i }) target → ResultStands code known (λ q names. TasksStand code names q [] tail) p (record { sort = s; index = i }) x
-      → TargetStands code known (λ q names. TasksStand code names q [] tail) p (result_target s i) gives target
+      → TargetStands code known (λ q names. TasksStand code names q [] tail) p line (result_target s i) gives target
 
   result_comes : (p i : ℕ) (gives : ResultKind) (target : Target) (x : Identifier) (s : Sort) → target_name target ≡ Some x → ResultFits s gives → ResultComes p i gives target x s
   result_comes p i GivesInt target x s name e = subst (ResultComes p i GivesInt target x) (sym e) (λ goes stands. (Jint, refl, result_goes p ScalarKind (record { sort = Jint; index = i }) target x refl name goes stands))
   result_comes p i GivesFlag target x s name e = subst (ResultComes p i GivesFlag target x) (sym e) (λ goes stands. (sort.Flag, refl, result_goes p ScalarKind (record { sort = sort.Flag; index = i }) target x refl name goes stands))
   result_comes p i NewLocal target x s name e = subst (ResultComes p i NewLocal target x) (sym e) (λ goes stands. (refl, result_goes p ReferenceKind (record { sort = Ref; index = i }) target x refl name goes stands))
+  result_comes p i NewGlobal target x s name e = subst (ResultComes p i NewGlobal target x) (sym e) (λ goes stands. (refl, static_goes p i target x name goes stands))
   result_comes p i GivesField target x s name e = subst (ResultComes p i GivesField target x) (sym e) (λ goes stands. (refl, result_goes p FieldKind (record { sort = FieldId; index = i }) target x refl name goes stands))
   result_comes p i gives target x s name e = absurd e
 
@@ -284,14 +298,14 @@ StmtBegins code s =
     → TasksStand code (layout_after l s).known (place + length (stmt_code l s)) [] tail → TasksStand code l.known place [] (task_of s ∷ tail)
 
 -- the code of both ways of an `if` after its test
-branch_stands : (code : Listing) (line : ℕ) (e : Expr) (then' else' : Block) (l : Layout) (slots_else : _) (place : ℕ) (tail : List Task)
-    → HasAt code.instrs place (expr_code l.known line e ++ ways_code (block_code l then') (block_code (record { known = l.known; slots = slots_else }) else' ++ instr.Jump 0 ∷ []))
-    → NumberFits l.known (term_of e) sort.Truth → BlockFits l then' → BlockFits (record { known = l.known; slots = slots_else }) else' → IsLaidOut l.known l.slots → IsLaidOut l.known slots_else
+branch_stands : (code : Listing) (line : ℕ) (t : Term) (stack : List ℕ) (then' else' : Block) (l : Layout) (slots_else : _) (place : ℕ) (tail : List Task)
+    → HasAt code.instrs place (term_code l.known line t ++ ways_code (block_code l then') (block_code (record { known = l.known; slots = slots_else }) else' ++ instr.Jump 0 ∷ []))
+    → IsUnderWay l.known sort.Truth t stack → BlockFits l then' → BlockFits (record { known = l.known; slots = slots_else }) else' → IsLaidOut l.known l.slots → IsLaidOut l.known slots_else
     → HasRoomFor code.slots (block_layout l then').slots → HasRoomFor code.slots (block_layout (record { known = l.known; slots = slots_else }) else').slots
-    → TasksStand code l.known (place + length (expr_code l.known line e ++ ways_code (block_code l then') (block_code (record { known = l.known; slots = slots_else }) else' ++ instr.Jump 0 ∷ []))) [] tail
-    → TasksStand code l.known place [] (Branch line (term_of e) then' else' ∷ tail)
-branch_stands code line e then' else' l slots_else place tail at test fits fits' laid laid' room room' further =
-    let T = expr_code l.known line e in
+    → TasksStand code l.known (place + length (term_code l.known line t ++ ways_code (block_code l then') (block_code (record { known = l.known; slots = slots_else }) else' ++ instr.Jump 0 ∷ []))) [] tail
+    → TasksStand code l.known place stack (Branch line t then' else' ∷ tail)
+branch_stands code line t stack then' else' l slots_else place tail at test fits fits' laid laid' room room' further =
+    let T = term_code l.known line t in
     let A = block_code l then' in
     let B = block_code (record { known = l.known; slots = slots_else }) else' in
     let ways = has_back code.instrs place T (ways_code A (B ++ instr.Jump 0 ∷ [])) at in
@@ -301,7 +315,7 @@ branch_stands code line e then' else' l slots_else place tail at test fits fits'
     record {
       slots = l.slots;
       slots_else = slots_else;
-      test = number_begins l.known (term_of e) sort.Truth test;
+      test = test;
       then_code = A;
       then_is = refl;
       else_code = B;
@@ -312,14 +326,38 @@ branch_stands code line e then' else' l slots_else place tail at test fits fits'
       further = subst (λ p. TasksStand code l.known p [] tail) size further;
     }
 
+-- a function gives a `jint` where a variable of that sort could take what it gives
+jint_given : (gives : ResultKind) → ResultFits Jint gives → gives ≡ GivesInt
+jint_given GivesInt e = refl
+jint_given GivesFlag e = absurd (let c : Jint ≡ sort.Flag = e in cc)
+jint_given NewLocal e = absurd (let c : Jint ≡ Ref = e in cc)
+jint_given NewGlobal e = absurd (let c : Jint ≡ Global = e in cc)
+jint_given GivesField e = absurd (let c : Jint ≡ FieldId = e in cc)
+jint_given gives e = absurd e
+
 if_stands : (code : Listing) (line : ℕ) (test : Test) (then' else' : Block) (l : Layout) (slots_else : _) (place : ℕ) (tail : List Task)
     → HasAt code.instrs place (if_code l.known line test (block_code l then') (block_code (record { known = l.known; slots = slots_else }) else'))
     → TestFits l.known test → BlockFits l then' → BlockFits (record { known = l.known; slots = slots_else }) else' → IsLaidOut l.known l.slots → IsLaidOut l.known slots_else
     → HasRoomFor code.slots (block_layout l then').slots → HasRoomFor code.slots (block_layout (record { known = l.known; slots = slots_else }) else').slots
     → TasksStand code l.known (place + length (if_code l.known line test (block_code l then') (block_code (record { known = l.known; slots = slots_else }) else'))) [] tail
     → TasksStand code l.known place [] (if_task line test then' else' ∷ tail)
-if_stands code line (TestExpr e) then' else' l slots_else place tail at test fits fits' laid laid' room room' further = branch_stands code line e then' else' l slots_else place tail at test fits fits' laid laid' room room' further
-if_stands code line (TestCall c) then' else' l slots_else place tail at test fits fits' laid laid' room room' further = absurd test
+if_stands code line (TestExpr e) then' else' l slots_else place tail at test fits fits' laid laid' room room' further = branch_stands code line (term_of e) [] then' else' l slots_else place tail at (number_begins l.known (term_of e) sort.Truth test) fits fits' laid laid' room room' further
+if_stands code line (TestCall c) then' else' l slots_else place tail at test fits fits' laid laid' room room' further =
+    let T = named_call_code l.known line destination.Test (function_named c.function) c.arguments in
+    let W = ways_code (block_code l then') (block_code (record { known = l.known; slots = slots_else }) else' ++ instr.Jump 0 ∷ []) in
+    let end : place + length (T ++ W) ≡ place + length T + length W = omega (arith, length-append T W) in
+    let after = subst (λ p. TasksStand code l.known p [] tail) end further in
+    call_stands code l.known line place tail (Tested then' else') destination.Test c test.fits (has_front code.instrs place T W at) (
+      jint_given (prototype test.fits.function).result test.result,
+      record {
+        then' = then';
+        else' = else';
+        is = refl;
+        ways = λ gave_zero.
+            branch_stands code line (Done (Truth gave_zero)) (truth_word gave_zero ∷ []) then' else' l slots_else (place + length T) tail (has_back code.instrs place T W at) (record { sort = refl; begun = tt; operands = refl })
+            fits fits' laid laid' room room' after;
+      },
+    )
 
 loop_stands : (code : Listing) (line : ℕ) (test : Expr) (body : Block) → StmtBegins code (tree.While line test body)
 loop_stands code line test body l place tail at fits laid room further =

@@ -19,7 +19,7 @@ use Rattle.lower.proofs.SlotLaws.{first_or_after}
 use Rattle.lower.proofs.SortFacts.{scope_of, HasNoTruth}
 use Rattle.lower.proofs.PlaceFacts.{and_left, and_right, or_left, IsKept, AreKept, own_kept, inside_kept, block_kept, ways_kept}
 use Rattle.lower.proofs.NameFacts.{AreTaken, taken_more, taken_after, known_taken, stmt_others}
-use Rattle.lower.proofs.BufferFacts.{IsBuilt, AreBuilt, first_built, both_built, inside_built, AreFree, true_free, false_free, free_after, no_free_buffer, own_not_free}
+use Rattle.lower.proofs.BufferFacts.{AreBuilt, first_built, both_built, inside_built, AreFree, true_free, false_free, free_after, no_free_buffer, own_not_free}
 use Rattle.lower.proofs.StatementFacts.{AreFine, are_fine, called_expressions, CallHolds, call_fits_name, right_fits, buffer_fits, assigned_fits, element_fits, jint_fits, truth_fits, tested_fits, returned_fits, size_fits}
 
 -- ---- what holds of a statement and of a block
@@ -211,7 +211,7 @@ mutual
   stmt_fits (tree.PutJint line e) l taken returns before way h = jint_fits l.known h.no_truth e (all_fine l taken returns before way (tree.PutJint line e) h).0 (kept l taken returns before way (tree.PutJint line e) h).fits
   stmt_fits (tree.If line test then') l taken returns before way h =
       let s = tree.If line test then' in (
-        tested_fits l.known h.no_truth test (all_fine l taken returns before way s h) (λ c e. subst (λ t. IsBuilt (own_call (tree.If line t then'))) e (first_built s h.calls)) (kept l taken returns before way s h).fits,
+        tested_fits l.known h.no_truth test (all_fine l taken returns before way s h) (λ c e. subst (λ t. CallHolds l.known (own_call (tree.If line t then'))) e (call_holds l taken returns before way s h)) (kept l taken returns before way s h).fits,
         block_fits then' l taken returns before (where_true before test) h.keeps.1 (record {
           sorted = inside_kept returns (scope_of l.known) taken s h.sorted;
           numbers = inside_in_range s (statements_of then') h.numbers;
@@ -229,7 +229,7 @@ mutual
       let sorted = ways_kept returns (scope_of l.known) taken line test then' else' h.sorted in
       let numbers = both_in_range (statements_of then') (statements_of else') (inside_in_range s (statements_of then' ++ statements_of else') h.numbers) in
       let calls = both_built (statements_of then') (statements_of else') (inside_built s (statements_of then' ++ statements_of else') h.calls) in (
-        tested_fits l.known h.no_truth test (all_fine l taken returns before way s h) (λ c e. subst (λ t. IsBuilt (own_call (tree.IfElse line t then' else'))) e (first_built s h.calls)) (kept l taken returns before way s h).fits,
+        tested_fits l.known h.no_truth test (all_fine l taken returns before way s h) (λ c e. subst (λ t. CallHolds l.known (own_call (tree.IfElse line t then' else'))) e (call_holds l taken returns before way s h)) (kept l taken returns before way s h).fits,
         block_fits then' l taken returns before (where_true before test) h.keeps.1 (record {
           sorted = sorted.0;
           numbers = numbers.0;

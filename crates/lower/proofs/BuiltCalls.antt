@@ -2,8 +2,8 @@
 use Rattle.std.proofs.Common.{◌≡◌, Bool, true, false, List, Option, Some, None, refl}
 use Rattle.base.specs.Options.{some_passes}
 use Rattle.syntax.specs.Tree.{Argument, Call}
-use Rattle.jni.specs.JniFunction.{JniFunction, PushLocalFrame, NewGlobalRef, GetBuffer}
-use Rattle.jni.specs.Prototype.{ResultKind, NewGlobal, GivesBuffer, function_named, prototype}
+use Rattle.jni.specs.JniFunction.{JniFunction, PushLocalFrame, GetBuffer}
+use Rattle.jni.specs.Prototype.{ResultKind, GivesInt, GivesBuffer, function_named, prototype}
 use Rattle.jni.specs.BuiltFunctions.{is_built_function}
 use Rattle.types.specs.BuiltCalls.{is_built_call}
 use Rattle.types.specs.SortRules.{may_be_tested}
@@ -22,24 +22,22 @@ by_name c None is h = absurd (cc)
 pub built_call : (c : Call) → is_built_call c ≡ true → BuiltCall c
 built_call c h = by_name c (function_named c.function) refl h
 
--- such a result, where there is one, is a number, a local reference or a field ID
+-- such a result, where there is one, is a number, a reference or a field ID
 abbrev pub is_taken : ResultKind → Bool
-is_taken NewGlobal = false
 is_taken (GivesBuffer a) = false
 is_taken r = true
 
 -- Below each function that differs from most has a line. Those that can't be called today are absurd there.
 
--- the result, where there is one, is a number, a local reference or a field ID
+-- the result, where there is one, is a number, a reference or a field ID
 pub result_taken : (f : JniFunction) → is_built_function f ≡ true → is_taken (prototype f).result ≡ true
-result_taken NewGlobalRef h = absurd (cc)
 result_taken (GetBuffer a) h = absurd (cc)
 result_taken f h = refl
 
--- the call isn't the test of an `if`
-pub is_not_tested : (f : JniFunction) → is_built_function f ≡ true → may_be_tested (Some f) ≡ false
-is_not_tested PushLocalFrame h = absurd (cc)
-is_not_tested f h = refl
+-- a call that is the test of an `if` gives a `jint`
+pub is_tested : (f : JniFunction) → may_be_tested (Some f) ≡ true → (prototype f).result ≡ GivesInt
+is_tested PushLocalFrame h = refl
+is_tested f h = absurd (cc)
 
 -- it gets no buffer
 pub gets_nothing : (f : JniFunction) → is_built_function f ≡ true → (arguments : List Argument) → get_of (Some (f, arguments)) ≡ None

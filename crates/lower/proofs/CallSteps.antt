@@ -31,9 +31,9 @@ use Rattle.code_generator.specs.Layout.{Slot, Known}
 use Rattle.code_generator.specs.Coding.{term_code}
 use Rattle.lower.specs.Slots.{word_of, IsNumberSort, Visible, Slots, Shows}
 use Rattle.lower.specs.Fits.{IsReferenceKind, TakesNull, TermHasSort}
-use Rattle.lower.specs.Stands.{held, IsBegun, HasAt, operand_text, operands_texts, ResultStands, ResultGoes, number_sort, OperandStands, TargetStands, InvokeStands, TasksStand, task_returns, operands_rest, operand_held, operands_held, AreUntouched, AreBegun}
-use Rattle.lower.specs.Does.{IsOperand, TakesNumber, TakesReference, TakesField, GoesInto, TakesResult, DoesEffect, word_given, words_given, text_given, texts_given, OperandFits, IsVariableKind, ActualFits}
-use Rattle.lower.proofs.SlotLaws.{fewer_shown, number_below, shows_set, shows_referred, shows_field_set}
+use Rattle.lower.specs.Stands.{held, IsBegun, HasAt, operand_text, operands_texts, ResultStands, ResultGoes, StaticStands, TestStands, number_sort, OperandStands, TargetStands, InvokeStands, TasksStand, task_returns, operands_rest, operand_held, operands_held, AreUntouched, AreBegun}
+use Rattle.lower.specs.Does.{IsOperand, TakesNumber, TakesReference, TakesField, TakesStatic, TakesTest, GoesInto, TakesResult, DoesEffect, word_given, words_given, text_given, texts_given, OperandFits, IsVariableKind, ActualFits}
+use Rattle.lower.proofs.SlotLaws.{fewer_shown, number_below, shows_set, shows_referred, shows_field_set, static_changes}
 use Rattle.lower.proofs.TermSteps.{IsOpen, untouched_held, untouched_begun, shows_number}
 
 -- ---- the number that is worked out
@@ -246,8 +246,32 @@ module _ (code : Listing) (known : Known) (place : ℕ) (stack : List ℕ) (slot
   is_number_sort GivesFlag s e = subst IsNumberSort (let same : sort.Flag ≡ s = cc in same) tt
   is_number_sort gives s e = absurd (cc)
 
-  takes_result : (line : ℕ) (f : JniFunction) (operands : List Operand) (goes : Destination) (gives : ResultKind) (target : Target) (rest : List Task) → TargetStands code known (λ p names. TasksStand code names p [] rest) (place + 1) goes gives target
-      → IsTrue (list_any task_returns (Invoke line target f operands ∷ rest)) → TakesResult code known place stack slots visible goes gives target rest
+  -- a static holds it
+  takes_static : (line : ℕ) (f : JniFunction) (operands : List Operand) (i : ℕ) (target : Target) (rest : List Task) → IsTrue (list_any task_returns (Invoke line target f operands ∷ rest)) → StaticStands known (λ p names. TasksStand code names p [] rest) (place + 1) i target
+      → (x : Identifier) × (target ≡ Assigned x) × TakesStatic code known place stack slots visible i x rest
+  takes_static line f operands i target rest returns h = (
+    h.name,
+    h.is,
+    record {
+      static = shows.each h.name (record { sort = Global; index = i }) h.there;
+      names = h.further.0;
+      shows = λ held new set. fewer_shown code h.further.0 known new slots h.further.1 (static_changes code known visible new slots h.name held shows set);
+      stands = record { stand = h.further.2; returns = subst (λ (t : Target). IsTrue (list_any task_returns (Invoke line t f operands ∷ rest))) h.is returns };
+    },
+  )
+
+  -- it is tested
+  takes_test : (line : ℕ) (f : JniFunction) (operands : List Operand) (target : Target) (rest : List Task) → IsTrue (list_any task_returns (Invoke line target f operands ∷ rest)) → TestStands code known (λ p names. TasksStand code names p [] rest) (place + 1) line target
+      → TakesTest code known place stack slots visible line target rest
+  takes_test line f operands target rest returns h = record {
+    then' = h.then';
+    else' = h.else';
+    is = h.is;
+    stands = λ gave_zero. record { stand = h.ways gave_zero; returns = subst (λ (t : Target). IsTrue (list_any task_returns (Invoke line t f operands ∷ rest))) h.is returns };
+  }
+
+  takes_result : (line : ℕ) (f : JniFunction) (operands : List Operand) (goes : Destination) (gives : ResultKind) (target : Target) (rest : List Task) → TargetStands code known (λ p names. TasksStand code names p [] rest) (place + 1) line goes gives target
+      → IsTrue (list_any task_returns (Invoke line target f operands ∷ rest)) → TakesResult code known place stack slots visible line goes gives target rest
   takes_result line f operands (destination.Number i) gives target rest h returns =
       let slot : Slot = record { sort = h.0; index = i } in
       let n = is_number_sort gives h.0 h.1 in
@@ -258,6 +282,8 @@ module _ (code : Listing) (known : Known) (place : ℕ) (stack : List ℕ) (slot
   takes_result line f operands (destination.FieldId i) gives target rest h returns =
       let slot : Slot = record { sort = FieldId; index = i } in
       (h.0, goes_into line f operands FieldKind slot target rest (λ x. TakesField code known place stack slots visible i x rest) returns (λ x r stands. takes_field i x rest r stands) (λ x found. (shows.each x slot found).kind) h.1)
+  takes_result line f operands (destination.Static i) gives target rest h returns = (h.0, takes_static line f operands i target rest returns h.1)
+  takes_result line f operands destination.Test gives target rest h returns = (h.0, takes_test line f operands target rest returns h.1)
   takes_result line f operands destination.Dropped gives target rest h returns = (h.0, record { stand = h.1; returns = subst (λ (t : Target). IsTrue (list_any task_returns (Invoke line t f operands ∷ rest))) h.0 returns })
 
   -- ---- arguments
@@ -415,7 +441,7 @@ module _ (code : Listing) (known : Known) (place : ℕ) (stack : List ℕ) (slot
           fit = are_fit c.call.operands (prototype f).parameters operands c.count ready c.operands_stand;
           kinds = operands_fit c.call.operands (prototype f).parameters operands c.count c.operands_stand;
           given = are_operands c.call.operands (prototype f).parameters operands ready c.operands_stand;
-          goes = takes_result line f operands c.call.target (prototype f).result target rest (subst (λ p. TargetStands code known (λ q names. TasksStand code names q [] rest) p c.call.target (prototype f).result target) next c.goes) returns;
+          goes = takes_result line f operands c.call.target (prototype f).result target rest (subst (λ p. TargetStands code known (λ q names. TasksStand code names q [] rest) p line c.call.target (prototype f).result target) next c.goes) returns;
         }
 
     -- a number takes its step
@@ -445,7 +471,7 @@ module _ (code : Listing) (known : Known) (place : ℕ) (stack : List ℕ) (slot
           texts = c.texts ∙ sym (texts_with operands u);
           count = count_same operands u ∙ c.count;
           operands_stand = stand_with known c.call.operands (prototype f).parameters operands u sorted c.operands_stand;
-          goes = subst (λ q. TargetStands code known (λ r names. TasksStand code names r [] rest) q c.call.target (prototype f).result target) end c.goes;
+          goes = subst (λ q. TargetStands code known (λ r names. TasksStand code names r [] rest) q line c.call.target (prototype f).result target) end c.goes;
         }))
 
     by_ready : (b : Bool) → is_ready operands ≡ b → DoesEffect code known place stack slots visible rest (call_effect_of visible.sight line target f operands)

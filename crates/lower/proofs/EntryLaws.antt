@@ -9,13 +9,13 @@ use Rattle.types.specs.Sorts.{Sort, Jint, Ref, Global}
 use Rattle.source.specs.Object.{ObjectValue, Number, Refers, Reference}
 use Rattle.source.specs.World.{Invocation}
 use Rattle.source.specs.Activation.{entered, parameter_variables}
-use Rattle.source.specs.Sight.{scalar, held_reference, holds_null}
+use Rattle.source.specs.Sight.{scalar, held_reference, holds_null, static_is_null}
 use Rattle.source.specs.Thread.{Shared, Thread}
-use Rattle.source.specs.Value.{Int}
-use Rattle.source.specs.Variable.{Variable, Scalar, LocalRef, StaticReference}
+use Rattle.source.specs.Value.{Int, Gives}
+use Rattle.source.specs.Variable.{Variable, Scalar, LocalRef, StaticReference, Empty, Live, Deleted}
 use Rattle.code.specs.Depth.{Listing}
 use Rattle.code_generator.specs.Layout.{Slot, Known, parameter_slot, parameter_slots, numbers_after, references_after, numbers_of, references_of, entry_names, entry_layout}
-use Rattle.lower.specs.Slots.{visible_to, kind_of_variable, Slots, ShowsSlot, Shows, ArgumentFits, ArgumentsFit, argument_word, argument_reference, EntrySlots, AreNull}
+use Rattle.lower.specs.Slots.{visible_to, type_of_array, kind_of_variable, is_empty, Slots, ShowsSlot, Shows, ArgumentFits, ArgumentsFit, argument_word, argument_reference, EntrySlots, AreShared}
 use Rattle.lower.specs.Fits.{AreStatics}
 use Rattle.lower.proofs.CodePlaces.{get-append_seam}
 
@@ -117,7 +117,13 @@ in_both x ((y, slot) ∷ a) b o is s h =
       | false ↦ λ e k. in_both x a b o e s k
     ] is h
 
-module _ (statics : Known) (f : Function) (code : Listing) (known : AreStatics statics) (shared : Shared) (thread : Thread) (calls : List Invocation) (class : ℕ) (arguments : List ObjectValue) (slots : Slots) (fit : ArgumentsFit f.parameters arguments) (entry : EntrySlots code class arguments slots) (null : AreNull statics shared) where
+-- whether a static is NULL
+pub null_of : (h : StaticReference) → static_is_null (Some h) ≡ Gives (is_empty h)
+null_of Empty = refl
+null_of (Live n) = refl
+null_of Deleted = refl
+
+module _ (statics : Known) (f : Function) (code : Listing) (known : AreStatics statics) (shared : Shared) (thread : Thread) (calls : List Invocation) (class : ℕ) (arguments : List ObjectValue) (slots : Slots) (fit : ArgumentsFit f.parameters arguments) (entry : EntrySlots code class arguments slots) (there : AreShared statics shared) where
   found_shown : (x : Identifier) (s : Slot) → Found slots s (lookup x ((f.class_name, LocalRef 1 (Some class)) ∷ parameter_variables (zip f.parameters arguments))) → ShowsSlot (visible_to shared (entered thread calls f class arguments)) x slots s s.sort
   found_shown x s (inl (z, i, is, variable, fits, there)) =
       subst (λ (t : Slot). ShowsSlot (visible_to shared (entered thread calls f class arguments)) x slots t t.sort) (sym is) (record { value = Int z; is = ap scalar variable; kind = ap kind_of_variable variable; sort = (fits, refl); word = there })
@@ -152,11 +158,13 @@ module _ (statics : Known) (f : Function) (code : Listing) (known : AreStatics s
   static_shown : (x : Identifier) (s : Slot) → lookup x (entry_names f) ≡ None → lookup x statics ≡ Some s → ShowsSlot (visible_to shared (entered thread calls f class arguments)) x slots s s.sort
   static_shown x s none at =
       let variable = entry_none x none in
-      let empty = null x s at in
+      let held = there x s at in
       let is : s.sort ≡ Global = (known x s at).0 in
       subst (λ (k : Sort). ShowsSlot (visible_to shared (entered thread calls f class arguments)) x slots s k) (sym is) (record {
-        is_null = ap (λ (v : Option Variable). holds_null v (lookup x shared.statics)) variable ∙ ap (λ (v : Option StaticReference). holds_null None v) empty;
-        reference = ap (λ (v : Option Variable). held_reference v (lookup x shared.statics)) variable ∙ ap (λ (v : Option StaticReference). held_reference None v) empty;
+        static = held;
+        no_variable = record { number = ap scalar variable; array_type = ap type_of_array variable; kind = ap kind_of_variable variable };
+        is_null = ap (λ (v : Option Variable). holds_null v (lookup x shared.statics)) variable ∙ ap (λ (v : Option StaticReference). holds_null None v) held.there ∙ null_of held.held;
+        reference = ap (λ (v : Option Variable). held_reference v (lookup x shared.statics)) variable ∙ ap (λ (v : Option StaticReference). held_reference None v) held.there;
       })
 
   either_shown : (x : Identifier) (s : Slot) → (lookup x (entry_names f) ≡ Some s) ⊎ ((lookup x (entry_names f) ≡ None) × (lookup x statics ≡ Some s)) → ShowsSlot (visible_to shared (entered thread calls f class arguments)) x slots s s.sort
@@ -164,13 +172,13 @@ module _ (statics : Known) (f : Function) (code : Listing) (known : AreStatics s
   either_shown x s (inr h) = static_shown x s h.0 h.1
 
 -- the slots at the entry show the class, the arguments and the statics
-pub entry_shows : (statics : Known) (f : Function) (code : Listing) → AreStatics statics → (shared : Shared) (thread : Thread) (calls : List Invocation) (class : ℕ) (arguments : List ObjectValue) (slots : Slots) → ArgumentsFit f.parameters arguments → EntrySlots code class arguments slots → AreNull statics shared
+pub entry_shows : (statics : Known) (f : Function) (code : Listing) → AreStatics statics → (shared : Shared) (thread : Thread) (calls : List Invocation) (class : ℕ) (arguments : List ObjectValue) (slots : Slots) → ArgumentsFit f.parameters arguments → EntrySlots code class arguments slots → AreShared statics shared
     → Shows code (entry_layout statics f).known (visible_to shared (entered thread calls f class arguments)) slots
-entry_shows statics f code known shared thread calls class arguments slots fit entry null = record {
+entry_shows statics f code known shared thread calls class arguments slots fit entry there = record {
   numbers = entry.numbers;
   references = entry.references;
   fields = entry.fields;
-  each = λ x s at. either_shown statics f code known shared thread calls class arguments slots fit entry null x s (in_both x (entry_names f) statics (lookup x (entry_names f)) refl s at);
+  each = λ x s at. either_shown statics f code known shared thread calls class arguments slots fit entry there x s (in_both x (entry_names f) statics (lookup x (entry_names f)) refl s at);
 }
 
 -- ---- room for the arguments

@@ -200,7 +200,7 @@ return_length known line (ReferenceResult r) e h fits = reference_returned known
 
 test_length : (known : Known) (line : ℕ) (test : Test) → TestFits known test → length (test_code known line test) + 1 ≡ test_steps test
 test_length known line (TestExpr e) h = let inside = expr_length known line e sort.Truth h in omega arith
-test_length known line (TestCall c) h = absurd h
+test_length known line (TestCall c) h = ap (λ n. n + 1) (call_length known line destination.Test c h.fits)
 
 if_length : (known : Known) (line : ℕ) (test : Test) (then' else' : List Instr) (m n : ℕ) → TestFits known test → length then' ≡ m → length else' ≡ n → length (if_code known line test then' else') ≡ test_steps test + (m + 1) + (n + 1)
 if_length known line test then' else' m n h first second =

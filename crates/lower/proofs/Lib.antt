@@ -1,5 +1,7 @@
 pub mod CodePlaces
+pub mod StaticPlaces
 pub mod SlotLaws
+pub mod StaticLaws
 pub mod TermSteps
 pub mod ElementWords
 pub mod Layouts

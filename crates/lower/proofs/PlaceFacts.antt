@@ -109,14 +109,14 @@ is_kept returns known taken s none =
       modes = or_left (p BadMode) (list_any p (ReadOnlyWrite ∷ [])) copies;
     }
 
--- ---- places inside
-
--- the name of a static isn't taken
+-- the name of a static that breaks no rule isn't taken
 pub static_kept : (line : ℕ) (known : Scope) (taken : List Identifier) (returns : ResultType) (g : Static) → broken_at (record { line = line; known = known; taken = taken; returns = returns; form = StaticForm g }) ≡ [] → has_name taken g.name ≡ false
 static_kept line known taken returns g none =
     let place : Place = record { line = line; known = known; taken = taken; returns = returns; form = StaticForm g } in
     let p : SortRule → Bool = λ rule. breaks rule place place.form in
     or_left (p DeclaredTwice) (list_any p after_twice) (or_right (p UnknownName) (list_any p after_names) (none_passes p line sort_rules none))
+
+-- ---- places inside
 
 -- no rule is broken at any of the places
 abbrev pub AreKept : List Place → Type 0

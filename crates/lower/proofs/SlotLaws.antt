@@ -13,8 +13,9 @@ use Rattle.types.specs.Sorts.{Sort, Jint, Ref, Global, FieldId, Buffer, Array}
 use Rattle.types.specs.Sorts as sort
 use Rattle.classes.specs.Fields as source
 use Rattle.source.specs.Object.{Reference}
-use Rattle.source.specs.Task.{VariableKind, ReferenceKind, FieldKind}
-use Rattle.source.specs.Value.{Value, convert}
+use Rattle.source.specs.Task.{VariableKind, ScalarKind, ReferenceKind, FieldKind, BufferKind}
+use Rattle.source.specs.Value.{Value, Gives, convert}
+use Rattle.source.specs.Variable.{StaticReference, Empty, Statics, assign}
 use Rattle.code.specs.declared.instr.NullableVariable.{NullableVariable}
 use Rattle.code.specs.declared.instr.NullableVariable.TheVariants as nullable
 use Rattle.code.specs.Depth.{Listing}
@@ -22,9 +23,10 @@ use Rattle.code.specs.Effect.{cleared}
 use Rattle.code.proofs.Arrays.{cleared_element, cleared_before, cleared_after}
 use Rattle.code_generator.specs.Layout.{Slot, Known}
 use Rattle.code_generator.specs.Coding.{nullable_of}
-use Rattle.lower.specs.Slots.{word_of, ValueHasSort, IsNumberSort, Visible, IsAsBefore, OthersStay, IsSet, IsNulled, IsReferred, IsFieldSet, IsMade, IsElementSet, Slots, ShowsNumber, ShowsElement, ShowsSlot, Shows, with_null}
+use Rattle.lower.specs.Slots.{word_of, ValueHasSort, IsNumberSort, Visible, IsAsBefore, OthersStay, IsSet, IsNulled, IsReferred, IsFieldSet, IsMade, IsElementSet, IsHeld, HasNoVariable, is_empty, nulled_statics, static_index, Slots, ShowsNumber, ShowsElement, ShowsStatic, ShowsSlot, Shows, with_null}
 use Rattle.lower.specs.Fits.{IsPlaceOf, IsOwn, IndexWithin}
 use Rattle.lower.specs.Stands.{AreAmong, IsSlotOf}
+use Rattle.lower.proofs.StaticPlaces.{StaticStays, statics_stay, assigned_stays, assigned_place, assigned_held, same_name}
 
 -- ---- a slot is written
 
@@ -58,6 +60,11 @@ known_among x s known at y t h =
       | false ↦ λ e. h
     ] refl
 
+-- and those with it among them
+pub known_again : (x : Identifier) (s : Slot) (known : Known) → lookup x known ≡ Some s → AreAmong ((x, s) ∷ known) known
+known_again x s known at y t h =
+    first_or_after x y s t known (lookup y known ≡ Some t) (λ same is. ap (λ (z : Identifier). lookup z known) same ∙ at ∙ ap (λ (q : Slot). Some q) is) (λ other there. there) h
+
 -- so are names that have not this one
 pub new_among : (x : Identifier) (s : Slot) (known : Known) → lookup x known ≡ None → AreAmong known ((x, s) ∷ known)
 new_among x s known new y t h =
@@ -88,16 +95,21 @@ module _ (old new : Visible) (x : Identifier) (slots slots' : Slots) (same : IsA
   number_stays kind i word h = record { value = h.value; is = same.number ∙ h.is; kind = same.kind ∙ h.kind; sort = h.sort; word = word ∙ h.word }
 
   pub slot_stays : (kind : Sort) (i : ℕ) → ((k : ℕ) → IsPlaceOf (record { sort = kind; index = i }) k → slice_get slots'.numbers k ≡ slice_get slots.numbers k) → (kind ≡ Ref → slice_get slots'.references i ≡ slice_get slots.references i) → (kind ≡ FieldId → slice_get slots'.fields i ≡ slice_get slots.fields i)
-      → ShowsSlot old x slots (record { sort = kind; index = i }) kind → ShowsSlot new x slots' (record { sort = kind; index = i }) kind
-  slot_stays sort.Word i numbers references fields h = number_stays sort.Word i (numbers i (omega arith, omega arith)) h
-  slot_stays Jint i numbers references fields h = number_stays Jint i (numbers i (omega arith, omega arith)) h
-  slot_stays sort.Flag i numbers references fields h = number_stays sort.Flag i (numbers i (omega arith, omega arith)) h
-  slot_stays sort.Truth i numbers references fields h = tt
-  slot_stays Ref i numbers references fields h = record { reference = h.reference; is = same.reference ∙ h.is; is_null = same.is_null ∙ h.is_null; no_number = same.number ∙ h.no_number; kind = same.kind ∙ h.kind; there = references refl ∙ h.there }
-  slot_stays Global i numbers references fields h = record { is_null = same.is_null ∙ h.is_null; reference = same.reference ∙ h.reference }
-  slot_stays FieldId i numbers references fields h = record { field = h.field; is = same.field ∙ h.is; is_null = same.is_null ∙ h.is_null; no_number = same.number ∙ h.no_number; kind = same.kind ∙ h.kind; there = fields refl ∙ h.there }
-  slot_stays (Buffer t writable) i numbers references fields h = same.is_null ∙ h
-  slot_stays (Array t size) i numbers references fields h = record {
+      → (kind ≡ Global → StaticStays old.statics new.statics x) → ShowsSlot old x slots (record { sort = kind; index = i }) kind → ShowsSlot new x slots' (record { sort = kind; index = i }) kind
+  slot_stays sort.Word i numbers references fields statics h = number_stays sort.Word i (numbers i (omega arith, omega arith)) h
+  slot_stays Jint i numbers references fields statics h = number_stays Jint i (numbers i (omega arith, omega arith)) h
+  slot_stays sort.Flag i numbers references fields statics h = number_stays sort.Flag i (numbers i (omega arith, omega arith)) h
+  slot_stays sort.Truth i numbers references fields statics h = tt
+  slot_stays Ref i numbers references fields statics h = record { reference = h.reference; is = same.reference ∙ h.is; is_null = same.is_null ∙ h.is_null; no_number = same.number ∙ h.no_number; kind = same.kind ∙ h.kind; there = references refl ∙ h.there }
+  slot_stays Global i numbers references fields statics h = record {
+    static = record { place = (statics refl).place ∙ h.static.place; held = h.static.held; there = (statics refl).there ∙ h.static.there };
+    no_variable = record { number = same.number ∙ h.no_variable.number; array_type = same.array_type ∙ h.no_variable.array_type; kind = same.kind ∙ h.no_variable.kind };
+    is_null = same.is_null ∙ h.is_null;
+    reference = same.reference ∙ h.reference;
+  }
+  slot_stays FieldId i numbers references fields statics h = record { field = h.field; is = same.field ∙ h.is; is_null = same.is_null ∙ h.is_null; no_number = same.number ∙ h.no_number; kind = same.kind ∙ h.kind; there = fields refl ∙ h.there }
+  slot_stays (Buffer t writable) i numbers references fields statics h = record { is_null = same.is_null ∙ h.is_null; kind = same.kind ∙ h.kind }
+  slot_stays (Array t size) i numbers references fields statics h = record {
     few = h.few;
     array_type = same.array_type ∙ h.array_type;
     elements = λ k below.
@@ -107,7 +119,7 @@ module _ (old new : Visible) (x : Identifier) (slots slots' : Slots) (same : IsA
   }
 
 -- A name has this slot, which it shows, and the others are as they were.
-module _ (code : Listing) (known : Known) (old new : Visible) (slots slots' : Slots) (x : Identifier) (s : Slot) (shows : Shows code known old slots) (own : IsOwn known x s) (others : OthersStay old new x) where
+module _ (code : Listing) (known : Known) (old new : Visible) (slots slots' : Slots) (x : Identifier) (s : Slot) (shows : Shows code known old slots) (own : IsOwn known x s) (others : OthersStay old new x) (statics : (y : Identifier) → y ≢ x → StaticStays old.statics new.statics y) where
   pub with_changed : length slots'.numbers ≡ length slots.numbers → length slots'.references ≡ length slots.references → length slots'.fields ≡ length slots.fields → ((k : ℕ) → (IsPlaceOf s k → ⊥) → slice_get slots'.numbers k ≡ slice_get slots.numbers k)
       → ((i : ℕ) → (s.sort ≡ Ref → i ≢ s.index) → slice_get slots'.references i ≡ slice_get slots.references i)
       → ((i : ℕ) → (s.sort ≡ FieldId → i ≢ s.index) → slice_get slots'.fields i ≡ slice_get slots.fields i) → ShowsSlot new x slots' s s.sort → Shows code ((x, s) ∷ known) new slots'
@@ -124,6 +136,7 @@ module _ (code : Listing) (known : Known) (old new : Visible) (slots slots' : Sl
         (λ k p. number k (λ q. apart.numbers k p q))
         (λ e. reference t.index (λ e'. apart.references e e'))
         (λ e. field t.index (λ e'. apart.fields e e'))
+        (λ e. statics y other)
         (shows.each y t h)) at;
   }
 
@@ -148,7 +161,7 @@ pub shows_set : (code : Listing) (known : Known) (old new : Visible) (slots : Sl
     → Shows code ((x, s) ∷ known) new (record slots { numbers = slice_set slots.numbers s.index (word_of v) })
 shows_set code known old new slots x s v shows own n fits set =
     let below : s.index < length slots.numbers = omega (arith, number_below code known x s n own, shows.numbers) in
-    with_changed code known old new slots (record slots { numbers = slice_set slots.numbers s.index (word_of v) }) x s shows own.own set.others
+    with_changed code known old new slots (record slots { numbers = slice_set slots.numbers s.index (word_of v) }) x s shows own.own set.others (λ y other. statics_stay old.statics new.statics set.statics y)
     (length-set slots.numbers s.index (word_of v)) refl refl
     (λ k outside. get-set_other slots.numbers s.index k (word_of v) (λ e. outside (subst (IsPlaceOf s) (sym e) (number_place s n))))
     (λ i other. refl) (λ i other. refl)
@@ -160,7 +173,7 @@ pub shows_referred : (code : Listing) (known : Known) (old new : Visible) (slots
     → Shows code ((x, record { sort = Ref; index = i }) ∷ known) new (record slots { references = slice_set slots.references i r })
 shows_referred code known old new slots x i r shows own set =
     let below : i < length slots.references = omega (arith, own.within, shows.references) in
-    with_changed code known old new slots (record slots { references = slice_set slots.references i r }) x (record { sort = Ref; index = i }) shows own.own set.others
+    with_changed code known old new slots (record slots { references = slice_set slots.references i r }) x (record { sort = Ref; index = i }) shows own.own set.others (λ y other. statics_stay old.statics new.statics set.statics y)
     refl (length-set slots.references i r) refl (λ k outside. refl) (λ j other. get-set_other slots.references i j r (other refl)) (λ j other. refl)
     (record { reference = r; is = set.reference; is_null = set.is_null; no_number = set.number; kind = set.kind; there = get-set_same slots.references i r below })
 
@@ -168,36 +181,90 @@ pub shows_field_set : (code : Listing) (known : Known) (old new : Visible) (slot
     → Shows code ((x, record { sort = FieldId; index = i }) ∷ known) new (record slots { fields = slice_set slots.fields i f })
 shows_field_set code known old new slots x i f shows own set =
     let below : i < length slots.fields = omega (arith, own.within, shows.fields) in
-    with_changed code known old new slots (record slots { fields = slice_set slots.fields i f }) x (record { sort = FieldId; index = i }) shows own.own set.others
+    with_changed code known old new slots (record slots { fields = slice_set slots.fields i f }) x (record { sort = FieldId; index = i }) shows own.own set.others (λ y other. statics_stay old.statics new.statics set.statics y)
     refl refl (length-set slots.fields i f) (λ k outside. refl) (λ j other. refl) (λ j other. get-set_other slots.fields i j f (other refl))
     (record { field = f; is = set.field; is_null = set.is_null; no_number = set.number; kind = set.kind; there = get-set_same slots.fields i f below })
 
+-- ---- a static holds something else
+
+others_assigned : (old new : Visible) (x y : Identifier) (h : StaticReference) → new.statics ≡ assign x h old.statics → y ≢ x → StaticStays old.statics new.statics y
+others_assigned old new x y h is other =
+    let stays = assigned_stays x y h old.statics other in
+    record { place = ap (static_index y) is ∙ stays.place; there = ap (λ (ss : Statics). lookup y ss) is ∙ stays.there }
+
+-- the static that is assigned shows what it holds then
+static_holds : (old new : Visible) (x : Identifier) (i : ℕ) (h : StaticReference) → ShowsStatic old x i → new.statics ≡ assign x h old.statics → HasNoVariable new x → new.sight.is_null x ≡ Gives (is_empty h) → new.sight.reference x ≡ h → ShowsStatic new x i
+static_holds old new x i h shown is none is_null reference =
+    record {
+      static = record { place = ap (static_index x) is ∙ assigned_place x h i old.statics shown.static.place; held = h; there = ap (λ (ss : Statics). lookup x ss) is ∙ assigned_held x h old.statics };
+      no_variable = none;
+      is_null = is_null;
+      reference = reference;
+    }
+
+-- a name that no variable has is known as a static, if at all
+no_variable_shown : (old new : Visible) (x : Identifier) (slots : Slots) (h : StaticReference) (s : Slot) (kind : Sort) → IsHeld old x h new → ShowsSlot old x slots s kind → ShowsSlot new x slots s kind
+no_variable_shown old new x slots h s sort.Word held shown = absurd (let e : Some ScalarKind ≡ None = sym shown.kind ∙ held.before.kind in cc)
+no_variable_shown old new x slots h s Jint held shown = absurd (let e : Some ScalarKind ≡ None = sym shown.kind ∙ held.before.kind in cc)
+no_variable_shown old new x slots h s sort.Flag held shown = absurd (let e : Some ScalarKind ≡ None = sym shown.kind ∙ held.before.kind in cc)
+no_variable_shown old new x slots h s sort.Truth held shown = tt
+no_variable_shown old new x slots h s Ref held shown = absurd (let e : Some ReferenceKind ≡ None = sym shown.kind ∙ held.before.kind in cc)
+no_variable_shown old new x slots h s Global held shown = static_holds old new x s.index h shown held.statics held.after held.is_null held.reference
+no_variable_shown old new x slots h s FieldId held shown = absurd (let e : Some FieldKind ≡ None = sym shown.kind ∙ held.before.kind in cc)
+no_variable_shown old new x slots h s (Buffer t writable) held shown = absurd (let e : Some (BufferKind t) ≡ None = sym shown.kind ∙ held.before.kind in cc)
+no_variable_shown old new x slots h s (Array t size) held shown = absurd (let e : Some t ≡ None = sym shown.array_type ∙ held.before.array_type in cc)
+
+-- the slots show each known name still, once a static holds something else
+pub static_changes : (code : Listing) (known : Known) (old new : Visible) (slots : Slots) (x : Identifier) (h : StaticReference) → Shows code known old slots → IsHeld old x h new → Shows code known new slots
+static_changes code known old new slots x h shows held = record {
+  numbers = shows.numbers;
+  references = shows.references;
+  fields = shows.fields;
+  each = λ y s at.
+      elim (bytes_eq y x) as (λ b. bytes_eq y x ≡ b → ShowsSlot new y slots s s.sort) [
+        | true ↦ λ e.
+            let same : y ≡ x = same_name y x e in
+            subst (λ (z : Identifier). ShowsSlot new z slots s s.sort) (sym same) (no_variable_shown old new x slots h s s.sort held (subst (λ (z : Identifier). ShowsSlot old z slots s s.sort) same (shows.each y s at)))
+        | false ↦ λ e.
+            let other : y ≢ x = not_from_Decides (bytes_eq y x) (bytes_eq-Decides y x) e in
+            slot_stays old new y slots slots (held.others y other) s.sort s.index (λ k p. refl) (λ r. refl) (λ r. refl) (λ r. others_assigned old new x y h held.statics other) (shows.each y s at)
+      ] refl;
+}
+
 -- ---- a variable is made NULL
 
--- the kind of a local reference or a field ID
-abbrev pub KindFits : Sort → Option VariableKind → Type 0
-KindFits Ref kind = kind ≡ Some ReferenceKind
-KindFits FieldId kind = kind ≡ Some FieldKind
-KindFits s kind = Unit {0}
+-- the kind of what can be NULL; a static, which has none, is there at its place
+abbrev pub KindFits : Visible → Identifier → (i : ℕ) → Sort → Option VariableKind → Type 0
+KindFits visible x i Ref kind = kind ≡ Some ReferenceKind
+KindFits visible x i Global kind = (kind ≡ None) × ShowsStatic visible x i
+KindFits visible x i FieldId kind = kind ≡ Some FieldKind
+KindFits visible x i (Buffer t writable) kind = kind ≡ Some (BufferKind t)
+KindFits visible x i s kind = Unit {0}
+
+-- the statics stay where NULL goes to a variable of some kind
+nulled_stay : (old new : Visible) (x : Identifier) (kind : Option VariableKind) (k : VariableKind) → kind ≡ Some k → new.statics ≡ nulled_statics kind x old.statics → new.statics ≡ old.statics
+nulled_stay old new x kind k is same = same ∙ ap (λ (o : Option VariableKind). nulled_statics o x old.statics) is
 
 pub shows_nulled : (code : Listing) (known : Known) (old new : Visible) (slots : Slots) (x : Identifier) (s : Sort) (kind : Option VariableKind) (i : ℕ) (variable : NullableVariable) → Shows code known old slots → IsSlotOf code known x (record { sort = s; index = i }) → nullable_of s i ≡ Some variable
-    → KindFits s kind → IsNulled old kind x new → Shows code ((x, record { sort = s; index = i }) ∷ known) new (with_null variable slots)
+    → KindFits old x i s kind → IsNulled old kind x new → Shows code ((x, record { sort = s; index = i }) ∷ known) new (with_null variable slots)
 shows_nulled code known old new slots x Ref kind i variable shows own same e set =
     let is : nullable.Local i ≡ variable = cc in
     subst (λ v. Shows code ((x, record { sort = Ref; index = i }) ∷ known) new (with_null v slots)) is
-    (shows_referred code known old new slots x i None shows own (record { number = set.number; is_null = set.is_null; reference = set.reference; kind = set.same_kind ∙ e; others = set.others }))
+    (shows_referred code known old new slots x i None shows own (record { number = set.number; is_null = set.is_null; reference = set.reference; kind = set.same_kind ∙ e; statics = nulled_stay old new x kind ReferenceKind e set.statics; others = set.others }))
 shows_nulled code known old new slots x Global kind i variable shows own same e set =
     let is : nullable.Static i ≡ variable = cc in
+    let assigned : new.statics ≡ assign x Empty old.statics = set.statics ∙ ap (λ (o : Option VariableKind). nulled_statics o x old.statics) e.0 in
     subst (λ v. Shows code ((x, record { sort = Global; index = i }) ∷ known) new (with_null v slots)) is
-    (with_changed code known old new slots slots x (record { sort = Global; index = i }) shows own.own set.others refl refl refl (λ k outside. refl) (λ j other. refl) (λ j other. refl) (record { is_null = set.is_null; reference = set.reference }))
+    (with_changed code known old new slots slots x (record { sort = Global; index = i }) shows own.own set.others (λ y other. others_assigned old new x y Empty assigned other) refl refl refl (λ k outside. refl) (λ j other. refl) (λ j other. refl)
+    (static_holds old new x i Empty e.1 assigned (record { number = set.number; array_type = set.array_type; kind = set.same_kind ∙ e.0 }) set.is_null set.reference))
 shows_nulled code known old new slots x FieldId kind i variable shows own same e set =
     let is : nullable.FieldId i ≡ variable = cc in
     subst (λ v. Shows code ((x, record { sort = FieldId; index = i }) ∷ known) new (with_null v slots)) is
-    (shows_field_set code known old new slots x i None shows own (record { number = set.number; is_null = set.is_null; field = set.field; kind = set.same_kind ∙ e; others = set.others }))
+    (shows_field_set code known old new slots x i None shows own (record { number = set.number; is_null = set.is_null; field = set.field; kind = set.same_kind ∙ e; statics = nulled_stay old new x kind FieldKind e set.statics; others = set.others }))
 shows_nulled code known old new slots x (Buffer t writable) kind i variable shows own same e set =
     let is : nullable.Buffer i ≡ variable = cc in
     subst (λ v. Shows code ((x, record { sort = Buffer t writable; index = i }) ∷ known) new (with_null v slots)) is
-    (with_changed code known old new slots slots x (record { sort = Buffer t writable; index = i }) shows own.own set.others refl refl refl (λ k outside. refl) (λ j other. refl) (λ j other. refl) set.is_null)
+    (with_changed code known old new slots slots x (record { sort = Buffer t writable; index = i }) shows own.own set.others (λ y other. statics_stay old.statics new.statics (nulled_stay old new x kind (BufferKind t) e set.statics) y) refl refl refl (λ k outside. refl) (λ j other. refl) (λ j other. refl) (record { is_null = set.is_null; kind = set.same_kind ∙ e }))
 shows_nulled code known old new slots x s kind i variable shows own same e set = absurd (cc)
 
 -- ---- a local array
@@ -223,7 +290,7 @@ pub shows_made : (code : Listing) (known : Known) (old new : Visible) (slots : S
     → Shows code ((x, record { sort = Array t size; index = start }) ∷ known) new (record slots { numbers = cleared (record { start = start; len = size }) slots.numbers })
 shows_made code known old new slots t x size start shows own keeps made =
     let inside : start + size ≤ length slots.numbers = omega (arith, own.within.2, shows.numbers) in
-    with_changed code known old new slots (record slots { numbers = cleared (record { start = start; len = size }) slots.numbers }) x (record { sort = Array t size; index = start }) shows own.own made.others
+    with_changed code known old new slots (record slots { numbers = cleared (record { start = start; len = size }) slots.numbers }) x (record { sort = Array t size; index = start }) shows own.own made.others (λ y other. statics_stay old.statics new.statics made.statics y)
     keeps refl refl
     (λ k outside. cleared_outside t size start k slots.numbers inside outside (nat_lt k start) refl)
     (λ i other. refl) (λ i other. refl)
@@ -253,7 +320,7 @@ shows_element_set code known old new slots t x size start index z word shows at 
     let array = shows.each x (record { sort = Array t size; index = start }) at in
     let inside : start + index < length slots.numbers = omega (arith, own.within.2, shows.numbers, below) in
     fewer_shown code known ((x, record { sort = Array t size; index = start }) ∷ known) new (record slots { numbers = slice_set slots.numbers (start + index) word }) (known_among x (record { sort = Array t size; index = start }) known at)
-    (with_changed code known old new slots (record slots { numbers = slice_set slots.numbers (start + index) word }) x (record { sort = Array t size; index = start }) shows own.own set.others
+    (with_changed code known old new slots (record slots { numbers = slice_set slots.numbers (start + index) word }) x (record { sort = Array t size; index = start }) shows own.own set.others (λ y other. statics_stay old.statics new.statics set.statics y)
     (length-set slots.numbers (start + index) word) refl refl
     (λ k outside. get-set_other slots.numbers (start + index) k word (λ e. outside (omega (arith, e), omega (arith, e, below))))
     (λ i other. refl) (λ i other. refl)

@@ -9,7 +9,7 @@ use Rattle.syntax.specs.Parts.{call_of_right_side, argument_expressions, call_ex
 use Rattle.syntax.specs.Tree as tree
 use Rattle.syntax.specs.Tree.{ResultType, Void, IntResult, ReferenceResult, Expr, Argument, Call, RightSide, FromExpr, FromCall, Test, TestExpr, TestCall, Stmt}
 use Rattle.jni.specs.JniFunction.{Access, ElementsCopy, ArrayView, CharsCopy, CharsView}
-use Rattle.jni.specs.Prototype.{ParameterKind, Nullable, NonNull, ClassObject, ObjectArray, StringObject, NumberArray, LocalVariable, StaticVariable, FieldID, IntNumber, TextBytes, ArrayVariable, BufferVariable, Mode, IsCopy, ResultKind, NewLocal, GivesFlag, GivesInt, GivesField, GivesNothing, function_named, prototype}
+use Rattle.jni.specs.Prototype.{ParameterKind, Nullable, NonNull, ClassObject, ObjectArray, StringObject, NumberArray, LocalVariable, StaticVariable, FieldID, IntNumber, TextBytes, ArrayVariable, BufferVariable, Mode, IsCopy, ResultKind, NewLocal, NewGlobal, GivesFlag, GivesInt, GivesField, GivesNothing, function_named, prototype}
 use Rattle.types.specs.Sorts.{Sort, Word, Jint, Flag, Truth, Ref, Global, FieldId, Buffer, Array, sort_in, sort_of, is_word, is_jint, is_flag, is_truth, is_index, has_elements, is_null, is_ref, is_field, is_reference, is_array_of, is_buffer_for, name_sort, text_fits, address_fits, argument_fits, arguments_fit, call_arguments_fit}
 use Rattle.types.specs.SortRules.{result_fits, is_push, call_fits, may_be_tested, value_sets, right_side_sets, buffer_begins, test_fits, return_fits, has_wrong_count, has_wrong_mode, is_mode, is_mode_parameter, modes_fit, copies_reference}
 use Rattle.source.specs.Term as term
@@ -19,7 +19,7 @@ use Rattle.code_generator.specs.Layout.{Slot, Known}
 use Rattle.lower.specs.Fits.{IsVariable, IsArray, IsIndexSort, NumberFits, IsReferenceKind, ReferenceFits, FieldFits, ArrayFits, BufferFits, ArgumentFits, CallFits, ResultFits, CallGives, ValueFits, RightFits, TestFits, ReturnFits}
 use Rattle.lower.proofs.SortFacts.{scope_of, slot_of_name, HasNoTruth, IsNoBuffer, IsFine, elements, indexed, index_is_value, number_fits}
 use Rattle.lower.proofs.PlaceFacts.{and_left, and_right, not_false}
-use Rattle.lower.proofs.BuiltCalls.{BuiltCall, built_call, is_taken, result_taken, is_not_tested}
+use Rattle.lower.proofs.BuiltCalls.{BuiltCall, built_call, is_taken, result_taken, is_tested}
 use Rattle.lower.proofs.BufferFacts.{IsBuilt, AreFree, AreNotFree, elements_fit, both_not_free}
 
 -- ---- sorts by their tests
@@ -237,6 +237,8 @@ module _ (known : Known) where
     result_sort o GivesInt taken h = (Jint, jint_is o h, refl)
     result_sort o GivesFlag taken h = (Flag, flag_is o h, refl)
     result_sort o NewLocal taken h = (Ref, ref_is o h, refl)
+    result_sort (Some Global) NewGlobal taken h = (Global, refl, refl)
+    result_sort o NewGlobal taken h = absurd (cc)
     result_sort o GivesField taken h = (FieldId, field_is o h, refl)
     result_sort o GivesNothing taken h = absurd (cc)
     result_sort o gives taken h = absurd (cc)
@@ -313,11 +315,14 @@ module _ (known : Known) where
     pub truth_fits : (e : Expr) → IsFine known e → is_truth (sort_of (scope_of known) e) ≡ true → NumberFits known (term_of e) Truth
     truth_fits e fine h = number_fits known e Truth no_truth fine (truth_is (sort_of (scope_of known) e) h) tt
 
-    pub tested_fits : (test : Test) → AreFine known (test_expressions test) → ((c : Call) → test ≡ TestCall c → IsBuilt (Some c)) → test_fits (scope_of known) test ≡ true → TestFits known test
-    tested_fits (TestExpr e) fine built h = truth_fits e fine.0 h
-    tested_fits (TestCall c) fine built h =
-        let is = built_call c (not_false _ (built c refl)) in
-        absurd (let e : false ≡ true = sym (is_not_tested is.function is.built) ∙ sym (ap may_be_tested is.named) ∙ h in cc)
+    pub tested_fits : (test : Test) → AreFine known (test_expressions test) → ((c : Call) → test ≡ TestCall c → CallHolds known (Some c)) → test_fits (scope_of known) test ≡ true → TestFits known test
+    tested_fits (TestExpr e) fine holds h = truth_fits e fine.0 h
+    tested_fits (TestCall c) fine holds h =
+        let call = holds c refl in
+        let is = built_call c (not_false _ call.built) in
+        let fits = fits_with c call is in
+        let gives : (prototype fits.0.function).result ≡ GivesInt = ap (λ f. (prototype f).result) fits.1 ∙ is_tested is.function (sym (ap may_be_tested is.named) ∙ h) in
+        record { fits = fits.0; result = subst (ResultFits Jint) (sym gives) refl }
 
     return_number : (t : Term) → NumberFits known t Jint → ReturnFits known t
     return_number (term.Named tree.Null) h = tt

@@ -1,5 +1,5 @@
 -- The instruction at a place does what the first task there does.
-use Rattle.std.proofs.Common.{◌≡◌, ℕ, ◌+◌, ◌<◌, ◌≤◌, ◌⊎◌, inl, inr, Bool, true, List, [], ◌∷◌, ◌++◌, length, Some, refl, sym, ap, ◌∙◌, subst, arith, append_assoc, length-append}
+use Rattle.std.proofs.Common.{◌≡◌, ℕ, ◌+◌, ◌<◌, ◌≤◌, ◌⊎◌, inl, inr, Bool, true, List, [], ◌∷◌, ◌++◌, length, Some, refl, sym, ap, ◌∙◌, subst, arith, append_assoc, length-append, Option}
 use Rattle.std.specs.Prelude.{slice_set, is_none, IsTrue}
 use Rattle.std.specs.List.{list_any}
 use Rattle.std.specs.Int.{w32, cast_unsigned}
@@ -10,6 +10,7 @@ use Rattle.base.specs.Bytes.{Identifier}
 use Rattle.types.specs.Sorts.{Sort, Jint, Ref, Global, FieldId, Buffer, Array}
 use Rattle.types.specs.Sorts as sort
 use Rattle.code.specs.declared.instr.NullableVariable.{NullableVariable}
+use Rattle.code.specs.declared.instr.NullableVariable.TheVariants as nullable
 use Rattle.code.specs.declared.instr.Instr.{Instr}
 use Rattle.code.specs.declared.instr.Instr.TheVariants as instr
 use Rattle.code.specs.declared.instr.Plain.{Plain}
@@ -24,10 +25,10 @@ use Rattle.source.specs.Term.{Term, Done, reduce}
 use Rattle.source.specs.Value.{Value, Word, Int, Flag, Truth, Gives}
 use Rattle.code_generator.specs.Layout.{Slot, Known}
 use Rattle.code_generator.specs.Coding.{nullable_of, term_code}
-use Rattle.lower.specs.Slots.{word_of, Visible, Slots, ShowsSlot, Shows}
+use Rattle.lower.specs.Slots.{word_of, is_empty, Visible, Slots, ShowsSlot, Shows}
 use Rattle.lower.specs.Fits.{TermHasSort}
-use Rattle.lower.specs.Stands.{held, IsBegun, HasAt, IsUnderWay, kind_of_sort, GoesTo, TasksStand, StandsFor, task_returns}
-use Rattle.lower.specs.Does.{AtEnd, Works, CanBeNull, kind_of_target, DoesEffect}
+use Rattle.lower.specs.Stands.{held, IsBegun, HasAt, IsUnderWay, kind_of_sort, GoesTo, target_name, TasksStand, StandsFor, task_returns}
+use Rattle.lower.specs.Does.{AtEnd, Works, CanBeNull, kind_of_target, IsStoredIn, DoesEffect}
 use Rattle.lower.proofs.SlotLaws.{fewer_shown, number_below, shows_set, KindFits, shows_nulled, shows_made}
 use Rattle.lower.proofs.CodePlaces.{has_back}
 use Rattle.lower.proofs.TermSteps.{IsOpen, LeadsOver, TermGoes, TermTraps, steps_term}
@@ -69,7 +70,7 @@ module _ (code : Listing) (known : Known) (place : ℕ) (stack : List ℕ) (slot
           way = g.way;
           after = held g.next ++ base;
           at = whole.0;
-          works = subst (λ a. Works slots here a g.way (held g.next ++ base)) (sym operands) (g.works base);
+          works = subst (λ a. Works visible slots here a g.way (held g.next ++ base)) (sym operands) (g.works base);
           names = known;
           shows = shows;
           stands = at_way (λ p. StandsFor code known p (held g.next ++ base) (task g.next ∷ rest)) place g.way g.skipped g.leads (record { stand = further (place + 1 + length g.skipped) g.next g.sort g.begun there size; returns = returns g.next });
@@ -153,9 +154,9 @@ module _ (code : Listing) (known : Known) (place : ℕ) (stack : List ℕ) (slot
   -- what a name with a slot that can be NULL shows
   shown_null : (x : Identifier) (s : Slot) (kind : Sort) (variable : NullableVariable) → nullable_of kind s.index ≡ Some variable → ShowsSlot visible x slots s kind → (null : Bool) × (visible.sight.is_null x ≡ Gives null)
   shown_null x s Ref variable e h = (is_none h.reference, h.is_null)
-  shown_null x s Global variable e h = (true, h.is_null)
+  shown_null x s Global variable e h = (is_empty h.static.held, h.is_null)
   shown_null x s FieldId variable e h = (is_none h.field, h.is_null)
-  shown_null x s (Buffer t writable) variable e h = (true, h)
+  shown_null x s (Buffer t writable) variable e h = (true, h.is_null)
   shown_null x s kind variable e h = absurd (cc)
 
   -- a variable that can be NULL is declared as no number
@@ -172,20 +173,32 @@ module _ (code : Listing) (known : Known) (place : ℕ) (stack : List ℕ) (slot
   can_be_null target s variable e h = absurd h
 
   -- the variable is of its slot's kind
-  declared_kind : (s : Sort) (kind : VariableKind) → kind_of_sort s ≡ Some kind → KindFits s (Some kind)
-  declared_kind Ref kind h = sym h
-  declared_kind FieldId kind h = sym h
-  declared_kind s kind h = tt
+  declared_kind : (x : Identifier) (i : ℕ) (s : Sort) (kind : VariableKind) → kind_of_sort s ≡ Some kind → KindFits visible x i s (Some kind)
+  declared_kind x i Ref kind h = sym h
+  declared_kind x i Global kind h = absurd (cc)
+  declared_kind x i FieldId kind h = sym h
+  declared_kind x i (Buffer t writable) kind h = sym h
+  declared_kind x i s kind h = tt
 
-  shown_kind : (x : Identifier) (s : Slot) (t : Sort) → ShowsSlot visible x slots s t → KindFits t (visible.kind x)
+  shown_kind : (x : Identifier) (s : Slot) (t : Sort) → ShowsSlot visible x slots s t → KindFits visible x s.index t (visible.kind x)
   shown_kind x s Ref h = h.kind
+  shown_kind x s Global h = (h.no_variable.kind, h)
   shown_kind x s FieldId h = h.kind
+  shown_kind x s (Buffer t writable) h = h.kind
   shown_kind x s t h = tt
 
-  kind_fits : (target : Target) (s : Slot) → GoesTo known s target → KindFits s.sort (kind_of_target code known place stack slots visible target)
-  kind_fits (Declared kind x) s h = declared_kind s.sort kind h
-  kind_fits (Assigned x) s h = shown_kind x s s.sort (shows.each x s h)
-  kind_fits target s h = absurd h
+  kind_fits : (target : Target) (name : Identifier) (s : Slot) → target_name target ≡ Some name → GoesTo known s target → KindFits visible name s.index s.sort (kind_of_target code known place stack slots visible target)
+  kind_fits (Declared kind x) name s is h = declared_kind name s.index s.sort kind h
+  kind_fits (Assigned x) name s is h = let same : x ≡ name = cc in subst (λ (y : Identifier). KindFits visible y s.index s.sort (visible.kind x)) same (shown_kind x s s.sort (shows.each x s h))
+  kind_fits target name s is h = absurd h
+
+  -- where a NULL is stored, by what is known of the kind
+  stored_in : (s : Sort) (i : ℕ) (name : Identifier) (kind : Option VariableKind) (variable : NullableVariable) → nullable_of s i ≡ Some variable → KindFits visible name i s kind → IsStoredIn code known place stack slots visible variable kind name
+  stored_in Ref i name kind variable e h = subst (λ (v : NullableVariable). IsStoredIn code known place stack slots visible v kind name) (let is : nullable.Local i ≡ variable = cc in is) h
+  stored_in Global i name kind variable e h = subst (λ (v : NullableVariable). IsStoredIn code known place stack slots visible v kind name) (let is : nullable.Static i ≡ variable = cc in is) h
+  stored_in FieldId i name kind variable e h = subst (λ (v : NullableVariable). IsStoredIn code known place stack slots visible v kind name) (let is : nullable.FieldId i ≡ variable = cc in is) h
+  stored_in (Buffer t writable) i name kind variable e h = subst (λ (v : NullableVariable). IsStoredIn code known place stack slots visible v kind name) (let is : nullable.Buffer i ≡ variable = cc in is) (t, h)
+  stored_in s i name kind variable e h = absurd (cc)
 
   pub null_step : (target : Target) (rest : List Task) → StandsFor code known place stack (SetNull target ∷ rest) → DoesEffect code known place stack slots visible rest (effect_of visible.sight (SetNull target))
   null_step target rest h =
@@ -196,9 +209,10 @@ module _ (code : Listing) (known : Known) (place : ℕ) (stack : List ℕ) (slot
         is = d.is;
         takes = can_be_null target d.slot d.variable d.nullable d.takes;
         variable = d.variable;
+        stored = stored_in d.slot.sort d.slot.index d.name (kind_of_target code known place stack slots visible target) d.variable d.nullable (kind_fits target d.name d.slot d.is d.takes);
         at = d.at;
         names = d.further.0;
-        shows = λ new set. fewer_shown code d.further.0 ((d.name, d.slot) ∷ known) new _ d.further.1 (shows_nulled code known visible new slots d.name d.slot.sort (kind_of_target code known place stack slots visible target) d.slot.index d.variable shows d.own d.nullable (kind_fits target d.slot d.takes) set);
+        shows = λ new set. fewer_shown code d.further.0 ((d.name, d.slot) ∷ known) new _ d.further.1 (shows_nulled code known visible new slots d.name d.slot.sort (kind_of_target code known place stack slots visible target) d.slot.index d.variable shows d.own d.nullable (kind_fits target d.name d.slot d.is d.takes) set);
         stands = record { stand = d.further.2; returns = h.returns };
       }
 

@@ -13,6 +13,8 @@ use Rattle.std.proofs.lemmas.Bool.Decides.{Decides-eqb, Decides-int_eq, same_fro
 use Rattle.syntax.specs.Tree as tree
 use Rattle.syntax.specs.Tree.{PrefixOp, LogicalNot, Complement, ToWord, ToInt, BinaryOp, LogicalOr, LogicalAnd, BitOr, BitXor, BitAnd, Equal, NotEqual, Less, LessEqual, Greater, GreaterEqual, ShiftLeft, ShiftRight, Add, Subtract, Multiply, Divide, Remainder}
 use Rattle.base.specs.Bytes.{Identifier, lookup}
+use Rattle.source.specs.Variable.{StaticReference}
+use Rattle.lower.proofs.StaticPlaces.{there_at}
 use Rattle.base.specs.Element.{ElementType, JInt}
 use Rattle.types.specs.Sorts.{Sort, Jint, Ref, Global, FieldId, Buffer, Array, OperatorGroup, Logic, Equality, Order, OnWords, group, is_jint}
 use Rattle.types.specs.Sorts as sort
@@ -32,7 +34,7 @@ use Rattle.source.specs.Term as term
 use Rattle.source.specs.Term.{Term, Done, Read, IsNull, Prefix, And, Or, Binary, Reduction, done, with_part, reduce}
 use Rattle.code_generator.specs.Layout.{Slot, Known}
 use Rattle.code_generator.specs.Coding.{nullable_of, test_of, null_code, element_code, of_slot, load_code, prefix_code, operator_code, is_signed, skip_code, term_code}
-use Rattle.lower.specs.Slots.{word_of, ValueHasSort, IsNumberSort, Visible, Slots, ShowsNumber, ShowsArray, ShowsSlot, holds_null}
+use Rattle.lower.specs.Slots.{word_of, ValueHasSort, IsNumberSort, Visible, Slots, is_empty, ShowsNumber, ShowsArray, ShowsSlot, holds_null}
 use Rattle.lower.specs.Fits.{IsIndexSort, IsNullable, OperatorFits, TermHasSort, IsUntouched}
 use Rattle.lower.specs.Stands.{held, IsBegun}
 use Rattle.lower.specs.Does.{trap_of, Works}
@@ -162,7 +164,7 @@ module _ (known : Known) (line : ℕ) (slots : Slots) (visible : Visible) where
     pub code : more ≡ skipped ++ term_code known line next
     pub way : Plain
     pub leads : LeadsOver way skipped
-    pub works : (stack : List ℕ) → Works slots here (held t ++ stack) way (held next ++ stack)
+    pub works : (stack : List ℕ) → Works visible slots here (held t ++ stack) way (held next ++ stack)
     pub sort : TermHasSort known next s
     pub begun : IsBegun next
 
@@ -180,7 +182,7 @@ module _ (known : Known) (line : ℕ) (slots : Slots) (visible : Visible) where
     pub outcome : TermGoes t s here more ⊎ TermTraps t here
 
   -- a part becomes a value by one instruction
-  gives_value : (t : Term) (v : Value) (s : Sort) (here : Instr) → term_code known line t ≡ here ∷ [] → reduce visible.sight t ≡ Gives (Done v) → ((stack : List ℕ) → Works slots here (held t ++ stack) plain.Next (word_of v ∷ stack)) → ValueHasSort v s → StepsTerm t s
+  gives_value : (t : Term) (v : Value) (s : Sort) (here : Instr) → term_code known line t ≡ here ∷ [] → reduce visible.sight t ≡ Gives (Done v) → ((stack : List ℕ) → Works visible slots here (held t ++ stack) plain.Next (word_of v ∷ stack)) → ValueHasSort v s → StepsTerm t s
   gives_value t v s here code is works fits = record {
     here = here;
     more = [];
@@ -303,7 +305,7 @@ module _ (known : Known) (line : ℕ) (slots : Slots) (visible : Visible) where
   -- ---- `&&` and `||` after their left side
 
   goes_right : (t b : Term) (s : Sort) (here : Instr) → term_code known line t ≡ here ∷ term_code known line b → reduce visible.sight t ≡ Gives b
-      → ((stack : List ℕ) → Works slots here (held t ++ stack) plain.Next stack) → IsUntouched b → TermHasSort known b s → StepsTerm t s
+      → ((stack : List ℕ) → Works visible slots here (held t ++ stack) plain.Next stack) → IsUntouched b → TermHasSort known b s → StepsTerm t s
   goes_right t b s here code is works u h = record {
     here = here;
     more = term_code known line b;
@@ -322,7 +324,7 @@ module _ (known : Known) (line : ℕ) (slots : Slots) (visible : Visible) where
   }
 
   skips_right : (t b : Term) (v : Value) (s : Sort) (here : Instr) → term_code known line t ≡ here ∷ term_code known line b → reduce visible.sight t ≡ Gives (Done v)
-      → ((stack : List ℕ) → Works slots here (held t ++ stack) (plain.Skip (length (term_code known line b))) (word_of v ∷ stack)) → ValueHasSort v s → StepsTerm t s
+      → ((stack : List ℕ) → Works visible slots here (held t ++ stack) (plain.Skip (length (term_code known line b))) (word_of v ∷ stack)) → ValueHasSort v s → StepsTerm t s
   skips_right t b v s here code is works h = record {
     here = here;
     more = term_code known line b;
@@ -508,13 +510,19 @@ module _ (known : Known) (line : ℕ) (slots : Slots) (visible : Visible) where
     is : visible.sight.is_null x ≡ Gives null
     variable : NullableVariable
     same : nullable_of kind i ≡ Some variable
-    holds : holds_null slots variable ≡ Some null
+    holds : holds_null visible slots variable ≡ Some null
 
   shows_null : (x : Identifier) (s : Slot) (kind : Sort) → IsNullable kind → ShowsSlot visible x slots s kind → ShowsNull x kind s.index
   shows_null x s Ref n h = record { null = is_none h.reference; is = h.is_null; variable = nullable.Local s.index; same = refl; holds = ap (option_map is_none) h.there }
-  shows_null x s Global n h = record { null = true; is = h.is_null; variable = nullable.Static s.index; same = refl; holds = refl }
+  shows_null x s Global n h = record {
+    null = is_empty h.static.held;
+    is = h.is_null;
+    variable = nullable.Static s.index;
+    same = refl;
+    holds = ap (option_map (λ (named : Identifier × StaticReference). is_empty named.1)) (there_at x s.index h.static.held visible.statics h.static.place h.static.there);
+  }
   shows_null x s FieldId n h = record { null = is_none h.field; is = h.is_null; variable = nullable.FieldId s.index; same = refl; holds = ap (option_map is_none) h.there }
-  shows_null x s (Buffer t writable) n h = record { null = true; is = h; variable = nullable.Buffer s.index; same = refl; holds = refl }
+  shows_null x s (Buffer t writable) n h = record { null = true; is = h.is_null; variable = nullable.Buffer s.index; same = refl; holds = refl }
   shows_null x s kind n h = absurd n
 
   same_truth : (b : Bool) → truth_word b ≡ truth_word (beq b true)

@@ -17,7 +17,7 @@ use Rattle.code.specs.declared.instr.Target.TheVariants as destination
 use Rattle.jni.specs.Prototype.{function_named, ParameterKind, IntNumber, Mode, prototype}
 use Rattle.code.specs.declared.instr.Instr.{Instr}
 use Rattle.code.specs.declared.instr.Instr.TheVariants as instr
-use Rattle.code.specs.Depth.{depth_after, words_taken}
+use Rattle.code.specs.Depth.{depth_after, words_taken, with_result}
 use Rattle.code.proofs.Pieces.{IsPiece, piece_none, piece_append, piece_one, piece_and, piece_or, piece_if, piece_end, piece_loop}
 use Rattle.source.specs.Term as term
 use Rattle.source.specs.Term.{Term, Done, Read, IsNull, Prefix, And, Or, Binary, term_of}
@@ -186,17 +186,20 @@ words_are known (p ∷ parameters) [] h = absurd h
 words_are known (p ∷ parameters) (a ∷ arguments) h = word_is known p parameters a (map (operand_code known) (zip parameters arguments)) h.0 (words_are known parameters arguments h.1)
 
 -- no function has more than four parameters
-call_instr : (line : ℕ) (target : Target) (f : JniFunction) (operands : List Where) (texts : List (List ℕ)) (n : ℕ) → words_taken operands ≡ n → IsPiece (instr.Call (record { line = line; target = target; function = f; operands = operands; texts = texts }) ∷ []) n 0
-call_instr line target f operands texts n same = piece_one (instr.Call _) n 0 (rw (same, le-leb n n (omega arith)) (ap (λ (m : ℕ). Some m) (let e : n - n ≡ 0 = omega arith in e))) tt
+call_instr : (line : ℕ) (target : Target) (f : JniFunction) (operands : List Where) (texts : List (List ℕ)) (n m : ℕ) → words_taken operands ≡ n → with_result target 0 ≡ Some m → IsPiece (instr.Call (record { line = line; target = target; function = f; operands = operands; texts = texts }) ∷ []) n m
+call_instr line target f operands texts n m same gives =
+    let none : n - n ≡ 0 = omega arith in
+    piece_one (instr.Call _) n m (rw (same, le-leb n n (omega arith), none) gives) tt
 
-call_piece : (known : Known) (line : ℕ) (target : Target) (c : Call) → CallFits known c → IsPiece (named_call_code known line target (function_named c.function) c.arguments) 0 0
-call_piece known line target c fits =
+-- a call, which leaves the truth on the stack if it is tested
+call_piece : (known : Known) (line : ℕ) (target : Target) (c : Call) (m : ℕ) → CallFits known c → with_result target 0 ≡ Some m → IsPiece (named_call_code known line target (function_named c.function) c.arguments) 0 m
+call_piece known line target c m fits gives =
     let parameters = (prototype fits.function).parameters in
     let few = few_parameters fits.function in
     let given = zip parameters c.arguments in
     let call = instr.Call (record { line = line; target = target; function = fits.function; operands = map (operand_code known) given; texts = arguments_texts c.arguments }) ∷ [] in
-    subst (λ o. IsPiece (named_call_code known line target o c.arguments) 0 0) (sym fits.named)
-    (piece_append (arguments_code known line given) call 0 (0 + numbers_among parameters) 0 (arguments_piece known line parameters c.arguments 0 fits.arguments (omega (arith, few))) (call_instr line target fits.function (map (operand_code known) given) (arguments_texts c.arguments) (0 + numbers_among parameters) (words_are known parameters c.arguments fits.arguments ∙ sym (let e : 0 + numbers_among parameters ≡ numbers_among parameters = omega arith in e))))
+    subst (λ o. IsPiece (named_call_code known line target o c.arguments) 0 m) (sym fits.named)
+    (piece_append (arguments_code known line given) call 0 (0 + numbers_among parameters) m (arguments_piece known line parameters c.arguments 0 fits.arguments (omega (arith, few))) (call_instr line target fits.function (map (operand_code known) given) (arguments_texts c.arguments) (0 + numbers_among parameters) m (words_are known parameters c.arguments fits.arguments ∙ sym (let e : 0 + numbers_among parameters ≡ numbers_among parameters = omega arith in e)) gives))
 
 value_piece : (known : Known) (line : ℕ) (kind : Sort) (i : ℕ) (e : Expr) → ValueFits known kind e → IsPiece (value_code known line (record { sort = kind; index = i }) e) 0 0
 value_piece known line sort.Word i e fits = subst (λ c. IsPiece c 0 0) (sym (value_is known line (record { sort = sort.Word; index = i }) e sort.Word fits)) (taken_piece known line (term_of e) sort.Word (instr.Store i) fits (piece_one (instr.Store i) 1 0 refl tt))
@@ -211,7 +214,13 @@ value_piece known line (Array t n) i e fits = absurd fits
 
 right_piece : (known : Known) (line : ℕ) (s : Slot) (r : RightSide) → RightFits known s.sort r → IsPiece (right_code known line s r) 0 0
 right_piece known line s (FromExpr e) fits = value_piece known line s.sort s.index e fits
-right_piece known line s (FromCall c) fits = call_piece known line (result_target s.sort s.index) c fits.fits
+right_piece known line s (FromCall c) fits = call_piece known line (result_target s.sort s.index) c 0 fits.fits (into_variable s.sort s.index)
+  where
+    into_variable : (s : Sort) (i : ℕ) → with_result (result_target s i) 0 ≡ Some 0
+    into_variable Ref i = refl
+    into_variable Global i = refl
+    into_variable FieldId i = refl
+    into_variable s i = refl
 
 return_piece : (known : Known) (line : ℕ) (t : Term) → ReturnFits known t → IsPiece (return_code known line t) 0 0
 return_piece known line (term.Named tree.Null) fits = piece_one (instr.ReturnReference _) 0 0 refl tt
@@ -224,7 +233,7 @@ return_piece known line t fits = taken_piece known line t Jint instr.ReturnJint 
 
 test_piece : (known : Known) (line : ℕ) (test : Test) → TestFits known test → IsPiece (test_code known line test) 0 1
 test_piece known line (TestExpr e) fits = number_piece known line (term_of e) sort.Truth 0 fits (omega arith)
-test_piece known line (TestCall c) fits = absurd fits
+test_piece known line (TestCall c) fits = call_piece known line destination.Test c 1 fits.fits refl
 
 if_piece : (known : Known) (line : ℕ) (test : Test) (then' else' : List Instr) → TestFits known test → IsPiece then' 0 0 → IsPiece else' 0 0 → IsPiece (if_code known line test then' else') 0 0
 if_piece known line test then' else' fits h k =
@@ -246,7 +255,7 @@ mutual
   stmt_piece (tree.DeclareArray line t x size) l fits = piece_one (instr.ClearArray _) 0 0 refl tt
   stmt_piece (tree.Assign line x r) l fits = subst (λ (o : Option Slot). IsPiece (assign_code l.known line o r) 0 0) (sym fits.1) (right_piece l.known line fits.0 r fits.2)
   stmt_piece (tree.AssignElement line x i e) l fits = write_piece l line x i e fits
-  stmt_piece (tree.Perform line c) l fits = call_piece l.known line destination.Dropped c fits
+  stmt_piece (tree.Perform line c) l fits = call_piece l.known line destination.Dropped c 0 fits refl
   stmt_piece (tree.PutJint line e) l fits = taken_piece l.known line (term_of e) Jint instr.PutJint fits (piece_one instr.PutJint 1 0 refl tt)
   stmt_piece (tree.If line test then') l fits = if_piece l.known line test (block_code l then') [] fits.0 (block_piece then' l fits.1) (piece_none 0)
   stmt_piece (tree.IfElse line test then' else') l fits =

@@ -14,7 +14,7 @@ use Rattle.base.specs.Element.{ElementType, JChar}
 use Rattle.code.specs.declared.instr.Target.{Target}
 use Rattle.code.specs.declared.instr.Target.TheVariants as destination
 use Rattle.jni.specs.JniFunction.{Access}
-use Rattle.jni.specs.Prototype.{ParameterKind, FieldID, IntNumber, TextBytes, ArrayVariable, BufferVariable, Mode, IsCopy, ResultKind, NewLocal, GivesFlag, GivesInt, GivesField, function_named, prototype}
+use Rattle.jni.specs.Prototype.{ParameterKind, FieldID, IntNumber, TextBytes, ArrayVariable, BufferVariable, Mode, IsCopy, ResultKind, NewLocal, NewGlobal, GivesFlag, GivesInt, GivesField, function_named, prototype}
 use Rattle.code.specs.declared.instr.Instr.{Instr}
 use Rattle.code.specs.declared.instr.Instr.TheVariants as instr
 use Rattle.code.specs.declared.slots.SlotCounts.{SlotCounts}
@@ -208,6 +208,7 @@ module _ (slots : SlotCounts) where
   target_there GivesInt s i e there = subst (λ (k : Sort). IndexWithin slots k i → target_within slots (result_target k i) ≡ true) (sym e) (λ h. lt-ltb i slots.numbers h) there
   target_there GivesFlag s i e there = subst (λ (k : Sort). IndexWithin slots k i → target_within slots (result_target k i) ≡ true) (sym e) (λ h. lt-ltb i slots.numbers h) there
   target_there NewLocal s i e there = subst (λ (k : Sort). IndexWithin slots k i → target_within slots (result_target k i) ≡ true) (sym e) (λ h. lt-ltb i slots.references h) there
+  target_there NewGlobal s i e there = subst (λ (k : Sort). IndexWithin slots k i → target_within slots (result_target k i) ≡ true) (sym e) (λ h. lt-ltb i slots.statics h) there
   target_there GivesField s i e there = subst (λ (k : Sort). IndexWithin slots k i → target_within slots (result_target k i) ≡ true) (sym e) (λ h. lt-ltb i slots.field_ids h) there
   target_there gives s i e there = absurd e
 
@@ -227,7 +228,7 @@ module _ (slots : SlotCounts) where
 
   test_within : (known : Known) (line : ℕ) (test : Test) → AllThere known → TestFits known test → AllWithin (test_code known line test)
   test_within known line (TestExpr e) all fits = term_within known line (term_of e) sort.Truth all fits.sort
-  test_within known line (TestCall c) all fits = absurd fits
+  test_within known line (TestCall c) all fits = call_within known line destination.Test c refl all fits.fits
 
   if_within : (known : Known) (line : ℕ) (test : Test) (then' else' : List Instr) → AllThere known → TestFits known test → AllWithin then' → AllWithin else' → AllWithin (if_code known line test then' else')
   if_within known line test then' else' all fits h k =

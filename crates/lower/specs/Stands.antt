@@ -316,7 +316,7 @@ pub record StaticStands (known : Known) (after : After) (place : ℕ) (i : ℕ) 
   pub name : Identifier
   pub is : target ≡ Assigned name
   pub there : lookup name known ≡ Some (record { sort = Global; index = i })
-  pub further : after place known
+  pub further : ComesAfter after place known
 
 -- it is the test of an `if`, which stands there with either truth on the stack
 pub record TestStands (code : Listing) (known : Known) (after : After) (place : ℕ) (line : ℕ) (target : Target) : Type 0 where
