@@ -174,8 +174,8 @@ zero_word (Int z) h =
     (eqb_tells (word_of (Int z)) 0)
   where
     unequal : (b : Bool) → int_eq z (pos 0) ≡ b → (word_of (Int z) ≡ 0 → ⊥) → int_eq z (pos 0) ≡ false
-    unequal true e no = absurd (no (ap (λ (y : ℤ). word_of (Int y)) ((Decides-int_eq z (pos 0)).0 e)))
-    unequal false e no = e
+    unequal true e differs = absurd (differs (ap (λ (y : ℤ). word_of (Int y)) ((Decides-int_eq z (pos 0)).0 e)))
+    unequal false e differs = e
 
 -- ---- the end of a call
 

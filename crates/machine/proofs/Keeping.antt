@@ -25,7 +25,7 @@ use Rattle.tables.specs.References.{references_in}
 use Rattle.machine.specs.declared.statics.Held.{Held}
 use Rattle.machine.specs.declared.statics.Held.TheVariants as held
 use Rattle.lower.specs.Slots.{Slots, Shows, ShowsSlot, static_index, visible_to}
-use Rattle.machine.proofs.StaticChanges.{statics_change}
+use Rattle.lower.proofs.StaticLaws.{shows_still}
 use Rattle.machine.proofs.Changes.{array_of}
 use Rattle.machine.specs.declared.thread.Activation.{Activation}
 use Rattle.machine.specs.Frames.{Frame}
@@ -148,7 +148,7 @@ module _ (shared shared' : Shared) (statics : shared'.statics ≡ shared.statics
 -- where one of them may hold something else
 pub shows_stay : (shared shared' : Shared) → MayChange shared.statics shared'.statics → (s : source.Thread) (code : Listing) (known : Known) (slots : Slots) → Shows code known (visible_to shared s) slots → Shows code known (visible_to shared' s) slots
 shows_stay shared shared' (inl same) s code known slots h = shows_same shared shared' same s code known slots h
-shows_stay shared shared' (inr (x, r, is)) s code known slots h = shows_same (record shared { statics = assign x r shared.statics }) shared' is s code known slots (statics_change shared s x r code known slots h)
+shows_stay shared shared' (inr (x, r, is)) s code known slots h = shows_same (record shared { statics = assign x r shared.statics }) shared' is s code known slots (shows_still shared s x r code known slots h)
 
 -- ---- the other threads
 

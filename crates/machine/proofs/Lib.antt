@@ -1,7 +1,6 @@
 pub mod Lists
 pub mod ArgumentSlots
 pub mod HeldStatics
-pub mod StaticChanges
 pub mod StaticStores
 pub mod Keeping
 pub mod Calls
