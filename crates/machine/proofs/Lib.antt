@@ -1,6 +1,7 @@
 pub mod Lists
 pub mod ArgumentSlots
 pub mod HeldStatics
+pub mod GlobalLaws
 pub mod StaticStores
 pub mod Keeping
 pub mod Calls

@@ -48,8 +48,8 @@ use Rattle.machine.specs.Run.{Run, Corresponds, WritesRun, IsFinished}
 use Rattle.machine.proofs.Standings.{standings}
 use Rattle.machine.proofs.Threads.{unblocked}
 use Rattle.machine.specs.Roots.{AreAddresses, frames_of, name_of, thread_names, ThreadsAreThere}
-use Rattle.std.specs.Prelude.{IsPermutation}
-use Rattle.std.proofs.lemmas.List.Sorted.{IsPermutation-append_left, IsPermutation-append_right}
+use Rattle.std.specs.Prelude.{Contains}
+use Rattle.machine.proofs.GlobalLaws.{among_both}
 use Rattle.tables.specs.References.{references_in}
 use Rattle.machine.proofs.RootNames.{HasRootsOf, names_are, names_there, threads_are, threads_there}
 
@@ -194,12 +194,16 @@ module _ (p : Lowered) (world : World) (store : Store) (ts : List Thread) (print
   unfolding report
   rows_are classes objects loaded names rows k h l n told =
       let of_threads = flat_map (thread_names store.heap) ts in
-      let permuted : IsPermutation (from_one loaded ++ (c.store_agrees.globals.names ++ of_threads)) (from_one loaded ++ (c.state.shared.globals ++ of_threads)) =
-      IsPermutation-append_right (from_one loaded) (c.store_agrees.globals.names ++ of_threads) (c.state.shared.globals ++ of_threads) (IsPermutation-append_left of_threads c.store_agrees.globals.names c.state.shared.globals c.store_agrees.globals.same) in
-      let given : from_one loaded ++ (c.store_agrees.globals.names ++ of_threads) ≡ from_one loaded ++ names = ap (λ (ns : List ℕ). from_one loaded ++ ns) (sym (n ∙ ap (λ (ns : List ℕ). ns ++ of_threads) globals_are)) in
-      let same : from_one loaded ++ (c.state.shared.globals ++ of_threads) ≡ roots world c.state =
-      sym (roots_are ∙ ap (λ m. (from_one m ++ c.state.shared.globals) ++ of_threads) (sym l) ∙ append_assoc (from_one loaded) c.state.shared.globals of_threads) in
-      told world c.state (record { classes = sym k; heap = sym h; roots = subst (IsPermutation (from_one loaded ++ names)) same (subst (λ (ns : List ℕ). IsPermutation ns (from_one loaded ++ (c.state.shared.globals ++ of_threads))) given permuted) })
+      let source_globals = c.state.shared.globals in
+      let globals = c.store_agrees.globals.names in
+      let given : from_one loaded ++ (globals ++ of_threads) ≡ from_one loaded ++ names = ap (λ (ns : List ℕ). from_one loaded ++ ns) (sym (n ∙ ap (λ (ns : List ℕ). ns ++ of_threads) globals_are)) in
+      let same : roots world c.state ≡ from_one loaded ++ (source_globals ++ of_threads) = roots_are ∙ ap (λ m. (from_one m ++ source_globals) ++ of_threads) (sym l) ∙ append_assoc (from_one loaded) source_globals of_threads in
+      told world c.state (record {
+        classes = sym k;
+        heap = sym h;
+        sound = λ m there. subst (λ (ns : List ℕ). Contains ns m) given (among_both (from_one loaded) source_globals globals of_threads (λ i. sym (c.store_agrees.globals.same i)) m (subst (λ (ns : List ℕ). Contains ns m) same there));
+        complete = λ m there. subst (λ (ns : List ℕ). Contains ns m) (sym same) (among_both (from_one loaded) globals source_globals of_threads c.store_agrees.globals.same m (subst (λ (ns : List ℕ). Contains ns m) (sym given) there));
+      })
 
 -- what is written of these parts is what the run writes
 pub writes_run : {T E : Type 0} (p : Lowered) (world : World) (store : Store) (ts : List Thread) (printed : List Printed) (stop : Option Stop) (journal : List Entry) (c : Corresponds p world store ts printed stop journal) (now : Run)

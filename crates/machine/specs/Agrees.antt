@@ -1,5 +1,5 @@
 -- How the machine stands for a state of the source.
-use Rattle.std.specs.Prelude.{◌≡◌, ℕ, ◌<◌, ◌≤◌, Bool, true, false, List, [], ◌∷◌, length, map, reverse, take, Option, Some, None, ◌⊎◌, IsPermutation, IsTrue, slice_get}
+use Rattle.std.specs.Prelude.{◌≡◌, ℕ, ◌<◌, ◌≤◌, Bool, true, false, List, [], ◌∷◌, length, map, reverse, take, Option, Some, None, ◌⊎◌, IsTrue, slice_get, suc, ◌==◌, if◌then◌else◌}
 use Rattle.std.specs.List.{list_all, AllZip}
 use Rattle.base.specs.Bytes.{Identifier}
 use Rattle.syntax.specs.Parts.{functions_of, statics_of}
@@ -100,11 +100,16 @@ StaticsAgree space (h ∷ helds) (s ∷ statics) = HeldAgrees space h s.1 × Sta
 abbrev pub AreNamed : Lowered → Shared → Type 0
 AreNamed p shared = map (λ (s : Identifier × StaticReference). s.0) shared.statics ≡ map (λ (g : Static). g.name) (statics_of (unit_tree p.unit))
 
+-- how often a name is among these
+abbrev pub times : ℕ → List ℕ → ℕ
+times n [] = 0
+times n (m ∷ names) = let further = times n names in if n == m then suc further else further
+
 -- the global references are those of the source, which have no order
 pub record GlobalsAgree (space : Space) (globals : List (Option ℕ)) (source_globals : List ℕ) : Type 0 where
   pub names : List ℕ
   pub agree : NamesAgree space (references_in globals) names
-  pub same : IsPermutation names source_globals
+  pub same : (n : ℕ) → times n names ≡ times n source_globals
 
 -- ---- what all threads share
 

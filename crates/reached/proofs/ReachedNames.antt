@@ -2,7 +2,6 @@
 use Rattle.std.proofs.Common.{◌≡◌, ℕ, zero, suc, ◌+◌, ◌<◌, Bool, true, List, [], ◌∷◌, ◌++◌, length, map, Option, Some, None, sym, ap, ◌∙◌, subst, arith, inl, inr, ◌⊎◌, Contains}
 use Rattle.std.specs.Prelude.{filter_map, slice_index_or}
 use Rattle.std.proofs.lemmas.Bool.{false≢true}
-use Rattle.std.proofs.lemmas.List.Sorted.{Contains-permutation, IsPermutation-sym}
 use Rattle.classes.specs.Class.{Classes}
 use Rattle.source.specs.Heap.{Heap, reference_in, values_of}
 use Rattle.source.specs.Object.{ObjectValue, Number, Refers}
@@ -111,8 +110,8 @@ are_reported classes heap loaded names marks after first end roots_marked reache
     let of_heap : Marked s.shared.heap loaded names marks after = subst (λ (h : Heap). Marked h loaded names marks after) (sym has.heap) both in
     let of_roots : AreRoots (length s.shared.heap) (Contains (roots w s)) marks = record {
       counted = of_heap.0.counted;
-      sound = λ n marked. let it = of_heap.0.sound n marked in (it.0, Contains-permutation (from_one loaded ++ names) (roots w s) n has.roots it.1);
-      complete = λ n within root. of_heap.0.complete n within (Contains-permutation (roots w s) (from_one loaded ++ names) n (IsPermutation-sym (from_one loaded ++ names) (roots w s) has.roots) root);
+      sound = λ n marked. let it = of_heap.0.sound n marked in (it.0, has.complete n it.1);
+      complete = λ n within root. of_heap.0.complete n within (has.sound n root);
     } in
     ap (λ n. marked_rows classes heap after n end) begins
     ∙ ap (λ n. marked_rows classes heap after (length classes + 2) n) ends

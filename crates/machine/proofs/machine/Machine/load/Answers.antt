@@ -4,7 +4,6 @@ use Rattle.source.specs.Start.{start, waiting_thread}
 use Rattle.std.proofs.lemmas.List.{length-map}
 use Rattle.machine.proofs.Classed.{classed_loaded}
 use Rattle.machine.proofs.ThreadLoads.{agree_length}
-use Rattle.std.proofs.lemmas.List.Sorted.{IsPermutation-refl}
 use Rattle.syntax.specs.Parts.{statics_of}
 use Rattle.syntax.specs.declared.unit.Item.{Item}
 use Rattle.machine.specs.Agrees.{GlobalsAgree, StaticsAgree}
@@ -38,7 +37,7 @@ invariant_of-result c =
             (subst (λ (l : List StaticReference). StaticsAgree c.in_ok-store.store.heap (all_held [] l) s.shared.statics) (sym (c.in_ok-store.ensures.statics ∙ ap (λ (items : List Item). replicate (length (statics_of (unit_tree items))) Empty) c.items.ensures.items)) (statics_begin c.in_ok-store.store.heap (statics_of (unit_tree c.args.program.unit))));
         named = names_begin (statics_of (unit_tree c.args.program.unit));
         keys = subst (HaveKeys c.in_ok-store.store.globals) (sym c.in_ok-store.ensures.statics) (no_keys c.in_ok-store.store.globals (length (statics_of (unit_tree c.items.result.now))));
-        globals = subst (λ (globals : List (Option ℕ)). GlobalsAgree c.in_ok-store.store.heap globals []) (sym c.in_ok-store.ensures.globals) (record { names = []; agree = tt; same = IsPermutation-refl {X = ℕ} [] });
+        globals = subst (λ (globals : List (Option ℕ)). GlobalsAgree c.in_ok-store.store.heap globals []) (sym c.in_ok-store.ensures.globals) (record { names = []; agree = tt; same = λ n. refl });
         monitors = refl;
       };
       threads_agree = agree;
