@@ -20,7 +20,10 @@ use Rattle.lower.specs.Slots.{Visible}
 use Rattle.lower.specs.Does.{IsOperand, word_given, words_given}
 use Rattle.lower.specs.Lowered.{Lowered}
 use Rattle.machine.specs.declared.thread.Activation.{Activation}
-use Rattle.machine.specs.Agrees.{FieldAgrees, FieldsAgree, ReferencesAgree}
+use Rattle.machine.specs.Agrees.{FieldAgrees, FieldsAgree, ReferencesAgree, StaticsAgree}
+use Rattle.machine.specs.Statics.{References}
+use Rattle.machine.specs.declared.statics.Held.{Held}
+use Rattle.machine.proofs.HeldStatics.{static_there}
 use Rattle.machine.specs.Given.{held_in, IsGiven}
 use Rattle.machine.specs.HeapAgrees.{ReferenceAgrees}
 use Rattle.machine.proofs.Calls.{slots_of, Ready}
@@ -45,8 +48,11 @@ field_there classes (a ∷ handles) (f ∷ fields) (suc i) q h e = field_there c
 
 -- ---- operands
 
-module _ (p : Lowered) (classes : Classes) (space : Space) (call : Activation) (code : Listing) (visible : Visible) (frames : List Frame) (task : Task) (rest : List Task) (r : Ready p classes space call code visible frames task rest) where
-  one_given : (o : Operand) (a : Actual) → IsOperand code r.known call.place call.stack (slots_of call r.references r.fields) visible o a → IsGiven classes space call.references.items call.fields.items o a
+module _ (p : Lowered) (classes : Classes) (space : Space) (call : Activation) (code : Listing) (visible : Visible) (frames : List Frame) (task : Task) (rest : List Task) (r : Ready p classes space call code visible frames task rest) (helds : List Held) (statics : StaticsAgree space helds visible.statics) where
+  abbrev references : References
+  references = record { locals = call.references.items; statics = helds }
+
+  one_given : (o : Operand) (a : Actual) → IsOperand code r.known call.place call.stack (slots_of call r.references r.fields) visible o a → IsGiven classes space references call.fields.items o a
   one_given operand.Null a (inl h) = inl (record { name = h.0; reference = None; is = h.1; agrees = tt })
   one_given operand.Null a (inr (inl h)) = inr (inl (record { field = None; is = h; agrees = tt }))
   one_given operand.Null a (inr (inr h)) = inr (inr h)
@@ -60,7 +66,12 @@ module _ (p : Lowered) (classes : Classes) (space : Space) (call : Activation) (
       }
   one_given (operand.Static i) a h =
       let shown = r.shows.each h.0 (record { sort = Global; index = i }) h.2 in
-      record { name = h.0; reference = None; is = h.1 ∙ ap (ReferenceActual h.0) shown.reference; agrees = tt }
+      record {
+        name = h.0;
+        reference = shown.static.held;
+        is = h.1 ∙ ap (ReferenceActual h.0) shown.reference;
+        agrees = static_there space h.0 helds visible.statics i shown.static.held statics shown.static.place shown.static.there;
+      }
   one_given operand.Number a h = h
   one_given (operand.FieldId i) a h =
       let shown = r.shows.each h.0 (record { sort = sort.FieldId; index = i }) h.2 in
@@ -72,7 +83,7 @@ module _ (p : Lowered) (classes : Classes) (space : Space) (call : Activation) (
   one_given (operand.IsCopy i) a h = (h.0, h.1)
 
   pub all_given : (operands : List Operand) (args : List Actual) → AllZip (IsOperand code r.known call.place call.stack (slots_of call r.references r.fields) visible) operands args
-      → AllZip (IsGiven classes space call.references.items call.fields.items) operands args
+      → AllZip (IsGiven classes space references call.fields.items) operands args
   all_given [] [] h = tt
   all_given [] (a ∷ args) h = absurd h
   all_given (o ∷ operands) [] h = absurd h
@@ -84,7 +95,7 @@ module _ (p : Lowered) (classes : Classes) (space : Space) (call : Activation) (
 abbrev one_taken : Operand → ℕ
 one_taken o = words_taken (o ∷ [])
 
-module _ (classes : Classes) (space : Space) (references : List (Option ℕ)) (fields : List (Option FieldHandle)) where
+module _ (classes : Classes) (space : Space) (references : References) (fields : List (Option FieldHandle)) where
   word_of_one : (o : Operand) (a : Actual) → IsGiven classes space references fields o a → length (word_given a) ≡ one_taken o
   word_of_one operand.Null a (inl h) = ap (λ (b : Actual). length (word_given b)) h.is
   word_of_one operand.Null a (inr (inl h)) = ap (λ (b : Actual). length (word_given b)) h.is
@@ -121,7 +132,7 @@ none_left : (n : ℕ) → with_fewer n n ≡ Some 0
 none_left n = rw (le-leb n n (omega arith)) (ap (λ (m : ℕ). Some m) (let e : n - n ≡ 0 = omega arith in e))
 
 -- a call takes all the words on the stack
-pub none_left_after : (classes : Classes) (space : Space) (references : List (Option ℕ)) (fields : List (Option FieldHandle)) (operands : List Operand) (args : List Actual) (stack : List ℕ) → AllZip (IsGiven classes space references fields) operands args → stack ≡ words_given args
+pub none_left_after : (classes : Classes) (space : Space) (references : References) (fields : List (Option FieldHandle)) (operands : List Operand) (args : List Actual) (stack : List ℕ) → AllZip (IsGiven classes space references fields) operands args → stack ≡ words_given args
     → with_fewer (words_taken operands) (length stack) ≡ Some 0
 none_left_after classes space references fields operands args stack given words =
     let count : length stack ≡ words_taken operands = ap length words ∙ sym (taken_words classes space references fields operands args given) in

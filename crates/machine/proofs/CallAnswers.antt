@@ -2,7 +2,7 @@
 use Rattle.std.proofs.Common.{inl, inr, ◌≡◌, ℕ, pos, negsuc, zero, suc, ◌+◌, ◌-◌, ◌<◌, ◌≤◌, ◌^◌, Bool, true, false, not, List, [], ◌∷◌, ◌++◌, length, Option, Some, None, is_none, slice_get, refl, sym, ap, ◌∙◌, subst, arith, eqb, ⊎_elim, ℤ}
 use Rattle.std.specs.Prelude.{◌||◌, ◌==◌, unwrap_or, FitsSigned, ◌&&◌}
 use Rattle.std.specs.Int.{w32, cast_signed, cast_unsigned}
-use Rattle.std.specs.List.{AllZip}
+use Rattle.std.specs.List.{AllZip, list_any}
 use Rattle.std.specs.Option.{option_map_or}
 use Rattle.std.proofs.Math.Facts.{to_z-of_z}
 use Rattle.std.proofs.lemmas.Bool.Decides.{eqb_tells, nat_tests}
@@ -48,21 +48,24 @@ use Rattle.machine.specs.declared.answer.Answer.{Answer}
 use Rattle.machine.specs.declared.store.Store.{Store}
 use Rattle.machine.specs.declared.thread.Activation.{Activation}
 use Rattle.machine.specs.Answers.{IsAnswer, IsMakeable}
-use Rattle.machine.specs.Asked.{IsAsked}
-use Rattle.machine.specs.Checked.{gives_null, is_answered, misfits, some_misfit, some_missing, may_be_null}
+use Rattle.machine.specs.Asked.{IsAsked, references_of}
+use Rattle.machine.specs.Statics.{References, held_address, holds_deleted, holds_null, static_at}
+use Rattle.machine.specs.declared.statics.Held.{Held}
+use Rattle.machine.specs.declared.statics.Held.TheVariants as held
+use Rattle.machine.specs.Checked.{gives_deleted, gives_null, is_answered, misfits, some_misfit, some_missing, may_be_null}
 use Rattle.machine.specs.Given.{operand_at, operand_of, class_of_given, class_there, fits_there, name_there, IsGiven, field_at, field_there}
 use Rattle.machine.specs.HeapAgrees.{HeapAgrees, ReferenceAgrees, BlocksAgree, IsTable, ValueAgrees}
 use Rattle.machine.specs.WorkedOut.{count_there, class_object, found_class, IsFoundField, IsWorkedOut, place_there, value_there, word_in, address_in, held_reference, room_for, top_word, writes_there}
 use Rattle.machine.proofs.CallChecks.{class_given_is, class_is, field_at_place, fits_is, name_is, reference_at_place, handle_of}
 use Rattle.machine.proofs.BlockObjects.{Named, named, name_within}
-use Rattle.machine.proofs.CallTraps.{has_passed, none_lacking, none_unfit, handles_there}
+use Rattle.machine.proofs.CallTraps.{has_passed, none_deleted, none_lacking, none_unfit, handles_there}
 use Rattle.machine.proofs.FewValues.{few_values}
 use Rattle.machine.proofs.LongTables.{classes_loaded, grown_long}
 use Rattle.machine.proofs.ObjectsAtAddresses.{is_object}
 
 -- ---- what is there
 
-module _ (classes : Classes) (space : Space) (references : List (Option ℕ)) (fields : List (Option FieldHandle)) (heap : Heap) (blocks : BlocksAgree space heap space.blocks) where
+module _ (classes : Classes) (space : Space) (references : References) (fields : List (Option FieldHandle)) (heap : Heap) (blocks : BlocksAgree space heap space.blocks) where
   count_is : (o : Option ℕ) (q : Reference) → ReferenceAgrees space o q → count_there space o ≡ length (values_of heap (name_or_zero q))
   count_is None None h = refl
   count_is None (Some n) h = absurd h
@@ -103,7 +106,7 @@ super_known classes o c s h = by_class (class_at classes c) refl h
 
 -- ---- texts
 
-module _ (classes : Classes) (space : Space) (references : List (Option ℕ)) (fields : List (Option FieldHandle)) where
+module _ (classes : Classes) (space : Space) (references : References) (fields : List (Option FieldHandle)) where
   no_text : (o : Operand) (a : Actual) → OperandFits ClassObject o → IsGiven classes space references fields o a → does.text_given a ≡ []
   no_text operand.Number a fits h = absurd (cc)
   no_text (operand.FieldId i) a fits h = absurd (cc)
@@ -175,17 +178,22 @@ module _ (classes : Classes) (space : Space) (references : List (Option ℕ)) (f
   some_address None h = absurd (cc)
   some_address (Some a) h = (a, refl)
 
-  object_in : (p : ParameterKind) → IsReferenceKind p → (p ≡ FieldID → ⊥) → (o : Operand) → OperandFits p o → (p ≡ IntNumber → ⊥) → (p ≡ TextBytes → ⊥) → gives_null references fields o ≡ false → (a : ℕ) × (operand_at references o ≡ Some a)
-  object_in p kind field operand.Number fits number text h = absurd (number fits)
-  object_in p kind field (operand.FieldId i) fits number text h = absurd (field fits)
-  object_in p kind field operand.Text fits number text h = absurd (text fits)
-  object_in p kind field (operand.Array array) fits number text h = absurd (subst IsReferenceKind fits.1 kind)
-  object_in p kind field (operand.Buffer i) fits number text h = absurd (subst IsReferenceKind fits.1 kind)
-  object_in p kind field (operand.Mode mode) fits number text h = absurd (subst IsReferenceKind fits kind)
-  object_in p kind field (operand.IsCopy i) fits number text h = absurd (subst IsReferenceKind fits kind)
-  object_in p kind field operand.Null fits number text h = absurd (cc)
-  object_in p kind field (operand.Static i) fits number text h = absurd (cc)
-  object_in p kind field (operand.Local i) fits number text h = some_address (operand_at references (operand.Local i)) h
+  some_held : (x : Held) → holds_deleted x ≡ false → holds_null x ≡ false → (a : ℕ) × (held_address x ≡ Some a)
+  some_held held.Empty whole h = absurd (cc)
+  some_held (held.At a) whole h = (a, refl)
+  some_held held.Deleted whole h = absurd (cc)
+
+  object_in : (p : ParameterKind) → IsReferenceKind p → (p ≡ FieldID → ⊥) → (o : Operand) → OperandFits p o → (p ≡ IntNumber → ⊥) → (p ≡ TextBytes → ⊥) → gives_deleted references o ≡ false → gives_null references fields o ≡ false → (a : ℕ) × (operand_at references o ≡ Some a)
+  object_in p kind field operand.Number fits number text whole h = absurd (number fits)
+  object_in p kind field (operand.FieldId i) fits number text whole h = absurd (field fits)
+  object_in p kind field operand.Text fits number text whole h = absurd (text fits)
+  object_in p kind field (operand.Array array) fits number text whole h = absurd (subst IsReferenceKind fits.1 kind)
+  object_in p kind field (operand.Buffer i) fits number text whole h = absurd (subst IsReferenceKind fits.1 kind)
+  object_in p kind field (operand.Mode mode) fits number text whole h = absurd (subst IsReferenceKind fits kind)
+  object_in p kind field (operand.IsCopy i) fits number text whole h = absurd (subst IsReferenceKind fits kind)
+  object_in p kind field operand.Null fits number text whole h = absurd (cc)
+  object_in p kind field (operand.Static i) fits number text whole h = some_held (static_at references i) whole h
+  object_in p kind field (operand.Local i) fits number text whole h = some_address (operand_at references (operand.Local i)) h
 
   by_reference : (operands : List Operand) (args : List Actual) (a : ℕ) (q : Reference) → operand_at references (operand_of operands 0) ≡ Some a → reference_given args 0 ≡ q → ReferenceAgrees space (Some a) q → GivenObject operands args
   by_reference operands args a None at is h = absurd h
@@ -193,21 +201,21 @@ module _ (classes : Classes) (space : Space) (references : List (Option ℕ)) (f
 
   -- an argument that may not be NULL
   first_object : (parameters : List ParameterKind) (operands : List Operand) (args : List Actual) → AllZip OperandFits (NonNull ∷ parameters) operands → AllZip (IsGiven classes space references fields) operands args
-      → some_missing references fields (NonNull ∷ parameters) operands ≡ false → GivenObject operands args
-  first_object parameters [] args fits given missing = absurd fits
-  first_object parameters (o ∷ operands) [] fits given missing = absurd given
-  first_object parameters (o ∷ operands) (a ∷ args) fits given missing =
-      let found = object_in NonNull tt (λ e. cc) o fits.0 (λ e. cc) (λ e. cc) (first_of (gives_null references fields o) (some_missing references fields parameters operands) missing) in
+      → list_any (gives_deleted references) operands ≡ false → some_missing references fields (NonNull ∷ parameters) operands ≡ false → GivenObject operands args
+  first_object parameters [] args fits given whole missing = absurd fits
+  first_object parameters (o ∷ operands) [] fits given whole missing = absurd given
+  first_object parameters (o ∷ operands) (a ∷ args) fits given whole missing =
+      let found = object_in NonNull tt (λ e. cc) o fits.0 (λ e. cc) (λ e. cc) (first_of (gives_deleted references o) (list_any (gives_deleted references) operands) whole) (first_of (gives_null references fields o) (some_missing references fields parameters operands) missing) in
       by_reference (o ∷ operands) (a ∷ args) found.0 (reference_given (a ∷ args) 0) found.1 refl
       (subst (λ (x : Option ℕ). ReferenceAgrees space x (reference_given (a ∷ args) 0)) found.1 (reference_at_place classes space references fields (o ∷ operands) (a ∷ args) 0 given))
 
   -- an argument that is a class
   first_class : (parameters : List ParameterKind) (operands : List Operand) (args : List Actual) → AllZip OperandFits (ClassObject ∷ parameters) operands → AllZip (IsGiven classes space references fields) operands args
-      → some_missing references fields (ClassObject ∷ parameters) operands ≡ false → GivenObject operands args
-  first_class parameters [] args fits given missing = absurd fits
-  first_class parameters (o ∷ operands) [] fits given missing = absurd given
-  first_class parameters (o ∷ operands) (a ∷ args) fits given missing =
-      let found = object_in ClassObject tt (λ e. cc) o fits.0 (λ e. cc) (λ e. cc) (first_of (gives_null references fields o) (some_missing references fields parameters operands) missing) in
+      → list_any (gives_deleted references) operands ≡ false → some_missing references fields (ClassObject ∷ parameters) operands ≡ false → GivenObject operands args
+  first_class parameters [] args fits given whole missing = absurd fits
+  first_class parameters (o ∷ operands) [] fits given whole missing = absurd given
+  first_class parameters (o ∷ operands) (a ∷ args) fits given whole missing =
+      let found = object_in ClassObject tt (λ e. cc) o fits.0 (λ e. cc) (λ e. cc) (first_of (gives_deleted references o) (list_any (gives_deleted references) operands) whole) (first_of (gives_null references fields o) (some_missing references fields parameters operands) missing) in
       by_reference (o ∷ operands) (a ∷ args) found.0 (reference_given (a ∷ args) 0) found.1 refl
       (subst (λ (x : Option ℕ). ReferenceAgrees space x (reference_given (a ∷ args) 0)) found.1 (reference_at_place classes space references fields (o ∷ operands) (a ∷ args) 0 given))
 
@@ -333,8 +341,8 @@ own_making classes c h is = clash (not (is_plain (class_kind classes class_class
 
 -- a call that is asked and passed its checks
 module _ (p : Lowered) (w : World) (store : Store) (pending : Option ℕ) (call : Activation) (function : Call) (shared : Shared) (s : Thread) (sound : IsSound w) (lent : BuffersInUse) (k : ℕ) (args : List Actual) where
-  abbrev references : List (Option ℕ)
-  references = call.references.items
+  abbrev references : References
+  references = references_of store call
 
   abbrev fields : List (Option FieldHandle)
   fields = call.fields.items
@@ -487,7 +495,7 @@ module _ (p : Lowered) (w : World) (store : Store) (pending : Option ℕ) (call 
   answers_class : Asked GetObjectClass → (target : Target) → trap_of_call w.classes shared s target GetObjectClass args ≡ None → (answer : Answer) → Works GetObjectClass answer → Does GetObjectClass answer
   unfolding call_effect
   answers_class h target free answer is =
-      let first = first_object w.classes store.heap references fields [] function.operands args h.kinds h.given (none_lacking p w store pending call function shared s GetObjectClass args h target free) in
+      let first = first_object w.classes store.heap references fields [] function.operands args h.kinds h.given (none_deleted p w store pending call function shared s GetObjectClass args h target free) (none_lacking p w store pending call function shared s GetObjectClass args h target free) in
       let object = object_of GetObjectClass h first.address first.name first.named in
       let known = h.store_agrees.classed first.name object.0 object.1 in
       let class : class_of shared.heap first.name ≡ object.0.class = ap (λ (o : Option Object). option_map_or (λ (x : Object). x.class) o 0) object.1 in
@@ -503,7 +511,7 @@ module _ (p : Lowered) (w : World) (store : Store) (pending : Option ℕ) (call 
   answers_alloc : Asked AllocObject → (target : Target) → trap_of_call w.classes shared s target AllocObject args ≡ None → (answer : Answer) → Works AllocObject answer → Does AllocObject answer
   unfolding call_effect
   answers_alloc h target free answer is =
-      let first = first_class w.classes store.heap references fields [] function.operands args h.kinds h.given (none_lacking p w store pending call function shared s AllocObject args h target free) in
+      let first = first_class w.classes store.heap references fields [] function.operands args h.kinds h.given (none_deleted p w store pending call function shared s AllocObject args h target free) (none_lacking p w store pending call function shared s AllocObject args h target free) in
       let object = object_of AllocObject h first.address first.name first.named in
       let known = h.store_agrees.classed first.name object.0 object.1 in
       let class : class_of shared.heap first.name ≡ object.0.class = ap (λ (o : Option Object). option_map_or (λ (x : Object). x.class) o 0) object.1 in
@@ -631,7 +639,7 @@ module _ (p : Lowered) (w : World) (store : Store) (pending : Option ℕ) (call 
   unfolding call_effect
   answers_get T h target free answer is =
       let missing = none_lacking p w store pending call function shared s (GetField T) args h target free in
-      let first = first_object w.classes store.heap references fields (FieldID ∷ []) function.operands args h.kinds h.given missing in
+      let first = first_object w.classes store.heap references fields (FieldID ∷ []) function.operands args h.kinds h.given (none_deleted p w store pending call function shared s (GetField T) args h target free) missing in
       let place = place_of (GetField T) h (fielded (GetField T) [] NonNull h refl refl missing) in
       let name : object_given args 0 ≡ first.name = ap name_or_zero first.is in
       subst (λ (x : Answer). Does (GetField T) x) (sym is) (refl, refl, number_read (at 0) first.address first.name (object_given args 0) memory_place (source_place (object_given args 0)) first.at first.named name place h.store_agrees)
@@ -640,7 +648,7 @@ module _ (p : Lowered) (w : World) (store : Store) (pending : Option ℕ) (call 
   unfolding call_effect
   answers_set T h target free answer is =
       let missing = none_lacking p w store pending call function shared s (SetField T) args h target free in
-      let first = first_object w.classes store.heap references fields (FieldID ∷ IntNumber ∷ []) function.operands args h.kinds h.given missing in
+      let first = first_object w.classes store.heap references fields (FieldID ∷ IntNumber ∷ []) function.operands args h.kinds h.given (none_deleted p w store pending call function shared s (SetField T) args h target free) missing in
       let place = place_of (SetField T) h (fielded (SetField T) (IntNumber ∷ []) NonNull h refl refl missing) in
       let name : object_given args 0 ≡ first.name = ap name_or_zero first.is in
       let it = kept (SetField T) NonNull T tt refl h in
@@ -652,7 +660,7 @@ module _ (p : Lowered) (w : World) (store : Store) (pending : Option ℕ) (call 
   unfolding call_effect
   answers_get_object h target free answer is =
       let missing = none_lacking p w store pending call function shared s GetObjectField args h target free in
-      let first = first_object w.classes store.heap references fields (FieldID ∷ []) function.operands args h.kinds h.given missing in
+      let first = first_object w.classes store.heap references fields (FieldID ∷ []) function.operands args h.kinds h.given (none_deleted p w store pending call function shared s GetObjectField args h target free) missing in
       let place = place_of GetObjectField h (fielded GetObjectField [] NonNull h refl refl missing) in
       let name : object_given args 0 ≡ first.name = ap name_or_zero first.is in
       subst (λ (x : Answer). Does GetObjectField x) (sym is) (refl, refl, reference_read (at 0) first.address first.name (object_given args 0) memory_place (source_place (object_given args 0)) first.at first.named name place h.store_agrees)
@@ -661,7 +669,7 @@ module _ (p : Lowered) (w : World) (store : Store) (pending : Option ℕ) (call 
   unfolding call_effect
   answers_set_object h target free answer is =
       let missing = none_lacking p w store pending call function shared s SetObjectField args h target free in
-      let first = first_object w.classes store.heap references fields (FieldID ∷ Nullable ∷ []) function.operands args h.kinds h.given missing in
+      let first = first_object w.classes store.heap references fields (FieldID ∷ Nullable ∷ []) function.operands args h.kinds h.given (none_deleted p w store pending call function shared s SetObjectField args h target free) missing in
       let place = place_of SetObjectField h (fielded SetObjectField (Nullable ∷ []) NonNull h refl refl missing) in
       let name : object_given args 0 ≡ first.name = ap name_or_zero first.is in
       subst (λ (x : Answer). Does SetObjectField x) (sym is)

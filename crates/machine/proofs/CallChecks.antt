@@ -22,16 +22,19 @@ use Rattle.source.specs.Object.{Reference}
 use Rattle.source.specs.Task.{Target}
 use Rattle.source.specs.Thread.{Frame, Shared, Thread}
 use Rattle.source.specs.Value.{NullReference, ExceptionPending, WrongObject, DeletedReference, NoCapacity}
-use Rattle.source.specs.Variable.{Empty, Live, as_static}
+use Rattle.source.specs.Variable.{StaticReference, Empty, Live, Deleted, as_static}
 use Rattle.lower.specs.Does.{ActualFits}
-use Rattle.machine.specs.Agrees.{FieldAgrees}
-use Rattle.machine.specs.Checked.{is_answered, gives_null, may_be_null, some_missing, class_misfits, misfits, some_misfit, is_array_at, fit_together, puts_local, trap_found, fits_type_there}
+use Rattle.machine.specs.Agrees.{FieldAgrees, HeldAgrees}
+use Rattle.machine.specs.Statics.{References, held_address, holds_deleted, holds_null, static_at}
+use Rattle.machine.specs.declared.statics.Held.{Held}
+use Rattle.machine.specs.declared.statics.Held.TheVariants as held
+use Rattle.machine.specs.Checked.{is_answered, gives_deleted, gives_null, may_be_null, some_missing, class_misfits, misfits, some_misfit, is_array_at, fit_together, puts_local, trap_found, fits_type_there}
 use Rattle.machine.specs.Given.{AreAddresses, AreHandles, IsGiven, ReferenceIsGiven, class_of_given, class_there, field_at, field_there, fits_there, name_there, no_field, operand_at, operand_of}
 use Rattle.machine.specs.HeapAgrees.{ReferenceAgrees, BlocksAgree}
 use Rattle.machine.proofs.ObjectsAtAddresses.{is_object}
 
 -- an address that the operand at a place gives
-pub address_of : (space : Space) (references : List (Option ℕ)) (operands : List Operand) (i : ℕ) → AreAddresses space references operands → (a : ℕ) → operand_at references (operand_of operands i) ≡ Some a → IsAddress space a
+pub address_of : (space : Space) (references : References) (operands : List Operand) (i : ℕ) → AreAddresses space references operands → (a : ℕ) → operand_at references (operand_of operands i) ≡ Some a → IsAddress space a
 address_of space references [] i h a e = absurd (cc)
 address_of space references (o ∷ operands) zero h a e = h.0 a e
 address_of space references (o ∷ operands) (suc i) h a e = address_of space references operands i h.1 a e
@@ -63,12 +66,23 @@ missing_is p (FieldActual None) fits = refl
 missing_is p NothingActual fits = absurd (cc)
 missing_is p a fits = refl
 
-module _ (classes : Classes) (space : Space) (references : List (Option ℕ)) (fields : List (Option FieldHandle)) where
+module _ (classes : Classes) (space : Space) (references : References) (fields : List (Option FieldHandle)) where
   null_reference : (x : Identifier) (o : Option ℕ) (q : Reference) → ReferenceAgrees space o q → is_null_actual (ReferenceActual x (as_static q)) ≡ is_none o
   null_reference x None None h = refl
   null_reference x None (Some n) h = absurd h
   null_reference x (Some a) None h = absurd h
   null_reference x (Some a) (Some n) h = refl
+
+  null_static : (x : Identifier) (h : Held) (r : StaticReference) → HeldAgrees space h r → is_null_actual (ReferenceActual x r) ≡ holds_null h
+  null_static x held.Empty Empty e = refl
+  null_static x held.Empty (Live n) e = absurd e
+  null_static x held.Empty Deleted e = absurd e
+  null_static x (held.At a) Empty e = absurd e
+  null_static x (held.At a) (Live n) e = refl
+  null_static x (held.At a) Deleted e = absurd e
+  null_static x held.Deleted Empty e = absurd e
+  null_static x held.Deleted (Live n) e = absurd e
+  null_static x held.Deleted Deleted e = refl
 
   null_field : (o : Option FieldHandle) (q : Option FieldId) → FieldAgrees classes o q → is_null_actual (FieldActual q) ≡ is_none o
   null_field None None h = refl
@@ -87,7 +101,7 @@ module _ (classes : Classes) (space : Space) (references : List (Option ℕ)) (f
   null_is operand.Null a (inr (inl h)) = ap is_null_actual h.is ∙ null_field None h.field h.agrees
   null_is operand.Null a (inr (inr h)) = ap is_null_actual h
   null_is (operand.Local i) a h = ap is_null_actual h.is ∙ null_reference h.name (operand_at references (operand.Local i)) h.reference h.agrees
-  null_is (operand.Static i) a h = ap is_null_actual h.is ∙ null_reference h.name None h.reference h.agrees
+  null_is (operand.Static i) a h = ap is_null_actual h.is ∙ null_static h.name (static_at references i) h.reference h.agrees
   null_is (operand.FieldId i) a h = ap is_null_actual h.is ∙ null_field (field_at fields (operand.FieldId i)) h.field h.agrees
 
   all_missing : (parameters : List ParameterKind) (operands : List Operand) (args : List Actual) → AllZip ActualFits parameters args → AllZip (IsGiven classes space references fields) operands args
@@ -102,29 +116,43 @@ module _ (classes : Classes) (space : Space) (references : List (Option ℕ)) (f
 
   -- ---- deleted statics
 
-  whole_reference : (x : Identifier) (q : Reference) → is_deleted (ReferenceActual x (as_static q)) ≡ false
+  whole_reference : (x : Identifier) (q : Reference) → false ≡ is_deleted (ReferenceActual x (as_static q))
   whole_reference x None = refl
   whole_reference x (Some n) = refl
 
-  whole : (o : Operand) (a : Actual) → IsGiven classes space references fields o a → is_deleted a ≡ false
-  whole operand.Number a h = ap is_deleted h.1
-  whole operand.Text a h = ap is_deleted h.1
-  whole (operand.Array array) a h = ap is_deleted h.1
-  whole (operand.Buffer i) a h = ap is_deleted h.1
-  whole (operand.Mode mode) a h = ap is_deleted h.1
-  whole (operand.IsCopy i) a h = ap is_deleted h.1
-  whole operand.Null a (inl h) = ap is_deleted h.is ∙ whole_reference h.name h.reference
-  whole operand.Null a (inr (inl h)) = ap is_deleted h.is
-  whole operand.Null a (inr (inr h)) = ap is_deleted h
-  whole (operand.Local i) a h = ap is_deleted h.is ∙ whole_reference h.name h.reference
-  whole (operand.Static i) a h = ap is_deleted h.is ∙ whole_reference h.name h.reference
-  whole (operand.FieldId i) a h = ap is_deleted h.is
+  deleted_static : (x : Identifier) (h : Held) (r : StaticReference) → HeldAgrees space h r → holds_deleted h ≡ is_deleted (ReferenceActual x r)
+  deleted_static x held.Empty Empty e = refl
+  deleted_static x held.Empty (Live n) e = absurd e
+  deleted_static x held.Empty Deleted e = absurd e
+  deleted_static x (held.At a) Empty e = absurd e
+  deleted_static x (held.At a) (Live n) e = refl
+  deleted_static x (held.At a) Deleted e = absurd e
+  deleted_static x held.Deleted Empty e = absurd e
+  deleted_static x held.Deleted (Live n) e = absurd e
+  deleted_static x held.Deleted Deleted e = refl
 
-  all_whole : (operands : List Operand) (args : List Actual) → AllZip (IsGiven classes space references fields) operands args → list_any is_deleted args ≡ false
-  all_whole [] [] h = refl
-  all_whole [] (a ∷ args) h = absurd h
-  all_whole (o ∷ operands) [] h = absurd h
-  all_whole (o ∷ operands) (a ∷ args) h = ap (λ b. b || list_any is_deleted args) (whole o a h.0) ∙ all_whole operands args h.1
+  deleted_is : (o : Operand) (a : Actual) → IsGiven classes space references fields o a → gives_deleted references o ≡ is_deleted a
+  deleted_is operand.Number a h = sym (ap is_deleted h.1)
+  deleted_is operand.Text a h = sym (ap is_deleted h.1)
+  deleted_is (operand.Array array) a h = sym (ap is_deleted h.1)
+  deleted_is (operand.Buffer i) a h = sym (ap is_deleted h.1)
+  deleted_is (operand.Mode mode) a h = sym (ap is_deleted h.1)
+  deleted_is (operand.IsCopy i) a h = sym (ap is_deleted h.1)
+  deleted_is operand.Null a (inl h) = whole_reference h.name h.reference ∙ sym (ap is_deleted h.is)
+  deleted_is operand.Null a (inr (inl h)) = sym (ap is_deleted h.is)
+  deleted_is operand.Null a (inr (inr h)) = sym (ap is_deleted h)
+  deleted_is (operand.Local i) a h = whole_reference h.name h.reference ∙ sym (ap is_deleted h.is)
+  deleted_is (operand.Static i) a h = deleted_static h.name (static_at references i) h.reference h.agrees ∙ sym (ap is_deleted h.is)
+  deleted_is (operand.FieldId i) a h = sym (ap is_deleted h.is)
+
+  all_deleted : (operands : List Operand) (args : List Actual) → AllZip (IsGiven classes space references fields) operands args → list_any (gives_deleted references) operands ≡ list_any is_deleted args
+  all_deleted [] [] h = refl
+  all_deleted [] (a ∷ args) h = absurd h
+  all_deleted (o ∷ operands) [] h = absurd h
+  all_deleted (o ∷ operands) (a ∷ args) h =
+      let one = deleted_is o a h.0 in
+      let further = all_deleted operands args h.1 in
+      λ i. one i || further i
 
   -- ---- the reference of an argument
 
@@ -134,6 +162,17 @@ module _ (classes : Classes) (space : Space) (references : List (Option ℕ)) (f
 
   one_reference : (o : Operand) (a : Actual) → ReferenceIsGiven space references o a → ReferenceAgrees space (operand_at references o) (reference_in_actual (Some a))
   one_reference o a h = subst (λ q. ReferenceAgrees space (operand_at references o) q) (sym (ap (λ b. reference_in_actual (Some b)) h.is ∙ reference_itself h.name h.reference)) h.agrees
+
+  static_reference : (x : Identifier) (h : Held) (r : StaticReference) → HeldAgrees space h r → ReferenceAgrees space (held_address h) (reference_in_actual (Some (ReferenceActual x r)))
+  static_reference x held.Empty Empty e = tt
+  static_reference x held.Empty (Live n) e = absurd e
+  static_reference x held.Empty Deleted e = absurd e
+  static_reference x (held.At a) Empty e = absurd e
+  static_reference x (held.At a) (Live n) e = e
+  static_reference x (held.At a) Deleted e = absurd e
+  static_reference x held.Deleted Empty e = absurd e
+  static_reference x held.Deleted (Live n) e = absurd e
+  static_reference x held.Deleted Deleted e = tt
 
   no_reference : (a b : Actual) → a ≡ b → ReferenceAgrees space None (reference_in_actual (Some b)) → ReferenceAgrees space None (reference_in_actual (Some a))
   no_reference a b is h = subst (λ (c : Actual). ReferenceAgrees space None (reference_in_actual (Some c))) (sym is) h
@@ -145,7 +184,7 @@ module _ (classes : Classes) (space : Space) (references : List (Option ℕ)) (f
   reference_is operand.Null a (inr (inl h)) = no_reference a (FieldActual h.field) h.is tt
   reference_is operand.Null a (inr (inr h)) = no_reference a NothingActual h tt
   reference_is (operand.Local i) a h = one_reference (operand.Local i) a h
-  reference_is (operand.Static i) a h = one_reference (operand.Static i) a h
+  reference_is (operand.Static i) a h = subst (λ (b : Actual). ReferenceAgrees space (held_address (static_at references i)) (reference_in_actual (Some b))) (sym h.is) (static_reference h.name (static_at references i) h.reference h.agrees)
   reference_is (operand.FieldId i) a h = no_reference a (FieldActual h.field) h.is tt
   reference_is (operand.Array array) a h = no_reference a (VariableActual h.0) h.1 tt
   reference_is (operand.Buffer i) a h = no_reference a (VariableActual h.0) h.1 tt
@@ -238,6 +277,21 @@ module _ (classes : Classes) (space : Space) (references : List (Option ℕ)) (f
     reference_misfit p x (Some a) None h = absurd h
     reference_misfit p x (Some a) (Some n) h = ap (class_misfits classes p) (class_is a n h) ∙ sym (live_misfit p x n)
 
+    deleted_fits : (p : ParameterKind) (x : Identifier) → is_misfit classes heap (p, ReferenceActual x Deleted) ≡ false
+    deleted_fits ClassObject x = refl
+    deleted_fits p x = refl
+
+    static_misfit : (p : ParameterKind) (x : Identifier) (h : Held) (r : StaticReference) → HeldAgrees space h r → misfits classes space p (held_address h) ≡ is_misfit classes heap (p, ReferenceActual x r)
+    static_misfit p x held.Empty Empty e = sym (empty_fits p x)
+    static_misfit p x held.Empty (Live n) e = absurd e
+    static_misfit p x held.Empty Deleted e = absurd e
+    static_misfit p x (held.At a) Empty e = absurd e
+    static_misfit p x (held.At a) (Live n) e = reference_misfit p x (Some a) (Some n) e
+    static_misfit p x (held.At a) Deleted e = absurd e
+    static_misfit p x held.Deleted Empty e = absurd e
+    static_misfit p x held.Deleted (Live n) e = absurd e
+    static_misfit p x held.Deleted Deleted e = sym (deleted_fits p x)
+
     given_misfit : (p : ParameterKind) (o : Operand) (a : Actual) → ReferenceIsGiven space references o a → misfits classes space p (operand_at references o) ≡ is_misfit classes heap (p, a)
     given_misfit p o a h = reference_misfit p h.name (operand_at references o) h.reference h.agrees ∙ ap (λ b. is_misfit classes heap (p, b)) (sym h.is)
 
@@ -252,7 +306,7 @@ module _ (classes : Classes) (space : Space) (references : List (Option ℕ)) (f
     misfit_is p operand.Null a (inr (inl h)) = sym (ap (λ b. is_misfit classes heap (p, b)) h.is ∙ field_fits p h.field)
     misfit_is p operand.Null a (inr (inr h)) = sym (ap (λ b. is_misfit classes heap (p, b)) h ∙ nothing_fits p)
     misfit_is p (operand.Local i) a h = given_misfit p (operand.Local i) a h
-    misfit_is p (operand.Static i) a h = given_misfit p (operand.Static i) a h
+    misfit_is p (operand.Static i) a h = static_misfit p h.name (static_at references i) h.reference h.agrees ∙ ap (λ b. is_misfit classes heap (p, b)) (sym h.is)
     misfit_is p (operand.FieldId i) a h = sym (ap (λ b. is_misfit classes heap (p, b)) h.is ∙ field_fits p h.field)
 
     all_misfit : (parameters : List ParameterKind) (operands : List Operand) (args : List Actual) → AllZip (IsGiven classes space references fields) operands args
@@ -357,9 +411,6 @@ module _ (classes : Classes) (space : Space) (references : List (Option ℕ)) (f
     room_is NewLocal has_room frame h = sym h
     room_is kind has_room frame h = refl
 
-    with_deleted : (p m w r : Bool) → first_trap ((p, ExceptionPending) ∷ (m, NullReference) ∷ (w, WrongObject) ∷ (r, NoCapacity) ∷ []) ≡ first_trap ((p, ExceptionPending) ∷ (false, DeletedReference) ∷ (m, NullReference) ∷ (w, WrongObject) ∷ (r, NoCapacity) ∷ [])
-    with_deleted true m w r = refl
-    with_deleted false m w r = refl
 
     -- the trap that is found is the source's
     pub found_is : (is_pending has_room : Bool) (f : JniFunction) (operands : List Operand) (args : List Actual) (s : Shared) (t : Thread) (target : Target) → is_answered f ≡ true → s.heap ≡ heap → is_pending ≡ is_some t.pending
@@ -368,11 +419,10 @@ module _ (classes : Classes) (space : Space) (references : List (Option ℕ)) (f
     unfolding call_trap
     found_is is_pending has_room f operands args s t target built same pending room fit h =
         let buffer = target_element t.variables target in
-        let deleted = sym (all_whole operands args h) in
+        let deleted = all_deleted operands args h in
         let missing = all_missing (prototype f).parameters operands args fit h in
         let misfit = all_misfit (prototype f).parameters operands args h in
         let together = together_is buffer operands args h f built in
         let lacks = room_is (prototype f).result has_room (slice_get (frames_after f t.frames) 0) room in
-        with_deleted (is_pending && not (is_allowed_pending f)) (some_missing references fields (prototype f).parameters operands) (some_misfit classes space references (prototype f).parameters operands || not (fit_together classes space references fields operands f)) (puts_local (prototype f).result && not has_room)
-        ∙ (λ i. first_trap ((pending i && not (is_allowed_pending f), ExceptionPending) ∷ (deleted i, DeletedReference) ∷ (missing i, NullReference) ∷ (misfit i || not (together i), WrongObject) ∷ (lacks i, NoCapacity) ∷ []))
+        (λ i. first_trap ((pending i && not (is_allowed_pending f), ExceptionPending) ∷ (deleted i, DeletedReference) ∷ (missing i, NullReference) ∷ (misfit i || not (together i), WrongObject) ∷ (lacks i, NoCapacity) ∷ []))
         ∙ ap (λ g. call_trap classes g t buffer f args) (sym same)

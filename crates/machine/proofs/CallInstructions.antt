@@ -21,7 +21,7 @@ use Rattle.source.specs.Thread.{BuffersInUse, Shared, sight_of, viewed_by}
 use Rattle.source.specs.Value.{Int, Trap as SourceTrap}
 use Rattle.source.specs.World.{World}
 use Rattle.code.specs.Call.{Call, call_view}
-use Rattle.code.specs.Depth.{Listing, depth_after}
+use Rattle.code.specs.Depth.{Listing, with_fewer, words_taken}
 use Rattle.code.specs.declared.instr.Call.{Call as InMemory}
 use Rattle.code.specs.declared.instr.Instr.TheVariants as instr
 use Rattle.code.specs.declared.instr.Target.{Target as Destination}
@@ -39,7 +39,8 @@ use Rattle.machine.specs.declared.thread.Event.TheVariants as event
 use Rattle.machine.specs.declared.thread.Executed.TheVariants.{Did}
 use Rattle.machine.specs.Agrees.{Executes, GoesOn, WorkAgrees, after_any}
 use Rattle.machine.specs.Answers.{IsAnswer}
-use Rattle.machine.specs.Asked.{IsAsked}
+use Rattle.machine.specs.Asked.{IsAsked, references_of}
+use Rattle.machine.specs.Statics.{all_held}
 use Rattle.machine.specs.CarriedOut.{CarriesOut, IsPossible, can_fail, frames_left, pending_after, result_after, shared_after}
 use Rattle.machine.specs.Checked.{is_answered, puts_local}
 use Rattle.machine.specs.Frames.{Frame, frames_after, has_room}
@@ -165,20 +166,22 @@ stays_with classes space kind shared s answers.RefusesFrames (Leaves made s' t' 
 
 -- where the result goes is there
 module _ (p : Lowered) (classes : Classes) (space : Space) (call : Activation) (code : Listing) (visible : Visible) (frames : List source.Frame) (task : Task) (rest : List Task) (r : Ready p classes space call code visible frames task rest) where
-  target_there : (d : Destination) (kind : ResultKind) (target : Target) → TakesResult code r.known call.place call.stack (slots_of call r.references r.fields) visible d kind target rest → HasTarget d call
-  target_there destination.Dropped kind target h = (tt, tt, tt, tt)
-  target_there (destination.Number i) kind (Declared declared x) h = (h.2.1.within, tt, tt, tt)
-  target_there (destination.Number i) kind (Assigned x) h = (h.2.1.within, tt, tt, tt)
-  target_there (destination.Number i) kind (Tested a b) h = absurd h.2
-  target_there (destination.Number i) kind Dropped h = absurd h.2
-  target_there (destination.Local i) kind (Declared declared x) h = (tt, omega (arith, h.1.1.within, agree_count space call.references.items r.references r.agree), omega (arith, h.1.1.within, r.level_count, agree_count space call.references.items r.references r.agree), tt)
-  target_there (destination.Local i) kind (Assigned x) h = (tt, omega (arith, h.1.1.within, agree_count space call.references.items r.references r.agree), omega (arith, h.1.1.within, r.level_count, agree_count space call.references.items r.references r.agree), tt)
-  target_there (destination.Local i) kind (Tested a b) h = absurd h.1
-  target_there (destination.Local i) kind Dropped h = absurd h.1
-  target_there (destination.FieldId i) kind (Declared declared x) h = (tt, tt, tt, omega (arith, h.1.1.within, fields_count classes call.fields.items r.fields r.fields_agree))
-  target_there (destination.FieldId i) kind (Assigned x) h = (tt, tt, tt, omega (arith, h.1.1.within, fields_count classes call.fields.items r.fields r.fields_agree))
-  target_there (destination.FieldId i) kind (Tested a b) h = absurd h.1
-  target_there (destination.FieldId i) kind Dropped h = absurd h.1
+  target_there : (line : ℕ) (d : Destination) (kind : ResultKind) (target : Target) → TakesResult code r.known call.place call.stack (slots_of call r.references r.fields) visible line d kind target rest → HasTarget d call
+  target_there line destination.Dropped kind target h = (tt, tt, tt, tt)
+  target_there line (destination.Number i) kind (Declared declared x) h = (h.2.1.within, tt, tt, tt)
+  target_there line (destination.Number i) kind (Assigned x) h = (h.2.1.within, tt, tt, tt)
+  target_there line (destination.Number i) kind (Tested a b) h = absurd h.2
+  target_there line (destination.Number i) kind Dropped h = absurd h.2
+  target_there line (destination.Local i) kind (Declared declared x) h = (tt, omega (arith, h.1.1.within, agree_count space call.references.items r.references r.agree), omega (arith, h.1.1.within, r.level_count, agree_count space call.references.items r.references r.agree), tt)
+  target_there line (destination.Local i) kind (Assigned x) h = (tt, omega (arith, h.1.1.within, agree_count space call.references.items r.references r.agree), omega (arith, h.1.1.within, r.level_count, agree_count space call.references.items r.references r.agree), tt)
+  target_there line (destination.Local i) kind (Tested a b) h = absurd h.1
+  target_there line (destination.Local i) kind Dropped h = absurd h.1
+  target_there line (destination.FieldId i) kind (Declared declared x) h = (tt, tt, tt, omega (arith, h.1.1.within, fields_count classes call.fields.items r.fields r.fields_agree))
+  target_there line (destination.FieldId i) kind (Assigned x) h = (tt, tt, tt, omega (arith, h.1.1.within, fields_count classes call.fields.items r.fields r.fields_agree))
+  target_there line (destination.FieldId i) kind (Tested a b) h = absurd h.1
+  target_there line (destination.FieldId i) kind Dropped h = absurd h.1
+  target_there line (destination.Static i) kind target h = (tt, tt, tt, tt)
+  target_there line destination.Test kind target h = (tt, tt, tt, tt)
 
 -- a local reference has room
 frame_by : (kind : ResultKind) (frames : List Frame) → (puts_local kind && not (has_room frames)) ≡ false → HasRoom kind frames
@@ -201,8 +204,8 @@ pub record CalledAs (p : Lowered) (w : World) (store : Store) (pending : Option 
   pub is : effect ≡ Calls line target f args
   pub asked : IsAsked p w store pending call function shared s f args
   pub same_line : function.line ≡ line
-  pub goes : TakesResult code r.known call.place call.stack (slots_of call r.references r.fields) (visible_to shared s) function.target (prototype f).result target rest
-  pub left : depth_after (instr.Call function) (length call.stack) ≡ Some 0
+  pub goes : TakesResult code r.known call.place call.stack (slots_of call r.references r.fields) (visible_to shared s) line function.target (prototype f).result target rest
+  pub left : with_fewer (words_taken function.operands) (length call.stack) ≡ Some 0
 
 module _ (p : Lowered) (w : World) (store : Store) (pending : Option ℕ) (call : Activation) (in_memory : InMemory) (shared : Shared) (s : source.Thread) (task : Task) (rest : List Task) (h : AtCall p w store pending call in_memory shared s task rest) where
   abbrev pub function : Call
@@ -217,7 +220,7 @@ module _ (p : Lowered) (w : World) (store : Store) (pending : Option ℕ) (call 
   called_by : (line : ℕ) (target : Target) (f : JniFunction) (args : List Actual) → CallsFunction h.code r.known call.place call.stack (slots_of call r.references r.fields) (visible_to shared s) line target f args rest → Called (Calls line target f args)
   called_by line target f args c =
       let same : c.call ≡ function = let both : instr.Call c.call ≡ instr.Call function = cc (h.at, c.at) in cc in
-      let given = all_given p w.classes store.heap call h.code (visible_to shared s) s.frames task rest r function.operands args
+      let given = all_given p w.classes store.heap call h.code (visible_to shared s) s.frames task rest r (all_held store.globals store.statics.items) h.shares.statics function.operands args
       (subst (λ (x : Call). AllZip (IsOperand h.code r.known call.place call.stack (slots_of call r.references r.fields) (visible_to shared s)) x.operands args) same c.given) in
       record {
         line = line;
@@ -239,8 +242,8 @@ module _ (p : Lowered) (w : World) (store : Store) (pending : Option ℕ) (call 
           texts = ap (λ (x : Call). x.texts) (sym same) ∙ c.texts;
         };
         same_line = ap (λ (x : Call). x.line) (sym same) ∙ c.same_line;
-        goes = subst (λ (x : Call). TakesResult h.code r.known call.place call.stack (slots_of call r.references r.fields) (visible_to shared s) x.target (prototype f).result target rest) same c.goes;
-        left = none_left_after w.classes store.heap call.references.items call.fields.items function.operands args call.stack given c.words;
+        goes = subst (λ (x : Call). TakesResult h.code r.known call.place call.stack (slots_of call r.references r.fields) (visible_to shared s) line x.target (prototype f).result target rest) same c.goes;
+        left = none_left_after w.classes store.heap (references_of store call) call.fields.items function.operands args call.stack given c.words;
       }
 
   pub called : Called (effect_of (sight_of shared s) task)
@@ -248,7 +251,7 @@ module _ (p : Lowered) (w : World) (store : Store) (pending : Option ℕ) (call 
 
   -- its slot is there
   pub has_target : HasTarget in_memory.target call
-  has_target = target_there p w.classes store.heap call h.code (visible_to shared s) s.frames task rest r function.target (prototype called.f).result called.target called.goes
+  has_target = target_there p w.classes store.heap call h.code (visible_to shared s) s.frames task rest r called.line function.target (prototype called.f).result called.target called.goes
 
   -- a call of it can be carried out
   pub possible : IsPossible p w store pending call.frames.items (prototype called.f).result shared s
@@ -301,12 +304,12 @@ module _ (p : Lowered) (w : World) (store : Store) (pending : Option ℕ) (call 
         let left = frames_left refused s effect in
         let q = pending_after w.classes refused shared s effect in
         let c = result_after (prototype called.f).result refused effect in
-        let ends = finishes p w store.heap store'.heap shared next carried.keeps s h.viewless call h.code task rest r called.line called.f called.args frames left carried.frames_agree q g c carried.given_agrees function h.at called.left after function.target called.target called.goes received in
+        let ends = finishes p w store.heap store'.heap shared next carried.keeps s h.viewless call h.code task rest r called.line called.f called.args frames left carried.frames_agree q g c carried.given_agrees function h.at called.left after function.target called.target refl called.goes received in
         let steps = step_leaves w.classes lent k shared s called.line called.target called.f called.args rest refused effect (effect_is free lent k) (stays_with w.classes store.heap (prototype called.f).result shared s answer effect does) carried.could_refuse in
         subst (λ (e : Effect). GoesOn p w store.heap store' lent k shared s rest after pending' e refused event.Quiet) (sym called.is) (record {
           next_shared = next;
-          next = going called.line called.f called.args rest s left q c ends.variables;
-          steps = stepped refused (going called.line called.f called.args rest s left q c ends.variables) next (steps ∙ ends.steps);
+          next = going called.line called.f called.args ends.tasks s left q c ends.variables;
+          steps = stepped refused (going called.line called.f called.args ends.tasks s left q c ends.variables) next (steps ∙ ends.steps);
           store_agrees = carried.store_agrees;
           keeps = carried.keeps;
           work = ends.stands;

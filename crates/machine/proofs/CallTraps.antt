@@ -2,7 +2,7 @@
 use Rattle.std.proofs.Common.{◌≡◌, ℕ, Bool, true, false, not, List, [], ◌∷◌, Option, Some, None, is_some, refl, ◌∙◌, subst}
 use Rattle.std.specs.Prelude.{◌&&◌, ◌||◌, IsSome}
 use Rattle.std.specs.Option.{option_map}
-use Rattle.std.specs.List.{AllZip}
+use Rattle.std.specs.List.{AllZip, list_any}
 use Rattle.classes.specs.Class.{Classes}
 use Rattle.classes.specs.Fields.{FieldId}
 use Rattle.class_table.specs.FieldViews.{field_of}
@@ -19,14 +19,18 @@ use Rattle.source.specs.Checks.{first_trap, frames_after}
 use Rattle.source.specs.Object.{Reference}
 use Rattle.source.specs.Task.{Target}
 use Rattle.source.specs.Thread.{Shared, Thread}
-use Rattle.source.specs.Value.{NullReference, ExceptionPending, WrongObject, NoCapacity}
+use Rattle.source.specs.Value.{NullReference, ExceptionPending, WrongObject, DeletedReference, NoCapacity}
+use Rattle.source.specs.Variable.{StaticReference, Empty, Live, Deleted}
 use Rattle.source.specs.World.{World}
 use Rattle.lower.specs.Lowered.{Lowered}
 use Rattle.machine.specs.declared.store.Store.{Store}
 use Rattle.machine.specs.declared.thread.Activation.{Activation}
-use Rattle.machine.specs.Agrees.{FieldAgrees}
-use Rattle.machine.specs.Asked.{IsAsked}
-use Rattle.machine.specs.Checked.{fit_together, some_missing, some_misfit, puts_local, trap_found}
+use Rattle.machine.specs.Agrees.{FieldAgrees, HeldAgrees}
+use Rattle.machine.specs.Asked.{IsAsked, references_of}
+use Rattle.machine.specs.Statics.{References, held_address, static_at}
+use Rattle.machine.specs.declared.statics.Held.{Held}
+use Rattle.machine.specs.declared.statics.Held.TheVariants as held
+use Rattle.machine.specs.Checked.{fit_together, gives_deleted, some_missing, some_misfit, puts_local, trap_found}
 use Rattle.machine.specs.Frames as memory
 use Rattle.machine.specs.Frames.{has_room}
 use Rattle.machine.specs.Given.{operand_at, field_at, AreAddresses, AreHandles, IsGiven}
@@ -61,7 +65,7 @@ is_handle classes (Some g) (Some f) h agrees e =
     some_field None h = absurd (cc)
     some_field (Some x) h = refl
 
-module _ (classes : Classes) (space : Space) (references : List (Option ℕ)) (fields : List (Option FieldHandle)) where
+module _ (classes : Classes) (space : Space) (references : References) (fields : List (Option FieldHandle)) where
   one_address : (o : Operand) (a : Actual) → IsGiven classes space references fields o a → (b : ℕ) → operand_at references o ≡ Some b → IsAddress space b
   one_address operand.Number a h b e = absurd (cc)
   one_address operand.Text a h b e = absurd (cc)
@@ -72,7 +76,14 @@ module _ (classes : Classes) (space : Space) (references : List (Option ℕ)) (f
   one_address (operand.FieldId i) a h b e = absurd (cc)
   one_address operand.Null a h b e = absurd (cc)
   one_address (operand.Local i) a h b e = is_address space (operand_at references (operand.Local i)) h.reference b h.agrees e
-  one_address (operand.Static i) a h b e = absurd (cc)
+  one_address (operand.Static i) a h b e = static_address (static_at references i) h.reference b h.agrees e
+    where
+      static_address : (x : Held) (r : StaticReference) (b : ℕ) → HeldAgrees space x r → held_address x ≡ Some b → IsAddress space b
+      static_address held.Empty r b h e = absurd (cc)
+      static_address held.Deleted r b h e = absurd (cc)
+      static_address (held.At a) Empty b h e = absurd h
+      static_address (held.At a) (Live n) b h e = is_address space (Some a) (Some n) b h e
+      static_address (held.At a) Deleted b h e = absurd h
 
   one_handle : (o : Operand) (a : Actual) → IsGiven classes space references fields o a → (g : FieldHandle) → field_at fields o ≡ Some g → IsSome (field_of classes g)
   one_handle operand.Number a h g e = absurd (cc)
@@ -101,18 +112,20 @@ module _ (classes : Classes) (space : Space) (references : List (Option ℕ)) (f
 -- ---- tests that passed
 
 -- no test of these holds
-pub record Passed (p m w r : Bool) : Type 0 where
+pub record Passed (p d m w r : Bool) : Type 0 where
   pub pending : p ≡ false
+  pub deleted : d ≡ false
   pub missing : m ≡ false
   pub wrong : w ≡ false
   pub room : r ≡ false
 
-pub all_passed : (p m w r : Bool) → first_trap ((p, ExceptionPending) ∷ (m, NullReference) ∷ (w, WrongObject) ∷ (r, NoCapacity) ∷ []) ≡ None → Passed p m w r
-all_passed true m w r h = absurd (cc)
-all_passed false true w r h = absurd (cc)
-all_passed false false true r h = absurd (cc)
-all_passed false false false true h = absurd (cc)
-all_passed false false false false h = record { pending = refl; missing = refl; wrong = refl; room = refl }
+pub all_passed : (p d m w r : Bool) → first_trap ((p, ExceptionPending) ∷ (d, DeletedReference) ∷ (m, NullReference) ∷ (w, WrongObject) ∷ (r, NoCapacity) ∷ []) ≡ None → Passed p d m w r
+all_passed true d m w r h = absurd (cc)
+all_passed false true m w r h = absurd (cc)
+all_passed false false true w r h = absurd (cc)
+all_passed false false false true r h = absurd (cc)
+all_passed false false false false true h = absurd (cc)
+all_passed false false false false false h = record { pending = refl; deleted = refl; missing = refl; wrong = refl; room = refl }
 
 -- neither of two holds
 pub neither : (a b : Bool) → (a || not b) ≡ false → (a ≡ false) × (b ≡ true)
@@ -127,36 +140,40 @@ same_pending space (Some a) None h = absurd h
 same_pending space (Some a) (Some n) h = refl
 
 module _ (p : Lowered) (w : World) (store : Store) (pending : Option ℕ) (call : Activation) (function : Call) (shared : Shared) (s : Thread) (f : JniFunction) (args : List Actual) (h : IsAsked p w store pending call function shared s f args) where
-  pub objects_there : AreAddresses store.heap call.references.items function.operands
-  objects_there = all_addresses w.classes store.heap call.references.items call.fields.items function.operands args h.given
+  pub objects_there : AreAddresses store.heap (references_of store call) function.operands
+  objects_there = all_addresses w.classes store.heap (references_of store call) call.fields.items function.operands args h.given
 
   pub handles_there : AreHandles w.classes call.fields.items function.operands
-  handles_there = all_handles w.classes store.heap call.references.items call.fields.items function.operands args h.given
+  handles_there = all_handles w.classes store.heap (references_of store call) call.fields.items function.operands args h.given
 
-  pub found_is : (target : Target) → trap_found w.classes store.heap (is_some pending) (has_room (memory.frames_after f call.frames.items)) call.references.items call.fields.items f function.operands ≡ trap_of_call w.classes shared s target f args
+  pub found_is : (target : Target) → trap_found w.classes store.heap (is_some pending) (has_room (memory.frames_after f call.frames.items)) (references_of store call) call.fields.items f function.operands ≡ trap_of_call w.classes shared s target f args
   found_is target =
-      checks.found_is w.classes store.heap call.references.items call.fields.items shared.heap h.store_agrees.heap.blocks (is_some pending) (has_room (memory.frames_after f call.frames.items)) f function.operands args shared s target h.answered refl
+      checks.found_is w.classes store.heap (references_of store call) call.fields.items shared.heap h.store_agrees.heap.blocks (is_some pending) (has_room (memory.frames_after f call.frames.items)) f function.operands args shared s target h.answered refl
       (same_pending store.heap pending s.pending h.pending_agrees) (full_where store.heap (memory.frames_after f call.frames.items) (frames_after f s.frames) (frames_left store.heap f call.frames.items s.frames h.frames_agree)) h.fit h.given
 
   module _ (target : Target) (free : trap_of_call w.classes shared s target f args ≡ None) where
-    passed : Passed (is_some pending && not (is_allowed_pending f)) (some_missing call.references.items call.fields.items (prototype f).parameters function.operands)
-        (some_misfit w.classes store.heap call.references.items (prototype f).parameters function.operands || not (fit_together w.classes store.heap call.references.items call.fields.items function.operands f)) (puts_local (prototype f).result && not (has_room (memory.frames_after f call.frames.items)))
-    passed = all_passed (is_some pending && not (is_allowed_pending f)) (some_missing call.references.items call.fields.items (prototype f).parameters function.operands)
-        (some_misfit w.classes store.heap call.references.items (prototype f).parameters function.operands || not (fit_together w.classes store.heap call.references.items call.fields.items function.operands f)) (puts_local (prototype f).result && not (has_room (memory.frames_after f call.frames.items))) (found_is target ∙ free)
+    passed : Passed (is_some pending && not (is_allowed_pending f)) (list_any (gives_deleted (references_of store call)) function.operands) (some_missing (references_of store call) call.fields.items (prototype f).parameters function.operands)
+        (some_misfit w.classes store.heap (references_of store call) (prototype f).parameters function.operands || not (fit_together w.classes store.heap (references_of store call) call.fields.items function.operands f)) (puts_local (prototype f).result && not (has_room (memory.frames_after f call.frames.items)))
+    passed = all_passed (is_some pending && not (is_allowed_pending f)) (list_any (gives_deleted (references_of store call)) function.operands) (some_missing (references_of store call) call.fields.items (prototype f).parameters function.operands)
+        (some_misfit w.classes store.heap (references_of store call) (prototype f).parameters function.operands || not (fit_together w.classes store.heap (references_of store call) call.fields.items function.operands f)) (puts_local (prototype f).result && not (has_room (memory.frames_after f call.frames.items))) (found_is target ∙ free)
 
-    fitting : (some_misfit w.classes store.heap call.references.items (prototype f).parameters function.operands ≡ false) × (fit_together w.classes store.heap call.references.items call.fields.items function.operands f ≡ true)
-    fitting = neither (some_misfit w.classes store.heap call.references.items (prototype f).parameters function.operands) (fit_together w.classes store.heap call.references.items call.fields.items function.operands f) passed.wrong
+    fitting : (some_misfit w.classes store.heap (references_of store call) (prototype f).parameters function.operands ≡ false) × (fit_together w.classes store.heap (references_of store call) call.fields.items function.operands f ≡ true)
+    fitting = neither (some_misfit w.classes store.heap (references_of store call) (prototype f).parameters function.operands) (fit_together w.classes store.heap (references_of store call) call.fields.items function.operands f) passed.wrong
 
     -- the arguments go together
-    pub has_passed : fit_together w.classes store.heap call.references.items call.fields.items function.operands f ≡ true
+    pub has_passed : fit_together w.classes store.heap (references_of store call) call.fields.items function.operands f ≡ true
     has_passed = fitting.1
 
+    -- no operand gives a static that is marked as deleted
+    pub none_deleted : list_any (gives_deleted (references_of store call)) function.operands ≡ false
+    none_deleted = passed.deleted
+
     -- no operand gives NULL where that isn't allowed
-    pub none_lacking : some_missing call.references.items call.fields.items (prototype f).parameters function.operands ≡ false
+    pub none_lacking : some_missing (references_of store call) call.fields.items (prototype f).parameters function.operands ≡ false
     none_lacking = passed.missing
 
     -- none gives an object of another kind
-    pub none_unfit : some_misfit w.classes store.heap call.references.items (prototype f).parameters function.operands ≡ false
+    pub none_unfit : some_misfit w.classes store.heap (references_of store call) (prototype f).parameters function.operands ≡ false
     none_unfit = fitting.0
 
     -- a local reference has room

@@ -40,7 +40,7 @@ use Rattle.machine.specs.Agrees.{CallStands, ReferencesAgree, FieldsAgree, Frame
 pub code_lowered : (statics : Known) (items : List Item) (codes : List Listing) (n : ℕ) (code : Listing) → AreCodesOf statics items codes → slice_get codes n ≡ Some code → (before : Known) × (f : Function) × IsCodeOf before f code
 code_lowered statics [] [] n code h e = absurd (cc)
 code_lowered statics [] (c ∷ codes) n code h e = absurd h
-code_lowered statics (StaticItem s ∷ items) codes n code h e = code_lowered (with_static s statics) items codes n code h e
+code_lowered statics (StaticItem s ∷ items) codes n code h e = code_lowered (with_static s statics) items codes n code h.1 e
 code_lowered statics (FunctionItem f ∷ items) [] n code h e = absurd h
 code_lowered statics (FunctionItem f ∷ items) (c ∷ codes) zero code h e = (statics, f, let s : c ≡ code = cc in subst (IsCodeOf statics f) s h.0)
 code_lowered statics (FunctionItem f ∷ items) (c ∷ codes) (suc n) code h e = code_lowered statics items codes n code h.1 e
@@ -86,9 +86,9 @@ plain_instr (instr.ReturnReference operand) s m x h = absurd (cc)
 plain_instr i s m x h = tt
 
 -- a plain instruction works on the stack
-pub plain_works : (slots : Slots) (i : Instr) (stack : List ℕ) (way : Plain) (after : List ℕ) → IsPlain i → Works slots i stack way after → plain_of i stack slots.numbers ≡ Some (way, after, slots.numbers)
-plain_works slots (instr.TestNull variable equal) stack way after p h = absurd p
-plain_works slots i stack way after p h = h
+pub plain_works : (visible : Visible) (slots : Slots) (i : Instr) (stack : List ℕ) (way : Plain) (after : List ℕ) → IsPlain i → Works visible slots i stack way after → plain_of i stack slots.numbers ≡ Some (way, after, slots.numbers)
+plain_works visible slots (instr.TestNull variable equal) stack way after p h = absurd p
+plain_works visible slots i stack way after p h = h
 
 -- what works on the stack is plain, or a test of NULL
 abbrev pub IsNullTest : Instr → Type 0

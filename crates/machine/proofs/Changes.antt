@@ -8,6 +8,7 @@ use Rattle.std.proofs.lemmas.Slice.Eq.{bytes_eq-Decides}
 use Rattle.base.specs.Bytes.{Identifier, ByName, lookup}
 use Rattle.base.specs.Element.{ElementType}
 use Rattle.classes.specs.Fields.{FieldId}
+use Rattle.source.specs.CallEffects.{level_of}
 use Rattle.source.specs.Object.{Reference}
 use Rattle.source.specs.Sight.{scalar, holds_null, elements_of, in_range, held_reference, held_field}
 use Rattle.source.specs.Thread as source
@@ -140,25 +141,29 @@ module _ (shared : Shared) (s t : source.Thread) (x : Identifier) (v : Variable)
         field = ap held_field same;
         array_type = ap type_of_array same;
         kind = ap kind_of_variable same;
+        level = ap level_of same;
       }
 
   element_of : (i : ℕ) → (visible_to shared t).sight.element x i ≡ outcome_then (λ (zs : List ℤ). in_range (slice_get zs i)) (elements_of shared.heap (Some v))
   element_of i = ap (λ (o : Option Variable). outcome_then (λ (zs : List ℤ). in_range (slice_get zs i)) (elements_of shared.heap o)) found
 
   -- a variable that is NULL
-  pub is_nulled : (kind : Option VariableKind) → scalar (Some v) ≡ Stuck → holds_null (Some v) (lookup x shared.statics) ≡ Gives true → held_reference (Some v) (lookup x shared.statics) ≡ Empty → held_field (Some v) ≡ None → kind_of_variable (Some v) ≡ kind → IsNulled (visible_to shared s) kind x (visible_to shared t)
-  is_nulled kind number null reference field same_kind = record {
+  pub is_nulled : (kind : VariableKind) → scalar (Some v) ≡ Stuck → holds_null (Some v) (lookup x shared.statics) ≡ Gives true → held_reference (Some v) (lookup x shared.statics) ≡ Empty → held_field (Some v) ≡ None → type_of_array (Some v) ≡ None → kind_of_variable (Some v) ≡ Some kind
+      → IsNulled (visible_to shared s) (Some kind) x (visible_to shared t)
+  is_nulled kind number null reference field no_array same_kind = record {
     number = ap scalar found ∙ number;
     is_null = ap (λ (o : Option Variable). holds_null o (lookup x shared.statics)) found ∙ null;
     reference = ap (λ (o : Option Variable). held_reference o (lookup x shared.statics)) found ∙ reference;
     field = ap held_field found ∙ field;
+    array_type = ap type_of_array found ∙ no_array;
     same_kind = ap kind_of_variable found ∙ same_kind;
+    statics = refl;
     others = others;
   }
 
 -- a number
 pub is_set : (shared : Shared) (s t : source.Thread) (x : Identifier) (v : Value) → t.variables ≡ assign x (Scalar v) s.variables → IsSet (visible_to shared s) x v (visible_to shared t)
-is_set shared s t x v e = record { is = ap scalar (found shared s t x (Scalar v) e); kind = ap kind_of_variable (found shared s t x (Scalar v) e); others = others shared s t x (Scalar v) e }
+is_set shared s t x v e = record { is = ap scalar (found shared s t x (Scalar v) e); kind = ap kind_of_variable (found shared s t x (Scalar v) e); statics = refl; others = others shared s t x (Scalar v) e }
 
 -- a local reference
 pub is_referred : (shared : Shared) (s t : source.Thread) (x : Identifier) (level : ℕ) (r : Reference) → t.variables ≡ assign x (LocalRef level r) s.variables → IsReferred (visible_to shared s) x r (visible_to shared t)
@@ -169,6 +174,7 @@ is_referred shared s t x level r e =
       is_null = ap (λ (o : Option Variable). holds_null o (lookup x shared.statics)) is;
       reference = ap (λ (o : Option Variable). held_reference o (lookup x shared.statics)) is;
       kind = ap kind_of_variable is;
+      statics = refl;
       others = others shared s t x (LocalRef level r) e;
     }
 
@@ -181,6 +187,7 @@ is_field_set shared s t x f e =
       is_null = ap (λ (o : Option Variable). holds_null o (lookup x shared.statics)) is;
       field = ap held_field is;
       kind = ap kind_of_variable is;
+      statics = refl;
       others = others shared s t x (FieldHandle f) e;
     }
 
@@ -190,6 +197,7 @@ is_made shared s t x type n e = record {
   array_type = ap type_of_array (found shared s t x (LocalArray type (replicate n (pos 0))) e);
   zeros = λ i below. element_of shared s t x (LocalArray type (replicate n (pos 0))) e i ∙ ap in_range (get_replicate n i (pos 0) below);
   past = λ i above. element_of shared s t x (LocalArray type (replicate n (pos 0))) e i ∙ ap in_range (slice_get_past (replicate n (pos 0)) i (omega (arith, above, length-replicate {A = ℤ} n (pos 0))));
+  statics = refl;
   others = others shared s t x (LocalArray type (replicate n (pos 0))) e;
 }
 
@@ -204,5 +212,6 @@ is_element_set shared s t x type zs i z old array seen e =
       array_type = ap type_of_array (found shared s t x new e) ∙ sym (ap type_of_array array);
       is = element_of shared s t x new e i ∙ ap in_range (get_set_same zs i (convert type z) inside);
       elements = λ j other. element_of shared s t x new e j ∙ ap in_range (get_set_other zs i j (convert type z) other) ∙ sym (elements j);
+      statics = refl;
       others = others shared s t x new e;
     }

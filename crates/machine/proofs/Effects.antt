@@ -14,11 +14,10 @@ use Rattle.code.specs.declared.instr.Instr.TheVariants as instr
 use Rattle.code.specs.Call.{Call}
 use Rattle.code.specs.declared.instr.NullableVariable.{NullableVariable}
 use Rattle.code.specs.declared.instr.NullableVariable.TheVariants as nullable
-use Rattle.code.specs.declared.slots.SlotCounts.{SlotCounts}
 use Rattle.code.specs.declared.instr.Plain.{Plain}
 use Rattle.code.specs.declared.instr.Plain.TheVariants as plain
 use Rattle.code.specs.Effect.{truth_word, plain_of, IsPlain}
-use Rattle.code.specs.Depth.{Listing, depth_after, depth_at, LeadsInside, Leaves, variable_within, within_slots}
+use Rattle.code.specs.Depth.{Listing, depth_after, depth_at, LeadsInside, Leaves, within_slots}
 use Rattle.source.specs.Arguments.{Actual}
 use Rattle.source.specs.Effect as effects
 use Rattle.source.specs.Effect.{Effect, Becomes, Sets, SetsNull, SetsElement, MakesArray, Prints, Calls, TrapsAt, effect_of}
@@ -31,7 +30,8 @@ use Rattle.source.specs.Variable.{Variable, Scalar, LocalArray, assign}
 use Rattle.lower.specs.Slots as lower
 use Rattle.lower.specs.Slots.{Visible, Slots, visible_to, Shows, IsSet, IsMade, IsElementSet}
 use Rattle.lower.specs.Stands.{StandsFor}
-use Rattle.lower.specs.Does.{GoesOn, Writes, StoresNull, PrintsTop, CallsFunction, Stops, Works, AtEnd, IsReturn, trap_of}
+use Rattle.std.specs.Global.{Vec}
+use Rattle.lower.specs.Does.{IsStoredIn, kind_of_target, GoesOn, Writes, StoresNull, PrintsTop, CallsFunction, Stops, Works, AtEnd, IsReturn, trap_of}
 use Rattle.lower.specs.Lowered.{Lowered}
 use Rattle.machine.specs.declared.stop.Trap.{Trap as TrapInMemory}
 use Rattle.machine.specs.declared.thread.Event.{Event}
@@ -39,19 +39,22 @@ use Rattle.machine.specs.declared.thread.Event.TheVariants as event
 use Rattle.machine.specs.declared.thread.Activation.{Activation}
 use Rattle.machine.specs.declared.thread.Executed.TheVariants.{Did, Returned}
 use Rattle.machine.specs.Agrees as agrees
-use Rattle.class_table.specs.declared.class.FieldHandle.{FieldHandle as Handle}
 use Rattle.source.specs.World.{World}
 use Rattle.machine.specs.declared.store.Store.{Store}
 use Rattle.machine.specs.HeapAgrees.{ReferenceAgrees}
 use Rattle.machine.specs.Agrees.{StoreAgrees, Executes, CallStands, event_view}
 use Rattle.machine.specs.Stops.{trap_view}
-use Rattle.machine.specs.Variables.{is_null, HasSlot, nulled_references, nulled_fields}
+use Rattle.machine.specs.Asked.{references_of}
+use Rattle.machine.specs.declared.statics.StaticReference.{StaticReference}
+use Rattle.machine.specs.Variables.{is_null, HasSlot, nulled_references, nulled_fields, nulled_statics}
 use Rattle.machine.proofs.Views.{Viewless, assigned_viewless}
 use Rattle.machine.proofs.Calls.{does_cases, slots_of, Ready, plain_instr, plain_works, IsNullTest, no_return, agree_count, HasMoved, stands_at, runs, room, leads, depth_behind, fields_count}
 use Rattle.machine.proofs.Changes.{array_of, is_set, is_made, is_element_set}
 use Rattle.machine.proofs.Keeping.{keeps_same}
 use Rattle.machine.proofs.Elements.{SetsWhatIsThere, sets_what_is_there}
-use Rattle.machine.proofs.NullLaws.{puts_null, null_agrees, nulled_agree}
+use Rattle.machine.proofs.NullLaws.{puts_null, nulled_agree, variable_null_agrees}
+use Rattle.machine.proofs.StaticStores.{keeps_but_statics, may_be_nulled, store_nulled}
+use Rattle.machine.proofs.HeldStatics.{place_below}
 
 -- ---- a plain instruction
 
@@ -119,11 +122,6 @@ no_null_test : (i : Instr) → IsNullTest i → IsPlain i → ⊥
 no_null_test (instr.TestNull variable equal) h p = p
 no_null_test i h p = h
 
--- what works on the stack and isn't plain tests for NULL
-works_else : (slots : Slots) (i : Instr) (stack : List ℕ) (way : Plain) (after : List ℕ) → (IsPlain i → ⊥) → (IsNullTest i → ⊥) → Works slots i stack way after → ⊥
-works_else slots (instr.TestNull variable equal) stack way after not_plain not_test h = not_test tt
-works_else slots i stack way after not_plain not_test h = not_plain (plain_instr i stack slots.numbers (way, after, slots.numbers) h)
-
 no_return_test : (i : Instr) → IsReturn i → IsNullTest i → ⊥
 no_return_test (instr.TestNull variable equal) r h = r
 no_return_test i r h = h
@@ -135,13 +133,6 @@ few_words variable equal n h = by_test (nat_lt n 64) refl h
     by_test : (b : Bool) → nat_lt n 64 ≡ b → IsSome (if b then Some (suc n) else None) → n < 64
     by_test true e k = ltb-true n 64 e
     by_test false e k = absurd (cc (k))
-
--- a variable of the code has its slot
-has_slot : (addresses : List (Option ℕ)) (handles : List (Option Handle)) (slots : SlotCounts) (variable : NullableVariable) → length addresses ≡ slots.references → length handles ≡ slots.field_ids → variable_within slots variable ≡ true → HasSlot addresses handles variable
-has_slot addresses handles slots (nullable.Local i) count held h = let below : i < slots.references = ltb-true i slots.references h in omega (arith, below, count)
-has_slot addresses handles slots (nullable.Static i) count held h = tt
-has_slot addresses handles slots (nullable.FieldId i) count held h = let below : i < slots.field_ids = ltb-true i slots.field_ids h in omega (arith, below, held)
-has_slot addresses handles slots (nullable.Buffer i) count held h = tt
 
 -- one word more than this number
 one_more : (n : ℕ) → IsSome (depth_after (instr.Push 0) n) → depth_after (instr.Push 0) n ≡ Some (suc n)
@@ -183,19 +174,33 @@ module _ (p : Lowered) (classes : Classes) (space : Space) (call : Activation) (
       tests : (tasks : List Task) → GoesOn code r.known call.place call.stack slots visible (tasks ++ rest) → IsNullTest i
       tests tasks h =
           let same : h.here ≡ i = cc (at, h.at) in
-          let works = subst (λ (j : Instr). Works slots j call.stack h.way h.after) same h.works in
+          let works = subst (λ (j : Instr). Works visible slots j call.stack h.way h.after) same h.works in
           by_instr i not_plain h.way h.after works
         where
-          by_instr : (j : Instr) → (IsPlain j → ⊥) → (way : Plain) (after : List ℕ) → Works slots j call.stack way after → IsNullTest j
+          by_instr : (j : Instr) → (IsPlain j → ⊥) → (way : Plain) (after : List ℕ) → Works visible slots j call.stack way after → IsNullTest j
           by_instr (instr.TestNull variable equal) n way after w = tt
           by_instr j n way after w = absurd (n (plain_instr j call.stack slots.numbers (way, after, slots.numbers) w))
 
   -- the variable that is made NULL has its slot
-  pub slot_there : (variable : NullableVariable) → i ≡ instr.StoreNull variable → HasSlot call.references.items call.fields.items variable
-  slot_there variable is =
-      let within : within_slots code.slots (instr.StoreNull variable) ≡ true = subst (λ (j : Instr). IsTrue (within_slots code.slots j)) is (runs p classes space call code visible frames task rest r i at).slots in
-      has_slot call.references.items call.fields.items code.slots variable (sym (agree_count space call.references.items r.references r.agree) ∙ r.shows.references)
-      (sym (fields_count classes call.fields.items r.fields r.fields_agree) ∙ r.shows.fields) within
+  pub slot_there : (variable : NullableVariable) (statics : ℕ) → i ≡ instr.StoreNull variable → length visible.statics ≡ statics → HasSlot (length call.references.items) (length call.fields.items) statics variable
+  slot_there (nullable.Local j) statics is same =
+      let within : within_slots code.slots (instr.StoreNull (nullable.Local j)) ≡ true = subst (λ (h : Instr). IsTrue (within_slots code.slots h)) is (runs p classes space call code visible frames task rest r i at).slots in
+      let below : j < code.slots.references = ltb-true j code.slots.references within in
+      omega (arith, below, agree_count space call.references.items r.references r.agree, r.shows.references)
+  slot_there (nullable.FieldId j) statics is same =
+      let within : within_slots code.slots (instr.StoreNull (nullable.FieldId j)) ≡ true = subst (λ (h : Instr). IsTrue (within_slots code.slots h)) is (runs p classes space call code visible frames task rest r i at).slots in
+      let below : j < code.slots.field_ids = ltb-true j code.slots.field_ids within in
+      omega (arith, below, fields_count classes call.fields.items r.fields r.fields_agree, r.shows.fields)
+  slot_there (nullable.Buffer j) statics is same = tt
+  slot_there (nullable.Static j) statics is same =
+      other_cases (λ effect. j < statics) (λ plain. subst IsPlain is plain) (λ test tasks h. absurd (subst IsNullTest is test))
+      (λ target h met.
+      let variable : h.variable ≡ nullable.Static j = let both : instr.StoreNull h.variable ≡ instr.StoreNull (nullable.Static j) = sym met ∙ is in cc in
+      let stored = subst (λ (v : NullableVariable). IsStoredIn code r.known call.place call.stack slots visible v (kind_of_target code r.known call.place call.stack slots visible target) h.name) variable h.stored in
+      omega (arith, same, place_below h.name visible.statics j stored.1.static.place))
+      (λ z h met. absurd (let both : instr.PutJint ≡ instr.StoreNull (nullable.Static j) = sym met ∙ is in cc))
+      (λ line target f args h met. absurd (let both : instr.Call h.call ≡ instr.StoreNull (nullable.Static j) = sym met ∙ is in cc))
+      (λ returns. absurd (subst IsReturn is returns))
 
   -- a call's instruction calls the function of the first task
   pub call_cases : (function : Call) → i ≡ instr.Call function → (P : Effect → Type 0)
@@ -227,7 +232,7 @@ module _ (p : Lowered) (w : World) (store : Store) (lent : BuffersInUse) (k : �
     becomes : IsPlain i → (tasks : List Task) → GoesOn code r.known call.place call.stack held seen (tasks ++ rest) → agrees.GoesOn p w space store lent k shared s rest after pending (Becomes tasks) false e
     becomes works tasks h =
         let same : h.here ≡ i = cc (h.at, at) in
-        let plain_is : plain_of i call.stack call.numbers.items ≡ Some (h.way, h.after, call.numbers.items) = plain_works held i call.stack h.way h.after works (subst (λ (j : Instr). Works held j call.stack h.way h.after) same h.works) in
+        let plain_is : plain_of i call.stack call.numbers.items ≡ Some (h.way, h.after, call.numbers.items) = plain_works seen held i call.stack h.way h.after works (subst (λ (j : Instr). Works seen held j call.stack h.way h.after) same h.works) in
         let way_is : h.way ≡ way = same_way _ _ _ _ _ _ (sym plain_is ∙ is) in
         let after_is : h.after ≡ stack = same_stack _ _ _ _ _ _ (sym plain_is ∙ is) in
         let numbers_are : call.numbers.items ≡ numbers = same_numbers _ _ _ _ _ _ (sym plain_is ∙ is) in
@@ -329,7 +334,7 @@ module _ (p : Lowered) (w : World) (store : Store) (lent : BuffersInUse) (k : �
         (effect_of seen.sight task) r.does (sets_what_is_there seen.sight task)
 
   -- a test of NULL
-  pub test_executes : (variable : NullableVariable) (equal : Bool) (after : Activation) → i ≡ instr.TestNull variable equal → HasMoved call after (call.place + 1) (truth_word (beq (is_null call.references.items call.fields.items variable) equal) ∷ call.stack) call.numbers.items call.references.items call.fields.items
+  pub test_executes : (variable : NullableVariable) (equal : Bool) (after : Activation) → i ≡ instr.TestNull variable equal → HasMoved call after (call.place + 1) (truth_word (beq (is_null (references_of store call) call.fields.items variable) equal) ∷ call.stack) call.numbers.items call.references.items call.fields.items
       → Executes p w space store lent k shared s rest after pending (effect_of (sight_of shared s) task) (Did event.Quiet)
   test_executes variable equal after is m =
       other_cases p classes space call code seen s.frames task rest r i at (λ effect. Executes p w space store lent k shared s rest after pending effect (Did event.Quiet)) (λ plain. subst IsPlain is plain)
@@ -342,11 +347,11 @@ module _ (p : Lowered) (w : World) (store : Store) (lent : BuffersInUse) (k : �
       goes : (tasks : List Task) → GoesOn code r.known call.place call.stack held seen (tasks ++ rest) → agrees.GoesOn p w space store lent k shared s rest after pending (Becomes tasks) false event.Quiet
       goes tasks h =
           let same : h.here ≡ instr.TestNull variable equal = cc (h.at, at, is) in
-          let v = subst (λ (j : Instr). Works held j call.stack h.way h.after) same h.works in
-          let null : is_null call.references.items call.fields.items variable ≡ v.0 = null_agrees classes space call.references.items call.fields.items held variable v.0 r.agree r.fields_agree v.1 in
-          let words : h.after ≡ truth_word (beq (is_null call.references.items call.fields.items variable) equal) ∷ call.stack = v.3 ∙ ap (λ (b : Bool). truth_word (beq b equal) ∷ call.stack) (sym null) in
+          let v = subst (λ (j : Instr). Works seen held j call.stack h.way h.after) same h.works in
+          let null : is_null (references_of store call) call.fields.items variable ≡ v.0 = variable_null_agrees classes space (references_of store call) call.fields.items seen held variable v.0 r.agree shares.statics r.fields_agree v.1 in
+          let words : h.after ≡ truth_word (beq (is_null (references_of store call) call.fields.items variable) equal) ∷ call.stack = v.3 ∙ ap (λ (b : Bool). truth_word (beq b equal) ∷ call.stack) (sym null) in
           let next : source.Thread = with_tasks s (tasks ++ rest) in
-          let stack : List ℕ = truth_word (beq (is_null call.references.items call.fields.items variable) equal) ∷ call.stack in
+          let stack : List ℕ = truth_word (beq (is_null (references_of store call) call.fields.items variable) equal) ∷ call.stack in
           let end : StandsFor code h.names (call.place + 1) stack (tasks ++ rest) =
           subst (λ (u : Plain). AtEnd (λ q. StandsFor code h.names q stack (tasks ++ rest)) call.place u) v.2 (subst (λ (st : List ℕ). AtEnd (λ q. StandsFor code h.names q st (tasks ++ rest)) call.place h.way) words h.stands) in
           record {
@@ -365,32 +370,35 @@ module _ (p : Lowered) (w : World) (store : Store) (lent : BuffersInUse) (k : �
           }
 
   -- NULL is stored
-  pub store_executes : (variable : NullableVariable) (after : Activation) → i ≡ instr.StoreNull variable → HasMoved call after (call.place + 1) call.stack call.numbers.items (nulled_references variable call.references.items) (nulled_fields variable call.fields.items)
-      → Executes p w space store lent k shared s rest after pending (effect_of (sight_of shared s) task) (Did event.Quiet)
-  store_executes variable after is m =
-      other_cases p classes space call code seen s.frames task rest r i at (λ effect. Executes p w space store lent k shared s rest after pending effect (Did event.Quiet)) (λ plain. subst IsPlain is plain)
+  pub store_executes : (variable : NullableVariable) (after : Activation) (statics : Vec StaticReference) → i ≡ instr.StoreNull variable → statics.items ≡ nulled_statics variable store.statics.items → HasMoved call after (call.place + 1) call.stack call.numbers.items (nulled_references variable call.references.items) (nulled_fields variable call.fields.items)
+      → Executes p w space (record store { statics = statics }) lent k shared s rest after pending (effect_of (sight_of shared s) task) (Did event.Quiet)
+  store_executes variable after statics is nulled_are m =
+      other_cases p classes space call code seen s.frames task rest r i at (λ effect. Executes p w space (record store { statics = statics }) lent k shared s rest after pending effect (Did event.Quiet)) (λ plain. subst IsPlain is plain)
       (λ test tasks h. absurd (subst IsNullTest is test))
       (λ target h same. stores target h (let both : instr.StoreNull h.variable ≡ instr.StoreNull variable = sym same ∙ is in cc))
       (λ z h same. absurd (let both : instr.PutJint ≡ instr.StoreNull variable = sym same ∙ is in cc))
       (λ line target f args h same. absurd (let both : instr.Call h.call ≡ instr.StoreNull variable = sym same ∙ is in cc))
       (λ returns. absurd (subst IsReturn is returns))
     where
-      stores : (target : Target) (h : StoresNull code r.known call.place call.stack held seen target rest) → h.variable ≡ variable → agrees.GoesOn p w space store lent k shared s rest after pending (SetsNull target) false event.Quiet
+      stores : (target : Target) (h : StoresNull code r.known call.place call.stack held seen target rest) → h.variable ≡ variable → agrees.GoesOn p w space (record store { statics = statics }) lent k shared s rest after pending (SetsNull target) false event.Quiet
       stores target h same =
-          let null = puts_null p shared shares.statics s none rest code r.known call.place call.stack held target h.name h.is h.takes in
+          let kind = kind_of_target code r.known call.place call.stack held seen target in
+          let null = puts_null shared s none rest code r.known call.place call.stack held target h.name h.is h.takes in
           let next : source.Thread = record s { tasks = Some rest; variables = null.variables } in
+          let now : Shared = record shared { statics = lower.nulled_statics kind h.name shared.statics } in
+          let stored = subst (λ (v : NullableVariable). IsStoredIn code r.known call.place call.stack held seen v kind h.name) same h.stored in
           let nulled = nulled_agree classes space call.references.items call.fields.items held variable r.agree r.fields_agree in
           let m' : HasMoved call after (call.place + 1) [] (lower.with_null variable held).numbers (nulled_references variable call.references.items) (nulled_fields variable call.fields.items) =
           record { function = m.function; place = m.place; stack = m.stack ∙ h.empty; numbers = m.numbers ∙ sym nulled.numbers; references = m.references; fields = m.fields; frames = m.frames } in
           record {
             next = next;
             steps = null.steps;
-            work = stands_at p classes space call code seen s.frames task rest r after (call.place + 1) [] (lower.with_null variable held).numbers (nulled_references variable call.references.items) (lower.with_null variable held).references (nulled_fields variable call.fields.items) (lower.with_null variable held).fields h.names (visible_to shared next) rest
+            work = stands_at p classes space call code seen s.frames task rest r after (call.place + 1) [] (lower.with_null variable held).numbers (nulled_references variable call.references.items) (lower.with_null variable held).references (nulled_fields variable call.fields.items) (lower.with_null variable held).fields h.names (visible_to now next) rest
                 (depth_behind p classes space call code seen s.frames task rest r i at 0 (λ leaves. subst Leaves is leaves) (ap (λ (j : Instr). depth_after j (length call.stack)) is ∙ ap (λ (st : List ℕ). Some (length st)) h.empty)) m' nulled.references nulled.fields h.stands
-                (subst (λ (v : NullableVariable). Shows code h.names (visible_to shared next) (lower.with_null v held)) same (h.shows (visible_to shared next) null.nulled));
-            next_shared = shared;
-            store_agrees = shares;
-            keeps = keeps_same space shared;
+                (subst (λ (v : NullableVariable). Shows code h.names (visible_to now next) (lower.with_null v held)) same (h.shows (visible_to now next) null.nulled));
+            next_shared = now;
+            store_agrees = store_nulled p w store shared shares code r.known call.place call.stack held s statics h.name variable kind stored nulled_are;
+            keeps = keeps_but_statics p w store shared shares now.statics shared.globals (may_be_nulled kind h.name shared.statics);
             pending_agrees = pends;
             calls = refl;
             ending = refl;

@@ -1,7 +1,13 @@
 -- After a call the machine's call in progress stands for the source's thread.
-use Rattle.std.proofs.Common.{◌≡◌, ℕ, ◌+◌, List, [], ◌++◌, length, Option, Some, None, refl, sym, ap, ◌∙◌, subst}
+use Rattle.std.specs.Int.{w32, cast_signed}
+use Rattle.std.specs.Ordering.{int_eq}
+use Rattle.std.proofs.Math.Facts.{to_z-of_z}
+use Rattle.std.proofs.lemmas.Bool.Decides.{Decides-int_eq, eqb_tells}
+use Rattle.code.specs.Effect.{truth_word}
+use Rattle.std.proofs.Common.{◌≡◌, ℕ, ℤ, pos, ◌+◌, Bool, true, false, ⊎_elim, List, [], ◌∷◌, ◌++◌, length, Option, Some, None, refl, sym, ap, ◌∙◌, subst}
 use Rattle.std.specs.Global.{Vec}
-use Rattle.std.specs.Prelude.{slice_get, slice_set}
+use Rattle.std.specs.Option.{option_and_then}
+use Rattle.std.specs.Prelude.{slice_get, slice_set, ◌==◌}
 use Rattle.base.specs.Bytes.{Identifier, lookup}
 use Rattle.classes.specs.Class.{Classes}
 use Rattle.classes.specs.Fields.{FieldId}
@@ -16,19 +22,20 @@ use Rattle.source.specs.CallEffects.{CallResult, NoResult, NullResult, ScalarRes
 use Rattle.source.specs.CallStep.{blank, filled, is_zero, put, put_assigned, received, tell_copy}
 use Rattle.source.specs.Effect.{tasks_after}
 use Rattle.source.specs.Object.{Reference}
-use Rattle.source.specs.Task.{Task, Target, VariableKind, ScalarKind, ReferenceKind, FieldKind, Declared, Assigned, Tested, Dropped}
+use Rattle.source.specs.Term.{Done}
+use Rattle.source.specs.Task.{Task, Branch, Target, VariableKind, ScalarKind, ReferenceKind, FieldKind, Declared, Assigned, Tested, Dropped}
 use Rattle.source.specs.Thread as source
 use Rattle.source.specs.Thread.{Shared, viewed_by}
 use Rattle.source.specs.Value.{Value, Word, Int, Flag, Truth}
 use Rattle.source.specs.Variable.{Variable, Variables, Scalar, LocalRef, FieldHandle, assign}
 use Rattle.source.specs.World.{World}
 use Rattle.code.specs.Call.{Call}
-use Rattle.code.specs.Depth.{Listing, depth_after, depth_at}
+use Rattle.code.specs.Depth.{Listing, depth_at, with_fewer, with_result, words_taken}
 use Rattle.code.specs.declared.instr.Instr.TheVariants as instr
 use Rattle.code.specs.declared.instr.Target.{Target as Destination}
 use Rattle.code.specs.declared.instr.Target.TheVariants as destination
 use Rattle.code_generator.specs.Layout.{Known}
-use Rattle.lower.specs.Does.{GoesInto, TakesField, TakesNumber, TakesReference, TakesResult}
+use Rattle.lower.specs.Does.{GoesInto, TakesTest, TakesField, TakesNumber, TakesReference, TakesResult}
 use Rattle.lower.specs.Lowered.{Lowered}
 use Rattle.lower.specs.Slots.{Shows, Slots, ValueHasSort, visible_to, word_of}
 use Rattle.lower.specs.Stands.{StandsFor, number_sort}
@@ -39,7 +46,7 @@ use Rattle.machine.specs.Agrees.{CallStands, FieldAgrees, FieldsAgree, FramesAgr
 use Rattle.machine.specs.Answers.{GivenAgrees}
 use Rattle.machine.specs.Frames.{Frame}
 use Rattle.machine.specs.HeapAgrees.{ReferenceAgrees}
-use Rattle.machine.specs.Received.{Receives, fields_with, numbers_with, references_with}
+use Rattle.machine.specs.Received.{Receives, fields_with, numbers_with, references_with, stack_with}
 use Rattle.machine.proofs.Calls.{Ready, depth_behind, slots_of}
 use Rattle.machine.proofs.Changes.{field_by_kind, is_field_set, is_referred, is_set, local_by_kind, scalar_by_kind}
 use Rattle.machine.proofs.Keeping.{references_stay, shows_stay}
@@ -153,18 +160,36 @@ field_given classes space given.Nothing c h = absurd h
 field_given classes space (given.Number word) c h = absurd h
 field_given classes space (given.Reference a) c h = absurd h
 
+-- a `jint` is 0 where its word is
+zero_word : (v : Value) → ValueHasSort v Jint → (word_of v == 0) ≡ is_zero (ScalarResult v)
+zero_word (Word n) h = absurd (let same = h.1 in cc)
+zero_word (Flag b) h = absurd (cc)
+zero_word (Truth b) h = absurd (cc)
+zero_word (Int z) h =
+    ⊎_elim
+    (λ (t : ((word_of (Int z) == 0) ≡ true) × (word_of (Int z) ≡ 0)).
+    let number : z ≡ pos 0 = sym (to_z-of_z {w = w32} h.0) ∙ ap (cast_signed w32) t.1 in
+    t.0 ∙ sym ((Decides-int_eq z (pos 0)).1 number))
+    (λ (t : ((word_of (Int z) == 0) ≡ false) × (word_of (Int z) ≡ 0 → ⊥)). t.0 ∙ sym (unequal (int_eq z (pos 0)) refl t.1))
+    (eqb_tells (word_of (Int z)) 0)
+  where
+    unequal : (b : Bool) → int_eq z (pos 0) ≡ b → (word_of (Int z) ≡ 0 → ⊥) → int_eq z (pos 0) ≡ false
+    unequal true e differs = absurd (differs (ap (λ (y : ℤ). word_of (Int y)) ((Decides-int_eq z (pos 0)).0 e)))
+    unequal false e differs = e
+
 -- ---- the end of a call
 
--- the thread goes on with the rest, and the machine's call stands for it
+-- the thread goes on with these tasks, and the machine's call stands for it
 pub record Finishes (p : Lowered) (w : World) (space : Space) (next : Shared) (line : ℕ) (target : Target) (f : JniFunction) (args : List Actual) (rest : List Task) (s : source.Thread) (left : List source.Frame) (q : Reference) (c : CallResult) (after : Activation) : Type 0 where
   pub variables : Variables
-  pub steps : put target c next (resumption line f args rest s left q c target) ≡ source.Advances next (going line f args rest s left q c variables) source.Quiet
-  pub stands : CallStands p w.classes space after (visible_to next (going line f args rest s left q c variables)) (frames_received (prototype f).result c left) rest
-  pub viewless : viewed_by (going line f args rest s left q c variables) ≡ []
+  pub tasks : List Task
+  pub steps : put target c next (resumption line f args rest s left q c target) ≡ source.Advances next (going line f args tasks s left q c variables) source.Quiet
+  pub stands : CallStands p w.classes space after (visible_to next (going line f args tasks s left q c variables)) (frames_received (prototype f).result c left) tasks
+  pub viewless : viewed_by (going line f args tasks s left q c variables) ≡ []
 
 module _ (p : Lowered) (w : World) (old space : Space) (shared next : Shared) (keeps : Keeps old shared space next) (s : source.Thread) (none : viewed_by s ≡ []) (call : Activation) (code : Listing) (task : Task) (rest : List Task)
     (r : Ready p w.classes old call code (visible_to shared s) s.frames task rest) (line : ℕ) (f : JniFunction) (args : List Actual) (frames : Vec Frame) (left : List source.Frame) (framed : FramesAgree space frames.items left) (q : Reference) (g : Given) (c : CallResult) (agrees : GivenAgrees w.classes space (prototype f).result g c)
-    (function : Call) (at : slice_get code.instrs call.place ≡ Some (instr.Call function)) (none_left : depth_after (instr.Call function) (length call.stack) ≡ Some 0) (after : Activation) where
+    (function : Call) (at : slice_get code.instrs call.place ≡ Some (instr.Call function)) (none_left : with_fewer (words_taken function.operands) (length call.stack) ≡ Some 0) (after : Activation) where
   abbrev kind : ResultKind
   kind = (prototype f).result
 
@@ -192,14 +217,20 @@ module _ (p : Lowered) (w : World) (old space : Space) (shared next : Shared) (k
       subst (λ (l : List Frame). FramesAgree space l (frames_received kind c left)) (sym receives.frames)
       (frames_agree space w.classes kind g c frames.items left agrees framed)
 
-  stands_after : (d : Destination) → Receives d kind g carried after → (names : Known) (vs : Variables) (references : List Reference) (fields : List (Option FieldId)) → ReferencesAgree space after.references.items references → FieldsAgree w.classes after.fields.items fields
-      → StandsFor code names (call.place + 1) [] rest → Shows code names (visible_to shared (then vs)) (record { numbers = after.numbers.items; references = references; fields = fields })
-      → CallStands p w.classes space after (visible_to next (then vs)) (frames_received kind c left) rest
-  stands_after d receives names vs references fields agree fields_agree stands shows = record {
+  -- no word is on the stack afterwards
+  abbrev HasNoWord : Type 0
+  HasNoWord = with_result function.target 0 ≡ Some 0
+
+  -- with these words on the stack it stands for these tasks
+  stands_with : (words : List ℕ) (tasks : List Task) → with_result function.target 0 ≡ Some (length words) → (d : Destination) → Receives d kind g carried after → stack_with d g ≡ words
+      → (names : Known) (vs : Variables) (references : List Reference) (fields : List (Option FieldId)) → ReferencesAgree space after.references.items references → FieldsAgree w.classes after.fields.items fields
+      → StandsFor code names (call.place + 1) words tasks → Shows code names (visible_to shared (then vs)) (record { numbers = after.numbers.items; references = references; fields = fields })
+      → CallStands p w.classes space after (visible_to next (then vs)) (frames_received kind c left) tasks
+  stands_with words tasks count d receives put names vs references fields agree fields_agree stands shows = record {
     code = code;
     of_function = ap (slice_get p.codes) receives.function ∙ r.of_function;
     known = names;
-    stands = subst (λ (n : ℕ). StandsFor code names n after.stack rest) (sym receives.place) (subst (λ (l : List ℕ). StandsFor code names (call.place + 1) l rest) (sym receives.stack) stands);
+    stands = subst (λ (n : ℕ). StandsFor code names n after.stack tasks) (sym receives.place) (subst (λ (l : List ℕ). StandsFor code names (call.place + 1) l tasks) (sym (receives.stack ∙ put)) stands);
     references = references;
     agree = agree;
     fields = fields;
@@ -207,19 +238,24 @@ module _ (p : Lowered) (w : World) (old space : Space) (shared next : Shared) (k
     shows = shows_stay shared next keeps.statics (then vs) code names (record { numbers = after.numbers.items; references = references; fields = fields }) shows;
     depth =
         ap (depth_at code.instrs) receives.place
-        ∙ depth_behind p w.classes old call code (visible_to shared s) s.frames task rest r (instr.Call function) at 0 (λ leaves. leaves) none_left
-        ∙ ap (λ (l : List ℕ). Some (length l)) (sym receives.stack);
+        ∙ depth_behind p w.classes old call code (visible_to shared s) s.frames task rest r (instr.Call function) at (length words) (λ leaves. leaves) (ap (option_and_then (with_result function.target)) none_left ∙ count)
+        ∙ ap (λ (l : List ℕ). Some (length l)) (sym (receives.stack ∙ put));
     frames_agree = frames_after d receives;
   }
 
+  stands_after : HasNoWord → (d : Destination) → stack_with d g ≡ [] → Receives d kind g carried after → (names : Known) (vs : Variables) (references : List Reference) (fields : List (Option FieldId)) → ReferencesAgree space after.references.items references → FieldsAgree w.classes after.fields.items fields
+      → StandsFor code names (call.place + 1) [] rest → Shows code names (visible_to shared (then vs)) (record { numbers = after.numbers.items; references = references; fields = fields })
+      → CallStands p w.classes space after (visible_to next (then vs)) (frames_received kind c left) rest
+  stands_after no_word d empty receives = stands_with [] rest no_word d receives empty
+
   -- ---- a number
 
-  module _ (i : ℕ) (receives : Receives (destination.Number i) kind g carried after) (of : Sort) (x : Identifier) (takes : TakesNumber code r.known call.place call.stack held (visible_to shared s) of i x rest) (n : IsNumber g c of) where
+  module _ (no_word : HasNoWord) (i : ℕ) (receives : Receives (destination.Number i) kind g carried after) (of : Sort) (x : Identifier) (takes : TakesNumber code r.known call.place call.stack held (visible_to shared s) of i x rest) (n : IsNumber g c of) where
     number_stands : CallStands p w.classes space after (visible_to next (then (assign x (Scalar n.value) s.variables))) (frames_received kind c left) rest
     number_stands =
         let vs = assign x (Scalar n.value) s.variables in
         let numbers : after.numbers.items ≡ slice_set call.numbers.items i (word_of n.value) = receives.numbers ∙ ap (λ (h : Given). numbers_with (destination.Number i) h call.numbers.items) n.same in
-        stands_after (destination.Number i) receives takes.names vs r.references r.fields (subst (λ (l : List (Option ℕ)). ReferencesAgree space l r.references) (sym receives.references) same_references)
+        stands_after no_word (destination.Number i) refl receives takes.names vs r.references r.fields (subst (λ (l : List (Option ℕ)). ReferencesAgree space l r.references) (sym receives.references) same_references)
         (subst (λ (l : List (Option Handle)). FieldsAgree w.classes l r.fields) (sym receives.fields) r.fields_agree) takes.stands
         (subst (λ (l : List ℕ). Shows code takes.names (visible_to shared (then vs)) (record { numbers = l; references = r.references; fields = r.fields })) (sym numbers)
         (takes.shows n.value (visible_to shared (then vs)) n.sorted (is_set shared s (then vs) x n.value refl)))
@@ -227,32 +263,34 @@ module _ (p : Lowered) (w : World) (old space : Space) (shared next : Shared) (k
     number_viewless : viewed_by (then (assign x (Scalar n.value) s.variables)) ≡ []
     number_viewless = assigned_viewless x (Scalar n.value) s.variables refl none
 
-  number_finishes : (i : ℕ) (target : Target) → Receives (destination.Number i) kind g carried after → (of : Sort) → IsNumber g c of → GoesInto code r.known call.place call.stack held (visible_to shared s) ScalarKind target (λ x. TakesNumber code r.known call.place call.stack held (visible_to shared s) of i x rest) → Ends target
-  number_finishes i (Declared declared x) receives of n goes = record {
+  number_finishes : HasNoWord → (i : ℕ) (target : Target) → Receives (destination.Number i) kind g carried after → (of : Sort) → IsNumber g c of → GoesInto code r.known call.place call.stack held (visible_to shared s) ScalarKind target (λ x. TakesNumber code r.known call.place call.stack held (visible_to shared s) of i x rest) → Ends target
+  number_finishes no_word i (Declared declared x) receives of n goes = record {
+    tasks = rest;
     variables = assign x (Scalar n.value) s.variables;
     steps = declared_is line f args rest s left q c plain next declared x (Scalar n.value) (ap (λ (k : VariableKind). filled (blank k (length (frames_received kind c left))) c) goes.0 ∙ ap (filled (blank ScalarKind 0)) n.gave);
-    stands = number_stands i receives of x goes.1 n;
-    viewless = number_viewless i receives of x goes.1 n;
+    stands = number_stands no_word i receives of x goes.1 n;
+    viewless = number_viewless no_word i receives of x goes.1 n;
   }
-  number_finishes i (Assigned x) receives of n goes =
+  number_finishes no_word i (Assigned x) receives of n goes =
       let old = scalar_by_kind (lookup x s.variables) goes.0 in
       record {
+        tasks = rest;
         variables = assign x (Scalar n.value) s.variables;
         steps = assigned_is line f args rest s left q c plain next x (Scalar old.0) (Scalar n.value) old.1 (ap (filled (Scalar old.0)) n.gave);
-        stands = number_stands i receives of x goes.1 n;
-        viewless = number_viewless i receives of x goes.1 n;
+        stands = number_stands no_word i receives of x goes.1 n;
+        viewless = number_viewless no_word i receives of x goes.1 n;
       }
-  number_finishes i (Tested a b) receives of n goes = absurd goes
-  number_finishes i Dropped receives of n goes = absurd goes
+  number_finishes no_word i (Tested a b) receives of n goes = absurd goes
+  number_finishes no_word i Dropped receives of n goes = absurd goes
 
   -- ---- a reference
 
-  module _ (i : ℕ) (receives : Receives (destination.Local i) kind g carried after) (x : Identifier) (takes : TakesReference code r.known call.place call.stack held (visible_to shared s) i x rest) (n : IsReference space g c) (level : ℕ) where
+  module _ (no_word : HasNoWord) (i : ℕ) (receives : Receives (destination.Local i) kind g carried after) (x : Identifier) (takes : TakesReference code r.known call.place call.stack held (visible_to shared s) i x rest) (n : IsReference space g c) (level : ℕ) where
     reference_stands : CallStands p w.classes space after (visible_to next (then (assign x (LocalRef level n.reference) s.variables))) (frames_received kind c left) rest
     reference_stands =
         let vs = assign x (LocalRef level n.reference) s.variables in
         let references : after.references.items ≡ slice_set call.references.items i n.address = receives.references ∙ ap (λ (h : Given). references_with (destination.Local i) h call.references.items) n.same in
-        stands_after (destination.Local i) receives takes.names vs (slice_set r.references i n.reference) r.fields
+        stands_after no_word (destination.Local i) refl receives takes.names vs (slice_set r.references i n.reference) r.fields
         (subst (λ (l : List (Option ℕ)). ReferencesAgree space l (slice_set r.references i n.reference)) (sym references) (reference_put space call.references.items r.references i n.address n.reference same_references n.agrees))
         (subst (λ (l : List (Option Handle)). FieldsAgree w.classes l r.fields) (sym receives.fields) r.fields_agree) takes.stands
         (subst (λ (l : List ℕ). Shows code takes.names (visible_to shared (then vs)) (record { numbers = l; references = slice_set r.references i n.reference; fields = r.fields })) (sym receives.numbers)
@@ -261,34 +299,36 @@ module _ (p : Lowered) (w : World) (old space : Space) (shared next : Shared) (k
     reference_viewless : viewed_by (then (assign x (LocalRef level n.reference) s.variables)) ≡ []
     reference_viewless = assigned_viewless x (LocalRef level n.reference) s.variables refl none
 
-  reference_finishes : (i : ℕ) (target : Target) → Receives (destination.Local i) kind g carried after → IsReference space g c → GoesInto code r.known call.place call.stack held (visible_to shared s) ReferenceKind target (λ x. TakesReference code r.known call.place call.stack held (visible_to shared s) i x rest) → Ends target
-  reference_finishes i (Declared declared x) receives n goes =
+  reference_finishes : HasNoWord → (i : ℕ) (target : Target) → Receives (destination.Local i) kind g carried after → IsReference space g c → GoesInto code r.known call.place call.stack held (visible_to shared s) ReferenceKind target (λ x. TakesReference code r.known call.place call.stack held (visible_to shared s) i x rest) → Ends target
+  reference_finishes no_word i (Declared declared x) receives n goes =
       let level = length (frames_received kind c left) in
       record {
+        tasks = rest;
         variables = assign x (LocalRef level n.reference) s.variables;
         steps = declared_is line f args rest s left q c plain next declared x (LocalRef level n.reference) (ap (λ (k : VariableKind). filled (blank k level) c) goes.0 ∙ n.fills level None);
-        stands = reference_stands i receives x goes.1 n level;
-        viewless = reference_viewless i receives x goes.1 n level;
+        stands = reference_stands no_word i receives x goes.1 n level;
+        viewless = reference_viewless no_word i receives x goes.1 n level;
       }
-  reference_finishes i (Assigned x) receives n goes =
+  reference_finishes no_word i (Assigned x) receives n goes =
       let old = local_by_kind (lookup x s.variables) goes.0 in
       record {
+        tasks = rest;
         variables = assign x (LocalRef old.0 n.reference) s.variables;
         steps = assigned_is line f args rest s left q c plain next x (LocalRef old.0 old.1) (LocalRef old.0 n.reference) old.2 (n.fills old.0 old.1);
-        stands = reference_stands i receives x goes.1 n old.0;
-        viewless = reference_viewless i receives x goes.1 n old.0;
+        stands = reference_stands no_word i receives x goes.1 n old.0;
+        viewless = reference_viewless no_word i receives x goes.1 n old.0;
       }
-  reference_finishes i (Tested a b) receives n goes = absurd goes
-  reference_finishes i Dropped receives n goes = absurd goes
+  reference_finishes no_word i (Tested a b) receives n goes = absurd goes
+  reference_finishes no_word i Dropped receives n goes = absurd goes
 
   -- ---- a field ID
 
-  module _ (i : ℕ) (receives : Receives (destination.FieldId i) kind g carried after) (x : Identifier) (takes : TakesField code r.known call.place call.stack held (visible_to shared s) i x rest) (n : IsField w.classes g c) where
+  module _ (no_word : HasNoWord) (i : ℕ) (receives : Receives (destination.FieldId i) kind g carried after) (x : Identifier) (takes : TakesField code r.known call.place call.stack held (visible_to shared s) i x rest) (n : IsField w.classes g c) where
     field_stands : CallStands p w.classes space after (visible_to next (then (assign x (FieldHandle n.field) s.variables))) (frames_received kind c left) rest
     field_stands =
         let vs = assign x (FieldHandle n.field) s.variables in
         let fields : after.fields.items ≡ slice_set call.fields.items i n.handle = receives.fields ∙ ap (λ (h : Given). fields_with (destination.FieldId i) h call.fields.items) n.same in
-        stands_after (destination.FieldId i) receives takes.names vs r.references (slice_set r.fields i n.field) (subst (λ (l : List (Option ℕ)). ReferencesAgree space l r.references) (sym receives.references) same_references)
+        stands_after no_word (destination.FieldId i) refl receives takes.names vs r.references (slice_set r.fields i n.field) (subst (λ (l : List (Option ℕ)). ReferencesAgree space l r.references) (sym receives.references) same_references)
         (subst (λ (l : List (Option Handle)). FieldsAgree w.classes l (slice_set r.fields i n.field)) (sym fields) (field_put w.classes call.fields.items r.fields i n.handle n.field r.fields_agree n.agrees)) takes.stands
         (subst (λ (l : List ℕ). Shows code takes.names (visible_to shared (then vs)) (record { numbers = l; references = r.references; fields = slice_set r.fields i n.field })) (sym receives.numbers)
         (takes.shows n.field (visible_to shared (then vs)) (is_field_set shared s (then vs) x n.field refl)))
@@ -296,37 +336,60 @@ module _ (p : Lowered) (w : World) (old space : Space) (shared next : Shared) (k
     field_viewless : viewed_by (then (assign x (FieldHandle n.field) s.variables)) ≡ []
     field_viewless = assigned_viewless x (FieldHandle n.field) s.variables refl none
 
-  field_finishes : (i : ℕ) (target : Target) → Receives (destination.FieldId i) kind g carried after → IsField w.classes g c → GoesInto code r.known call.place call.stack held (visible_to shared s) FieldKind target (λ x. TakesField code r.known call.place call.stack held (visible_to shared s) i x rest) → Ends target
-  field_finishes i (Declared declared x) receives n goes = record {
+  field_finishes : HasNoWord → (i : ℕ) (target : Target) → Receives (destination.FieldId i) kind g carried after → IsField w.classes g c → GoesInto code r.known call.place call.stack held (visible_to shared s) FieldKind target (λ x. TakesField code r.known call.place call.stack held (visible_to shared s) i x rest) → Ends target
+  field_finishes no_word i (Declared declared x) receives n goes = record {
+    tasks = rest;
     variables = assign x (FieldHandle n.field) s.variables;
     steps = declared_is line f args rest s left q c plain next declared x (FieldHandle n.field) (ap (λ (k : VariableKind). filled (blank k (length (frames_received kind c left))) c) goes.0 ∙ n.fills None);
-    stands = field_stands i receives x goes.1 n;
-    viewless = field_viewless i receives x goes.1 n;
+    stands = field_stands no_word i receives x goes.1 n;
+    viewless = field_viewless no_word i receives x goes.1 n;
   }
-  field_finishes i (Assigned x) receives n goes =
+  field_finishes no_word i (Assigned x) receives n goes =
       let old = field_by_kind (lookup x s.variables) goes.0 in
       record {
+        tasks = rest;
         variables = assign x (FieldHandle n.field) s.variables;
         steps = assigned_is line f args rest s left q c plain next x (FieldHandle old.0) (FieldHandle n.field) old.1 (n.fills old.0);
-        stands = field_stands i receives x goes.1 n;
-        viewless = field_viewless i receives x goes.1 n;
+        stands = field_stands no_word i receives x goes.1 n;
+        viewless = field_viewless no_word i receives x goes.1 n;
       }
-  field_finishes i (Tested a b) receives n goes = absurd goes
-  field_finishes i Dropped receives n goes = absurd goes
+  field_finishes no_word i (Tested a b) receives n goes = absurd goes
+  field_finishes no_word i Dropped receives n goes = absurd goes
+
+  -- ---- the test of an `if`
+
+  test_finishes : (target : Target) → with_result function.target 0 ≡ Some 1 → Receives destination.Test kind g carried after → IsNumber g c Jint → TakesTest code r.known call.place call.stack held (visible_to shared s) line target rest → Ends target
+  test_finishes target count receives n takes =
+      let word : stack_with destination.Test g ≡ truth_word (is_zero c) ∷ [] =
+      ap (stack_with destination.Test) n.same ∙ ap (λ (b : Bool). truth_word b ∷ []) (zero_word n.value n.sorted ∙ sym (ap is_zero n.gave)) in
+      let tasks : List Task = Branch line (Done (Truth (is_zero c))) takes.then' takes.else' ∷ rest in
+      subst Ends (sym takes.is) (record {
+        tasks = tasks;
+        variables = s.variables;
+        steps = ap (put (Tested takes.then' takes.else') c next) (resumed_is line f args rest s left q c plain (Tested takes.then' takes.else'));
+        stands = stands_with (truth_word (is_zero c) ∷ []) tasks count destination.Test receives word r.known s.variables r.references r.fields (subst (λ (l : List (Option ℕ)). ReferencesAgree space l r.references) (sym receives.references) same_references)
+            (subst (λ (l : List (Option Handle)). FieldsAgree w.classes l r.fields) (sym receives.fields) r.fields_agree) (takes.stands (is_zero c))
+            (subst (λ (l : List ℕ). Shows code r.known (visible_to shared (then s.variables)) (record { numbers = l; references = r.references; fields = r.fields })) (sym receives.numbers) r.shows);
+        viewless = none;
+      })
 
   -- ---- by where it goes
 
-  pub finishes : (d : Destination) (target : Target) → TakesResult code r.known call.place call.stack held (visible_to shared s) d kind target rest → Receives d kind g carried after → Ends target
-  finishes (destination.Number i) target goes receives = number_finishes i target receives goes.0 (number_given w.classes space kind g c goes.0 agrees goes.1) goes.2
-  finishes (destination.Local i) target goes receives =
-      reference_finishes i target receives (reference_given w.classes space g c (subst (λ (k : ResultKind). GivenAgrees w.classes space k g c) goes.0 agrees)) goes.1
-  finishes (destination.FieldId i) target goes receives =
-      field_finishes i target receives (field_given w.classes space g c (subst (λ (k : ResultKind). GivenAgrees w.classes space k g c) goes.0 agrees)) goes.1
-  finishes destination.Dropped target goes receives =
+  pub finishes : (d : Destination) (target : Target) → function.target ≡ d → TakesResult code r.known call.place call.stack held (visible_to shared s) line d kind target rest → Receives d kind g carried after → Ends target
+  finishes (destination.Number i) target same goes receives = number_finishes (ap (λ (d : Destination). with_result d 0) same) i target receives goes.0 (number_given w.classes space kind g c goes.0 agrees goes.1) goes.2
+  finishes (destination.Local i) target same goes receives =
+      reference_finishes (ap (λ (d : Destination). with_result d 0) same) i target receives (reference_given w.classes space g c (subst (λ (k : ResultKind). GivenAgrees w.classes space k g c) goes.0 agrees)) goes.1
+  finishes (destination.FieldId i) target same goes receives =
+      field_finishes (ap (λ (d : Destination). with_result d 0) same) i target receives (field_given w.classes space g c (subst (λ (k : ResultKind). GivenAgrees w.classes space k g c) goes.0 agrees)) goes.1
+  finishes (destination.Static i) target same goes receives = absurd (subst (λ (k : ResultKind). GivenAgrees w.classes space k g c) goes.0 agrees)
+  finishes destination.Test target same goes receives =
+      test_finishes target (ap (λ (d : Destination). with_result d 0) same) receives (number_given w.classes space kind g c Jint agrees (ap number_sort goes.0)) goes.1
+  finishes destination.Dropped target same goes receives =
       subst Ends (sym goes.0) (record {
+        tasks = rest;
         variables = s.variables;
         steps = dropped_is line f args rest s left q c plain next;
-        stands = stands_after destination.Dropped receives r.known s.variables r.references r.fields (subst (λ (l : List (Option ℕ)). ReferencesAgree space l r.references) (sym receives.references) same_references)
+        stands = stands_after (ap (λ (d : Destination). with_result d 0) same) destination.Dropped refl receives r.known s.variables r.references r.fields (subst (λ (l : List (Option ℕ)). ReferencesAgree space l r.references) (sym receives.references) same_references)
             (subst (λ (l : List (Option Handle)). FieldsAgree w.classes l r.fields) (sym receives.fields) r.fields_agree) goes.1
             (subst (λ (l : List ℕ). Shows code r.known (visible_to shared (then s.variables)) (record { numbers = l; references = r.references; fields = r.fields })) (sym receives.numbers) r.shows);
         viewless = none;

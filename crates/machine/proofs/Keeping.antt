@@ -1,15 +1,13 @@
 -- What a step leaves as it was for the other threads, and what of them agrees with it still.
-use Rattle.std.proofs.Common.{◌≡◌, ℕ, ℤ, ◌-◌, List, [], ◌∷◌, ◌++◌, length, reverse, take, Option, Some, None, refl, sym, ap, ◌∙◌, arith}
+use Rattle.std.proofs.Common.{◌≡◌, ℕ, ℤ, ◌-◌, List, [], ◌∷◌, ◌++◌, length, reverse, take, inl, inr, Option, Some, None, refl, sym, ap, ◌∙◌, arith}
 use Rattle.std.specs.Prelude.{slice_get, slice_set}
 use Rattle.std.specs.List.{AllZip}
 use Rattle.std.proofs.Math.ListN.{length-set}
 use Rattle.std.proofs.lemmas.List.{take_all}
-use Rattle.syntax.specs.Views.{unit_tree}
 use Rattle.classes.specs.Class.{Classes}
 use Rattle.heap.specs.Heap.{Space, name_at}
 use Rattle.source.specs.Heap.{Heap, object_at, class_of, values_of, with_value_at}
 use Rattle.source.specs.Object.{Object, ObjectValue, Reference, sizes}
-use Rattle.source.specs.Start.{null_statics}
 use Rattle.source.specs.Task.{Task}
 use Rattle.source.specs.Thread as source
 use Rattle.source.specs.Thread.{Shared}
@@ -22,24 +20,24 @@ use Rattle.code.specs.Depth.{Listing}
 use Rattle.code_generator.specs.Layout.{Slot, Known}
 use Rattle.source.specs.Sight.{holds_null, held_reference, in_range, elements_of}
 use Rattle.source.specs.Value.{outcome_then}
-use Rattle.source.specs.Variable.{Variable, Statics}
-use Rattle.lower.specs.Slots.{Slots, Shows, ShowsSlot, visible_to}
+use Rattle.source.specs.Variable.{StaticReference, Empty, Live, Deleted, Variable, Statics, assign}
+use Rattle.tables.specs.References.{references_in}
+use Rattle.machine.specs.declared.statics.Held.{Held}
+use Rattle.machine.specs.declared.statics.Held.TheVariants as held
+use Rattle.lower.specs.Slots.{Slots, Shows, ShowsSlot, static_index, visible_to}
+use Rattle.lower.proofs.StaticLaws.{shows_still}
 use Rattle.machine.proofs.Changes.{array_of}
 use Rattle.machine.specs.declared.thread.Activation.{Activation}
 use Rattle.machine.specs.Frames.{Frame}
 use Rattle.machine.specs.declared.thread.Thread.{Thread}
 use Rattle.machine.specs.HeapAgrees.{ReferenceAgrees, NamesAgree}
-use Rattle.machine.specs.Agrees.{Keeps, ReferencesAgree, FrameAgrees, FramesAgree, CallStands, WorkAgrees, ThreadAgrees, ThreadsAgree}
-
--- nothing but NULL is in the statics yet
-abbrev pub StaticsAgree : Lowered → Shared → Type 0
-StaticsAgree p shared = shared.statics ≡ null_statics (unit_tree p.unit)
+use Rattle.machine.specs.Agrees.{GlobalsAgree, HeldAgrees, Keeps, MayChange, StaticsAgree, ReferencesAgree, FrameAgrees, FramesAgree, CallStands, WorkAgrees, ThreadAgrees, ThreadsAgree}
 
 -- ---- what keeps all
 
 -- nothing changes
 pub keeps_same : (space : Space) (shared : Shared) → Keeps space shared space shared
-keeps_same space shared = record { names = λ a n h. h; statics = refl; sizes = ap sizes (take_all (length shared.heap) shared.heap (omega arith)) }
+keeps_same space shared = record { names = λ a n h. h; statics = inl refl; sizes = ap sizes (take_all (length shared.heap) shared.heap (omega arith)) }
 
 -- the sizes where a value of an object that is there changes
 pub sizes_written : (heap : Heap) (n i : ℕ) (v : ObjectValue) (o : Object) → object_at heap n ≡ Some o → sizes (take (length heap) (with_value_at heap n i v)) ≡ sizes heap
@@ -76,6 +74,26 @@ module _ (space space' : Space) (names : (a n : ℕ) → name_at space a ≡ Som
   names_stay (a ∷ xs) [] h = h
   names_stay (a ∷ xs) (n ∷ ns) h = (names a n h.0, names_stay xs ns h.1)
 
+  held_stays : (h : Held) (r : StaticReference) → HeldAgrees space h r → HeldAgrees space' h r
+  held_stays held.Empty Empty e = e
+  held_stays held.Empty (Live n) e = e
+  held_stays held.Empty Deleted e = e
+  held_stays (held.At a) Empty e = e
+  held_stays (held.At a) (Live n) e = names a n e
+  held_stays (held.At a) Deleted e = e
+  held_stays held.Deleted Empty e = e
+  held_stays held.Deleted (Live n) e = e
+  held_stays held.Deleted Deleted e = e
+
+  pub statics_stay : (helds : List Held) (statics : Statics) → StaticsAgree space helds statics → StaticsAgree space' helds statics
+  statics_stay [] [] h = h
+  statics_stay [] (s ∷ statics) h = h
+  statics_stay (x ∷ helds) [] h = h
+  statics_stay (x ∷ helds) (s ∷ statics) h = (held_stays x s.1 h.0, statics_stay helds statics h.1)
+
+  pub globals_stay : (globals : List (Option ℕ)) (source_globals : List ℕ) → GlobalsAgree space globals source_globals → GlobalsAgree space' globals source_globals
+  globals_stay globals source_globals h = record { names = h.names; agree = names_stay (references_in globals) h.names h.agree; same = h.same }
+
   frame_stays : (f : Frame) (g : source.Frame) → FrameAgrees space f g → FrameAgrees space' f g
   frame_stays f g h = record { capacity = h.capacity; references = names_stay (reverse f.references) g.references h.references }
 
@@ -90,7 +108,7 @@ module _ (space space' : Space) (names : (a n : ℕ) → name_at space a ≡ Som
 
 -- ---- what a thread sees
 
--- what the slots show, where other threads left the statics as they were
+-- what the slots show, where the statics are as they were
 module _ (shared shared' : Shared) (statics : shared'.statics ≡ shared.statics) (s : source.Thread) where
   nulls : (x : Identifier) → (visible_to shared' s).sight.is_null x ≡ (visible_to shared s).sight.is_null x
   nulls x = ap (λ (ss : Statics). holds_null (lookup x s.variables) (lookup x ss)) statics
@@ -104,9 +122,14 @@ module _ (shared shared' : Shared) (statics : shared'.statics ≡ shared.statics
   slot_stays x slots slot sort.Flag h = record { value = h.value; is = h.is; kind = h.kind; sort = h.sort; word = h.word }
   slot_stays x slots slot sort.Truth h = h
   slot_stays x slots slot sort.Ref h = record { reference = h.reference; is = referred x ∙ h.is; is_null = nulls x ∙ h.is_null; no_number = h.no_number; kind = h.kind; there = h.there }
-  slot_stays x slots slot sort.Global h = record { is_null = nulls x ∙ h.is_null; reference = referred x ∙ h.reference }
+  slot_stays x slots slot sort.Global h = record {
+    static = record { place = ap (static_index x) statics ∙ h.static.place; held = h.static.held; there = ap (lookup x) statics ∙ h.static.there };
+    no_variable = record { number = h.no_variable.number; array_type = h.no_variable.array_type; kind = h.no_variable.kind };
+    is_null = nulls x ∙ h.is_null;
+    reference = referred x ∙ h.reference;
+  }
   slot_stays x slots slot sort.FieldId h = record { field = h.field; is = h.is; is_null = nulls x ∙ h.is_null; no_number = h.no_number; kind = h.kind; there = h.there }
-  slot_stays x slots slot (sort.Buffer t writable) h = nulls x ∙ h
+  slot_stays x slots slot (sort.Buffer t writable) h = record { is_null = nulls x ∙ h.is_null; kind = h.kind }
   slot_stays x slots slot (sort.Array t size) h =
       let array = array_of (lookup x s.variables) t h.array_type in
       let same : (i : ℕ) → (visible_to shared' s).sight.element x i ≡ (visible_to shared s).sight.element x i = λ i.
@@ -119,8 +142,13 @@ module _ (shared shared' : Shared) (statics : shared'.statics ≡ shared.statics
         past = λ i above. same i ∙ h.past i above;
       }
 
-  pub shows_stay : (code : Listing) (known : Known) (slots : Slots) → Shows code known (visible_to shared s) slots → Shows code known (visible_to shared' s) slots
-  shows_stay code known slots h = record { numbers = h.numbers; references = h.references; fields = h.fields; each = λ x slot at. slot_stays x slots slot slot.sort (h.each x slot at) }
+  shows_same : (code : Listing) (known : Known) (slots : Slots) → Shows code known (visible_to shared s) slots → Shows code known (visible_to shared' s) slots
+  shows_same code known slots h = record { numbers = h.numbers; references = h.references; fields = h.fields; each = λ x slot at. slot_stays x slots slot slot.sort (h.each x slot at) }
+
+-- where one of them may hold something else
+pub shows_stay : (shared shared' : Shared) → MayChange shared.statics shared'.statics → (s : source.Thread) (code : Listing) (known : Known) (slots : Slots) → Shows code known (visible_to shared s) slots → Shows code known (visible_to shared' s) slots
+shows_stay shared shared' (inl same) s code known slots h = shows_same shared shared' same s code known slots h
+shows_stay shared shared' (inr (x, r, is)) s code known slots h = shows_same (record shared { statics = assign x r shared.statics }) shared' is s code known slots (shows_still shared s x r code known slots h)
 
 -- ---- the other threads
 

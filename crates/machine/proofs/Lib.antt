@@ -1,5 +1,8 @@
 pub mod Lists
 pub mod ArgumentSlots
+pub mod HeldStatics
+pub mod GlobalLaws
+pub mod StaticStores
 pub mod Keeping
 pub mod Calls
 pub mod Arguments

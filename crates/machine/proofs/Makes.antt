@@ -1,5 +1,6 @@
 -- A store with a new object stands for the source's heap with it.
-use Rattle.std.proofs.Common.{◌≡◌, ℕ, ◌+◌, ◌<◌, ◌≤◌, ◌^◌, List, [], ◌∷◌, ◌++◌, length, map, Some, refl, sym, ap, ◌∙◌, subst, arith, length-append}
+use Rattle.std.specs.Global.{Vec}
+use Rattle.std.proofs.Common.{inl, ◌≡◌, ℕ, ◌+◌, ◌<◌, ◌≤◌, ◌^◌, List, Option, [], ◌∷◌, ◌++◌, length, map, Some, refl, sym, ap, ◌∙◌, subst, arith, length-append}
 use Rattle.std.proofs.lemmas.List.{length-map}
 use Rattle.std.proofs.lemmas.List.Sums.{sum_by-append, sum_by-cons}
 use Rattle.classes.specs.Class.{FieldType, NumberField, ReferenceField}
@@ -14,13 +15,16 @@ use Rattle.source.specs.World.{World, fresh_object, initial, loaded_objects}
 use Rattle.world.proofs.LoadedWorlds.{few_objects}
 use Rattle.lower.specs.Lowered.{Lowered}
 use Rattle.machine.specs.declared.store.Store.{Store}
-use Rattle.machine.specs.Agrees.{StoreAgrees, Keeps}
+use Rattle.machine.specs.Agrees.{GlobalsAgree, Keeps, StaticsAgree, StoreAgrees}
+use Rattle.machine.specs.Statics.{HaveKeys, all_held}
+use Rattle.machine.specs.declared.statics.Held.{Held}
+use Rattle.machine.specs.declared.statics.StaticReference.{StaticReference}
 use Rattle.machine.specs.Answers.{IsMakeable}
 use Rattle.machine.specs.HeapAgrees.{HeapAgrees, IsTable, ValueAgrees, ValuesAgree}
 use Rattle.machine.specs.Made.{HasMade, initial_value, new_block}
 use Rattle.machine.proofs.Classed.{classed_more}
 use Rattle.machine.proofs.HeapLaws.{IsNext, IsName-more, Needs, agrees_with_block, name_kept, name_new, table_kept}
-use Rattle.machine.proofs.Keeping.{sizes_more}
+use Rattle.machine.proofs.Keeping.{globals_stay, sizes_more, statics_stay}
 
 -- zero and NULL
 initial_agree : (space : Space) (fields : List FieldId) → ValuesAgree space (map (λ (f : FieldId). initial_value f.field.type) fields) (map (λ (f : FieldId). initial f.field.type) fields)
@@ -60,6 +64,9 @@ module _ (p : Lowered) (w : World) (store new : Store) (shared : Shared) (c a : 
   abbrev pub with_object : Shared
   with_object = record shared { heap = shared.heap ++ o ∷ [] }
 
+  pub names_stay : (x n : ℕ) → name_at store.heap x ≡ Some n → name_at new.heap x ≡ Some n
+  names_stay x n at = ap (λ (s : Space). name_at s x) made.heap ∙ name_kept store.heap b x n at
+
   pub made_agrees : IsMakeable w.classes c → StoreAgrees p w new with_object
   made_agrees makeable =
       let count = length-append shared.heap (o ∷ []) in
@@ -82,16 +89,15 @@ module _ (p : Lowered) (w : World) (store new : Store) (shared : Shared) (c a : 
         begun = omega arith;
         births = made.births ∙ omega arith;
         classed = classed_more w.classes shared.heap c h.classed makeable;
-        statics = h.statics;
-        globals = h.globals;
+        statics = subst (λ (helds : List Held). StaticsAgree new.heap helds shared.statics) (sym (λ i. all_held (made.globals i) (made.statics i).items)) (statics_stay store.heap new.heap names_stay (all_held store.globals store.statics.items) shared.statics h.statics);
+        named = h.named;
+        keys = subst (λ (globals : List (Option ℕ)). HaveKeys globals new.statics.items) (sym made.globals) (subst (λ (v : Vec StaticReference). HaveKeys store.globals v.items) (sym made.statics) h.keys);
+        globals = subst (λ (globals : List (Option ℕ)). GlobalsAgree new.heap globals shared.globals) (sym made.globals) (globals_stay store.heap new.heap names_stay store.globals shared.globals h.globals);
         monitors = h.monitors;
       }
 
-  pub names_stay : (x n : ℕ) → name_at store.heap x ≡ Some n → name_at new.heap x ≡ Some n
-  names_stay x n at = ap (λ (s : Space). name_at s x) made.heap ∙ name_kept store.heap b x n at
-
   pub made_keeps : Keeps store.heap shared new.heap with_object
-  made_keeps = record { names = names_stay; statics = refl; sizes = sizes_more shared.heap (o ∷ []) }
+  made_keeps = record { names = names_stay; statics = inl refl; sizes = sizes_more shared.heap (o ∷ []) }
 
   -- the object is at its address
   pub made_named : name_at new.heap a ≡ Some (next_name shared.heap)

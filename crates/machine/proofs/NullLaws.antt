@@ -2,116 +2,115 @@
 use Rattle.std.proofs.Common.{◌≡◌, ℕ, zero, suc, Bool, true, false, List, [], ◌∷◌, length, map, Option, Some, None, refl, sym, ap, ◌∙◌, subst, if◌then◌else◌}
 use Rattle.std.specs.Prelude.{slice_get, slice_set, is_none}
 use Rattle.std.specs.Option.{option_map}
-use Rattle.std.specs.Str.{bytes_eq}
 use Rattle.base.specs.Bytes.{Identifier, lookup}
-use Rattle.syntax.specs.Parts.{statics_of}
-use Rattle.syntax.specs.Tree.{Static}
-use Rattle.syntax.specs.Views.{unit_tree}
 use Rattle.heap.specs.Heap.{Space}
 use Rattle.source.specs.Object.{Reference}
 use Rattle.code.specs.declared.instr.NullableVariable.{NullableVariable}
 use Rattle.code.specs.declared.instr.NullableVariable.TheVariants as nullable
 use Rattle.source.specs.CallEffects.{NullResult}
-use Rattle.source.specs.CallStep.{put, put_assigned}
+use Rattle.source.specs.CallStep.{filled, put, put_assigned}
 use Rattle.source.specs.Sight.{holds_null, static_is_null, held_reference, held_field, scalar}
-use Rattle.source.specs.Start.{null_static}
 use Rattle.source.specs.Task.{VariableKind, Task, Target, ScalarKind, ReferenceKind, FieldKind, BufferKind, Declared, Assigned, Tested, Dropped}
 use Rattle.source.specs.Thread as source
 use Rattle.source.specs.Thread.{Shared, viewed_by}
 use Rattle.source.specs.ThreadStep.{with_tasks}
 use Rattle.source.specs.Value.{Gives, Stuck}
-use Rattle.source.specs.Variable.{Variable, Scalar, LocalRef, FieldHandle, Elements, LocalArray, NoBuffer, StaticReference, Empty, Variables, Statics, assign, viewed}
+use Rattle.source.specs.Variable.{Variable, Scalar, LocalRef, FieldHandle, Elements, LocalArray, NoBuffer, StaticReference, Empty, Variables, assign, viewed}
 use Rattle.lower.specs.Slots as lower
-use Rattle.lower.specs.Slots.{Slots, visible_to, kind_of_variable, IsNulled}
+use Rattle.lower.specs.Slots.{Slots, Visible, visible_to, kind_of_variable, nulled_statics, type_of_array, IsNulled}
 use Rattle.lower.specs.Stands.{target_name}
 use Rattle.lower.specs.Does.{CanBeNull, kind_of_target}
 use Rattle.code_generator.specs.Layout.{Known}
-use Rattle.lower.specs.Lowered.{Lowered}
 use Rattle.code.specs.Depth.{Listing}
 use Rattle.classes.specs.Class.{Classes}
 use Rattle.classes.specs.Fields.{FieldId}
 use Rattle.class_table.specs.declared.class.FieldHandle.{FieldHandle as Handle}
-use Rattle.machine.specs.Agrees.{ReferencesAgree, FieldAgrees, FieldsAgree}
-use Rattle.machine.proofs.Keeping.{StaticsAgree}
+use Rattle.machine.specs.Agrees.{ReferencesAgree, FieldAgrees, FieldsAgree, StaticsAgree}
+use Rattle.machine.proofs.HeldStatics.{null_at}
 use Rattle.machine.specs.HeapAgrees.{ReferenceAgrees}
-use Rattle.machine.specs.Variables.{holds_none, is_null, nulled_references, nulled_fields}
-use Rattle.machine.proofs.Changes.{assign_same, is_nulled}
+use Rattle.machine.specs.Given.{held_in}
+use Rattle.machine.specs.Statics.{References}
+use Rattle.machine.specs.Variables.{is_null, nulled_references, nulled_fields}
+use Rattle.machine.proofs.Changes.{is_nulled, lookup_other, lookup_same}
 use Rattle.machine.proofs.Views.{Viewless, assigned_viewless}
-
--- ---- statics
-
--- a static that is known holds NULL
-null_found : (x : Identifier) (statics : List Static) (r : StaticReference) → lookup x (map null_static statics) ≡ Some r → r ≡ Empty
-null_found x [] r h = absurd (cc)
-null_found x (g ∷ statics) r h = by_test (bytes_eq x g.name) h (λ e. null_found x statics r e)
-  where
-    by_test : (b : Bool) → (if b then Some Empty else lookup x (map null_static statics)) ≡ Some r → (lookup x (map null_static statics) ≡ Some r → r ≡ Empty) → r ≡ Empty
-    by_test true e later = cc
-    by_test false e later = later e
-
--- a static that is one holds NULL
-static_there : (p : Lowered) (shared : Shared) (x : Identifier) (null : Bool) → StaticsAgree p shared → static_is_null (lookup x shared.statics) ≡ Gives null → lookup x shared.statics ≡ Some Empty
-static_there p shared x null statics h = by_found (lookup x shared.statics) refl h
-  where
-    by_found : (o : Option StaticReference) → lookup x shared.statics ≡ o → static_is_null o ≡ Gives null → lookup x shared.statics ≡ Some Empty
-    by_found None e n = absurd (cc)
-    by_found (Some r) e n =
-        let empty : r ≡ Empty = null_found x (statics_of (unit_tree p.unit)) r (sym (ap (λ (ss : Statics). lookup x ss) statics) ∙ e) in
-        e ∙ ap (λ (q : StaticReference). Some q) empty
 
 -- ---- the source
 
--- NULL went to a variable, which shows it
+-- NULL went to a variable, or to a static, which shows it
 pub record PutsNull (shared : Shared) (s : source.Thread) (rest : List Task) (target : Target) (x : Identifier) (kind : Option VariableKind) : Type 0 where
   pub variables : Variables
-  pub steps : put target NullResult shared (with_tasks s rest) ≡ source.Advances shared (record s { tasks = Some rest; variables = variables }) source.Quiet
-  pub nulled : IsNulled (visible_to shared s) kind x (visible_to shared (record s { tasks = Some rest; variables = variables }))
+  pub steps : put target NullResult shared (with_tasks s rest) ≡ source.Advances (record shared { statics = nulled_statics kind x shared.statics }) (record s { tasks = Some rest; variables = variables }) source.Quiet
+  pub nulled : IsNulled (visible_to shared s) kind x (visible_to (record shared { statics = nulled_statics kind x shared.statics }) (record s { tasks = Some rest; variables = variables }))
   pub viewless : Viewless variables
 
-module _ (p : Lowered) (shared : Shared) (statics : StaticsAgree p shared) (s : source.Thread) (none : viewed_by s ≡ []) (rest : List Task) where
+module _ (shared : Shared) (s : source.Thread) (none : viewed_by s ≡ []) (rest : List Task) where
   abbrev after : Variables → source.Thread
   after vs = record s { tasks = Some rest; variables = vs }
 
-  declared_null : (target : Target) (x y : Identifier) (kind : Option VariableKind) (v : Variable) → put target NullResult shared (with_tasks s rest) ≡ source.Advances shared (after (assign y v s.variables)) source.Quiet → y ≡ x
-      → scalar (Some v) ≡ Stuck → ((o : Option StaticReference) → holds_null (Some v) o ≡ Gives true) → ((o : Option StaticReference) → held_reference (Some v) o ≡ Empty) → held_field (Some v) ≡ None → kind_of_variable (Some v) ≡ kind → viewed v ≡ [] → PutsNull shared s rest target x kind
-  declared_null target x y kind v steps same number null reference field same_kind no_view = record {
+  declared_null : (target : Target) (x y : Identifier) (kind : VariableKind) (v : Variable) → put target NullResult shared (with_tasks s rest) ≡ source.Advances shared (after (assign y v s.variables)) source.Quiet → y ≡ x
+      → scalar (Some v) ≡ Stuck → ((o : Option StaticReference) → holds_null (Some v) o ≡ Gives true) → ((o : Option StaticReference) → held_reference (Some v) o ≡ Empty) → held_field (Some v) ≡ None → type_of_array (Some v) ≡ None → kind_of_variable (Some v) ≡ Some kind → viewed v ≡ [] → PutsNull shared s rest target x (Some kind)
+  declared_null target x y kind v steps same number null reference field no_array same_kind no_view = record {
     variables = assign y v s.variables;
     steps = steps;
-    nulled = subst (λ (z : Identifier). IsNulled (visible_to shared s) kind z (visible_to shared (after (assign y v s.variables)))) same
-        (is_nulled shared s (after (assign y v s.variables)) y v refl kind number (null (lookup y shared.statics)) (reference (lookup y shared.statics)) field same_kind);
+    nulled = subst (λ (z : Identifier). IsNulled (visible_to shared s) (Some kind) z (visible_to shared (after (assign y v s.variables)))) same
+        (is_nulled shared s (after (assign y v s.variables)) y v refl kind number (null (lookup y shared.statics)) (reference (lookup y shared.statics)) field no_array same_kind);
     viewless = assigned_viewless y v s.variables no_view none;
   }
 
-  assigned_null : (x y : Identifier) (null : Bool) (o : Option Variable) → lookup y s.variables ≡ o → y ≡ x → holds_null o (lookup y shared.statics) ≡ Gives null → PutsNull shared s rest (Assigned y) x (kind_of_variable (lookup y s.variables))
-  assigned_null x y null None found same h =
-      let empty = static_there p shared y null statics h in
+  -- a variable that can be NULL, whose kind is known
+  nulled_variable : (x y : Identifier) (old new : Variable) (kind : VariableKind) → lookup y s.variables ≡ Some old → y ≡ x → kind_of_variable (Some old) ≡ Some kind → filled old NullResult ≡ new
+      → scalar (Some new) ≡ Stuck → ((o : Option StaticReference) → holds_null (Some new) o ≡ Gives true) → ((o : Option StaticReference) → held_reference (Some new) o ≡ Empty) → held_field (Some new) ≡ None → type_of_array (Some new) ≡ None → kind_of_variable (Some new) ≡ Some kind → viewed new ≡ []
+      → PutsNull shared s rest (Assigned y) x (kind_of_variable (lookup y s.variables))
+  nulled_variable x y old new kind found same was fills number null reference field no_array same_kind no_view =
+      subst (PutsNull shared s rest (Assigned y) x) (sym (ap kind_of_variable found ∙ was))
+      (declared_null (Assigned y) x y kind new (ap (put_assigned y NullResult shared (with_tasks s rest)) found ∙ ap (λ (v : Variable). source.Advances shared (after (assign y v s.variables)) source.Quiet) fills) same number null reference field no_array same_kind no_view)
+
+  -- a static
+  nulled_static : (y : Identifier) → lookup y s.variables ≡ None → PutsNull shared s rest (Assigned y) y None
+  nulled_static y found =
+      let now : Shared = record shared { statics = assign y Empty shared.statics } in
+      let there : lookup y now.statics ≡ Some Empty = lookup_same y Empty shared.statics in
       record {
         variables = s.variables;
-        steps =
-            ap (put_assigned y NullResult shared (with_tasks s rest)) found
-            ∙ ap (λ (ss : Statics). let r : Shared = record shared { statics = ss } in source.Advances r (with_tasks s rest) source.Quiet) (assign_same y Empty shared.statics empty);
-        nulled = subst (λ (z : Identifier). IsNulled (visible_to shared s) (kind_of_variable (lookup y s.variables)) z (visible_to shared (after s.variables))) same (record {
+        steps = ap (put_assigned y NullResult shared (with_tasks s rest)) found;
+        nulled = record {
           number = ap scalar found;
-          is_null = ap (λ (v : Option Variable). holds_null v (lookup y shared.statics)) found ∙ ap static_is_null empty;
-          reference = ap (λ (v : Option Variable). held_reference v (lookup y shared.statics)) found ∙ ap (held_reference None) empty;
+          is_null = ap (λ (v : Option Variable). holds_null v (lookup y now.statics)) found ∙ ap static_is_null there;
+          reference = ap (λ (v : Option Variable). held_reference v (lookup y now.statics)) found ∙ ap (held_reference None) there;
           field = ap held_field found;
-          same_kind = refl;
-          others = λ z other. record { number = refl; is_null = refl; element = λ i. refl; reference = refl; field = refl; array_type = refl; kind = refl };
-        });
+          array_type = ap type_of_array found;
+          same_kind = ap kind_of_variable found;
+          statics = refl;
+          others = λ z other.
+              let same : lookup z now.statics ≡ lookup z shared.statics = lookup_other y z Empty shared.statics other in
+              record {
+                number = refl;
+                is_null = ap (λ (o : Option StaticReference). holds_null (lookup z s.variables) o) same;
+                element = λ i. refl;
+                reference = ap (λ (o : Option StaticReference). held_reference (lookup z s.variables) o) same;
+                field = refl;
+                array_type = refl;
+                kind = refl;
+                level = refl;
+              };
+        };
         viewless = none;
       }
+
+  assigned_null : (x y : Identifier) (null : Bool) (o : Option Variable) → lookup y s.variables ≡ o → y ≡ x → holds_null o (lookup y shared.statics) ≡ Gives null → PutsNull shared s rest (Assigned y) x (kind_of_variable (lookup y s.variables))
+  assigned_null x y null None found same h = subst (λ (z : Identifier). PutsNull shared s rest (Assigned y) z (kind_of_variable (lookup y s.variables))) same (subst (PutsNull shared s rest (Assigned y) y) (sym (ap kind_of_variable found)) (nulled_static y found))
   assigned_null x y null (Some (Scalar v)) found same h = absurd (cc)
-  assigned_null x y null (Some (LocalRef level q)) found same h = declared_null (Assigned y) x y (kind_of_variable (lookup y s.variables)) (LocalRef level None) (ap (put_assigned y NullResult shared (with_tasks s rest)) found) same refl (λ o. refl) (λ o. refl) refl (sym (ap kind_of_variable found)) refl
-  assigned_null x y null (Some (FieldHandle f)) found same h = declared_null (Assigned y) x y (kind_of_variable (lookup y s.variables)) (FieldHandle None) (ap (put_assigned y NullResult shared (with_tasks s rest)) found) same refl (λ o. refl) (λ o. refl) refl (sym (ap kind_of_variable found)) refl
-  assigned_null x y null (Some (Elements t b)) found same h = declared_null (Assigned y) x y (kind_of_variable (lookup y s.variables)) (Elements t NoBuffer) (ap (put_assigned y NullResult shared (with_tasks s rest)) found) same refl (λ o. refl) (λ o. refl) refl (sym (ap kind_of_variable found)) refl
+  assigned_null x y null (Some (LocalRef level q)) found same h = nulled_variable x y (LocalRef level q) (LocalRef level None) ReferenceKind found same refl refl refl (λ o. refl) (λ o. refl) refl refl refl refl
+  assigned_null x y null (Some (FieldHandle f)) found same h = nulled_variable x y (FieldHandle f) (FieldHandle None) FieldKind found same refl refl refl (λ o. refl) (λ o. refl) refl refl refl refl
+  assigned_null x y null (Some (Elements t b)) found same h = nulled_variable x y (Elements t b) (Elements t NoBuffer) (BufferKind t) found same refl refl refl (λ o. refl) (λ o. refl) refl refl refl refl
   assigned_null x y null (Some (LocalArray t zs)) found same h = absurd (cc)
 
   -- NULL goes to a variable that can be NULL
   pub puts_null : (code : Listing) (known : Known) (place : ℕ) (stack : List ℕ) (slots : Slots) (target : Target) (x : Identifier) → target_name target ≡ Some x → CanBeNull code known place stack slots (visible_to shared s) target → PutsNull shared s rest target x (kind_of_target code known place stack slots (visible_to shared s) target)
   puts_null code known place stack slots (Declared ScalarKind y) x is takes = absurd takes
-  puts_null code known place stack slots (Declared ReferenceKind y) x is takes = declared_null (Declared ReferenceKind y) x y (Some ReferenceKind) (LocalRef (length s.frames) None) refl (cc) refl (λ o. refl) (λ o. refl) refl refl refl
-  puts_null code known place stack slots (Declared FieldKind y) x is takes = declared_null (Declared FieldKind y) x y (Some FieldKind) (FieldHandle None) refl (cc) refl (λ o. refl) (λ o. refl) refl refl refl
-  puts_null code known place stack slots (Declared (BufferKind t) y) x is takes = declared_null (Declared (BufferKind t) y) x y (Some (BufferKind t)) (Elements t NoBuffer) refl (cc) refl (λ o. refl) (λ o. refl) refl refl refl
+  puts_null code known place stack slots (Declared ReferenceKind y) x is takes = declared_null (Declared ReferenceKind y) x y ReferenceKind (LocalRef (length s.frames) None) refl (cc) refl (λ o. refl) (λ o. refl) refl refl refl refl
+  puts_null code known place stack slots (Declared FieldKind y) x is takes = declared_null (Declared FieldKind y) x y FieldKind (FieldHandle None) refl (cc) refl (λ o. refl) (λ o. refl) refl refl refl refl
+  puts_null code known place stack slots (Declared (BufferKind t) y) x is takes = declared_null (Declared (BufferKind t) y) x y (BufferKind t) (Elements t NoBuffer) refl (cc) refl (λ o. refl) (λ o. refl) refl refl refl refl
   puts_null code known place stack slots (Assigned y) x is takes = assigned_null x y takes.0 (lookup y s.variables) refl (cc) takes.1
   puts_null code known place stack slots (Tested then' else') x is takes = absurd takes
   puts_null code known place stack slots Dropped x is takes = absurd takes
@@ -125,7 +124,7 @@ same_null space None (Some n) h = absurd h
 same_null space (Some a) None h = absurd h
 same_null space (Some a) (Some n) h = refl
 
-null_there : (space : Space) (addresses : List (Option ℕ)) (references : List Reference) (i : ℕ) (null : Bool) → ReferencesAgree space addresses references → option_map is_none (slice_get references i) ≡ Some null → holds_none (slice_get addresses i) ≡ null
+null_there : (space : Space) (addresses : List (Option ℕ)) (references : List Reference) (i : ℕ) (null : Bool) → ReferencesAgree space addresses references → option_map is_none (slice_get references i) ≡ Some null → is_none (held_in (slice_get addresses i)) ≡ null
 null_there space [] [] i null h e = absurd (cc)
 null_there space [] (q ∷ references) i null h e = absurd h
 null_there space (a ∷ addresses) [] i null h e = absurd h
@@ -139,7 +138,7 @@ same_field_null classes None (Some f) a = absurd a
 same_field_null classes (Some h) None a = absurd a
 same_field_null classes (Some h) (Some f) a = refl
 
-field_null_there : (classes : Classes) (handles : List (Option Handle)) (fields : List (Option FieldId)) (i : ℕ) (null : Bool) → FieldsAgree classes handles fields → option_map is_none (slice_get fields i) ≡ Some null → holds_none (slice_get handles i) ≡ null
+field_null_there : (classes : Classes) (handles : List (Option Handle)) (fields : List (Option FieldId)) (i : ℕ) (null : Bool) → FieldsAgree classes handles fields → option_map is_none (slice_get fields i) ≡ Some null → is_none (held_in (slice_get handles i)) ≡ null
 field_null_there classes [] [] i null h e = absurd (cc)
 field_null_there classes [] (f ∷ fields) i null h e = absurd h
 field_null_there classes (a ∷ handles) [] i null h e = absurd h
@@ -147,12 +146,12 @@ field_null_there classes (a ∷ handles) (f ∷ fields) zero null h e = same_fie
 field_null_there classes (a ∷ handles) (f ∷ fields) (suc i) null h e = field_null_there classes handles fields i null h.1 e
 
 -- a variable is NULL where the source's is
-pub null_agrees : (classes : Classes) (space : Space) (addresses : List (Option ℕ)) (handles : List (Option Handle)) (slots : Slots) (variable : NullableVariable) (null : Bool) → ReferencesAgree space addresses slots.references → FieldsAgree classes handles slots.fields
-    → lower.holds_null slots variable ≡ Some null → is_null addresses handles variable ≡ null
-null_agrees classes space addresses handles slots (nullable.Local i) null h k e = null_there space addresses slots.references i null h e
-null_agrees classes space addresses handles slots (nullable.Static i) null h k e = cc
-null_agrees classes space addresses handles slots (nullable.FieldId i) null h k e = field_null_there classes handles slots.fields i null k e
-null_agrees classes space addresses handles slots (nullable.Buffer i) null h k e = cc
+pub variable_null_agrees : (classes : Classes) (space : Space) (references : References) (handles : List (Option Handle)) (visible : Visible) (slots : Slots) (variable : NullableVariable) (null : Bool) → ReferencesAgree space references.locals slots.references → StaticsAgree space references.statics visible.statics → FieldsAgree classes handles slots.fields
+    → lower.holds_null visible slots variable ≡ Some null → is_null references handles variable ≡ null
+variable_null_agrees classes space references handles visible slots (nullable.Local i) null h g k e = null_there space references.locals slots.references i null h e
+variable_null_agrees classes space references handles visible slots (nullable.Static i) null h g k e = null_at space references.statics visible.statics i null g e
+variable_null_agrees classes space references handles visible slots (nullable.FieldId i) null h g k e = field_null_there classes handles slots.fields i null k e
+variable_null_agrees classes space references handles visible slots (nullable.Buffer i) null h g k e = cc
 
 set_agrees : (space : Space) (addresses : List (Option ℕ)) (references : List Reference) (i : ℕ) → ReferencesAgree space addresses references → ReferencesAgree space (slice_set addresses i None) (slice_set references i None)
 set_agrees space [] [] i h = tt

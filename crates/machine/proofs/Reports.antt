@@ -1,5 +1,5 @@
 -- The report of the state that a machine's journal leads to.
-use Rattle.std.proofs.Common.{append-nil, ◌≡◌, ℕ, zero, suc, ◌+◌, Bool, false, cond, List, [], ◌∷◌, ◌++◌, length, map, Option, Some, None, Result, refl, sym, ap, ◌∙◌, subst}
+use Rattle.std.proofs.Common.{append-nil, append_assoc, ◌≡◌, ℕ, zero, suc, ◌+◌, Bool, false, cond, List, [], ◌∷◌, ◌++◌, length, map, Option, Some, None, Result, refl, sym, ap, ◌∙◌, subst}
 use Rattle.std.specs.Prelude.{slice_get, flat_map, ◌==◌, is_some, not, ◌||◌, ◌&&◌}
 use Rattle.std.specs.List.{list_all, enumerate_from, AllZip}
 use Rattle.std.specs.Option.{option_map}
@@ -47,8 +47,11 @@ use Rattle.machine.specs.declared.store.Store.{Store}
 use Rattle.machine.specs.Run.{Run, Corresponds, WritesRun, IsFinished}
 use Rattle.machine.proofs.Standings.{standings}
 use Rattle.machine.proofs.Threads.{unblocked}
-use Rattle.machine.specs.Roots.{frames_of, thread_names, ThreadsAreThere}
-use Rattle.machine.proofs.RootNames.{HasRootsOf, threads_are, threads_there}
+use Rattle.machine.specs.Roots.{AreAddresses, frames_of, name_of, thread_names, ThreadsAreThere}
+use Rattle.std.specs.Prelude.{Contains}
+use Rattle.machine.proofs.GlobalLaws.{among_both}
+use Rattle.tables.specs.References.{references_in}
+use Rattle.machine.proofs.RootNames.{HasRootsOf, names_are, names_there, threads_are, threads_there}
 
 -- ---- how threads stand
 
@@ -162,32 +165,45 @@ module _ (p : Lowered) (world : World) (store : Store) (ts : List Thread) (print
   pub roots_there : ThreadsAreThere store.heap ts
   roots_there = threads_there store.heap ts c.state.threads roots_in
 
-  -- the state's roots are the objects made at load and what the threads refer to
-  roots_are : roots world c.state ≡ from_one (length store.loaded.items) ++ flat_map (thread_names store.heap) ts
+  -- the names of the global references, as their table has them
+  globals_are : map (name_of store.heap) (references_in store.globals) ≡ c.store_agrees.globals.names
+  globals_are = names_are store.heap (references_in store.globals) c.store_agrees.globals.names c.store_agrees.globals.agree
+
+  -- their objects are there
+  pub globals_there : AreAddresses store.heap (references_in store.globals)
+  globals_there = names_there store.heap (references_in store.globals) c.store_agrees.globals.names c.store_agrees.globals.agree
+
+  -- the state's roots are the objects made at load, the global references and what the threads refer to
+  roots_are : roots world c.state ≡ (from_one (length store.loaded.items) ++ c.state.shared.globals) ++ flat_map (thread_names store.heap) ts
   roots_are =
       let names = flat_map thread_roots c.state.threads in
+      let globals = c.state.shared.globals in
       let count : loaded_count world ≡ length store.loaded.items = sym (length-loaded world) ∙ sym c.store_agrees.table.counted in
       let views_none : views c.state ≡ [] = no_views p world.classes store.heap (length (loaded_objects world)) c.state.shared ts c.state.threads c.threads_agree in
-      ap (λ (l : List ℕ). from_one (loaded_count world) ++ l ++ names ++ map (λ (m : Monitor). m.object) c.state.shared.monitors ++ views c.state) c.store_agrees.globals
-      ∙ ap (λ (l : List ℕ). l ++ names ++ map (λ (m : Monitor). m.object) c.state.shared.monitors ++ views c.state) (append-nil (from_one (loaded_count world)))
-      ∙ ap (λ (ms : List Monitor). from_one (loaded_count world) ++ names ++ map (λ (m : Monitor). m.object) ms ++ views c.state) c.store_agrees.monitors
-      ∙ ap (λ (l : List ℕ). l ++ views c.state) (append-nil (from_one (loaded_count world) ++ names))
-      ∙ ap (λ (l : List ℕ). from_one (loaded_count world) ++ names ++ l) views_none
-      ∙ append-nil (from_one (loaded_count world) ++ names)
-      ∙ ap (λ n. from_one n ++ names) count
-      ∙ ap (λ (l : List ℕ). from_one (length store.loaded.items) ++ l) (sym (threads_are store.heap ts c.state.threads roots_in))
+      ap (λ (ms : List Monitor). (((from_one (loaded_count world) ++ globals) ++ names) ++ map (λ (m : Monitor). m.object) ms) ++ views c.state) c.store_agrees.monitors
+      ∙ ap (λ (l : List ℕ). l ++ views c.state) (append-nil ((from_one (loaded_count world) ++ globals) ++ names))
+      ∙ ap (λ (l : List ℕ). ((from_one (loaded_count world) ++ globals) ++ names) ++ l) views_none
+      ∙ append-nil ((from_one (loaded_count world) ++ globals) ++ names)
+      ∙ ap (λ n. (from_one n ++ globals) ++ names) count
+      ∙ ap (λ (l : List ℕ). (from_one (length store.loaded.items) ++ globals) ++ l) (sym (threads_are store.heap ts c.state.threads roots_in))
 
   -- the rows of what can be reached from them are the state's
   pub rows_are : (classes : Classes) (objects : Heap) (loaded : ℕ) (names : List ℕ) (rows : List ShownRow)
-      → classes ≡ world.classes → objects ≡ c.state.shared.heap → loaded ≡ length store.loaded.items → names ≡ flat_map (thread_names store.heap) ts
+      → classes ≡ world.classes → objects ≡ c.state.shared.heap → loaded ≡ length store.loaded.items → names ≡ map (name_of store.heap) (references_in store.globals) ++ flat_map (thread_names store.heap) ts
       → AreReported classes objects loaded names rows → rows ≡ map (shown_row world.classes c.state.shared.heap) (shown world c.state)
   unfolding report
   rows_are classes objects loaded names rows k h l n told =
-      let same : roots world c.state ≡ from_one loaded ++ names =
-      roots_are
-      ∙ ap (λ m. from_one m ++ flat_map (thread_names store.heap) ts) (sym l)
-      ∙ ap (λ (ns : List ℕ). from_one loaded ++ ns) (sym n) in
-      told world c.state (record { classes = sym k; heap = sym h; roots = same })
+      let of_threads = flat_map (thread_names store.heap) ts in
+      let source_globals = c.state.shared.globals in
+      let globals = c.store_agrees.globals.names in
+      let given : from_one loaded ++ (globals ++ of_threads) ≡ from_one loaded ++ names = ap (λ (ns : List ℕ). from_one loaded ++ ns) (sym (n ∙ ap (λ (ns : List ℕ). ns ++ of_threads) globals_are)) in
+      let same : roots world c.state ≡ from_one loaded ++ (source_globals ++ of_threads) = roots_are ∙ ap (λ m. (from_one m ++ source_globals) ++ of_threads) (sym l) ∙ append_assoc (from_one loaded) source_globals of_threads in
+      told world c.state (record {
+        classes = sym k;
+        heap = sym h;
+        sound = λ m there. subst (λ (ns : List ℕ). Contains ns m) given (among_both (from_one loaded) source_globals globals of_threads (λ i. sym (c.store_agrees.globals.same i)) m (subst (λ (ns : List ℕ). Contains ns m) same there));
+        complete = λ m there. subst (λ (ns : List ℕ). Contains ns m) (sym same) (among_both (from_one loaded) globals source_globals of_threads c.store_agrees.globals.same m (subst (λ (ns : List ℕ). Contains ns m) (sym given) there));
+      })
 
 -- what is written of these parts is what the run writes
 pub writes_run : {T E : Type 0} (p : Lowered) (world : World) (store : Store) (ts : List Thread) (printed : List Printed) (stop : Option Stop) (journal : List Entry) (c : Corresponds p world store ts printed stop journal) (now : Run)

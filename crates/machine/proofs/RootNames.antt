@@ -7,6 +7,7 @@ use Rattle.std.proofs.lemmas.List.{reverse-append, reverse-reverse}
 use Rattle.std.proofs.lemmas.Grind.{flat_map-append}
 use Rattle.std.proofs.lemmas.List.Concat.{flat_map-cons}
 use Rattle.std.proofs.lemmas.List.{map-append, drop_all}
+use Rattle.tables.specs.References.{references_in}
 use Rattle.heap.specs.Heap.{Space, IsAddress, name_at}
 use Rattle.source.specs.Object.{Reference}
 use Rattle.source.specs.Reachable.{thread_roots}
@@ -15,7 +16,7 @@ use Rattle.machine.specs.declared.thread.Thread.{Thread}
 use Rattle.machine.specs.Frames.{Frame}
 use Rattle.machine.specs.Agrees.{FrameAgrees, FramesAgree}
 use Rattle.machine.specs.HeapAgrees.{NamesAgree, ReferenceAgrees}
-use Rattle.machine.specs.Roots.{name_of, frame_names, frames_of, pending_names, thread_names, AreAddresses, FramesAreThere, CallIsThere, PendingIsThere, ThreadsAreThere}
+use Rattle.machine.specs.Roots.{name_of, frame_names, frames_of, reference_names, thread_names, AreAddresses, FramesAreThere, CallIsThere, ReferenceIsThere, ThreadsAreThere}
 use Rattle.machine.proofs.BlockObjects.{is_address}
 
 -- ---- from the last to the first
@@ -60,7 +61,7 @@ flat_back {X = X} f xs start done x h e =
 
 -- ---- names
 
-names_are : (space : Space) (places ns : List ℕ) → NamesAgree space places ns → map (name_of space) places ≡ ns
+pub names_are : (space : Space) (places ns : List ℕ) → NamesAgree space places ns → map (name_of space) places ≡ ns
 names_are space [] [] h = refl
 names_are space [] (n ∷ ns) h = absurd h
 names_are space (a ∷ places) [] h = absurd h
@@ -78,7 +79,7 @@ frames_are space (f ∷ fs) (g ∷ gs) h =
     ∙ ap (λ (l : List ℕ). g.references ++ l) (frames_are space fs gs h.1)
     ∙ sym (flat_map-cons (λ (g : source.Frame). g.references) g gs)
 
-pending_are : (space : Space) (o : Option ℕ) (r : Reference) → ReferenceAgrees space o r → pending_names space o ≡ option_to_list r
+pending_are : (space : Space) (o : Option ℕ) (r : Reference) → ReferenceAgrees space o r → reference_names space o ≡ option_to_list r
 pending_are space None None h = refl
 pending_are space None (Some n) h = absurd h
 pending_are space (Some a) None h = absurd h
@@ -91,7 +92,7 @@ pub record HasRootsOf (space : Space) (t : Thread) (s : source.Thread) : Type 0 
 
 thread_is : (space : Space) (t : Thread) (s : source.Thread) → HasRootsOf space t s → thread_names space t ≡ thread_roots s
 thread_is space t s h =
-    ap (λ (l : List ℕ). l ++ pending_names space t.pending) (frames_are space (reverse (frames_of t.call)) s.frames h.frames)
+    ap (λ (l : List ℕ). l ++ reference_names space t.pending) (frames_are space (reverse (frames_of t.call)) s.frames h.frames)
     ∙ ap (λ (l : List ℕ). flat_map (λ (g : source.Frame). g.references) s.frames ++ l) (pending_are space t.pending s.pending h.pending)
 
 pub threads_are : (space : Space) (ts : List Thread) (ss : List source.Thread) → AllZip (HasRootsOf space) ts ss → flat_map (thread_names space) ts ≡ flat_map thread_roots ss
@@ -106,7 +107,7 @@ threads_are space (t ∷ ts) (s ∷ ss) h =
 
 -- ---- they are there
 
-names_there : (space : Space) (places ns : List ℕ) → NamesAgree space places ns → AreAddresses space places
+pub names_there : (space : Space) (places ns : List ℕ) → NamesAgree space places ns → AreAddresses space places
 names_there space [] ns h i a e = absurd (cc)
 names_there space (b ∷ places) [] h i a e = absurd h
 names_there space (b ∷ places) (n ∷ ns) h zero a e = let same : b ≡ a = cc in is_address space a n (subst (λ x. name_at space x ≡ Some n) same h.0)
@@ -137,7 +138,7 @@ frames_there_in space (x ∷ fs) (g ∷ gs) h zero f e =
     subst (λ (y : Frame). AreAddresses space y.references) same (each_back (IsAddress space) x.references (names_there space (reverse x.references) g.references (h.0).references))
 frames_there_in space (x ∷ fs) (g ∷ gs) h (suc i) f e = frames_there_in space fs gs h.1 i f e
 
-pending_there : (space : Space) (o : Option ℕ) (r : Reference) → ReferenceAgrees space o r → PendingIsThere space o
+pending_there : (space : Space) (o : Option ℕ) (r : Reference) → ReferenceAgrees space o r → ReferenceIsThere space o
 pending_there space None r h a e = absurd (cc)
 pending_there space (Some b) None h a e = absurd h
 pending_there space (Some b) (Some n) h a e = let same : b ≡ a = cc in is_address space a n (subst (λ x. name_at space x ≡ Some n) same h)
@@ -147,8 +148,26 @@ threads_there space [] ss h i t e = absurd (cc)
 threads_there space (x ∷ ts) [] h i t e = absurd h
 threads_there space (x ∷ ts) (s ∷ ss) h zero t e =
     let same : x ≡ t = cc in
-    subst (λ (y : Thread). CallIsThere space y.call × PendingIsThere space y.pending) same (
+    subst (λ (y : Thread). CallIsThere space y.call × ReferenceIsThere space y.pending) same (
       each_back (λ (f : Frame). AreAddresses space f.references) (frames_of x.call) (frames_there_in space (reverse (frames_of x.call)) s.frames (h.0).frames),
       pending_there space x.pending s.pending (h.0).pending,
     )
 threads_there space (x ∷ ts) (s ∷ ss) h (suc i) t e = threads_there space ts ss h.1 i t e
+
+-- ---- global references
+
+-- the object of the global reference at a place is there
+pub global_there : (space : Space) (slots : List (Option ℕ)) (place : ℕ) (r : Option ℕ) → AreAddresses space (references_in slots) → slice_get slots place ≡ Some r → ReferenceIsThere space r
+global_there space [] place r h at a is = absurd (cc)
+global_there space (None ∷ slots) zero r h at a is = absurd (let both : None ≡ Some a = (let same : None ≡ r = cc in same) ∙ is in cc)
+global_there space (Some b ∷ slots) zero r h at a is = h 0 a (let same : Some b ≡ r = cc in same ∙ is)
+global_there space (None ∷ slots) (suc place) r h at a is = global_there space slots place r h at a is
+global_there space (Some b ∷ slots) (suc place) r h at a is = global_there space slots place r (λ i x e. h (suc i) x e) at a is
+
+-- the names from a place on, that there being the next
+pub global_next : (space : Space) (slots : List (Option ℕ)) (place : ℕ) (r : Option ℕ) → slice_get slots place ≡ Some r
+    → map (name_of space) (references_in (drop place slots)) ≡ reference_names space r ++ map (name_of space) (references_in (drop (place + 1) slots))
+global_next space [] place r at = absurd (cc)
+global_next space (None ∷ slots) zero r at = let same : None ≡ r = cc in ap (λ (o : Option ℕ). reference_names space o ++ map (name_of space) (references_in slots)) same
+global_next space (Some b ∷ slots) zero r at = let same : Some b ≡ r = cc in ap (λ (o : Option ℕ). reference_names space o ++ map (name_of space) (references_in slots)) same
+global_next space (s ∷ slots) (suc place) r at = let next : suc place + 1 ≡ suc (place + 1) = omega arith in rw next (global_next space slots place r at)

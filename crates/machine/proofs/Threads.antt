@@ -1,11 +1,12 @@
 -- A thread's step is that of the source's thread.
 use Rattle.source.proofs.BuiltCalls.{waits_for_none}
-use Rattle.std.proofs.Common.{zip, ◌≡◌, ℕ, zero, suc, ◌+◌, ◌-◌, ◌<◌, ◌≤◌, Bool, true, false, List, [], ◌∷◌, ◌++◌, length, filter_map, map, reverse, replicate, cond, eqb, Option, Some, None, refl, sym, ap, ◌∙◌, subst, arith, append_assoc, if◌then◌else◌}
+use Rattle.std.proofs.Common.{zip, ◌≡◌, ℕ, zero, suc, ◌+◌, ◌-◌, ◌<◌, ◌≤◌, Bool, true, false, List, [], ◌∷◌, ◌++◌, length, filter_map, map, reverse, replicate, cond, eqb, Option, Some, None, refl, sym, ap, ◌∙◌, subst, arith, append_assoc, length-append, if◌then◌else◌}
 use Rattle.std.specs.Prelude.{find, slice_get, nat_lt, nat_le, ◌&&◌, ◌||◌, IsTrue}
-use Rattle.std.specs.List.{list_all, list_any}
+use Rattle.std.specs.List.{list_all}
 use Rattle.std.specs.Str.{bytes_eq}
 use Rattle.std.specs.Option.{option_map, option_map_or, option_and_then}
-use Rattle.std.proofs.lemmas.List.{length-replicate, length-reverse}
+use Rattle.std.proofs.lemmas.List.{length-map, length-replicate, length-reverse, map-append}
+use Rattle.std.proofs.lemmas.Slice.Eq.{bytes_eq-Decides}
 use Rattle.std.proofs.lemmas.Bool.Decides.{nat_tests}
 use Rattle.syntax.specs.Parts.{functions_of, statics_of}
 use Rattle.syntax.specs.Tree.{Static, Function, Item, StaticItem, FunctionItem}
@@ -25,14 +26,14 @@ use Rattle.source.specs.Activation.{enter, entered, entered_function, entry_adva
 use Rattle.source.specs.Activation as activation
 use Rattle.source.specs.CallStep.{waits_with}
 use Rattle.source.specs.Effect.{Returns, effect_of}
-use Rattle.source.specs.Start.{null_static, waiting_thread}
+use Rattle.source.specs.Start.{waiting_thread}
 use Rattle.source.specs.Task.{Task, tasks_of}
 use Rattle.source.specs.Thread as source
 use Rattle.source.specs.Thread.{BuffersInUse, Shared, Monitor, sight_of, without_owner}
-use Rattle.source.specs.Variable.{Empty, Statics}
+use Rattle.source.specs.Variable.{StaticReference}
 use Rattle.source.specs.ThreadStep.{thread_step, step_within, after_effect, next_effect, waits}
 use Rattle.code_generator.specs.Layout.{Slot, Known, with_static, entry_layout}
-use Rattle.lower.specs.Slots.{Visible, visible_to, EntrySlots, HasRoom, AreNull, argument_word, argument_reference}
+use Rattle.lower.specs.Slots.{Visible, visible_to, EntrySlots, HasRoom, AreShared, argument_word, argument_reference, static_index}
 use Rattle.lower.specs.Stands.{StandsFor}
 use Rattle.lower.specs.Lowered.{Lowered, IsLowered, IsCodeOf, AreCodesOf}
 use Rattle.machine.specs.declared.thread.Ending.{Ending}
@@ -44,9 +45,10 @@ use Rattle.machine.specs.declared.thread.PendingCall.{PendingCall}
 use Rattle.machine.specs.declared.thread.Activation.{Activation}
 use Rattle.machine.specs.Frames.{Frame}
 use Rattle.machine.specs.declared.store.Store.{Store}
-use Rattle.machine.specs.Agrees.{StoreAgrees, Keeps, FrameAgrees, FramesAgree, FieldsAgree, CallAgrees, CallsAgree, CallStands, WorkAgrees, ReferencesAgree, ThreadAgrees, GoesOn, Advances, after_any, ending_view, ending_after, calls_after}
+use Rattle.machine.specs.Agrees.{AreNamed, StoreAgrees, Keeps, FrameAgrees, FramesAgree, FieldsAgree, CallAgrees, CallsAgree, CallStands, WorkAgrees, ReferencesAgree, ThreadAgrees, GoesOn, Advances, after_any, ending_view, ending_after, calls_after}
 use Rattle.machine.proofs.Views.{parameters_viewless}
-use Rattle.machine.proofs.Keeping.{StaticsAgree, keeps_same}
+use Rattle.machine.proofs.Keeping.{keeps_same}
+use Rattle.machine.proofs.HeldStatics.{held_there, index_is, name_place, other_after, place_after, place_in_front}
 use Rattle.machine.specs.Entry.{argument_address, named_address, IsEntryFrame, Begins, IsReady}
 use Rattle.machine.specs.HeapAgrees.{ReferenceAgrees, NamesAgree, BlocksAgree, IsTable}
 use Rattle.machine.proofs.Calls.{ready, slots_of, does_cases, agree_count}
@@ -221,36 +223,42 @@ module _ (p : Lowered) (w : World) (old : Space) (lent : BuffersInUse) (k : ℕ)
 
 -- ---- an entry
 
--- the statics before a function are among those of the file
-abbrev AreAmongStatics : (statics : Known) → List Static → Type 0
-AreAmongStatics statics all = (x : Identifier) (slot : Slot) → lookup x statics ≡ Some slot → IsTrue (list_any (λ (g : Static). bytes_eq x g.name) all)
+-- the names of statics
+abbrev names_of : List Static → List Identifier
+names_of statics = map (λ (g : Static). g.name) statics
+
+-- the statics that are known before a function are the first of the file, each by its place
+record AreFirst (statics : Known) (first : List Static) : Type 0 where
+  counted : length statics ≡ length first
+  placed : (x : Identifier) → option_map (λ (s : Slot). s.index) (lookup x statics) ≡ name_place x (names_of first)
 
 -- a function's code, after statics of the file
 record HasCode (all : List Static) (codes : List Listing) (n : ℕ) (f : Function) : Type 0 where
   code : Listing
   at : slice_get codes n ≡ Some code
   statics : Known
-  among : AreAmongStatics statics all
+  first : List Static
+  more : List Static
+  among : all ≡ first ++ more
+  placed : AreFirst statics first
   is : IsCodeOf statics f code
 
 -- so it is one after a code more
 later : (all : List Static) (c : Listing) (codes : List Listing) (n : ℕ) (f : Function) → HasCode all codes n f → HasCode all (c ∷ codes) (suc n) f
-later all c codes n f h = record { code = h.code; at = h.at; statics = h.statics; among = h.among; is = h.is }
+later all c codes n f h = record { code = h.code; at = h.at; statics = h.statics; first = h.first; more = h.more; among = h.among; placed = h.placed; is = h.is }
 
-any_there : (x : Identifier) (front : List Static) (s : Static) (back : List Static) → bytes_eq x s.name ≡ true → IsTrue (list_any (λ (g : Static). bytes_eq x g.name) (front ++ s ∷ back))
-any_there x [] s back h = rw h refl
-any_there x (g ∷ front) s back h = either (bytes_eq x g.name) (any_there x front s back h)
+one_more_static : (statics : Known) (front : List Static) (s : Static) → lookup s.name statics ≡ None → AreFirst statics front → AreFirst (with_static s statics) (front ++ s ∷ [])
+one_more_static statics front s new h = record {
+  counted = let count : length statics ≡ length front = h.counted in let more = length-append front (s ∷ []) in omega (arith, count, more);
+  placed = λ x. by_test x (bytes_eq x s.name) refl ∙ ap (name_place x) (sym (map-append (λ (g : Static). g.name) front (s ∷ [])));
+}
   where
-    either : (b : Bool) {c : Bool} → c ≡ true → (b || c) ≡ true
-    either true h = refl
-    either false h = h
-
-one_more_static : (statics : Known) (front : List Static) (s : Static) (back : List Static) → AreAmongStatics statics (front ++ s ∷ back) → AreAmongStatics (with_static s statics) (front ++ s ∷ back)
-one_more_static statics front s back among x slot h = by_test (bytes_eq x s.name) refl h
-  where
-    by_test : (b : Bool) → bytes_eq x s.name ≡ b → (if b then Some (record { sort = Global; index = length statics }) else lookup x statics) ≡ Some slot → IsTrue (list_any (λ (g : Static). bytes_eq x g.name) (front ++ s ∷ back))
-    by_test true e k = any_there x front s back e
-    by_test false e k = among x slot k
+    by_test : (x : Identifier) (b : Bool) → bytes_eq x s.name ≡ b → option_map (λ (t : Slot). t.index) (if b then Some (record { sort = Global; index = length statics }) else lookup x statics) ≡ name_place x (names_of front ++ s.name ∷ [])
+    by_test x true e =
+        let same : x ≡ s.name = (bytes_eq-Decides x s.name).0 e in
+        let none : name_place x (names_of front) ≡ None = sym (h.placed x) ∙ ap (λ (y : Identifier). option_map (λ (t : Slot). t.index) (lookup y statics)) same ∙ ap (option_map (λ (t : Slot). t.index)) new in
+        ap (λ (n : ℕ). Some n) (h.counted ∙ sym (length-map front (λ (g : Static). g.name))) ∙ sym (place_after x (names_of front) s.name e none)
+    by_test x false e = h.placed x ∙ sym (other_after x (names_of front) s.name e)
 
 -- the statics of items
 abbrev statics_in : List Item → List Static
@@ -260,35 +268,34 @@ abbrev functions_in : List Item → List Function
 functions_in items = filter_map (elim [ StaticItem s ↦ None | FunctionItem f ↦ Some f ]) items
 
 -- the code of a function, where these statics stand in front of the items
-code_among : (front : List Static) (statics : Known) (items : List Item) (codes : List Listing) (n : ℕ) (f : Function) → AreAmongStatics statics (front ++ statics_in items) → AreCodesOf statics items codes → slice_get (functions_in items) n ≡ Some f
+code_among : (front : List Static) (statics : Known) (items : List Item) (codes : List Listing) (n : ℕ) (f : Function) → AreFirst statics front → AreCodesOf statics items codes → slice_get (functions_in items) n ≡ Some f
     → HasCode (front ++ statics_in items) codes n f
-code_among front statics [] [] n f among h e = absurd (cc)
-code_among front statics [] (c ∷ codes) n f among h e = absurd h
-code_among front statics (StaticItem s ∷ items) codes n f among h e =
+code_among front statics [] [] n f placed h e = absurd (cc)
+code_among front statics [] (c ∷ codes) n f placed h e = absurd h
+code_among front statics (StaticItem s ∷ items) codes n f placed h e =
     let same : (front ++ s ∷ []) ++ statics_in items ≡ front ++ s ∷ statics_in items = append_assoc front (s ∷ []) (statics_in items) in
     subst (λ (all : List Static). HasCode all codes n f) same
-    (code_among (front ++ s ∷ []) (with_static s statics) items codes n f (subst (AreAmongStatics (with_static s statics)) (sym same) (one_more_static statics front s (statics_in items) among)) h e)
-code_among front statics (FunctionItem g ∷ items) [] n f among h e = absurd h
-code_among front statics (FunctionItem g ∷ items) (c ∷ codes) zero f among h e = record { code = c; at = refl; statics = statics; among = among; is = let s : g ≡ f = cc in subst (λ (x : Function). IsCodeOf statics x c) s h.0 }
-code_among front statics (FunctionItem g ∷ items) (c ∷ codes) (suc n) f among h e = later (front ++ statics_in items) c codes n f (code_among front statics items codes n f among h.1 e)
+    (code_among (front ++ s ∷ []) (with_static s statics) items codes n f (one_more_static statics front s h.0 placed) h.1 e)
+code_among front statics (FunctionItem g ∷ items) [] n f placed h e = absurd h
+code_among front statics (FunctionItem g ∷ items) (c ∷ codes) zero f placed h e =
+    record { code = c; at = refl; statics = statics; first = front; more = statics_in items; among = refl; placed = placed; is = let s : g ≡ f = cc in subst (λ (x : Function). IsCodeOf statics x c) s h.0 }
+code_among front statics (FunctionItem g ∷ items) (c ∷ codes) (suc n) f placed h e = later (front ++ statics_in items) c codes n f (code_among front statics items codes n f placed h.1 e)
 
 code_of : (p : Lowered) (n : ℕ) (f : Function) → IsLowered p → slice_get (functions_of (unit_tree p.unit)) n ≡ Some f → HasCode (statics_of (unit_tree p.unit)) p.codes n f
-code_of p n f lowered e = code_among [] [] (unit_tree p.unit).items p.codes n f (λ x slot h. absurd (cc)) lowered e
+code_of p n f lowered e = code_among [] [] (unit_tree p.unit).items p.codes n f (record { counted = refl; placed = λ x. refl }) lowered e
 
 -- ---- statics
 
--- a static of the file holds NULL
-null_in : (x : Identifier) (all : List Static) → IsTrue (list_any (λ (g : Static). bytes_eq x g.name) all) → lookup x (map null_static all) ≡ Some Empty
-null_in x [] h = absurd (cc)
-null_in x (g ∷ all) h = by_test (bytes_eq x g.name) h (λ k. null_in x all k)
-  where
-    by_test : (b : Bool) → IsTrue (b || list_any (λ (g : Static). bytes_eq x g.name) all) → (IsTrue (list_any (λ (g : Static). bytes_eq x g.name) all) → lookup x (map null_static all) ≡ Some Empty) → (if b then Some Empty else lookup x (map null_static all)) ≡ Some Empty
-    by_test true k further = refl
-    by_test false k further = further k
-
--- the statics that are known are NULL
-statics_null : (p : Lowered) (shared : Shared) (statics : Known) → StaticsAgree p shared → AreAmongStatics statics (statics_of (unit_tree p.unit)) → AreNull statics shared
-statics_null p shared statics agree among x slot h = ap (λ (ss : Statics). lookup x ss) agree ∙ null_in x (statics_of (unit_tree p.unit)) (among x slot h)
+-- the statics that are known stand among those shared, each at its place
+statics_shared : (shared : Shared) (all : List Static) (codes : List Listing) (n : ℕ) (f : Function) (h : HasCode all codes n f) → map (λ (s : Identifier × StaticReference). s.0) shared.statics ≡ names_of all → AreShared h.statics shared
+statics_shared shared all codes n f h named x slot at =
+    let first : name_place x (names_of h.first) ≡ Some slot.index = sym (h.placed.placed x) ∙ ap (option_map (λ (t : Slot). t.index)) at in
+    let place : static_index x shared.statics ≡ Some slot.index =
+    index_is x shared.statics
+    ∙ ap (name_place x) (named ∙ ap names_of h.among ∙ map-append (λ (g : Static). g.name) h.first h.more)
+    ∙ place_in_front x (names_of h.first) (names_of h.more) slot.index first in
+    let held = held_there x shared.statics slot.index place in
+    record { place = place; held = held.0; there = held.1 }
 
 -- the next call to come
 pub record Coming (p : Lowered) (classes : Classes) (made : ℕ) (n : PendingCall) (nexts : List PendingCall) (calls : List Invocation) : Type 0 where
@@ -396,7 +403,7 @@ no_fields classes zero = tt
 no_fields classes (suc n) = (tt, no_fields classes n)
 
 -- the call stands for the function's statements
-begun : (p : Lowered) (classes : Classes) (space : Space) (loaded : List ℕ) (made : ℕ) (shared : Shared) (s : source.Thread) (rest : List Invocation) (n : PendingCall) (c : Invocation) (call : Activation) → IsLowered p → IsTable space loaded made → StaticsAgree p shared → (f : CallAgrees p classes made n c) → Begins p loaded n call
+begun : (p : Lowered) (classes : Classes) (space : Space) (loaded : List ℕ) (made : ℕ) (shared : Shared) (s : source.Thread) (rest : List Invocation) (n : PendingCall) (c : Invocation) (call : Activation) → IsLowered p → IsTable space loaded made → AreNamed p shared → (f : CallAgrees p classes made n c) → Begins p loaded n call
     → CallStands p classes space call (visible_to shared (entered s rest f.function n.class c.arguments)) (entry_frame (n.class ∷ filter_map named_object c.arguments) ∷ []) (tasks_of f.function.body)
 begun p classes space loaded made shared s rest n c call lowered table statics f b =
     let found = code_of p n.function f.function lowered f.numbered in
@@ -433,7 +440,7 @@ begun p classes space loaded made shared s rest n c call lowered table statics f
       fields_agree = subst (λ (l : List (Option FieldHandle)). FieldsAgree classes l fields) (sym begins.fields) (no_fields classes b.code.slots.field_ids);
       frames_agree = subst (λ (l : List Frame). FramesAgree space l (entry_frame (n.class ∷ filter_map named_object c.arguments) ∷ [])) (sym begins.frames)
           (entry_frame_agrees space loaded made table n.class c.arguments begins.frame f.class_made.0 f.class_made.1 f.given (subst (λ (vs : List ObjectValue). IsEntryFrame loaded n.class vs begins.frame) f.arguments begins.entry_frame), tt);
-      shows = is_code.shows shared s rest n.class c.arguments (record { numbers = call.numbers.items; references = references; fields = fields }) f.fit entry (statics_null p shared found.statics statics found.among);
+      shows = is_code.shows shared s rest n.class c.arguments (record { numbers = call.numbers.items; references = references; fields = fields }) f.fit entry (statics_shared shared (statics_of (unit_tree p.unit)) p.codes n.function f.function found statics);
       depth = ap (depth_at b.code.instrs) begins.place ∙ ap (λ (st : List ℕ). Some (length st)) (sym begins.stack);
     }
 
@@ -458,7 +465,7 @@ enters p w store lent k shared t after s n call lowered shares h none calls is b
       keeps = keeps_same space shared;
       agrees = record {
         calls = c.agrees;
-        work = subst (λ a. WorkAgrees p classes space (visible_to shared next) a next.frames (Some (tasks_of f.function.body))) (sym is) (begun p classes space store.loaded.items made shared s c.rest n c.call call lowered shares.table shares.statics f begins);
+        work = subst (λ a. WorkAgrees p classes space (visible_to shared next) a next.frames (Some (tasks_of f.function.body))) (sym is) (begun p classes space store.loaded.items made shared s c.rest n c.call call lowered shares.table shares.named f begins);
         pending = subst (λ (a : Option ℕ). ReferenceAgrees space a s.pending) (sym pending) h.pending;
         ending = h.ending ∙ ap ending_view (sym ending);
         busy = λ a b d. cc;

@@ -1,5 +1,5 @@
 -- A store in which a value of an object changes stands for the source's heap in which it does.
-use Rattle.std.proofs.Common.{◌≡◌, ◌≢◌, ℕ, zero, suc, ◌+◌, ◌-◌, ◌<◌, ◌≤◌, Bool, true, false, cond, eqb, List, [], ◌∷◌, length, map, get_or, Option, Some, None, refl, sym, ap, ◌∙◌, subst, arith, ⊎_elim, Contains}
+use Rattle.std.proofs.Common.{inl, ◌≡◌, ◌≢◌, ℕ, zero, suc, ◌+◌, ◌-◌, ◌<◌, ◌≤◌, Bool, true, false, cond, eqb, List, [], ◌∷◌, length, map, get_or, Option, Some, None, refl, sym, ap, ◌∙◌, subst, arith, ⊎_elim, Contains}
 use Rattle.std.specs.Prelude.{find, slice_get, slice_set}
 use Rattle.std.specs.Option.{option_map, option_map_or}
 use Rattle.std.proofs.lemmas.Bool.Decides.{eqb_tells}
@@ -20,12 +20,13 @@ use Rattle.source.specs.World.{World, loaded_objects}
 use Rattle.lower.specs.Lowered.{Lowered}
 use Rattle.machine.specs.declared.store.Store.{Store}
 use Rattle.machine.specs.Agrees.{StoreAgrees, Keeps}
+use Rattle.machine.specs.Statics.{all_held}
 use Rattle.machine.specs.Answers.{WritesAt}
 use Rattle.machine.specs.HeapAgrees.{BlockAgrees, BlocksAgree, ValueAgrees, ValuesAgree}
 use Rattle.machine.proofs.BlockObjects.{Named, named}
 use Rattle.machine.proofs.Changes.{get_set_same, get_set_other}
 use Rattle.machine.proofs.Classed.{classed_written}
-use Rattle.machine.proofs.Keeping.{reference_stays, sizes_written}
+use Rattle.machine.proofs.Keeping.{globals_stay, reference_stays, sizes_written, statics_stay}
 
 -- ---- each block is found at its address
 
@@ -198,8 +199,10 @@ module _ (p : Lowered) (w : World) (store : Store) (shared after : Shared) (a pl
     begun = subst (λ (n : ℕ). length (loaded_objects w) ≤ n) (sym count) h.begun;
     births = h.births ∙ sym count;
     classed = classed_written w.classes shared.heap writes.name place writes.value object_is.0 object_is.1 h.classed;
-    statics = h.statics;
-    globals = h.globals;
+    statics = statics_stay store.heap store_after.heap stays (all_held store.globals store.statics.items) shared.statics h.statics;
+    named = h.named;
+    keys = h.keys;
+    globals = globals_stay store.heap store_after.heap stays store.globals shared.globals h.globals;
     monitors = h.monitors;
   }
 
@@ -208,4 +211,4 @@ module _ (p : Lowered) (w : World) (store : Store) (shared after : Shared) (a pl
 
   pub written_keeps : Keeps store.heap shared store_after.heap after
   written_keeps = subst (λ (s : Shared). Keeps store.heap shared store_after.heap s) (sym writes.is)
-      (record { names = stays; statics = refl; sizes = sizes_written shared.heap writes.name place writes.value object_is.0 object_is.1 })
+      (record { names = stays; statics = inl refl; sizes = sizes_written shared.heap writes.name place writes.value object_is.0 object_is.1 })

@@ -1,8 +1,9 @@
 -- How the machine stands for a state of the source.
-use Rattle.std.specs.Prelude.{◌≡◌, ℕ, ◌<◌, ◌≤◌, Bool, true, false, List, [], ◌∷◌, length, map, reverse, take, Option, Some, None, IsTrue, slice_get}
+use Rattle.std.specs.Prelude.{◌≡◌, ℕ, ◌<◌, ◌≤◌, Bool, true, false, List, [], ◌∷◌, length, map, reverse, take, Option, Some, None, ◌⊎◌, IsTrue, slice_get, suc, ◌==◌, if◌then◌else◌}
 use Rattle.std.specs.List.{list_all, AllZip}
-use Rattle.syntax.specs.Parts.{functions_of}
-use Rattle.syntax.specs.Tree.{Function}
+use Rattle.base.specs.Bytes.{Identifier}
+use Rattle.syntax.specs.Parts.{functions_of, statics_of}
+use Rattle.syntax.specs.Tree.{Function, Static}
 use Rattle.syntax.specs.Views.{unit_tree}
 use Rattle.classes.specs.Class.{Classes}
 use Rattle.classes.specs.Fields.{FieldId}
@@ -17,10 +18,10 @@ use Rattle.code.specs.Depth.{Listing, depth_at}
 use Rattle.source.specs.Activation.{function_at, class_of_function}
 use Rattle.source.specs.Effect.{Effect, Returns}
 use Rattle.source.specs.Reachable.{IsName}
-use Rattle.source.specs.Start.{null_statics}
 use Rattle.source.specs.Task.{Task}
 use Rattle.source.specs.Thread as source
 use Rattle.source.specs.Thread.{BuffersInUse, Shared, Advance, viewed_by}
+use Rattle.source.specs.Variable.{StaticReference, Empty, Live, Deleted, Statics, assign}
 use Rattle.source.specs.ThreadStep.{thread_step, after_effect, after_refused_effect}
 use Rattle.code_generator.specs.Layout.{Known}
 use Rattle.lower.specs.Slots.{ArgumentsFit, Visible, visible_to, Shows}
@@ -41,7 +42,11 @@ use Rattle.machine.specs.declared.thread.Executed.TheVariants.{Did, Refused, Ret
 use Rattle.machine.specs.declared.store.Store.{Store}
 use Rattle.machine.specs.Classed.{AreClassed}
 use Rattle.machine.specs.HeapAgrees.{ReferenceAgrees, NamesAgree, HeapAgrees, IsTable}
+use Rattle.machine.specs.Statics.{HaveKeys, all_held}
+use Rattle.machine.specs.declared.statics.Held.{Held}
+use Rattle.machine.specs.declared.statics.Held.TheVariants as held
 use Rattle.machine.specs.Stops.{trap_view}
+use Rattle.tables.specs.References.{references_in}
 
 -- how a thread has ended, if it has
 abbrev pub ending_view : Ending → source.Ending
@@ -75,6 +80,37 @@ CallsAgree p classes made [] (c ∷ calls) = ⊥
 CallsAgree p classes made (n ∷ nexts) [] = ⊥
 CallsAgree p classes made (n ∷ nexts) (c ∷ calls) = CallAgrees p classes made n c × CallsAgree p classes made nexts calls
 
+-- ---- statics and global references
+
+-- what a static holds stands for what it holds in the source
+abbrev pub HeldAgrees : Space → Held → StaticReference → Type 0
+HeldAgrees space held.Empty Empty = Unit {0}
+HeldAgrees space (held.At a) (Live n) = name_at space a ≡ Some n
+HeldAgrees space held.Deleted Deleted = Unit {0}
+HeldAgrees space h r = ⊥
+
+-- static by static
+abbrev pub StaticsAgree : Space → List Held → Statics → Type 0
+StaticsAgree space [] [] = Unit {0}
+StaticsAgree space [] (s ∷ statics) = ⊥
+StaticsAgree space (h ∷ helds) [] = ⊥
+StaticsAgree space (h ∷ helds) (s ∷ statics) = HeldAgrees space h s.1 × StaticsAgree space helds statics
+
+-- they are those of the unit, in its order
+abbrev pub AreNamed : Lowered → Shared → Type 0
+AreNamed p shared = map (λ (s : Identifier × StaticReference). s.0) shared.statics ≡ map (λ (g : Static). g.name) (statics_of (unit_tree p.unit))
+
+-- how often a name is among these
+abbrev pub times : ℕ → List ℕ → ℕ
+times n [] = 0
+times n (m ∷ names) = let further = times n names in if n == m then suc further else further
+
+-- the global references are those of the source, which have no order
+pub record GlobalsAgree (space : Space) (globals : List (Option ℕ)) (source_globals : List ℕ) : Type 0 where
+  pub names : List ℕ
+  pub agree : NamesAgree space (references_in globals) names
+  pub same : (n : ℕ) → times n names ≡ times n source_globals
+
 -- ---- what all threads share
 
 -- The store stands for the shared state of the source.
@@ -89,16 +125,22 @@ pub record StoreAgrees (p : Lowered) (w : World) (store : Store) (shared : Share
   pub begun : length (loaded_objects w) ≤ length shared.heap
   pub births : store.births ≡ length shared.heap
   pub classed : AreClassed w.classes shared.heap
+  pub statics : StaticsAgree store.heap (all_held store.globals store.statics.items) shared.statics
+  pub named : AreNamed p shared
+  pub keys : HaveKeys store.globals store.statics.items
+  pub globals : GlobalsAgree store.heap store.globals shared.globals
   -- no call that can be made yet changes these
-  pub statics : shared.statics ≡ null_statics (unit_tree p.unit)
-  pub globals : shared.globals ≡ []
   pub monitors : shared.monitors ≡ []
+
+-- at most one of the statics holds something else
+abbrev pub MayChange : Statics → Statics → Type 0
+MayChange before after = (after ≡ before) ⊎ ((x : Identifier) × (r : StaticReference) × (after ≡ assign x r before))
 
 -- what a step of one thread leaves as it was for the others
 pub record Keeps (space : Space) (shared : Shared) (space' : Space) (shared' : Shared) : Type 0 where
   -- objects stay where they are
   pub names : (a n : ℕ) → name_at space a ≡ Some n → name_at space' a ≡ Some n
-  pub statics : shared'.statics ≡ shared.statics
+  pub statics : MayChange shared.statics shared'.statics
   -- none is taken out, and none takes more cells or fewer
   pub sizes : sizes (take (length shared.heap) shared'.heap) ≡ sizes shared.heap
 

@@ -17,6 +17,11 @@ use Rattle.machine.specs.Agrees.{StoreAgrees, FramesAgree}
 use Rattle.machine.specs.Checked.{is_answered}
 use Rattle.machine.specs.Given.{IsGiven, level_at, operand_of}
 use Rattle.machine.specs.HeapAgrees.{ReferenceAgrees}
+use Rattle.machine.specs.Statics.{References, all_held}
+
+-- the references that the operands of a call name
+abbrev pub references_of : Store → Activation → References
+references_of store call = record { locals = call.references.items; statics = all_held store.globals store.statics.items }
 
 -- the reference that is to be deleted is in the frame of its variable's level, which is kept beside its slot
 pub record IsInFrame (call : Activation) (function : Call) (s : Thread) (args : List Actual) : Type 0 where
@@ -34,7 +39,7 @@ pub record IsAsked (p : Lowered) (w : World) (store : Store) (pending : Option �
   pub count : length args ≡ length (prototype f).parameters
   pub kinds : AllZip OperandFits (prototype f).parameters function.operands
   pub fit : AllZip ActualFits (prototype f).parameters args
-  pub given : AllZip (IsGiven w.classes store.heap call.references.items call.fields.items) function.operands args
+  pub given : AllZip (IsGiven w.classes store.heap (references_of store call) call.fields.items) function.operands args
   pub words : call.stack ≡ words_given args
   pub texts : function.texts ≡ texts_given args
   pub level : f ≡ DeleteLocalRef → (n : ℕ) → reference_given args 0 ≡ Some n → IsInFrame call function s args

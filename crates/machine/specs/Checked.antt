@@ -1,5 +1,6 @@
 -- What is checked of a call before it does anything, by what is in memory.
 use Rattle.std.specs.Prelude.{ℕ, Bool, true, false, not, ◌&&◌, ◌||◌, ◌==◌, List, [], ◌∷◌, is_none, Option, Some, None}
+use Rattle.std.specs.List.{list_any}
 use Rattle.classes.specs.BuiltIns.{class_class, has_own_making, string_class, number_array}
 use Rattle.classes.specs.Class.{Classes, FieldType, NumberField, ReferenceField, class_kind, is_plain, is_object_array, assignable}
 use Rattle.classes.specs.Fields.{FieldId}
@@ -10,8 +11,9 @@ use Rattle.heap.specs.Heap.{Space}
 use Rattle.jni.specs.JniFunction.{is_allowed_pending, JniFunction, FindClass, GetSuperclass, GetObjectClass, IsInstanceOf, IsAssignableFrom, AllocObject, NewLocalRef, DeleteLocalRef, IsSameObject, EnsureLocalCapacity, PushLocalFrame, PopLocalFrame, GetFieldID, GetStaticFieldID, GetField, SetField, GetStaticField, SetStaticField, GetObjectField, SetObjectField, GetStaticObjectField, SetStaticObjectField, GetArrayLength}
 use Rattle.jni.specs.Prototype.{ParameterKind, Nullable, ClassObject, ObjectArray, StringObject, NumberArray, LocalVariable, StaticVariable, IsCopy, ResultKind, NewLocal, prototype}
 use Rattle.source.specs.Checks.{first_trap, holds_number, holds_reference}
-use Rattle.source.specs.Value.{Trap, NullReference, ExceptionPending, WrongObject, NoCapacity}
+use Rattle.source.specs.Value.{Trap, NullReference, ExceptionPending, WrongObject, DeletedReference, NoCapacity}
 use Rattle.machine.specs.Given.{operand_at, field_at, operand_of, class_there, class_of_given, name_there, fits_there, field_there}
+use Rattle.machine.specs.Statics.{References, holds_deleted, holds_null, static_at}
 
 -- the functions whose calls the machine can work out
 abbrev pub is_answered : JniFunction → Bool
@@ -41,9 +43,9 @@ is_answered GetArrayLength = true
 is_answered f = false
 
 -- an operand gives NULL
-abbrev pub gives_null : List (Option ℕ) → List (Option FieldHandle) → Operand → Bool
+abbrev pub gives_null : References → List (Option FieldHandle) → Operand → Bool
 gives_null references fields operand.Null = true
-gives_null references fields (operand.Static i) = true
+gives_null references fields (operand.Static i) = holds_null (static_at references i)
 gives_null references fields (operand.Local i) = is_none (operand_at references (operand.Local i))
 gives_null references fields (operand.FieldId i) = is_none (field_at fields (operand.FieldId i))
 gives_null references fields operand.Number = false
@@ -52,6 +54,11 @@ gives_null references fields (operand.Array array) = false
 gives_null references fields (operand.Buffer i) = false
 gives_null references fields (operand.Mode mode) = false
 gives_null references fields (operand.IsCopy i) = false
+
+-- an operand gives a static that is marked as deleted
+abbrev pub gives_deleted : References → Operand → Bool
+gives_deleted references (operand.Static i) = holds_deleted (static_at references i)
+gives_deleted references o = false
 
 -- a parameter may be NULL
 abbrev pub may_be_null : ParameterKind → Bool
@@ -62,7 +69,7 @@ may_be_null IsCopy = true
 may_be_null p = false
 
 -- some operand gives NULL where that isn't allowed
-abbrev pub some_missing : List (Option ℕ) → List (Option FieldHandle) → List ParameterKind → List Operand → Bool
+abbrev pub some_missing : References → List (Option FieldHandle) → List ParameterKind → List Operand → Bool
 some_missing references fields (p ∷ parameters) (o ∷ operands) = (not (may_be_null p) && gives_null references fields o) || some_missing references fields parameters operands
 some_missing references fields parameters operands = false
 
@@ -80,7 +87,7 @@ misfits classes space p None = false
 misfits classes space p (Some a) = class_misfits classes p (class_there space a)
 
 -- some operand gives an object of another kind than its parameter
-abbrev pub some_misfit : Classes → Space → List (Option ℕ) → List ParameterKind → List Operand → Bool
+abbrev pub some_misfit : Classes → Space → References → List ParameterKind → List Operand → Bool
 some_misfit classes space references (p ∷ parameters) (o ∷ operands) = misfits classes space p (operand_at references o) || some_misfit classes space references parameters operands
 some_misfit classes space references parameters operands = false
 
@@ -95,7 +102,7 @@ fits_type_there classes space r (NumberField T) = false
 fits_type_there classes space r (ReferenceField c) = fits_there classes space r c
 
 -- a call with these operands
-module _ (classes : Classes) (space : Space) (references : List (Option ℕ)) (fields : List (Option FieldHandle)) (operands : List Operand) where
+module _ (classes : Classes) (space : Space) (references : References) (fields : List (Option FieldHandle)) (operands : List Operand) where
   -- the reference of an operand
   abbrev pub reference : ℕ → Option ℕ
   reference i = operand_at references (operand_of operands i)
@@ -131,11 +138,12 @@ abbrev pub puts_local : ResultKind → Bool
 puts_local NewLocal = true
 puts_local kind = false
 
--- The trap of a call before it does anything; none of the statics is deleted yet.
-abbrev pub trap_found : Classes → Space → (is_pending has_room : Bool) → List (Option ℕ) → List (Option FieldHandle) → JniFunction → List Operand → Option Trap
+-- the trap of a call before it does anything
+abbrev pub trap_found : Classes → Space → (is_pending has_room : Bool) → References → List (Option FieldHandle) → JniFunction → List Operand → Option Trap
 trap_found classes space is_pending has_room references fields f operands =
     first_trap (
     (is_pending && not (is_allowed_pending f), ExceptionPending)
+    ∷ (list_any (gives_deleted references) operands, DeletedReference)
     ∷ (some_missing references fields (prototype f).parameters operands, NullReference)
     ∷ (some_misfit classes space references (prototype f).parameters operands || not (fit_together classes space references fields operands f), WrongObject)
     ∷ (puts_local (prototype f).result && not has_room, NoCapacity)

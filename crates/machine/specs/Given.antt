@@ -13,18 +13,20 @@ use Rattle.code_generator.specs.Coding.{mode_code}
 use Rattle.heap.specs.Heap.{Space, IsAddress, class_at, name_at}
 use Rattle.source.specs.Arguments.{Actual, ReferenceActual, FieldActual, NumberActual, TextActual, VariableActual, ModeActual, NothingActual, ReleaseMode}
 use Rattle.source.specs.Object.{Reference}
-use Rattle.source.specs.Variable.{as_static}
-use Rattle.machine.specs.Agrees.{FieldAgrees}
+use Rattle.source.specs.Variable.{StaticReference, as_static}
+use Rattle.machine.specs.Agrees.{FieldAgrees, HeldAgrees}
 use Rattle.machine.specs.HeapAgrees.{ReferenceAgrees}
+use Rattle.machine.specs.Statics.{References, held_address, static_at}
 
 -- what a slot holds; NULL where there is none
 abbrev pub held_in : {A : Type 0} → Option (Option A) → Option A
 held_in None = None
 held_in (Some a) = a
 
--- the address that an operand gives; nothing but NULL is stored in a static yet
-abbrev pub operand_at : List (Option ℕ) → Operand → Option ℕ
-operand_at references (operand.Local i) = held_in (slice_get references i)
+-- the address that an operand gives
+abbrev pub operand_at : References → Operand → Option ℕ
+operand_at references (operand.Local i) = held_in (slice_get references.locals i)
+operand_at references (operand.Static i) = held_address (static_at references i)
 operand_at references o = None
 
 -- the level of the local reference that an operand gives
@@ -38,11 +40,18 @@ field_at fields (operand.FieldId i) = held_in (slice_get fields i)
 field_at fields o = None
 
 -- an operand gives the reference that the source's argument is
-pub record ReferenceIsGiven (space : Space) (references : List (Option ℕ)) (operand : Operand) (actual : Actual) : Type 0 where
+pub record ReferenceIsGiven (space : Space) (references : References) (operand : Operand) (actual : Actual) : Type 0 where
   pub name : Identifier
   pub reference : Reference
   pub is : actual ≡ ReferenceActual name (as_static reference)
   pub agrees : ReferenceAgrees space (operand_at references operand) reference
+
+-- a static holds what the source's argument does
+pub record StaticIsGiven (space : Space) (references : References) (i : ℕ) (actual : Actual) : Type 0 where
+  pub name : Identifier
+  pub reference : StaticReference
+  pub is : actual ≡ ReferenceActual name reference
+  pub agrees : HeldAgrees space (static_at references i) reference
 
 -- an operand gives the field ID that the source's argument is
 pub record FieldIsGiven (classes : Classes) (fields : List (Option FieldHandle)) (operand : Operand) (actual : Actual) : Type 0 where
@@ -52,20 +61,20 @@ pub record FieldIsGiven (classes : Classes) (fields : List (Option FieldHandle))
 
 -- an operand gives what the source's argument is; a number is on the stack, a text among the call's, and a variable itself
 -- in its slots
-abbrev pub IsGiven : Classes → Space → (references : List (Option ℕ)) → (fields : List (Option FieldHandle)) → Operand → Actual → Type 0
+abbrev pub IsGiven : Classes → Space → (references : References) → (fields : List (Option FieldHandle)) → Operand → Actual → Type 0
 IsGiven classes space references fields operand.Number actual = (z : ℤ) × (actual ≡ NumberActual z) × FitsSigned w32 z
 IsGiven classes space references fields operand.Text actual = (bytes : List ℕ) × (actual ≡ TextActual bytes)
 IsGiven classes space references fields (operand.FieldId i) actual = FieldIsGiven classes fields (operand.FieldId i) actual
 IsGiven classes space references fields operand.Null actual = ReferenceIsGiven space references operand.Null actual ⊎ FieldIsGiven classes fields operand.Null actual ⊎ (actual ≡ NothingActual)
 IsGiven classes space references fields (operand.Local i) actual = ReferenceIsGiven space references (operand.Local i) actual
-IsGiven classes space references fields (operand.Static i) actual = ReferenceIsGiven space references (operand.Static i) actual
+IsGiven classes space references fields (operand.Static i) actual = StaticIsGiven space references i actual
 IsGiven classes space references fields (operand.Array array) actual = (x : Identifier) × (actual ≡ VariableActual x)
 IsGiven classes space references fields (operand.Buffer i) actual = (x : Identifier) × (actual ≡ VariableActual x)
 IsGiven classes space references fields (operand.Mode mode) actual = (m : ReleaseMode) × (actual ≡ ModeActual m) × (mode ≡ mode_code m)
 IsGiven classes space references fields (operand.IsCopy i) actual = (x : Identifier) × (actual ≡ VariableActual x)
 
 -- each operand is NULL or the address of a block
-abbrev pub AreAddresses : Space → List (Option ℕ) → List Operand → Type 0
+abbrev pub AreAddresses : Space → References → List Operand → Type 0
 AreAddresses space references [] = Unit {0}
 AreAddresses space references (o ∷ operands) = ((a : ℕ) → operand_at references o ≡ Some a → IsAddress space a) × AreAddresses space references operands
 

@@ -3,6 +3,7 @@ pub mod Held
 pub mod Classed
 pub mod Frames
 pub mod Entry
+pub mod Statics
 pub mod Agrees
 pub mod Given
 pub mod Checked

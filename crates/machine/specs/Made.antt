@@ -27,6 +27,8 @@ pub record HasMade (classes : Classes) (old : Store) (class : ℕ) (new : Store)
   pub heap : new.heap ≡ with_block old.heap (new_block classes old class)
   pub loaded : new.loaded ≡ old.loaded
   pub births : new.births ≡ old.births + 1
+  pub statics : new.statics ≡ old.statics
+  pub globals : new.globals ≡ old.globals
 
 -- a new object of a class, where it has room, and else the store as it was
 abbrev pub Makes : Classes → Store → (class : ℕ) → Store → Option ℕ → Type 0

@@ -1,8 +1,9 @@
 -- What a call in progress is after what a function gives is put where it belongs.
-use Rattle.std.specs.Prelude.{◌≡◌, ℕ, ◌+◌, ◌<◌, true, List, [], length, slice_set, Option, Some}
+use Rattle.std.specs.Prelude.{◌≡◌, ℕ, ◌+◌, ◌<◌, ◌==◌, true, List, [], ◌∷◌, length, slice_set, Option, Some}
+use Rattle.code.specs.Effect.{truth_word}
 use Rattle.class_table.specs.declared.class.FieldHandle.{FieldHandle}
 use Rattle.code.specs.declared.instr.Target.{Target}
-use Rattle.code.specs.declared.instr.Target.TheVariants.{Number, Local, FieldId}
+use Rattle.code.specs.declared.instr.Target.TheVariants.{Number, Local, FieldId, Test}
 use Rattle.jni.specs.Prototype.{ResultKind, NewLocal}
 use Rattle.machine.specs.declared.answer.Given.{Given}
 use Rattle.machine.specs.declared.answer.Given.TheVariants as given

@@ -26,12 +26,13 @@ frames_of (Some call) = call.frames.items
 abbrev pub call_names : Space → Option Activation → List ℕ
 call_names space call = frames_names space (frames_of call)
 
-abbrev pub pending_names : Space → Option ℕ → List ℕ
-pending_names space pending = option_to_list (option_map (name_of space) pending)
+-- the name of a reference's object, and none for NULL
+abbrev pub reference_names : Space → Option ℕ → List ℕ
+reference_names space reference = option_to_list (option_map (name_of space) reference)
 
 -- the names in the frames of a thread, and of its pending exception
 abbrev pub thread_names : Space → Thread → List ℕ
-thread_names space t = call_names space t.call ++ pending_names space t.pending
+thread_names space t = call_names space t.call ++ reference_names space t.pending
 
 -- ---- addresses of blocks
 
@@ -44,9 +45,9 @@ FramesAreThere space frames = (i : ℕ) (f : Frame) → slice_get frames i ≡ S
 abbrev pub CallIsThere : Space → Option Activation → Type 0
 CallIsThere space call = FramesAreThere space (frames_of call)
 
-abbrev pub PendingIsThere : Space → Option ℕ → Type 0
-PendingIsThere space pending = (a : ℕ) → pending ≡ Some a → IsAddress space a
+abbrev pub ReferenceIsThere : Space → Option ℕ → Type 0
+ReferenceIsThere space reference = (a : ℕ) → reference ≡ Some a → IsAddress space a
 
 -- what threads refer to is there
 abbrev pub ThreadsAreThere : Space → List Thread → Type 0
-ThreadsAreThere space threads = (i : ℕ) (t : Thread) → slice_get threads i ≡ Some t → CallIsThere space t.call × PendingIsThere space t.pending
+ThreadsAreThere space threads = (i : ℕ) (t : Thread) → slice_get threads i ≡ Some t → CallIsThere space t.call × ReferenceIsThere space t.pending

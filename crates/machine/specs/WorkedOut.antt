@@ -18,6 +18,7 @@ use Rattle.machine.specs.declared.answer.Given.TheVariants.{Nothing, Number, Ref
 use Rattle.machine.specs.declared.answer.Given.TheVariants as given
 use Rattle.machine.specs.declared.answer.Answer.{Answer}
 use Rattle.machine.specs.declared.answer.Answer.TheVariants.{Gives, Writes, Makes, Throws, Ensures, Pushes, RefusesFrames, Pops, Deletes}
+use Rattle.machine.specs.Statics.{References}
 use Rattle.machine.specs.Given.{operand_at, level_at, operand_of, field_at, class_of_given, name_there, fits_there, field_there}
 
 -- the number of values of the object at an address, and 0 for NULL
@@ -95,7 +96,7 @@ place_there classes (Some h) fields = place_among (field_there classes (Some h))
 -- ---- what a function does
 
 -- A call with these words on the stack.
-module _ (classes : Classes) (space : Space) (loaded : List ℕ) (references : List (Option ℕ)) (levels : List ℕ) (fields : List (Option FieldHandle)) (stack : List ℕ) (call : Call) where
+module _ (classes : Classes) (space : Space) (loaded : List ℕ) (references : References) (levels : List ℕ) (fields : List (Option FieldHandle)) (stack : List ℕ) (call : Call) where
   -- the reference of an operand
   abbrev pub reference : ℕ → Option ℕ
   reference i = operand_at references (operand_of call.operands i)

@@ -16,6 +16,7 @@ ghost use Rattle.machine.specs.WorkedOut.{address_in, class_object, count_there,
 ghost use Rattle.syntax.specs.Views.{element_tree};
 
 use crate::operands::{class_of_given, declaring, fits_there, handle_at, level_in, name_there, operand_of, reference_at};
+use crate::statics::References;
 use class_table::built_ins::{NO_CLASS_DEF_FOUND_ERROR, NO_SUCH_FIELD_ERROR};
 use class_table::class::FieldHandle;
 use class_table::table::ClassTable;
@@ -66,7 +67,7 @@ pub fn work_out(
     classes: &ClassTable,
     heap: &Heap,
     loaded: &[Addr],
-    references: &[Option<Addr>],
+    references: &References<'_>,
     levels: &[usize],
     fields: &[Option<FieldHandle>],
     stack: &Stack,
@@ -249,7 +250,7 @@ fn count_there(heap: &Heap, reference: Option<Addr>) -> u32
 fn place_of_field(
     classes: &ClassTable,
     heap: &Heap,
-    references: &[Option<Addr>],
+    references: &References<'_>,
     fields: &[Option<FieldHandle>],
     operands: &[Operand],
 ) -> usize

@@ -1,6 +1,7 @@
 //! What is checked of a call before it does anything, in one order for all functions.
 
 ghost use Rattle.std.specs.Prelude.{◌≡◌, ◌&&◌, not, ℕ, Some, IsSome, map};
+ghost use Rattle.std.specs.List.{list_any};
 ghost use Rattle.std.specs.Option.{option_map};
 ghost use Rattle.class_table.specs.FieldViews.{field_of};
 ghost use Rattle.class_table.specs.Views.{element_view, field_type_view};
@@ -8,7 +9,7 @@ ghost use Rattle.classes.specs.Class.{assignable};
 ghost use Rattle.heap.specs.Heap.{IsAddress};
 ghost use Rattle.jni.specs.Table.{function_value, parameter_value, result_value};
 ghost use Rattle.machine.specs.Given.{class_of_given, field_there, name_there, AreAddresses, AreHandles};
-ghost use Rattle.machine.specs.Checked.{gives_null, may_be_null, some_missing, class_misfits, misfits, some_misfit, is_array_at, fits_type_there, fit_together, puts_local, trap_found};
+ghost use Rattle.machine.specs.Checked.{gives_null, gives_deleted, may_be_null, some_missing, class_misfits, misfits, some_misfit, is_array_at, fits_type_there, fit_together, puts_local, trap_found};
 ghost use Rattle.machine.specs.Stops.{trap_view};
 ghost use Rattle.source.specs.Checks.{holds_number, holds_reference};
 
@@ -16,6 +17,7 @@ use crate::operands::{
     class_of_given, declaring, element_type, field_in, fits_there, handle_at, is_static,
     name_there, reference_at, reference_in, type_of,
 };
+use crate::statics::{Held, References};
 use crate::stop::Trap;
 use class_table::built_ins::{CLASS, STRING, number_array};
 use class_table::class::{ClassKind, ElementType, FieldHandle, FieldType};
@@ -25,16 +27,36 @@ use heap::{Addr, Heap};
 use jni::{JniFunction, ParameterKind, ResultKind};
 
 /// Whether an operand gives NULL.
-fn gives_null(references: &[Option<Addr>], fields: &[Option<FieldHandle>], operand: Operand) -> bool
+fn gives_null(references: &References<'_>, fields: &[Option<FieldHandle>], operand: Operand) -> bool
     ensures { result ≡ gives_null references.now fields.now operand }
 {
     match operand {
-        Operand::Null | Operand::Static(_) => true,
+        Operand::Null => true,
         Operand::Local(_) => reference_in(references, operand).is_none(),
+        Operand::Static(slot) => matches!(references.held(slot), Held::Empty),
         Operand::FieldId(_) => field_in(fields, operand).is_none(),
         Operand::Number | Operand::Text | Operand::Mode(_) => false,
         Operand::Array(_) | Operand::Buffer(_) | Operand::IsCopy(_) => false,
     }
+}
+
+/// Whether an operand gives a static that is marked as deleted.
+fn gives_deleted(references: &References<'_>, operand: Operand) -> bool
+    ensures { result ≡ gives_deleted references.now operand }
+{
+    match operand {
+        Operand::Static(slot) => matches!(references.held(slot), Held::Deleted),
+        _ => false,
+    }
+}
+
+/// Whether some operand does.
+fn some_deleted(references: &References<'_>, operands: &[Operand]) -> bool
+    ensures { result ≡ list_any (gives_deleted references.now) operands.now }
+{
+    operands
+        .iter()
+        .any(|operand| gives_deleted(references, *operand))
 }
 
 /// Whether a parameter may be NULL.
@@ -52,7 +74,7 @@ fn may_be_null(parameter: ParameterKind) -> bool
 
 /// Whether some operand gives NULL where that isn't allowed.
 fn some_missing(
-    references: &[Option<Addr>],
+    references: &References<'_>,
     fields: &[Option<FieldHandle>],
     parameters: &[ParameterKind],
     operands: &[Operand],
@@ -104,7 +126,7 @@ fn misfits(
 fn some_misfit(
     classes: &ClassTable,
     heap: &Heap,
-    references: &[Option<Addr>],
+    references: &References<'_>,
     parameters: &[ParameterKind],
     operands: &[Operand],
 ) -> bool
@@ -208,7 +230,7 @@ fn has_static(
 fn fit_together(
     classes: &ClassTable,
     heap: &Heap,
-    references: &[Option<Addr>],
+    references: &References<'_>,
     fields: &[Option<FieldHandle>],
     function: JniFunction,
     operands: &[Operand],
@@ -255,7 +277,7 @@ pub fn check(
     heap: &Heap,
     is_pending: bool,
     has_room: bool,
-    references: &[Option<Addr>],
+    references: &References<'_>,
     fields: &[Option<FieldHandle>],
     function: &Call,
 ) -> Option<Trap>
@@ -267,6 +289,9 @@ pub fn check(
     let asked = function.function.prototype();
     if is_pending && !asked.pending {
         return Some(Trap::ExceptionPending);
+    }
+    if some_deleted(references, operands) {
+        return Some(Trap::DeletedReference);
     }
     if some_missing(references, fields, asked.parameters, operands) {
         return Some(Trap::NullReference);

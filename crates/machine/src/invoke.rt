@@ -13,6 +13,7 @@ use crate::carry_out::carry_out;
 use crate::check::check;
 use crate::frame::{frames_after, has_room};
 use crate::receive::receive;
+use crate::statics::References;
 use crate::store::Store;
 use crate::thread::{Activation, Event, Executed};
 use code::instr::Call;
@@ -36,12 +37,13 @@ pub fn invoke(
     ensures pending { OnErr result (pending.new ≡ pending.old) }
     ensures call { OnErr result (call.new ≡ call.old) }
 {
+    let references = References::new(&call.references, &store.statics, &store.globals);
     let trap = check(
         world.classes(),
         &store.heap,
         pending.is_some(),
         has_room(frames_after(function.function, &call.frames)),
-        &call.references,
+        &references,
         &call.fields,
         function,
     );
@@ -52,7 +54,7 @@ pub fn invoke(
         world.classes(),
         &store.heap,
         &store.loaded,
-        &call.references,
+        &references,
         &call.levels,
         &call.fields,
         &call.stack,

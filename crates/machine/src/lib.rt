@@ -16,6 +16,7 @@ mod operands;
 mod receive;
 mod roots;
 mod rows;
+mod statics;
 mod stop;
 mod store;
 mod thread;

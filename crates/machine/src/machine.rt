@@ -71,10 +71,9 @@ impl<'a> Machine<'a> {
         ensures left { IfOk result (λ m. m.left ≡ world.cells - sizes (loaded_objects world)) }
         ensures fault { IfErr result (IsLoadFault (unit_tree program.entry.unit) world) }
     {
-        // The proof reads off these calls what is known of a program and of a world.
-        let _ = program.items();
+        // The proof reads off this call what is known of a world.
         let _ = world.threads();
-        let store = load_store(alloc, &world)?;
+        let store = load_store(alloc, program.items(), &world)?;
         match load_threads(alloc, &program, &world) {
             Ok(threads) => Ok(Machine {
                 program,
@@ -261,7 +260,7 @@ impl<'a> Machine<'a> {
         let standings = standings_of(classes, &self.threads, self.stop);
         let heap = &self.store.heap;
         let objects = named_blocks(alloc, heap, self.store.births)?;
-        let names = root_names(alloc, heap, &self.threads)?;
+        let names = root_names(alloc, heap, &self.store.globals, &self.threads)?;
         let rows = reached_rows(alloc, classes, &objects, self.store.loaded.len(), &names)?;
         match write_run(
             sink,

@@ -1,31 +1,39 @@
 //! The objects that are there when a run begins.
 
-ghost use Rattle.std.specs.Prelude.{◌≡◌, ◌+◌, ◌^◌, ◌<◌, ◌≤◌, [], ◌∷◌, ◌++◌, length, map, take, IfOk, OnOk, IsTrue};
+ghost use Rattle.std.specs.Prelude.{◌≡◌, ◌+◌, ◌^◌, ◌<◌, ◌≤◌, [], ◌∷◌, ◌++◌, length, map, replicate, take, IfOk, OnOk, IsTrue};
 ghost use Rattle.std.specs.List.{list_all};
 ghost use Rattle.class_table.specs.Views.{field_type_view, field_view};
 ghost use Rattle.classes.specs.Fields.{layout};
 ghost use Rattle.heap.specs.Heap.{IsLaidOut, left_of};
 ghost use Rattle.machine.specs.HeapAgrees.{AreMade};
 ghost use Rattle.machine.specs.Held.{held_value};
+ghost use Rattle.machine.specs.declared.statics.StaticReference.TheVariants.{Empty};
+ghost use Rattle.syntax.specs.Parts.{statics_of};
+ghost use Rattle.syntax.specs.Views.{unit_tree};
 ghost use Rattle.source.specs.Heap.{Heap as Objects};
 ghost use Rattle.source.specs.World.{initial, loaded_objects};
 ghost use Rattle.world.specs.CallArguments.{is_argument};
 ghost use Rattle.world.specs.Views.{object_value_view};
 
+use crate::statics::StaticReference;
 use crate::store::Store;
 use class_table::built_ins::{CLASS, OUT_OF_MEMORY_ERROR};
 use class_table::class::{Field, FieldType};
 use class_table::table::ClassTable;
 use heap::{Addr, Heap, MOST_CELLS, Value};
 use std::alloc::{AllocError, Global};
+use syntax::Item;
+use tables::Globals;
 use world::{ObjectValue, World};
 
 /// The heap with the objects that are made before the first step: the class objects, the OutOfMemoryError object and
 /// the world's, in this order, with the address of each by its name, counted from 1.
-pub fn load_store(alloc: Global, world: &World) -> Result<Store, AllocError>
+pub fn load_store(alloc: Global, items: &[Item], world: &World) -> Result<Store, AllocError>
     ensures made { IfOk result (λ store. AreMade store.heap store.loaded.items (loaded_objects world.now)) }
     ensures births { IfOk result (λ store. store.births ≡ length (loaded_objects world.now)) }
     ensures cells { IfOk result (λ store. store.heap.cells ≡ world.now.cells) }
+    ensures statics { IfOk result (λ store. store.statics.items ≡ replicate (length (statics_of (unit_tree items.now))) Empty) }
+    ensures globals { IfOk result (λ store. store.globals ≡ []) }
 {
     let mut heap = Heap::new(alloc, world.cells())?;
     let mut loaded = Vec::new(alloc);
@@ -40,7 +48,23 @@ pub fn load_store(alloc: Global, world: &World) -> Result<Store, AllocError>
         heap,
         loaded,
         births,
+        statics: empty_statics(alloc, items)?,
+        globals: Globals::new(alloc),
     })
+}
+
+/// The unit's statics, which are NULL.
+fn empty_statics(alloc: Global, items: &[Item]) -> Result<Vec<StaticReference>, AllocError>
+    ensures { IfOk result (λ statics. statics.items ≡ replicate (length (statics_of (unit_tree items.now))) Empty) }
+{
+    let mut statics = Vec::new(alloc);
+    for item in items {
+        match item {
+            Item::Static(_) => statics.push(StaticReference::Empty)?,
+            Item::Function(_) => {}
+        }
+    }
+    Ok(statics)
 }
 
 /// Makes the class objects, which hold the statics that their classes declare.

@@ -7,6 +7,7 @@ ghost use Rattle.heap.specs.Heap.{IsAddress};
 ghost use Rattle.machine.specs.Given.{operand_at, level_at, field_at, operand_of, class_of_given, name_there, fits_there, field_there, AreAddresses, AreHandles};
 ghost use Rattle.syntax.specs.Views.{element_tree};
 
+use crate::statics::{Held, References};
 use class_table::class::{ElementType, FieldHandle, FieldType};
 use class_table::table::ClassTable;
 use code::instr::Operand;
@@ -20,11 +21,15 @@ pub fn operand_of(operands: &[Operand], place: usize) -> Operand
 }
 
 /// The reference that an operand gives.
-pub fn reference_in(references: &[Option<Addr>], operand: Operand) -> Option<Addr>
+pub fn reference_in(references: &References<'_>, operand: Operand) -> Option<Addr>
     ensures { result ≡ operand_at references.now operand }
 {
     match operand {
-        Operand::Local(slot) => references.get(slot as usize).copied().unwrap_or(None),
+        Operand::Local(slot) => references.local(slot),
+        Operand::Static(slot) => match references.held(slot) {
+            Held::At(addr) => Some(addr),
+            Held::Empty | Held::Deleted => None,
+        },
         _ => None,
     }
 }
@@ -52,7 +57,7 @@ pub fn field_in(fields: &[Option<FieldHandle>], operand: Operand) -> Option<Fiel
 /// The reference of the operand at a place, which is NULL or the address of an object.
 pub fn reference_at(
     heap: &Heap,
-    references: &[Option<Addr>],
+    references: &References<'_>,
     operands: &[Operand],
     place: usize,
 ) -> Option<Addr>

@@ -22,8 +22,8 @@ pub fn receive(call: &mut Activation, target: Target, kind: ResultKind, given: &
     ensures { Receives target (result_value kind) given.now call.old call.new }
 {
     call.stack.clear();
-    put_truth(&mut call.stack, target, given);
     call.place += 1;
+    put_test(&mut call.stack, target, given);
     put_number(&mut call.numbers, target, given);
     put_reference(&mut call.references, target, given);
     put_level(&mut call.levels, target, call.frames.len());
@@ -31,8 +31,8 @@ pub fn receive(call: &mut Activation, target: Target, kind: ResultKind, given: &
     put_frame(&mut call.frames, kind, given);
 }
 
-/// Puts the truth whether a number is 0 onto an empty stack.
-fn put_truth(stack: &mut Stack, target: Target, given: &Given)
+/// Puts the truth whether a number is 0 onto the stack, for the test of an `if`.
+fn put_test(stack: &mut Stack, target: Target, given: &Given)
     requires { stack.old ≡ [] }
     ensures { stack.new ≡ stack_with target given.now }
 {

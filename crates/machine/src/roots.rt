@@ -1,22 +1,43 @@
-//! What threads refer to, by name: the roots of a report beside the objects made at load.
+//! What global references and threads refer to, by name: the roots of a report beside the objects made at load.
 
-ghost use Rattle.std.specs.Prelude.{◌≡◌, ◌++◌, IfOk, flat_map};
-ghost use Rattle.machine.specs.Roots.{AreAddresses, FramesAreThere, CallIsThere, PendingIsThere, ThreadsAreThere, frame_names, frames_names, call_names, pending_names, thread_names};
+ghost use Rattle.std.specs.Prelude.{◌≡◌, ◌++◌, IfOk, flat_map, map};
+ghost use Rattle.machine.specs.Roots.{AreAddresses, FramesAreThere, CallIsThere, ReferenceIsThere, ThreadsAreThere, frame_names, name_of, frames_names, call_names, reference_names, thread_names};
+ghost use Rattle.tables.specs.References.{references_in};
 
 use crate::frame::Frame;
 use crate::thread::{Activation, Thread};
 use heap::{Addr, Heap};
 use std::alloc::{AllocError, Global};
+use tables::Globals;
 
-/// The names of the objects in the frames of threads, and of their pending exceptions, in the order of the definitions.
-pub fn root_names(alloc: Global, heap: &Heap, threads: &[Thread]) -> Result<Vec<usize>, AllocError>
-    requires { ThreadsAreThere heap.now threads.now }
-    ensures { IfOk result (λ names. names.items ≡ flat_map (thread_names heap.now) threads.now) }
+/// The names of the objects of global references, by the places in their table, of those in the frames of threads, and of
+/// their pending exceptions.
+pub fn root_names(
+    alloc: Global,
+    heap: &Heap,
+    globals: &Globals,
+    threads: &[Thread],
+) -> Result<Vec<usize>, AllocError>
+    requires globals { AreAddresses heap.now (references_in globals.now) }
+    requires threads { ThreadsAreThere heap.now threads.now }
+    ensures { IfOk result (λ names. names.items ≡ map (name_of heap.now) (references_in globals.now) ++ flat_map (thread_names heap.now) threads.now) }
 {
-    let mut names = Vec::new(alloc);
+    let mut names = global_names(alloc, heap, globals)?;
     for thread in threads {
         push_call(&mut names, heap, &thread.call)?;
-        push_pending(&mut names, heap, thread.pending)?;
+        push_reference(&mut names, heap, thread.pending)?;
+    }
+    Ok(names)
+}
+
+/// The names of the objects of global references.
+fn global_names(alloc: Global, heap: &Heap, globals: &Globals) -> Result<Vec<usize>, AllocError>
+    requires { AreAddresses heap.now (references_in globals.now) }
+    ensures { IfOk result (λ names. names.items ≡ map (name_of heap.now) (references_in globals.now)) }
+{
+    let mut names = Vec::new(alloc);
+    for place in 0..globals.len() {
+        push_reference(&mut names, heap, globals.root(place))?;
     }
     Ok(names)
 }
@@ -36,16 +57,16 @@ fn push_call(
     }
 }
 
-/// Adds the name of a pending exception.
-fn push_pending(
+/// Adds the name of the object of a reference, that of a pending exception or of a global reference, if it isn't NULL.
+fn push_reference(
     names: &mut Vec<usize>,
     heap: &Heap,
-    pending: Option<Addr>,
+    reference: Option<Addr>,
 ) -> Result<(), AllocError>
-    requires { PendingIsThere heap.now pending }
-    ensures { IfOk result (λ _. names.new.items ≡ names.old.items ++ pending_names heap.now pending) }
+    requires { ReferenceIsThere heap.now reference }
+    ensures { IfOk result (λ _. names.new.items ≡ names.old.items ++ reference_names heap.now reference) }
 {
-    match pending {
+    match reference {
         None => Ok(()),
         Some(addr) => {
             names.push(heap.birth_of(addr) as usize)?;

@@ -1,6 +1,8 @@
 //! What all threads share.
 
+use crate::statics::StaticReference;
 use heap::{Addr, Heap};
+use tables::Globals;
 
 /// The objects, and what else all threads share.
 #[derive(Drop)]
@@ -10,4 +12,8 @@ pub struct Store {
     pub loaded: Vec<Addr>,
     /// How many objects have been made, with those at load. The next is named by one more.
     pub births: u32,
+    /// The unit's statics, in order.
+    pub statics: Vec<StaticReference>,
+    /// The global references, of which a static that is live has one of its own.
+    pub globals: Globals,
 }

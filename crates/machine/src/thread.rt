@@ -15,6 +15,7 @@ ghost use Rattle.machine.specs.Entry.{IsReady, Begins};
 use crate::entry::begin;
 use crate::frame::Frame;
 use crate::invoke::invoke;
+use crate::statics::References;
 use crate::stop::{Trap, trap_of};
 use crate::store::Store;
 use crate::variable::{is_null, set_null};
@@ -195,13 +196,19 @@ fn execute(
     }
     Ok(match instr {
         Instr::TestNull { variable, equal } => {
-            let null = is_null(&call.references, &call.fields, *variable);
+            let references = References::new(&call.references, &store.statics, &store.globals);
+            let null = is_null(&references, &call.fields, *variable);
             call.stack.push(u32::from(null == *equal));
             call.place += 1;
             Executed::Did(Event::Quiet)
         }
         Instr::StoreNull(variable) => {
-            set_null(&mut call.references, &mut call.fields, *variable);
+            set_null(
+                &mut call.references,
+                &mut call.fields,
+                &mut store.statics,
+                *variable,
+            );
             call.place += 1;
             Executed::Did(Event::Quiet)
         }

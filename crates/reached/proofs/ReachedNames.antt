@@ -108,7 +108,11 @@ pub are_reported : (classes : Classes) (heap : Heap) (loaded : ℕ) (names : Lis
 are_reported classes heap loaded names marks after first end roots_marked reached begins ends w s has =
     let both : Marked heap loaded names marks after = (roots_marked, reached) in
     let of_heap : Marked s.shared.heap loaded names marks after = subst (λ (h : Heap). Marked h loaded names marks after) (sym has.heap) both in
-    let of_roots : AreRoots (length s.shared.heap) (Contains (roots w s)) marks = subst (λ (l : List ℕ). AreRoots (length s.shared.heap) (Contains l) marks) (sym has.roots) of_heap.0 in
+    let of_roots : AreRoots (length s.shared.heap) (Contains (roots w s)) marks = record {
+      counted = of_heap.0.counted;
+      sound = λ n marked. let it = of_heap.0.sound n marked in (it.0, has.complete n it.1);
+      complete = λ n within root. of_heap.0.complete n within (has.sound n root);
+    } in
     ap (λ n. marked_rows classes heap after n end) begins
     ∙ ap (λ n. marked_rows classes heap after (length classes + 2) n) ends
     ∙ ap (λ (c : Classes). marked_rows c heap after (length c + 2) (length heap + 1)) (sym has.classes)

@@ -1,5 +1,5 @@
 -- Names of objects, and what an object refers to.
-use Rattle.std.specs.Prelude.{◌≡◌, ℕ, ◌+◌, ◌<◌, ◌≤◌, nat_lt, nat_le, ◌&&◌, if◌then◌else◌, Bool, true, List, ◌++◌, map, length, Option, Some, None}
+use Rattle.std.specs.Prelude.{◌≡◌, ℕ, ◌+◌, ◌<◌, ◌≤◌, nat_lt, nat_le, ◌&&◌, if◌then◌else◌, Bool, true, List, ◌++◌, map, length, Option, Some, None, Contains}
 use Rattle.classes.specs.Class.{Classes}
 use Rattle.source.specs.Heap.{Heap, reference_in, values_of}
 use Rattle.source.specs.Object.{Reference, ObjectValue}
@@ -21,11 +21,13 @@ within count (Some n) = if nat_lt 0 n && nat_le n count then Some n else None
 abbrev pub references_in : Heap → ℕ → List (Option ℕ)
 references_in heap n = map (λ (v : ObjectValue). within (length heap) (reference_in v)) (values_of heap n)
 
--- A state has this heap, made this number of objects at load, and besides them has these roots.
+-- A state has this heap, made this number of objects at load, and besides them has these roots, in
+-- whatever order.
 pub record HasRoots (table : Classes) (objects : Heap) (loaded : ℕ) (names : List ℕ) (w : World) (s : State) : Type 0 where
   pub classes : w.classes ≡ table
   pub heap : s.shared.heap ≡ objects
-  pub roots : roots w s ≡ from_one loaded ++ names
+  pub sound : (n : ℕ) → Contains (roots w s) n → Contains (from_one loaded ++ names) n
+  pub complete : (n : ℕ) → Contains (from_one loaded ++ names) n → Contains (roots w s) n
 
 -- ---- marks
 

@@ -41,6 +41,8 @@ loop-place-init c =
           ∙ ap (λ (a : ℕ). with_block s (fresh_block a c.args.class (c.args.store.now.births + 1) c.layout_len-count.result Null)) c.in-Ok.ensures.address
           ∙ filled_fresh s c.args.class (c.args.store.now.births + 1) c.layout_len-count.result values long,
       refl,
+      refl,
+      refl,
     )
 
 pub unwrap-id-requires : goal.unwrap-id-requires
@@ -71,6 +73,8 @@ loop-place-preserved c =
           ∙ filled_more s c.args.class birth values i c.initial_value.result c.count.ensures.laid_out value
           ∙ ap (λ (k : ℕ). with_block s (filled_block s c.args.class birth values k)) next,
       c.loop-place.invariant.1,
+      c.loop-place.invariant.2,
+      c.loop-place.invariant.3,
     )
 
 pub returns-after-loop-place : goal.returns-after-loop-place
@@ -87,4 +91,6 @@ returns-after-loop-place c =
       heap = c.loop-place.invariant.0 ∙ ap (with_block s) all;
       loaded = c.loop-place.invariant.1;
       births = refl;
+      statics = c.loop-place.invariant.2;
+      globals = c.loop-place.invariant.3;
     }

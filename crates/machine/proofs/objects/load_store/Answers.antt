@@ -62,4 +62,4 @@ overflow_cast-births c =
     let counted : length c.make_objects.new.loaded.items ≡ length (loaded_objects w) = made.table.counted in
     let filled : end_of space ≡ sizes (loaded_objects w) = made.filled in
     let within = ends_within 0 space.blocks space.cells made.laid_out in
-    omega (arith, counted, filled, within, few_objects (loaded_objects w), c.cells-births.ensures.cells, c.cells-births.ensures.limit, c.len-births.ensures)
+    omega (arith, counted, filled, within, few_objects (loaded_objects w), c.cells-2.ensures.cells, c.cells-2.ensures.limit, c.len-births.ensures)

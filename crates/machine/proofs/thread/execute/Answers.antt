@@ -5,7 +5,7 @@ use Rattle.std.specs.Option.{option_copied}
 use Rattle.std.specs.Int.{w32, cast_signed, cast_unsigned}
 use Rattle.std.specs.Vec.{with_items}
 use Rattle.std.proofs.Math.Facts.{to_z-of_z}
-use Rattle.std.proofs.lemmas.List.{with_items_is, places}
+use Rattle.std.proofs.lemmas.List.{length-map, with_items_is, places}
 use Rattle.heap.specs.Heap.{Space}
 use Rattle.code.specs.Call.{Call, call_view}
 use Rattle.code.specs.declared.instr.Instr.{Instr}
@@ -33,7 +33,11 @@ use Rattle.source.specs.World.{World}
 use Rattle.code.specs.declared.instr.Call.{Call as CallInMemory}
 use Rattle.machine.specs.declared.store.Store.{Store}
 use Rattle.machine.specs.Invoked.{AtCall}
-use Rattle.machine.specs.Variables.{is_null, HasSlot, nulled_references, nulled_fields}
+use Rattle.machine.specs.Asked.{references_of}
+use Rattle.machine.specs.Statics.{References, all_held, held}
+use Rattle.machine.specs.declared.statics.StaticReference.{StaticReference}
+use Rattle.machine.proofs.HeldStatics.{statics_count}
+use Rattle.machine.specs.Variables.{is_null, HasSlot, nulled_references, nulled_fields, nulled_statics}
 use Rattle.machine.proofs.Calls.{Ready, ready, here, room, is_there, positive}
 use Rattle.machine.proofs.Effects.{Answer, few_words, slot_there as variable_there, plain_executes, test_executes, store_executes, put_executes, return_executes}
 use Rattle.machine.proofs.thread.execute.Goals as goal
@@ -78,9 +82,12 @@ pub set_null-requires : goal.set_null-requires
 set_null-requires c =
     let s = c.requires.stands in
     let f = fetched (goal.at.set_null-requires c).After-unwrap-instr in
-    let there = variable_there _ c.args.world.now.classes c.args.store.now.heap _ f.code (visible_to s.0 s.1) s.1.frames s.2 s.3 (ready_for _ c.args.world.now.classes c.args.store.now.heap _ _ f (visible_to s.0 s.1) s.1.frames s.2 s.3 s.4.stands) c.unwrap-instr.result.now f.at c.in-StoreNull.variable c.in-StoreNull.is in
-    subst (λ (l : List (Option ℕ)). HasSlot l c.deref_mut-in-StoreNull.result.now c.in-StoreNull.variable) (sym c.deref_mut.ensures.value)
-    (subst (λ (l : List (Option FieldHandle)). HasSlot c.args.call.now.references.items l c.in-StoreNull.variable) (sym c.deref_mut-in-StoreNull.ensures.value) there)
+    let count : length s.0.statics ≡ length c.args.store.now.statics.items =
+    sym (statics_count c.args.store.now.heap (all_held c.args.store.now.globals c.args.store.now.statics.items) s.0.statics s.4.store_agrees.statics) ∙ length-map c.args.store.now.statics.items (held c.args.store.now.globals) in
+    let there = variable_there _ c.args.world.now.classes c.args.store.now.heap _ f.code (visible_to s.0 s.1) s.1.frames s.2 s.3 (ready_for _ c.args.world.now.classes c.args.store.now.heap _ _ f (visible_to s.0 s.1) s.1.frames s.2 s.3 s.4.stands) c.unwrap-instr.result.now f.at c.in-StoreNull.variable (length c.args.store.now.statics.items) c.in-StoreNull.is count in
+    subst (λ (l : List (Option ℕ)). HasSlot (length l) (length c.deref_mut-in-StoreNull.result.now) (length c.deref_mut-in-StoreNull-2.result.now) c.in-StoreNull.variable) (sym c.deref_mut.ensures.value)
+    (subst (λ (l : List (Option FieldHandle)). HasSlot (length c.args.call.now.references.items) (length l) (length c.deref_mut-in-StoreNull-2.result.now) c.in-StoreNull.variable) (sym c.deref_mut-in-StoreNull.ensures.value)
+    (subst (λ (l : List StaticReference). HasSlot (length c.args.call.now.references.items) (length c.args.call.now.fields.items) (length l) c.in-StoreNull.variable) (sym c.deref_mut-in-StoreNull-2.ensures.value) there))
 
 pub pop-word-requires : goal.pop-word-requires
 pop-word-requires c =
@@ -118,8 +125,12 @@ pub returns-in-TestNull : goal.returns-in-TestNull
 returns-in-TestNull c lent k shared s task rest e =
     let f = fetched (goal.at.returns-in-TestNull c).After-unwrap-instr in
     let after : Activation = record c.args.call.now { place = c.args.call.now.place + 1; stack = c.push.new.self } in
-    let null : c.is_null-null.result ≡ is_null c.args.call.now.references.items c.args.call.now.fields.items c.in-TestNull.variable =
-    c.is_null-null.ensures ∙ ap (λ (l : List (Option ℕ)). is_null l c.deref-in-TestNull.result.now c.in-TestNull.variable) c.deref.ensures.value ∙ ap (λ (l : List (Option FieldHandle)). is_null c.args.call.now.references.items l c.in-TestNull.variable) c.deref-in-TestNull.ensures.value in
+    let named : c.new-references.result ≡ references_of c.args.store.now c.args.call.now =
+    c.new-references.ensures
+    ∙ ap (λ (l : List (Option ℕ)). let r : References = record { locals = l; statics = all_held c.args.store.now.globals c.deref-in-TestNull.result.now } in r) c.deref.ensures.value
+    ∙ ap (λ (l : List StaticReference). let r : References = record { locals = c.args.call.now.references.items; statics = all_held c.args.store.now.globals l } in r) c.deref-in-TestNull.ensures.value in
+    let null : c.is_null-null.result ≡ is_null (references_of c.args.store.now c.args.call.now) c.args.call.now.fields.items c.in-TestNull.variable =
+    c.is_null-null.ensures ∙ ap (λ (r : References). is_null r c.deref-in-TestNull-2.result.now c.in-TestNull.variable) named ∙ ap (λ (l : List (Option FieldHandle)). is_null (references_of c.args.store.now c.args.call.now) l c.in-TestNull.variable) c.deref-in-TestNull-2.ensures.value in
     let word : c.from.result ≡ truth_word (beq c.is_null-null.result c.in-TestNull.equal) = c.from.ensures in
     test_executes c.args.program.now c.args.world.now c.args.store.now lent k shared e.store_agrees s c.args.pending.now e.pending_agrees e.viewless c.args.call.now f.code task rest (ready_for _ c.args.world.now.classes c.args.store.now.heap _ _ f (visible_to shared s) s.frames task rest e.stands) c.unwrap-instr.result.now f.at
     c.in-TestNull.variable c.in-TestNull.equal after c.in-TestNull.is
@@ -138,7 +149,8 @@ returns-in-StoreNull c lent k shared s task rest e =
     let f = fetched (goal.at.returns-in-StoreNull c).After-unwrap-instr in
     let after : Activation = record c.args.call.now { place = c.args.call.now.place + 1; references = with_items c.args.call.now.references c.set_null.new.references; fields = with_items c.args.call.now.fields c.set_null.new.fields } in
     store_executes c.args.program.now c.args.world.now c.args.store.now lent k shared e.store_agrees s c.args.pending.now e.pending_agrees e.viewless c.args.call.now f.code task rest (ready_for _ c.args.world.now.classes c.args.store.now.heap _ _ f (visible_to shared s) s.frames task rest e.stands) c.unwrap-instr.result.now f.at
-    c.in-StoreNull.variable after c.in-StoreNull.is
+    c.in-StoreNull.variable after (with_items c.args.store.now.statics c.set_null.new.statics) c.in-StoreNull.is
+    (with_items_is c.args.store.now.statics c.set_null.new.statics (search (rules, places)) ∙ c.set_null.ensures.statics ∙ ap (λ (l : List StaticReference). nulled_statics c.in-StoreNull.variable l) c.deref_mut-in-StoreNull-2.ensures.value)
     (record {
       function = refl;
       place = refl;

@@ -1,9 +1,16 @@
-use Rattle.std.proofs.Common.{◌≡◌, length, refl, sym, ◌∙◌, arith}
+use Rattle.std.proofs.Common.{◌≡◌, ℕ, List, [], Option, length, replicate, refl, sym, ap, ◌∙◌, subst, arith}
 use Rattle.syntax.specs.Views.{unit_tree}
 use Rattle.source.specs.Start.{start, waiting_thread}
 use Rattle.std.proofs.lemmas.List.{length-map}
 use Rattle.machine.proofs.Classed.{classed_loaded}
 use Rattle.machine.proofs.ThreadLoads.{agree_length}
+use Rattle.syntax.specs.Parts.{statics_of}
+use Rattle.syntax.specs.declared.unit.Item.{Item}
+use Rattle.machine.specs.Agrees.{GlobalsAgree, StaticsAgree}
+use Rattle.machine.specs.Statics.{HaveKeys, all_held}
+use Rattle.machine.specs.declared.statics.StaticReference.{StaticReference}
+use Rattle.machine.specs.declared.statics.StaticReference.TheVariants.{Empty}
+use Rattle.machine.proofs.HeldStatics.{names_begin, no_keys, statics_begin}
 use Rattle.machine.proofs.machine.Machine.load.Goals as goal
 
 pub invariant_of-result : goal.invariant_of-result
@@ -26,8 +33,11 @@ invariant_of-result c =
         begun = omega arith;
         births = c.in_ok-store.ensures.births;
         classed = classed_loaded w c.threads.ensures.sound;
-        statics = refl;
-        globals = refl;
+        statics = subst (λ (globals : List (Option ℕ)). StaticsAgree c.in_ok-store.store.heap (all_held globals c.in_ok-store.store.statics.items) s.shared.statics) (sym c.in_ok-store.ensures.globals)
+            (subst (λ (l : List StaticReference). StaticsAgree c.in_ok-store.store.heap (all_held [] l) s.shared.statics) (sym (c.in_ok-store.ensures.statics ∙ ap (λ (items : List Item). replicate (length (statics_of (unit_tree items))) Empty) c.items.ensures.items)) (statics_begin c.in_ok-store.store.heap (statics_of (unit_tree c.args.program.unit))));
+        named = names_begin (statics_of (unit_tree c.args.program.unit));
+        keys = subst (HaveKeys c.in_ok-store.store.globals) (sym c.in_ok-store.ensures.statics) (no_keys c.in_ok-store.store.globals (length (statics_of (unit_tree c.items.result.now))));
+        globals = subst (λ (globals : List (Option ℕ)). GlobalsAgree c.in_ok-store.store.heap globals []) (sym c.in_ok-store.ensures.globals) (record { names = []; agree = tt; same = λ n. refl });
         monitors = refl;
       };
       threads_agree = agree;

@@ -1,0 +1,83 @@
+-- The store once statics and global references have changed.
+use Rattle.std.proofs.Common.{inl, inr, ◌≡◌, ℕ, List, length, Option, Some, None, refl, sym, ap, ◌∙◌, subst, arith}
+use Rattle.std.specs.Global.{Vec}
+use Rattle.std.specs.Prelude.{slice_set}
+use Rattle.std.proofs.lemmas.List.{take_all}
+use Rattle.base.specs.Bytes.{Identifier}
+use Rattle.source.specs.Object.{sizes}
+use Rattle.source.specs.Task.{VariableKind}
+use Rattle.source.specs.Thread.{Shared}
+use Rattle.source.specs.Variable.{Empty, Statics, StaticReference, assign}
+use Rattle.source.specs.World.{World}
+use Rattle.code.specs.declared.instr.NullableVariable.{NullableVariable}
+use Rattle.code.specs.declared.instr.NullableVariable.TheVariants as nullable
+use Rattle.code.specs.Depth.{Listing}
+use Rattle.code_generator.specs.Layout.{Known}
+use Rattle.lower.specs.Does.{IsStoredIn}
+use Rattle.lower.specs.Lowered.{Lowered}
+use Rattle.lower.specs.Slots as lower
+use Rattle.lower.specs.Slots.{Slots, static_index, visible_to}
+use Rattle.machine.specs.declared.statics.Held.{Held}
+use Rattle.machine.specs.declared.statics.StaticReference.{StaticReference as InMemory}
+use Rattle.machine.specs.declared.statics.StaticReference.TheVariants as static
+use Rattle.machine.specs.declared.store.Store.{Store}
+use Rattle.machine.specs.Agrees.{AreNamed, GlobalsAgree, HeldAgrees, Keeps, MayChange, StaticsAgree, StoreAgrees}
+use Rattle.machine.specs.Statics.{HaveKeys, all_held, held}
+use Rattle.machine.specs.Variables.{nulled_statics}
+use Rattle.machine.proofs.HeldStatics.{held_set, keys_left, same_names, static_put}
+
+module _ (p : Lowered) (w : World) (store : Store) (shared : Shared) (h : StoreAgrees p w store shared) where
+  -- other statics and other global references
+  pub with_references : (statics : Vec InMemory) (globals : List (Option ℕ)) (names : Statics) (source_globals : List ℕ) → StaticsAgree store.heap (all_held globals statics.items) names → AreNamed p (record shared { statics = names }) → HaveKeys globals statics.items → GlobalsAgree store.heap globals source_globals
+      → StoreAgrees p w (record store { statics = statics; globals = globals }) (record shared { statics = names; globals = source_globals })
+  with_references statics globals names source_globals agree named keys same = record {
+    heap = h.heap;
+    laid_out = h.laid_out;
+    filled = h.filled;
+    cells = h.cells;
+    table = h.table;
+    begun = h.begun;
+    births = h.births;
+    classed = h.classed;
+    statics = agree;
+    named = named;
+    keys = keys;
+    globals = same;
+    monitors = h.monitors;
+  }
+
+  -- a static holds something else
+  pub with_static : (statics : Vec InMemory) (x : Identifier) (i : ℕ) (s : InMemory) (r : StaticReference) → statics.items ≡ slice_set store.statics.items i s → static_index x shared.statics ≡ Some i → HeldAgrees store.heap (held store.globals s) r → HaveKeys store.globals (slice_set store.statics.items i s)
+      → StoreAgrees p w (record store { statics = statics }) (record shared { statics = assign x r shared.statics })
+  with_static statics x i s r is place agrees keys =
+      with_references statics store.globals (assign x r shared.statics) shared.globals
+      (subst (λ (l : List Held). StaticsAgree store.heap l (assign x r shared.statics)) (sym (ap (all_held store.globals) is ∙ held_set store.globals store.statics.items i s))
+      (static_put store.heap x (all_held store.globals store.statics.items) shared.statics i (held store.globals s) r h.statics place agrees))
+      (same_names x r shared.statics i place ∙ h.named)
+      (subst (HaveKeys store.globals) (sym is) keys)
+      h.globals
+
+  -- the same statics
+  pub with_same : (statics : Vec InMemory) → statics.items ≡ store.statics.items → StoreAgrees p w (record store { statics = statics }) shared
+  with_same statics is =
+      with_references statics store.globals shared.statics shared.globals (subst (λ (l : List InMemory). StaticsAgree store.heap (all_held store.globals l) shared.statics) (sym is) h.statics) h.named (subst (HaveKeys store.globals) (sym is) h.keys) h.globals
+
+  module _ (code : Listing) (known : Known) (place : ℕ) (stack : List ℕ) (slots : Slots) (s : _) (statics : Vec InMemory) (x : Identifier) where
+    -- NULL was stored
+    pub store_nulled : (variable : NullableVariable) (kind : Option VariableKind) → IsStoredIn code known place stack slots (visible_to shared s) variable kind x → statics.items ≡ nulled_statics variable store.statics.items
+        → StoreAgrees p w (record store { statics = statics }) (record shared { statics = lower.nulled_statics kind x shared.statics })
+    store_nulled (nullable.Local i) kind stored is = subst (λ (k : Option VariableKind). StoreAgrees p w (record store { statics = statics }) (record shared { statics = lower.nulled_statics k x shared.statics })) (sym stored) (with_same statics is)
+    store_nulled (nullable.FieldId i) kind stored is = subst (λ (k : Option VariableKind). StoreAgrees p w (record store { statics = statics }) (record shared { statics = lower.nulled_statics k x shared.statics })) (sym stored) (with_same statics is)
+    store_nulled (nullable.Buffer i) kind stored is = subst (λ (k : Option VariableKind). StoreAgrees p w (record store { statics = statics }) (record shared { statics = lower.nulled_statics k x shared.statics })) (sym stored.1) (with_same statics is)
+    store_nulled (nullable.Static i) kind stored is =
+        subst (λ (k : Option VariableKind). StoreAgrees p w (record store { statics = statics }) (record shared { statics = lower.nulled_statics k x shared.statics })) (sym stored.0)
+        (with_static statics x i static.Empty Empty is stored.1.static.place tt (keys_left store.globals store.statics.items i static.Empty (λ key e. cc) h.keys))
+
+  -- a step that changes statics alone
+  pub keeps_but_statics : (statics : Statics) (globals : List ℕ) → MayChange shared.statics statics → Keeps store.heap shared store.heap (record shared { statics = statics; globals = globals })
+  keeps_but_statics statics globals may = record { names = λ a n e. e; statics = may; sizes = ap sizes (take_all (length shared.heap) shared.heap (omega arith)) }
+
+-- what is NULL then
+pub may_be_nulled : (kind : Option VariableKind) (x : Identifier) (statics : Statics) → MayChange statics (lower.nulled_statics kind x statics)
+may_be_nulled (Some kind) x statics = inl refl
+may_be_nulled None x statics = inr (x, Empty, refl)
