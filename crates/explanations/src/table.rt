@@ -107,17 +107,17 @@ pub static FAULTS: [Explanation; 37] = [
     Explanation {
         number: 36,
         title: "a return inside a frame",
-        text: "fault 36: a return inside a frame\n\nA function returns in the frame that it was called in (JNI Specification, chapter 4, \"PushLocalFrame\"). Call PopLocalFrame first.\n\n    JNIEXPORT void JNICALL Java_A_f(JNIEnv *env, jclass cls)\n    {\n        if ((*env)->PushLocalFrame(env, 1) == 0) {\n            return;\n        }\n        return;\n    }\n\nfault 36 line 4 (today 24, since its functions can't be called yet)\n",
+        text: "fault 36: a return inside a frame\n\nA function returns in the frame that it was called in (JNI Specification, chapter 4, \"PushLocalFrame\"). Call PopLocalFrame first.\n\n    JNIEXPORT void JNICALL Java_A_f(JNIEnv *env, jclass cls)\n    {\n        if ((*env)->PushLocalFrame(env, 1) == 0) {\n            return;\n        }\n        return;\n    }\n\nfault 36 line 4\n",
     },
     Explanation {
         number: 37,
         title: "the first frame is popped",
-        text: "fault 37: the first frame is popped\n\nPopLocalFrame ends a frame that the function itself has begun (JNI Specification, chapter 4, \"PopLocalFrame\"). Take it out.\n\n    JNIEXPORT void JNICALL Java_A_f(JNIEnv *env, jclass cls)\n    {\n        (*env)->PopLocalFrame(env, NULL);\n        return;\n    }\n\nfault 37 line 3 (today 24, since its functions can't be called yet)\n",
+        text: "fault 37: the first frame is popped\n\nPopLocalFrame ends a frame that the function itself has begun (JNI Specification, chapter 4, \"PopLocalFrame\"). Take it out.\n\n    JNIEXPORT void JNICALL Java_A_f(JNIEnv *env, jclass cls)\n    {\n        (*env)->PopLocalFrame(env, NULL);\n        return;\n    }\n\nfault 37 line 3\n",
     },
     Explanation {
         number: 38,
         title: "a dead reference is used",
-        text: "fault 38: a dead reference is used\n\nA deleted reference, and one of a frame that was popped, refers to nothing (JNI Specification, chapter 4, \"DeleteLocalRef\" and \"PopLocalFrame\"). Delete it after its last use.\n\n    JNIEXPORT void JNICALL Java_A_f(JNIEnv *env, jclass cls, jobject object)\n    {\n        (*env)->DeleteLocalRef(env, object);\n        jclass found = (*env)->GetObjectClass(env, object);\n        return;\n    }\n\nfault 38 line 4 (today 24, since its functions can't be called yet)\n",
+        text: "fault 38: a dead reference is used\n\nA deleted reference, and one of a frame that was popped, refers to nothing (JNI Specification, chapter 4, \"DeleteLocalRef\" and \"PopLocalFrame\"). Delete it after its last use.\n\n    JNIEXPORT void JNICALL Java_A_f(JNIEnv *env, jclass cls, jobject object)\n    {\n        (*env)->DeleteLocalRef(env, object);\n        jclass found = (*env)->GetObjectClass(env, object);\n        return;\n    }\n\nfault 38 line 4\n",
     },
     Explanation {
         number: 39,
@@ -127,12 +127,12 @@ pub static FAULTS: [Explanation; 37] = [
     Explanation {
         number: 40,
         title: "ways that meet don't agree",
-        text: "fault 40: ways that meet don't agree\n\nWhere the ways of an if join, and at the end of a while's body, each variable is in the state that it has on the other way, and as many frames are pushed: what may be done after it\ncan't hang on the way taken. The line is that of the if or while. Do the same on the other way.\n\n    JNIEXPORT void JNICALL Java_A_f(JNIEnv *env, jclass cls, jobject object, jint n)\n    {\n        if (n != 0) {\n            (*env)->DeleteLocalRef(env, object);\n        }\n        return;\n    }\n\nfault 40 line 3 (today 24, since its functions can't be called yet)\n",
+        text: "fault 40: ways that meet don't agree\n\nWhere the ways of an if join, and at the end of a while's body, each variable is in the state that it has on the other way, and as many frames are pushed: what may be done after it\ncan't hang on the way taken. The line is that of the if or while. Do the same on the other way.\n\n    JNIEXPORT void JNICALL Java_A_f(JNIEnv *env, jclass cls, jobject object, jint n)\n    {\n        if (n != 0) {\n            (*env)->DeleteLocalRef(env, object);\n        }\n        return;\n    }\n\nfault 40 line 3\n",
     },
     Explanation {
         number: 41,
         title: "a reference is set in another frame",
-        text: "fault 41: a reference is set in another frame\n\nA reference that a call gives belongs to the frame that is pushed then, and its variable to that of its declaration (JNI Specification, chapter 4, \"PushLocalFrame\"). Declare a variable in the\nframe, or give the reference to PopLocalFrame.\n\n    JNIEXPORT void JNICALL Java_A_f(JNIEnv *env, jclass cls)\n    {\n        jobject object = NULL;\n        if ((*env)->PushLocalFrame(env, 1) == 0) {\n            object = (*env)->NewLocalRef(env, cls);\n            (*env)->PopLocalFrame(env, NULL);\n        }\n        return;\n    }\n\nfault 41 line 5 (today 24, since its functions can't be called yet)\n",
+        text: "fault 41: a reference is set in another frame\n\nA reference that a call gives belongs to the frame that is pushed then, and its variable to that of its declaration (JNI Specification, chapter 4, \"PushLocalFrame\"). Declare a variable in the\nframe, or give the reference to PopLocalFrame.\n\n    JNIEXPORT void JNICALL Java_A_f(JNIEnv *env, jclass cls)\n    {\n        jobject object = NULL;\n        if ((*env)->PushLocalFrame(env, 1) == 0) {\n            object = (*env)->NewLocalRef(env, cls);\n            (*env)->PopLocalFrame(env, NULL);\n        }\n        return;\n    }\n\nfault 41 line 5\n",
     },
     Explanation {
         number: 42,
@@ -226,7 +226,7 @@ pub static TRAPS: [Explanation; 9] = [
     Explanation {
         number: 7,
         title: "a deleted global reference",
-        text: "trap 7: a deleted global reference\n\nWhat DeleteGlobalRef was given refers to nothing (JNI Specification, chapter 4, \"DeleteGlobalRef\"). Delete it after its last use, and set the static to NULL. No run earns this trap today:\nNewGlobalRef and DeleteGlobalRef can't be called yet.\n",
+        text: "trap 7: a deleted global reference\n\nWhat DeleteGlobalRef was given refers to nothing (JNI Specification, chapter 4, \"DeleteGlobalRef\"). Delete it after its last use, and set the static to NULL.\n\n    static jclass kept = NULL;\n    \n    JNIEXPORT void JNICALL Java_A_f(JNIEnv *env, jclass cls)\n    {\n        kept = (*env)->NewGlobalRef(env, cls);\n        (*env)->DeleteGlobalRef(env, kept);\n        jobject object = (*env)->AllocObject(env, kept);\n        return;\n    }\n\n    heap 512\n    class A\n    thread Java_A_f\n\nT1 trap 7 line 7\n",
     },
     Explanation {
         number: 8,

@@ -1,13 +1,17 @@
 -- What is asked of each step holds of a thread that goes on from a point where it stands.
-use Rattle.std.proofs.Common.{◌≡◌, ◌≢◌, ℕ, List, [], ◌∷◌, Option, Some, None, sym, subst}
+use Rattle.std.proofs.Common.{◌≡◌, ◌≢◌, ℕ, List, [], ◌∷◌, length, Option, Some, None, sym, subst}
 use Rattle.std.specs.List.{AllByRecursion}
-use Rattle.base.specs.Bytes.{lookup}
+use Rattle.base.specs.Bytes.{Identifier, lookup}
 use Rattle.jni.specs.JniFunction.{Access, JniFunction, ReleaseBuffer}
+use Rattle.jni.specs.Prototype.{NewLocal, prototype}
 use Rattle.source.specs.Arguments.{Actual, object_given, variable_given}
+use Rattle.source.specs.Checks.{frames_after}
 use Rattle.source.specs.Effect.{Calls, Returns, NoEffect}
-use Rattle.source.specs.Task.{Task, Target}
+use Rattle.source.specs.Object.{Reference}
+use Rattle.source.specs.Task.{Task, Target, Assigned}
 use Rattle.source.specs.Thread.{Thread, Shared, sight_of, viewed_by}
 use Rattle.source.specs.ThreadStep.{next_effect}
+use Rattle.source.specs.Variable.{LocalRef}
 use Rattle.safety.specs.Follows.{Follows}
 use Rattle.safety.specs.Stands.{Goes}
 use Rattle.safety.specs.StepSafe.{MayMeetView, MayReturn, IsAlive, came_from}
@@ -15,6 +19,7 @@ use Rattle.safety.specs.Used.{task_names}
 use Rattle.safety.specs.Wanted.{GoesOn}
 use Rattle.safety.proofs.ClauseLaws.{view_clause, return_clause, reference_clause}
 use Rattle.safety.proofs.EffectLaws.{effect_follows, call_fits}
+use Rattle.safety.proofs.LevelLaws.{level_clause}
 use Rattle.safety.proofs.ReleaseLaws.{release_clause}
 
 no_call : (line : ℕ) (target : Target) (f : JniFunction) (args : List Actual) → NoEffect ≡ Calls line target f args → ⊥
@@ -41,6 +46,14 @@ module _ (s : Shared) (t : Thread) where
       (release_clause s.heap s.statics t.variables t.frames p stands access called.0
       ((call_fits s.heap s.statics t.variables t.frames p stands rest line target (ReleaseBuffer access) called.0 called.3).rules))
 
+  at_level : (o : Option (List Task)) → Goes s.statics t o → (line : ℕ) (x : Identifier) (f : JniFunction) (args : List Actual) (level : ℕ) (r : Reference)
+      → next_effect s t o ≡ Calls line (Assigned x) f args → (prototype f).result ≡ NewLocal → lookup x t.variables ≡ Some (LocalRef level r) → level ≡ length (frames_after f t.frames)
+  at_level None g line x f args level r e gives there = absurd (no_call line (Assigned x) f args e)
+  at_level (Some []) g line x f args level r e gives there = absurd (g.2)
+  at_level (Some (task ∷ rest)) (p, stands, runs) line x f args level r e gives there =
+      let called = subst (Follows (sight_of s t) s.statics t.variables t.frames p rest) e (effect_follows s.heap s.statics t.variables t.frames p stands rest task runs) in
+      level_clause s.statics t.variables t.frames p stands (GoesOn rest) x level r there line f called.0 called.3 gives
+
   module _ (goes : Goes s.statics t t.tasks) where
     pub view : (task : Task) (rest : List Task) → t.tasks ≡ Some (task ∷ rest) → viewed_by t ≢ [] → MayMeetView task
     view task rest e held = let g : Goes s.statics t (Some (task ∷ rest)) = subst (Goes s.statics t) e goes in view_clause s.statics t.variables t.frames g.0 g.1 task (GoesOn rest) g.2 held
@@ -53,3 +66,7 @@ module _ (s : Shared) (t : Thread) where
 
     pub release : (line : ℕ) (target : Target) (access : Access) (args : List Actual) → next_effect s t t.tasks ≡ Calls line target (ReleaseBuffer access) args → came_from (lookup (variable_given args 1) t.variables) ≡ Some (object_given args 0)
     release line target access args e = at_release t.tasks goes line target access args e
+
+    pub declared : (line : ℕ) (x : Identifier) (f : JniFunction) (args : List Actual) (level : ℕ) (r : Reference)
+        → next_effect s t t.tasks ≡ Calls line (Assigned x) f args → (prototype f).result ≡ NewLocal → lookup x t.variables ≡ Some (LocalRef level r) → level ≡ length (frames_after f t.frames)
+    declared line x f args level r e gives there = at_level t.tasks goes line x f args level r e gives there

@@ -1,22 +1,25 @@
 -- What no thread of an accepted unit ever does, in any replay.
 use Rattle.std.specs.Prelude.{◌≡◌, ◌≢◌, ℕ, ◌-◌, ◌==◌, nat_le, if◌then◌else◌, Bool, true, false, List, [], ◌∷◌, length, slice_get, Option, Some, None, IsTrue}
 use Rattle.std.specs.List.{list_any, list_all, AllByRecursion}
-use Rattle.base.specs.Bytes.{lookup}
+use Rattle.base.specs.Bytes.{Identifier, lookup}
 use Rattle.syntax.specs.Tree.{SourceUnit}
-use Rattle.jni.specs.JniFunction.{ReleaseBuffer}
+use Rattle.jni.specs.JniFunction.{JniFunction, ReleaseBuffer}
+use Rattle.jni.specs.Prototype.{NewLocal, prototype}
 use Rattle.types.specs.SortRules.{IsSorted}
 use Rattle.source.specs.declared.journal.Entry.TheVariants.{Step}
 use Rattle.source.specs.Journal.{Journal}
 use Rattle.source.specs.World.{Invocation, World}
 use Rattle.source.specs.Arguments.{Actual, object_given, variable_given}
+use Rattle.source.specs.Checks.{frames_after}
 use Rattle.source.specs.Effect.{Calls, Returns}
 use Rattle.source.specs.Load.{Loads}
+use Rattle.source.specs.Object.{Reference}
 use Rattle.regions.specs.RegionRules.{is_critical_call}
 use Rattle.regions.specs.Regions.{HasRegions}
 use Rattle.source.specs.Run.{replay}
 use Rattle.source.specs.State.{State, thread_at}
 use Rattle.source.specs.Step.{can_step, world_step}
-use Rattle.source.specs.Task.{Task, Invoke, Print}
+use Rattle.source.specs.Task.{Task, Assigned, Invoke, Print}
 use Rattle.source.specs.Thread.{Thread, Frame, viewed_by}
 use Rattle.source.specs.ThreadStep.{next_effect}
 use Rattle.source.specs.Variable.{Variable, LocalRef, Elements, NoBuffer, Copy, View}
@@ -78,6 +81,9 @@ pub record StepSafe (unit : SourceUnit) (w : World) (s : State) (k : ℕ) (t : T
   pub references : (task : Task) (rest : List Task) → t.tasks ≡ Some (task ∷ rest) → AllByRecursion (λ x. IsAlive t.frames (lookup x t.variables)) (task_names task)
   -- a release names the array that its buffer came from
   pub release : (line : ℕ) (target : _) (access : _) (args : List Actual) → next_effect s.shared t t.tasks ≡ Calls line target (ReleaseBuffer access) args → came_from (lookup (variable_given args 1) t.variables) ≡ Some (object_given args 0)
+  -- a call that gives a new local reference to a variable that is there already finds it declared at the frame that is then current
+  pub declared : (line : ℕ) (x : Identifier) (f : JniFunction) (args : List Actual) (level : ℕ) (r : Reference)
+      → next_effect s.shared t t.tasks ≡ Calls line (Assigned x) f args → (prototype f).result ≡ NewLocal → lookup x t.variables ≡ Some (LocalRef level r) → level ≡ length (frames_after f t.frames)
   -- if it isn't ended, blocked or stopped, it can step
   pub progress : can_step w.classes s k ≡ true → (next : State) × (world_step unit w.classes s (Step k false) ≡ Some next)
 
