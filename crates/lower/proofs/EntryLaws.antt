@@ -128,7 +128,7 @@ null_of (Live n) = refl
 null_of Deleted = refl
 
 module _ (statics : Known) (f : Function) (code : Listing) (known : AreStatics statics) (shared : Shared) (thread : Thread) (calls : List Invocation) (class : ℕ) (arguments : List ObjectValue) (slots : Slots) (fit : ArgumentsFit f.parameters arguments) (entry : EntrySlots code class arguments slots) (there : AreShared statics shared) where
-  -- the level of a reference that an argument is
+  -- a reference that is there at the entry has level 1
   first_level : (i : ℕ) (q : Reference) → slice_get slots.references i ≡ Some q → slice_get slots.levels i ≡ Some 1
   first_level i q there =
       let below : i < code.slots.references = omega (arith, slice_get_within slots.references i q there, entry.references) in
