@@ -17,7 +17,7 @@ get_drop zero a place = let same : place ≡ 0 + place = omega arith in ap (slic
 get_drop (suc n) [] place = refl
 get_drop (suc n) (x ∷ a) place = let same : suc n + place ≡ suc (n + place) = omega arith in get_drop n a place ∙ ap (slice_get (x ∷ a)) (sym same)
 
-get_replicate : {X : Type 0} (n : ℕ) (x : X) (place : ℕ) → place < n → slice_get (replicate n x) place ≡ Some x
+pub get_replicate : {X : Type 0} (n : ℕ) (x : X) (place : ℕ) → place < n → slice_get (replicate n x) place ≡ Some x
 get_replicate zero x place h = absurd (omega arith)
 get_replicate (suc n) x zero h = refl
 get_replicate (suc n) x (suc place) h = get_replicate n x place (omega arith)

@@ -220,7 +220,7 @@ module _ (code : Listing) (known : Known) (place : ℕ) (stack : List ℕ) (slot
   takes_reference i x rest returns h = record {
     within = omega (arith, h.own.within, shows.references);
     names = h.further.0;
-    shows = λ r new set. fewer_shown code h.further.0 ((x, record { sort = Ref; index = i }) ∷ known) new (record slots { references = slice_set slots.references i r }) h.further.1 (shows_referred code known visible new slots x i r shows h.own set);
+    shows = λ r new set. fewer_shown code h.further.0 ((x, record { sort = Ref; index = i }) ∷ known) new (record slots { references = slice_set slots.references i r; levels = slice_set slots.levels i (new.level x) }) h.further.1 (shows_referred code known visible new slots x i r shows h.own set);
     stands = record { stand = h.further.2; returns = returns };
   }
 

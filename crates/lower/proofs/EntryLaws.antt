@@ -1,19 +1,23 @@
 -- What the slots show at the entry of a function.
-use Rattle.std.proofs.Common.{◌≡◌, ℕ, ℤ, ◌+◌, ◌⊎◌, inl, inr, Bool, true, false, List, [], ◌∷◌, ◌++◌, length, filter_map, zip, Option, Some, None, refl, sym, ap, ◌∙◌, subst, arith, append_assoc, length-append, if◌then◌else◌}
+use Rattle.std.proofs.Common.{◌≡◌, ℕ, ℤ, ◌+◌, ◌<◌, ◌⊎◌, inl, inr, Bool, true, false, List, [], ◌∷◌, ◌++◌, length, filter_map, zip, Option, Some, None, refl, sym, ap, ◌∙◌, subst, arith, append_assoc, length-append, if◌then◌else◌}
 use Rattle.std.specs.Prelude.{slice_get, FitsSigned}
 use Rattle.std.specs.Int.{w32, cast_unsigned}
 use Rattle.std.specs.Str.{bytes_eq}
+use Rattle.std.proofs.lemmas.List.{length-replicate}
+use Rattle.std.proofs.lemmas.Option.{slice_get_within}
 use Rattle.base.specs.Bytes.{Identifier, lookup}
 use Rattle.syntax.specs.Tree.{Parameter, ParameterType, IntParameter, ReferenceParameter, Function}
 use Rattle.types.specs.Sorts.{Sort, Jint, Ref, Global}
 use Rattle.source.specs.Object.{ObjectValue, Number, Refers, Reference}
 use Rattle.source.specs.World.{Invocation}
 use Rattle.source.specs.Activation.{entered, parameter_variables}
+use Rattle.source.specs.CallEffects.{level_of}
 use Rattle.source.specs.Sight.{scalar, held_reference, holds_null, static_is_null}
 use Rattle.source.specs.Thread.{Shared, Thread}
 use Rattle.source.specs.Value.{Int, Gives}
 use Rattle.source.specs.Variable.{Variable, Scalar, LocalRef, StaticReference, Empty, Live, Deleted}
 use Rattle.code.specs.Depth.{Listing}
+use Rattle.code.proofs.Arrays.{get_replicate}
 use Rattle.code_generator.specs.Layout.{Slot, Known, parameter_slot, parameter_slots, numbers_after, references_after, numbers_of, references_of, entry_names, entry_layout}
 use Rattle.lower.specs.Slots.{visible_to, type_of_array, kind_of_variable, is_empty, Slots, ShowsSlot, Shows, ArgumentFits, ArgumentsFit, argument_word, argument_reference, EntrySlots, AreShared}
 use Rattle.lower.specs.Fits.{AreStatics}
@@ -124,6 +128,12 @@ null_of (Live n) = refl
 null_of Deleted = refl
 
 module _ (statics : Known) (f : Function) (code : Listing) (known : AreStatics statics) (shared : Shared) (thread : Thread) (calls : List Invocation) (class : ℕ) (arguments : List ObjectValue) (slots : Slots) (fit : ArgumentsFit f.parameters arguments) (entry : EntrySlots code class arguments slots) (there : AreShared statics shared) where
+  -- a reference that is there at the entry has level 1
+  first_level : (i : ℕ) (q : Reference) → slice_get slots.references i ≡ Some q → slice_get slots.levels i ≡ Some 1
+  first_level i q there =
+      let below : i < code.slots.references = omega (arith, slice_get_within slots.references i q there, entry.references) in
+      ap (λ (levels : List ℕ). slice_get levels i) entry.levels ∙ get_replicate code.slots.references 1 i below
+
   found_shown : (x : Identifier) (s : Slot) → Found slots s (lookup x ((f.class_name, LocalRef 1 (Some class)) ∷ parameter_variables (zip f.parameters arguments))) → ShowsSlot (visible_to shared (entered thread calls f class arguments)) x slots s s.sort
   found_shown x s (inl (z, i, is, variable, fits, there)) =
       subst (λ (t : Slot). ShowsSlot (visible_to shared (entered thread calls f class arguments)) x slots t t.sort) (sym is) (record { value = Int z; is = ap scalar variable; kind = ap kind_of_variable variable; sort = (fits, refl); word = there })
@@ -135,6 +145,7 @@ module _ (statics : Known) (f : Function) (code : Listing) (known : AreStatics s
         no_number = ap scalar variable;
         kind = ap kind_of_variable variable;
         there = there;
+        level = λ n same. first_level i q there ∙ ap (λ (v : Option Variable). Some (level_of v)) (sym variable);
       })
 
   entry_found : (x : Identifier) (s : Slot) → lookup x (entry_names f) ≡ Some s → Found slots s (lookup x ((f.class_name, LocalRef 1 (Some class)) ∷ parameter_variables (zip f.parameters arguments)))
@@ -177,6 +188,7 @@ pub entry_shows : (statics : Known) (f : Function) (code : Listing) → AreStati
 entry_shows statics f code known shared thread calls class arguments slots fit entry there = record {
   numbers = entry.numbers;
   references = entry.references;
+  levels = ap length entry.levels ∙ length-replicate code.slots.references 1;
   fields = entry.fields;
   each = λ x s at. either_shown statics f code known shared thread calls class arguments slots fit entry there x s (in_both x (entry_names f) statics (lookup x (entry_names f)) refl s at);
 }

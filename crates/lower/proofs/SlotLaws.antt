@@ -77,7 +77,7 @@ pub all_among : (known : Known) → AreAmong known known
 all_among known x s h = h
 
 pub fewer_shown : (code : Listing) (names known : Known) (visible : Visible) (slots : Slots) → AreAmong names known → Shows code known visible slots → Shows code names visible slots
-fewer_shown code names known visible slots among shows = record { numbers = shows.numbers; references = shows.references; fields = shows.fields; each = λ x s at. shows.each x s (among x s at) }
+fewer_shown code names known visible slots among shows = record { numbers = shows.numbers; references = shows.references; levels = shows.levels; fields = shows.fields; each = λ x s at. shows.each x s (among x s at) }
 
 -- ---- what stays
 
@@ -90,17 +90,21 @@ number_place_at kind i h = absurd h
 pub number_place : (s : Slot) → IsNumberSort s.sort → IsPlaceOf s s.index
 number_place s h = number_place_at s.sort s.index h
 
+-- a local reference stays in its slot, with its level
+abbrev pub ReferenceStays : (slots slots' : Slots) (i : ℕ) → Type 0
+ReferenceStays slots slots' i = (slice_get slots'.references i ≡ slice_get slots.references i) × (slice_get slots'.levels i ≡ slice_get slots.levels i)
+
 module _ (old new : Visible) (x : Identifier) (slots slots' : Slots) (same : IsAsBefore old new x) where
   number_stays : (kind : Sort) (i : ℕ) → slice_get slots'.numbers i ≡ slice_get slots.numbers i → ShowsNumber old x slots.numbers (record { sort = kind; index = i }) → ShowsNumber new x slots'.numbers (record { sort = kind; index = i })
   number_stays kind i word h = record { value = h.value; is = same.number ∙ h.is; kind = same.kind ∙ h.kind; sort = h.sort; word = word ∙ h.word }
 
-  pub slot_stays : (kind : Sort) (i : ℕ) → ((k : ℕ) → IsPlaceOf (record { sort = kind; index = i }) k → slice_get slots'.numbers k ≡ slice_get slots.numbers k) → (kind ≡ Ref → slice_get slots'.references i ≡ slice_get slots.references i) → (kind ≡ FieldId → slice_get slots'.fields i ≡ slice_get slots.fields i)
+  pub slot_stays : (kind : Sort) (i : ℕ) → ((k : ℕ) → IsPlaceOf (record { sort = kind; index = i }) k → slice_get slots'.numbers k ≡ slice_get slots.numbers k) → (kind ≡ Ref → ReferenceStays slots slots' i) → (kind ≡ FieldId → slice_get slots'.fields i ≡ slice_get slots.fields i)
       → (kind ≡ Global → StaticStays old.statics new.statics x) → ShowsSlot old x slots (record { sort = kind; index = i }) kind → ShowsSlot new x slots' (record { sort = kind; index = i }) kind
   slot_stays sort.Word i numbers references fields statics h = number_stays sort.Word i (numbers i (omega arith, omega arith)) h
   slot_stays Jint i numbers references fields statics h = number_stays Jint i (numbers i (omega arith, omega arith)) h
   slot_stays sort.Flag i numbers references fields statics h = number_stays sort.Flag i (numbers i (omega arith, omega arith)) h
   slot_stays sort.Truth i numbers references fields statics h = tt
-  slot_stays Ref i numbers references fields statics h = record { reference = h.reference; is = same.reference ∙ h.is; is_null = same.is_null ∙ h.is_null; no_number = same.number ∙ h.no_number; kind = same.kind ∙ h.kind; there = references refl ∙ h.there }
+  slot_stays Ref i numbers references fields statics h = record { reference = h.reference; is = same.reference ∙ h.is; is_null = same.is_null ∙ h.is_null; no_number = same.number ∙ h.no_number; kind = same.kind ∙ h.kind; there = (references refl).0 ∙ h.there; level = λ n is. (references refl).1 ∙ h.level n is ∙ ap (λ (k : ℕ). Some k) (sym same.level) }
   slot_stays Global i numbers references fields statics h = record {
     static = record { place = (statics refl).place ∙ h.static.place; held = h.static.held; there = (statics refl).there ∙ h.static.there };
     no_variable = record { number = same.number ∙ h.no_variable.number; array_type = same.array_type ∙ h.no_variable.array_type; kind = same.kind ∙ h.no_variable.kind };
@@ -120,12 +124,13 @@ module _ (old new : Visible) (x : Identifier) (slots slots' : Slots) (same : IsA
 
 -- A name has this slot, which it shows, and the others are as they were.
 module _ (code : Listing) (known : Known) (old new : Visible) (slots slots' : Slots) (x : Identifier) (s : Slot) (shows : Shows code known old slots) (own : IsOwn known x s) (others : OthersStay old new x) (statics : (y : Identifier) → y ≢ x → StaticStays old.statics new.statics y) where
-  pub with_changed : length slots'.numbers ≡ length slots.numbers → length slots'.references ≡ length slots.references → length slots'.fields ≡ length slots.fields → ((k : ℕ) → (IsPlaceOf s k → ⊥) → slice_get slots'.numbers k ≡ slice_get slots.numbers k)
-      → ((i : ℕ) → (s.sort ≡ Ref → i ≢ s.index) → slice_get slots'.references i ≡ slice_get slots.references i)
+  pub with_changed : length slots'.numbers ≡ length slots.numbers → length slots'.references ≡ length slots.references → length slots'.levels ≡ length slots.levels → length slots'.fields ≡ length slots.fields → ((k : ℕ) → (IsPlaceOf s k → ⊥) → slice_get slots'.numbers k ≡ slice_get slots.numbers k)
+      → ((i : ℕ) → (s.sort ≡ Ref → i ≢ s.index) → ReferenceStays slots slots' i)
       → ((i : ℕ) → (s.sort ≡ FieldId → i ≢ s.index) → slice_get slots'.fields i ≡ slice_get slots.fields i) → ShowsSlot new x slots' s s.sort → Shows code ((x, s) ∷ known) new slots'
-  with_changed numbers references fields number reference field here = record {
+  with_changed numbers references levels fields number reference field here = record {
     numbers = numbers ∙ shows.numbers;
     references = references ∙ shows.references;
+    levels = levels ∙ shows.levels;
     fields = fields ∙ shows.fields;
     each = λ y t at.
         first_or_after x y s t known (ShowsSlot new y slots' t t.sort)
@@ -162,27 +167,35 @@ pub shows_set : (code : Listing) (known : Known) (old new : Visible) (slots : Sl
 shows_set code known old new slots x s v shows own n fits set =
     let below : s.index < length slots.numbers = omega (arith, number_below code known x s n own, shows.numbers) in
     with_changed code known old new slots (record slots { numbers = slice_set slots.numbers s.index (word_of v) }) x s shows own.own set.others (λ y other. statics_stay old.statics new.statics set.statics y)
-    (length-set slots.numbers s.index (word_of v)) refl refl
+    (length-set slots.numbers s.index (word_of v)) refl refl refl
     (λ k outside. get-set_other slots.numbers s.index k (word_of v) (λ e. outside (subst (IsPlaceOf s) (sym e) (number_place s n))))
-    (λ i other. refl) (λ i other. refl)
+    (λ i other. (refl, refl)) (λ i other. refl)
     (number_shown new x (record slots { numbers = slice_set slots.numbers s.index (word_of v) }) s s.sort n (record { value = v; is = set.is; kind = set.kind; sort = fits; word = get-set_same slots.numbers s.index (word_of v) below }))
 
 -- ---- a local reference or a field ID is set
 
-pub shows_referred : (code : Listing) (known : Known) (old new : Visible) (slots : Slots) (x : Identifier) (i : ℕ) (r : Reference) → Shows code known old slots → IsSlotOf code known x (record { sort = Ref; index = i }) → IsReferred old x r new
-    → Shows code ((x, record { sort = Ref; index = i }) ∷ known) new (record slots { references = slice_set slots.references i r })
-shows_referred code known old new slots x i r shows own set =
+-- a reference is written, and its level, if the reference is not NULL
+with_reference : (code : Listing) (known : Known) (old new : Visible) (slots : Slots) (x : Identifier) (i : ℕ) (r : Reference) (levels : List ℕ) → Shows code known old slots → IsSlotOf code known x (record { sort = Ref; index = i }) → IsReferred old x r new → length levels ≡ length slots.levels
+    → ((j : ℕ) → j ≢ i → slice_get levels j ≡ slice_get slots.levels j) → ((n : ℕ) → r ≡ Some n → slice_get levels i ≡ Some (new.level x))
+    → Shows code ((x, record { sort = Ref; index = i }) ∷ known) new (record slots { references = slice_set slots.references i r; levels = levels })
+with_reference code known old new slots x i r levels shows own set count others level =
     let below : i < length slots.references = omega (arith, own.within, shows.references) in
-    with_changed code known old new slots (record slots { references = slice_set slots.references i r }) x (record { sort = Ref; index = i }) shows own.own set.others (λ y other. statics_stay old.statics new.statics set.statics y)
-    refl (length-set slots.references i r) refl (λ k outside. refl) (λ j other. get-set_other slots.references i j r (other refl)) (λ j other. refl)
-    (record { reference = r; is = set.reference; is_null = set.is_null; no_number = set.number; kind = set.kind; there = get-set_same slots.references i r below })
+    with_changed code known old new slots (record slots { references = slice_set slots.references i r; levels = levels }) x (record { sort = Ref; index = i }) shows own.own set.others (λ y other. statics_stay old.statics new.statics set.statics y)
+    refl (length-set slots.references i r) count refl (λ k outside. refl) (λ j other. (get-set_other slots.references i j r (other refl), others j (other refl))) (λ j other. refl)
+    (record { reference = r; is = set.reference; is_null = set.is_null; no_number = set.number; kind = set.kind; there = get-set_same slots.references i r below; level = level })
+
+pub shows_referred : (code : Listing) (known : Known) (old new : Visible) (slots : Slots) (x : Identifier) (i : ℕ) (r : Reference) → Shows code known old slots → IsSlotOf code known x (record { sort = Ref; index = i }) → IsReferred old x r new
+    → Shows code ((x, record { sort = Ref; index = i }) ∷ known) new (record slots { references = slice_set slots.references i r; levels = slice_set slots.levels i (new.level x) })
+shows_referred code known old new slots x i r shows own set =
+    let below : i < length slots.levels = omega (arith, own.within, shows.levels) in
+    with_reference code known old new slots x i r (slice_set slots.levels i (new.level x)) shows own set (length-set slots.levels i (new.level x)) (λ j other. get-set_other slots.levels i j (new.level x) other) (λ n is. get-set_same slots.levels i (new.level x) below)
 
 pub shows_field_set : (code : Listing) (known : Known) (old new : Visible) (slots : Slots) (x : Identifier) (i : ℕ) (f : Option source.FieldId) → Shows code known old slots → IsSlotOf code known x (record { sort = FieldId; index = i }) → IsFieldSet old x f new
     → Shows code ((x, record { sort = FieldId; index = i }) ∷ known) new (record slots { fields = slice_set slots.fields i f })
 shows_field_set code known old new slots x i f shows own set =
     let below : i < length slots.fields = omega (arith, own.within, shows.fields) in
     with_changed code known old new slots (record slots { fields = slice_set slots.fields i f }) x (record { sort = FieldId; index = i }) shows own.own set.others (λ y other. statics_stay old.statics new.statics set.statics y)
-    refl refl (length-set slots.fields i f) (λ k outside. refl) (λ j other. refl) (λ j other. get-set_other slots.fields i j f (other refl))
+    refl refl refl (length-set slots.fields i f) (λ k outside. refl) (λ j other. (refl, refl)) (λ j other. get-set_other slots.fields i j f (other refl))
     (record { field = f; is = set.field; is_null = set.is_null; no_number = set.number; kind = set.kind; there = get-set_same slots.fields i f below })
 
 -- ---- a static holds something else
@@ -219,6 +232,7 @@ pub static_changes : (code : Listing) (known : Known) (old new : Visible) (slots
 static_changes code known old new slots x h shows held = record {
   numbers = shows.numbers;
   references = shows.references;
+  levels = shows.levels;
   fields = shows.fields;
   each = λ y s at.
       elim (bytes_eq y x) as (λ b. bytes_eq y x ≡ b → ShowsSlot new y slots s s.sort) [
@@ -227,7 +241,7 @@ static_changes code known old new slots x h shows held = record {
             subst (λ (z : Identifier). ShowsSlot new z slots s s.sort) (sym same) (no_variable_shown old new x slots h s s.sort held (subst (λ (z : Identifier). ShowsSlot old z slots s s.sort) same (shows.each y s at)))
         | false ↦ λ e.
             let other : y ≢ x = not_from_Decides (bytes_eq y x) (bytes_eq-Decides y x) e in
-            slot_stays old new y slots slots (held.others y other) s.sort s.index (λ k p. refl) (λ r. refl) (λ r. refl) (λ r. others_assigned old new x y h held.statics other) (shows.each y s at)
+            slot_stays old new y slots slots (held.others y other) s.sort s.index (λ k p. refl) (λ r. (refl, refl)) (λ r. refl) (λ r. others_assigned old new x y h held.statics other) (shows.each y s at)
       ] refl;
 }
 
@@ -250,12 +264,12 @@ pub shows_nulled : (code : Listing) (known : Known) (old new : Visible) (slots :
 shows_nulled code known old new slots x Ref kind i variable shows own same e set =
     let is : nullable.Local i ≡ variable = cc in
     subst (λ v. Shows code ((x, record { sort = Ref; index = i }) ∷ known) new (with_null v slots)) is
-    (shows_referred code known old new slots x i None shows own (record { number = set.number; is_null = set.is_null; reference = set.reference; kind = set.same_kind ∙ e; statics = nulled_stay old new x kind ReferenceKind e set.statics; others = set.others }))
+    (with_reference code known old new slots x i None slots.levels shows own (record { number = set.number; is_null = set.is_null; reference = set.reference; kind = set.same_kind ∙ e; statics = nulled_stay old new x kind ReferenceKind e set.statics; others = set.others }) refl (λ j other. refl) (λ n is. absurd (let c : None ≡ Some n = is in cc)))
 shows_nulled code known old new slots x Global kind i variable shows own same e set =
     let is : nullable.Static i ≡ variable = cc in
     let assigned : new.statics ≡ assign x Empty old.statics = set.statics ∙ ap (λ (o : Option VariableKind). nulled_statics o x old.statics) e.0 in
     subst (λ v. Shows code ((x, record { sort = Global; index = i }) ∷ known) new (with_null v slots)) is
-    (with_changed code known old new slots slots x (record { sort = Global; index = i }) shows own.own set.others (λ y other. others_assigned old new x y Empty assigned other) refl refl refl (λ k outside. refl) (λ j other. refl) (λ j other. refl)
+    (with_changed code known old new slots slots x (record { sort = Global; index = i }) shows own.own set.others (λ y other. others_assigned old new x y Empty assigned other) refl refl refl refl (λ k outside. refl) (λ j other. (refl, refl)) (λ j other. refl)
     (static_holds old new x i Empty e.1 assigned (record { number = set.number; array_type = set.array_type; kind = set.same_kind ∙ e.0 }) set.is_null set.reference))
 shows_nulled code known old new slots x FieldId kind i variable shows own same e set =
     let is : nullable.FieldId i ≡ variable = cc in
@@ -264,7 +278,7 @@ shows_nulled code known old new slots x FieldId kind i variable shows own same e
 shows_nulled code known old new slots x (Buffer t writable) kind i variable shows own same e set =
     let is : nullable.Buffer i ≡ variable = cc in
     subst (λ v. Shows code ((x, record { sort = Buffer t writable; index = i }) ∷ known) new (with_null v slots)) is
-    (with_changed code known old new slots slots x (record { sort = Buffer t writable; index = i }) shows own.own set.others (λ y other. statics_stay old.statics new.statics (nulled_stay old new x kind (BufferKind t) e set.statics) y) refl refl refl (λ k outside. refl) (λ j other. refl) (λ j other. refl) (record { is_null = set.is_null; kind = set.same_kind ∙ e }))
+    (with_changed code known old new slots slots x (record { sort = Buffer t writable; index = i }) shows own.own set.others (λ y other. statics_stay old.statics new.statics (nulled_stay old new x kind (BufferKind t) e set.statics) y) refl refl refl refl (λ k outside. refl) (λ j other. (refl, refl)) (λ j other. refl) (record { is_null = set.is_null; kind = set.same_kind ∙ e }))
 shows_nulled code known old new slots x s kind i variable shows own same e set = absurd (cc)
 
 -- ---- a local array
@@ -291,9 +305,9 @@ pub shows_made : (code : Listing) (known : Known) (old new : Visible) (slots : S
 shows_made code known old new slots t x size start shows own keeps made =
     let inside : start + size ≤ length slots.numbers = omega (arith, own.within.2, shows.numbers) in
     with_changed code known old new slots (record slots { numbers = cleared (record { start = start; len = size }) slots.numbers }) x (record { sort = Array t size; index = start }) shows own.own made.others (λ y other. statics_stay old.statics new.statics made.statics y)
-    keeps refl refl
+    keeps refl refl refl
     (λ k outside. cleared_outside t size start k slots.numbers inside outside (nat_lt k start) refl)
-    (λ i other. refl) (λ i other. refl)
+    (λ i other. (refl, refl)) (λ i other. refl)
     (record {
       few = own.within.1;
       array_type = made.array_type;
@@ -321,9 +335,9 @@ shows_element_set code known old new slots t x size start index z word shows at 
     let inside : start + index < length slots.numbers = omega (arith, own.within.2, shows.numbers, below) in
     fewer_shown code known ((x, record { sort = Array t size; index = start }) ∷ known) new (record slots { numbers = slice_set slots.numbers (start + index) word }) (known_among x (record { sort = Array t size; index = start }) known at)
     (with_changed code known old new slots (record slots { numbers = slice_set slots.numbers (start + index) word }) x (record { sort = Array t size; index = start }) shows own.own set.others (λ y other. statics_stay old.statics new.statics set.statics y)
-    (length-set slots.numbers (start + index) word) refl refl
+    (length-set slots.numbers (start + index) word) refl refl refl
     (λ k outside. get-set_other slots.numbers (start + index) k word (λ e. outside (omega (arith, e), omega (arith, e, below))))
-    (λ i other. refl) (λ i other. refl)
+    (λ i other. (refl, refl)) (λ i other. refl)
     (record {
       few = array.few;
       array_type = set.array_type ∙ array.array_type;

@@ -73,7 +73,7 @@ module _ (shared : Shared) (t : Thread) (x : Identifier) (h : StaticReference) w
   variable_shown v is slots s shown =
       slot_stays (visible_to shared t) (visible_to after t) x slots slots
       (as_before x (hidden_null (lookup x t.variables) v _ _ is) (ap (λ (o : Option Variable). held_reference o (lookup x after.statics)) is ∙ hidden_reference v _ _ ∙ sym (ap (λ (o : Option Variable). held_reference o (lookup x shared.statics)) is)))
-      s.sort s.index (λ k p. refl) (λ e. refl) (λ e. refl)
+      s.sort s.index (λ k p. refl) (λ e. (refl, refl)) (λ e. refl)
       (λ e. absurd (
       let static = subst (ShowsSlot (visible_to shared t) x slots s) e shown in
       no_kind v (ap kind_of_variable (sym is) ∙ static.no_variable.kind) (ap type_of_array (sym is) ∙ static.no_variable.array_type)))
@@ -88,6 +88,7 @@ module _ (shared : Shared) (t : Thread) (x : Identifier) (h : StaticReference) w
       by_variable (Some v) is = record {
         numbers = shows.numbers;
         references = shows.references;
+        levels = shows.levels;
         fields = shows.fields;
         each = λ y s at.
             elim (bytes_eq y x) as (λ b. bytes_eq y x ≡ b → ShowsSlot (visible_to after t) y slots s s.sort) [
@@ -96,7 +97,7 @@ module _ (shared : Shared) (t : Thread) (x : Identifier) (h : StaticReference) w
                   subst (λ (z : Identifier). ShowsSlot (visible_to after t) z slots s s.sort) (sym same) (variable_shown v is slots s (subst (λ (z : Identifier). ShowsSlot (visible_to shared t) z slots s s.sort) same (shows.each y s at)))
               | false ↦ λ e.
                   let other : y ≢ x = not_from_Decides (bytes_eq y x) (bytes_eq-Decides y x) e in
-                  slot_stays (visible_to shared t) (visible_to after t) y slots slots (others_as_before y other) s.sort s.index (λ k p. refl) (λ r. refl) (λ r. refl) (λ r. assigned_stays x y h shared.statics other) (shows.each y s at)
+                  slot_stays (visible_to shared t) (visible_to after t) y slots slots (others_as_before y other) s.sort s.index (λ k p. refl) (λ r. (refl, refl)) (λ r. refl) (λ r. assigned_stays x y h shared.statics other) (shows.each y s at)
             ] refl;
       }
 

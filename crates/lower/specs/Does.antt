@@ -205,11 +205,11 @@ module _ (code : Listing) (known : Known) (place : ℕ) (stack : List ℕ) (slot
     pub shows : (v : Value) (new : Visible) → ValueHasSort v s → IsSet visible x v new → Shows code names new (record slots { numbers = slice_set slots.numbers i (word_of v) })
     pub stands : StandsFor code names (place + 1) [] tasks
 
-  -- the same of a reference
+  -- the same of a reference, beside which stands its level
   pub record TakesReference (i : ℕ) (x : Identifier) (tasks : List Task) : Type 0 where
     pub within : i < length slots.references
     pub names : Known
-    pub shows : (r : Reference) (new : Visible) → IsReferred visible x r new → Shows code names new (record slots { references = slice_set slots.references i r })
+    pub shows : (r : Reference) (new : Visible) → IsReferred visible x r new → Shows code names new (record slots { references = slice_set slots.references i r; levels = slice_set slots.levels i (new.level x) })
     pub stands : StandsFor code names (place + 1) [] tasks
 
   -- the same of a field ID

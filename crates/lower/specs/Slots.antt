@@ -1,5 +1,5 @@
 -- What the slots of an activation hold of what can be seen.
-use Rattle.std.specs.Prelude.{◌≡◌, ◌≢◌, ℕ, suc, ◌+◌, ◌^◌, ◌<◌, ◌≤◌, Bool, true, false, ℤ, pos, List, [], ◌∷◌, ◌++◌, length, filter_map, is_none, slice_get, slice_set, if◌then◌else◌, Option, Some, None, FitsSigned}
+use Rattle.std.specs.Prelude.{◌≡◌, ◌≢◌, ℕ, suc, ◌+◌, ◌^◌, ◌<◌, ◌≤◌, Bool, true, false, ℤ, pos, List, [], ◌∷◌, ◌++◌, length, filter_map, replicate, is_none, slice_get, slice_set, if◌then◌else◌, Option, Some, None, FitsSigned}
 use Rattle.std.specs.Int.{w32, cast_unsigned}
 use Rattle.std.specs.Option.{option_map}
 use Rattle.std.specs.Str.{bytes_eq}
@@ -175,10 +175,12 @@ pub record IsElementSet (old : Visible) (t : ElementType) (x : Identifier) (inde
 
 -- ---- slots
 
--- the words of the number variables and the elements of arrays, what the local references hold, and what the field IDs do
+-- The words of the number variables and the elements of arrays, what the local references hold, and what the field IDs do.
+-- The levels are those of the local references: how many frames there were where each variable was declared.
 pub record Slots : Type 0 where
   pub numbers : List ℕ
   pub references : List Reference
+  pub levels : List ℕ
   pub fields : List (Option source.FieldId)
 
 -- a number variable has a value of its sort, whose word is in its slot
@@ -189,14 +191,15 @@ pub record ShowsNumber (visible : Visible) (x : Identifier) (numbers : List ℕ)
   pub sort : ValueHasSort value s.sort
   pub word : slice_get numbers s.index ≡ Some (word_of value)
 
--- what a local reference holds is in its slot
-pub record ShowsReference (visible : Visible) (x : Identifier) (references : List Reference) (i : ℕ) : Type 0 where
+-- what a local reference holds is in its slot, and so is its level, which is no matter of NULL
+pub record ShowsReference (visible : Visible) (x : Identifier) (slots : Slots) (i : ℕ) : Type 0 where
   pub reference : Reference
   pub is : visible.sight.reference x ≡ as_static reference
   pub is_null : visible.sight.is_null x ≡ Gives (is_none reference)
   pub no_number : visible.sight.number x ≡ Stuck
   pub kind : visible.kind x ≡ Some ReferenceKind
-  pub there : slice_get references i ≡ Some reference
+  pub there : slice_get slots.references i ≡ Some reference
+  pub level : (n : ℕ) → reference ≡ Some n → slice_get slots.levels i ≡ Some (visible.level x)
 
 -- what a field ID holds is in its slot
 pub record ShowsField (visible : Visible) (x : Identifier) (fields : List (Option source.FieldId)) (i : ℕ) : Type 0 where
@@ -250,7 +253,7 @@ ShowsSlot visible x slots s sort.Word = ShowsNumber visible x slots.numbers s
 ShowsSlot visible x slots s Jint = ShowsNumber visible x slots.numbers s
 ShowsSlot visible x slots s sort.Flag = ShowsNumber visible x slots.numbers s
 ShowsSlot visible x slots s sort.Truth = Unit {0}
-ShowsSlot visible x slots s Ref = ShowsReference visible x slots.references s.index
+ShowsSlot visible x slots s Ref = ShowsReference visible x slots s.index
 ShowsSlot visible x slots s Global = ShowsStatic visible x s.index
 ShowsSlot visible x slots s FieldId = ShowsField visible x slots.fields s.index
 ShowsSlot visible x slots s (Buffer t writable) = ShowsBuffer visible x t
@@ -260,6 +263,7 @@ ShowsSlot visible x slots s (Array t size) = ShowsArray visible x slots.numbers 
 pub record Shows (code : Listing) (known : Known) (visible : Visible) (slots : Slots) : Type 0 where
   pub numbers : length slots.numbers ≡ code.slots.numbers
   pub references : length slots.references ≡ code.slots.references
+  pub levels : length slots.levels ≡ code.slots.references
   pub fields : length slots.fields ≡ code.slots.field_ids
   pub each : (x : Identifier) (s : Slot) → lookup x known ≡ Some s → ShowsSlot visible x slots s s.sort
 
@@ -304,7 +308,7 @@ argument_reference (Number z) = None
 argument_reference (Refers r) = Some r
 
 -- The slots at the entry: the words of the numbers, and the class and then the references, each kind in order. After them
--- stands anything.
+-- stands anything. There is one frame then, and so each level is 1.
 pub record EntrySlots (code : Listing) (class : ℕ) (arguments : List ObjectValue) (slots : Slots) : Type 0 where
   pub numbers : length slots.numbers ≡ code.slots.numbers
   pub more_numbers : List ℕ
@@ -313,6 +317,7 @@ pub record EntrySlots (code : Listing) (class : ℕ) (arguments : List ObjectVal
   pub references : length slots.references ≡ code.slots.references
   pub more_references : List Reference
   pub given : slots.references ≡ Some class ∷ filter_map argument_reference arguments ++ more_references
+  pub levels : slots.levels ≡ replicate code.slots.references 1
 
 -- the code has slots for the class and these arguments
 pub record HasRoom (code : Listing) (arguments : List ObjectValue) : Type 0 where
