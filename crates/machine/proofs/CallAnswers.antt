@@ -53,9 +53,9 @@ use Rattle.machine.specs.Statics.{References, held_address, holds_deleted, holds
 use Rattle.machine.specs.declared.statics.Held.{Held}
 use Rattle.machine.specs.declared.statics.Held.TheVariants as held
 use Rattle.machine.specs.Checked.{gives_deleted, gives_null, is_answered, misfits, some_misfit, some_missing, may_be_null}
-use Rattle.machine.specs.Given.{operand_at, operand_of, class_of_given, class_there, fits_there, name_there, IsGiven, field_at, field_there}
+use Rattle.machine.specs.Given.{level_at, operand_at, operand_of, class_of_given, class_there, fits_there, name_there, IsGiven, field_at, field_there}
 use Rattle.machine.specs.HeapAgrees.{HeapAgrees, ReferenceAgrees, BlocksAgree, IsTable, ValueAgrees}
-use Rattle.machine.specs.WorkedOut.{count_there, class_object, found_class, IsFoundField, IsWorkedOut, place_there, value_there, word_in, address_in, held_reference, room_for, top_word, writes_there}
+use Rattle.machine.specs.WorkedOut.{deletes, frame_for, count_there, class_object, found_class, IsFoundField, IsWorkedOut, place_there, value_there, word_in, address_in, held_reference, room_for, top_word, writes_there}
 use Rattle.machine.proofs.CallChecks.{class_given_is, class_is, field_at_place, fits_is, name_is, reference_at_place, handle_of}
 use Rattle.machine.proofs.BlockObjects.{Named, named, name_within}
 use Rattle.machine.proofs.CallTraps.{has_passed, none_deleted, none_lacking, none_unfit, handles_there}

@@ -172,8 +172,8 @@ module _ (p : Lowered) (classes : Classes) (space : Space) (call : Activation) (
   target_there line (destination.Number i) kind (Assigned x) h = (h.2.1.within, tt, tt, tt)
   target_there line (destination.Number i) kind (Tested a b) h = absurd h.2
   target_there line (destination.Number i) kind Dropped h = absurd h.2
-  target_there line (destination.Local i) kind (Declared declared x) h = (tt, omega (arith, h.1.1.within, agree_count space call.references.items r.references r.agree), omega (arith, h.1.1.within, r.level_count, agree_count space call.references.items r.references r.agree), tt)
-  target_there line (destination.Local i) kind (Assigned x) h = (tt, omega (arith, h.1.1.within, agree_count space call.references.items r.references r.agree), omega (arith, h.1.1.within, r.level_count, agree_count space call.references.items r.references r.agree), tt)
+  target_there line (destination.Local i) kind (Declared declared x) h = (tt, omega (arith, h.1.1.within, agree_count space call.references.items r.references r.agree), omega (arith, h.1.1.within, r.shows.levels, r.shows.references, agree_count space call.references.items r.references r.agree), tt)
+  target_there line (destination.Local i) kind (Assigned x) h = (tt, omega (arith, h.1.1.within, agree_count space call.references.items r.references r.agree), omega (arith, h.1.1.within, r.shows.levels, r.shows.references, agree_count space call.references.items r.references r.agree), tt)
   target_there line (destination.Local i) kind (Tested a b) h = absurd h.1
   target_there line (destination.Local i) kind Dropped h = absurd h.1
   target_there line (destination.FieldId i) kind (Declared declared x) h = (tt, tt, tt, omega (arith, h.1.1.within, fields_count classes call.fields.items r.fields r.fields_agree))

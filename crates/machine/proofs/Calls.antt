@@ -47,7 +47,7 @@ code_lowered statics (FunctionItem f ∷ items) (c ∷ codes) (suc n) code h e =
 
 -- the slots of a call, with the names of the objects that they refer to
 abbrev pub slots_of : Activation → List Reference → List (Option FieldId) → Slots
-slots_of call references fields = record { numbers = call.numbers.items; references = references; fields = fields }
+slots_of call references fields = record { numbers = call.numbers.items; references = references; levels = call.levels.items; fields = fields }
 
 -- ---- effects
 
@@ -171,6 +171,7 @@ pub record HasMoved (call after : Activation) (to : ℕ) (words slots : List ℕ
   pub stack : after.stack ≡ words
   pub numbers : after.numbers.items ≡ slots
   pub references : after.references.items ≡ addresses
+  pub levels : after.levels.items ≡ call.levels.items
   pub fields : after.fields.items ≡ handles
   pub frames : after.frames.items ≡ call.frames.items
 
@@ -194,7 +195,7 @@ module _ (p : Lowered) (classes : Classes) (space : Space) (call : Activation) (
   -- the call stands for tasks at another place
   pub stands_at : (after : Activation) (to : ℕ) (stack numbers : List ℕ) (addresses : List (Option ℕ)) (references : List Reference) (handles : List (Option FieldHandle)) (fields : List (Option FieldId)) (names : Known) (visible' : Visible) (tasks : List Task)
       → depth_at code.instrs to ≡ Some (length stack) → HasMoved call after to stack numbers addresses handles → ReferencesAgree space addresses references → FieldsAgree classes handles fields → StandsFor code names to stack tasks
-      → Shows code names visible' (record { numbers = numbers; references = references; fields = fields }) → CallStands p classes space after visible' frames tasks
+      → Shows code names visible' (record { numbers = numbers; references = references; levels = call.levels.items; fields = fields }) → CallStands p classes space after visible' frames tasks
   stands_at after to stack numbers addresses references handles fields names visible' tasks d m agree handled stands shows = record {
     code = code;
     of_function = ap (slice_get p.codes) m.function ∙ r.of_function;
@@ -204,7 +205,9 @@ module _ (p : Lowered) (classes : Classes) (space : Space) (call : Activation) (
     agree = subst (λ (l : List (Option ℕ)). ReferencesAgree space l references) (sym m.references) agree;
     fields = fields;
     fields_agree = subst (λ (l : List (Option FieldHandle)). FieldsAgree classes l fields) (sym m.fields) handled;
-    shows = subst (λ (ns : List ℕ). Shows code names visible' (record { numbers = ns; references = references; fields = fields })) (sym m.numbers) shows;
+    shows =
+        subst (λ (ls : List ℕ). Shows code names visible' (record { numbers = after.numbers.items; references = references; levels = ls; fields = fields })) (sym m.levels)
+        (subst (λ (ns : List ℕ). Shows code names visible' (record { numbers = ns; references = references; levels = call.levels.items; fields = fields })) (sym m.numbers) shows);
     depth = ap (depth_at code.instrs) m.place ∙ d ∙ ap (λ (s : List ℕ). Some (length s)) (sym m.stack);
     frames_agree = subst (λ (l : List FrameInMemory). FramesAgree space l frames) (sym m.frames) r.frames_agree;
   }

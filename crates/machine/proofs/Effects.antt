@@ -245,7 +245,7 @@ module _ (p : Lowered) (w : World) (store : Store) (lent : BuffersInUse) (k : �
           work = stands_at p classes space call code seen s.frames task rest r after (end_of_way call.place way) stack numbers call.references.items r.references call.fields.items r.fields h.names (visible_to shared next) (tasks ++ rest)
               (depth_at_end code call.place way (length stack) (λ q. StandsFor code h.names q stack (tasks ++ rest)) (leads p classes space call code seen s.frames task rest r i at way stack numbers is) end) m r.agree r.fields_agree
               (at_end call.place way (λ q. StandsFor code h.names q stack (tasks ++ rest)) end)
-              (subst (λ (ns : List ℕ). Shows code h.names (visible_to shared next) (record { numbers = ns; references = r.references; fields = r.fields })) numbers_are h.shows);
+              (subst (λ (ns : List ℕ). Shows code h.names (visible_to shared next) (record { numbers = ns; references = r.references; levels = call.levels.items; fields = r.fields })) numbers_are h.shows);
           next_shared = shared;
           store_agrees = shares;
           keeps = keeps_same space shared;
@@ -272,7 +272,7 @@ module _ (p : Lowered) (w : World) (store : Store) (lent : BuffersInUse) (k : �
           work = stands_at p classes space call code seen s.frames task rest r after (call.place + 1) stack numbers call.references.items r.references call.fields.items r.fields h.names (visible_to shared next) rest end.words
               (subst (λ (w : Plain). HasMoved call after (end_of_way call.place w) stack numbers call.references.items call.fields.items) way_is m) r.agree r.fields_agree
               (subst (λ (st : List ℕ). StandsFor code h.names (call.place + 1) st rest) after_is h.stands)
-              (subst (λ (ns : List ℕ). Shows code h.names (visible_to shared next) (record { numbers = ns; references = r.references; fields = r.fields })) numbers_are (h.shows (visible_to shared next) shown));
+              (subst (λ (ns : List ℕ). Shows code h.names (visible_to shared next) (record { numbers = ns; references = r.references; levels = call.levels.items; fields = r.fields })) numbers_are (h.shows (visible_to shared next) shown));
           next_shared = shared;
           store_agrees = shares;
           keeps = keeps_same space shared;
@@ -296,7 +296,7 @@ module _ (p : Lowered) (w : World) (store : Store) (lent : BuffersInUse) (k : �
         stands_at p classes space call code seen s.frames task rest r after call.place stack numbers call.references.items r.references call.fields.items r.fields r.known seen (task ∷ rest) (r.depth ∙ ap (λ (st : List ℕ). Some (length st)) after_is)
         (subst (λ (w : Plain). HasMoved call after (end_of_way call.place w) stack numbers call.references.items call.fields.items) way_is m) r.agree r.fields_agree
         (subst (λ (st : List ℕ). StandsFor code r.known call.place st (task ∷ rest)) after_is r.stands)
-        (subst (λ (ns : List ℕ). Shows code r.known seen (record { numbers = ns; references = r.references; fields = r.fields })) numbers_are r.shows) in
+        (subst (λ (ns : List ℕ). Shows code r.known seen (record { numbers = ns; references = r.references; levels = call.levels.items; fields = r.fields })) numbers_are r.shows) in
         record {
           next = s;
           steps = ap (λ (t : Trap). source.Advances shared s (source.Trapped t line)) trap_is ∙ ap (λ (v : Event). source.Advances shared s (event_view v)) (sym seen_trap.2);
@@ -389,7 +389,7 @@ module _ (p : Lowered) (w : World) (store : Store) (lent : BuffersInUse) (k : �
           let stored = subst (λ (v : NullableVariable). IsStoredIn code r.known call.place call.stack held seen v kind h.name) same h.stored in
           let nulled = nulled_agree classes space call.references.items call.fields.items held variable r.agree r.fields_agree in
           let m' : HasMoved call after (call.place + 1) [] (lower.with_null variable held).numbers (nulled_references variable call.references.items) (nulled_fields variable call.fields.items) =
-          record { function = m.function; place = m.place; stack = m.stack ∙ h.empty; numbers = m.numbers ∙ sym nulled.numbers; references = m.references; fields = m.fields; frames = m.frames } in
+          record { function = m.function; place = m.place; stack = m.stack ∙ h.empty; numbers = m.numbers ∙ sym nulled.numbers; references = m.references; levels = m.levels; fields = m.fields; frames = m.frames } in
           record {
             next = next;
             steps = null.steps;

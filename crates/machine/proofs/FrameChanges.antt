@@ -102,6 +102,17 @@ module _ (space : Space) where
       let new : Frame = record { capacity = capacity; references = [] } in
       subst (λ (l : List Frame). AllZip (FrameAgrees space) l (record { capacity = capacity; references = [] } ∷ gs)) (sym (reverse-append frames (new ∷ []))) (record { capacity = refl; references = tt }, h)
 
+  -- ---- how many
+
+  as_many : (fs : List Frame) (gs : List thread.Frame) → AllZip (FrameAgrees space) fs gs → length fs ≡ length gs
+  as_many [] [] h = refl
+  as_many [] (g ∷ gs) h = absurd h
+  as_many (f ∷ fs) [] h = absurd h
+  as_many (f ∷ fs) (g ∷ gs) h = ap suc (as_many fs gs h.1)
+
+  pub as_many_frames : (frames : List Frame) (gs : List thread.Frame) → FramesAgree space frames gs → length frames ≡ length gs
+  as_many_frames frames gs h = sym (length-reverse frames) ∙ as_many (reverse frames) gs h
+
   -- ---- a reference less
 
   module _ (unique : (a b n : ℕ) → name_at space a ≡ Some n → name_at space b ≡ Some n → a ≡ b) (a n : ℕ) (named : name_at space a ≡ Some n) where
@@ -136,15 +147,9 @@ module _ (space : Space) where
     deleted_at (f ∷ fs) (g ∷ gs) zero h = (deleted_agrees f g h.0, h.1)
     deleted_at (f ∷ fs) (g ∷ gs) (suc j) h = (h.0, deleted_at fs gs j h.1)
 
-    as_many : (fs : List Frame) (gs : List thread.Frame) → AllZip (FrameAgrees space) fs gs → length fs ≡ length gs
-    as_many [] [] h = refl
-    as_many [] (g ∷ gs) h = absurd h
-    as_many (f ∷ fs) [] h = absurd h
-    as_many (f ∷ fs) (g ∷ gs) h = ap suc (as_many fs gs h.1)
-
     pub reference_deleted : (frames : List Frame) (gs : List thread.Frame) (level : ℕ) → 0 < level → level ≤ length gs → FramesAgree space frames gs → FramesAgree space (without_local level a frames) (source.without_local level n gs)
     reference_deleted frames gs level low high h =
-        let count : length frames ≡ length gs = sym (length-reverse frames) ∙ as_many (reverse frames) gs h in
+        let count = as_many_frames frames gs h in
         let j = length gs - level in
         let i = level - 1 in
         let apart : i + j + 1 ≡ length frames = omega (arith, count, low, high) in

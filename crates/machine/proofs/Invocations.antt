@@ -18,7 +18,7 @@ use Rattle.jni.specs.Prototype.{prototype, ResultKind, NewLocal, GivesFlag, Give
 use Rattle.types.specs.Sorts.{Sort, Jint}
 use Rattle.types.specs.Sorts as sort
 use Rattle.source.specs.Arguments.{Actual, variable_given}
-use Rattle.source.specs.CallEffects.{CallResult, NoResult, NullResult, ScalarResult, ReferenceResult, FieldResult, BufferResult}
+use Rattle.source.specs.CallEffects.{level_of, CallResult, NoResult, NullResult, ScalarResult, ReferenceResult, FieldResult, BufferResult}
 use Rattle.source.specs.CallStep.{blank, filled, is_zero, put, put_assigned, received, tell_copy}
 use Rattle.source.specs.Effect.{tasks_after}
 use Rattle.source.specs.Object.{Reference}
@@ -224,7 +224,7 @@ module _ (p : Lowered) (w : World) (old space : Space) (shared next : Shared) (k
   -- with these words on the stack it stands for these tasks
   stands_with : (words : List ℕ) (tasks : List Task) → with_result function.target 0 ≡ Some (length words) → (d : Destination) → Receives d kind g carried after → stack_with d g ≡ words
       → (names : Known) (vs : Variables) (references : List Reference) (fields : List (Option FieldId)) → ReferencesAgree space after.references.items references → FieldsAgree w.classes after.fields.items fields
-      → StandsFor code names (call.place + 1) words tasks → Shows code names (visible_to shared (then vs)) (record { numbers = after.numbers.items; references = references; fields = fields })
+      → StandsFor code names (call.place + 1) words tasks → Shows code names (visible_to shared (then vs)) (record { numbers = after.numbers.items; references = references; levels = after.levels.items; fields = fields })
       → CallStands p w.classes space after (visible_to next (then vs)) (frames_received kind c left) tasks
   stands_with words tasks count d receives put names vs references fields agree fields_agree stands shows = record {
     code = code;
@@ -235,7 +235,7 @@ module _ (p : Lowered) (w : World) (old space : Space) (shared next : Shared) (k
     agree = agree;
     fields = fields;
     fields_agree = fields_agree;
-    shows = shows_stay shared next keeps.statics (then vs) code names (record { numbers = after.numbers.items; references = references; fields = fields }) shows;
+    shows = shows_stay shared next keeps.statics (then vs) code names (record { numbers = after.numbers.items; references = references; levels = after.levels.items; fields = fields }) shows;
     depth =
         ap (depth_at code.instrs) receives.place
         ∙ depth_behind p w.classes old call code (visible_to shared s) s.frames task rest r (instr.Call function) at (length words) (λ leaves. leaves) (ap (option_and_then (with_result function.target)) none_left ∙ count)
@@ -243,8 +243,19 @@ module _ (p : Lowered) (w : World) (old space : Space) (shared next : Shared) (k
     frames_agree = frames_after d receives;
   }
 
+  -- what is shown of the slots that the call has then
+  shown : {numbers levels : List ℕ} (names : Known) (visible : Visible) (references : List Reference) (fields : List (Option FieldId)) → after.numbers.items ≡ numbers → after.levels.items ≡ levels
+      → Shows code names visible (record { numbers = numbers; references = references; levels = levels; fields = fields }) → Shows code names visible (record { numbers = after.numbers.items; references = references; levels = after.levels.items; fields = fields })
+  shown names visible references fields same_numbers same_levels h =
+      subst (λ (l : List ℕ). Shows code names visible (record { numbers = l; references = references; levels = after.levels.items; fields = fields })) (sym same_numbers)
+      (subst (λ (l : List ℕ). Shows code names visible (record { numbers = _; references = references; levels = l; fields = fields })) (sym same_levels) h)
+
+  -- as many frames in memory as in the source
+  frames_count : length frames.items ≡ length left
+  frames_count = as_many_frames space frames.items left framed
+
   stands_after : HasNoWord → (d : Destination) → stack_with d g ≡ [] → Receives d kind g carried after → (names : Known) (vs : Variables) (references : List Reference) (fields : List (Option FieldId)) → ReferencesAgree space after.references.items references → FieldsAgree w.classes after.fields.items fields
-      → StandsFor code names (call.place + 1) [] rest → Shows code names (visible_to shared (then vs)) (record { numbers = after.numbers.items; references = references; fields = fields })
+      → StandsFor code names (call.place + 1) [] rest → Shows code names (visible_to shared (then vs)) (record { numbers = after.numbers.items; references = references; levels = after.levels.items; fields = fields })
       → CallStands p w.classes space after (visible_to next (then vs)) (frames_received kind c left) rest
   stands_after no_word d empty receives = stands_with [] rest no_word d receives empty
 
@@ -257,7 +268,7 @@ module _ (p : Lowered) (w : World) (old space : Space) (shared next : Shared) (k
         let numbers : after.numbers.items ≡ slice_set call.numbers.items i (word_of n.value) = receives.numbers ∙ ap (λ (h : Given). numbers_with (destination.Number i) h call.numbers.items) n.same in
         stands_after no_word (destination.Number i) refl receives takes.names vs r.references r.fields (subst (λ (l : List (Option ℕ)). ReferencesAgree space l r.references) (sym receives.references) same_references)
         (subst (λ (l : List (Option Handle)). FieldsAgree w.classes l r.fields) (sym receives.fields) r.fields_agree) takes.stands
-        (subst (λ (l : List ℕ). Shows code takes.names (visible_to shared (then vs)) (record { numbers = l; references = r.references; fields = r.fields })) (sym numbers)
+        (shown takes.names (visible_to shared (then vs)) (r.references) (r.fields) numbers receives.levels
         (takes.shows n.value (visible_to shared (then vs)) n.sorted (is_set shared s (then vs) x n.value refl)))
 
     number_viewless : viewed_by (then (assign x (Scalar n.value) s.variables)) ≡ []
@@ -285,41 +296,48 @@ module _ (p : Lowered) (w : World) (old space : Space) (shared next : Shared) (k
 
   -- ---- a reference
 
-  module _ (no_word : HasNoWord) (i : ℕ) (receives : Receives (destination.Local i) kind g carried after) (x : Identifier) (takes : TakesReference code r.known call.place call.stack held (visible_to shared s) i x rest) (n : IsReference space g c) (level : ℕ) where
+  module _ (no_word : HasNoWord) (i : ℕ) (receives : Receives (destination.Local i) kind g carried after) (x : Identifier) (takes : TakesReference code r.known call.place call.stack held (visible_to shared s) i x rest) (n : IsReference space g c) (level : ℕ) (counted : length frames.items ≡ level) where
     reference_stands : CallStands p w.classes space after (visible_to next (then (assign x (LocalRef level n.reference) s.variables))) (frames_received kind c left) rest
     reference_stands =
         let vs = assign x (LocalRef level n.reference) s.variables in
+        let levels : after.levels.items ≡ slice_set call.levels.items i ((visible_to shared (then vs)).level x) = receives.levels ∙ ap (slice_set call.levels.items i) (counted ∙ sym (ap level_of (lookup_same x (LocalRef level n.reference) s.variables))) in
         let references : after.references.items ≡ slice_set call.references.items i n.address = receives.references ∙ ap (λ (h : Given). references_with (destination.Local i) h call.references.items) n.same in
         stands_after no_word (destination.Local i) refl receives takes.names vs (slice_set r.references i n.reference) r.fields
         (subst (λ (l : List (Option ℕ)). ReferencesAgree space l (slice_set r.references i n.reference)) (sym references) (reference_put space call.references.items r.references i n.address n.reference same_references n.agrees))
         (subst (λ (l : List (Option Handle)). FieldsAgree w.classes l r.fields) (sym receives.fields) r.fields_agree) takes.stands
-        (subst (λ (l : List ℕ). Shows code takes.names (visible_to shared (then vs)) (record { numbers = l; references = slice_set r.references i n.reference; fields = r.fields })) (sym receives.numbers)
+        (shown takes.names (visible_to shared (then vs)) (slice_set r.references i n.reference) (r.fields) receives.numbers levels
         (takes.shows n.reference (visible_to shared (then vs)) (is_referred shared s (then vs) x level n.reference refl)))
 
     reference_viewless : viewed_by (then (assign x (LocalRef level n.reference) s.variables)) ≡ []
     reference_viewless = assigned_viewless x (LocalRef level n.reference) s.variables refl none
 
-  reference_finishes : HasNoWord → (i : ℕ) (target : Target) → Receives (destination.Local i) kind g carried after → IsReference space g c → GoesInto code r.known call.place call.stack held (visible_to shared s) ReferenceKind target (λ x. TakesReference code r.known call.place call.stack held (visible_to shared s) i x rest) → Ends target
-  reference_finishes no_word i (Declared declared x) receives n goes =
+  -- a variable that takes a new local reference was declared where there were as many frames
+  abbrev pub IsDeclaredThere : Target → Type 0
+  IsDeclaredThere target = (x : Identifier) (level : ℕ) (old : Reference) → target ≡ Assigned x → lookup x s.variables ≡ Some (LocalRef level old) → level ≡ length left
+
+  reference_finishes : HasNoWord → (i : ℕ) (target : Target) → IsDeclaredThere target → Receives (destination.Local i) kind g carried after → IsReference space g c → GoesInto code r.known call.place call.stack held (visible_to shared s) ReferenceKind target (λ x. TakesReference code r.known call.place call.stack held (visible_to shared s) i x rest) → Ends target
+  reference_finishes no_word i (Declared declared x) there receives n goes =
       let level = length (frames_received kind c left) in
+      let counted : length frames.items ≡ level = frames_count ∙ sym (received_count kind c left) in
       record {
         tasks = rest;
         variables = assign x (LocalRef level n.reference) s.variables;
         steps = declared_is line f args rest s left q c plain next declared x (LocalRef level n.reference) (ap (λ (k : VariableKind). filled (blank k level) c) goes.0 ∙ n.fills level None);
-        stands = reference_stands no_word i receives x goes.1 n level;
-        viewless = reference_viewless no_word i receives x goes.1 n level;
+        stands = reference_stands no_word i receives x goes.1 n level counted;
+        viewless = reference_viewless no_word i receives x goes.1 n level counted;
       }
-  reference_finishes no_word i (Assigned x) receives n goes =
+  reference_finishes no_word i (Assigned x) there receives n goes =
       let old = local_by_kind (lookup x s.variables) goes.0 in
+      let counted : length frames.items ≡ old.0 = frames_count ∙ sym (there x old.0 old.1 refl old.2) in
       record {
         tasks = rest;
         variables = assign x (LocalRef old.0 n.reference) s.variables;
         steps = assigned_is line f args rest s left q c plain next x (LocalRef old.0 old.1) (LocalRef old.0 n.reference) old.2 (n.fills old.0 old.1);
-        stands = reference_stands no_word i receives x goes.1 n old.0;
-        viewless = reference_viewless no_word i receives x goes.1 n old.0;
+        stands = reference_stands no_word i receives x goes.1 n old.0 counted;
+        viewless = reference_viewless no_word i receives x goes.1 n old.0 counted;
       }
-  reference_finishes no_word i (Tested a b) receives n goes = absurd goes
-  reference_finishes no_word i Dropped receives n goes = absurd goes
+  reference_finishes no_word i (Tested a b) there receives n goes = absurd goes
+  reference_finishes no_word i Dropped there receives n goes = absurd goes
 
   -- ---- a field ID
 
@@ -330,7 +348,7 @@ module _ (p : Lowered) (w : World) (old space : Space) (shared next : Shared) (k
         let fields : after.fields.items ≡ slice_set call.fields.items i n.handle = receives.fields ∙ ap (λ (h : Given). fields_with (destination.FieldId i) h call.fields.items) n.same in
         stands_after no_word (destination.FieldId i) refl receives takes.names vs r.references (slice_set r.fields i n.field) (subst (λ (l : List (Option ℕ)). ReferencesAgree space l r.references) (sym receives.references) same_references)
         (subst (λ (l : List (Option Handle)). FieldsAgree w.classes l (slice_set r.fields i n.field)) (sym fields) (field_put w.classes call.fields.items r.fields i n.handle n.field r.fields_agree n.agrees)) takes.stands
-        (subst (λ (l : List ℕ). Shows code takes.names (visible_to shared (then vs)) (record { numbers = l; references = r.references; fields = slice_set r.fields i n.field })) (sym receives.numbers)
+        (shown takes.names (visible_to shared (then vs)) (r.references) (slice_set r.fields i n.field) receives.numbers receives.levels
         (takes.shows n.field (visible_to shared (then vs)) (is_field_set shared s (then vs) x n.field refl)))
 
     field_viewless : viewed_by (then (assign x (FieldHandle n.field) s.variables)) ≡ []
@@ -369,28 +387,28 @@ module _ (p : Lowered) (w : World) (old space : Space) (shared next : Shared) (k
         steps = ap (put (Tested takes.then' takes.else') c next) (resumed_is line f args rest s left q c plain (Tested takes.then' takes.else'));
         stands = stands_with (truth_word (is_zero c) ∷ []) tasks count destination.Test receives word r.known s.variables r.references r.fields (subst (λ (l : List (Option ℕ)). ReferencesAgree space l r.references) (sym receives.references) same_references)
             (subst (λ (l : List (Option Handle)). FieldsAgree w.classes l r.fields) (sym receives.fields) r.fields_agree) (takes.stands (is_zero c))
-            (subst (λ (l : List ℕ). Shows code r.known (visible_to shared (then s.variables)) (record { numbers = l; references = r.references; fields = r.fields })) (sym receives.numbers) r.shows);
+            (shown r.known (visible_to shared (then s.variables)) (r.references) (r.fields) receives.numbers receives.levels r.shows);
         viewless = none;
       })
 
   -- ---- by where it goes
 
-  pub finishes : (d : Destination) (target : Target) → function.target ≡ d → TakesResult code r.known call.place call.stack held (visible_to shared s) line d kind target rest → Receives d kind g carried after → Ends target
-  finishes (destination.Number i) target same goes receives = number_finishes (ap (λ (d : Destination). with_result d 0) same) i target receives goes.0 (number_given w.classes space kind g c goes.0 agrees goes.1) goes.2
-  finishes (destination.Local i) target same goes receives =
-      reference_finishes (ap (λ (d : Destination). with_result d 0) same) i target receives (reference_given w.classes space g c (subst (λ (k : ResultKind). GivenAgrees w.classes space k g c) goes.0 agrees)) goes.1
-  finishes (destination.FieldId i) target same goes receives =
+  pub finishes : (d : Destination) (target : Target) → (kind ≡ NewLocal → IsDeclaredThere target) → function.target ≡ d → TakesResult code r.known call.place call.stack held (visible_to shared s) line d kind target rest → Receives d kind g carried after → Ends target
+  finishes (destination.Number i) target there same goes receives = number_finishes (ap (λ (d : Destination). with_result d 0) same) i target receives goes.0 (number_given w.classes space kind g c goes.0 agrees goes.1) goes.2
+  finishes (destination.Local i) target there same goes receives =
+      reference_finishes (ap (λ (d : Destination). with_result d 0) same) i target (there goes.0) receives (reference_given w.classes space g c (subst (λ (k : ResultKind). GivenAgrees w.classes space k g c) goes.0 agrees)) goes.1
+  finishes (destination.FieldId i) target there same goes receives =
       field_finishes (ap (λ (d : Destination). with_result d 0) same) i target receives (field_given w.classes space g c (subst (λ (k : ResultKind). GivenAgrees w.classes space k g c) goes.0 agrees)) goes.1
-  finishes (destination.Static i) target same goes receives = absurd (subst (λ (k : ResultKind). GivenAgrees w.classes space k g c) goes.0 agrees)
-  finishes destination.Test target same goes receives =
+  finishes (destination.Static i) target there same goes receives = absurd (subst (λ (k : ResultKind). GivenAgrees w.classes space k g c) goes.0 agrees)
+  finishes destination.Test target there same goes receives =
       test_finishes target (ap (λ (d : Destination). with_result d 0) same) receives (number_given w.classes space kind g c Jint agrees (ap number_sort goes.0)) goes.1
-  finishes destination.Dropped target same goes receives =
+  finishes destination.Dropped target there same goes receives =
       subst Ends (sym goes.0) (record {
         tasks = rest;
         variables = s.variables;
         steps = dropped_is line f args rest s left q c plain next;
         stands = stands_after (ap (λ (d : Destination). with_result d 0) same) destination.Dropped refl receives r.known s.variables r.references r.fields (subst (λ (l : List (Option ℕ)). ReferencesAgree space l r.references) (sym receives.references) same_references)
             (subst (λ (l : List (Option Handle)). FieldsAgree w.classes l r.fields) (sym receives.fields) r.fields_agree) goes.1
-            (subst (λ (l : List ℕ). Shows code r.known (visible_to shared (then s.variables)) (record { numbers = l; references = r.references; fields = r.fields })) (sym receives.numbers) r.shows);
+            (shown r.known (visible_to shared (then s.variables)) (r.references) (r.fields) receives.numbers receives.levels r.shows);
         viewless = none;
       })

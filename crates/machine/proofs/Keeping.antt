@@ -121,7 +121,7 @@ module _ (shared shared' : Shared) (statics : shared'.statics ≡ shared.statics
   slot_stays x slots slot sort.Jint h = record { value = h.value; is = h.is; kind = h.kind; sort = h.sort; word = h.word }
   slot_stays x slots slot sort.Flag h = record { value = h.value; is = h.is; kind = h.kind; sort = h.sort; word = h.word }
   slot_stays x slots slot sort.Truth h = h
-  slot_stays x slots slot sort.Ref h = record { reference = h.reference; is = referred x ∙ h.is; is_null = nulls x ∙ h.is_null; no_number = h.no_number; kind = h.kind; there = h.there }
+  slot_stays x slots slot sort.Ref h = record { reference = h.reference; is = referred x ∙ h.is; is_null = nulls x ∙ h.is_null; no_number = h.no_number; kind = h.kind; there = h.there; level = h.level }
   slot_stays x slots slot sort.Global h = record {
     static = record { place = ap (static_index x) statics ∙ h.static.place; held = h.static.held; there = ap (lookup x) statics ∙ h.static.there };
     no_variable = record { number = h.no_variable.number; array_type = h.no_variable.array_type; kind = h.no_variable.kind };
@@ -143,7 +143,7 @@ module _ (shared shared' : Shared) (statics : shared'.statics ≡ shared.statics
       }
 
   shows_same : (code : Listing) (known : Known) (slots : Slots) → Shows code known (visible_to shared s) slots → Shows code known (visible_to shared' s) slots
-  shows_same code known slots h = record { numbers = h.numbers; references = h.references; fields = h.fields; each = λ x slot at. slot_stays x slots slot slot.sort (h.each x slot at) }
+  shows_same code known slots h = record { numbers = h.numbers; references = h.references; levels = h.levels; fields = h.fields; each = λ x slot at. slot_stays x slots slot slot.sort (h.each x slot at) }
 
 -- where one of them may hold something else
 pub shows_stay : (shared shared' : Shared) → MayChange shared.statics shared'.statics → (s : source.Thread) (code : Listing) (known : Known) (slots : Slots) → Shows code known (visible_to shared s) slots → Shows code known (visible_to shared' s) slots
@@ -163,7 +163,7 @@ module _ (p : Lowered) (classes : Classes) (made : ℕ) (space space' : Space) (
     agree = references_stay space space' k.names call.references.items h.references h.agree;
     fields = h.fields;
     fields_agree = h.fields_agree;
-    shows = shows_stay shared shared' k.statics s h.code h.known (record { numbers = call.numbers.items; references = h.references; fields = h.fields }) h.shows;
+    shows = shows_stay shared shared' k.statics s h.code h.known (record { numbers = call.numbers.items; references = h.references; levels = call.levels.items; fields = h.fields }) h.shows;
     depth = h.depth;
     frames_agree = frames_stay space space' k.names call.frames.items frames h.frames_agree;
   }

@@ -34,6 +34,7 @@ pub mod CallAnswers
 pub mod CallInstructions
 pub mod Frames
 pub mod FrameChanges
+pub mod EffectFrames
 pub mod Rooms
 pub mod Handles
 pub mod FewValues

@@ -80,6 +80,22 @@ abbrev pub frames_received : ResultKind → CallResult → List source.Frame →
 frames_received NewLocal (ReferenceResult (Some n)) frames = with_local n frames
 frames_received kind c frames = frames
 
+pub received_count : (kind : ResultKind) (c : CallResult) (frames : List source.Frame) → length (frames_received kind c frames) ≡ length frames
+received_count NewLocal (ReferenceResult (Some n)) [] = refl
+received_count NewLocal (ReferenceResult (Some n)) (f ∷ frames) = refl
+received_count NewLocal (ReferenceResult None) frames = refl
+received_count NewLocal NoResult frames = refl
+received_count NewLocal NullResult frames = refl
+received_count NewLocal (ScalarResult v) frames = refl
+received_count NewLocal (FieldResult f) frames = refl
+received_count NewLocal (BufferResult b) frames = refl
+received_count NewGlobal c frames = refl
+received_count GivesFlag c frames = refl
+received_count GivesInt c frames = refl
+received_count GivesField c frames = refl
+received_count GivesNothing c frames = refl
+received_count (GivesBuffer a) c frames = refl
+
 pub received_is : (kind : ResultKind) (c : CallResult) (t : source.Thread) → received kind c t ≡ record t { frames = frames_received kind c t.frames }
 received_is NewLocal (ReferenceResult (Some n)) t = refl
 received_is NewLocal (ReferenceResult None) t = refl

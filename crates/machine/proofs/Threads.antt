@@ -418,7 +418,7 @@ begun p classes space loaded made shared s rest n c call lowered table statics f
     slots.given ∙ ap (λ (vs : List ObjectValue). slice_get loaded (n.class - 1) ∷ filter_map (argument_address loaded) vs ++ replicate slots.more None) f.arguments in
     let agree : ReferencesAgree space call.references.items references =
     subst (λ (l : List (Option ℕ)). ReferencesAgree space l references) (sym given) (made_agrees space loaded made table n.class f.class_made.0 f.class_made.1, given_agree space loaded made table c.arguments slots.more f.given) in
-    let entry : EntrySlots b.code n.class c.arguments (record { numbers = call.numbers.items; references = references; fields = fields }) =
+    let entry : EntrySlots b.code n.class c.arguments (record { numbers = call.numbers.items; references = references; levels = call.levels.items; fields = fields }) =
     record {
       fields = length-replicate {A = Option FieldId} b.code.slots.field_ids None;
       numbers = words.counted;
@@ -427,6 +427,7 @@ begun p classes space loaded made shared s rest n c call lowered table statics f
       references = agree_count space call.references.items references agree ∙ slots.counted;
       more_references = replicate slots.more None;
       given = refl;
+      levels = begins.levels;
     } in
     record {
       code = b.code;
@@ -440,7 +441,7 @@ begun p classes space loaded made shared s rest n c call lowered table statics f
       fields_agree = subst (λ (l : List (Option FieldHandle)). FieldsAgree classes l fields) (sym begins.fields) (no_fields classes b.code.slots.field_ids);
       frames_agree = subst (λ (l : List Frame). FramesAgree space l (entry_frame (n.class ∷ filter_map named_object c.arguments) ∷ [])) (sym begins.frames)
           (entry_frame_agrees space loaded made table n.class c.arguments begins.frame f.class_made.0 f.class_made.1 f.given (subst (λ (vs : List ObjectValue). IsEntryFrame loaded n.class vs begins.frame) f.arguments begins.entry_frame), tt);
-      shows = is_code.shows shared s rest n.class c.arguments (record { numbers = call.numbers.items; references = references; fields = fields }) f.fit entry (statics_shared shared (statics_of (unit_tree p.unit)) p.codes n.function f.function found statics);
+      shows = is_code.shows shared s rest n.class c.arguments (record { numbers = call.numbers.items; references = references; levels = call.levels.items; fields = fields }) f.fit entry (statics_shared shared (statics_of (unit_tree p.unit)) p.codes n.function f.function found statics);
       depth = ap (depth_at b.code.instrs) begins.place ∙ ap (λ (st : List ℕ). Some (length st)) (sym begins.stack);
     }
 

@@ -1,7 +1,7 @@
 -- How the machine stands for a state of the source.
 use Rattle.std.specs.Prelude.{◌≡◌, ℕ, ◌<◌, ◌≤◌, Bool, true, false, List, [], ◌∷◌, length, map, reverse, take, Option, Some, None, ◌⊎◌, IsTrue, slice_get, suc, ◌==◌, if◌then◌else◌}
 use Rattle.std.specs.List.{list_all, AllZip}
-use Rattle.base.specs.Bytes.{Identifier}
+use Rattle.base.specs.Bytes.{Identifier, lookup}
 use Rattle.syntax.specs.Parts.{functions_of, statics_of}
 use Rattle.syntax.specs.Tree.{Function, Static}
 use Rattle.syntax.specs.Views.{unit_tree}
@@ -16,13 +16,18 @@ use Rattle.world.specs.Views.{object_value_view}
 use Rattle.source.specs.World.{Invocation, World, loaded_objects}
 use Rattle.code.specs.Depth.{Listing, depth_at}
 use Rattle.source.specs.Activation.{function_at, class_of_function}
-use Rattle.source.specs.Effect.{Effect, Returns}
+use Rattle.source.specs.Effect.{Effect, Calls, Returns}
 use Rattle.source.specs.Reachable.{IsName}
-use Rattle.source.specs.Task.{Task}
+use Rattle.source.specs.Task.{Task, Target, Assigned}
+use Rattle.source.specs.Checks.{frames_after}
+use Rattle.source.specs.Arguments.{Actual, variable_given}
+use Rattle.safety.specs.StepSafe.{IsAlive}
+use Rattle.jni.specs.JniFunction.{JniFunction, DeleteLocalRef}
+use Rattle.jni.specs.Prototype.{NewLocal, prototype}
 use Rattle.source.specs.Thread as source
 use Rattle.source.specs.Thread.{BuffersInUse, Shared, Advance, viewed_by}
-use Rattle.source.specs.Variable.{StaticReference, Empty, Live, Deleted, Statics, assign}
-use Rattle.source.specs.ThreadStep.{thread_step, after_effect, after_refused_effect}
+use Rattle.source.specs.Variable.{StaticReference, Empty, Live, Deleted, LocalRef, Statics, assign}
+use Rattle.source.specs.ThreadStep.{next_effect, thread_step, after_effect, after_refused_effect}
 use Rattle.code_generator.specs.Layout.{Known}
 use Rattle.lower.specs.Slots.{ArgumentsFit, Visible, visible_to, Shows}
 use Rattle.lower.specs.Stands.{StandsFor}
@@ -186,7 +191,7 @@ pub record CallStands (p : Lowered) (classes : Classes) (space : Space) (call : 
   pub agree : ReferencesAgree space call.references.items references
   pub fields : List (Option FieldId)
   pub fields_agree : FieldsAgree classes call.fields.items fields
-  pub shows : Shows code known visible (record { numbers = call.numbers.items; references = references; fields = fields })
+  pub shows : Shows code known visible (record { numbers = call.numbers.items; references = references; levels = call.levels.items; fields = fields })
   pub depth : depth_at code.instrs call.place ≡ Some (length call.stack)
   pub frames_agree : FramesAgree space call.frames.items frames
 
@@ -219,6 +224,13 @@ ThreadsAgree p classes space made shared (t ∷ ts) (s ∷ ss) = ThreadAgrees p 
 
 -- ---- steps
 
+-- What no step of an accepted unit breaks: a new local reference goes to a variable that was declared at the frame it comes into, and
+-- DeleteLocalRef is given NULL or a reference that its frame has yet.
+pub record IsSteady (shared : Shared) (s : source.Thread) : Type 0 where
+  pub declared : (line : ℕ) (x : Identifier) (f : JniFunction) (args : List Actual) (level : ℕ) (r : Reference)
+      → next_effect shared s s.tasks ≡ Calls line (Assigned x) f args → (prototype f).result ≡ NewLocal → lookup x s.variables ≡ Some (LocalRef level r) → level ≡ length (frames_after f s.frames)
+  pub deleted : (line : ℕ) (target : Target) (args : List Actual) → next_effect shared s s.tasks ≡ Calls line target DeleteLocalRef args → IsAlive s.frames (lookup (variable_given args 0) s.variables)
+
 -- A call in progress, with what is pending, stands for a thread's tasks, of which this is the first.
 pub record IsExecuting (p : Lowered) (w : World) (store : Store) (call : Activation) (pending : Option ℕ) (shared : Shared) (s : source.Thread) (task : Task) (rest : List Task) : Type 0 where
   pub store_agrees : StoreAgrees p w store shared
@@ -226,6 +238,7 @@ pub record IsExecuting (p : Lowered) (w : World) (store : Store) (call : Activat
   pub stands : CallStands p w.classes store.heap call (visible_to shared s) s.frames (task ∷ rest)
   pub pending_agrees : ReferenceAgrees store.heap pending s.pending
   pub viewless : viewed_by s ≡ []
+  pub steady : IsSteady shared s
 
 -- what an effect of the first task leaves, or the same with its allocation refused
 abbrev pub after_any : Classes → BuffersInUse → ℕ → Shared → source.Thread → List Task → (refused : Bool) → Effect → Advance

@@ -11,14 +11,12 @@ use Rattle.source.specs.Thread as source
 use Rattle.source.specs.Thread.{Shared, Thread}
 use Rattle.source.specs.World.{World, fresh_object}
 use Rattle.lower.specs.Lowered.{Lowered}
-use Rattle.machine.specs.declared.answer.Answer.{Answer}
-use Rattle.machine.specs.declared.answer.Answer.TheVariants as answer
 use Rattle.machine.specs.declared.answer.Given.{Given}
 use Rattle.machine.specs.declared.answer.Given.TheVariants as given
 use Rattle.machine.specs.declared.store.Store.{Store}
 use Rattle.machine.specs.Agrees.{StoreAgrees, FramesAgree, Keeps}
 use Rattle.machine.specs.Answers.{GivenAgrees}
-use Rattle.machine.specs.Frames.{Frame, without_last}
+use Rattle.machine.specs.Frames.{Frame}
 use Rattle.machine.specs.HeapAgrees.{ReferenceAgrees}
 
 -- the shared state after a call of this effect, or after the same with its allocation refused
@@ -48,11 +46,6 @@ result_after kind true effect = failure kind
 result_after kind false (Leaves made s' t' given) = given
 result_after kind false (Throws c) = failure kind
 result_after kind false (Halts trap) = NoResult
-
--- the frames in memory after an answer, where they can lack room for a result
-abbrev pub frames_left_by : Answer → List Frame → List Frame
-frames_left_by (answer.Pops a) frames = without_last frames
-frames_left_by a frames = frames
 
 -- The store, the frames and the exception that is pending are those that the effect leaves, and what is given is what the call
 -- gives. Only what makes objects can be refused.

@@ -11,7 +11,7 @@ use Rattle.lower.specs.Lowered.{Lowered, IsLowered}
 use Rattle.lower.specs.Slots.{visible_to}
 use Rattle.machine.specs.declared.store.Store.{Store}
 use Rattle.machine.specs.declared.thread.Activation.{Activation}
-use Rattle.machine.specs.Agrees.{StoreAgrees, CallStands}
+use Rattle.machine.specs.Agrees.{StoreAgrees, CallStands, IsSteady}
 use Rattle.machine.specs.HeapAgrees.{ReferenceAgrees}
 
 -- A thread of the source has a call as its first task, the machine is at the instruction that stands for it, and all that the
@@ -23,6 +23,7 @@ pub record AtCall (p : Lowered) (w : World) (store : Store) (pending : Option �
   pub pending_agrees : ReferenceAgrees store.heap pending s.pending
   pub stands : CallStands p w.classes store.heap call (visible_to shared s) s.frames (task ∷ rest)
   pub viewless : viewed_by s ≡ []
+  pub steady : IsSteady shared s
   pub code : Listing
   pub of_function : slice_get p.codes call.function ≡ Some code
   pub at : slice_get code.instrs call.place ≡ Some (instr.Call (call_view function))

@@ -51,10 +51,10 @@ abbrev pub frame_for : ℤ → Answer
 frame_for (pos capacity) = Pushes capacity
 frame_for (negsuc n) = RefusesFrames
 
--- a local reference less, for one that isn't NULL, in the frame of this level
+-- a local reference less, for one that isn't NULL, in the frame of this level; a static has none
 abbrev pub deletes : Option ℕ → (level : ℕ) → Answer
 deletes None level = Gives Nothing
-deletes (Some a) level = Deletes level a
+deletes (Some a) level = if nat_lt 0 level then Deletes level a else Gives Nothing
 
 -- ---- cells
 

@@ -203,13 +203,13 @@ fn frame_for(capacity: i32) -> Answer
     }
 }
 
-/// A local reference less, for one that isn't NULL, with the level of its variable.
+/// A local reference less, for one that isn't NULL, in the frame of its variable's level; a static has none.
 fn deletes(reference: Option<Addr>, level: usize) -> Answer
     ensures { result ≡ deletes reference level }
 {
     match reference {
-        Some(addr) => Answer::Deletes(level, addr),
-        None => Answer::Gives(Given::Nothing),
+        Some(addr) if level > 0 => Answer::Deletes(level, addr),
+        _ => Answer::Gives(Given::Nothing),
     }
 }
 

@@ -1,13 +1,12 @@
 //! What a call does to the store, and which exception is pending then.
 
-ghost use Rattle.std.specs.Prelude.{◌≡◌, ◌-◌, ◌^◌, ℕ, length, slice_get, true, false, IfOk, OnOk, OnErr};
+ghost use Rattle.std.specs.Prelude.{◌≡◌, ◌-◌, ◌^◌, ℕ, length, slice_get, true, false, IfOk, OnErr};
 ghost use Rattle.jni.specs.Table.{result_value};
 ghost use Rattle.source.specs.CallEffects.{CallEffect};
 ghost use Rattle.source.specs.Thread.{Shared, Thread as SourceThread};
 ghost use Rattle.lower.specs.Lowered.{Lowered};
 ghost use Rattle.machine.specs.Answers.{IsAnswer};
-ghost use Rattle.machine.specs.CarriedOut.{CarriesOut, IsPossible, failed, frames_left_by};
-ghost use Rattle.machine.specs.Received.{HasRoom};
+ghost use Rattle.machine.specs.CarriedOut.{CarriesOut, IsPossible, failed};
 ghost use Rattle.machine.specs.declared.answer.Given.TheVariants.{Number};
 
 use crate::answer::{Answer, Given};
@@ -43,7 +42,6 @@ pub fn carry_out(
     ensures carried { IfOk result (λ carried. (p : Lowered) (shared : Shared) (s : SourceThread) (effect : CallEffect) → IsPossible p world.now store.old pending.old frames.old.items (result_value kind) shared s
         → IsAnswer world.now.classes store.old.heap (result_value kind) shared s answer effect
         → CarriesOut p world.now store.old.heap (result_value kind) shared s effect carried.refused store.new pending.new frames.new.items carried.given) }
-    ensures room { OnOk result (HasRoom (result_value kind) (frames_left_by answer frames.old.items) → HasRoom (result_value kind) frames.new.items) }
     ensures store { OnErr result (store.new ≡ store.old) }
     ensures pending { OnErr result (pending.new ≡ pending.old) }
     ensures frames { OnErr result (frames.new ≡ frames.old) }

@@ -1,4 +1,4 @@
-use Rattle.std.proofs.Common.{◌≡◌, ℕ, ◌+◌, ◌++◌, List, map, drop, sym, ap, ◌∙◌, append_assoc}
+use Rattle.std.proofs.Common.{ℕ, ◌+◌, ◌++◌, List, map, drop, sym, ap, ◌∙◌, append_assoc}
 use Rattle.tables.specs.References.{references_in}
 use Rattle.machine.specs.Roots.{name_of, reference_names}
 use Rattle.machine.proofs.RootNames.{global_next, global_there}

@@ -105,6 +105,7 @@ at_call p w store pending call i f function is shared s task rest e = record {
   pending_agrees = e.pending_agrees;
   stands = e.stands;
   viewless = e.viewless;
+  steady = e.steady;
   code = f.code;
   of_function = f.of_function;
   at = f.at ∙ ap (λ j. Some j) is;
@@ -141,6 +142,7 @@ returns-in-TestNull c lent k shared s task rest e =
       numbers = refl;
       references = refl;
       fields = refl;
+      levels = refl;
       frames = refl;
     })
 
@@ -158,6 +160,7 @@ returns-in-StoreNull c lent k shared s task rest e =
       numbers = refl;
       references = with_items_is c.args.call.now.references c.set_null.new.references (search (rules, places)) ∙ c.set_null.ensures.references ∙ ap (λ (l : List (Option ℕ)). nulled_references c.in-StoreNull.variable l) c.deref_mut.ensures.value;
       fields = with_items_is c.args.call.now.fields c.set_null.new.fields (search (rules, places)) ∙ c.set_null.ensures.fields ∙ ap (λ (l : List (Option FieldHandle)). nulled_fields c.in-StoreNull.variable l) c.deref_mut-in-StoreNull.ensures.value;
+      levels = refl;
       frames = refl;
     })
 
@@ -169,7 +172,7 @@ returns-in-PutJint c lent k shared s task rest e =
     subst (λ (z : ℤ). Executes c.args.program.now c.args.world.now c.args.store.now.heap c.args.store.now lent k shared s rest after c.args.pending.now (effect_of (sight_of shared s) task) (Did (Printed z))) (sym number)
     (put_executes c.args.program.now c.args.world.now c.args.store.now lent k shared e.store_agrees s c.args.pending.now e.pending_agrees e.viewless c.args.call.now f.code task rest (ready_for _ c.args.world.now.classes c.args.store.now.heap _ _ f (visible_to shared s) s.frames task rest e.stands) c.unwrap-instr.result.now f.at
     c.pop-word.result after c.pop-word.new.self c.in-PutJint.is c.pop-word.ensures.words
-    (record { function = refl; place = refl; stack = refl; numbers = refl; references = refl; fields = refl; frames = refl }))
+    (record { function = refl; place = refl; stack = refl; numbers = refl; references = refl; levels = refl; fields = refl; frames = refl }))
 
 pub returns-in-Call : goal.returns-in-Call
 returns-in-Call c lent k shared s task rest e =
@@ -202,7 +205,7 @@ returns-in-Next c lent k shared s task rest e =
     let after : Activation = record c.args.call.now { place = c.args.call.now.place + 1; stack = c.plain.new.stack; numbers = with_items c.args.call.now.numbers c.plain.new.numbers } in
     plain_executes c.args.program.now c.args.world.now c.args.store.now lent k shared e.store_agrees s c.args.pending.now e.pending_agrees e.viewless c.args.call.now f.code task rest (ready_for _ c.args.world.now.classes c.args.store.now.heap _ _ f (visible_to shared s) s.frames task rest e.stands) i f.at e.tasks
     after Quiet plain.Next c.plain.new.stack c.plain.new.numbers is
-    (record { function = refl; place = refl; stack = refl; numbers = with_items_is c.args.call.now.numbers c.plain.new.numbers (search (rules, places)); references = refl; fields = refl; frames = refl }) refl
+    (record { function = refl; place = refl; stack = refl; numbers = with_items_is c.args.call.now.numbers c.plain.new.numbers (search (rules, places)); references = refl; levels = refl; fields = refl; frames = refl }) refl
 
 pub returns-in-Skip : goal.returns-in-Skip
 returns-in-Skip c lent k shared s task rest e =
@@ -214,7 +217,7 @@ returns-in-Skip c lent k shared s task rest e =
     let after : Activation = record c.args.call.now { place = c.args.call.now.place + (1 + c.in-Skip.skipped); stack = c.plain.new.stack; numbers = with_items c.args.call.now.numbers c.plain.new.numbers } in
     plain_executes c.args.program.now c.args.world.now c.args.store.now lent k shared e.store_agrees s c.args.pending.now e.pending_agrees e.viewless c.args.call.now f.code task rest (ready_for _ c.args.world.now.classes c.args.store.now.heap _ _ f (visible_to shared s) s.frames task rest e.stands) i f.at e.tasks
     after Quiet (plain.Skip c.in-Skip.skipped) c.plain.new.stack c.plain.new.numbers is
-    (record { function = refl; place = omega arith; stack = refl; numbers = with_items_is c.args.call.now.numbers c.plain.new.numbers (search (rules, places)); references = refl; fields = refl; frames = refl }) refl
+    (record { function = refl; place = omega arith; stack = refl; numbers = with_items_is c.args.call.now.numbers c.plain.new.numbers (search (rules, places)); references = refl; levels = refl; fields = refl; frames = refl }) refl
 
 pub returns-in-Back : goal.returns-in-Back
 returns-in-Back c lent k shared s task rest e =
@@ -226,7 +229,7 @@ returns-in-Back c lent k shared s task rest e =
     let after : Activation = record c.args.call.now { place = c.args.call.now.place - c.in-Back.back; stack = c.plain.new.stack; numbers = with_items c.args.call.now.numbers c.plain.new.numbers } in
     plain_executes c.args.program.now c.args.world.now c.args.store.now lent k shared e.store_agrees s c.args.pending.now e.pending_agrees e.viewless c.args.call.now f.code task rest (ready_for _ c.args.world.now.classes c.args.store.now.heap _ _ f (visible_to shared s) s.frames task rest e.stands) i f.at e.tasks
     after Quiet (plain.Back c.in-Back.back) c.plain.new.stack c.plain.new.numbers is
-    (record { function = refl; place = refl; stack = refl; numbers = with_items_is c.args.call.now.numbers c.plain.new.numbers (search (rules, places)); references = refl; fields = refl; frames = refl }) refl
+    (record { function = refl; place = refl; stack = refl; numbers = with_items_is c.args.call.now.numbers c.plain.new.numbers (search (rules, places)); references = refl; levels = refl; fields = refl; frames = refl }) refl
 
 pub returns-in-Trap : goal.returns-in-Trap
 returns-in-Trap c lent k shared s task rest e =
@@ -238,4 +241,4 @@ returns-in-Trap c lent k shared s task rest e =
     let after : Activation = record c.args.call.now { stack = c.plain.new.stack; numbers = with_items c.args.call.now.numbers c.plain.new.numbers } in
     plain_executes c.args.program.now c.args.world.now c.args.store.now lent k shared e.store_agrees s c.args.pending.now e.pending_agrees e.viewless c.args.call.now f.code task rest (ready_for _ c.args.world.now.classes c.args.store.now.heap _ _ f (visible_to shared s) s.frames task rest e.stands) i f.at e.tasks
     after (Trapped c.trap_of.result c.in-Trap.line) (plain.Trap c.in-Trap.trap c.in-Trap.line) c.plain.new.stack c.plain.new.numbers is
-    (record { function = refl; place = refl; stack = refl; numbers = with_items_is c.args.call.now.numbers c.plain.new.numbers (search (rules, places)); references = refl; fields = refl; frames = refl }) (c.trap_of.result, c.trap_of.ensures, refl)
+    (record { function = refl; place = refl; stack = refl; numbers = with_items_is c.args.call.now.numbers c.plain.new.numbers (search (rules, places)); references = refl; levels = refl; fields = refl; frames = refl }) (c.trap_of.result, c.trap_of.ensures, refl)
