@@ -82,7 +82,7 @@ module _ (p : Lowered) (w : World) (store : Store) (pending : Option ℕ) (frame
     keeps = keeps_same store.heap shared;
     pending_agrees = error_there;
     frames_agree = h.frames_agree;
-    given_agrees = result_agrees w.classes _ kind _ _ (failed_agrees w.classes store.heap kind h.fails);
+    given_agrees = result_agrees w.classes store kind _ _ (failed_agrees w.classes store.heap kind h.fails);
     still = λ same. refl;
     could_refuse = λ e. makes;
   }
@@ -108,7 +108,7 @@ module _ (p : Lowered) (w : World) (store : Store) (pending : Option ℕ) (frame
         keeps = subst (Keeps store.heap shared store.heap) (sym (same_heap shared)) (keeps_same store.heap shared);
         pending_agrees = h.pending_agrees;
         frames_agree = h.frames_agree;
-        given_agrees = result_agrees w.classes _ kind _ _ (it.agrees);
+        given_agrees = result_agrees w.classes store kind _ _ (it.agrees);
         still = λ same. refl;
         could_refuse = λ e. absurd (cc);
       })
@@ -124,7 +124,7 @@ module _ (p : Lowered) (w : World) (store : Store) (pending : Option ℕ) (frame
         keeps = subst (Keeps store.heap shared after.heap) (sym (same_heap it.after)) keeps;
         pending_agrees = reference_stays store.heap after.heap keeps.names pending s.pending h.pending_agrees;
         frames_agree = frames_stay store.heap after.heap keeps.names frames s.frames h.frames_agree;
-        given_agrees = result_agrees w.classes _ kind _ _ (subst (λ (k : ResultKind). GivenAgrees w.classes after.heap k given.Nothing NoResult) (sym it.kind_is) tt);
+        given_agrees = result_agrees w.classes after kind _ _ (subst (λ (k : ResultKind). GivenAgrees w.classes after.heap k given.Nothing NoResult) (sym it.kind_is) tt);
         still = λ same. ap (λ (x : Shared). x.statics) it.writes.is;
         could_refuse = λ e. absurd (cc);
       })
@@ -137,7 +137,7 @@ module _ (p : Lowered) (w : World) (store : Store) (pending : Option ℕ) (frame
         keeps = subst (Keeps store.heap shared store.heap) (sym (same_heap shared)) (keeps_same store.heap shared);
         pending_agrees = error_there;
         frames_agree = h.frames_agree;
-        given_agrees = result_agrees w.classes _ kind _ _ (subst (λ (k : ResultKind). GivenAgrees w.classes store.heap k (given.Number (2 ^ 32 - 4)) (ScalarResult (Int (negsuc 3)))) (sym int) (refl, record { sfits = omega arith }));
+        given_agrees = result_agrees w.classes store kind _ _ (subst (λ (k : ResultKind). GivenAgrees w.classes store.heap k (given.Number (2 ^ 32 - 4)) (ScalarResult (Int (negsuc 3)))) (sym int) (refl, record { sfits = omega arith }));
         still = λ same. refl;
         could_refuse = λ e. absurd (cc);
       })
@@ -161,7 +161,7 @@ module _ (p : Lowered) (w : World) (store : Store) (pending : Option ℕ) (frame
           keeps = subst (Keeps store.heap shared store.heap) (sym (same_heap shared)) (keeps_same store.heap shared);
           pending_agrees = h.pending_agrees;
           frames_agree = room_ensured store.heap frames s.frames more h.frames_agree;
-          given_agrees = result_agrees w.classes _ kind _ _ (subst (λ (k : ResultKind). GivenAgrees w.classes store.heap k (given.Number 0) (ScalarResult (Int (pos 0)))) (sym does.0) (refl, record { sfits = omega arith }));
+          given_agrees = result_agrees w.classes store kind _ _ (subst (λ (k : ResultKind). GivenAgrees w.classes store.heap k (given.Number 0) (ScalarResult (Int (pos 0)))) (sym does.0) (refl, record { sfits = omega arith }));
           still = λ same. refl;
           could_refuse = λ e. absurd (cc);
         })
@@ -178,7 +178,7 @@ module _ (p : Lowered) (w : World) (store : Store) (pending : Option ℕ) (frame
           keeps = making.made_keeps p w store new shared class a h.store_agrees made;
           pending_agrees = reference_stays store.heap new.heap (making.names_stay p w store new shared class a h.store_agrees made) pending s.pending h.pending_agrees;
           frames_agree = frames_stay store.heap new.heap (making.names_stay p w store new shared class a h.store_agrees made) frames s.frames h.frames_agree;
-          given_agrees = result_agrees w.classes _ kind _ _ (subst (λ (k : ResultKind). GivenAgrees w.classes new.heap k (given.Reference (Some a)) (ReferenceResult (Some (next_name shared.heap)))) (sym it.kind_is)
+          given_agrees = result_agrees w.classes new kind _ _ (subst (λ (k : ResultKind). GivenAgrees w.classes new.heap k (given.Reference (Some a)) (ReferenceResult (Some (next_name shared.heap)))) (sym it.kind_is)
               (making.made_named p w store new shared class a h.store_agrees made));
           still = λ same. refl;
           could_refuse = λ e. absurd (cc);
@@ -192,7 +192,7 @@ module _ (p : Lowered) (w : World) (store : Store) (pending : Option ℕ) (frame
           keeps = making.made_keeps p w store new shared class a h.store_agrees made;
           pending_agrees = making.made_named p w store new shared class a h.store_agrees made;
           frames_agree = frames_stay store.heap new.heap (making.names_stay p w store new shared class a h.store_agrees made) frames s.frames h.frames_agree;
-          given_agrees = result_agrees w.classes _ kind _ _ (failed_agrees w.classes new.heap kind h.fails);
+          given_agrees = result_agrees w.classes new kind _ _ (failed_agrees w.classes new.heap kind h.fails);
           still = λ same. refl;
           could_refuse = λ e. absurd (cc);
         })

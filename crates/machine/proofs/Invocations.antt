@@ -332,30 +332,30 @@ module _ (p : Lowered) (w : World) (old : Space) (store : Store) (shared next : 
     number_viewless = assigned_viewless x (Scalar n.value) s.variables refl none
 
   number_finishes : SameStatics → HasNoWord → (i : ℕ) (target : Target) → Receives (destination.Number i) kind g carried after → (of : Sort) → IsNumber g c of → GoesInto code r.known call.place call.stack held (visible_to shared s) ScalarKind target (λ x. TakesNumber code r.known call.place call.stack held (visible_to shared s) of i x rest) → Ends target
-  number_finishes put no_word i (Declared declared x) receives of n goes = record {
+  number_finishes same_statics no_word i (Declared declared x) receives of n goes = record {
     now = next;
     tasks = rest;
-    store_agrees = with_same p w store next shares statics put;
+    store_agrees = with_same p w store next shares statics same_statics;
     keeps = keeps;
     variables = assign x (Scalar n.value) s.variables;
     steps = declared_is line f args rest s left q c plain next declared x (Scalar n.value) (ap (λ (k : VariableKind). filled (blank k (length (frames_received kind c left))) c) goes.0 ∙ ap (filled (blank ScalarKind 0)) n.gave);
     stands = number_stands no_word i receives of x goes.1 n;
     viewless = number_viewless no_word i receives of x goes.1 n;
   }
-  number_finishes put no_word i (Assigned x) receives of n goes =
+  number_finishes same_statics no_word i (Assigned x) receives of n goes =
       let old = scalar_by_kind (lookup x s.variables) goes.0 in
       record {
         now = next;
         tasks = rest;
-        store_agrees = with_same p w store next shares statics put;
+        store_agrees = with_same p w store next shares statics same_statics;
         keeps = keeps;
         variables = assign x (Scalar n.value) s.variables;
         steps = assigned_is line f args rest s left q c plain next x (Scalar old.0) (Scalar n.value) old.1 (ap (filled (Scalar old.0)) n.gave);
         stands = number_stands no_word i receives of x goes.1 n;
         viewless = number_viewless no_word i receives of x goes.1 n;
       }
-  number_finishes put no_word i (Tested a b) receives of n goes = absurd goes
-  number_finishes put no_word i Dropped receives of n goes = absurd goes
+  number_finishes same_statics no_word i (Tested a b) receives of n goes = absurd goes
+  number_finishes same_statics no_word i Dropped receives of n goes = absurd goes
 
   -- ---- a reference
 
@@ -374,32 +374,32 @@ module _ (p : Lowered) (w : World) (old : Space) (store : Store) (shared next : 
     reference_viewless = assigned_viewless x (LocalRef level n.reference) s.variables refl none
 
   reference_finishes : SameStatics → HasNoWord → (i : ℕ) (target : Target) → Receives (destination.Local i) kind g carried after → IsReference space g c → GoesInto code r.known call.place call.stack held (visible_to shared s) ReferenceKind target (λ x. TakesReference code r.known call.place call.stack held (visible_to shared s) i x rest) → Ends target
-  reference_finishes put no_word i (Declared declared x) receives n goes =
+  reference_finishes same_statics no_word i (Declared declared x) receives n goes =
       let level = length (frames_received kind c left) in
       record {
         now = next;
         tasks = rest;
-        store_agrees = with_same p w store next shares statics put;
+        store_agrees = with_same p w store next shares statics same_statics;
         keeps = keeps;
         variables = assign x (LocalRef level n.reference) s.variables;
         steps = declared_is line f args rest s left q c plain next declared x (LocalRef level n.reference) (ap (λ (k : VariableKind). filled (blank k level) c) goes.0 ∙ n.fills level None);
         stands = reference_stands no_word i receives x goes.1 n level;
         viewless = reference_viewless no_word i receives x goes.1 n level;
       }
-  reference_finishes put no_word i (Assigned x) receives n goes =
+  reference_finishes same_statics no_word i (Assigned x) receives n goes =
       let old = local_by_kind (lookup x s.variables) goes.0 in
       record {
         now = next;
         tasks = rest;
-        store_agrees = with_same p w store next shares statics put;
+        store_agrees = with_same p w store next shares statics same_statics;
         keeps = keeps;
         variables = assign x (LocalRef old.0 n.reference) s.variables;
         steps = assigned_is line f args rest s left q c plain next x (LocalRef old.0 old.1) (LocalRef old.0 n.reference) old.2 (n.fills old.0 old.1);
         stands = reference_stands no_word i receives x goes.1 n old.0;
         viewless = reference_viewless no_word i receives x goes.1 n old.0;
       }
-  reference_finishes put no_word i (Tested a b) receives n goes = absurd goes
-  reference_finishes put no_word i Dropped receives n goes = absurd goes
+  reference_finishes same_statics no_word i (Tested a b) receives n goes = absurd goes
+  reference_finishes same_statics no_word i Dropped receives n goes = absurd goes
 
   -- ---- a field ID
 
@@ -417,42 +417,42 @@ module _ (p : Lowered) (w : World) (old : Space) (store : Store) (shared next : 
     field_viewless = assigned_viewless x (FieldHandle n.field) s.variables refl none
 
   field_finishes : SameStatics → HasNoWord → (i : ℕ) (target : Target) → Receives (destination.FieldId i) kind g carried after → IsField w.classes g c → GoesInto code r.known call.place call.stack held (visible_to shared s) FieldKind target (λ x. TakesField code r.known call.place call.stack held (visible_to shared s) i x rest) → Ends target
-  field_finishes put no_word i (Declared declared x) receives n goes = record {
+  field_finishes same_statics no_word i (Declared declared x) receives n goes = record {
     now = next;
     tasks = rest;
-    store_agrees = with_same p w store next shares statics put;
+    store_agrees = with_same p w store next shares statics same_statics;
     keeps = keeps;
     variables = assign x (FieldHandle n.field) s.variables;
     steps = declared_is line f args rest s left q c plain next declared x (FieldHandle n.field) (ap (λ (k : VariableKind). filled (blank k (length (frames_received kind c left))) c) goes.0 ∙ n.fills None);
     stands = field_stands no_word i receives x goes.1 n;
     viewless = field_viewless no_word i receives x goes.1 n;
   }
-  field_finishes put no_word i (Assigned x) receives n goes =
+  field_finishes same_statics no_word i (Assigned x) receives n goes =
       let old = field_by_kind (lookup x s.variables) goes.0 in
       record {
         now = next;
         tasks = rest;
-        store_agrees = with_same p w store next shares statics put;
+        store_agrees = with_same p w store next shares statics same_statics;
         keeps = keeps;
         variables = assign x (FieldHandle n.field) s.variables;
         steps = assigned_is line f args rest s left q c plain next x (FieldHandle old.0) (FieldHandle n.field) old.1 (n.fills old.0);
         stands = field_stands no_word i receives x goes.1 n;
         viewless = field_viewless no_word i receives x goes.1 n;
       }
-  field_finishes put no_word i (Tested a b) receives n goes = absurd goes
-  field_finishes put no_word i Dropped receives n goes = absurd goes
+  field_finishes same_statics no_word i (Tested a b) receives n goes = absurd goes
+  field_finishes same_statics no_word i Dropped receives n goes = absurd goes
 
   -- ---- a global reference
 
   static_finishes : (i : ℕ) (x : Identifier) → HasNoWord → Receives (destination.Static i) kind g carried after → kind ≡ NewGlobal → statics.items ≡ statics_with (destination.Static i) g store.statics.items → IsGlobal store g c
       → TakesStatic code r.known call.place call.stack held (visible_to shared s) i x rest → Ends (Assigned x)
-  static_finishes i x no_word receives global put n takes =
+  static_finishes i x no_word receives global same_statics n takes =
       let h : StaticReference = as_static n.reference in
       let now : Shared = record next { statics = assign x h next.statics } in
       let seen : Shared = record shared { statics = assign x h shared.statics } in
       let unnamed : lookup x s.variables ≡ None = nothing_named (lookup x s.variables) takes.static.no_variable.kind takes.static.no_variable.array_type in
       let place : static_index x next.statics ≡ Some i = ap (static_index x) (still global) ∙ takes.static.static.place in
-      let assigned : statics.items ≡ slice_set store.statics.items i n.held = put ∙ ap (λ (o : Given). statics_with (destination.Static i) o store.statics.items) n.same in
+      let assigned : statics.items ≡ slice_set store.statics.items i n.held = same_statics ∙ ap (λ (o : Given). statics_with (destination.Static i) o store.statics.items) n.same in
       let now_statics : now.statics ≡ seen.statics = ap (assign x h) (still global) in
       record {
         now = now;
@@ -488,14 +488,14 @@ module _ (p : Lowered) (w : World) (old : Space) (store : Store) (shared next : 
   -- ---- the test of an `if`
 
   test_finishes : SameStatics → (target : Target) → with_result function.target 0 ≡ Some 1 → Receives destination.Test kind g carried after → IsNumber g c Jint → TakesTest code r.known call.place call.stack held (visible_to shared s) line target rest → Ends target
-  test_finishes put target count receives n takes =
+  test_finishes same_statics target count receives n takes =
       let word : stack_with destination.Test g ≡ truth_word (is_zero c) ∷ [] =
       ap (stack_with destination.Test) n.same ∙ ap (λ (b : Bool). truth_word b ∷ []) (zero_word n.value n.sorted ∙ sym (ap is_zero n.gave)) in
       let tasks : List Task = Branch line (Done (Truth (is_zero c))) takes.then' takes.else' ∷ rest in
       subst Ends (sym takes.is) (record {
         now = next;
         tasks = tasks;
-        store_agrees = with_same p w store next shares statics put;
+        store_agrees = with_same p w store next shares statics same_statics;
         keeps = keeps;
         variables = s.variables;
         steps = ap (put (Tested takes.then' takes.else') c next) (resumed_is line f args rest s left q c plain (Tested takes.then' takes.else'));
@@ -508,20 +508,20 @@ module _ (p : Lowered) (w : World) (old : Space) (store : Store) (shared next : 
   -- ---- by where it goes
 
   pub finishes : (d : Destination) (target : Target) → function.target ≡ d → TakesResult code r.known call.place call.stack held (visible_to shared s) line d kind target rest → Receives d kind g carried after → statics.items ≡ statics_with d g store.statics.items → Ends target
-  finishes (destination.Number i) target same goes receives put = number_finishes put (ap (λ (d : Destination). with_result d 0) same) i target receives goes.0 (number_given w.classes space kind g c goes.0 (other_given w.classes store kind g c (λ e. let clash : None ≡ Some goes.0 = sym (ap number_sort e) ∙ goes.1 in cc) agrees) goes.1) goes.2
-  finishes (destination.Local i) target same goes receives put =
-      reference_finishes put (ap (λ (d : Destination). with_result d 0) same) i target receives (reference_given w.classes space g c (subst (λ (k : ResultKind). GivenAgrees w.classes space k g c) goes.0 (other_given w.classes store kind g c (λ e. let clash : NewLocal ≡ NewGlobal = sym goes.0 ∙ e in cc) agrees))) goes.1
-  finishes (destination.FieldId i) target same goes receives put =
-      field_finishes put (ap (λ (d : Destination). with_result d 0) same) i target receives (field_given w.classes space g c (subst (λ (k : ResultKind). GivenAgrees w.classes space k g c) goes.0 (other_given w.classes store kind g c (λ e. let clash : GivesField ≡ NewGlobal = sym goes.0 ∙ e in cc) agrees))) goes.1
-  finishes (destination.Static i) target same goes receives put =
-      subst Ends (sym goes.1.1) (static_finishes i goes.1.0 (ap (λ (d : Destination). with_result d 0) same) receives goes.0 put (global_given w.classes store g c (subst (λ (k : ResultKind). ResultAgrees w.classes store g k c) goes.0 agrees)) goes.1.2)
-  finishes destination.Test target same goes receives put =
-      test_finishes put target (ap (λ (d : Destination). with_result d 0) same) receives (number_given w.classes space kind g c Jint (other_given w.classes store kind g c (λ e. let clash : GivesInt ≡ NewGlobal = sym goes.0 ∙ e in cc) agrees) (ap number_sort goes.0)) goes.1
-  finishes destination.Dropped target same goes receives put =
+  finishes (destination.Number i) target same goes receives same_statics = number_finishes same_statics (ap (λ (d : Destination). with_result d 0) same) i target receives goes.0 (number_given w.classes space kind g c goes.0 (other_given w.classes store kind g c (λ e. let clash : None ≡ Some goes.0 = sym (ap number_sort e) ∙ goes.1 in cc) agrees) goes.1) goes.2
+  finishes (destination.Local i) target same goes receives same_statics =
+      reference_finishes same_statics (ap (λ (d : Destination). with_result d 0) same) i target receives (reference_given w.classes space g c (subst (λ (k : ResultKind). GivenAgrees w.classes space k g c) goes.0 (other_given w.classes store kind g c (λ e. let clash : NewLocal ≡ NewGlobal = sym goes.0 ∙ e in cc) agrees))) goes.1
+  finishes (destination.FieldId i) target same goes receives same_statics =
+      field_finishes same_statics (ap (λ (d : Destination). with_result d 0) same) i target receives (field_given w.classes space g c (subst (λ (k : ResultKind). GivenAgrees w.classes space k g c) goes.0 (other_given w.classes store kind g c (λ e. let clash : GivesField ≡ NewGlobal = sym goes.0 ∙ e in cc) agrees))) goes.1
+  finishes (destination.Static i) target same goes receives same_statics =
+      subst Ends (sym goes.1.1) (static_finishes i goes.1.0 (ap (λ (d : Destination). with_result d 0) same) receives goes.0 same_statics (global_given w.classes store g c (subst (λ (k : ResultKind). ResultAgrees w.classes store g k c) goes.0 agrees)) goes.1.2)
+  finishes destination.Test target same goes receives same_statics =
+      test_finishes same_statics target (ap (λ (d : Destination). with_result d 0) same) receives (number_given w.classes space kind g c Jint (other_given w.classes store kind g c (λ e. let clash : GivesInt ≡ NewGlobal = sym goes.0 ∙ e in cc) agrees) (ap number_sort goes.0)) goes.1
+  finishes destination.Dropped target same goes receives same_statics =
       subst Ends (sym goes.0) (record {
         now = next;
         tasks = rest;
-        store_agrees = with_same p w store next shares statics put;
+        store_agrees = with_same p w store next shares statics same_statics;
         keeps = keeps;
         variables = s.variables;
         steps = dropped_is line f args rest s left q c plain next;
