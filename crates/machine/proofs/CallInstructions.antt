@@ -45,7 +45,7 @@ use Rattle.machine.specs.CarriedOut.{CarriesOut, IsPossible, can_fail, frames_le
 use Rattle.machine.specs.Checked.{is_answered, puts_local}
 use Rattle.machine.specs.Frames.{Frame, frames_after, has_room}
 use Rattle.machine.specs.Invoked.{AtCall}
-use Rattle.machine.specs.Received.{HasRoom, HasTarget, Receives}
+use Rattle.machine.specs.Received.{HasRoom, HasTarget, Receives, HasStatic, statics_with}
 use Rattle.machine.specs.Stops.{trap_view}
 use Rattle.machine.proofs.AnswerCases.{gives_it, makes_it, writes_it}
 use Rattle.machine.proofs.Arguments.{all_given, none_left_after}
@@ -53,6 +53,8 @@ use Rattle.machine.proofs.CallTraps.{room_left}
 use Rattle.machine.proofs.Calls.{Ready, agree_count, fields_count, ready, slots_of}
 use Rattle.machine.proofs.Effects.{call_cases}
 use Rattle.machine.proofs.Invocations.{finishes, going, resumption}
+use Rattle.machine.proofs.HeldStatics.{place_below}
+use Rattle.machine.specs.declared.statics.StaticReference.{StaticReference}
 use Rattle.machine.proofs.Keeping.{keeps_same}
 
 -- a function whose calls can be made is one that is answered
@@ -253,6 +255,18 @@ module _ (p : Lowered) (w : World) (store : Store) (pending : Option ℕ) (call 
   pub has_target : HasTarget in_memory.target call
   has_target = target_there p w.classes store.heap call h.code (visible_to shared s) s.frames task rest r called.line function.target (prototype called.f).result called.target called.goes
 
+  -- its static is there, as long as there are as many
+  pub has_static : (statics : ℕ) → length shared.statics ≡ statics → HasStatic in_memory.target statics
+  has_static statics count = static_within statics count function.target called.goes
+    where
+      static_within : (statics : ℕ) → length shared.statics ≡ statics → (d : Destination) → TakesResult h.code r.known call.place call.stack (slots_of call r.references r.fields) (visible_to shared s) called.line d (prototype called.f).result called.target rest → HasStatic d statics
+      static_within statics count (destination.Static i) goes = omega (arith, count, place_below goes.1.0 shared.statics i goes.1.2.static.static.place)
+      static_within statics count (destination.Number i) goes = tt
+      static_within statics count (destination.Local i) goes = tt
+      static_within statics count (destination.FieldId i) goes = tt
+      static_within statics count destination.Test goes = tt
+      static_within statics count destination.Dropped goes = tt
+
   -- a call of it can be carried out
   pub possible : IsPossible p w store pending call.frames.items (prototype called.f).result shared s
   possible = record { store_agrees = h.shares; pending_agrees = h.pending_agrees; frames_agree = r.frames_agree; fails = answered_fails called.f called.asked.answered }
@@ -293,25 +307,26 @@ module _ (p : Lowered) (w : World) (store : Store) (pending : Option ℕ) (call 
     stepped true t next h = h
 
     -- what was carried out and received is what the source's call leaves
-    pub goes_on : (refused : Bool) (store' : Store) (pending' : Option ℕ) (frames : Vec Frame) (g : Given) (after : Activation) (answer : Answer) → (free : trap_of_call w.classes shared s called.target called.f called.args ≡ None)
+    pub goes_on : (refused : Bool) (store' : Store) (pending' : Option ℕ) (frames : Vec Frame) (g : Given) (after : Activation) (statics : Vec StaticReference) (answer : Answer) → (free : trap_of_call w.classes shared s called.target called.f called.args ≡ None)
         → IsAnswer w.classes store.heap (prototype called.f).result shared s answer (call_effect w.classes lent k shared s called.args called.f)
         → CarriesOut p w store.heap (prototype called.f).result shared s (call_effect w.classes lent k shared s called.args called.f) refused store' pending' frames.items g
         → Receives function.target (prototype called.f).result g (record call { frames = frames }) after
-        → GoesOn p w store.heap store' lent k shared s rest after pending' (effect_of (sight_of shared s) task) refused event.Quiet
-    goes_on refused store' pending' frames g after answer free does carried received =
+        → statics.items ≡ statics_with function.target g store'.statics.items
+        → GoesOn p w store.heap (record store' { statics = statics }) lent k shared s rest after pending' (effect_of (sight_of shared s) task) refused event.Quiet
+    goes_on refused store' pending' frames g after statics answer free does carried received put =
         let effect = call_effect w.classes lent k shared s called.args called.f in
         let next = shared_after w.classes refused shared effect in
         let left = frames_left refused s effect in
         let q = pending_after w.classes refused shared s effect in
         let c = result_after (prototype called.f).result refused effect in
-        let ends = finishes p w store.heap store'.heap shared next carried.keeps s h.viewless call h.code task rest r called.line called.f called.args frames left carried.frames_agree q g c carried.given_agrees function h.at called.left after function.target called.target refl called.goes received in
+        let ends = finishes p w store.heap store' shared next carried.store_agrees carried.keeps s h.viewless call h.code task rest r called.line called.f called.args frames left carried.frames_agree q g c carried.given_agrees carried.still function h.at called.left after statics function.target called.target refl called.goes received put in
         let steps = step_leaves w.classes lent k shared s called.line called.target called.f called.args rest refused effect (effect_is free lent k) (stays_with w.classes store.heap (prototype called.f).result shared s answer effect does) carried.could_refuse in
-        subst (λ (e : Effect). GoesOn p w store.heap store' lent k shared s rest after pending' e refused event.Quiet) (sym called.is) (record {
-          next_shared = next;
+        subst (λ (e : Effect). GoesOn p w store.heap (record store' { statics = statics }) lent k shared s rest after pending' e refused event.Quiet) (sym called.is) (record {
+          next_shared = ends.now;
           next = going called.line called.f called.args ends.tasks s left q c ends.variables;
-          steps = stepped refused (going called.line called.f called.args ends.tasks s left q c ends.variables) next (steps ∙ ends.steps);
-          store_agrees = carried.store_agrees;
-          keeps = carried.keeps;
+          steps = stepped refused (going called.line called.f called.args ends.tasks s left q c ends.variables) ends.now (steps ∙ ends.steps);
+          store_agrees = ends.store_agrees;
+          keeps = ends.keeps;
           work = ends.stands;
           pending_agrees = carried.pending_agrees;
           calls = refl;

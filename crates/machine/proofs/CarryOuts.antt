@@ -6,7 +6,7 @@ use Rattle.classes.specs.Class.{Classes}
 use Rattle.heap.specs.Heap.{Space, with_value}
 use Rattle.heap.specs.declared.value.Value.{Value}
 use Rattle.jni.specs.Prototype.{ResultKind, NewLocal, NewGlobal, GivesFlag, GivesInt, GivesField, GivesNothing, GivesBuffer}
-use Rattle.source.specs.CallEffects.{Leaves, NoResult, ReferenceResult, ScalarResult, CallEffect, out_of_memory, refuses_frames, with_capacity}
+use Rattle.source.specs.CallEffects.{CallResult, Leaves, NoResult, ReferenceResult, ScalarResult, CallEffect, out_of_memory, refuses_frames, with_capacity}
 use Rattle.source.specs.CallStep.{failure, makes_objects}
 use Rattle.source.specs.Heap.{Heap, next_name}
 use Rattle.source.specs.Thread as source
@@ -22,7 +22,7 @@ use Rattle.machine.specs.declared.answer.Given.TheVariants as given
 use Rattle.machine.specs.declared.store.Store.{Store}
 use Rattle.machine.specs.Agrees.{StoreAgrees, Keeps}
 use Rattle.machine.specs.Answers.{GivenAgrees, IsAnswer}
-use Rattle.machine.specs.CarriedOut.{CarriesOut, IsPossible, can_fail, failed}
+use Rattle.machine.specs.CarriedOut.{CarriesOut, IsPossible, ResultAgrees, can_fail, failed}
 use Rattle.machine.specs.Frames as memory
 use Rattle.machine.specs.Frames.{Frame, can_ensure}
 use Rattle.machine.specs.HeapAgrees.{ReferenceAgrees}
@@ -42,6 +42,20 @@ failed_agrees classes space GivesInt h = (refl, record { sfits = omega arith })
 failed_agrees classes space GivesNothing h = tt
 failed_agrees classes space NewGlobal h = absurd (cc)
 failed_agrees classes space (GivesBuffer a) h = absurd (cc)
+
+-- what isn't for a static
+result_agrees : (classes : Classes) (store : Store) (kind : ResultKind) (g : Given) (c : CallResult) → GivenAgrees classes store.heap kind g c → ResultAgrees classes store g kind c
+result_agrees classes store kind given.Nothing c h = h
+result_agrees classes store kind (given.Number word) c h = h
+result_agrees classes store kind (given.Reference a) c h = h
+result_agrees classes store kind (given.FieldId f) c h = h
+result_agrees classes store NewLocal (given.Global s) c h = absurd h
+result_agrees classes store NewGlobal (given.Global s) c h = absurd h
+result_agrees classes store GivesFlag (given.Global s) c h = absurd h
+result_agrees classes store GivesInt (given.Global s) c h = absurd h
+result_agrees classes store GivesField (given.Global s) c h = absurd h
+result_agrees classes store GivesNothing (given.Global s) c h = absurd h
+result_agrees classes store (GivesBuffer a) (given.Global s) c h = absurd h
 
 get_below : (xs : List ℕ) (i : ℕ) → i < length xs → (a : ℕ) × (slice_get xs i ≡ Some a)
 get_below [] i h = absurd (omega (arith, h))
@@ -68,7 +82,8 @@ module _ (p : Lowered) (w : World) (store : Store) (pending : Option ℕ) (frame
     keeps = keeps_same store.heap shared;
     pending_agrees = error_there;
     frames_agree = h.frames_agree;
-    given_agrees = failed_agrees w.classes store.heap kind h.fails;
+    given_agrees = result_agrees w.classes store kind _ _ (failed_agrees w.classes store.heap kind h.fails);
+    still = λ same. refl;
     could_refuse = λ e. makes;
   }
 
@@ -93,7 +108,8 @@ module _ (p : Lowered) (w : World) (store : Store) (pending : Option ℕ) (frame
         keeps = subst (Keeps store.heap shared store.heap) (sym (same_heap shared)) (keeps_same store.heap shared);
         pending_agrees = h.pending_agrees;
         frames_agree = h.frames_agree;
-        given_agrees = it.agrees;
+        given_agrees = result_agrees w.classes store kind _ _ (it.agrees);
+        still = λ same. refl;
         could_refuse = λ e. absurd (cc);
       })
 
@@ -108,7 +124,8 @@ module _ (p : Lowered) (w : World) (store : Store) (pending : Option ℕ) (frame
         keeps = subst (Keeps store.heap shared after.heap) (sym (same_heap it.after)) keeps;
         pending_agrees = reference_stays store.heap after.heap keeps.names pending s.pending h.pending_agrees;
         frames_agree = frames_stay store.heap after.heap keeps.names frames s.frames h.frames_agree;
-        given_agrees = subst (λ (k : ResultKind). GivenAgrees w.classes after.heap k given.Nothing NoResult) (sym it.kind_is) tt;
+        given_agrees = result_agrees w.classes after kind _ _ (subst (λ (k : ResultKind). GivenAgrees w.classes after.heap k given.Nothing NoResult) (sym it.kind_is) tt);
+        still = λ same. ap (λ (x : Shared). x.statics) it.writes.is;
         could_refuse = λ e. absurd (cc);
       })
 
@@ -120,7 +137,8 @@ module _ (p : Lowered) (w : World) (store : Store) (pending : Option ℕ) (frame
         keeps = subst (Keeps store.heap shared store.heap) (sym (same_heap shared)) (keeps_same store.heap shared);
         pending_agrees = error_there;
         frames_agree = h.frames_agree;
-        given_agrees = subst (λ (k : ResultKind). GivenAgrees w.classes store.heap k (given.Number (2 ^ 32 - 4)) (ScalarResult (Int (negsuc 3)))) (sym int) (refl, record { sfits = omega arith });
+        given_agrees = result_agrees w.classes store kind _ _ (subst (λ (k : ResultKind). GivenAgrees w.classes store.heap k (given.Number (2 ^ 32 - 4)) (ScalarResult (Int (negsuc 3)))) (sym int) (refl, record { sfits = omega arith }));
+        still = λ same. refl;
         could_refuse = λ e. absurd (cc);
       })
 
@@ -143,7 +161,8 @@ module _ (p : Lowered) (w : World) (store : Store) (pending : Option ℕ) (frame
           keeps = subst (Keeps store.heap shared store.heap) (sym (same_heap shared)) (keeps_same store.heap shared);
           pending_agrees = h.pending_agrees;
           frames_agree = room_ensured store.heap frames s.frames more h.frames_agree;
-          given_agrees = subst (λ (k : ResultKind). GivenAgrees w.classes store.heap k (given.Number 0) (ScalarResult (Int (pos 0)))) (sym does.0) (refl, record { sfits = omega arith });
+          given_agrees = result_agrees w.classes store kind _ _ (subst (λ (k : ResultKind). GivenAgrees w.classes store.heap k (given.Number 0) (ScalarResult (Int (pos 0)))) (sym does.0) (refl, record { sfits = omega arith }));
+          still = λ same. refl;
           could_refuse = λ e. absurd (cc);
         })
 
@@ -159,8 +178,9 @@ module _ (p : Lowered) (w : World) (store : Store) (pending : Option ℕ) (frame
           keeps = making.made_keeps p w store new shared class a h.store_agrees made;
           pending_agrees = reference_stays store.heap new.heap (making.names_stay p w store new shared class a h.store_agrees made) pending s.pending h.pending_agrees;
           frames_agree = frames_stay store.heap new.heap (making.names_stay p w store new shared class a h.store_agrees made) frames s.frames h.frames_agree;
-          given_agrees = subst (λ (k : ResultKind). GivenAgrees w.classes new.heap k (given.Reference (Some a)) (ReferenceResult (Some (next_name shared.heap)))) (sym it.kind_is)
-              (making.made_named p w store new shared class a h.store_agrees made);
+          given_agrees = result_agrees w.classes new kind _ _ (subst (λ (k : ResultKind). GivenAgrees w.classes new.heap k (given.Reference (Some a)) (ReferenceResult (Some (next_name shared.heap)))) (sym it.kind_is)
+              (making.made_named p w store new shared class a h.store_agrees made));
+          still = λ same. refl;
           could_refuse = λ e. absurd (cc);
         })
 
@@ -172,6 +192,7 @@ module _ (p : Lowered) (w : World) (store : Store) (pending : Option ℕ) (frame
           keeps = making.made_keeps p w store new shared class a h.store_agrees made;
           pending_agrees = making.made_named p w store new shared class a h.store_agrees made;
           frames_agree = frames_stay store.heap new.heap (making.names_stay p w store new shared class a h.store_agrees made) frames s.frames h.frames_agree;
-          given_agrees = failed_agrees w.classes new.heap kind h.fails;
+          given_agrees = result_agrees w.classes new kind _ _ (failed_agrees w.classes new.heap kind h.fails);
+          still = λ same. refl;
           could_refuse = λ e. absurd (cc);
         })

@@ -136,6 +136,23 @@ keys_left globals statics i s dead h = record {
         was_in (x ∷ l) (suc i) zero at = at
         was_in (x ∷ l) (suc i) (suc j) at = was_in l i j at
 
+-- a key that no static has
+pub keys_put : (globals : List (Option ℕ)) (statics : List InMemory) (i : ℕ) (s : InMemory) → ((key : ℕ) → s ≡ static.Live key → IsSome (address_at globals key) × ((j : ℕ) → slice_get statics j ≡ Some (static.Live key) → ⊥)) → HaveKeys globals statics → HaveKeys globals (slice_set statics i s)
+keys_put globals statics i s fresh h = record {
+  live = λ j key at. by_place statics i j key at (λ here e. (fresh key e).0) (λ elsewhere. h.live j key elsewhere);
+  own = λ j k key at also.
+      by_place statics i j key at
+      (λ here e. by_place statics i k key also (λ there d. here ∙ sym there) (λ elsewhere. absurd ((fresh key e).1 k elsewhere)))
+      (λ elsewhere. by_place statics i k key also (λ there d. absurd ((fresh key d).1 j elsewhere)) (λ also_elsewhere. h.own j k key elsewhere also_elsewhere));
+}
+  where
+    by_place : {P : Type 0} (l : List InMemory) (i j key : ℕ) → slice_get (slice_set l i s) j ≡ Some (static.Live key) → (j ≡ i → s ≡ static.Live key → P) → (slice_get l j ≡ Some (static.Live key) → P) → P
+    by_place [] i j key at here elsewhere = elsewhere at
+    by_place (x ∷ l) zero zero key at here elsewhere = here refl (let same : s ≡ static.Live key = cc in same)
+    by_place (x ∷ l) zero (suc j) key at here elsewhere = elsewhere at
+    by_place (x ∷ l) (suc i) zero key at here elsewhere = elsewhere at
+    by_place (x ∷ l) (suc i) (suc j) key at here elsewhere = by_place l i j key at (λ e d. here (ap suc e) d) elsewhere
+
 -- ---- a unit's statics
 
 -- the place of a name among names

@@ -4,7 +4,7 @@ use Rattle.std.specs.Ordering.{int_eq}
 use Rattle.std.proofs.Math.Facts.{to_z-of_z}
 use Rattle.std.proofs.lemmas.Bool.Decides.{Decides-int_eq, eqb_tells}
 use Rattle.code.specs.Effect.{truth_word}
-use Rattle.std.proofs.Common.{◌≡◌, ℕ, ℤ, pos, ◌+◌, Bool, true, false, ⊎_elim, List, [], ◌∷◌, ◌++◌, length, Option, Some, None, refl, sym, ap, ◌∙◌, subst}
+use Rattle.std.proofs.Common.{◌≡◌, ℕ, ℤ, pos, ◌+◌, Bool, true, false, ⊎_elim, inl, inr, List, [], ◌∷◌, ◌++◌, length, Option, Some, None, refl, sym, ap, ◌∙◌, subst}
 use Rattle.std.specs.Global.{Vec}
 use Rattle.std.specs.Option.{option_and_then}
 use Rattle.std.specs.Prelude.{slice_get, slice_set, ◌==◌}
@@ -14,12 +14,12 @@ use Rattle.classes.specs.Fields.{FieldId}
 use Rattle.class_table.specs.declared.class.FieldHandle.{FieldHandle as Handle}
 use Rattle.heap.specs.Heap.{Space}
 use Rattle.jni.specs.JniFunction.{JniFunction}
-use Rattle.jni.specs.Prototype.{prototype, ResultKind, NewLocal, GivesFlag, GivesInt, GivesField}
+use Rattle.jni.specs.Prototype.{prototype, ResultKind, NewLocal, NewGlobal, GivesFlag, GivesInt, GivesField}
 use Rattle.types.specs.Sorts.{Sort, Jint}
 use Rattle.types.specs.Sorts as sort
 use Rattle.source.specs.Arguments.{Actual, variable_given}
 use Rattle.source.specs.CallEffects.{level_of, CallResult, NoResult, NullResult, ScalarResult, ReferenceResult, FieldResult, BufferResult}
-use Rattle.source.specs.CallStep.{blank, filled, is_zero, put, put_assigned, received, tell_copy}
+use Rattle.source.specs.CallStep.{blank, filled, is_zero, put, put_assigned, static_result, received, tell_copy}
 use Rattle.source.specs.Effect.{tasks_after}
 use Rattle.source.specs.Object.{Reference}
 use Rattle.source.specs.Term.{Done}
@@ -27,7 +27,7 @@ use Rattle.source.specs.Task.{Task, Branch, Target, VariableKind, ScalarKind, Re
 use Rattle.source.specs.Thread as source
 use Rattle.source.specs.Thread.{Shared, viewed_by}
 use Rattle.source.specs.Value.{Value, Word, Int, Flag, Truth}
-use Rattle.source.specs.Variable.{Variable, Variables, Scalar, LocalRef, FieldHandle, assign}
+use Rattle.source.specs.Variable.{StaticReference, Variable, Variables, Scalar, LocalRef, FieldHandle, Elements, LocalArray, as_static, assign}
 use Rattle.source.specs.World.{World}
 use Rattle.code.specs.Call.{Call}
 use Rattle.code.specs.Depth.{Listing, depth_at, with_fewer, with_result, words_taken}
@@ -35,18 +35,25 @@ use Rattle.code.specs.declared.instr.Instr.TheVariants as instr
 use Rattle.code.specs.declared.instr.Target.{Target as Destination}
 use Rattle.code.specs.declared.instr.Target.TheVariants as destination
 use Rattle.code_generator.specs.Layout.{Known}
-use Rattle.lower.specs.Does.{GoesInto, TakesTest, TakesField, TakesNumber, TakesReference, TakesResult}
+use Rattle.lower.specs.Does.{GoesInto, TakesStatic, TakesTest, TakesField, TakesNumber, TakesReference, TakesResult}
 use Rattle.lower.specs.Lowered.{Lowered}
-use Rattle.lower.specs.Slots.{Shows, Slots, ValueHasSort, visible_to, word_of}
+use Rattle.lower.specs.Slots.{Shows, Slots, ValueHasSort, kind_of_variable, static_index, type_of_array, visible_to, word_of}
 use Rattle.lower.specs.Stands.{StandsFor, number_sort}
 use Rattle.machine.specs.declared.answer.Given.{Given}
 use Rattle.machine.specs.declared.answer.Given.TheVariants as given
 use Rattle.machine.specs.declared.thread.Activation.{Activation}
-use Rattle.machine.specs.Agrees.{CallStands, FieldAgrees, FieldsAgree, FramesAgree, Keeps, ReferencesAgree}
+use Rattle.machine.specs.Agrees.{CallStands, FieldAgrees, FieldsAgree, FramesAgree, HeldAgrees, Keeps, ReferencesAgree, StoreAgrees}
 use Rattle.machine.specs.Answers.{GivenAgrees}
+use Rattle.machine.specs.CarriedOut.{IsFresh, ResultAgrees}
+use Rattle.machine.specs.Statics.{held as held_of}
+use Rattle.machine.specs.declared.statics.StaticReference.{StaticReference as InMemory}
+use Rattle.machine.specs.declared.store.Store.{Store}
+use Rattle.lower.proofs.StaticLaws.{is_held}
+use Rattle.machine.proofs.HeldStatics.{keys_put}
+use Rattle.machine.proofs.StaticStores.{with_same, with_static}
 use Rattle.machine.specs.Frames.{Frame}
 use Rattle.machine.specs.HeapAgrees.{ReferenceAgrees}
-use Rattle.machine.specs.Received.{Receives, fields_with, numbers_with, references_with, stack_with}
+use Rattle.machine.specs.Received.{Receives, fields_with, frames_with, numbers_with, references_with, stack_with, statics_with}
 use Rattle.machine.proofs.Calls.{Ready, depth_behind, slots_of}
 use Rattle.machine.proofs.Changes.{field_by_kind, is_field_set, is_referred, is_set, local_by_kind, scalar_by_kind}
 use Rattle.machine.proofs.Keeping.{references_stay, shows_stay}
@@ -124,6 +131,7 @@ number_given classes space GivesInt (given.Number word) (BufferResult b) of h e 
 number_given classes space GivesInt given.Nothing c of h e = absurd h
 number_given classes space GivesInt (given.Reference a) c of h e = absurd h
 number_given classes space GivesInt (given.FieldId a) c of h e = absurd h
+number_given classes space GivesInt (given.Global s) c of h e = absurd h
 number_given classes space GivesFlag (given.Number word) (ScalarResult (Flag b)) of h e = record { value = Flag b; gave = refl; same = ap given.Number h; sorted = let same : sort.Flag ≡ of = cc in sym same }
 number_given classes space GivesFlag (given.Number word) (ScalarResult (Word n)) of h e = absurd h
 number_given classes space GivesFlag (given.Number word) (ScalarResult (Int z)) of h e = absurd h
@@ -136,6 +144,7 @@ number_given classes space GivesFlag (given.Number word) (BufferResult b) of h e
 number_given classes space GivesFlag given.Nothing c of h e = absurd h
 number_given classes space GivesFlag (given.Reference a) c of h e = absurd h
 number_given classes space GivesFlag (given.FieldId a) c of h e = absurd h
+number_given classes space GivesFlag (given.Global s) c of h e = absurd h
 number_given classes space kind g c of h e = absurd (cc)
 
 reference_given : (classes : Classes) (space : Space) (g : Given) (c : CallResult) → GivenAgrees classes space NewLocal g c → IsReference space g c
@@ -148,6 +157,7 @@ reference_given classes space (given.Reference a) (BufferResult b) h = absurd h
 reference_given classes space given.Nothing c h = absurd h
 reference_given classes space (given.Number word) c h = absurd h
 reference_given classes space (given.FieldId a) c h = absurd h
+reference_given classes space (given.Global s) c h = absurd h
 
 field_given : (classes : Classes) (space : Space) (g : Given) (c : CallResult) → GivenAgrees classes space GivesField g c → IsField classes g c
 field_given classes space (given.FieldId a) (FieldResult f) h = record { handle = a; field = f; same = refl; agrees = h; fills = λ old. refl }
@@ -159,6 +169,54 @@ field_given classes space (given.FieldId a) (BufferResult b) h = absurd h
 field_given classes space given.Nothing c h = absurd h
 field_given classes space (given.Number word) c h = absurd h
 field_given classes space (given.Reference a) c h = absurd h
+field_given classes space (given.Global s) c h = absurd h
+
+-- what a static takes
+record IsGlobal (store : Store) (g : Given) (c : CallResult) : Type 0 where
+  pub held : InMemory
+  pub reference : Reference
+  pub same : g ≡ given.Global held
+  pub gave : c ≡ ReferenceResult reference
+  pub agrees : HeldAgrees store.heap (held_of store.globals held) (as_static reference)
+  pub fresh : IsFresh store held
+
+global_given : (classes : Classes) (store : Store) (g : Given) (c : CallResult) → ResultAgrees classes store g NewGlobal c → IsGlobal store g c
+global_given classes store (given.Global s) c h = record { held = s; reference = h.1.0; same = refl; gave = h.1.1; agrees = h.1.2; fresh = h.1.3 }
+global_given classes store given.Nothing c h = absurd h
+global_given classes store (given.Number word) c h = absurd h
+global_given classes store (given.Reference a) c h = absurd h
+global_given classes store (given.FieldId f) c h = absurd h
+
+-- what any other target takes
+other_given : (classes : Classes) (store : Store) (kind : ResultKind) (g : Given) (c : CallResult) → (kind ≡ NewGlobal → ⊥) → ResultAgrees classes store g kind c → GivenAgrees classes store.heap kind g c
+other_given classes store kind given.Nothing c other h = h
+other_given classes store kind (given.Number word) c other h = h
+other_given classes store kind (given.Reference a) c other h = h
+other_given classes store kind (given.FieldId f) c other h = h
+other_given classes store kind (given.Global s) c other h = absurd (other h.0)
+
+plain_result : (classes : Classes) (store : Store) (kind : ResultKind) (g : Given) (c : CallResult) → ResultAgrees classes store g kind c → IsNoBuffer c
+plain_result classes store kind given.Nothing c h = no_buffer classes store.heap kind given.Nothing c h
+plain_result classes store kind (given.Number word) c h = no_buffer classes store.heap kind (given.Number word) c h
+plain_result classes store kind (given.Reference a) c h = no_buffer classes store.heap kind (given.Reference a) c h
+plain_result classes store kind (given.FieldId f) c h = no_buffer classes store.heap kind (given.FieldId f) c h
+plain_result classes store kind (given.Global s) c h = subst IsNoBuffer (sym h.1.1) tt
+
+frames_result : (classes : Classes) (store : Store) (kind : ResultKind) (g : Given) (c : CallResult) (frames : List Frame) (gs : List source.Frame) → ResultAgrees classes store g kind c → FramesAgree store.heap frames gs → FramesAgree store.heap (frames_with kind g frames) (frames_received kind c gs)
+frames_result classes store kind given.Nothing c frames gs h agree = frames_agree store.heap classes kind given.Nothing c frames gs h agree
+frames_result classes store kind (given.Number word) c frames gs h agree = frames_agree store.heap classes kind (given.Number word) c frames gs h agree
+frames_result classes store kind (given.Reference a) c frames gs h agree = frames_agree store.heap classes kind (given.Reference a) c frames gs h agree
+frames_result classes store kind (given.FieldId f) c frames gs h agree = frames_agree store.heap classes kind (given.FieldId f) c frames gs h agree
+frames_result classes store kind (given.Global s) c frames gs h agree = subst (λ (k : ResultKind). FramesAgree store.heap (frames_with k (given.Global s) frames) (frames_received k c gs)) (sym h.0) agree
+
+-- no variable has a name of no kind that is no array
+nothing_named : (o : Option Variable) → kind_of_variable o ≡ None → type_of_array o ≡ None → o ≡ None
+nothing_named None k t = refl
+nothing_named (Some (Scalar v)) k t = absurd (cc)
+nothing_named (Some (LocalRef level q)) k t = absurd (cc)
+nothing_named (Some (FieldHandle f)) k t = absurd (cc)
+nothing_named (Some (Elements type b)) k t = absurd (cc)
+nothing_named (Some (LocalArray type zs)) k t = absurd (cc)
 
 -- a `jint` is 0 where its word is
 zero_word : (v : Value) → ValueHasSort v Jint → (word_of v == 0) ≡ is_zero (ScalarResult v)
@@ -180,16 +238,22 @@ zero_word (Int z) h =
 -- ---- the end of a call
 
 -- the thread goes on with these tasks, and the machine's call stands for it
-pub record Finishes (p : Lowered) (w : World) (space : Space) (next : Shared) (line : ℕ) (target : Target) (f : JniFunction) (args : List Actual) (rest : List Task) (s : source.Thread) (left : List source.Frame) (q : Reference) (c : CallResult) (after : Activation) : Type 0 where
+pub record Finishes (p : Lowered) (w : World) (old : Space) (shared : Shared) (store : Store) (statics : Vec InMemory) (next : Shared) (line : ℕ) (target : Target) (f : JniFunction) (args : List Actual) (rest : List Task) (s : source.Thread) (left : List source.Frame) (q : Reference) (c : CallResult) (after : Activation) : Type 0 where
+  pub now : Shared
   pub variables : Variables
   pub tasks : List Task
-  pub steps : put target c next (resumption line f args rest s left q c target) ≡ source.Advances next (going line f args tasks s left q c variables) source.Quiet
-  pub stands : CallStands p w.classes space after (visible_to next (going line f args tasks s left q c variables)) (frames_received (prototype f).result c left) tasks
+  pub steps : put target c next (resumption line f args rest s left q c target) ≡ source.Advances now (going line f args tasks s left q c variables) source.Quiet
+  pub store_agrees : StoreAgrees p w (record store { statics = statics }) now
+  pub keeps : Keeps old shared store.heap now
+  pub stands : CallStands p w.classes store.heap after (visible_to now (going line f args tasks s left q c variables)) (frames_received (prototype f).result c left) tasks
   pub viewless : viewed_by (going line f args tasks s left q c variables) ≡ []
 
-module _ (p : Lowered) (w : World) (old space : Space) (shared next : Shared) (keeps : Keeps old shared space next) (s : source.Thread) (none : viewed_by s ≡ []) (call : Activation) (code : Listing) (task : Task) (rest : List Task)
-    (r : Ready p w.classes old call code (visible_to shared s) s.frames task rest) (line : ℕ) (f : JniFunction) (args : List Actual) (frames : Vec Frame) (left : List source.Frame) (framed : FramesAgree space frames.items left) (q : Reference) (g : Given) (c : CallResult) (agrees : GivenAgrees w.classes space (prototype f).result g c)
-    (function : Call) (at : slice_get code.instrs call.place ≡ Some (instr.Call function)) (none_left : with_fewer (words_taken function.operands) (length call.stack) ≡ Some 0) (after : Activation) where
+module _ (p : Lowered) (w : World) (old : Space) (store : Store) (shared next : Shared) (shares : StoreAgrees p w store next) (keeps : Keeps old shared store.heap next) (s : source.Thread) (none : viewed_by s ≡ []) (call : Activation) (code : Listing) (task : Task) (rest : List Task)
+    (r : Ready p w.classes old call code (visible_to shared s) s.frames task rest) (line : ℕ) (f : JniFunction) (args : List Actual) (frames : Vec Frame) (left : List source.Frame) (framed : FramesAgree store.heap frames.items left) (q : Reference) (g : Given) (c : CallResult) (agrees : ResultAgrees w.classes store g (prototype f).result c)
+    (still : (prototype f).result ≡ NewGlobal → next.statics ≡ shared.statics) (function : Call) (at : slice_get code.instrs call.place ≡ Some (instr.Call function)) (none_left : with_fewer (words_taken function.operands) (length call.stack) ≡ Some 0) (after : Activation) (statics : Vec InMemory) where
+  abbrev space : Space
+  space = store.heap
+
   abbrev kind : ResultKind
   kind = (prototype f).result
 
@@ -198,7 +262,7 @@ module _ (p : Lowered) (w : World) (old space : Space) (shared next : Shared) (k
   carried = record call { frames = frames }
 
   plain : IsNoBuffer c
-  plain = no_buffer w.classes space kind g c agrees
+  plain = plain_result w.classes store kind g c agrees
 
   abbrev then : Variables → source.Thread
   then vs = going line f args rest s left q c vs
@@ -207,7 +271,7 @@ module _ (p : Lowered) (w : World) (old space : Space) (shared next : Shared) (k
   held = slots_of call r.references r.fields
 
   abbrev Ends : Target → Type 0
-  Ends target = Finishes p w space next line target f args rest s left q c after
+  Ends target = Finishes p w old shared store statics next line target f args rest s left q c after
 
   same_references : ReferencesAgree space call.references.items r.references
   same_references = references_stay old space keeps.names call.references.items r.references r.agree
@@ -215,7 +279,11 @@ module _ (p : Lowered) (w : World) (old space : Space) (shared next : Shared) (k
   frames_after : (d : Destination) → Receives d kind g carried after → FramesAgree space after.frames.items (frames_received kind c left)
   frames_after d receives =
       subst (λ (l : List Frame). FramesAgree space l (frames_received kind c left)) (sym receives.frames)
-      (frames_agree space w.classes kind g c frames.items left agrees framed)
+      (frames_result w.classes store kind g c frames.items left agrees framed)
+
+  -- the statics hold what they did
+  abbrev SameStatics : Type 0
+  SameStatics = statics.items ≡ store.statics.items
 
   -- no word is on the stack afterwards
   abbrev HasNoWord : Type 0
@@ -274,25 +342,31 @@ module _ (p : Lowered) (w : World) (old space : Space) (shared next : Shared) (k
     number_viewless : viewed_by (then (assign x (Scalar n.value) s.variables)) ≡ []
     number_viewless = assigned_viewless x (Scalar n.value) s.variables refl none
 
-  number_finishes : HasNoWord → (i : ℕ) (target : Target) → Receives (destination.Number i) kind g carried after → (of : Sort) → IsNumber g c of → GoesInto code r.known call.place call.stack held (visible_to shared s) ScalarKind target (λ x. TakesNumber code r.known call.place call.stack held (visible_to shared s) of i x rest) → Ends target
-  number_finishes no_word i (Declared declared x) receives of n goes = record {
+  number_finishes : SameStatics → HasNoWord → (i : ℕ) (target : Target) → Receives (destination.Number i) kind g carried after → (of : Sort) → IsNumber g c of → GoesInto code r.known call.place call.stack held (visible_to shared s) ScalarKind target (λ x. TakesNumber code r.known call.place call.stack held (visible_to shared s) of i x rest) → Ends target
+  number_finishes same_statics no_word i (Declared declared x) receives of n goes = record {
+    now = next;
     tasks = rest;
+    store_agrees = with_same p w store next shares statics same_statics;
+    keeps = keeps;
     variables = assign x (Scalar n.value) s.variables;
     steps = declared_is line f args rest s left q c plain next declared x (Scalar n.value) (ap (λ (k : VariableKind). filled (blank k (length (frames_received kind c left))) c) goes.0 ∙ ap (filled (blank ScalarKind 0)) n.gave);
     stands = number_stands no_word i receives of x goes.1 n;
     viewless = number_viewless no_word i receives of x goes.1 n;
   }
-  number_finishes no_word i (Assigned x) receives of n goes =
+  number_finishes same_statics no_word i (Assigned x) receives of n goes =
       let old = scalar_by_kind (lookup x s.variables) goes.0 in
       record {
+        now = next;
         tasks = rest;
+        store_agrees = with_same p w store next shares statics same_statics;
+        keeps = keeps;
         variables = assign x (Scalar n.value) s.variables;
         steps = assigned_is line f args rest s left q c plain next x (Scalar old.0) (Scalar n.value) old.1 (ap (filled (Scalar old.0)) n.gave);
         stands = number_stands no_word i receives of x goes.1 n;
         viewless = number_viewless no_word i receives of x goes.1 n;
       }
-  number_finishes no_word i (Tested a b) receives of n goes = absurd goes
-  number_finishes no_word i Dropped receives of n goes = absurd goes
+  number_finishes same_statics no_word i (Tested a b) receives of n goes = absurd goes
+  number_finishes same_statics no_word i Dropped receives of n goes = absurd goes
 
   -- ---- a reference
 
@@ -315,29 +389,35 @@ module _ (p : Lowered) (w : World) (old space : Space) (shared next : Shared) (k
   abbrev pub IsDeclaredThere : Target → Type 0
   IsDeclaredThere target = (x : Identifier) (level : ℕ) (old : Reference) → target ≡ Assigned x → lookup x s.variables ≡ Some (LocalRef level old) → level ≡ length left
 
-  reference_finishes : HasNoWord → (i : ℕ) (target : Target) → IsDeclaredThere target → Receives (destination.Local i) kind g carried after → IsReference space g c → GoesInto code r.known call.place call.stack held (visible_to shared s) ReferenceKind target (λ x. TakesReference code r.known call.place call.stack held (visible_to shared s) i x rest) → Ends target
-  reference_finishes no_word i (Declared declared x) there receives n goes =
+  reference_finishes : SameStatics → HasNoWord → (i : ℕ) (target : Target) → IsDeclaredThere target → Receives (destination.Local i) kind g carried after → IsReference space g c → GoesInto code r.known call.place call.stack held (visible_to shared s) ReferenceKind target (λ x. TakesReference code r.known call.place call.stack held (visible_to shared s) i x rest) → Ends target
+  reference_finishes same_statics no_word i (Declared declared x) there receives n goes =
       let level = length (frames_received kind c left) in
       let counted : length frames.items ≡ level = frames_count ∙ sym (received_count kind c left) in
       record {
+        now = next;
         tasks = rest;
+        store_agrees = with_same p w store next shares statics same_statics;
+        keeps = keeps;
         variables = assign x (LocalRef level n.reference) s.variables;
         steps = declared_is line f args rest s left q c plain next declared x (LocalRef level n.reference) (ap (λ (k : VariableKind). filled (blank k level) c) goes.0 ∙ n.fills level None);
         stands = reference_stands no_word i receives x goes.1 n level counted;
         viewless = reference_viewless no_word i receives x goes.1 n level counted;
       }
-  reference_finishes no_word i (Assigned x) there receives n goes =
+  reference_finishes same_statics no_word i (Assigned x) there receives n goes =
       let old = local_by_kind (lookup x s.variables) goes.0 in
       let counted : length frames.items ≡ old.0 = frames_count ∙ sym (there x old.0 old.1 refl old.2) in
       record {
+        now = next;
         tasks = rest;
+        store_agrees = with_same p w store next shares statics same_statics;
+        keeps = keeps;
         variables = assign x (LocalRef old.0 n.reference) s.variables;
         steps = assigned_is line f args rest s left q c plain next x (LocalRef old.0 old.1) (LocalRef old.0 n.reference) old.2 (n.fills old.0 old.1);
         stands = reference_stands no_word i receives x goes.1 n old.0 counted;
         viewless = reference_viewless no_word i receives x goes.1 n old.0 counted;
       }
-  reference_finishes no_word i (Tested a b) there receives n goes = absurd goes
-  reference_finishes no_word i Dropped there receives n goes = absurd goes
+  reference_finishes same_statics no_word i (Tested a b) there receives n goes = absurd goes
+  reference_finishes same_statics no_word i Dropped there receives n goes = absurd goes
 
   -- ---- a field ID
 
@@ -354,35 +434,87 @@ module _ (p : Lowered) (w : World) (old space : Space) (shared next : Shared) (k
     field_viewless : viewed_by (then (assign x (FieldHandle n.field) s.variables)) ≡ []
     field_viewless = assigned_viewless x (FieldHandle n.field) s.variables refl none
 
-  field_finishes : HasNoWord → (i : ℕ) (target : Target) → Receives (destination.FieldId i) kind g carried after → IsField w.classes g c → GoesInto code r.known call.place call.stack held (visible_to shared s) FieldKind target (λ x. TakesField code r.known call.place call.stack held (visible_to shared s) i x rest) → Ends target
-  field_finishes no_word i (Declared declared x) receives n goes = record {
+  field_finishes : SameStatics → HasNoWord → (i : ℕ) (target : Target) → Receives (destination.FieldId i) kind g carried after → IsField w.classes g c → GoesInto code r.known call.place call.stack held (visible_to shared s) FieldKind target (λ x. TakesField code r.known call.place call.stack held (visible_to shared s) i x rest) → Ends target
+  field_finishes same_statics no_word i (Declared declared x) receives n goes = record {
+    now = next;
     tasks = rest;
+    store_agrees = with_same p w store next shares statics same_statics;
+    keeps = keeps;
     variables = assign x (FieldHandle n.field) s.variables;
     steps = declared_is line f args rest s left q c plain next declared x (FieldHandle n.field) (ap (λ (k : VariableKind). filled (blank k (length (frames_received kind c left))) c) goes.0 ∙ n.fills None);
     stands = field_stands no_word i receives x goes.1 n;
     viewless = field_viewless no_word i receives x goes.1 n;
   }
-  field_finishes no_word i (Assigned x) receives n goes =
+  field_finishes same_statics no_word i (Assigned x) receives n goes =
       let old = field_by_kind (lookup x s.variables) goes.0 in
       record {
+        now = next;
         tasks = rest;
+        store_agrees = with_same p w store next shares statics same_statics;
+        keeps = keeps;
         variables = assign x (FieldHandle n.field) s.variables;
         steps = assigned_is line f args rest s left q c plain next x (FieldHandle old.0) (FieldHandle n.field) old.1 (n.fills old.0);
         stands = field_stands no_word i receives x goes.1 n;
         viewless = field_viewless no_word i receives x goes.1 n;
       }
-  field_finishes no_word i (Tested a b) receives n goes = absurd goes
-  field_finishes no_word i Dropped receives n goes = absurd goes
+  field_finishes same_statics no_word i (Tested a b) receives n goes = absurd goes
+  field_finishes same_statics no_word i Dropped receives n goes = absurd goes
+
+  -- ---- a global reference
+
+  static_finishes : (i : ℕ) (x : Identifier) → HasNoWord → Receives (destination.Static i) kind g carried after → kind ≡ NewGlobal → statics.items ≡ statics_with (destination.Static i) g store.statics.items → IsGlobal store g c
+      → TakesStatic code r.known call.place call.stack held (visible_to shared s) i x rest → Ends (Assigned x)
+  static_finishes i x no_word receives global same_statics n takes =
+      let h : StaticReference = as_static n.reference in
+      let now : Shared = record next { statics = assign x h next.statics } in
+      let seen : Shared = record shared { statics = assign x h shared.statics } in
+      let unnamed : lookup x s.variables ≡ None = nothing_named (lookup x s.variables) takes.static.no_variable.kind takes.static.no_variable.array_type in
+      let place : static_index x next.statics ≡ Some i = ap (static_index x) (still global) ∙ takes.static.static.place in
+      let assigned : statics.items ≡ slice_set store.statics.items i n.held = same_statics ∙ ap (λ (o : Given). statics_with (destination.Static i) o store.statics.items) n.same in
+      let now_statics : now.statics ≡ seen.statics = ap (assign x h) (still global) in
+      record {
+        now = now;
+        variables = s.variables;
+        tasks = rest;
+        steps =
+            ap (put (Assigned x) c next) (resumed_is line f args rest s left q c plain (Assigned x))
+            ∙ ap (put_assigned x c next (then s.variables)) unnamed
+            ∙ ap (λ (v : StaticReference). source.Advances (record next { statics = assign x v next.statics }) (then s.variables) source.Quiet) (ap static_result n.gave);
+        store_agrees = with_static p w store next shares statics x i n.held h assigned place n.agrees (keys_put store.globals store.statics.items i n.held n.fresh shares.keys);
+        keeps = record { names = keeps.names; statics = inr (x, h, now_statics); sizes = keeps.sizes };
+        stands = record {
+          code = code;
+          of_function = ap (slice_get p.codes) receives.function ∙ r.of_function;
+          known = takes.names;
+          stands = subst (λ (m : ℕ). StandsFor code takes.names m after.stack rest) (sym receives.place) (subst (λ (l : List ℕ). StandsFor code takes.names (call.place + 1) l rest) (sym receives.stack) takes.stands);
+          references = r.references;
+          agree = subst (λ (l : List (Option ℕ)). ReferencesAgree space l r.references) (sym receives.references) same_references;
+          fields = r.fields;
+          fields_agree = subst (λ (l : List (Option Handle)). FieldsAgree w.classes l r.fields) (sym receives.fields) r.fields_agree;
+          shows = shows_stay seen now (inl now_statics) (then s.variables) code takes.names (record { numbers = after.numbers.items; references = r.references; fields = r.fields })
+              (subst (λ (l : List ℕ). Shows code takes.names (visible_to seen (then s.variables)) (record { numbers = l; references = r.references; fields = r.fields })) (sym receives.numbers)
+              (takes.shows h (visible_to seen (then s.variables)) (is_held shared s x h unnamed)));
+          depth =
+              ap (depth_at code.instrs) receives.place
+              ∙ depth_behind p w.classes old call code (visible_to shared s) s.frames task rest r (instr.Call function) at 0 (λ leaves. leaves) (ap (option_and_then (with_result function.target)) none_left ∙ no_word)
+              ∙ ap (λ (l : List ℕ). Some (length l)) (sym receives.stack);
+          frames_agree = frames_after (destination.Static i) receives;
+        };
+        viewless = none;
+      }
 
   -- ---- the test of an `if`
 
-  test_finishes : (target : Target) → with_result function.target 0 ≡ Some 1 → Receives destination.Test kind g carried after → IsNumber g c Jint → TakesTest code r.known call.place call.stack held (visible_to shared s) line target rest → Ends target
-  test_finishes target count receives n takes =
+  test_finishes : SameStatics → (target : Target) → with_result function.target 0 ≡ Some 1 → Receives destination.Test kind g carried after → IsNumber g c Jint → TakesTest code r.known call.place call.stack held (visible_to shared s) line target rest → Ends target
+  test_finishes same_statics target count receives n takes =
       let word : stack_with destination.Test g ≡ truth_word (is_zero c) ∷ [] =
       ap (stack_with destination.Test) n.same ∙ ap (λ (b : Bool). truth_word b ∷ []) (zero_word n.value n.sorted ∙ sym (ap is_zero n.gave)) in
       let tasks : List Task = Branch line (Done (Truth (is_zero c))) takes.then' takes.else' ∷ rest in
       subst Ends (sym takes.is) (record {
+        now = next;
         tasks = tasks;
+        store_agrees = with_same p w store next shares statics same_statics;
+        keeps = keeps;
         variables = s.variables;
         steps = ap (put (Tested takes.then' takes.else') c next) (resumed_is line f args rest s left q c plain (Tested takes.then' takes.else'));
         stands = stands_with (truth_word (is_zero c) ∷ []) tasks count destination.Test receives word r.known s.variables r.references r.fields (subst (λ (l : List (Option ℕ)). ReferencesAgree space l r.references) (sym receives.references) same_references)
@@ -393,18 +525,22 @@ module _ (p : Lowered) (w : World) (old space : Space) (shared next : Shared) (k
 
   -- ---- by where it goes
 
-  pub finishes : (d : Destination) (target : Target) → (kind ≡ NewLocal → IsDeclaredThere target) → function.target ≡ d → TakesResult code r.known call.place call.stack held (visible_to shared s) line d kind target rest → Receives d kind g carried after → Ends target
-  finishes (destination.Number i) target there same goes receives = number_finishes (ap (λ (d : Destination). with_result d 0) same) i target receives goes.0 (number_given w.classes space kind g c goes.0 agrees goes.1) goes.2
-  finishes (destination.Local i) target there same goes receives =
-      reference_finishes (ap (λ (d : Destination). with_result d 0) same) i target (there goes.0) receives (reference_given w.classes space g c (subst (λ (k : ResultKind). GivenAgrees w.classes space k g c) goes.0 agrees)) goes.1
-  finishes (destination.FieldId i) target there same goes receives =
-      field_finishes (ap (λ (d : Destination). with_result d 0) same) i target receives (field_given w.classes space g c (subst (λ (k : ResultKind). GivenAgrees w.classes space k g c) goes.0 agrees)) goes.1
-  finishes (destination.Static i) target there same goes receives = absurd (subst (λ (k : ResultKind). GivenAgrees w.classes space k g c) goes.0 agrees)
-  finishes destination.Test target there same goes receives =
-      test_finishes target (ap (λ (d : Destination). with_result d 0) same) receives (number_given w.classes space kind g c Jint agrees (ap number_sort goes.0)) goes.1
-  finishes destination.Dropped target there same goes receives =
+  pub finishes : (d : Destination) (target : Target) → (kind ≡ NewLocal → IsDeclaredThere target) → function.target ≡ d → TakesResult code r.known call.place call.stack held (visible_to shared s) line d kind target rest → Receives d kind g carried after → statics.items ≡ statics_with d g store.statics.items → Ends target
+  finishes (destination.Number i) target there same goes receives same_statics = number_finishes same_statics (ap (λ (d : Destination). with_result d 0) same) i target receives goes.0 (number_given w.classes space kind g c goes.0 (other_given w.classes store kind g c (λ e. let clash : None ≡ Some goes.0 = sym (ap number_sort e) ∙ goes.1 in cc) agrees) goes.1) goes.2
+  finishes (destination.Local i) target there same goes receives same_statics =
+      reference_finishes same_statics (ap (λ (d : Destination). with_result d 0) same) i target (there goes.0) receives (reference_given w.classes space g c (subst (λ (k : ResultKind). GivenAgrees w.classes space k g c) goes.0 (other_given w.classes store kind g c (λ e. let clash : NewLocal ≡ NewGlobal = sym goes.0 ∙ e in cc) agrees))) goes.1
+  finishes (destination.FieldId i) target there same goes receives same_statics =
+      field_finishes same_statics (ap (λ (d : Destination). with_result d 0) same) i target receives (field_given w.classes space g c (subst (λ (k : ResultKind). GivenAgrees w.classes space k g c) goes.0 (other_given w.classes store kind g c (λ e. let clash : GivesField ≡ NewGlobal = sym goes.0 ∙ e in cc) agrees))) goes.1
+  finishes (destination.Static i) target there same goes receives same_statics =
+      subst Ends (sym goes.1.1) (static_finishes i goes.1.0 (ap (λ (d : Destination). with_result d 0) same) receives goes.0 same_statics (global_given w.classes store g c (subst (λ (k : ResultKind). ResultAgrees w.classes store g k c) goes.0 agrees)) goes.1.2)
+  finishes destination.Test target there same goes receives same_statics =
+      test_finishes same_statics target (ap (λ (d : Destination). with_result d 0) same) receives (number_given w.classes space kind g c Jint (other_given w.classes store kind g c (λ e. let clash : GivesInt ≡ NewGlobal = sym goes.0 ∙ e in cc) agrees) (ap number_sort goes.0)) goes.1
+  finishes destination.Dropped target there same goes receives same_statics =
       subst Ends (sym goes.0) (record {
+        now = next;
         tasks = rest;
+        store_agrees = with_same p w store next shares statics same_statics;
+        keeps = keeps;
         variables = s.variables;
         steps = dropped_is line f args rest s left q c plain next;
         stands = stands_after (ap (λ (d : Destination). with_result d 0) same) destination.Dropped refl receives r.known s.variables r.references r.fields (subst (λ (l : List (Option ℕ)). ReferencesAgree space l r.references) (sym receives.references) same_references)

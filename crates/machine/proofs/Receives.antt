@@ -46,22 +46,27 @@ no_buffer classes space NewLocal given.Nothing (BufferResult b) h = h
 no_buffer classes space NewLocal (given.Number n) (BufferResult b) h = h
 no_buffer classes space NewLocal (given.Reference a) (BufferResult b) h = h
 no_buffer classes space NewLocal (given.FieldId a) (BufferResult b) h = h
+no_buffer classes space NewLocal (given.Global s) (BufferResult b) h = h
 no_buffer classes space GivesFlag given.Nothing (BufferResult b) h = h
 no_buffer classes space GivesFlag (given.Number n) (BufferResult b) h = h
 no_buffer classes space GivesFlag (given.Reference a) (BufferResult b) h = h
 no_buffer classes space GivesFlag (given.FieldId a) (BufferResult b) h = h
+no_buffer classes space GivesFlag (given.Global s) (BufferResult b) h = h
 no_buffer classes space GivesInt given.Nothing (BufferResult b) h = h
 no_buffer classes space GivesInt (given.Number n) (BufferResult b) h = h
 no_buffer classes space GivesInt (given.Reference a) (BufferResult b) h = h
 no_buffer classes space GivesInt (given.FieldId a) (BufferResult b) h = h
+no_buffer classes space GivesInt (given.Global s) (BufferResult b) h = h
 no_buffer classes space GivesField given.Nothing (BufferResult b) h = h
 no_buffer classes space GivesField (given.Number n) (BufferResult b) h = h
 no_buffer classes space GivesField (given.Reference a) (BufferResult b) h = h
 no_buffer classes space GivesField (given.FieldId a) (BufferResult b) h = h
+no_buffer classes space GivesField (given.Global s) (BufferResult b) h = h
 no_buffer classes space GivesNothing given.Nothing (BufferResult b) h = h
 no_buffer classes space GivesNothing (given.Number n) (BufferResult b) h = h
 no_buffer classes space GivesNothing (given.Reference a) (BufferResult b) h = h
 no_buffer classes space GivesNothing (given.FieldId a) (BufferResult b) h = h
+no_buffer classes space GivesNothing (given.Global s) (BufferResult b) h = h
 
 -- so nothing is told of a copy
 pub nothing_told : (x : Identifier) (c : CallResult) (variables : Variables) → IsNoBuffer c → tell_copy x c variables ≡ variables
@@ -203,6 +208,7 @@ module _ (space : Space) where
   frames_agree classes NewLocal given.Nothing c frames gs h agree = absurd h
   frames_agree classes NewLocal (given.Number n) c frames gs h agree = absurd h
   frames_agree classes NewLocal (given.FieldId f) c frames gs h agree = absurd h
+  frames_agree classes NewLocal (given.Global s) c frames gs h agree = absurd h
   frames_agree classes NewGlobal g c frames gs h agree = agree
   frames_agree classes GivesFlag g c frames gs h agree = agree
   frames_agree classes GivesInt g c frames gs h agree = agree

@@ -2,7 +2,10 @@
 use Rattle.std.proofs.Common.{inl, inr, ◌≡◌, ℕ, List, length, Option, Some, None, refl, sym, ap, ◌∙◌, subst, arith}
 use Rattle.std.specs.Global.{Vec}
 use Rattle.std.specs.Prelude.{slice_set}
-use Rattle.std.proofs.lemmas.List.{take_all}
+use Rattle.std.proofs.lemmas.List.{length-map, take_all}
+use Rattle.syntax.specs.Parts.{statics_of}
+use Rattle.syntax.specs.Tree.{Static}
+use Rattle.syntax.specs.Views.{unit_tree}
 use Rattle.base.specs.Bytes.{Identifier}
 use Rattle.source.specs.Object.{sizes}
 use Rattle.source.specs.Task.{VariableKind}
@@ -24,7 +27,7 @@ use Rattle.machine.specs.declared.store.Store.{Store}
 use Rattle.machine.specs.Agrees.{AreNamed, GlobalsAgree, HeldAgrees, Keeps, MayChange, StaticsAgree, StoreAgrees}
 use Rattle.machine.specs.Statics.{HaveKeys, all_held, held}
 use Rattle.machine.specs.Variables.{nulled_statics}
-use Rattle.machine.proofs.HeldStatics.{held_set, keys_left, same_names, static_put}
+use Rattle.machine.proofs.HeldStatics.{held_set, keys_left, same_names, static_put, statics_count}
 
 module _ (p : Lowered) (w : World) (store : Store) (shared : Shared) (h : StoreAgrees p w store shared) where
   -- other statics and other global references
@@ -56,6 +59,13 @@ module _ (p : Lowered) (w : World) (store : Store) (shared : Shared) (h : StoreA
       (same_names x r shared.statics i place ∙ h.named)
       (subst (HaveKeys store.globals) (sym is) keys)
       h.globals
+
+  -- there are as many as the unit has
+  pub shared_long : length shared.statics ≡ length (statics_of (unit_tree p.unit))
+  shared_long = sym (length-map shared.statics (λ (s : Identifier × StaticReference). s.0)) ∙ ap length h.named ∙ length-map (statics_of (unit_tree p.unit)) (λ (g : Static). g.name)
+
+  pub statics_long : length store.statics.items ≡ length (statics_of (unit_tree p.unit))
+  statics_long = sym (length-map store.statics.items (held store.globals)) ∙ statics_count store.heap (all_held store.globals store.statics.items) shared.statics h.statics ∙ shared_long
 
   -- the same statics
   pub with_same : (statics : Vec InMemory) → statics.items ≡ store.statics.items → StoreAgrees p w (record store { statics = statics }) shared

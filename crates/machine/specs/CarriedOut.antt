@@ -1,9 +1,9 @@
 -- What carrying out an answer leaves, by the effect of the source's call.
-use Rattle.std.specs.Prelude.{◌≡◌, ℕ, ◌-◌, ◌^◌, Bool, true, false, List, [], ◌∷◌, ◌++◌, Option, Some, None}
+use Rattle.std.specs.Prelude.{◌≡◌, ℕ, ◌-◌, ◌^◌, Bool, true, false, List, [], ◌∷◌, ◌++◌, slice_get, IsSome, Option, Some, None}
 use Rattle.classes.specs.Class.{Classes}
 use Rattle.heap.specs.Heap.{Space}
-use Rattle.jni.specs.Prototype.{ResultKind, NewLocal, GivesFlag, GivesInt, GivesField, GivesNothing}
-use Rattle.source.specs.CallEffects.{CallResult, NoResult, CallEffect, Leaves, Throws, Halts, out_of_memory}
+use Rattle.jni.specs.Prototype.{ResultKind, NewLocal, NewGlobal, GivesFlag, GivesInt, GivesField, GivesNothing}
+use Rattle.source.specs.CallEffects.{CallResult, NoResult, ReferenceResult, CallEffect, Leaves, Throws, Halts, out_of_memory}
 use Rattle.source.specs.CallStep.{failure, makes_objects}
 use Rattle.source.specs.Heap.{next_name}
 use Rattle.source.specs.Object.{Reference}
@@ -14,7 +14,12 @@ use Rattle.lower.specs.Lowered.{Lowered}
 use Rattle.machine.specs.declared.answer.Given.{Given}
 use Rattle.machine.specs.declared.answer.Given.TheVariants as given
 use Rattle.machine.specs.declared.store.Store.{Store}
-use Rattle.machine.specs.Agrees.{StoreAgrees, FramesAgree, Keeps}
+use Rattle.source.specs.Variable.{as_static}
+use Rattle.tables.specs.References.{address_at}
+use Rattle.machine.specs.Statics.{held}
+use Rattle.machine.specs.declared.statics.StaticReference.{StaticReference}
+use Rattle.machine.specs.declared.statics.StaticReference.TheVariants as static
+use Rattle.machine.specs.Agrees.{HeldAgrees, StoreAgrees, FramesAgree, Keeps}
 use Rattle.machine.specs.Answers.{GivenAgrees}
 use Rattle.machine.specs.Frames.{Frame}
 use Rattle.machine.specs.HeapAgrees.{ReferenceAgrees}
@@ -47,6 +52,15 @@ result_after kind false (Leaves made s' t' given) = given
 result_after kind false (Throws c) = failure kind
 result_after kind false (Halts trap) = NoResult
 
+-- a global reference that no static holds, or none
+abbrev pub IsFresh : Store → StaticReference → Type 0
+IsFresh store s = (key : ℕ) → s ≡ static.Live key → IsSome (address_at store.globals key) × ((i : ℕ) → slice_get store.statics.items i ≡ Some (static.Live key) → ⊥)
+
+-- what a function of this kind of result gives, where that may be for a static
+abbrev pub ResultAgrees : Classes → Store → Given → ResultKind → CallResult → Type 0
+ResultAgrees classes store (given.Global s) kind c = (kind ≡ NewGlobal) × ((r : Reference) × (c ≡ ReferenceResult r) × HeldAgrees store.heap (held store.globals s) (as_static r) × IsFresh store s)
+ResultAgrees classes store g kind c = GivenAgrees classes store.heap kind g c
+
 -- The store, the frames and the exception that is pending are those that the effect leaves, and what is given is what the call
 -- gives. Only what makes objects can be refused.
 pub record CarriesOut (p : Lowered) (w : World) (old : Space) (kind : ResultKind) (shared : Shared) (s : Thread) (effect : CallEffect) (refused : Bool) (store : Store) (pending : Option ℕ) (frames : List Frame) (given : Given) : Type 0 where
@@ -54,7 +68,8 @@ pub record CarriesOut (p : Lowered) (w : World) (old : Space) (kind : ResultKind
   pub keeps : Keeps old shared store.heap (shared_after w.classes refused shared effect)
   pub pending_agrees : ReferenceAgrees store.heap pending (pending_after w.classes refused shared s effect)
   pub frames_agree : FramesAgree store.heap frames (frames_left refused s effect)
-  pub given_agrees : GivenAgrees w.classes store.heap kind given (result_after kind refused effect)
+  pub given_agrees : ResultAgrees w.classes store given kind (result_after kind refused effect)
+  pub still : kind ≡ NewGlobal → (shared_after w.classes refused shared effect).statics ≡ shared.statics
   pub could_refuse : refused ≡ true → makes_objects effect ≡ true
 
 -- what a call of this kind of result gives where it fails

@@ -3,12 +3,13 @@ use Rattle.std.specs.Prelude.{◌≡◌, ℕ, ◌+◌, ◌<◌, ◌==◌, true, 
 use Rattle.code.specs.Effect.{truth_word}
 use Rattle.class_table.specs.declared.class.FieldHandle.{FieldHandle}
 use Rattle.code.specs.declared.instr.Target.{Target}
-use Rattle.code.specs.declared.instr.Target.TheVariants.{Number, Local, FieldId, Test}
+use Rattle.code.specs.declared.instr.Target.TheVariants.{Number, Local, FieldId, Static, Test}
 use Rattle.jni.specs.Prototype.{ResultKind, NewLocal}
 use Rattle.machine.specs.declared.answer.Given.{Given}
 use Rattle.machine.specs.declared.answer.Given.TheVariants as given
 use Rattle.machine.specs.declared.thread.Activation.{Activation}
 use Rattle.machine.specs.Frames.{Frame, has_room, with_local}
+use Rattle.machine.specs.declared.statics.StaticReference.{StaticReference}
 
 -- the stack, on which the test of an `if` finds the truth whether a number is 0
 abbrev pub stack_with : Target → Given → List ℕ
@@ -40,6 +41,11 @@ abbrev pub frames_with : ResultKind → Given → List Frame → List Frame
 frames_with NewLocal (given.Reference (Some a)) frames = with_local frames a
 frames_with kind g frames = frames
 
+-- the statics with it
+abbrev pub statics_with : Target → Given → List StaticReference → List StaticReference
+statics_with (Static i) (given.Global s) statics = slice_set statics i s
+statics_with target g statics = statics
+
 -- the target's slot is among this number of slots of numbers
 abbrev pub HasNumber : Target → ℕ → Type 0
 HasNumber (Number i) count = i < count
@@ -54,6 +60,11 @@ HasReference target count = Unit {0}
 abbrev pub HasField : Target → ℕ → Type 0
 HasField (FieldId i) count = i < count
 HasField target count = Unit {0}
+
+-- among this number of statics
+abbrev pub HasStatic : Target → ℕ → Type 0
+HasStatic (Static i) count = i < count
+HasStatic target count = Unit {0}
 
 -- the target's slot is there
 abbrev pub HasTarget : Target → Activation → Type 0

@@ -16,7 +16,7 @@ ghost use Rattle.machine.specs.WorkedOut.{address_in, class_object, count_there,
 ghost use Rattle.syntax.specs.Views.{element_tree};
 
 use crate::operands::{class_of_given, declaring, fits_there, handle_at, level_in, name_there, operand_of, reference_at};
-use crate::statics::References;
+use crate::statics::{References, StaticReference};
 use class_table::built_ins::{NO_CLASS_DEF_FOUND_ERROR, NO_SUCH_FIELD_ERROR};
 use class_table::class::FieldHandle;
 use class_table::table::ClassTable;
@@ -34,6 +34,8 @@ pub enum Given {
     Number(u32),
     Reference(Option<Addr>),
     FieldId(Option<FieldHandle>),
+    /// What a static comes to hold.
+    Global(StaticReference),
 }
 
 /// What a call does. A new object and an exception can be refused where the heap has no room.

@@ -62,7 +62,13 @@ pub fn invoke(
     );
     let kind = function.function.prototype().result;
     let carried = carry_out(world, store, pending, &mut call.frames, kind, answer)?;
-    receive(call, function.target, kind, &carried.given);
+    receive(
+        call,
+        &mut store.statics,
+        function.target,
+        kind,
+        &carried.given,
+    );
     Ok(if carried.refused {
         Executed::Refused
     } else {

@@ -2,10 +2,11 @@
 
 ghost use Rattle.std.specs.Prelude.{◌≡◌, ◌<◌, ◌^◌, ◌+◌, [], length};
 ghost use Rattle.jni.specs.Table.{result_value};
-ghost use Rattle.machine.specs.Received.{HasTarget, HasFrame, Receives, stack_with, numbers_with, references_with, levels_with, fields_with, frames_with, HasNumber, HasReference, HasField, HasRoom};
+ghost use Rattle.machine.specs.Received.{HasTarget, HasFrame, Receives, stack_with, numbers_with, references_with, levels_with, fields_with, frames_with, statics_with, HasNumber, HasReference, HasField, HasStatic, HasRoom};
 
 use crate::answer::Given;
 use crate::frame::{Frame, put_local};
+use crate::statics::StaticReference;
 use crate::thread::Activation;
 use class_table::class::FieldHandle;
 use code::instr::Target;
@@ -15,11 +16,19 @@ use jni::ResultKind;
 
 /// Puts what a function of this kind of result gives into its target, a new local reference also into the current frame, and
 /// goes on after the instruction. It takes no host memory.
-pub fn receive(call: &mut Activation, target: Target, kind: ResultKind, given: &Given)
+pub fn receive(
+    call: &mut Activation,
+    statics: &mut [StaticReference],
+    target: Target,
+    kind: ResultKind,
+    given: &Given,
+)
     requires place { call.old.place + 1 < 2 ^ 64 }
     requires target { HasTarget target call.old }
+    requires static_target { HasStatic target (length statics.old) }
     requires frame { HasFrame (result_value kind) call.old }
-    ensures { Receives target (result_value kind) given.now call.old call.new }
+    ensures call { Receives target (result_value kind) given.now call.old call.new }
+    ensures statics { statics.new ≡ statics_with target given.now statics.old }
 {
     call.stack.clear();
     call.place += 1;
@@ -29,6 +38,7 @@ pub fn receive(call: &mut Activation, target: Target, kind: ResultKind, given: &
     put_level(&mut call.levels, target, call.frames.len());
     put_field(&mut call.fields, target, given);
     put_frame(&mut call.frames, kind, given);
+    put_static(statics, target, given);
 }
 
 /// Puts the truth whether a number is 0 onto the stack, for the test of an `if`.
@@ -84,6 +94,17 @@ fn put_field(fields: &mut [Option<FieldHandle>], target: Target, given: &Given)
 {
     match (target, *given) {
         (Target::FieldId(slot), Given::FieldId(field)) => fields[slot as usize] = field,
+        _ => {}
+    }
+}
+
+/// Puts a global reference into its static. One that the static held stays.
+fn put_static(statics: &mut [StaticReference], target: Target, given: &Given)
+    requires { HasStatic target (length statics.old) }
+    ensures { statics.new ≡ statics_with target given.now statics.old }
+{
+    match (target, *given) {
+        (Target::Static(slot), Given::Global(reference)) => statics[slot as usize] = reference,
         _ => {}
     }
 }

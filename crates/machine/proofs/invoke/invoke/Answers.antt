@@ -1,4 +1,6 @@
-use Rattle.std.proofs.Common.{◌+◌, slice_get, ◌≡◌, ℕ, Bool, true, false, List, Option, None, is_some, refl, sym, ap, ◌∙◌, subst}
+use Rattle.std.specs.Vec.{with_items}
+use Rattle.std.proofs.lemmas.List.{with_items_is, places}
+use Rattle.std.proofs.Common.{rules, length, ◌+◌, slice_get, ◌≡◌, ℕ, Bool, true, false, List, Option, None, is_some, refl, sym, ap, ◌∙◌, subst}
 use Rattle.std.specs.Option.{option_map}
 use Rattle.classes.specs.Class.{Classes}
 use Rattle.classes.specs.Grown.{IsGrown}
@@ -25,17 +27,18 @@ use Rattle.machine.specs.Answers.{IsAnswer}
 use Rattle.machine.specs.Asked.{references_of}
 use Rattle.machine.specs.Statics.{References, all_held}
 use Rattle.machine.specs.declared.statics.StaticReference.{StaticReference}
-use Rattle.machine.specs.CarriedOut.{CarriesOut, IsPossible}
+use Rattle.machine.specs.CarriedOut.{CarriesOut, IsPossible, shared_after}
 use Rattle.machine.specs.Checked.{fit_together, is_answered, trap_found}
 use Rattle.machine.specs.Frames.{has_room}
 use Rattle.machine.specs.Given.{AreAddresses, AreHandles}
 use Rattle.machine.specs.Invoked.{AtCall}
-use Rattle.machine.specs.Received.{HasFrame, Receives}
+use Rattle.machine.specs.Received.{HasFrame, HasStatic, Receives, statics_with}
 use Rattle.machine.specs.Stops.{trap_view}
 use Rattle.machine.specs.WorkedOut.{IsWorkedOut}
 use Rattle.machine.proofs.BlockObjects.{is_address}
 use Rattle.machine.proofs.CallAnswers.{answers}
-use Rattle.machine.proofs.CallInstructions.{CalledAs, called, r, goes_on, has_frame, has_target, possible, traps}
+use Rattle.machine.proofs.CallInstructions.{CalledAs, called, r, goes_on, has_frame, has_static, has_target, possible, traps}
+use Rattle.machine.proofs.StaticStores.{shared_long, statics_long}
 use Rattle.machine.proofs.CallTraps.{found_is, handles_there, has_passed, objects_there}
 use Rattle.machine.proofs.invoke.invoke.Goals as goal
 
@@ -177,6 +180,25 @@ receive-requires-clause-target c =
     let a = c.requires.at_call in
     has_target a.0 c.args.world.now c.args.store.now c.args.pending.now c.args.call.now c.args.function.now a.1 a.2 a.3 a.4 a.5
 
+pub receive-requires-clause-static_target : goal.receive-requires-clause-static_target
+receive-requires-clause-static_target c =
+    let a = c.requires.at_call in
+    let w = c.args.world.now in
+    let found = told a.0 w c.args.store.now c.args.pending.now c.args.call.now c.args.function.now a.1 a.2 a.3 a.4 a.5 c.classes.result.now c.is_some.result c.has_room.result c.new-references.result c.deref-4.result.now c.check-trap.result
+    c.classes.ensures.classes c.is_some.ensures (c.has_room.ensures ∙ ap has_room c.deref-3.ensures.value) (named_are c.args.store.now c.args.call.now c.deref.result.now c.deref-2.result.now c.new-references.result c.new-references.ensures c.deref.ensures.value c.deref-2.ensures.value) c.deref-4.ensures.value c.check-trap.ensures in
+    let free = no_trap c.check-trap.result _ found c.in_default.is in
+    let kind = result_value c.prototype.result.now.result in
+    let same = ap (λ (x : Facts). x.prototype.result) c.prototype.ensures in
+    let lent : BuffersInUse = record { copied = 0; views = 0 } in
+    let it = called a.0 w c.args.store.now c.args.pending.now c.args.call.now c.args.function.now a.1 a.2 a.3 a.4 a.5 in
+    let effect = call_effect w.classes lent 0 a.1 a.2 it.args it.f in
+    let carried = c.carry_out-carried.ensures.carried a.0 a.1 a.2 effect (can_carry a.0 w c.args.store.now c.args.pending.now c.args.call.now c.args.function.now a.1 a.2 a.3 a.4 a.5 free kind same) (answered a.0 w c.args.store.now c.args.pending.now c.args.call.now c.args.function.now a.1 a.2 a.3 a.4 a.5 free c.classes.ensures.sound lent 0 c.classes-2.result.now c.deref-5.result.now c.new-references.result c.deref-6.result.now kind c.work_out-answer.result
+    c.classes-2.ensures.classes c.deref-5.ensures.value (named_are c.args.store.now c.args.call.now c.deref.result.now c.deref-2.result.now c.new-references.result c.new-references.ensures c.deref.ensures.value c.deref-2.ensures.value) c.deref-6.ensures.value same c.work_out-answer.ensures) in
+    let same_count : length a.1.statics ≡ length c.carry_out-carried.new.store.statics.items =
+    shared_long a.0 w c.args.store.now a.1 a.5.shares ∙ sym (statics_long a.0 w c.carry_out-carried.new.store (shared_after w.classes c.carry_out-carried.result.refused a.1 effect) carried.store_agrees) in
+    subst (λ (l : List StaticReference). HasStatic c.args.function.now.target (length l)) (sym c.deref_mut.ensures.value)
+    (has_static a.0 w c.args.store.now c.args.pending.now c.args.call.now c.args.function.now a.1 a.2 a.3 a.4 a.5 (length c.carry_out-carried.new.store.statics.items) same_count)
+
 pub receive-requires-clause-frame : goal.receive-requires-clause-frame
 receive-requires-clause-frame c =
     let a = c.requires.at_call in
@@ -205,10 +227,11 @@ returns-then-carried c p lent k shared s task rest h =
     c.classes-2.ensures.classes c.deref-5.ensures.value (named_are c.args.store.now c.args.call.now c.deref.result.now c.deref-2.result.now c.new-references.result c.new-references.ensures c.deref.ensures.value c.deref-2.ensures.value) c.deref-6.ensures.value same c.work_out-answer.ensures in
     let carried = c.carry_out-carried.ensures.carried p shared s effect (can_carry p w store pending call function shared s task rest h free kind same) answer in
     let told_refused = subst (λ (b : Bool). CarriesOut p w store.heap kind shared s effect b c.carry_out-carried.new.store c.carry_out-carried.new.pending c.carry_out-carried.new.frames.items c.carry_out-carried.result.given) c.if-carried.true carried in
-    goes_on p w store pending call function shared s task rest h lent k true c.carry_out-carried.new.store c.carry_out-carried.new.pending c.carry_out-carried.new.frames c.carry_out-carried.result.given c.receive.new.call c.work_out-answer.result free
+    goes_on p w store pending call function shared s task rest h lent k true c.carry_out-carried.new.store c.carry_out-carried.new.pending c.carry_out-carried.new.frames c.carry_out-carried.result.given c.receive.new.call (with_items c.carry_out-carried.new.store.statics c.receive.new.statics) c.work_out-answer.result free
     (subst (λ (x : ResultKind). IsAnswer w.classes store.heap x shared s c.work_out-answer.result effect) is answer)
     (subst (λ (x : ResultKind). CarriesOut p w store.heap x shared s effect true c.carry_out-carried.new.store c.carry_out-carried.new.pending c.carry_out-carried.new.frames.items c.carry_out-carried.result.given) is told_refused)
-    (subst (λ (x : ResultKind). Receives function.target x c.carry_out-carried.result.given (record call { frames = c.carry_out-carried.new.frames }) c.receive.new.call) is c.receive.ensures)
+    (subst (λ (x : ResultKind). Receives function.target x c.carry_out-carried.result.given (record call { frames = c.carry_out-carried.new.frames }) c.receive.new.call) is c.receive.ensures.call)
+    (with_items_is c.carry_out-carried.new.store.statics c.receive.new.statics (search (rules, places)) ∙ c.receive.ensures.statics ∙ ap (λ (l : List StaticReference). statics_with function.target c.carry_out-carried.result.given l) c.deref_mut.ensures.value)
 
 pub returns-else-carried : goal.returns-else-carried
 returns-else-carried c p lent k shared s task rest h =
@@ -229,7 +252,8 @@ returns-else-carried c p lent k shared s task rest h =
     c.classes-2.ensures.classes c.deref-5.ensures.value (named_are c.args.store.now c.args.call.now c.deref.result.now c.deref-2.result.now c.new-references.result c.new-references.ensures c.deref.ensures.value c.deref-2.ensures.value) c.deref-6.ensures.value same c.work_out-answer.ensures in
     let carried = c.carry_out-carried.ensures.carried p shared s effect (can_carry p w store pending call function shared s task rest h free kind same) answer in
     let told_refused = subst (λ (b : Bool). CarriesOut p w store.heap kind shared s effect b c.carry_out-carried.new.store c.carry_out-carried.new.pending c.carry_out-carried.new.frames.items c.carry_out-carried.result.given) c.if-carried.false carried in
-    goes_on p w store pending call function shared s task rest h lent k false c.carry_out-carried.new.store c.carry_out-carried.new.pending c.carry_out-carried.new.frames c.carry_out-carried.result.given c.receive.new.call c.work_out-answer.result free
+    goes_on p w store pending call function shared s task rest h lent k false c.carry_out-carried.new.store c.carry_out-carried.new.pending c.carry_out-carried.new.frames c.carry_out-carried.result.given c.receive.new.call (with_items c.carry_out-carried.new.store.statics c.receive.new.statics) c.work_out-answer.result free
     (subst (λ (x : ResultKind). IsAnswer w.classes store.heap x shared s c.work_out-answer.result effect) is answer)
     (subst (λ (x : ResultKind). CarriesOut p w store.heap x shared s effect false c.carry_out-carried.new.store c.carry_out-carried.new.pending c.carry_out-carried.new.frames.items c.carry_out-carried.result.given) is told_refused)
-    (subst (λ (x : ResultKind). Receives function.target x c.carry_out-carried.result.given (record call { frames = c.carry_out-carried.new.frames }) c.receive.new.call) is c.receive.ensures)
+    (subst (λ (x : ResultKind). Receives function.target x c.carry_out-carried.result.given (record call { frames = c.carry_out-carried.new.frames }) c.receive.new.call) is c.receive.ensures.call)
+    (with_items_is c.carry_out-carried.new.store.statics c.receive.new.statics (search (rules, places)) ∙ c.receive.ensures.statics ∙ ap (λ (l : List StaticReference). statics_with function.target c.carry_out-carried.result.given l) c.deref_mut.ensures.value)
