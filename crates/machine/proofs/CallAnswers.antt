@@ -462,9 +462,13 @@ module _ (p : Lowered) (w : World) (store : Store) (pending : Option ℕ) (call 
   unfolding call_effect
   answers_pop h answer is = subst (λ (x : Answer). Does PopLocalFrame x) (sym is) (refl, (reference_given args 0, agrees PopLocalFrame h 0, refl))
 
-  answers_delete : Asked DeleteLocalRef → (answer : Answer) → Works DeleteLocalRef answer → Does DeleteLocalRef answer
+  -- what is known of the level of a reference that is deleted
+  abbrev pub IsLevelled : JniFunction → Type 0
+  IsLevelled f = f ≡ DeleteLocalRef → (n : ℕ) → reference_given args 0 ≡ Some n → HasLevel call.levels.items (operand_of function.operands 0) (lookup (variable_given args 0) s.variables) s.frames
+
+  answers_delete : IsLevelled DeleteLocalRef → Asked DeleteLocalRef → (answer : Answer) → Works DeleteLocalRef answer → Does DeleteLocalRef answer
   unfolding call_effect
-  answers_delete h answer is =
+  answers_delete levelled h answer is =
       subst (λ (x : Answer). Does DeleteLocalRef x) (sym is) (by_reference (operand_at references (operand_of function.operands 0)) (reference_given args 0) refl (agrees DeleteLocalRef h 0))
     where
       level : ℕ
@@ -473,13 +477,19 @@ module _ (p : Lowered) (w : World) (store : Store) (pending : Option ℕ) (call 
       variable : Option Variable
       variable = lookup (variable_given args 0) s.variables
 
+      by_level : (a n : ℕ) → ReferenceAgrees store.heap (Some a) (Some n) → HasLevel call.levels.items (operand_of function.operands 0) variable s.frames → (b : Bool) → nat_lt 0 level ≡ b
+          → IsAnswer w.classes store.heap GivesNothing shared s (if b then Deletes level a else Gives given.Nothing) (delete_local_effect shared s variable (Some n))
+      by_level a n agree has true e = (refl, ltb-true 0 level e, has.high, (n, agree, ap (λ (l : ℕ). Leaves [] shared (record s { frames = without_local l n s.frames }) NoResult) (sym has.same)))
+      by_level a n agree has false e =
+          let none : level ≡ 0 = omega (arith, ltb-false 0 level e) in
+          let stays : without_local (level_of variable) n s.frames ≡ s.frames = ap (λ (l : ℕ). without_local l n s.frames) (sym has.same ∙ none) ∙ set_past s.frames (length s.frames - 0) _ (omega arith) in
+          (refl, ap (λ (fs : List Frame). record s { frames = fs }) stays, tt)
+
       by_reference : (o : Option ℕ) (r : Reference) → reference_given args 0 ≡ r → ReferenceAgrees store.heap o r → IsAnswer w.classes store.heap GivesNothing shared s (deletes o level) (delete_local_effect shared s variable r)
       by_reference None None e agree = (refl, refl, tt)
       by_reference None (Some n) e agree = absurd agree
       by_reference (Some a) None e agree = absurd agree
-      by_reference (Some a) (Some n) e agree =
-          let there = h.level refl n e in
-          (refl, there.low, there.high, (n, agree, ap (λ (l : ℕ). Leaves [] shared (record s { frames = without_local l n s.frames }) NoResult) (sym there.same)))
+      by_reference (Some a) (Some n) e agree = by_level a n agree (levelled refl n e) (nat_lt 0 level) refl
 
   -- the class objects are the first of the table
   answers_superclass : Asked GetSuperclass → (answer : Answer) → Works GetSuperclass answer → Does GetSuperclass answer
@@ -741,28 +751,28 @@ module _ (p : Lowered) (w : World) (store : Store) (pending : Option ℕ) (call 
       it.at_holder it.named_holder refl it.place refl refl (held_agrees (at 2) (reference_given args 2) (agrees SetStaticObjectField h 2)) h.store_agrees)
 
   -- the answer is what the call does
-  pub answers : (f : JniFunction) → Asked f → (target : Target) → trap_of_call w.classes shared s target f args ≡ None → (answer : Answer) → Works f answer → Does f answer
-  answers FindClass h target free answer is = answers_find h answer is
-  answers GetSuperclass h target free answer is = answers_superclass h answer is
-  answers GetObjectClass h target free answer is = answers_class h target free answer is
-  answers IsInstanceOf h target free answer is = answers_instance h answer is
-  answers IsAssignableFrom h target free answer is = answers_assignable h answer is
-  answers NewLocalRef h target free answer is = answers_new_local h answer is
-  answers IsSameObject h target free answer is = answers_same h answer is
-  answers EnsureLocalCapacity h target free answer is = answers_ensure h answer is
-  answers PushLocalFrame h target free answer is = answers_push h answer is
-  answers PopLocalFrame h target free answer is = answers_pop h answer is
-  answers DeleteLocalRef h target free answer is = answers_delete h answer is
-  answers AllocObject h target free answer is = answers_alloc h target free answer is
-  answers GetFieldID h target free answer is = answers_field h answer is
-  answers GetStaticFieldID h target free answer is = answers_static h answer is
-  answers (GetField T) h target free answer is = answers_get T h target free answer is
-  answers (SetField T) h target free answer is = answers_set T h target free answer is
-  answers GetObjectField h target free answer is = answers_get_object h target free answer is
-  answers SetObjectField h target free answer is = answers_set_object h target free answer is
-  answers (GetStaticField T) h target free answer is = answers_get_static T h target free answer is
-  answers (SetStaticField T) h target free answer is = answers_set_static T h target free answer is
-  answers GetStaticObjectField h target free answer is = answers_get_static_object h target free answer is
-  answers SetStaticObjectField h target free answer is = answers_set_static_object h target free answer is
-  answers GetArrayLength h target free answer is = answers_length h answer is
-  answers f h target free answer is = absurd (let no : is_answered f ≡ true = h.answered in cc)
+  pub answers : (f : JniFunction) → Asked f → (target : Target) → trap_of_call w.classes shared s target f args ≡ None → (answer : Answer) → Works f answer → IsLevelled f → Does f answer
+  answers FindClass h target free answer is levelled = answers_find h answer is
+  answers GetSuperclass h target free answer is levelled = answers_superclass h answer is
+  answers GetObjectClass h target free answer is levelled = answers_class h target free answer is
+  answers IsInstanceOf h target free answer is levelled = answers_instance h answer is
+  answers IsAssignableFrom h target free answer is levelled = answers_assignable h answer is
+  answers NewLocalRef h target free answer is levelled = answers_new_local h answer is
+  answers IsSameObject h target free answer is levelled = answers_same h answer is
+  answers EnsureLocalCapacity h target free answer is levelled = answers_ensure h answer is
+  answers PushLocalFrame h target free answer is levelled = answers_push h answer is
+  answers PopLocalFrame h target free answer is levelled = answers_pop h answer is
+  answers DeleteLocalRef h target free answer is levelled = answers_delete levelled h answer is
+  answers AllocObject h target free answer is levelled = answers_alloc h target free answer is
+  answers GetFieldID h target free answer is levelled = answers_field h answer is
+  answers GetStaticFieldID h target free answer is levelled = answers_static h answer is
+  answers (GetField T) h target free answer is levelled = answers_get T h target free answer is
+  answers (SetField T) h target free answer is levelled = answers_set T h target free answer is
+  answers GetObjectField h target free answer is levelled = answers_get_object h target free answer is
+  answers SetObjectField h target free answer is levelled = answers_set_object h target free answer is
+  answers (GetStaticField T) h target free answer is levelled = answers_get_static T h target free answer is
+  answers (SetStaticField T) h target free answer is levelled = answers_set_static T h target free answer is
+  answers GetStaticObjectField h target free answer is levelled = answers_get_static_object h target free answer is
+  answers SetStaticObjectField h target free answer is levelled = answers_set_static_object h target free answer is
+  answers GetArrayLength h target free answer is levelled = answers_length h answer is
+  answers f h target free answer is levelled = absurd (let no : is_answered f ≡ true = h.answered in cc)

@@ -52,6 +52,12 @@ use Rattle.machine.proofs.Arguments.{all_given, none_left_after}
 use Rattle.machine.proofs.CallTraps.{room_left}
 use Rattle.machine.proofs.Calls.{Ready, agree_count, fields_count, ready, slots_of}
 use Rattle.machine.proofs.Effects.{call_cases}
+use Rattle.machine.proofs.EffectFrames.{left_is}
+use Rattle.machine.proofs.FrameChanges.{frames_left as frames_after_agree}
+use Rattle.machine.proofs.Levels.{HasLevel, level_there}
+use Rattle.machine.proofs.Rooms.{full_where}
+use Rattle.source.specs.Checks.{is_full, frames_after as source_frames_after}
+use Rattle.source.specs.ThreadStep.{next_effect}
 use Rattle.machine.proofs.Invocations.{finishes, going, resumption}
 use Rattle.machine.proofs.HeldStatics.{place_below}
 use Rattle.machine.specs.declared.statics.StaticReference.{StaticReference}
@@ -185,14 +191,14 @@ module _ (p : Lowered) (classes : Classes) (space : Space) (call : Activation) (
   target_there line (destination.Static i) kind target h = (tt, tt, tt, tt)
   target_there line destination.Test kind target h = (tt, tt, tt, tt)
 
--- a local reference has room
-frame_by : (kind : ResultKind) (frames : List Frame) → (puts_local kind && not (has_room frames)) ≡ false → HasRoom kind frames
-frame_by NewLocal frames h = by_room (has_room frames) h
+-- a local reference has room in frames of which the source's have
+room_by : (kind : ResultKind) (frames : List Frame) (left checked_frames : List source.Frame) (space : Space) → (kind ≡ NewLocal → left ≡ checked_frames) → FramesAgree space frames left → (kind ≡ NewLocal → is_full (slice_get checked_frames 0) ≡ false) → HasRoom kind frames
+room_by NewLocal frames left checked_frames space same agree room = there (has_room frames) (sym (full_where space frames left agree) ∙ ap (λ (fs : List source.Frame). is_full (slice_get fs 0)) (same refl) ∙ room refl)
   where
-    by_room : (b : Bool) → (true && not b) ≡ false → b ≡ true
-    by_room true h = refl
-    by_room false h = absurd (cc)
-frame_by kind frames h = tt
+    there : (b : Bool) → not b ≡ false → b ≡ true
+    there true h = refl
+    there false h = absurd (cc)
+room_by kind frames left checked_frames space same agree room = tt
 
 -- ---- the call
 
@@ -206,6 +212,7 @@ pub record CalledAs (p : Lowered) (w : World) (store : Store) (pending : Option 
   pub is : effect ≡ Calls line target f args
   pub asked : IsAsked p w store pending call function shared s f args
   pub same_line : function.line ≡ line
+  pub operands : AllZip (IsOperand code r.known call.place call.stack (slots_of call r.references r.fields) (visible_to shared s)) function.operands args
   pub goes : TakesResult code r.known call.place call.stack (slots_of call r.references r.fields) (visible_to shared s) line function.target (prototype f).result target rest
   pub left : with_fewer (words_taken function.operands) (length call.stack) ≡ Some 0
 
@@ -222,8 +229,8 @@ module _ (p : Lowered) (w : World) (store : Store) (pending : Option ℕ) (call 
   called_by : (line : ℕ) (target : Target) (f : JniFunction) (args : List Actual) → CallsFunction h.code r.known call.place call.stack (slots_of call r.references r.fields) (visible_to shared s) line target f args rest → Called (Calls line target f args)
   called_by line target f args c =
       let same : c.call ≡ function = let both : instr.Call c.call ≡ instr.Call function = cc (h.at, c.at) in cc in
-      let given = all_given p w.classes store.heap call h.code (visible_to shared s) s.frames task rest r (all_held store.globals store.statics.items) h.shares.statics function.operands args
-      (subst (λ (x : Call). AllZip (IsOperand h.code r.known call.place call.stack (slots_of call r.references r.fields) (visible_to shared s)) x.operands args) same c.given) in
+      let operands = subst (λ (x : Call). AllZip (IsOperand h.code r.known call.place call.stack (slots_of call r.references r.fields) (visible_to shared s)) x.operands args) same c.given in
+      let given = all_given p w.classes store.heap call h.code (visible_to shared s) s.frames task rest r (all_held store.globals store.statics.items) h.shares.statics function.operands args operands in
       record {
         line = line;
         target = target;
@@ -244,12 +251,23 @@ module _ (p : Lowered) (w : World) (store : Store) (pending : Option ℕ) (call 
           texts = ap (λ (x : Call). x.texts) (sym same) ∙ c.texts;
         };
         same_line = ap (λ (x : Call). x.line) (sym same) ∙ c.same_line;
+        operands = operands;
         goes = subst (λ (x : Call). TakesResult h.code r.known call.place call.stack (slots_of call r.references r.fields) (visible_to shared s) line x.target (prototype f).result target rest) same c.goes;
         left = none_left_after w.classes store.heap (references_of store call) call.fields.items function.operands args call.stack given c.words;
       }
 
   pub called : Called (effect_of (sight_of shared s) task)
   called = call_cases p w.classes store.heap call h.code (visible_to shared s) s.frames task rest r (instr.Call function) h.at function refl Called called_by
+
+  -- the step is the call
+  next_is : next_effect shared s s.tasks ≡ Calls called.line called.target called.f called.args
+  next_is = ap (next_effect shared s) h.tasks ∙ called.is
+
+  -- the level of a reference that is deleted
+  pub levelled : called.f ≡ DeleteLocalRef → (n : ℕ) → reference_given called.args 0 ≡ Some n → HasLevel call.levels.items (operand_of function.operands 0) (lookup (variable_given called.args 0) s.variables) s.frames
+  levelled deletes n given =
+      level_there p w.classes store.heap call h.code shared s task rest r function.operands called.args n called.operands given
+      (h.steady.deleted called.line called.target called.args (next_is ∙ ap (λ (f : JniFunction). Calls called.line called.target f called.args) deletes))
 
   -- its slot is there
   pub has_target : HasTarget in_memory.target call
@@ -273,14 +291,32 @@ module _ (p : Lowered) (w : World) (store : Store) (pending : Option ℕ) (call 
 
   -- nothing was found
   module _ (free : trap_of_call w.classes shared s called.target called.f called.args ≡ None) where
-    pub has_frame : HasRoom (prototype called.f).result (frames_after called.f call.frames.items)
-    has_frame = frame_by (prototype called.f).result (frames_after called.f call.frames.items) (room_left p w store pending call function shared s called.f called.args called.asked called.target free)
+    -- the source's frames have room
+    source_room : (prototype called.f).result ≡ NewLocal → is_full (slice_get (source_frames_after called.f s.frames) 0) ≡ false
+    source_room local =
+        full_where store.heap (frames_after called.f call.frames.items) (source_frames_after called.f s.frames) (frames_after_agree store.heap called.f call.frames.items s.frames r.frames_agree)
+        ∙ by_kind (prototype called.f).result (has_room (frames_after called.f call.frames.items)) local (room_left p w store pending call function shared s called.f called.args called.asked called.target free)
+      where
+        by_kind : (kind : ResultKind) (b : Bool) → kind ≡ NewLocal → (puts_local kind && not b) ≡ false → not b ≡ false
+        by_kind NewLocal b local h = h
+        by_kind NewGlobal b local h = absurd (cc)
+        by_kind GivesFlag b local h = absurd (cc)
+        by_kind GivesInt b local h = absurd (cc)
+        by_kind GivesField b local h = absurd (cc)
+        by_kind GivesNothing b local h = absurd (cc)
+        by_kind (GivesBuffer a) b local h = absurd (cc)
 
     -- the effect of the source's call
     pub effect_is : (lent : BuffersInUse) (k : ℕ) → effect_of_call w.classes lent k shared s called.line called.target called.f called.args rest ≡ call_effect w.classes lent k shared s called.args called.f
     effect_is lent k = ap (λ (o : Option SourceTrap). checked o (call_effect w.classes lent k shared s called.args called.f)) free
 
   module _ (lent : BuffersInUse) (k : ℕ) where
+    -- a local reference has room in the frames that the call leaves
+    pub room_after : (free : trap_of_call w.classes shared s called.target called.f called.args ≡ None) (refused : Bool) (store' : Store) (pending' : Option ℕ) (frames : List Frame) (g : Given)
+        → CarriesOut p w store (prototype called.f).result shared s (call_effect w.classes lent k shared s called.args called.f) refused store' pending' frames g → HasRoom (prototype called.f).result frames
+    room_after free refused store' pending' frames g carried = room_by (prototype called.f).result frames (frames_left refused s (call_effect w.classes lent k shared s called.args called.f)) (source_frames_after called.f s.frames) store'.heap
+        (λ local. left_is w.classes lent k shared s called.args called.f called.asked.answered local refused carried.could_refuse) carried.frames_agree (source_room free)
+
     -- a trap stops the thread where it is
     pub traps : (trap : Trap) (line : ℕ) → line ≡ function.line → trap_of_call w.classes shared s called.target called.f called.args ≡ Some (trap_view trap)
         → Executes p w store.heap store lent k shared s rest call pending (effect_of (sight_of shared s) task) (Did (event.Trapped trap line))
@@ -319,7 +355,11 @@ module _ (p : Lowered) (w : World) (store : Store) (pending : Option ℕ) (call 
         let left = frames_left refused s effect in
         let q = pending_after w.classes refused shared s effect in
         let c = result_after (prototype called.f).result refused effect in
-        let ends = finishes p w store.heap store' shared next carried.store_agrees carried.keeps s h.viewless call h.code task rest r called.line called.f called.args frames left carried.frames_agree q g c carried.given_agrees carried.still function h.at called.left after statics function.target called.target refl called.goes received put in
+        let left_frames : (prototype called.f).result ≡ NewLocal → left ≡ source_frames_after called.f s.frames = λ local. left_is w.classes lent k shared s called.args called.f called.asked.answered local refused carried.could_refuse in
+        let ends = finishes p w store.heap store' shared next carried.store_agrees carried.keeps s h.viewless call h.code task rest r called.line called.f called.args frames left carried.frames_agree q g c carried.given_agrees carried.still function h.at called.left after statics function.target called.target
+        (λ local x level old is at.
+          h.steady.declared called.line x called.f called.args level old (next_is ∙ ap (λ (t : Target). Calls called.line t called.f called.args) is) local at
+          ∙ ap (λ (fs : List source.Frame). length fs) (sym (left_frames local))) refl called.goes received put in
         let steps = step_leaves w.classes lent k shared s called.line called.target called.f called.args rest refused effect (effect_is free lent k) (stays_with w.classes store.heap (prototype called.f).result shared s answer effect does) carried.could_refuse in
         subst (λ (e : Effect). GoesOn p w store.heap (record store' { statics = statics }) lent k shared s rest after pending' e refused event.Quiet) (sym called.is) (record {
           next_shared = ends.now;

@@ -27,6 +27,12 @@ module _ {A : Type 0} where
   set_end [] x v = refl
   set_end (y ∷ xs) x v = ap (λ (l : List A). y ∷ l) (set_end xs x v)
 
+  -- none past the end
+  pub set_past : (xs : List A) (i : ℕ) (v : A) → length xs ≤ i → slice_set xs i v ≡ xs
+  set_past [] i v h = refl
+  set_past (y ∷ xs) zero v h = absurd (omega (arith, h))
+  set_past (y ∷ xs) (suc i) v h = ap (λ (l : List A). y ∷ l) (set_past xs i v (omega (arith, h)))
+
   get_front : (xs : List A) (x : A) (i : ℕ) → i < length xs → slice_get (xs ++ x ∷ []) i ≡ slice_get xs i
   get_front [] x i h = absurd (omega (arith, h))
   get_front (y ∷ xs) x zero h = refl

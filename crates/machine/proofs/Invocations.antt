@@ -492,7 +492,7 @@ module _ (p : Lowered) (w : World) (old : Space) (store : Store) (shared next : 
           fields = r.fields;
           fields_agree = subst (λ (l : List (Option Handle)). FieldsAgree w.classes l r.fields) (sym receives.fields) r.fields_agree;
           shows = shows_stay seen now (inl now_statics) (then s.variables) code takes.names (record { numbers = after.numbers.items; references = r.references; fields = r.fields })
-              (subst (λ (l : List ℕ). Shows code takes.names (visible_to seen (then s.variables)) (record { numbers = l; references = r.references; fields = r.fields })) (sym receives.numbers)
+              (shown takes.names (visible_to seen (then s.variables)) r.references r.fields receives.numbers receives.levels
               (takes.shows h (visible_to seen (then s.variables)) (is_held shared s x h unnamed)));
           depth =
               ap (depth_at code.instrs) receives.place

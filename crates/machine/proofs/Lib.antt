@@ -35,6 +35,7 @@ pub mod CallInstructions
 pub mod Frames
 pub mod FrameChanges
 pub mod EffectFrames
+pub mod Levels
 pub mod Rooms
 pub mod Handles
 pub mod FewValues
