@@ -8,13 +8,15 @@ use Rattle.std.proofs.lemmas.Slice.Eq.{bytes_eq-Decides}
 use Rattle.base.specs.Bytes.{Identifier, ByName, lookup}
 use Rattle.syntax.specs.Tree as tree
 use Rattle.syntax.specs.Tree.{Argument}
-use Rattle.jni.specs.JniFunction.{Access, JniFunction, is_critical}
+use Rattle.jni.specs.JniFunction.{Access, JniFunction, DeleteLocalRef, is_critical}
 use Rattle.jni.specs.Prototype.{ParameterKind, FieldID, IntNumber, TextBytes, LocalVariable, StaticVariable, ArrayVariable, BufferVariable, Mode, IsCopy, prototype}
 use Rattle.types.specs.Sorts.{Sort, sort_in}
 use Rattle.types.specs.Sorts as sort
+use Rattle.source.specs.Arguments.{actuals, variable_given}
 use Rattle.source.specs.Object.{Reference}
 use Rattle.regions.specs.RegionRules.{is_critical_call}
 use Rattle.regions.specs.RegionStates.{VariableState, Untested, Usable, ReferenceAt, BufferIn, state_of}
+use Rattle.source.specs.Sight.{Sight}
 use Rattle.source.specs.Task as task
 use Rattle.source.specs.Task.{Task, SetScalar, SetElement, SetNull, MakeArray, Invoke, Print, Branch, EndIf, Loop, EndTurn, Target, Declared, Assigned, Tested, Dropped, Operand, NumberOperand, Given}
 use Rattle.source.specs.Term as term
@@ -318,3 +320,9 @@ module _ (ss : Statics) (vs : Variables) (frames : List Frame) (p : Point) (stan
   reference_clause (Loop line e t body) k r = term_alive t sort.Truth r.0
   reference_clause (task.ReturnValue line t) k r = return_alive t r.0
   reference_clause t k r = tt
+
+  -- DeleteLocalRef is given no dead reference
+  pub deleted_clause : (sight : Sight) (operands : List Operand) → OperandsFit p (prototype DeleteLocalRef).parameters operands → IsAlive frames (lookup (variable_given (actuals sight DeleteLocalRef operands) 0) vs)
+  deleted_clause sight (Given (tree.Value (tree.Variable x)) ∷ operands) h = live_alive x h.0
+  deleted_clause sight [] h = absurd h
+  deleted_clause sight (o ∷ operands) h = absurd h.0

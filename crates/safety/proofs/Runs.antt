@@ -36,7 +36,7 @@ use Rattle.safety.proofs.FrameLaws.{both_true}
 use Rattle.safety.proofs.KeptCalls.{KeepsCalls, calls_kept}
 use Rattle.safety.proofs.QuietLaws.{LandsIfPossible}
 use Rattle.safety.proofs.RefusedLaws.{marked_step_lands}
-use Rattle.safety.proofs.StepClauses.{view, return, references, release, declared}
+use Rattle.safety.proofs.StepClauses.{view, return, references, release, declared, deleted}
 use Rattle.safety.proofs.StepLaws.{Lands}
 
 -- ---- statics
@@ -259,5 +259,6 @@ module _ (unit : SourceUnit) (w : World) (enters : AllByRecursion (Enters (null_
         references = references s.shared t sound.goes;
         release = release s.shared t sound.goes;
         declared = declared s.shared t sound.goes;
+        deleted = deleted s.shared t sound.goes;
         progress = step_there unit w.classes (null_statics unit) enters s k t running there;
       }

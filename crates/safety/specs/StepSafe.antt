@@ -3,7 +3,7 @@ use Rattle.std.specs.Prelude.{◌≡◌, ◌≢◌, ℕ, ◌-◌, ◌==◌, nat_
 use Rattle.std.specs.List.{list_any, list_all, AllByRecursion}
 use Rattle.base.specs.Bytes.{Identifier, lookup}
 use Rattle.syntax.specs.Tree.{SourceUnit}
-use Rattle.jni.specs.JniFunction.{JniFunction, ReleaseBuffer}
+use Rattle.jni.specs.JniFunction.{JniFunction, ReleaseBuffer, DeleteLocalRef}
 use Rattle.jni.specs.Prototype.{NewLocal, prototype}
 use Rattle.types.specs.SortRules.{IsSorted}
 use Rattle.source.specs.declared.journal.Entry.TheVariants.{Step}
@@ -84,6 +84,8 @@ pub record StepSafe (unit : SourceUnit) (w : World) (s : State) (k : ℕ) (t : T
   -- a call that gives a new local reference to a variable that is there already finds it declared at the frame that is then current
   pub declared : (line : ℕ) (x : Identifier) (f : JniFunction) (args : List Actual) (level : ℕ) (r : Reference)
       → next_effect s.shared t t.tasks ≡ Calls line (Assigned x) f args → (prototype f).result ≡ NewLocal → lookup x t.variables ≡ Some (LocalRef level r) → level ≡ length (frames_after f t.frames)
+  -- DeleteLocalRef is given NULL or a reference that its frame has yet
+  pub deleted : (line : ℕ) (target : _) (args : List Actual) → next_effect s.shared t t.tasks ≡ Calls line target DeleteLocalRef args → IsAlive t.frames (lookup (variable_given args 0) t.variables)
   -- if it isn't ended, blocked or stopped, it can step
   pub progress : can_step w.classes s k ≡ true → (next : State) × (world_step unit w.classes s (Step k false) ≡ Some next)
 
