@@ -37,6 +37,11 @@ use Rattle.lower.specs.Lowered.{Lowered}
 use Rattle.base.specs.Element.{ElementType}
 use Rattle.source.specs.Value.{Int, convert}
 use Rattle.lower.specs.Slots.{word_of}
+use Rattle.machine.proofs.Levels.{HasLevel}
+use Rattle.base.specs.Bytes.{lookup}
+use Rattle.source.specs.Variable.{Variable}
+use Rattle.source.specs.Thread.{Frame}
+use Rattle.machine.proofs.FrameChanges.{set_past}
 use Rattle.machine.proofs.FieldValues.{word_there, reference_there, writes}
 use Rattle.code_generator.specs.Coding.{element_of}
 use Rattle.heap.specs.declared.value.Value.TheVariants as cell

@@ -1,14 +1,14 @@
 -- A call that the machine makes does what the source's call does.
 use Rattle.std.proofs.Common.{◌≡◌, ℕ, pos, Bool, true, false, not, List, [], ◌∷◌, length, Option, Some, None, refl, sym, ap, ◌∙◌, subst, arith, append-nil}
 use Rattle.std.specs.Global.{Vec}
-use Rattle.std.specs.Prelude.{◌&&◌, nat_le, if◌then◌else◌}
+use Rattle.std.specs.Prelude.{slice_get, ◌&&◌, nat_le, if◌then◌else◌}
 use Rattle.std.specs.List.{AllZip}
 use Rattle.classes.specs.Class.{Classes}
 use Rattle.heap.specs.Heap.{Space}
 use Rattle.jni.specs.BuiltFunctions.{is_built_function}
 use Rattle.jni.specs.JniFunction.{JniFunction, FindClass, GetSuperclass, GetObjectClass, IsInstanceOf, IsAssignableFrom, AllocObject, NewLocalRef, DeleteLocalRef, IsSameObject, EnsureLocalCapacity, PushLocalFrame, PopLocalFrame, GetFieldID, GetStaticFieldID, GetField, SetField, GetStaticField, SetStaticField, GetObjectField, SetObjectField, GetStaticObjectField, SetStaticObjectField, GetArrayLength, NewGlobalRef, GetBuffer}
 use Rattle.jni.specs.Prototype.{prototype, ResultKind, NewLocal}
-use Rattle.source.specs.Arguments.{Actual}
+use Rattle.source.specs.Arguments.{Actual, reference_given}
 use Rattle.source.specs.Object.{Object}
 use Rattle.source.specs.CallEffects.{CallEffect, CallResult, Halts, Leaves, ScalarResult, Throws, refuses_frames, with_capacity}
 use Rattle.source.specs.CallStep.{after_call, after_refusal, call_step, checked, effect_of_call, makes_objects, put, trap_of_call}
@@ -37,7 +37,7 @@ use Rattle.machine.specs.declared.store.Store.{Store}
 use Rattle.machine.specs.declared.thread.Activation.{Activation}
 use Rattle.machine.specs.declared.thread.Event.TheVariants as event
 use Rattle.machine.specs.declared.thread.Executed.TheVariants.{Did}
-use Rattle.machine.specs.Agrees.{Executes, GoesOn, WorkAgrees, after_any}
+use Rattle.machine.specs.Agrees.{FramesAgree, Executes, GoesOn, WorkAgrees, after_any}
 use Rattle.machine.specs.Answers.{IsAnswer}
 use Rattle.machine.specs.Asked.{IsAsked, references_of}
 use Rattle.machine.specs.Statics.{all_held}

@@ -1,5 +1,6 @@
 -- Where a call's result is put when it is a local reference.
 use Rattle.std.proofs.Common.{◌≡◌, Bool, true, false, Option, Some, None, refl, ap, ℕ, List}
+use Rattle.classes.specs.BuiltIns.{no_class_def_found_error}
 use Rattle.classes.specs.Class.{Classes, class_named}
 use Rattle.jni.specs.JniFunction.{JniFunction, FindClass, GetSuperclass, GetObjectClass, IsInstanceOf, IsAssignableFrom, AllocObject, NewLocalRef, DeleteLocalRef, IsSameObject, EnsureLocalCapacity, PushLocalFrame, PopLocalFrame, GetFieldID, GetStaticFieldID, GetField, SetField, GetStaticField, SetStaticField, GetObjectField, SetObjectField, GetStaticObjectField, SetStaticObjectField, GetArrayLength}
 use Rattle.jni.specs.Prototype.{NewLocal, prototype}
@@ -20,7 +21,7 @@ module _ (classes : Classes) (lent : BuffersInUse) (k : ℕ) (shared : Shared) (
   left_is FindClass a n true could = refl
   left_is FindClass a n false could = by_class (class_named classes (text_given args 0))
     where
-      by_class : (o : Option ℕ) → frames_left false s (found_class_effect shared s 10 o) ≡ s.frames
+      by_class : (o : Option ℕ) → frames_left false s (found_class_effect shared s no_class_def_found_error o) ≡ s.frames
       by_class None = refl
       by_class (Some c) = refl
   left_is GetSuperclass a n true could = refl

@@ -143,6 +143,14 @@ one_more n h = by_test (nat_lt n 64) h
     by_test false k = absurd (cc (k))
 
 -- An instruction that isn't plain has one of these effects.
+-- NULL in a variable changes no level
+null_shows : (code : Listing) (known : Known) (visible : Visible) (slots : Slots) (v : NullableVariable) → Shows code known visible (lower.with_null v slots)
+    → Shows code known visible (record { numbers = (lower.with_null v slots).numbers; references = (lower.with_null v slots).references; levels = slots.levels; fields = (lower.with_null v slots).fields })
+null_shows code known visible slots (nullable.Local i) h = h
+null_shows code known visible slots (nullable.Static i) h = h
+null_shows code known visible slots (nullable.FieldId i) h = h
+null_shows code known visible slots (nullable.Buffer i) h = h
+
 module _ (p : Lowered) (classes : Classes) (space : Space) (call : Activation) (code : Listing) (visible : Visible) (frames : List source.Frame) (task : Task) (rest : List Task) (r : Ready p classes space call code visible frames task rest) (i : Instr) (at : slice_get code.instrs call.place ≡ Some i) where
   abbrev slots : Slots
   slots = slots_of call r.references r.fields
@@ -395,7 +403,7 @@ module _ (p : Lowered) (w : World) (store : Store) (lent : BuffersInUse) (k : �
             steps = null.steps;
             work = stands_at p classes space call code seen s.frames task rest r after (call.place + 1) [] (lower.with_null variable held).numbers (nulled_references variable call.references.items) (lower.with_null variable held).references (nulled_fields variable call.fields.items) (lower.with_null variable held).fields h.names (visible_to now next) rest
                 (depth_behind p classes space call code seen s.frames task rest r i at 0 (λ leaves. subst Leaves is leaves) (ap (λ (j : Instr). depth_after j (length call.stack)) is ∙ ap (λ (st : List ℕ). Some (length st)) h.empty)) m' nulled.references nulled.fields h.stands
-                (subst (λ (v : NullableVariable). Shows code h.names (visible_to now next) (lower.with_null v held)) same (h.shows (visible_to now next) null.nulled));
+                (null_shows code h.names (visible_to now next) held variable (subst (λ (v : NullableVariable). Shows code h.names (visible_to now next) (lower.with_null v held)) same (h.shows (visible_to now next) null.nulled)));
             next_shared = now;
             store_agrees = store_nulled p w store shared shares code r.known call.place call.stack held s statics h.name variable kind stored nulled_are;
             keeps = keeps_but_statics p w store shared shares now.statics shared.globals (may_be_nulled kind h.name shared.statics);

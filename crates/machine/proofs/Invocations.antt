@@ -37,7 +37,7 @@ use Rattle.code.specs.declared.instr.Target.TheVariants as destination
 use Rattle.code_generator.specs.Layout.{Known}
 use Rattle.lower.specs.Does.{GoesInto, TakesStatic, TakesTest, TakesField, TakesNumber, TakesReference, TakesResult}
 use Rattle.lower.specs.Lowered.{Lowered}
-use Rattle.lower.specs.Slots.{Shows, Slots, ValueHasSort, kind_of_variable, static_index, type_of_array, visible_to, word_of}
+use Rattle.lower.specs.Slots.{Visible, Shows, Slots, ValueHasSort, kind_of_variable, static_index, type_of_array, visible_to, word_of}
 use Rattle.lower.specs.Stands.{StandsFor, number_sort}
 use Rattle.machine.specs.declared.answer.Given.{Given}
 use Rattle.machine.specs.declared.answer.Given.TheVariants as given
@@ -55,9 +55,10 @@ use Rattle.machine.specs.Frames.{Frame}
 use Rattle.machine.specs.HeapAgrees.{ReferenceAgrees}
 use Rattle.machine.specs.Received.{Receives, fields_with, frames_with, numbers_with, references_with, stack_with, statics_with}
 use Rattle.machine.proofs.Calls.{Ready, depth_behind, slots_of}
-use Rattle.machine.proofs.Changes.{field_by_kind, is_field_set, is_referred, is_set, local_by_kind, scalar_by_kind}
+use Rattle.machine.proofs.Changes.{lookup_same, field_by_kind, is_field_set, is_referred, is_set, local_by_kind, scalar_by_kind}
 use Rattle.machine.proofs.Keeping.{references_stay, shows_stay}
-use Rattle.machine.proofs.Receives.{IsNoBuffer, field_put, frames_agree, frames_received, no_buffer, nothing_told, received_is, reference_put}
+use Rattle.machine.proofs.FrameChanges.{as_many_frames}
+use Rattle.machine.proofs.Receives.{received_count, IsNoBuffer, field_put, frames_agree, frames_received, no_buffer, nothing_told, received_is, reference_put}
 use Rattle.machine.proofs.Views.{assigned_viewless}
 
 -- ---- the source's thread
@@ -491,7 +492,7 @@ module _ (p : Lowered) (w : World) (old : Space) (store : Store) (shared next : 
           agree = subst (λ (l : List (Option ℕ)). ReferencesAgree space l r.references) (sym receives.references) same_references;
           fields = r.fields;
           fields_agree = subst (λ (l : List (Option Handle)). FieldsAgree w.classes l r.fields) (sym receives.fields) r.fields_agree;
-          shows = shows_stay seen now (inl now_statics) (then s.variables) code takes.names (record { numbers = after.numbers.items; references = r.references; fields = r.fields })
+          shows = shows_stay seen now (inl now_statics) (then s.variables) code takes.names (record { numbers = after.numbers.items; references = r.references; levels = after.levels.items; fields = r.fields })
               (shown takes.names (visible_to seen (then s.variables)) r.references r.fields receives.numbers receives.levels
               (takes.shows h (visible_to seen (then s.variables)) (is_held shared s x h unnamed)));
           depth =

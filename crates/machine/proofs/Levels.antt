@@ -5,7 +5,7 @@ use Rattle.std.specs.List.{AllZip, list_any}
 use Rattle.std.proofs.lemmas.Bool.{leb-true}
 use Rattle.base.specs.Bytes.{Identifier, lookup}
 use Rattle.types.specs.Sorts.{Ref, Global}
-use Rattle.safety.specs.StepSafe.{IsAlive, references_at}
+use Rattle.safety.specs.StepSafe.{IsAlive, references_at, references_in}
 use Rattle.source.specs.Arguments.{Actual, ReferenceActual, FieldActual, NothingActual, NumberActual, TextActual, VariableActual, ModeActual, reference_given, reference_in_actual, variable_given}
 use Rattle.source.specs.CallEffects.{level_of}
 use Rattle.source.specs.Object.{Reference}
@@ -37,11 +37,11 @@ no_level (Some (LocalArray t zs)) k a = absurd (cc)
 
 -- a frame of this level is there, if it has a reference
 there : (level : ℕ) (frames : List Frame) (n : ℕ) → IsTrue (list_any (λ m. n == m) (references_at level frames)) → level ≤ length frames
-there level frames n h = by_test (nat_le level (length frames)) refl
+there level frames n h = by_test (nat_le level (length frames)) refl h
   where
-    by_test : (b : Bool) → nat_le level (length frames) ≡ b → level ≤ length frames
-    by_test true e = leb-true level (length frames) e
-    by_test false e = absurd (subst (λ (b : Bool). IsTrue (list_any (λ m. n == m) (if b then _ else []))) e h)
+    by_test : (b : Bool) → nat_le level (length frames) ≡ b → IsTrue (list_any (λ m. n == m) (if b then references_in (slice_get frames (length frames - level)) else [])) → level ≤ length frames
+    by_test true e h = leb-true level (length frames) e
+    by_test false e h = absurd (cc)
 
 some_object : (r : Reference) (n : ℕ) (x : Identifier) → reference_in_actual (Some (ReferenceActual x (as_static r))) ≡ Some n → r ≡ Some n
 some_object None n x e = absurd (cc)
