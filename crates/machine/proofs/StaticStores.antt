@@ -1,7 +1,11 @@
 -- The store once statics and global references have changed.
-use Rattle.std.proofs.Common.{inl, inr, ◌≡◌, ℕ, List, length, Option, Some, None, refl, sym, ap, ◌∙◌, subst, arith}
+use Rattle.std.proofs.Common.{inl, inr, ◌≡◌, ℕ, List, ◌∷◌, length, Option, Some, None, refl, sym, ap, ◌∙◌, subst, arith}
 use Rattle.std.specs.Global.{Vec}
-use Rattle.std.specs.Prelude.{slice_set}
+use Rattle.std.specs.Prelude.{slice_get, slice_set, IsSome}
+use Rattle.heap.specs.Heap.{name_at}
+use Rattle.tables.specs.References.{IsPut, address_at}
+use Rattle.machine.specs.CarriedOut.{IsFresh}
+use Rattle.machine.proofs.GlobalLaws.{address_new, globals_made, helds_kept, key_fresh, keys_kept}
 use Rattle.std.proofs.lemmas.List.{length-map, take_all}
 use Rattle.syntax.specs.Parts.{statics_of}
 use Rattle.syntax.specs.Tree.{Static}
@@ -71,6 +75,26 @@ module _ (p : Lowered) (w : World) (store : Store) (shared : Shared) (h : StoreA
   pub with_same : (statics : Vec InMemory) → statics.items ≡ store.statics.items → StoreAgrees p w (record store { statics = statics }) shared
   with_same statics is =
       with_references statics store.globals shared.statics shared.globals (subst (λ (l : List InMemory). StaticsAgree store.heap (all_held store.globals l) shared.statics) (sym is) h.statics) h.named (subst (HaveKeys store.globals) (sym is) h.keys) h.globals
+
+  -- a global reference was made
+  pub with_global : (globals : List (Option ℕ)) (key a n : ℕ) → IsPut 0 store.globals key a globals → name_at store.heap a ≡ Some n → StoreAgrees p w (record store { globals = globals }) (record shared { globals = n ∷ shared.globals })
+  with_global globals key a n put named =
+      with_references store.statics globals shared.statics (n ∷ shared.globals)
+      (subst (λ (l : List Held). StaticsAgree store.heap l shared.statics) (sym (helds_kept store.globals globals key a store.statics.items put h.keys)) h.statics)
+      h.named
+      (keys_kept store.globals globals key a store.statics.items put h.keys)
+      (globals_made store.heap store.globals globals shared.globals key a n h.globals put named)
+
+  -- its key is one that no static holds
+  pub fresh_global : (globals : List (Option ℕ)) (key a : ℕ) → IsPut 0 store.globals key a globals → IsFresh (record store { globals = globals }) (static.Live key)
+  fresh_global globals key a put k is =
+      let same : key ≡ k = cc in
+      subst (λ (j : ℕ). IsSome (address_at globals j) × ((i : ℕ) → slice_get store.statics.items i ≡ Some (static.Live j) → ⊥)) same
+      (some_there (address_at globals key) a (address_new store.globals globals key a put), key_fresh store.globals globals key a store.statics.items put h.keys)
+    where
+      some_there : (o : Option ℕ) (a : ℕ) → o ≡ Some a → IsSome o
+      some_there None a e = absurd (cc)
+      some_there (Some b) a e = refl
 
   module _ (code : Listing) (known : Known) (place : ℕ) (stack : List ℕ) (slots : Slots) (s : _) (statics : Vec InMemory) (x : Identifier) where
     -- NULL was stored
