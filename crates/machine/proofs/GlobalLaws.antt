@@ -268,3 +268,25 @@ module _ (globals : List (Option ℕ)) (key : ℕ) where
     -- what the statics hold then, of which this one is marked
     pub helds_marked : all_held (without globals key) (slice_set statics i static.Deleted) ≡ slice_set (all_held globals statics) i memory.Deleted
     helds_marked = marked statics i (λ j k there same. keys.own j i key (there ∙ ap (λ (n : ℕ). Some (static.Live n)) same) at)
+
+    deleted_place : (l : List StaticReference) (n j k : ℕ) → slice_get (slice_set l n static.Deleted) j ≡ Some (static.Live k) → (slice_get l j ≡ Some (static.Live k)) × (j ≡ n → ⊥)
+    deleted_place [] n j k there = absurd (cc)
+    deleted_place (s ∷ l) zero zero k there = absurd (cc)
+    deleted_place (s ∷ l) zero (suc j) k there = (there, λ e. cc)
+    deleted_place (s ∷ l) (suc n) zero k there = (there, λ e. cc)
+    deleted_place (s ∷ l) (suc n) (suc j) k there = let further = deleted_place l n j k there in (further.0, λ e. further.1 (let same : j ≡ n = cc in same))
+
+    -- the others keep their keys
+    pub keys_marked : HaveKeys (without globals key) (slice_set statics i static.Deleted)
+    keys_marked = record {
+      live = λ j k there.
+          let was = deleted_place statics i j k there in
+          subst (λ (o : Option ℕ). IsSome o) (sym (address_elsewhere globals key k (λ e. was.1 (keys.own j i key (was.0 ∙ ap (λ (n : ℕ). Some (static.Live n)) e) at)))) (keys.live j k was.0);
+      own = λ j m k there also. keys.own j m k (deleted_place statics i j k there).0 (deleted_place statics i m k also).0;
+    }
+
+-- the slot of an address
+pub slot_there : (slots : List (Option ℕ)) (place a : ℕ) → address_at slots place ≡ Some a → slice_get slots place ≡ Some (Some a)
+slot_there [] place a h = absurd (cc)
+slot_there (x ∷ slots) zero a h = ap (λ (o : Option ℕ). Some o) h
+slot_there (x ∷ slots) (suc place) a h = slot_there slots place a h
