@@ -92,7 +92,6 @@ answered_there f h = absurd (cc)
 
 -- what is answered can fail
 pub answered_fails : (f : JniFunction) → is_answered f ≡ true → can_fail (prototype f).result ≡ true
-answered_fails NewGlobalRef h = absurd (cc)
 answered_fails (GetBuffer a) h = absurd (cc)
 answered_fails f h = refl
 

@@ -1,5 +1,5 @@
 -- What is carried out is what the source's call leaves.
-use Rattle.std.proofs.Common.{◌≡◌, ℕ, pos, negsuc, zero, suc, ◌-◌, ◌<◌, ◌^◌, Bool, true, false, List, [], ◌∷◌, ◌++◌, length, Option, Some, refl, sym, ap, ◌∙◌, subst, arith, append-nil}
+use Rattle.std.proofs.Common.{◌≡◌, ℕ, pos, negsuc, zero, suc, ◌-◌, ◌<◌, ◌^◌, Bool, true, false, List, [], ◌∷◌, ◌++◌, length, inr, Option, Some, None, refl, sym, ap, ◌∙◌, subst, arith, append-nil}
 use Rattle.std.specs.Prelude.{slice_get, nat_le, if◌then◌else◌}
 use Rattle.std.proofs.lemmas.Option.{slice_get_within}
 use Rattle.classes.specs.Class.{Classes}
@@ -34,14 +34,14 @@ use Rattle.machine.proofs.Receives.{room_ensured, same_capacities}
 use Rattle.machine.proofs.Writes as writing
 
 -- a call that fails gives what it gives in the source
-failed_agrees : (classes : Classes) (space : Space) (kind : ResultKind) → can_fail kind ≡ true → GivenAgrees classes space kind (failed kind) (failure kind)
-failed_agrees classes space NewLocal h = refl
-failed_agrees classes space GivesField h = refl
-failed_agrees classes space GivesFlag h = refl
-failed_agrees classes space GivesInt h = (refl, record { sfits = omega arith })
-failed_agrees classes space GivesNothing h = tt
-failed_agrees classes space NewGlobal h = absurd (cc)
-failed_agrees classes space (GivesBuffer a) h = absurd (cc)
+failed_agrees : (classes : Classes) (store : Store) (kind : ResultKind) → can_fail kind ≡ true → ResultAgrees classes store (failed kind) kind (failure kind)
+failed_agrees classes store NewLocal h = refl
+failed_agrees classes store NewGlobal h = (refl, (None, inr (refl, refl), tt, λ key e. absurd (cc)))
+failed_agrees classes store GivesField h = refl
+failed_agrees classes store GivesFlag h = refl
+failed_agrees classes store GivesInt h = (refl, record { sfits = omega arith })
+failed_agrees classes store GivesNothing h = tt
+failed_agrees classes store (GivesBuffer a) h = absurd (cc)
 
 -- what isn't for a static
 result_agrees : (classes : Classes) (store : Store) (kind : ResultKind) (g : Given) (c : CallResult) → GivenAgrees classes store.heap kind g c → ResultAgrees classes store g kind c
@@ -82,7 +82,7 @@ module _ (p : Lowered) (w : World) (store : Store) (pending : Option ℕ) (frame
     keeps = keeps_same store.heap shared;
     pending_agrees = error_there;
     frames_agree = h.frames_agree;
-    given_agrees = result_agrees w.classes store kind _ _ (failed_agrees w.classes store.heap kind h.fails);
+    given_agrees = failed_agrees w.classes store kind h.fails;
     still = λ same. refl;
     could_refuse = λ e. makes;
   }
@@ -192,7 +192,7 @@ module _ (p : Lowered) (w : World) (store : Store) (pending : Option ℕ) (frame
           keeps = making.made_keeps p w store new shared class a h.store_agrees made;
           pending_agrees = making.made_named p w store new shared class a h.store_agrees made;
           frames_agree = frames_stay store.heap new.heap (making.names_stay p w store new shared class a h.store_agrees made) frames s.frames h.frames_agree;
-          given_agrees = result_agrees w.classes new kind _ _ (failed_agrees w.classes new.heap kind h.fails);
+          given_agrees = failed_agrees w.classes new kind h.fails;
           still = λ same. refl;
           could_refuse = λ e. absurd (cc);
         })

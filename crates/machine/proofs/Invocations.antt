@@ -177,12 +177,12 @@ record IsGlobal (store : Store) (g : Given) (c : CallResult) : Type 0 where
   pub held : InMemory
   pub reference : Reference
   pub same : g ≡ given.Global held
-  pub gave : c ≡ ReferenceResult reference
+  pub gave : static_result c ≡ as_static reference
   pub agrees : HeldAgrees store.heap (held_of store.globals held) (as_static reference)
   pub fresh : IsFresh store held
 
 global_given : (classes : Classes) (store : Store) (g : Given) (c : CallResult) → ResultAgrees classes store g NewGlobal c → IsGlobal store g c
-global_given classes store (given.Global s) c h = record { held = s; reference = h.1.0; same = refl; gave = h.1.1; agrees = h.1.2; fresh = h.1.3 }
+global_given classes store (given.Global s) c h = record { held = s; reference = h.1.0; same = refl; gave = ⊎_elim (λ e. ap static_result e) (λ e. ap static_result e.0 ∙ ap as_static (sym e.1)) h.1.1; agrees = h.1.2; fresh = h.1.3 }
 global_given classes store given.Nothing c h = absurd h
 global_given classes store (given.Number word) c h = absurd h
 global_given classes store (given.Reference a) c h = absurd h
@@ -201,7 +201,7 @@ plain_result classes store kind given.Nothing c h = no_buffer classes store.heap
 plain_result classes store kind (given.Number word) c h = no_buffer classes store.heap kind (given.Number word) c h
 plain_result classes store kind (given.Reference a) c h = no_buffer classes store.heap kind (given.Reference a) c h
 plain_result classes store kind (given.FieldId f) c h = no_buffer classes store.heap kind (given.FieldId f) c h
-plain_result classes store kind (given.Global s) c h = subst IsNoBuffer (sym h.1.1) tt
+plain_result classes store kind (given.Global s) c h = ⊎_elim (λ e. subst IsNoBuffer (sym e) tt) (λ e. subst IsNoBuffer (sym e.0) tt) h.1.1
 
 frames_result : (classes : Classes) (store : Store) (kind : ResultKind) (g : Given) (c : CallResult) (frames : List Frame) (gs : List source.Frame) → ResultAgrees classes store g kind c → FramesAgree store.heap frames gs → FramesAgree store.heap (frames_with kind g frames) (frames_received kind c gs)
 frames_result classes store kind given.Nothing c frames gs h agree = frames_agree store.heap classes kind given.Nothing c frames gs h agree
@@ -480,7 +480,7 @@ module _ (p : Lowered) (w : World) (old : Space) (store : Store) (shared next : 
         steps =
             ap (put (Assigned x) c next) (resumed_is line f args rest s left q c plain (Assigned x))
             ∙ ap (put_assigned x c next (then s.variables)) unnamed
-            ∙ ap (λ (v : StaticReference). source.Advances (record next { statics = assign x v next.statics }) (then s.variables) source.Quiet) (ap static_result n.gave);
+            ∙ ap (λ (v : StaticReference). source.Advances (record next { statics = assign x v next.statics }) (then s.variables) source.Quiet) n.gave;
         store_agrees = with_static p w store next shares statics x i n.held h assigned place n.agrees (keys_put store.globals store.statics.items i n.held n.fresh shares.keys);
         keeps = record { names = keeps.names; statics = inr (x, h, now_statics); sizes = keeps.sizes };
         stands = record {

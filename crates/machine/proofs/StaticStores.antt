@@ -1,7 +1,14 @@
 -- The store once statics and global references have changed.
-use Rattle.std.proofs.Common.{inl, inr, ◌≡◌, ℕ, List, length, Option, Some, None, refl, sym, ap, ◌∙◌, subst, arith}
+use Rattle.std.proofs.Common.{inl, inr, ◌≡◌, ℕ, List, ◌∷◌, length, Option, Some, None, refl, sym, ap, ◌∙◌, subst, arith}
 use Rattle.std.specs.Global.{Vec}
-use Rattle.std.specs.Prelude.{slice_set}
+use Rattle.std.specs.Prelude.{slice_get, slice_set, IsSome}
+use Rattle.heap.specs.Heap.{name_at}
+use Rattle.tables.specs.References.{IsPut, address_at}
+use Rattle.machine.specs.CarriedOut.{IsFresh}
+use Rattle.machine.proofs.GlobalLaws.{address_new, globals_deleted, globals_made, helds_kept, helds_marked, key_fresh, keys_kept, keys_marked, slot_there}
+use Rattle.machine.specs.declared.statics.Held.TheVariants as memory
+use Rattle.source.specs.CallEffects.{without_one}
+use Rattle.tables.specs.Globals.{without}
 use Rattle.std.proofs.lemmas.List.{length-map, take_all}
 use Rattle.syntax.specs.Parts.{statics_of}
 use Rattle.syntax.specs.Tree.{Static}
@@ -10,7 +17,7 @@ use Rattle.base.specs.Bytes.{Identifier}
 use Rattle.source.specs.Object.{sizes}
 use Rattle.source.specs.Task.{VariableKind}
 use Rattle.source.specs.Thread.{Shared}
-use Rattle.source.specs.Variable.{Empty, Statics, StaticReference, assign}
+use Rattle.source.specs.Variable.{Empty, Deleted, Statics, StaticReference, assign}
 use Rattle.source.specs.World.{World}
 use Rattle.code.specs.declared.instr.NullableVariable.{NullableVariable}
 use Rattle.code.specs.declared.instr.NullableVariable.TheVariants as nullable
@@ -71,6 +78,37 @@ module _ (p : Lowered) (w : World) (store : Store) (shared : Shared) (h : StoreA
   pub with_same : (statics : Vec InMemory) → statics.items ≡ store.statics.items → StoreAgrees p w (record store { statics = statics }) shared
   with_same statics is =
       with_references statics store.globals shared.statics shared.globals (subst (λ (l : List InMemory). StaticsAgree store.heap (all_held store.globals l) shared.statics) (sym is) h.statics) h.named (subst (HaveKeys store.globals) (sym is) h.keys) h.globals
+
+  -- a global reference was made
+  pub with_global : (globals : List (Option ℕ)) (key a n : ℕ) → IsPut 0 store.globals key a globals → name_at store.heap a ≡ Some n → StoreAgrees p w (record store { globals = globals }) (record shared { globals = n ∷ shared.globals })
+  with_global globals key a n put named =
+      with_references store.statics globals shared.statics (n ∷ shared.globals)
+      (subst (λ (l : List Held). StaticsAgree store.heap l shared.statics) (sym (helds_kept store.globals globals key a store.statics.items put h.keys)) h.statics)
+      h.named
+      (keys_kept store.globals globals key a store.statics.items put h.keys)
+      (globals_made store.heap store.globals globals shared.globals key a n h.globals put named)
+
+  -- its key is one that no static holds
+  pub fresh_global : (globals : List (Option ℕ)) (key a : ℕ) → IsPut 0 store.globals key a globals → IsFresh (record store { globals = globals }) (static.Live key)
+  fresh_global globals key a put k is =
+      let same : key ≡ k = cc in
+      subst (λ (j : ℕ). IsSome (address_at globals j) × ((i : ℕ) → slice_get store.statics.items i ≡ Some (static.Live j) → ⊥)) same
+      (some_there (address_at globals key) a (address_new store.globals globals key a put), key_fresh store.globals globals key a store.statics.items put h.keys)
+    where
+      some_there : (o : Option ℕ) (a : ℕ) → o ≡ Some a → IsSome o
+      some_there None a e = absurd (cc)
+      some_there (Some b) a e = refl
+
+  -- the global reference of a static ended, and the static is marked
+  pub with_deleted : (statics : Vec InMemory) (x : Identifier) (i key a n : ℕ) → slice_get store.statics.items i ≡ Some (static.Live key) → address_at store.globals key ≡ Some a → name_at store.heap a ≡ Some n → static_index x shared.statics ≡ Some i → statics.items ≡ slice_set store.statics.items i static.Deleted
+      → StoreAgrees p w (record store { statics = statics; globals = without store.globals key }) (record shared { statics = assign x Deleted shared.statics; globals = without_one n shared.globals })
+  with_deleted statics x i key a n at address named place is =
+      with_references statics (without store.globals key) (assign x Deleted shared.statics) (without_one n shared.globals)
+      (subst (λ (l : List Held). StaticsAgree store.heap l (assign x Deleted shared.statics)) (sym (ap (all_held (without store.globals key)) is ∙ helds_marked store.globals key store.statics.items i at h.keys))
+      (static_put store.heap x (all_held store.globals store.statics.items) shared.statics i memory.Deleted Deleted h.statics place tt))
+      (same_names x Deleted shared.statics i place ∙ h.named)
+      (subst (HaveKeys (without store.globals key)) (sym is) (keys_marked store.globals key store.statics.items i at h.keys))
+      (globals_deleted store.heap store.globals shared.globals key a n h.globals (slot_there store.globals key a address) named)
 
   module _ (code : Listing) (known : Known) (place : ℕ) (stack : List ℕ) (slots : Slots) (s : _) (statics : Vec InMemory) (x : Identifier) where
     -- NULL was stored

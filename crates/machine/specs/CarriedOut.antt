@@ -1,9 +1,9 @@
 -- What carrying out an answer leaves, by the effect of the source's call.
-use Rattle.std.specs.Prelude.{◌≡◌, ℕ, ◌-◌, ◌^◌, Bool, true, false, List, [], ◌∷◌, ◌++◌, slice_get, IsSome, Option, Some, None}
+use Rattle.std.specs.Prelude.{◌≡◌, ℕ, ◌-◌, ◌^◌, Bool, true, false, List, [], ◌∷◌, ◌++◌, slice_get, ◌⊎◌, IsSome, Option, Some, None}
 use Rattle.classes.specs.Class.{Classes}
 use Rattle.heap.specs.Heap.{Space}
 use Rattle.jni.specs.Prototype.{ResultKind, NewLocal, NewGlobal, GivesFlag, GivesInt, GivesField, GivesNothing}
-use Rattle.source.specs.CallEffects.{CallResult, NoResult, ReferenceResult, CallEffect, Leaves, Throws, Halts, out_of_memory}
+use Rattle.source.specs.CallEffects.{CallResult, NoResult, NullResult, ReferenceResult, CallEffect, Leaves, Throws, Halts, out_of_memory}
 use Rattle.source.specs.CallStep.{failure, makes_objects}
 use Rattle.source.specs.Heap.{next_name}
 use Rattle.source.specs.Object.{Reference}
@@ -58,7 +58,7 @@ IsFresh store s = (key : ℕ) → s ≡ static.Live key → IsSome (address_at s
 
 -- what a function of this kind of result gives, where that may be for a static
 abbrev pub ResultAgrees : Classes → Store → Given → ResultKind → CallResult → Type 0
-ResultAgrees classes store (given.Global s) kind c = (kind ≡ NewGlobal) × ((r : Reference) × (c ≡ ReferenceResult r) × HeldAgrees store.heap (held store.globals s) (as_static r) × IsFresh store s)
+ResultAgrees classes store (given.Global s) kind c = (kind ≡ NewGlobal) × ((r : Reference) × ((c ≡ ReferenceResult r) ⊎ ((c ≡ NullResult) × (r ≡ None))) × HeldAgrees store.heap (held store.globals s) (as_static r) × IsFresh store s)
 ResultAgrees classes store g kind c = GivenAgrees classes store.heap kind g c
 
 -- The store, the frames and the exception that is pending are those that the effect leaves, and what is given is what the call
@@ -75,6 +75,7 @@ pub record CarriesOut (p : Lowered) (w : World) (old : Space) (kind : ResultKind
 -- what a call of this kind of result gives where it fails
 abbrev pub failed : ResultKind → Given
 failed NewLocal = given.Reference None
+failed NewGlobal = given.Global static.Empty
 failed GivesField = given.FieldId None
 failed GivesInt = given.Number (2 ^ 32 - 1)
 failed GivesFlag = given.Number 0
@@ -83,6 +84,7 @@ failed kind = given.Nothing
 -- the kinds of results of the functions whose calls are worked out
 abbrev pub can_fail : ResultKind → Bool
 can_fail NewLocal = true
+can_fail NewGlobal = true
 can_fail GivesField = true
 can_fail GivesInt = true
 can_fail GivesFlag = true

@@ -12,6 +12,7 @@ ghost use Rattle.machine.specs.declared.answer.Given.TheVariants.{Number};
 use crate::answer::{Answer, Given};
 use crate::frame::{Frame, delete_local, ensure_capacity, pop_frame, push_frame};
 use crate::make::make;
+use crate::statics::StaticReference;
 use crate::store::Store;
 use heap::Addr;
 use jni::ResultKind;
@@ -139,6 +140,7 @@ fn failed(kind: ResultKind) -> Given
 {
     match kind {
         ResultKind::NewLocal => Given::Reference(None),
+        ResultKind::NewGlobal => Given::Global(StaticReference::Empty),
         ResultKind::GivesField => Given::FieldId(None),
         ResultKind::GivesInt => Given::Number(u32::MAX),
         ResultKind::GivesFlag => Given::Number(0),
