@@ -312,7 +312,7 @@ module _ (p : Lowered) (w : World) (store : Store) (pending : Option ℕ) (call 
   module _ (lent : BuffersInUse) (k : ℕ) where
     -- a local reference has room in the frames that the call leaves
     pub room_after : (free : trap_of_call w.classes shared s called.target called.f called.args ≡ None) (refused : Bool) (store' : Store) (pending' : Option ℕ) (frames : List Frame) (g : Given)
-        → CarriesOut p w store (prototype called.f).result shared s (call_effect w.classes lent k shared s called.args called.f) refused store' pending' frames g → HasRoom (prototype called.f).result frames
+        → CarriesOut p w store.heap (prototype called.f).result shared s (call_effect w.classes lent k shared s called.args called.f) refused store' pending' frames g → HasRoom (prototype called.f).result frames
     room_after free refused store' pending' frames g carried = room_by (prototype called.f).result frames (frames_left refused s (call_effect w.classes lent k shared s called.args called.f)) (source_frames_after called.f s.frames) store'.heap
         (λ local. left_is w.classes lent k shared s called.args called.f called.asked.answered local refused carried.could_refuse) carried.frames_agree (source_room free)
 

@@ -14,6 +14,7 @@ use Rattle.code.specs.declared.instr.Instr.TheVariants as instr
 use Rattle.code.specs.Call.{Call}
 use Rattle.code.specs.declared.instr.NullableVariable.{NullableVariable}
 use Rattle.code.specs.declared.instr.NullableVariable.TheVariants as nullable
+use Rattle.code_generator.specs.Layout.{Known}
 use Rattle.code.specs.declared.instr.Plain.{Plain}
 use Rattle.code.specs.declared.instr.Plain.TheVariants as plain
 use Rattle.code.specs.Effect.{truth_word, plain_of, IsPlain}

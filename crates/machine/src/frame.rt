@@ -187,12 +187,12 @@ pub fn pop_frame(frames: &mut Vec<Frame>)
     let _ = frames.pop();
 }
 
-/// The frames that are there when a function's result is put into the current one.
-pub fn frames_after(function: JniFunction, frames: &[Frame]) -> &[Frame]
-    ensures { result.now ≡ frames_after (function_value function) frames.now }
+/// Whether there is room for a local reference that a function gives: `PopLocalFrame` puts it into the frame below.
+pub fn room_after(function: JniFunction, frames: &Vec<Frame>) -> bool
+    ensures { result ≡ has_room (frames_after (function_value function) frames.now.items) }
 {
     match function {
-        JniFunction::PopLocalFrame => &frames[..frames.len().saturating_sub(1)],
-        _ => frames,
+        JniFunction::PopLocalFrame => has_room(&frames[..frames.len().saturating_sub(1)]),
+        _ => has_room(frames),
     }
 }

@@ -11,7 +11,7 @@ ghost use Rattle.machine.specs.Invoked.{AtCall};
 use crate::answer::work_out;
 use crate::carry_out::carry_out;
 use crate::check::check;
-use crate::frame::{frames_after, has_room};
+use crate::frame::room_after;
 use crate::receive::receive;
 use crate::statics::References;
 use crate::store::Store;
@@ -42,7 +42,7 @@ pub fn invoke(
         world.classes(),
         &store.heap,
         pending.is_some(),
-        has_room(frames_after(function.function, &call.frames)),
+        room_after(function.function, &call.frames),
         &references,
         &call.fields,
         function,

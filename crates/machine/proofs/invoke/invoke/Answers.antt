@@ -48,7 +48,7 @@ module _ (p : Lowered) (w : World) (store : Store) (pending : Option ℕ) (call 
   it = called p w store pending call function shared s task rest h
 
   -- the trap that was found is the source's
-  told : (classes : Classes) (is_pending room : Bool) (references : References) (fields : List (Option FieldHandle)) (o : Option Trap) → classes ≡ w.classes → is_pending ≡ is_some pending → room ≡ has_room call.frames.items → references ≡ references_of store call → fields ≡ call.fields.items
+  told : (classes : Classes) (is_pending room : Bool) (references : References) (fields : List (Option FieldHandle)) (o : Option Trap) → classes ≡ w.classes → is_pending ≡ is_some pending → room ≡ has_room (frames_after (function_value function.function) call.frames.items) → references ≡ references_of store call → fields ≡ call.fields.items
       → option_map trap_view o ≡ trap_found classes store.heap is_pending room references fields (function_value function.function) function.operands.items
       → option_map trap_view o ≡ trap_of_call w.classes shared s it.target it.f it.args
   told classes is_pending room references fields o same_classes same_pending same_room same_references same_fields found =
@@ -78,23 +78,22 @@ module _ (p : Lowered) (w : World) (store : Store) (pending : Option ℕ) (call 
         (λ i. fit_together (same_classes i) store.heap (same_references i) (same_fields i) function.operands.items (it.asked.same_function i))
         ∙ has_passed p w store pending call (call_view function) shared s it.f it.args it.asked it.target free
 
-    answered : (sound : IsSound w) (lent : BuffersInUse) (k : ℕ) (classes : Classes) (loaded : List ℕ) (references : References) (fields : List (Option FieldHandle)) (kind : ResultKind) (answer : Answer) → classes ≡ w.classes → loaded ≡ store.loaded.items → references ≡ references_of store call → fields ≡ call.fields.items
-        → kind ≡ (prototype (function_value function.function)).result → IsWorkedOut classes store.heap loaded references fields call.stack (call_view function) (function_value function.function) answer
+    answered : (sound : IsSound w) (lent : BuffersInUse) (k : ℕ) (classes : Classes) (loaded : List ℕ) (references : References) (levels : List ℕ) (fields : List (Option FieldHandle)) (kind : ResultKind) (answer : Answer) → classes ≡ w.classes → loaded ≡ store.loaded.items → references ≡ references_of store call → levels ≡ call.levels.items → fields ≡ call.fields.items
+        → kind ≡ (prototype (function_value function.function)).result → IsWorkedOut classes store.heap loaded references levels fields call.stack (call_view function) (function_value function.function) answer
         → IsAnswer w.classes store.heap kind shared s answer (call_effect w.classes lent k shared s it.args it.f)
-    answered sound lent k classes loaded references fields kind answer same_classes same_loaded same_references same_fields same_kind works =
+    answered sound lent k classes loaded references levels fields kind answer same_classes same_loaded same_references same_levels same_fields same_kind works =
         subst (λ (x : ResultKind). IsAnswer w.classes store.heap x shared s answer (call_effect w.classes lent k shared s it.args it.f)) (sym (kind_is kind same_kind))
         (answers p w store pending call (call_view function) shared s sound lent k it.args it.f it.asked it.target free answer
-        (subst (λ (x : JniFunction). IsWorkedOut w.classes store.heap store.loaded.items (references_of store call) call.fields.items call.stack (call_view function) x answer) it.asked.same_function
-        (subst (λ (l : List (Option FieldHandle)). IsWorkedOut w.classes store.heap store.loaded.items (references_of store call) l call.stack (call_view function) (function_value function.function) answer) same_fields
-        (subst (λ (l : References). IsWorkedOut w.classes store.heap store.loaded.items l fields call.stack (call_view function) (function_value function.function) answer) same_references
-        (subst (λ (l : List ℕ). IsWorkedOut w.classes store.heap l references fields call.stack (call_view function) (function_value function.function) answer) same_loaded
-        (subst (λ (t : Classes). IsWorkedOut t store.heap loaded references fields call.stack (call_view function) (function_value function.function) answer) same_classes works))))))
+        (subst (λ (x : JniFunction). IsWorkedOut w.classes store.heap store.loaded.items (references_of store call) call.levels.items call.fields.items call.stack (call_view function) x answer) it.asked.same_function
+        (subst (λ (l : List (Option FieldHandle)). IsWorkedOut w.classes store.heap store.loaded.items (references_of store call) call.levels.items l call.stack (call_view function) (function_value function.function) answer) same_fields
+        (subst (λ (l : List ℕ). IsWorkedOut w.classes store.heap store.loaded.items (references_of store call) l fields call.stack (call_view function) (function_value function.function) answer) same_levels
+        (subst (λ (l : References). IsWorkedOut w.classes store.heap store.loaded.items l levels fields call.stack (call_view function) (function_value function.function) answer) same_references
+        (subst (λ (l : List ℕ). IsWorkedOut w.classes store.heap l references levels fields call.stack (call_view function) (function_value function.function) answer) same_loaded
+        (subst (λ (t : Classes). IsWorkedOut t store.heap loaded references levels fields call.stack (call_view function) (function_value function.function) answer) same_classes works))))))
+        (levelled p w store pending call function shared s task rest h))
 
     can_carry : (kind : ResultKind) → kind ≡ (prototype (function_value function.function)).result → IsPossible p w store pending call.frames.items kind shared s
     can_carry kind same = subst (λ (x : ResultKind). IsPossible p w store pending call.frames.items x shared s) (sym (kind_is kind same)) (possible p w store pending call function shared s task rest h)
-
-    framed : (kind : ResultKind) → kind ≡ (prototype (function_value function.function)).result → HasFrame kind call
-    framed kind same = subst (λ (x : ResultKind). HasFrame x call) (sym (kind_is kind same)) (has_frame p w store pending call function shared s task rest h free)
 
 -- what the operands name
 named_are : (store : Store) (call : Activation) (locals : List (Option ℕ)) (statics : List StaticReference) (r : References) → r ≡ record { locals = locals; statics = all_held store.globals statics } → locals ≡ call.references.items → statics ≡ store.statics.items → r ≡ references_of store call
@@ -112,13 +111,13 @@ check-trap-requires-clause-objects c =
 pub check-trap-requires-clause-handles : goal.check-trap-requires-clause-handles
 check-trap-requires-clause-handles c =
     let a = c.requires.at_call in
-    handled a.0 c.args.world.now c.args.store.now c.args.pending.now c.args.call.now c.args.function.now a.1 a.2 a.3 a.4 a.5 c.classes.result.now c.deref-4.result.now c.classes.ensures.classes c.deref-4.ensures.value
+    handled a.0 c.args.world.now c.args.store.now c.args.pending.now c.args.call.now c.args.function.now a.1 a.2 a.3 a.4 a.5 c.classes.result.now c.deref-3.result.now c.classes.ensures.classes c.deref-3.ensures.value
 
 pub returns-in-Some : goal.returns-in-Some
 returns-in-Some c p lent k shared s task rest h =
     let w = c.args.world.now in
-    let found = told p w c.args.store.now c.args.pending.now c.args.call.now c.args.function.now shared s task rest h c.classes.result.now c.is_some.result c.has_room.result c.new-references.result c.deref-4.result.now c.check-trap.result
-    c.classes.ensures.classes c.is_some.ensures (c.has_room.ensures ∙ ap has_room c.deref-3.ensures.value) (named_are c.args.store.now c.args.call.now c.deref.result.now c.deref-2.result.now c.new-references.result c.new-references.ensures c.deref.ensures.value c.deref-2.ensures.value) c.deref-4.ensures.value c.check-trap.ensures in
+    let found = told p w c.args.store.now c.args.pending.now c.args.call.now c.args.function.now shared s task rest h c.classes.result.now c.is_some.result c.room_after.result c.new-references.result c.deref-3.result.now c.check-trap.result
+    c.classes.ensures.classes c.is_some.ensures c.room_after.ensures (named_are c.args.store.now c.args.call.now c.deref.result.now c.deref-2.result.now c.new-references.result c.new-references.ensures c.deref.ensures.value c.deref-2.ensures.value) c.deref-3.ensures.value c.check-trap.ensures in
     traps p w c.args.store.now c.args.pending.now c.args.call.now c.args.function.now shared s task rest h lent k c.in-Some.trap c.args.function.now.line refl (sym found ∙ ap (option_map trap_view) c.in-Some.is)
 
 pub work_out-answer-requires-clause-grown : goal.work_out-answer-requires-clause-grown
@@ -127,7 +126,7 @@ work_out-answer-requires-clause-grown c = subst (λ (t : Classes). IsGrown t) (s
 pub work_out-answer-requires-clause-loaded : goal.work_out-answer-requires-clause-loaded
 work_out-answer-requires-clause-loaded c i a at =
     let shares = c.requires.at_call.5.shares in
-    is_address c.args.store.now.heap a (i + 1) (shares.table.named i a (ap (λ (l : List ℕ). slice_get l i) (sym c.deref-5.ensures.value) ∙ at))
+    is_address c.args.store.now.heap a (i + 1) (shares.table.named i a (ap (λ (l : List ℕ). slice_get l i) (sym c.deref-4.ensures.value) ∙ at))
 
 pub work_out-answer-requires-clause-objects : goal.work_out-answer-requires-clause-objects
 work_out-answer-requires-clause-objects c =
@@ -148,16 +147,16 @@ pub work_out-answer-requires-clause-passed : goal.work_out-answer-requires-claus
 work_out-answer-requires-clause-passed c =
     let a = c.requires.at_call in
     let w = c.args.world.now in
-    let found = told a.0 w c.args.store.now c.args.pending.now c.args.call.now c.args.function.now a.1 a.2 a.3 a.4 a.5 c.classes.result.now c.is_some.result c.has_room.result c.new-references.result c.deref-4.result.now c.check-trap.result
-    c.classes.ensures.classes c.is_some.ensures (c.has_room.ensures ∙ ap has_room c.deref-3.ensures.value) (named_are c.args.store.now c.args.call.now c.deref.result.now c.deref-2.result.now c.new-references.result c.new-references.ensures c.deref.ensures.value c.deref-2.ensures.value) c.deref-4.ensures.value c.check-trap.ensures in
+    let found = told a.0 w c.args.store.now c.args.pending.now c.args.call.now c.args.function.now a.1 a.2 a.3 a.4 a.5 c.classes.result.now c.is_some.result c.room_after.result c.new-references.result c.deref-3.result.now c.check-trap.result
+    c.classes.ensures.classes c.is_some.ensures c.room_after.ensures (named_are c.args.store.now c.args.call.now c.deref.result.now c.deref-2.result.now c.new-references.result c.new-references.ensures c.deref.ensures.value c.deref-2.ensures.value) c.deref-3.ensures.value c.check-trap.ensures in
     passes a.0 w c.args.store.now c.args.pending.now c.args.call.now c.args.function.now a.1 a.2 a.3 a.4 a.5 (no_trap c.check-trap.result _ found c.in_default.is) c.classes-2.result.now c.new-references.result c.deref-6.result.now c.classes-2.ensures.classes (named_are c.args.store.now c.args.call.now c.deref.result.now c.deref-2.result.now c.new-references.result c.new-references.ensures c.deref.ensures.value c.deref-2.ensures.value) c.deref-6.ensures.value
 
 pub carry_out-carried-requires : goal.carry_out-carried-requires
 carry_out-carried-requires c =
     let a = c.requires.at_call in
     let w = c.args.world.now in
-    let found = told a.0 w c.args.store.now c.args.pending.now c.args.call.now c.args.function.now a.1 a.2 a.3 a.4 a.5 c.classes.result.now c.is_some.result c.has_room.result c.new-references.result c.deref-4.result.now c.check-trap.result
-    c.classes.ensures.classes c.is_some.ensures (c.has_room.ensures ∙ ap has_room c.deref-3.ensures.value) (named_are c.args.store.now c.args.call.now c.deref.result.now c.deref-2.result.now c.new-references.result c.new-references.ensures c.deref.ensures.value c.deref-2.ensures.value) c.deref-4.ensures.value c.check-trap.ensures in
+    let found = told a.0 w c.args.store.now c.args.pending.now c.args.call.now c.args.function.now a.1 a.2 a.3 a.4 a.5 c.classes.result.now c.is_some.result c.room_after.result c.new-references.result c.deref-3.result.now c.check-trap.result
+    c.classes.ensures.classes c.is_some.ensures c.room_after.ensures (named_are c.args.store.now c.args.call.now c.deref.result.now c.deref-2.result.now c.new-references.result c.new-references.ensures c.deref.ensures.value c.deref-2.ensures.value) c.deref-3.ensures.value c.check-trap.ensures in
     let free = no_trap c.check-trap.result _ found c.in_default.is in
     let kind = result_value c.prototype.result.now.result in
     let same = ap (λ (x : Facts). x.prototype.result) c.prototype.ensures in
@@ -170,8 +169,8 @@ carry_out-carried-requires c =
         a.2,
         call_effect w.classes lent 0 a.1 a.2 it.args it.f,
         can_carry a.0 w c.args.store.now c.args.pending.now c.args.call.now c.args.function.now a.1 a.2 a.3 a.4 a.5 free kind same,
-        answered a.0 w c.args.store.now c.args.pending.now c.args.call.now c.args.function.now a.1 a.2 a.3 a.4 a.5 free c.classes.ensures.sound lent 0 c.classes-2.result.now c.deref-5.result.now c.new-references.result c.deref-6.result.now kind c.work_out-answer.result
-            c.classes-2.ensures.classes c.deref-5.ensures.value (named_are c.args.store.now c.args.call.now c.deref.result.now c.deref-2.result.now c.new-references.result c.new-references.ensures c.deref.ensures.value c.deref-2.ensures.value) c.deref-6.ensures.value same c.work_out-answer.ensures,
+        answered a.0 w c.args.store.now c.args.pending.now c.args.call.now c.args.function.now a.1 a.2 a.3 a.4 a.5 free c.classes.ensures.sound lent 0 c.classes-2.result.now c.deref-4.result.now c.new-references.result c.deref-5.result.now c.deref-6.result.now kind c.work_out-answer.result
+            c.classes-2.ensures.classes c.deref-4.ensures.value (named_are c.args.store.now c.args.call.now c.deref.result.now c.deref-2.result.now c.new-references.result c.new-references.ensures c.deref.ensures.value c.deref-2.ensures.value) c.deref-5.ensures.value c.deref-6.ensures.value same c.work_out-answer.ensures,
       );
     }
 
@@ -184,18 +183,18 @@ pub receive-requires-clause-static_target : goal.receive-requires-clause-static_
 receive-requires-clause-static_target c =
     let a = c.requires.at_call in
     let w = c.args.world.now in
-    let found = told a.0 w c.args.store.now c.args.pending.now c.args.call.now c.args.function.now a.1 a.2 a.3 a.4 a.5 c.classes.result.now c.is_some.result c.has_room.result c.new-references.result c.deref-4.result.now c.check-trap.result
-    c.classes.ensures.classes c.is_some.ensures (c.has_room.ensures ∙ ap has_room c.deref-3.ensures.value) (named_are c.args.store.now c.args.call.now c.deref.result.now c.deref-2.result.now c.new-references.result c.new-references.ensures c.deref.ensures.value c.deref-2.ensures.value) c.deref-4.ensures.value c.check-trap.ensures in
+    let found = told a.0 w c.args.store.now c.args.pending.now c.args.call.now c.args.function.now a.1 a.2 a.3 a.4 a.5 c.classes.result.now c.is_some.result c.room_after.result c.new-references.result c.deref-3.result.now c.check-trap.result
+    c.classes.ensures.classes c.is_some.ensures c.room_after.ensures (named_are c.args.store.now c.args.call.now c.deref.result.now c.deref-2.result.now c.new-references.result c.new-references.ensures c.deref.ensures.value c.deref-2.ensures.value) c.deref-3.ensures.value c.check-trap.ensures in
     let free = no_trap c.check-trap.result _ found c.in_default.is in
     let kind = result_value c.prototype.result.now.result in
     let same = ap (λ (x : Facts). x.prototype.result) c.prototype.ensures in
     let lent : BuffersInUse = record { copied = 0; views = 0 } in
     let it = called a.0 w c.args.store.now c.args.pending.now c.args.call.now c.args.function.now a.1 a.2 a.3 a.4 a.5 in
     let effect = call_effect w.classes lent 0 a.1 a.2 it.args it.f in
-    let carried = c.carry_out-carried.ensures.carried a.0 a.1 a.2 effect (can_carry a.0 w c.args.store.now c.args.pending.now c.args.call.now c.args.function.now a.1 a.2 a.3 a.4 a.5 free kind same) (answered a.0 w c.args.store.now c.args.pending.now c.args.call.now c.args.function.now a.1 a.2 a.3 a.4 a.5 free c.classes.ensures.sound lent 0 c.classes-2.result.now c.deref-5.result.now c.new-references.result c.deref-6.result.now kind c.work_out-answer.result
-    c.classes-2.ensures.classes c.deref-5.ensures.value (named_are c.args.store.now c.args.call.now c.deref.result.now c.deref-2.result.now c.new-references.result c.new-references.ensures c.deref.ensures.value c.deref-2.ensures.value) c.deref-6.ensures.value same c.work_out-answer.ensures) in
+    let carried = c.in_ok-carried.ensures.carried a.0 a.1 a.2 effect (can_carry a.0 w c.args.store.now c.args.pending.now c.args.call.now c.args.function.now a.1 a.2 a.3 a.4 a.5 free kind same) (answered a.0 w c.args.store.now c.args.pending.now c.args.call.now c.args.function.now a.1 a.2 a.3 a.4 a.5 free c.classes.ensures.sound lent 0 c.classes-2.result.now c.deref-4.result.now c.new-references.result c.deref-5.result.now c.deref-6.result.now kind c.work_out-answer.result
+    c.classes-2.ensures.classes c.deref-4.ensures.value (named_are c.args.store.now c.args.call.now c.deref.result.now c.deref-2.result.now c.new-references.result c.new-references.ensures c.deref.ensures.value c.deref-2.ensures.value) c.deref-5.ensures.value c.deref-6.ensures.value same c.work_out-answer.ensures) in
     let same_count : length a.1.statics ≡ length c.carry_out-carried.new.store.statics.items =
-    shared_long a.0 w c.args.store.now a.1 a.5.shares ∙ sym (statics_long a.0 w c.carry_out-carried.new.store (shared_after w.classes c.carry_out-carried.result.refused a.1 effect) carried.store_agrees) in
+    shared_long a.0 w c.args.store.now a.1 a.5.shares ∙ sym (statics_long a.0 w c.carry_out-carried.new.store (shared_after w.classes c.in_ok-carried.carried.refused a.1 effect) carried.store_agrees) in
     subst (λ (l : List StaticReference). HasStatic c.args.function.now.target (length l)) (sym c.deref_mut.ensures.value)
     (has_static a.0 w c.args.store.now c.args.pending.now c.args.call.now c.args.function.now a.1 a.2 a.3 a.4 a.5 (length c.carry_out-carried.new.store.statics.items) same_count)
 
@@ -203,10 +202,20 @@ pub receive-requires-clause-frame : goal.receive-requires-clause-frame
 receive-requires-clause-frame c =
     let a = c.requires.at_call in
     let w = c.args.world.now in
-    let found = told a.0 w c.args.store.now c.args.pending.now c.args.call.now c.args.function.now a.1 a.2 a.3 a.4 a.5 c.classes.result.now c.is_some.result c.has_room.result c.new-references.result c.deref-4.result.now c.check-trap.result
-    c.classes.ensures.classes c.is_some.ensures (c.has_room.ensures ∙ ap has_room c.deref-3.ensures.value) (named_are c.args.store.now c.args.call.now c.deref.result.now c.deref-2.result.now c.new-references.result c.new-references.ensures c.deref.ensures.value c.deref-2.ensures.value) c.deref-4.ensures.value c.check-trap.ensures in
-    c.carry_out-carried.ensures.room
-    (framed a.0 w c.args.store.now c.args.pending.now c.args.call.now c.args.function.now a.1 a.2 a.3 a.4 a.5 (no_trap c.check-trap.result _ found c.in_default.is) (result_value c.prototype.result.now.result) (ap (λ (x : Facts). x.prototype.result) c.prototype.ensures))
+    let found = told a.0 w c.args.store.now c.args.pending.now c.args.call.now c.args.function.now a.1 a.2 a.3 a.4 a.5 c.classes.result.now c.is_some.result c.room_after.result c.new-references.result c.deref-3.result.now c.check-trap.result
+    c.classes.ensures.classes c.is_some.ensures c.room_after.ensures (named_are c.args.store.now c.args.call.now c.deref.result.now c.deref-2.result.now c.new-references.result c.new-references.ensures c.deref.ensures.value c.deref-2.ensures.value) c.deref-3.ensures.value c.check-trap.ensures in
+    let free = no_trap c.check-trap.result _ found c.in_default.is in
+    let kind = result_value c.prototype.result.now.result in
+    let same = ap (λ (x : Facts). x.prototype.result) c.prototype.ensures in
+    let lent : BuffersInUse = record { copied = 0; views = 0 } in
+    let it = called a.0 w c.args.store.now c.args.pending.now c.args.call.now c.args.function.now a.1 a.2 a.3 a.4 a.5 in
+    let effect = call_effect w.classes lent 0 a.1 a.2 it.args it.f in
+    let carried = c.in_ok-carried.ensures.carried a.0 a.1 a.2 effect (can_carry a.0 w c.args.store.now c.args.pending.now c.args.call.now c.args.function.now a.1 a.2 a.3 a.4 a.5 free kind same) (answered a.0 w c.args.store.now c.args.pending.now c.args.call.now c.args.function.now a.1 a.2 a.3 a.4 a.5 free c.classes.ensures.sound lent 0 c.classes-2.result.now c.deref-4.result.now c.new-references.result c.deref-5.result.now c.deref-6.result.now kind c.work_out-answer.result
+    c.classes-2.ensures.classes c.deref-4.ensures.value (named_are c.args.store.now c.args.call.now c.deref.result.now c.deref-2.result.now c.new-references.result c.new-references.ensures c.deref.ensures.value c.deref-2.ensures.value) c.deref-5.ensures.value c.deref-6.ensures.value same c.work_out-answer.ensures) in
+    let is = kind_is a.0 w c.args.store.now c.args.pending.now c.args.call.now c.args.function.now a.1 a.2 a.3 a.4 a.5 kind same in
+    subst (λ (x : ResultKind). HasRoom x c.carry_out-carried.new.frames.items) (sym is)
+    (room_after a.0 w c.args.store.now c.args.pending.now c.args.call.now c.args.function.now a.1 a.2 a.3 a.4 a.5 lent 0 free c.in_ok-carried.carried.refused c.carry_out-carried.new.store c.carry_out-carried.new.pending c.carry_out-carried.new.frames.items c.in_ok-carried.carried.given
+    (subst (λ (x : ResultKind). CarriesOut c.requires.at_call.0 w c.args.store.now.heap x a.1 a.2 effect c.in_ok-carried.carried.refused c.carry_out-carried.new.store c.carry_out-carried.new.pending c.carry_out-carried.new.frames.items c.in_ok-carried.carried.given) is carried))
 
 pub returns-then-carried : goal.returns-then-carried
 returns-then-carried c p lent k shared s task rest h =
@@ -216,22 +225,22 @@ returns-then-carried c p lent k shared s task rest h =
     let call = c.args.call.now in
     let function = c.args.function.now in
     let it = called p w store pending call function shared s task rest h in
-    let found = told p w store pending call function shared s task rest h c.classes.result.now c.is_some.result c.has_room.result c.new-references.result c.deref-4.result.now c.check-trap.result
-    c.classes.ensures.classes c.is_some.ensures (c.has_room.ensures ∙ ap has_room c.deref-3.ensures.value) (named_are c.args.store.now c.args.call.now c.deref.result.now c.deref-2.result.now c.new-references.result c.new-references.ensures c.deref.ensures.value c.deref-2.ensures.value) c.deref-4.ensures.value c.check-trap.ensures in
+    let found = told p w store pending call function shared s task rest h c.classes.result.now c.is_some.result c.room_after.result c.new-references.result c.deref-3.result.now c.check-trap.result
+    c.classes.ensures.classes c.is_some.ensures c.room_after.ensures (named_are c.args.store.now c.args.call.now c.deref.result.now c.deref-2.result.now c.new-references.result c.new-references.ensures c.deref.ensures.value c.deref-2.ensures.value) c.deref-3.ensures.value c.check-trap.ensures in
     let free = no_trap c.check-trap.result (trap_of_call w.classes shared s it.target it.f it.args) found c.in_default.is in
     let kind = result_value c.prototype.result.now.result in
     let same : kind ≡ (prototype (function_value function.function)).result = ap (λ (x : Facts). x.prototype.result) c.prototype.ensures in
     let effect = call_effect w.classes lent k shared s it.args it.f in
     let is = kind_is p w store pending call function shared s task rest h kind same in
-    let answer = answered p w store pending call function shared s task rest h free c.classes.ensures.sound lent k c.classes-2.result.now c.deref-5.result.now c.new-references.result c.deref-6.result.now kind c.work_out-answer.result
-    c.classes-2.ensures.classes c.deref-5.ensures.value (named_are c.args.store.now c.args.call.now c.deref.result.now c.deref-2.result.now c.new-references.result c.new-references.ensures c.deref.ensures.value c.deref-2.ensures.value) c.deref-6.ensures.value same c.work_out-answer.ensures in
-    let carried = c.carry_out-carried.ensures.carried p shared s effect (can_carry p w store pending call function shared s task rest h free kind same) answer in
-    let told_refused = subst (λ (b : Bool). CarriesOut p w store.heap kind shared s effect b c.carry_out-carried.new.store c.carry_out-carried.new.pending c.carry_out-carried.new.frames.items c.carry_out-carried.result.given) c.if-carried.true carried in
-    goes_on p w store pending call function shared s task rest h lent k true c.carry_out-carried.new.store c.carry_out-carried.new.pending c.carry_out-carried.new.frames c.carry_out-carried.result.given c.receive.new.call (with_items c.carry_out-carried.new.store.statics c.receive.new.statics) c.work_out-answer.result free
+    let answer = answered p w store pending call function shared s task rest h free c.classes.ensures.sound lent k c.classes-2.result.now c.deref-4.result.now c.new-references.result c.deref-5.result.now c.deref-6.result.now kind c.work_out-answer.result
+    c.classes-2.ensures.classes c.deref-4.ensures.value (named_are c.args.store.now c.args.call.now c.deref.result.now c.deref-2.result.now c.new-references.result c.new-references.ensures c.deref.ensures.value c.deref-2.ensures.value) c.deref-5.ensures.value c.deref-6.ensures.value same c.work_out-answer.ensures in
+    let carried = c.in_ok-carried.ensures.carried p shared s effect (can_carry p w store pending call function shared s task rest h free kind same) answer in
+    let told_refused = subst (λ (b : Bool). CarriesOut p w store.heap kind shared s effect b c.carry_out-carried.new.store c.carry_out-carried.new.pending c.carry_out-carried.new.frames.items c.in_ok-carried.carried.given) c.if-carried.true carried in
+    goes_on p w store pending call function shared s task rest h lent k true c.carry_out-carried.new.store c.carry_out-carried.new.pending c.carry_out-carried.new.frames c.in_ok-carried.carried.given c.receive.new.call (with_items c.carry_out-carried.new.store.statics c.receive.new.statics) c.work_out-answer.result free
     (subst (λ (x : ResultKind). IsAnswer w.classes store.heap x shared s c.work_out-answer.result effect) is answer)
-    (subst (λ (x : ResultKind). CarriesOut p w store.heap x shared s effect true c.carry_out-carried.new.store c.carry_out-carried.new.pending c.carry_out-carried.new.frames.items c.carry_out-carried.result.given) is told_refused)
-    (subst (λ (x : ResultKind). Receives function.target x c.carry_out-carried.result.given (record call { frames = c.carry_out-carried.new.frames }) c.receive.new.call) is c.receive.ensures.call)
-    (with_items_is c.carry_out-carried.new.store.statics c.receive.new.statics (search (rules, places)) ∙ c.receive.ensures.statics ∙ ap (λ (l : List StaticReference). statics_with function.target c.carry_out-carried.result.given l) c.deref_mut.ensures.value)
+    (subst (λ (x : ResultKind). CarriesOut p w store.heap x shared s effect true c.carry_out-carried.new.store c.carry_out-carried.new.pending c.carry_out-carried.new.frames.items c.in_ok-carried.carried.given) is told_refused)
+    (subst (λ (x : ResultKind). Receives function.target x c.in_ok-carried.carried.given (record call { frames = c.carry_out-carried.new.frames }) c.receive.new.call) is c.receive.ensures.call)
+    (with_items_is c.carry_out-carried.new.store.statics c.receive.new.statics (search (rules, places)) ∙ c.receive.ensures.statics ∙ ap (λ (l : List StaticReference). statics_with function.target c.in_ok-carried.carried.given l) c.deref_mut.ensures.value)
 
 pub returns-else-carried : goal.returns-else-carried
 returns-else-carried c p lent k shared s task rest h =
@@ -241,19 +250,19 @@ returns-else-carried c p lent k shared s task rest h =
     let call = c.args.call.now in
     let function = c.args.function.now in
     let it = called p w store pending call function shared s task rest h in
-    let found = told p w store pending call function shared s task rest h c.classes.result.now c.is_some.result c.has_room.result c.new-references.result c.deref-4.result.now c.check-trap.result
-    c.classes.ensures.classes c.is_some.ensures (c.has_room.ensures ∙ ap has_room c.deref-3.ensures.value) (named_are c.args.store.now c.args.call.now c.deref.result.now c.deref-2.result.now c.new-references.result c.new-references.ensures c.deref.ensures.value c.deref-2.ensures.value) c.deref-4.ensures.value c.check-trap.ensures in
+    let found = told p w store pending call function shared s task rest h c.classes.result.now c.is_some.result c.room_after.result c.new-references.result c.deref-3.result.now c.check-trap.result
+    c.classes.ensures.classes c.is_some.ensures c.room_after.ensures (named_are c.args.store.now c.args.call.now c.deref.result.now c.deref-2.result.now c.new-references.result c.new-references.ensures c.deref.ensures.value c.deref-2.ensures.value) c.deref-3.ensures.value c.check-trap.ensures in
     let free = no_trap c.check-trap.result (trap_of_call w.classes shared s it.target it.f it.args) found c.in_default.is in
     let kind = result_value c.prototype.result.now.result in
     let same : kind ≡ (prototype (function_value function.function)).result = ap (λ (x : Facts). x.prototype.result) c.prototype.ensures in
     let effect = call_effect w.classes lent k shared s it.args it.f in
     let is = kind_is p w store pending call function shared s task rest h kind same in
-    let answer = answered p w store pending call function shared s task rest h free c.classes.ensures.sound lent k c.classes-2.result.now c.deref-5.result.now c.new-references.result c.deref-6.result.now kind c.work_out-answer.result
-    c.classes-2.ensures.classes c.deref-5.ensures.value (named_are c.args.store.now c.args.call.now c.deref.result.now c.deref-2.result.now c.new-references.result c.new-references.ensures c.deref.ensures.value c.deref-2.ensures.value) c.deref-6.ensures.value same c.work_out-answer.ensures in
-    let carried = c.carry_out-carried.ensures.carried p shared s effect (can_carry p w store pending call function shared s task rest h free kind same) answer in
-    let told_refused = subst (λ (b : Bool). CarriesOut p w store.heap kind shared s effect b c.carry_out-carried.new.store c.carry_out-carried.new.pending c.carry_out-carried.new.frames.items c.carry_out-carried.result.given) c.if-carried.false carried in
-    goes_on p w store pending call function shared s task rest h lent k false c.carry_out-carried.new.store c.carry_out-carried.new.pending c.carry_out-carried.new.frames c.carry_out-carried.result.given c.receive.new.call (with_items c.carry_out-carried.new.store.statics c.receive.new.statics) c.work_out-answer.result free
+    let answer = answered p w store pending call function shared s task rest h free c.classes.ensures.sound lent k c.classes-2.result.now c.deref-4.result.now c.new-references.result c.deref-5.result.now c.deref-6.result.now kind c.work_out-answer.result
+    c.classes-2.ensures.classes c.deref-4.ensures.value (named_are c.args.store.now c.args.call.now c.deref.result.now c.deref-2.result.now c.new-references.result c.new-references.ensures c.deref.ensures.value c.deref-2.ensures.value) c.deref-5.ensures.value c.deref-6.ensures.value same c.work_out-answer.ensures in
+    let carried = c.in_ok-carried.ensures.carried p shared s effect (can_carry p w store pending call function shared s task rest h free kind same) answer in
+    let told_refused = subst (λ (b : Bool). CarriesOut p w store.heap kind shared s effect b c.carry_out-carried.new.store c.carry_out-carried.new.pending c.carry_out-carried.new.frames.items c.in_ok-carried.carried.given) c.if-carried.false carried in
+    goes_on p w store pending call function shared s task rest h lent k false c.carry_out-carried.new.store c.carry_out-carried.new.pending c.carry_out-carried.new.frames c.in_ok-carried.carried.given c.receive.new.call (with_items c.carry_out-carried.new.store.statics c.receive.new.statics) c.work_out-answer.result free
     (subst (λ (x : ResultKind). IsAnswer w.classes store.heap x shared s c.work_out-answer.result effect) is answer)
-    (subst (λ (x : ResultKind). CarriesOut p w store.heap x shared s effect false c.carry_out-carried.new.store c.carry_out-carried.new.pending c.carry_out-carried.new.frames.items c.carry_out-carried.result.given) is told_refused)
-    (subst (λ (x : ResultKind). Receives function.target x c.carry_out-carried.result.given (record call { frames = c.carry_out-carried.new.frames }) c.receive.new.call) is c.receive.ensures.call)
-    (with_items_is c.carry_out-carried.new.store.statics c.receive.new.statics (search (rules, places)) ∙ c.receive.ensures.statics ∙ ap (λ (l : List StaticReference). statics_with function.target c.carry_out-carried.result.given l) c.deref_mut.ensures.value)
+    (subst (λ (x : ResultKind). CarriesOut p w store.heap x shared s effect false c.carry_out-carried.new.store c.carry_out-carried.new.pending c.carry_out-carried.new.frames.items c.in_ok-carried.carried.given) is told_refused)
+    (subst (λ (x : ResultKind). Receives function.target x c.in_ok-carried.carried.given (record call { frames = c.carry_out-carried.new.frames }) c.receive.new.call) is c.receive.ensures.call)
+    (with_items_is c.carry_out-carried.new.store.statics c.receive.new.statics (search (rules, places)) ∙ c.receive.ensures.statics ∙ ap (λ (l : List StaticReference). statics_with function.target c.in_ok-carried.carried.given l) c.deref_mut.ensures.value)
