@@ -1,6 +1,21 @@
 -- What is carried out is what the source's call leaves.
-use Rattle.std.proofs.Common.{◌≡◌, ℕ, pos, negsuc, zero, suc, ◌-◌, ◌<◌, ◌^◌, Bool, true, false, List, [], ◌∷◌, ◌++◌, length, inr, Option, Some, None, refl, sym, ap, ◌∙◌, subst, arith, append-nil}
-use Rattle.std.specs.Prelude.{slice_get, nat_le, if◌then◌else◌}
+use Rattle.std.proofs.Common.{◌≡◌, ℕ, pos, negsuc, zero, suc, ◌-◌, ◌<◌, ◌^◌, Bool, true, false, List, [], ◌∷◌, ◌++◌, length, inl, inr, Option, Some, None, refl, sym, ap, ◌∙◌, subst, arith, append-nil}
+use Rattle.std.specs.Global.{Vec}
+use Rattle.std.specs.Option.{option_to_list}
+use Rattle.base.specs.Bytes.{Identifier}
+use Rattle.heap.specs.Heap.{name_at}
+use Rattle.lower.specs.Slots.{static_index}
+use Rattle.source.specs.CallEffects.{without_one}
+use Rattle.source.specs.Object.{Reference}
+use Rattle.source.specs.Variable.{Empty, Live, Deleted, assign}
+use Rattle.tables.specs.Globals.{without}
+use Rattle.tables.specs.References.{address_at}
+use Rattle.machine.specs.declared.statics.StaticReference.{StaticReference}
+use Rattle.machine.specs.declared.statics.StaticReference.TheVariants as static
+use Rattle.machine.specs.Statics.{held as held_of, held_at}
+use Rattle.machine.proofs.GlobalLaws.{address_new}
+use Rattle.machine.proofs.StaticStores.{fresh_global, keeps_but_statics, with_deleted, with_global}
+use Rattle.std.specs.Prelude.{slice_get, slice_set, nat_le, if◌then◌else◌}
 use Rattle.std.proofs.lemmas.Option.{slice_get_within}
 use Rattle.classes.specs.Class.{Classes}
 use Rattle.heap.specs.Heap.{Space, with_value}
@@ -20,13 +35,13 @@ use Rattle.machine.specs.declared.answer.Answer.TheVariants as answer
 use Rattle.machine.specs.declared.answer.Given.{Given}
 use Rattle.machine.specs.declared.answer.Given.TheVariants as given
 use Rattle.machine.specs.declared.store.Store.{Store}
-use Rattle.machine.specs.Agrees.{StoreAgrees, Keeps}
+use Rattle.machine.specs.Agrees.{HeldAgrees, StoreAgrees, Keeps}
 use Rattle.machine.specs.Answers.{GivenAgrees, IsAnswer}
-use Rattle.machine.specs.CarriedOut.{CarriesOut, IsPossible, ResultAgrees, can_fail, failed}
+use Rattle.machine.specs.CarriedOut.{CarriesOut, IsFresh, IsPossible, ResultAgrees, can_fail, failed}
 use Rattle.machine.specs.Frames as memory
 use Rattle.machine.specs.Frames.{Frame, can_ensure}
 use Rattle.machine.specs.HeapAgrees.{ReferenceAgrees}
-use Rattle.machine.specs.Made.{HasMade}
+use Rattle.machine.specs.Made.{HasMade, MakesGlobal}
 use Rattle.machine.proofs.AnswerCases.{gives_it, makes_it, throws_it, writes_it}
 use Rattle.machine.proofs.Keeping.{frames_stay, keeps_same, reference_stays}
 use Rattle.machine.proofs.Makes as making
@@ -168,6 +183,58 @@ module _ (p : Lowered) (w : World) (store : Store) (pending : Option ℕ) (frame
 
     pub ensures_not : can_ensure frames more ≡ false → Carries effect false store (slice_get store.loaded.items (length w.classes)) (given.Number (2 ^ 32 - 4))
     ensures_not can = no_room does.0 effect (decided false can)
+
+  -- a global reference was made, or none for NULL
+  pub makes_global : (globals : List (Option ℕ)) (held : StaticReference) (effect : CallEffect) (a : Option ℕ) (r : Reference) → kind ≡ NewGlobal → ReferenceAgrees store.heap a r → effect ≡ Leaves [] (record shared { globals = option_to_list r ++ shared.globals }) s (ReferenceResult r)
+      → MakesGlobal store.globals a globals held → Carries effect false (record store { globals = globals }) pending (given.Global held)
+  makes_global globals held effect None (Some n) global agrees is made = absurd agrees
+  makes_global globals held effect (Some a) None global agrees is made = absurd agrees
+  makes_global globals held effect None None global agrees is made =
+      subst (λ (e : CallEffect). Carries e false (record store { globals = globals }) pending (given.Global held)) (sym is) (record {
+        store_agrees = subst (StoreAgrees p w (record store { globals = globals })) (sym (same_heap shared)) (subst (λ (l : List (Option ℕ)). StoreAgrees p w (record store { globals = l }) shared) (sym made.0) h.store_agrees);
+        keeps = subst (Keeps store.heap shared store.heap) (sym (same_heap shared)) (keeps_same store.heap shared);
+        pending_agrees = h.pending_agrees;
+        frames_agree = h.frames_agree;
+        given_agrees = (global, (None, inl refl, subst (λ (x : StaticReference). HeldAgrees store.heap (held_of globals x) Empty) (sym made.1) tt, λ key e. absurd (let clash : static.Empty ≡ static.Live key = sym made.1 ∙ e in cc)));
+        still = λ same. refl;
+        could_refuse = λ e. absurd (cc);
+      })
+  makes_global globals held effect (Some a) (Some n) global agrees is made =
+      let after : Shared = record shared { globals = n ∷ shared.globals } in
+      subst (λ (e : CallEffect). Carries e false (record store { globals = globals }) pending (given.Global held)) (sym is) (record {
+        store_agrees = subst (StoreAgrees p w (record store { globals = globals })) (sym (same_heap after)) (with_global p w store shared h.store_agrees globals made.0 a n made.2 agrees);
+        keeps = subst (Keeps store.heap shared store.heap) (sym (same_heap after)) (keeps_but_statics p w store shared h.store_agrees shared.statics (n ∷ shared.globals) (inl refl));
+        pending_agrees = h.pending_agrees;
+        frames_agree = h.frames_agree;
+        given_agrees = (
+          global,
+          (
+            Some n,
+            inl refl,
+            subst (λ (x : StaticReference). HeldAgrees store.heap (held_of globals x) (Live n)) (sym made.1) (subst (λ (o : Option ℕ). HeldAgrees store.heap (held_at o) (Live n)) (sym (address_new store.globals globals made.0 a made.2)) agrees),
+            subst (IsFresh (record store { globals = globals })) (sym made.1) (fresh_global p w store shared h.store_agrees globals made.0 a made.2),
+          ),
+        );
+        still = λ same. refl;
+        could_refuse = λ e. absurd (cc);
+      })
+
+  -- the global reference of a static ended
+  pub deletes_global : (statics : Vec StaticReference) (effect : CallEffect) (x : Identifier) (i key a n : ℕ) → kind ≡ GivesNothing → slice_get store.statics.items i ≡ Some (static.Live key) → address_at store.globals key ≡ Some a → name_at store.heap a ≡ Some n → static_index x shared.statics ≡ Some i
+      → effect ≡ Leaves [] (record shared { globals = without_one n shared.globals; statics = assign x Deleted shared.statics }) s NoResult → statics.items ≡ slice_set store.statics.items i static.Deleted
+      → Carries effect false (record store { statics = statics; globals = without store.globals key }) pending given.Nothing
+  deletes_global statics effect x i key a n nothing at address named place is marked =
+      let marked_store : Store = record store { statics = statics; globals = without store.globals key } in
+      let after : Shared = record shared { globals = without_one n shared.globals; statics = assign x Deleted shared.statics } in
+      subst (λ (e : CallEffect). Carries e false marked_store pending given.Nothing) (sym is) (record {
+        store_agrees = subst (StoreAgrees p w marked_store) (sym (same_heap after)) (with_deleted p w store shared h.store_agrees statics x i key a n at address named place marked);
+        keeps = subst (Keeps store.heap shared store.heap) (sym (same_heap after)) (keeps_but_statics p w store shared h.store_agrees (assign x Deleted shared.statics) (without_one n shared.globals) (inr (x, Deleted, refl)));
+        pending_agrees = h.pending_agrees;
+        frames_agree = h.frames_agree;
+        given_agrees = subst (λ (k : ResultKind). GivenAgrees w.classes store.heap k given.Nothing NoResult) (sym nothing) tt;
+        still = λ same. absurd (let clash : GivesNothing ≡ NewGlobal = sym nothing ∙ same in cc);
+        could_refuse = λ e. absurd (cc);
+      })
 
   module _ (new : Store) (class a : ℕ) (made : HasMade w.classes store class new a) where
     pub makes : (effect : CallEffect) → Does (answer.Makes class) effect → Carries effect false new pending (given.Reference (Some a))

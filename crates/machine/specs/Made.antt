@@ -5,6 +5,9 @@ use Rattle.classes.specs.Fields.{FieldId, layout}
 use Rattle.heap.specs.Heap.{Block, end_of, left_of, with_block}
 use Rattle.heap.specs.declared.value.Value.{Value}
 use Rattle.heap.specs.declared.value.Value.TheVariants as value
+use Rattle.tables.specs.References.{IsPut}
+use Rattle.machine.specs.declared.statics.StaticReference.{StaticReference}
+use Rattle.machine.specs.declared.statics.StaticReference.TheVariants as static
 use Rattle.machine.specs.declared.store.Store.{Store}
 
 -- what a new field of this type holds
@@ -34,3 +37,8 @@ pub record HasMade (classes : Classes) (old : Store) (class : ℕ) (new : Store)
 abbrev pub Makes : Classes → Store → (class : ℕ) → Store → Option ℕ → Type 0
 Makes classes old class new None = (new ≡ old) × (left_of old.heap < 3 + length (layout classes class))
 Makes classes old class new (Some a) = HasMade classes old class new a
+
+-- a global reference to the object at an address is made, and none for NULL
+abbrev pub MakesGlobal : (old : List (Option ℕ)) → Option ℕ → (new : List (Option ℕ)) → StaticReference → Type 0
+MakesGlobal old None new held = (new ≡ old) × (held ≡ static.Empty)
+MakesGlobal old (Some a) new held = (key : ℕ) × (held ≡ static.Live key) × IsPut 0 old key a new
