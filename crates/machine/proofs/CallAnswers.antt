@@ -1,5 +1,5 @@
 -- What the machine works out of calls is what the source's calls do.
-use Rattle.std.proofs.Common.{inl, inr, ◌≡◌, ℕ, pos, negsuc, zero, suc, ◌+◌, ◌-◌, ◌<◌, ◌≤◌, ◌^◌, Bool, true, false, not, List, [], ◌∷◌, ◌++◌, length, Option, Some, None, is_none, slice_get, refl, sym, ap, ◌∙◌, subst, arith, eqb, ⊎_elim, ℤ}
+use Rattle.std.proofs.Common.{nat_lt, if◌then◌else◌, inl, inr, ◌≡◌, ℕ, pos, negsuc, zero, suc, ◌+◌, ◌-◌, ◌<◌, ◌≤◌, ◌^◌, Bool, true, false, not, List, [], ◌∷◌, ◌++◌, length, Option, Some, None, is_none, slice_get, refl, sym, ap, ◌∙◌, subst, arith, eqb, ⊎_elim, ℤ}
 use Rattle.std.specs.Prelude.{◌||◌, ◌==◌, unwrap_or, FitsSigned, ◌&&◌}
 use Rattle.std.specs.Int.{w32, cast_signed, cast_unsigned}
 use Rattle.std.specs.List.{AllZip, list_any}
@@ -18,7 +18,7 @@ use Rattle.code.specs.declared.instr.Operand.TheVariants as operand
 use Rattle.heap.specs.Heap.{Space, IsLaidOut, name_at}
 use Rattle.jni.specs.JniFunction.{JniFunction, FindClass, AllocObject, NewLocalRef, DeleteLocalRef, IsSameObject, EnsureLocalCapacity, PushLocalFrame, PopLocalFrame, GetFieldID, GetStaticFieldID, GetArrayLength, GetSuperclass, GetObjectClass, IsInstanceOf, IsAssignableFrom, GetField, SetField, GetObjectField, SetObjectField, GetStaticField, SetStaticField, GetStaticObjectField, SetStaticObjectField}
 use Rattle.jni.specs.Prototype.{prototype, ParameterKind, ClassObject, FieldID, IntNumber, NonNull, TextBytes, NewLocal, GivesField, GivesInt, Nullable, GivesNothing}
-use Rattle.source.specs.Arguments.{Actual, reference_given, object_given, name_or_zero, text_given, text_in_actual, NumberActual, field_given, number_given, number_in_actual}
+use Rattle.source.specs.Arguments.{Actual, variable_given, reference_given, object_given, name_or_zero, text_given, text_in_actual, NumberActual, field_given, number_given, number_in_actual}
 use Rattle.source.specs.CallEffects.{delete_local_effect, ensure_effect, push_effect, without_local, Leaves, NoResult, found_class_effect, found_field_effect, heap_effect, same_reference, CallEffect}
 use Rattle.source.specs.CallStep.{trap_of_call}
 use Rattle.source.specs.CallTable.{call_effect}
@@ -38,6 +38,9 @@ use Rattle.base.specs.Element.{ElementType}
 use Rattle.source.specs.Value.{Int, convert}
 use Rattle.lower.specs.Slots.{word_of}
 use Rattle.machine.proofs.Levels.{HasLevel}
+use Rattle.machine.specs.declared.answer.Answer.TheVariants.{Gives, Deletes}
+use Rattle.machine.specs.declared.answer.Given.TheVariants as given
+use Rattle.std.proofs.lemmas.Bool.{ltb-true, ltb-false}
 use Rattle.base.specs.Bytes.{lookup}
 use Rattle.source.specs.Variable.{Variable}
 use Rattle.source.specs.Thread.{Frame}

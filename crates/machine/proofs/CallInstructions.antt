@@ -6,9 +6,9 @@ use Rattle.std.specs.List.{AllZip}
 use Rattle.classes.specs.Class.{Classes}
 use Rattle.heap.specs.Heap.{Space}
 use Rattle.jni.specs.BuiltFunctions.{is_built_function}
-use Rattle.jni.specs.JniFunction.{JniFunction, FindClass, GetSuperclass, GetObjectClass, IsInstanceOf, IsAssignableFrom, AllocObject, NewLocalRef, DeleteLocalRef, IsSameObject, EnsureLocalCapacity, PushLocalFrame, PopLocalFrame, GetFieldID, GetStaticFieldID, GetField, SetField, GetStaticField, SetStaticField, GetObjectField, SetObjectField, GetStaticObjectField, SetStaticObjectField, GetArrayLength, NewGlobalRef, GetBuffer}
-use Rattle.jni.specs.Prototype.{prototype, ResultKind, NewLocal}
-use Rattle.source.specs.Arguments.{Actual, reference_given}
+use Rattle.jni.specs.JniFunction.{JniFunction, FindClass, GetSuperclass, GetObjectClass, IsInstanceOf, IsAssignableFrom, AllocObject, NewLocalRef, DeleteLocalRef, DeleteGlobalRef, IsSameObject, EnsureLocalCapacity, PushLocalFrame, PopLocalFrame, GetFieldID, GetStaticFieldID, GetField, SetField, GetStaticField, SetStaticField, GetObjectField, SetObjectField, GetStaticObjectField, SetStaticObjectField, GetArrayLength, NewGlobalRef, GetBuffer}
+use Rattle.jni.specs.Prototype.{prototype, ResultKind, NewLocal, NewGlobal, GivesFlag, GivesInt, GivesField, GivesNothing, GivesBuffer}
+use Rattle.source.specs.Arguments.{Actual, reference_given, variable_given}
 use Rattle.source.specs.Object.{Object}
 use Rattle.source.specs.CallEffects.{CallEffect, CallResult, Halts, Leaves, ScalarResult, Throws, refuses_frames, with_capacity}
 use Rattle.source.specs.CallStep.{after_call, after_refusal, call_step, checked, effect_of_call, makes_objects, put, trap_of_call}
@@ -20,6 +20,7 @@ use Rattle.source.specs.Thread as source
 use Rattle.source.specs.Thread.{BuffersInUse, Shared, sight_of, viewed_by}
 use Rattle.source.specs.Value.{Int, Trap as SourceTrap}
 use Rattle.source.specs.World.{World}
+use Rattle.base.specs.Bytes.{lookup}
 use Rattle.code.specs.Call.{Call, call_view}
 use Rattle.code.specs.Depth.{Listing, with_fewer, words_taken}
 use Rattle.code.specs.declared.instr.Call.{Call as InMemory}
@@ -44,6 +45,7 @@ use Rattle.machine.specs.Statics.{all_held}
 use Rattle.machine.specs.CarriedOut.{CarriesOut, IsPossible, can_fail, frames_left, pending_after, result_after, shared_after}
 use Rattle.machine.specs.Checked.{is_answered, puts_local}
 use Rattle.machine.specs.Frames.{Frame, frames_after, has_room}
+use Rattle.machine.specs.Given.{operand_of}
 use Rattle.machine.specs.Invoked.{AtCall}
 use Rattle.machine.specs.Received.{HasRoom, HasTarget, Receives, HasStatic, statics_with}
 use Rattle.machine.specs.Stops.{trap_view}
@@ -72,6 +74,8 @@ answered_there IsInstanceOf h = refl
 answered_there IsAssignableFrom h = refl
 answered_there NewLocalRef h = refl
 answered_there DeleteLocalRef h = refl
+answered_there NewGlobalRef h = ?
+answered_there DeleteGlobalRef h = ?
 answered_there IsSameObject h = refl
 answered_there EnsureLocalCapacity h = refl
 answered_there PushLocalFrame h = refl
@@ -285,7 +289,7 @@ module _ (p : Lowered) (w : World) (store : Store) (pending : Option ℕ) (call 
       static_within statics count destination.Dropped goes = tt
 
   -- a call of it can be carried out
-  pub possible : IsPossible p w store pending call.frames.items (prototype called.f).result shared s
+  pub possible : IsPossible p w store pending call.frames (prototype called.f).result shared s
   possible = record { store_agrees = h.shares; pending_agrees = h.pending_agrees; frames_agree = r.frames_agree; fails = answered_fails called.f called.asked.answered }
 
   -- nothing was found
@@ -293,8 +297,8 @@ module _ (p : Lowered) (w : World) (store : Store) (pending : Option ℕ) (call 
     -- the source's frames have room
     source_room : (prototype called.f).result ≡ NewLocal → is_full (slice_get (source_frames_after called.f s.frames) 0) ≡ false
     source_room local =
-        full_where store.heap (frames_after called.f call.frames.items) (source_frames_after called.f s.frames) (frames_after_agree store.heap called.f call.frames.items s.frames r.frames_agree)
-        ∙ by_kind (prototype called.f).result (has_room (frames_after called.f call.frames.items)) local (room_left p w store pending call function shared s called.f called.args called.asked called.target free)
+        full_where store.heap (frames_after called.f call.frames) (source_frames_after called.f s.frames) (frames_after_agree store.heap called.f call.frames s.frames r.frames_agree)
+        ∙ by_kind (prototype called.f).result (has_room (frames_after called.f call.frames)) local (room_left p w store pending call function shared s called.f called.args called.asked called.target free)
       where
         by_kind : (kind : ResultKind) (b : Bool) → kind ≡ NewLocal → (puts_local kind && not b) ≡ false → not b ≡ false
         by_kind NewLocal b local h = h
@@ -342,9 +346,9 @@ module _ (p : Lowered) (w : World) (store : Store) (pending : Option ℕ) (call 
     stepped true t next h = h
 
     -- what was carried out and received is what the source's call leaves
-    pub goes_on : (refused : Bool) (store' : Store) (pending' : Option ℕ) (frames : Vec Frame) (g : Given) (after : Activation) (statics : Vec StaticReference) (answer : Answer) → (free : trap_of_call w.classes shared s called.target called.f called.args ≡ None)
+    pub goes_on : (refused : Bool) (store' : Store) (pending' : Option ℕ) (frames : List Frame) (g : Given) (after : Activation) (statics : Vec StaticReference) (answer : Answer) → (free : trap_of_call w.classes shared s called.target called.f called.args ≡ None)
         → IsAnswer w.classes store.heap (prototype called.f).result shared s answer (call_effect w.classes lent k shared s called.args called.f)
-        → CarriesOut p w store.heap (prototype called.f).result shared s (call_effect w.classes lent k shared s called.args called.f) refused store' pending' frames.items g
+        → CarriesOut p w store.heap (prototype called.f).result shared s (call_effect w.classes lent k shared s called.args called.f) refused store' pending' frames g
         → Receives function.target (prototype called.f).result g (record call { frames = frames }) after
         → statics.items ≡ statics_with function.target g store'.statics.items
         → GoesOn p w store.heap (record store' { statics = statics }) lent k shared s rest after pending' (effect_of (sight_of shared s) task) refused event.Quiet

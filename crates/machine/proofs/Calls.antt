@@ -123,7 +123,7 @@ pub record Ready (p : Lowered) (classes : Classes) (space : Space) (call : Activ
   pub agree : ReferencesAgree space call.references.items references
   pub fields : List (Option FieldId)
   pub fields_agree : FieldsAgree classes call.fields.items fields
-  pub frames_agree : FramesAgree space call.frames.items frames
+  pub frames_agree : FramesAgree space call.frames frames
   pub shows : Shows code known visible (slots_of call references fields)
   pub stands : StandsFor code known call.place call.stack (task ∷ rest)
   pub does : DoesEffect code known call.place call.stack (slots_of call references fields) visible rest (effect_of visible.sight task)
@@ -173,7 +173,7 @@ pub record HasMoved (call after : Activation) (to : ℕ) (words slots : List ℕ
   pub references : after.references.items ≡ addresses
   pub levels : after.levels.items ≡ call.levels.items
   pub fields : after.fields.items ≡ handles
-  pub frames : after.frames.items ≡ call.frames.items
+  pub frames : after.frames ≡ call.frames
 
 some_is : {A : Type 0} (o : Option A) (x : A) → o ≡ Some x → IsSome o
 some_is None x h = absurd (cc)

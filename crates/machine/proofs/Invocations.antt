@@ -250,7 +250,7 @@ pub record Finishes (p : Lowered) (w : World) (old : Space) (shared : Shared) (s
   pub viewless : viewed_by (going line f args tasks s left q c variables) ≡ []
 
 module _ (p : Lowered) (w : World) (old : Space) (store : Store) (shared next : Shared) (shares : StoreAgrees p w store next) (keeps : Keeps old shared store.heap next) (s : source.Thread) (none : viewed_by s ≡ []) (call : Activation) (code : Listing) (task : Task) (rest : List Task)
-    (r : Ready p w.classes old call code (visible_to shared s) s.frames task rest) (line : ℕ) (f : JniFunction) (args : List Actual) (frames : Vec Frame) (left : List source.Frame) (framed : FramesAgree store.heap frames.items left) (q : Reference) (g : Given) (c : CallResult) (agrees : ResultAgrees w.classes store g (prototype f).result c)
+    (r : Ready p w.classes old call code (visible_to shared s) s.frames task rest) (line : ℕ) (f : JniFunction) (args : List Actual) (frames : List Frame) (left : List source.Frame) (framed : FramesAgree store.heap frames left) (q : Reference) (g : Given) (c : CallResult) (agrees : ResultAgrees w.classes store g (prototype f).result c)
     (still : (prototype f).result ≡ NewGlobal → next.statics ≡ shared.statics) (function : Call) (at : slice_get code.instrs call.place ≡ Some (instr.Call function)) (none_left : with_fewer (words_taken function.operands) (length call.stack) ≡ Some 0) (after : Activation) (statics : Vec InMemory) where
   abbrev space : Space
   space = store.heap
@@ -277,10 +277,10 @@ module _ (p : Lowered) (w : World) (old : Space) (store : Store) (shared next : 
   same_references : ReferencesAgree space call.references.items r.references
   same_references = references_stay old space keeps.names call.references.items r.references r.agree
 
-  frames_after : (d : Destination) → Receives d kind g carried after → FramesAgree space after.frames.items (frames_received kind c left)
+  frames_after : (d : Destination) → Receives d kind g carried after → FramesAgree space after.frames (frames_received kind c left)
   frames_after d receives =
       subst (λ (l : List Frame). FramesAgree space l (frames_received kind c left)) (sym receives.frames)
-      (frames_result w.classes store kind g c frames.items left agrees framed)
+      (frames_result w.classes store kind g c frames left agrees framed)
 
   -- the statics hold what they did
   abbrev SameStatics : Type 0
@@ -315,13 +315,13 @@ module _ (p : Lowered) (w : World) (old : Space) (store : Store) (shared next : 
   -- what is shown of the slots that the call has then
   shown : {numbers levels : List ℕ} (names : Known) (visible : Visible) (references : List Reference) (fields : List (Option FieldId)) → after.numbers.items ≡ numbers → after.levels.items ≡ levels
       → Shows code names visible (record { numbers = numbers; references = references; levels = levels; fields = fields }) → Shows code names visible (record { numbers = after.numbers.items; references = references; levels = after.levels.items; fields = fields })
-  shown names visible references fields same_numbers same_levels h =
+  shown {numbers = numbers} names visible references fields same_numbers same_levels h =
       subst (λ (l : List ℕ). Shows code names visible (record { numbers = l; references = references; levels = after.levels.items; fields = fields })) (sym same_numbers)
-      (subst (λ (l : List ℕ). Shows code names visible (record { numbers = _; references = references; levels = l; fields = fields })) (sym same_levels) h)
+      (subst (λ (l : List ℕ). Shows code names visible (record { numbers = numbers; references = references; levels = l; fields = fields })) (sym same_levels) h)
 
   -- as many frames in memory as in the source
-  frames_count : length frames.items ≡ length left
-  frames_count = as_many_frames space frames.items left framed
+  frames_count : length frames ≡ length left
+  frames_count = as_many_frames space frames left framed
 
   stands_after : HasNoWord → (d : Destination) → stack_with d g ≡ [] → Receives d kind g carried after → (names : Known) (vs : Variables) (references : List Reference) (fields : List (Option FieldId)) → ReferencesAgree space after.references.items references → FieldsAgree w.classes after.fields.items fields
       → StandsFor code names (call.place + 1) [] rest → Shows code names (visible_to shared (then vs)) (record { numbers = after.numbers.items; references = references; levels = after.levels.items; fields = fields })
@@ -371,7 +371,7 @@ module _ (p : Lowered) (w : World) (old : Space) (store : Store) (shared next : 
 
   -- ---- a reference
 
-  module _ (no_word : HasNoWord) (i : ℕ) (receives : Receives (destination.Local i) kind g carried after) (x : Identifier) (takes : TakesReference code r.known call.place call.stack held (visible_to shared s) i x rest) (n : IsReference space g c) (level : ℕ) (counted : length frames.items ≡ level) where
+  module _ (no_word : HasNoWord) (i : ℕ) (receives : Receives (destination.Local i) kind g carried after) (x : Identifier) (takes : TakesReference code r.known call.place call.stack held (visible_to shared s) i x rest) (n : IsReference space g c) (level : ℕ) (counted : length frames ≡ level) where
     reference_stands : CallStands p w.classes space after (visible_to next (then (assign x (LocalRef level n.reference) s.variables))) (frames_received kind c left) rest
     reference_stands =
         let vs = assign x (LocalRef level n.reference) s.variables in
@@ -393,7 +393,7 @@ module _ (p : Lowered) (w : World) (old : Space) (store : Store) (shared next : 
   reference_finishes : SameStatics → HasNoWord → (i : ℕ) (target : Target) → IsDeclaredThere target → Receives (destination.Local i) kind g carried after → IsReference space g c → GoesInto code r.known call.place call.stack held (visible_to shared s) ReferenceKind target (λ x. TakesReference code r.known call.place call.stack held (visible_to shared s) i x rest) → Ends target
   reference_finishes same_statics no_word i (Declared declared x) there receives n goes =
       let level = length (frames_received kind c left) in
-      let counted : length frames.items ≡ level = frames_count ∙ sym (received_count kind c left) in
+      let counted : length frames ≡ level = frames_count ∙ sym (received_count kind c left) in
       record {
         now = next;
         tasks = rest;
@@ -406,7 +406,7 @@ module _ (p : Lowered) (w : World) (old : Space) (store : Store) (shared next : 
       }
   reference_finishes same_statics no_word i (Assigned x) there receives n goes =
       let old = local_by_kind (lookup x s.variables) goes.0 in
-      let counted : length frames.items ≡ old.0 = frames_count ∙ sym (there x old.0 old.1 refl old.2) in
+      let counted : length frames ≡ old.0 = frames_count ∙ sym (there x old.0 old.1 refl old.2) in
       record {
         now = next;
         tasks = rest;

@@ -165,7 +165,7 @@ module _ (p : Lowered) (classes : Classes) (made : ℕ) (space space' : Space) (
     fields_agree = h.fields_agree;
     shows = shows_stay shared shared' k.statics s h.code h.known (record { numbers = call.numbers.items; references = h.references; levels = call.levels.items; fields = h.fields }) h.shows;
     depth = h.depth;
-    frames_agree = frames_stay space space' k.names call.frames.items frames h.frames_agree;
+    frames_agree = frames_stay space space' k.names call.frames frames h.frames_agree;
   }
 
   work_stays : (s : source.Thread) (o : Option Activation) (frames : List source.Frame) (tasks : Option (List Task)) → WorkAgrees p classes space (visible_to shared s) o frames tasks → WorkAgrees p classes space' (visible_to shared' s) o frames tasks

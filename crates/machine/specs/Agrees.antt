@@ -193,7 +193,7 @@ pub record CallStands (p : Lowered) (classes : Classes) (space : Space) (call : 
   pub fields_agree : FieldsAgree classes call.fields.items fields
   pub shows : Shows code known visible (record { numbers = call.numbers.items; references = references; levels = call.levels.items; fields = fields })
   pub depth : depth_at code.instrs call.place ≡ Some (length call.stack)
-  pub frames_agree : FramesAgree space call.frames.items frames
+  pub frames_agree : FramesAgree space call.frames frames
 
 -- a call in progress, or none, which has no frame
 abbrev pub WorkAgrees : Lowered → Classes → Space → Visible → Option Activation → List source.Frame → Option (List Task) → Type 0

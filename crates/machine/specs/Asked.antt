@@ -25,7 +25,7 @@ references_of store call = record { locals = call.references.items; statics = al
 pub record IsAsked (p : Lowered) (w : World) (store : Store) (pending : Option ℕ) (call : Activation) (function : Call) (shared : Shared) (s : Thread) (f : JniFunction) (args : List Actual) : Type 0 where
   pub store_agrees : StoreAgrees p w store shared
   pub pending_agrees : ReferenceAgrees store.heap pending s.pending
-  pub frames_agree : FramesAgree store.heap call.frames.items s.frames
+  pub frames_agree : FramesAgree store.heap call.frames s.frames
   pub same_function : function.function ≡ f
   pub answered : is_answered f ≡ true
   pub count : length args ≡ length (prototype f).parameters

@@ -50,7 +50,7 @@ pub record BeginsIn (code : Listing) (loaded : List ℕ) (next : PendingCall) (c
   pub levels : call.levels.items ≡ replicate code.slots.references 1
   pub fields : call.fields.items ≡ replicate code.slots.field_ids None
   pub frame : Frame
-  pub frames : call.frames.items ≡ frame ∷ []
+  pub frames : call.frames ≡ frame ∷ []
   pub entry_frame : IsEntryFrame loaded next.class (map object_value_view next.arguments.items) frame
 
 -- a call of a program before its first instruction

@@ -77,7 +77,7 @@ HasRoom kind frames = Unit {0}
 
 -- the same in the frames of a call
 abbrev pub HasFrame : ResultKind → Activation → Type 0
-HasFrame kind call = HasRoom kind call.frames.items
+HasFrame kind call = HasRoom kind call.frames
 
 -- the call goes on after the instruction, with what is given where it belongs
 pub record Receives (target : Target) (kind : ResultKind) (g : Given) (call after : Activation) : Type 0 where
@@ -86,6 +86,6 @@ pub record Receives (target : Target) (kind : ResultKind) (g : Given) (call afte
   pub stack : after.stack ≡ stack_with target g
   pub numbers : after.numbers.items ≡ numbers_with target g call.numbers.items
   pub references : after.references.items ≡ references_with target g call.references.items
-  pub levels : after.levels.items ≡ levels_with target (length call.frames.items) call.levels.items
+  pub levels : after.levels.items ≡ levels_with target (length call.frames) call.levels.items
   pub fields : after.fields.items ≡ fields_with target g call.fields.items
-  pub frames : after.frames.items ≡ frames_with kind g call.frames.items
+  pub frames : after.frames ≡ frames_with kind g call.frames

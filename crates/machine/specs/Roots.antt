@@ -21,7 +21,7 @@ frames_names space frames = flat_map (λ (f : Frame). frame_names space f.refere
 -- the frames of a call in progress, or of none
 abbrev pub frames_of : Option Activation → List Frame
 frames_of None = []
-frames_of (Some call) = call.frames.items
+frames_of (Some call) = call.frames
 
 abbrev pub call_names : Space → Option Activation → List ℕ
 call_names space call = frames_names space (frames_of call)

@@ -10,7 +10,7 @@ ghost use Rattle.machine.specs.CarriedOut.{CarriesOut, IsPossible, failed};
 ghost use Rattle.machine.specs.declared.answer.Given.TheVariants.{Number};
 
 use crate::answer::{Answer, Given};
-use crate::frame::{Frame, delete_local, ensure_capacity, pop_frame, push_frame};
+use crate::frame::Frames;
 use crate::make::make;
 use crate::statics::StaticReference;
 use crate::store::Store;
@@ -34,15 +34,15 @@ pub fn carry_out(
     world: &World,
     store: &mut Store,
     pending: &mut Option<Addr>,
-    frames: &mut Vec<Frame>,
+    frames: &mut Frames,
     kind: ResultKind,
     answer: Answer,
 ) -> Result<Carried, AllocError>
-    requires possible { (p : Lowered) × (shared : Shared) × (s : SourceThread) × (effect : CallEffect) × IsPossible p world.now store.old pending.old frames.old.items (result_value kind) shared s
+    requires possible { (p : Lowered) × (shared : Shared) × (s : SourceThread) × (effect : CallEffect) × IsPossible p world.now store.old pending.old frames.old (result_value kind) shared s
         × IsAnswer world.now.classes store.old.heap (result_value kind) shared s answer effect }
-    ensures carried { IfOk result (λ carried. (p : Lowered) (shared : Shared) (s : SourceThread) (effect : CallEffect) → IsPossible p world.now store.old pending.old frames.old.items (result_value kind) shared s
+    ensures carried { IfOk result (λ carried. (p : Lowered) (shared : Shared) (s : SourceThread) (effect : CallEffect) → IsPossible p world.now store.old pending.old frames.old (result_value kind) shared s
         → IsAnswer world.now.classes store.old.heap (result_value kind) shared s answer effect
-        → CarriesOut p world.now store.old.heap (result_value kind) shared s effect carried.refused store.new pending.new frames.new.items carried.given) }
+        → CarriesOut p world.now store.old.heap (result_value kind) shared s effect carried.refused store.new pending.new frames.new carried.given) }
     ensures store { OnErr result (store.new ≡ store.old) }
     ensures pending { OnErr result (pending.new ≡ pending.old) }
     ensures frames { OnErr result (frames.new ≡ frames.old) }
@@ -67,14 +67,14 @@ pub fn carry_out(
             None => refuse(world, store, pending, kind),
         },
         Answer::Ensures(more) => {
-            if ensure_capacity(frames, more) {
+            if frames.ensure(more) {
                 gives(Given::Number(0))
             } else {
                 refuse_frames(world, store, pending)
             }
         }
         Answer::Pushes(capacity) => {
-            if push_frame(frames, capacity)? {
+            if frames.push(capacity)? {
                 gives(Given::Number(0))
             } else {
                 refuse_frames(world, store, pending)
@@ -82,11 +82,11 @@ pub fn carry_out(
         }
         Answer::RefusesFrames => refuse_frames(world, store, pending),
         Answer::Pops(reference) => {
-            pop_frame(frames);
+            frames.pop();
             gives(Given::Reference(reference))
         }
         Answer::Deletes(level, addr) => {
-            delete_local(frames, level, addr);
+            frames.delete(level, addr);
             gives(Given::Nothing)
         }
     })

@@ -7,7 +7,7 @@ ghost use Rattle.world.specs.CallArguments.{is_argument};
 ghost use Rattle.lower.specs.Slots.{argument_word, HasRoom};
 ghost use Rattle.machine.specs.Entry.{argument_address, named_address, IsNumbersOf, IsReferencesOf, IsEntryFrame, BeginsIn};
 
-use crate::frame::Frame;
+use crate::frame::{Frame, Frames};
 use crate::thread::{Activation, PendingCall};
 use code::code::Code;
 use code::stack::Stack;
@@ -37,8 +37,8 @@ pub fn begin(
     fields.resize(slots.field_ids as usize, None)?;
     let mut levels = Vec::new(alloc);
     levels.resize(slots.references as usize, 1)?;
-    let mut frames = Vec::new(alloc);
-    frames.push(entry_frame(alloc, loaded, next.class, &next.arguments)?)?;
+    let frame = entry_frame(alloc, loaded, next.class, &next.arguments)?;
+    let frames = Frames::of(alloc, frame)?;
     Ok(Activation {
         function: next.function,
         place: 0,

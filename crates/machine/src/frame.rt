@@ -1,13 +1,13 @@
 //! Frames of local references.
 
-ghost use Rattle.std.specs.Prelude.{◌≡◌, ◌+◌, ◌-◌, ◌<◌, ◌≤◌, ◌^◌, [], min, length, nat_lt, reverse, true, vec_capacity, IfOk, OnErr, OnOk, if◌then◌else◌};
+ghost use Rattle.std.specs.Prelude.{◌≡◌, ◌+◌, ◌-◌, ◌<◌, ◌≤◌, ◌^◌, [], ◌∷◌, min, length, nat_lt, reverse, true, vec_capacity, IfOk, OnErr, OnOk, if◌then◌else◌};
 ghost use Rattle.source.specs.CallEffects.{without_one};
 ghost use Rattle.machine.specs.Frames.{can_ensure, can_push, capacities, deleted, frames_after, has_room, most_locals, wanted, with_capacity, with_frame, with_local, with_reference, with_room, without_last, without_local};
 ghost use Rattle.jni.specs.Table.{function_value};
 
 use heap::Addr;
 use jni::JniFunction;
-use std::alloc::AllocError;
+use std::alloc::{AllocError, Global};
 use std::marker::Model;
 
 /// How many local references the frames of a call may have together, where more are asked for. The JNI leaves this limit to
@@ -34,6 +34,101 @@ impl Model for Frame {
     ghost invariant = { λ f. (f.capacity ≤ vec_capacity f.references) × (most_locals ≤ vec_capacity f.references) };
 }
 
+/// The frames of a call, of which the last is the current one.
+#[derive(Drop)]
+pub struct Frames {
+    frames: Vec<Frame>,
+}
+
+impl Model for Frames {
+    ghost use Rattle.std.specs.Prelude.{List};
+    ghost use Rattle.machine.specs.Frames.{Frame as OneFrame};
+
+    ghost Value = { List OneFrame };
+
+    ghost view = { λ f. f.frames.items };
+}
+
+impl Frames {
+    /// One frame.
+    pub fn of(alloc: Global, frame: Frame) -> Result<Frames, AllocError>
+        ensures { IfOk result (λ frames. frames ≡ frame ∷ []) }
+    {
+        let mut frames = Vec::new(alloc);
+        frames.push(frame)?;
+        Ok(Frames { frames })
+    }
+
+    /// The frames, the current one last.
+    pub fn as_slice(&self) -> &[Frame]
+        ensures { result.now ≡ self.now }
+    {
+        &self.frames
+    }
+
+    /// The number of frames.
+    pub fn len(&self) -> usize
+        ensures { result ≡ length self.now }
+    {
+        self.frames.len()
+    }
+
+    /// Whether there is room for a local reference that a function gives: `PopLocalFrame` puts it into the frame below.
+    pub fn room_after(&self, function: JniFunction) -> bool
+        ensures { result ≡ has_room (frames_after (function_value function) self.now) }
+    {
+        match function {
+            JniFunction::PopLocalFrame => {
+                has_room(&self.frames[..self.frames.len().saturating_sub(1)])
+            }
+            _ => has_room(&self.frames),
+        }
+    }
+
+    /// Puts a reference into the current frame.
+    pub fn put(&mut self, addr: Addr)
+        requires { has_room self.old ≡ true }
+        ensures { self.new ≡ with_local self.old addr }
+    {
+        put_local(&mut self.frames, addr);
+    }
+
+    /// Makes room for this number of references more in the current frame, if the frames can have them. It takes no host memory,
+    /// and a step for each frame.
+    pub fn ensure(&mut self, more: u32) -> bool
+        ensures possible { result ≡ can_ensure self.old more }
+        ensures frames { self.new ≡ (if can_ensure self.old more then with_capacity self.old more else self.old) }
+    {
+        ensure_capacity(&mut self.frames, more)
+    }
+
+    /// Makes a frame with room for this number of references, which is then the current one, if the frames can have it.
+    ///
+    /// An error says that host memory was refused.
+    pub fn push(&mut self, capacity: u32) -> Result<bool, AllocError>
+        ensures possible { IfOk result (λ made. made ≡ can_push self.old capacity) }
+        ensures frames { OnOk result (self.new ≡ (if can_push self.old capacity then with_frame self.old capacity else self.old)) }
+        ensures err { OnErr result (self.new ≡ self.old) }
+    {
+        push_frame(&mut self.frames, capacity)
+    }
+
+    /// Ends the current frame.
+    pub fn pop(&mut self)
+        ensures { self.new ≡ without_last self.old }
+    {
+        let _ = self.frames.pop();
+    }
+
+    /// Takes one reference to the object at an address out of the frame of this level, counted from 1, if it is there.
+    pub fn delete(&mut self, level: usize, addr: Addr)
+        requires { (0 < level) × (level ≤ length self.old) }
+        ensures { self.new ≡ without_local level addr self.old }
+    {
+        self.frames[level - 1].delete(addr);
+    }
+}
+
 impl Frame {
     /// A frame with these references, the last one put last, and room for `more`.
     pub fn new(references: Vec<Addr>, more: usize) -> Result<Frame, AllocError>
@@ -56,7 +151,7 @@ impl Frame {
     }
 
     /// Whether a further reference has room.
-    pub fn has_room(&self) -> bool
+    fn has_room(&self) -> bool
         ensures { result ≡ nat_lt (length self.now.references) self.now.capacity }
     {
         self.references.len() < self.capacity
@@ -108,7 +203,7 @@ fn delete_last(references: &mut Vec<Addr>, addr: Addr)
 }
 
 /// Whether the current frame, which is the last, has room for a further reference.
-pub fn has_room(frames: &[Frame]) -> bool
+fn has_room(frames: &[Frame]) -> bool
     ensures { result ≡ has_room frames.now }
 {
     match frames.last() {
@@ -118,7 +213,7 @@ pub fn has_room(frames: &[Frame]) -> bool
 }
 
 /// Puts a reference into the current frame, which is the last.
-pub fn put_local(frames: &mut Vec<Frame>, addr: Addr)
+fn put_local(frames: &mut Vec<Frame>, addr: Addr)
     requires { has_room frames.old.items ≡ true }
     ensures { frames.new.items ≡ with_local frames.old.items addr }
 {
@@ -139,7 +234,7 @@ fn capacities(frames: &[Frame]) -> usize
 
 /// Makes room for this number of references more in the current frame, which is the last, if the frames can have them. It takes no
 /// host memory, and a step for each frame.
-pub fn ensure_capacity(frames: &mut Vec<Frame>, more: u32) -> bool
+fn ensure_capacity(frames: &mut Vec<Frame>, more: u32) -> bool
     ensures possible { result ≡ can_ensure frames.old.items more }
     ensures frames { frames.new.items ≡ (if can_ensure frames.old.items more then with_capacity frames.old.items more else frames.old.items) }
 {
@@ -155,21 +250,13 @@ pub fn ensure_capacity(frames: &mut Vec<Frame>, more: u32) -> bool
     true
 }
 
-/// Takes one reference to the object at an address out of the frame of this level, counted from 1, if it is there.
-pub fn delete_local(frames: &mut [Frame], level: usize, addr: Addr)
-    requires { (0 < level) × (level ≤ length frames.old) }
-    ensures { frames.new ≡ without_local level addr frames.old }
-{
-    frames[level - 1].delete(addr);
-}
-
 /// Makes a frame with room for this number of references, which is then the current one, if the frames can have it.
 ///
 /// An error says that host memory was refused.
-pub fn push_frame(frames: &mut Vec<Frame>, capacity: u32) -> Result<bool, AllocError>
+fn push_frame(frames: &mut Vec<Frame>, capacity: u32) -> Result<bool, AllocError>
     ensures possible { IfOk result (λ made. made ≡ can_push frames.old.items capacity) }
     ensures frames { OnOk result (frames.new.items ≡ (if can_push frames.old.items capacity then with_frame frames.old.items capacity else frames.old.items)) }
-    ensures err { OnErr result (frames.new ≡ frames.old) }
+    ensures err { OnErr result (frames.new.items ≡ frames.old.items) }
 {
     let room = capacity as usize;
     if capacities(frames).saturating_add(room) > MOST_LOCALS {
@@ -178,21 +265,4 @@ pub fn push_frame(frames: &mut Vec<Frame>, capacity: u32) -> Result<bool, AllocE
     let frame = Frame::new(Vec::new(*frames.allocator()), room)?;
     frames.push(frame)?;
     Ok(true)
-}
-
-/// Ends the current frame, which is the last.
-pub fn pop_frame(frames: &mut Vec<Frame>)
-    ensures { frames.new.items ≡ without_last frames.old.items }
-{
-    let _ = frames.pop();
-}
-
-/// Whether there is room for a local reference that a function gives: `PopLocalFrame` puts it into the frame below.
-pub fn room_after(function: JniFunction, frames: &Vec<Frame>) -> bool
-    ensures { result ≡ has_room (frames_after (function_value function) frames.now.items) }
-{
-    match function {
-        JniFunction::PopLocalFrame => has_room(&frames[..frames.len().saturating_sub(1)]),
-        _ => has_room(frames),
-    }
 }

@@ -11,7 +11,6 @@ ghost use Rattle.machine.specs.Invoked.{AtCall};
 use crate::answer::work_out;
 use crate::carry_out::carry_out;
 use crate::check::check;
-use crate::frame::room_after;
 use crate::receive::receive;
 use crate::statics::References;
 use crate::store::Store;
@@ -42,7 +41,7 @@ pub fn invoke(
         world.classes(),
         &store.heap,
         pending.is_some(),
-        room_after(function.function, &call.frames),
+        call.frames.room_after(function.function),
         &references,
         &call.fields,
         function,

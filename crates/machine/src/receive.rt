@@ -5,7 +5,7 @@ ghost use Rattle.jni.specs.Table.{result_value};
 ghost use Rattle.machine.specs.Received.{HasTarget, HasFrame, Receives, stack_with, numbers_with, references_with, levels_with, fields_with, frames_with, statics_with, HasNumber, HasReference, HasField, HasStatic, HasRoom};
 
 use crate::answer::Given;
-use crate::frame::{Frame, put_local};
+use crate::frame::Frames;
 use crate::statics::StaticReference;
 use crate::thread::Activation;
 use class_table::class::FieldHandle;
@@ -110,12 +110,12 @@ fn put_static(statics: &mut [StaticReference], target: Target, given: &Given)
 }
 
 /// Puts a new local reference into the current frame.
-fn put_frame(frames: &mut Vec<Frame>, kind: ResultKind, given: &Given)
-    requires { HasRoom (result_value kind) frames.old.items }
-    ensures { frames.new.items ≡ frames_with (result_value kind) given.now frames.old.items }
+fn put_frame(frames: &mut Frames, kind: ResultKind, given: &Given)
+    requires { HasRoom (result_value kind) frames.old }
+    ensures { frames.new ≡ frames_with (result_value kind) given.now frames.old }
 {
     match (kind, *given) {
-        (ResultKind::NewLocal, Given::Reference(Some(addr))) => put_local(frames, addr),
+        (ResultKind::NewLocal, Given::Reference(Some(addr))) => frames.put(addr),
         _ => {}
     }
 }

@@ -53,7 +53,7 @@ fn push_call(
 {
     match call {
         None => Ok(()),
-        Some(call) => push_frames(names, heap, &call.frames),
+        Some(call) => push_frames(names, heap, call.frames.as_slice()),
     }
 }
 

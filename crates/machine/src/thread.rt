@@ -13,7 +13,7 @@ ghost use Rattle.machine.specs.Agrees.{StoreAgrees, ThreadAgrees, IsExecuting, E
 ghost use Rattle.machine.specs.Entry.{IsReady, Begins};
 
 use crate::entry::begin;
-use crate::frame::Frame;
+use crate::frame::Frames;
 use crate::invoke::invoke;
 use crate::statics::References;
 use crate::stop::{Trap, trap_of};
@@ -78,8 +78,7 @@ pub struct Activation {
     pub references: Vec<Option<Addr>>,
     pub levels: Vec<usize>,
     pub fields: Vec<Option<FieldHandle>>,
-    /// The current frame is the last.
-    pub frames: Vec<Frame>,
+    pub frames: Frames,
 }
 
 /// What an instruction did.

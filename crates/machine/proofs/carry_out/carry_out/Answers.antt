@@ -132,7 +132,7 @@ returns-then-ensure_capacity-clause-carried c p shared s effect h does =
     let more = c.in-Ensures.more in
     let ensures = subst (λ (a : Answer). IsAnswer w.classes old.heap k shared s a effect) c.in-Ensures.is does in
     let can : can_ensure frames more ≡ true = sym c.ensure_capacity.ensures.possible ∙ c.if-ensure_capacity.true in
-    let are : c.ensure_capacity.new.frames.items ≡ with_capacity frames more = c.ensure_capacity.ensures.frames ∙ ap (λ (b : Bool). if b then with_capacity frames more else frames) can in
+    let are : c.ensure_capacity.new.frames ≡ with_capacity frames more = c.ensure_capacity.ensures.frames ∙ ap (λ (b : Bool). if b then with_capacity frames more else frames) can in
     subst (λ (l : List Frame). CarriesOut p w old.heap k shared s effect false old c.args.pending.now l (given.Number 0)) (sym are)
     (carries.ensures p w old c.args.pending.now frames k shared s h more effect ensures can)
 
@@ -145,8 +145,8 @@ returns-else-ensure_capacity-clause-carried c p shared s effect h does =
     let more = c.in-Ensures.more in
     let ensures = subst (λ (a : Answer). IsAnswer w.classes old.heap k shared s a effect) c.in-Ensures.is does in
     let can : can_ensure frames more ≡ false = sym c.ensure_capacity.ensures.possible ∙ c.if-ensure_capacity.false in
-    let are : c.ensure_capacity.new.frames.items ≡ frames = c.ensure_capacity.ensures.frames ∙ ap (λ (b : Bool). if b then with_capacity frames more else frames) can in
-    told_of_frames p w old.heap k shared s effect old c.refuse_frames.new.pending c.ensure_capacity.new.frames.items frames c.refuse_frames.result are c.refuse_frames.ensures.pending c.refuse_frames.ensures.carried
+    let are : c.ensure_capacity.new.frames ≡ frames = c.ensure_capacity.ensures.frames ∙ ap (λ (b : Bool). if b then with_capacity frames more else frames) can in
+    told_of_frames p w old.heap k shared s effect old c.refuse_frames.new.pending c.ensure_capacity.new.frames frames c.refuse_frames.result are c.refuse_frames.ensures.pending c.refuse_frames.ensures.carried
     (carries.ensures_not p w old c.args.pending.now frames k shared s h more effect ensures can)
 
 pub returns-in-RefusesFrames-clause-carried : goal.returns-in-RefusesFrames-clause-carried

@@ -33,7 +33,7 @@ returns c = record {
   references = rw (sym c.slots-slots.ensures.counts, sym c.deref-3.ensures.value) c.in_ok-reference_slots.ensures;
   levels = c.in_ok-resize-2.ensures.items ∙ resized 1 c.new-levels.result.items c.args.code.now.slots.references c.slots-slots.result.references (vec_len c.new-levels.result) c.new-levels.ensures.items c.new-levels.ensures.len (ap (λ (s : SlotCounts). s.references) c.slots-slots.ensures.counts);
   fields = c.in_ok-resize.ensures.items ∙ resized None c.new-fields.result.items c.args.code.now.slots.field_ids c.slots-slots.result.field_ids (vec_len c.new-fields.result) c.new-fields.ensures.items c.new-fields.ensures.len (ap (λ (s : SlotCounts). s.field_ids) c.slots-slots.ensures.counts);
-  frame = c.in_ok-entry_frame.field-0;
-  frames = c.in_ok-push.ensures.items ∙ ap (λ (l : List Frame). l ++ c.in_ok-entry_frame.field-0 ∷ []) c.new-frames.ensures.items;
+  frame = c.in_ok-entry_frame.frame;
+  frames = c.in_ok-of.ensures;
   entry_frame = rw (sym c.deref.ensures.value) c.in_ok-entry_frame.ensures;
 }

@@ -48,7 +48,7 @@ module _ (p : Lowered) (w : World) (store : Store) (pending : Option ℕ) (call 
   it = called p w store pending call function shared s task rest h
 
   -- the trap that was found is the source's
-  told : (classes : Classes) (is_pending room : Bool) (references : References) (fields : List (Option FieldHandle)) (o : Option Trap) → classes ≡ w.classes → is_pending ≡ is_some pending → room ≡ has_room (frames_after (function_value function.function) call.frames.items) → references ≡ references_of store call → fields ≡ call.fields.items
+  told : (classes : Classes) (is_pending room : Bool) (references : References) (fields : List (Option FieldHandle)) (o : Option Trap) → classes ≡ w.classes → is_pending ≡ is_some pending → room ≡ has_room (frames_after (function_value function.function) call.frames) → references ≡ references_of store call → fields ≡ call.fields.items
       → option_map trap_view o ≡ trap_found classes store.heap is_pending room references fields (function_value function.function) function.operands.items
       → option_map trap_view o ≡ trap_of_call w.classes shared s it.target it.f it.args
   told classes is_pending room references fields o same_classes same_pending same_room same_references same_fields found =
@@ -92,8 +92,8 @@ module _ (p : Lowered) (w : World) (store : Store) (pending : Option ℕ) (call 
         (subst (λ (t : Classes). IsWorkedOut t store.heap loaded references levels fields call.stack (call_view function) (function_value function.function) answer) same_classes works))))))
         (levelled p w store pending call function shared s task rest h))
 
-    can_carry : (kind : ResultKind) → kind ≡ (prototype (function_value function.function)).result → IsPossible p w store pending call.frames.items kind shared s
-    can_carry kind same = subst (λ (x : ResultKind). IsPossible p w store pending call.frames.items x shared s) (sym (kind_is kind same)) (possible p w store pending call function shared s task rest h)
+    can_carry : (kind : ResultKind) → kind ≡ (prototype (function_value function.function)).result → IsPossible p w store pending call.frames kind shared s
+    can_carry kind same = subst (λ (x : ResultKind). IsPossible p w store pending call.frames x shared s) (sym (kind_is kind same)) (possible p w store pending call function shared s task rest h)
 
 -- what the operands name
 named_are : (store : Store) (call : Activation) (locals : List (Option ℕ)) (statics : List StaticReference) (r : References) → r ≡ record { locals = locals; statics = all_held store.globals statics } → locals ≡ call.references.items → statics ≡ store.statics.items → r ≡ references_of store call
@@ -213,9 +213,9 @@ receive-requires-clause-frame c =
     let carried = c.in_ok-carried.ensures.carried a.0 a.1 a.2 effect (can_carry a.0 w c.args.store.now c.args.pending.now c.args.call.now c.args.function.now a.1 a.2 a.3 a.4 a.5 free kind same) (answered a.0 w c.args.store.now c.args.pending.now c.args.call.now c.args.function.now a.1 a.2 a.3 a.4 a.5 free c.classes.ensures.sound lent 0 c.classes-2.result.now c.deref-4.result.now c.new-references.result c.deref-5.result.now c.deref-6.result.now kind c.work_out-answer.result
     c.classes-2.ensures.classes c.deref-4.ensures.value (named_are c.args.store.now c.args.call.now c.deref.result.now c.deref-2.result.now c.new-references.result c.new-references.ensures c.deref.ensures.value c.deref-2.ensures.value) c.deref-5.ensures.value c.deref-6.ensures.value same c.work_out-answer.ensures) in
     let is = kind_is a.0 w c.args.store.now c.args.pending.now c.args.call.now c.args.function.now a.1 a.2 a.3 a.4 a.5 kind same in
-    subst (λ (x : ResultKind). HasRoom x c.carry_out-carried.new.frames.items) (sym is)
-    (room_after a.0 w c.args.store.now c.args.pending.now c.args.call.now c.args.function.now a.1 a.2 a.3 a.4 a.5 lent 0 free c.in_ok-carried.carried.refused c.carry_out-carried.new.store c.carry_out-carried.new.pending c.carry_out-carried.new.frames.items c.in_ok-carried.carried.given
-    (subst (λ (x : ResultKind). CarriesOut c.requires.at_call.0 w c.args.store.now.heap x a.1 a.2 effect c.in_ok-carried.carried.refused c.carry_out-carried.new.store c.carry_out-carried.new.pending c.carry_out-carried.new.frames.items c.in_ok-carried.carried.given) is carried))
+    subst (λ (x : ResultKind). HasRoom x c.carry_out-carried.new.frames) (sym is)
+    (room_after a.0 w c.args.store.now c.args.pending.now c.args.call.now c.args.function.now a.1 a.2 a.3 a.4 a.5 lent 0 free c.in_ok-carried.carried.refused c.carry_out-carried.new.store c.carry_out-carried.new.pending c.carry_out-carried.new.frames c.in_ok-carried.carried.given
+    (subst (λ (x : ResultKind). CarriesOut c.requires.at_call.0 w c.args.store.now.heap x a.1 a.2 effect c.in_ok-carried.carried.refused c.carry_out-carried.new.store c.carry_out-carried.new.pending c.carry_out-carried.new.frames c.in_ok-carried.carried.given) is carried))
 
 pub returns-then-carried : goal.returns-then-carried
 returns-then-carried c p lent k shared s task rest h =
@@ -235,10 +235,10 @@ returns-then-carried c p lent k shared s task rest h =
     let answer = answered p w store pending call function shared s task rest h free c.classes.ensures.sound lent k c.classes-2.result.now c.deref-4.result.now c.new-references.result c.deref-5.result.now c.deref-6.result.now kind c.work_out-answer.result
     c.classes-2.ensures.classes c.deref-4.ensures.value (named_are c.args.store.now c.args.call.now c.deref.result.now c.deref-2.result.now c.new-references.result c.new-references.ensures c.deref.ensures.value c.deref-2.ensures.value) c.deref-5.ensures.value c.deref-6.ensures.value same c.work_out-answer.ensures in
     let carried = c.in_ok-carried.ensures.carried p shared s effect (can_carry p w store pending call function shared s task rest h free kind same) answer in
-    let told_refused = subst (λ (b : Bool). CarriesOut p w store.heap kind shared s effect b c.carry_out-carried.new.store c.carry_out-carried.new.pending c.carry_out-carried.new.frames.items c.in_ok-carried.carried.given) c.if-carried.true carried in
+    let told_refused = subst (λ (b : Bool). CarriesOut p w store.heap kind shared s effect b c.carry_out-carried.new.store c.carry_out-carried.new.pending c.carry_out-carried.new.frames c.in_ok-carried.carried.given) c.if-carried.true carried in
     goes_on p w store pending call function shared s task rest h lent k true c.carry_out-carried.new.store c.carry_out-carried.new.pending c.carry_out-carried.new.frames c.in_ok-carried.carried.given c.receive.new.call (with_items c.carry_out-carried.new.store.statics c.receive.new.statics) c.work_out-answer.result free
     (subst (λ (x : ResultKind). IsAnswer w.classes store.heap x shared s c.work_out-answer.result effect) is answer)
-    (subst (λ (x : ResultKind). CarriesOut p w store.heap x shared s effect true c.carry_out-carried.new.store c.carry_out-carried.new.pending c.carry_out-carried.new.frames.items c.in_ok-carried.carried.given) is told_refused)
+    (subst (λ (x : ResultKind). CarriesOut p w store.heap x shared s effect true c.carry_out-carried.new.store c.carry_out-carried.new.pending c.carry_out-carried.new.frames c.in_ok-carried.carried.given) is told_refused)
     (subst (λ (x : ResultKind). Receives function.target x c.in_ok-carried.carried.given (record call { frames = c.carry_out-carried.new.frames }) c.receive.new.call) is c.receive.ensures.call)
     (with_items_is c.carry_out-carried.new.store.statics c.receive.new.statics (search (rules, places)) ∙ c.receive.ensures.statics ∙ ap (λ (l : List StaticReference). statics_with function.target c.in_ok-carried.carried.given l) c.deref_mut.ensures.value)
 
@@ -260,9 +260,9 @@ returns-else-carried c p lent k shared s task rest h =
     let answer = answered p w store pending call function shared s task rest h free c.classes.ensures.sound lent k c.classes-2.result.now c.deref-4.result.now c.new-references.result c.deref-5.result.now c.deref-6.result.now kind c.work_out-answer.result
     c.classes-2.ensures.classes c.deref-4.ensures.value (named_are c.args.store.now c.args.call.now c.deref.result.now c.deref-2.result.now c.new-references.result c.new-references.ensures c.deref.ensures.value c.deref-2.ensures.value) c.deref-5.ensures.value c.deref-6.ensures.value same c.work_out-answer.ensures in
     let carried = c.in_ok-carried.ensures.carried p shared s effect (can_carry p w store pending call function shared s task rest h free kind same) answer in
-    let told_refused = subst (λ (b : Bool). CarriesOut p w store.heap kind shared s effect b c.carry_out-carried.new.store c.carry_out-carried.new.pending c.carry_out-carried.new.frames.items c.in_ok-carried.carried.given) c.if-carried.false carried in
+    let told_refused = subst (λ (b : Bool). CarriesOut p w store.heap kind shared s effect b c.carry_out-carried.new.store c.carry_out-carried.new.pending c.carry_out-carried.new.frames c.in_ok-carried.carried.given) c.if-carried.false carried in
     goes_on p w store pending call function shared s task rest h lent k false c.carry_out-carried.new.store c.carry_out-carried.new.pending c.carry_out-carried.new.frames c.in_ok-carried.carried.given c.receive.new.call (with_items c.carry_out-carried.new.store.statics c.receive.new.statics) c.work_out-answer.result free
     (subst (λ (x : ResultKind). IsAnswer w.classes store.heap x shared s c.work_out-answer.result effect) is answer)
-    (subst (λ (x : ResultKind). CarriesOut p w store.heap x shared s effect false c.carry_out-carried.new.store c.carry_out-carried.new.pending c.carry_out-carried.new.frames.items c.in_ok-carried.carried.given) is told_refused)
+    (subst (λ (x : ResultKind). CarriesOut p w store.heap x shared s effect false c.carry_out-carried.new.store c.carry_out-carried.new.pending c.carry_out-carried.new.frames c.in_ok-carried.carried.given) is told_refused)
     (subst (λ (x : ResultKind). Receives function.target x c.in_ok-carried.carried.given (record call { frames = c.carry_out-carried.new.frames }) c.receive.new.call) is c.receive.ensures.call)
     (with_items_is c.carry_out-carried.new.store.statics c.receive.new.statics (search (rules, places)) ∙ c.receive.ensures.statics ∙ ap (λ (l : List StaticReference). statics_with function.target c.in_ok-carried.carried.given l) c.deref_mut.ensures.value)
