@@ -16,10 +16,10 @@ use Rattle.code.specs.Effect.{truth_word, element_word}
 use Rattle.code.specs.declared.instr.Operand.{Operand}
 use Rattle.code.specs.declared.instr.Operand.TheVariants as operand
 use Rattle.heap.specs.Heap.{Space, IsLaidOut, name_at}
-use Rattle.jni.specs.JniFunction.{JniFunction, FindClass, AllocObject, NewLocalRef, DeleteLocalRef, IsSameObject, EnsureLocalCapacity, PushLocalFrame, PopLocalFrame, GetFieldID, GetStaticFieldID, GetArrayLength, GetSuperclass, GetObjectClass, IsInstanceOf, IsAssignableFrom, GetField, SetField, GetObjectField, SetObjectField, GetStaticField, SetStaticField, GetStaticObjectField, SetStaticObjectField}
-use Rattle.jni.specs.Prototype.{prototype, ParameterKind, ClassObject, FieldID, IntNumber, NonNull, TextBytes, NewLocal, GivesField, GivesInt, Nullable, GivesNothing}
+use Rattle.jni.specs.JniFunction.{JniFunction, FindClass, AllocObject, NewLocalRef, NewGlobalRef, DeleteLocalRef, DeleteGlobalRef, IsSameObject, EnsureLocalCapacity, PushLocalFrame, PopLocalFrame, GetFieldID, GetStaticFieldID, GetArrayLength, GetSuperclass, GetObjectClass, IsInstanceOf, IsAssignableFrom, GetField, SetField, GetObjectField, SetObjectField, GetStaticField, SetStaticField, GetStaticObjectField, SetStaticObjectField}
+use Rattle.jni.specs.Prototype.{prototype, ParameterKind, StaticVariable, ClassObject, FieldID, IntNumber, NonNull, TextBytes, NewLocal, GivesField, GivesInt, Nullable, GivesNothing}
 use Rattle.source.specs.Arguments.{Actual, variable_given, reference_given, object_given, name_or_zero, text_given, text_in_actual, NumberActual, field_given, number_given, number_in_actual}
-use Rattle.source.specs.CallEffects.{delete_local_effect, ensure_effect, push_effect, without_local, Leaves, NoResult, found_class_effect, found_field_effect, heap_effect, same_reference, CallEffect}
+use Rattle.source.specs.CallEffects.{delete_global_effect, delete_local_effect, ensure_effect, push_effect, without_local, Leaves, NoResult, found_class_effect, found_field_effect, heap_effect, same_reference, CallEffect}
 use Rattle.source.specs.CallStep.{trap_of_call}
 use Rattle.source.specs.CallTable.{call_effect}
 use Rattle.source.specs.Heap.{Heap, class_of, object_at, values_of, field_place, number_in, place_in, value_at, reference_in, static_place, with_value_at}
@@ -55,7 +55,7 @@ use Rattle.machine.proofs.Handles.{class_of_field, class_within}
 use Rattle.machine.specs.declared.answer.Answer.{Answer}
 use Rattle.machine.specs.declared.store.Store.{Store}
 use Rattle.machine.specs.declared.thread.Activation.{Activation}
-use Rattle.machine.specs.Answers.{IsAnswer, IsMakeable}
+use Rattle.machine.specs.Answers.{HoldsObject, IsAnswer, IsMakeable}
 use Rattle.machine.specs.Asked.{IsAsked, references_of}
 use Rattle.machine.specs.Statics.{References, held_address, holds_deleted, holds_null, static_at}
 use Rattle.machine.specs.declared.statics.Held.{Held}
@@ -63,7 +63,7 @@ use Rattle.machine.specs.declared.statics.Held.TheVariants as held
 use Rattle.machine.specs.Checked.{gives_deleted, gives_null, is_answered, misfits, some_misfit, some_missing, may_be_null}
 use Rattle.machine.specs.Given.{level_at, operand_at, operand_of, class_of_given, class_there, fits_there, name_there, IsGiven, field_at, field_there}
 use Rattle.machine.specs.HeapAgrees.{HeapAgrees, ReferenceAgrees, BlocksAgree, IsTable, ValueAgrees}
-use Rattle.machine.specs.WorkedOut.{deletes, frame_for, count_there, class_object, found_class, IsFoundField, IsWorkedOut, place_there, value_there, word_in, address_in, held_reference, room_for, top_word, writes_there}
+use Rattle.machine.specs.WorkedOut.{deletes, deletes_global, frame_for, count_there, class_object, found_class, IsFoundField, IsWorkedOut, place_there, value_there, word_in, address_in, held_reference, room_for, top_word, writes_there}
 use Rattle.machine.proofs.CallChecks.{class_given_is, class_is, field_at_place, fits_is, name_is, reference_at_place, handle_of}
 use Rattle.machine.proofs.BlockObjects.{Named, named, name_within}
 use Rattle.machine.proofs.CallTraps.{has_passed, none_deleted, none_lacking, none_unfit, handles_there}
@@ -337,6 +337,23 @@ module _ (classes : Classes) (space : Space) (references : References) (fields :
       (λ (t : (eqb (class_there space a) class_class ≡ false) × (class_there space a ≡ class_class → ⊥)). absurd (let clash : not false ≡ false = ap not (sym t.0) ∙ same in cc))
       (eqb_tells (class_there space a) class_class)
 
+-- an argument for a static is one
+static_operand : (o : Operand) → OperandFits StaticVariable o → (i : ℕ) × (o ≡ operand.Static i)
+static_operand (operand.Static i) fits = (i, refl)
+static_operand operand.Number fits = absurd (cc)
+static_operand operand.Text fits = absurd (cc)
+static_operand operand.Null fits = absurd fits
+static_operand (operand.Local i) fits = absurd fits
+static_operand (operand.FieldId i) fits = absurd (cc)
+static_operand (operand.Array array) fits = absurd (let e = fits.1 in cc)
+static_operand (operand.Buffer i) fits = absurd (let e = fits.1 in cc)
+static_operand (operand.Mode mode) fits = absurd (cc)
+static_operand (operand.IsCopy i) fits = absurd (cc)
+
+only_static : (operands : List Operand) → AllZip OperandFits (StaticVariable ∷ []) operands → (i : ℕ) × (operand_of operands 0 ≡ operand.Static i)
+only_static [] fits = absurd fits
+only_static (o ∷ operands) fits = static_operand o fits.0
+
 own_making : (classes : Classes) (c : ℕ) → not (has_own_making classes c) ≡ true → c ≡ class_class → ⊥
 own_making classes c h is = clash (not (is_plain (class_kind classes class_class))) (class_class == string_class) (ap (λ (n : ℕ). not (has_own_making classes n)) (sym is) ∙ h)
   where
@@ -413,6 +430,10 @@ module _ (p : Lowered) (w : World) (store : Store) (pending : Option ℕ) (call 
   answers_assignable h answer is =
       subst (λ (x : Answer). Does IsAssignableFrom x) (sym is)
       (refl, refl, ap truth_word ((λ i. assignable w.classes (name_of IsAssignableFrom h 0 i) (name_of IsAssignableFrom h 1 i))))
+
+  answers_new_global : Asked NewGlobalRef → (answer : Answer) → Works NewGlobalRef answer → Does NewGlobalRef answer
+  unfolding call_effect
+  answers_new_global h answer is = subst (λ (x : Answer). Does NewGlobalRef x) (sym is) (refl, (reference_given args 0, agrees NewGlobalRef h 0, refl))
 
   answers_new_local : Asked NewLocalRef → (answer : Answer) → Works NewLocalRef answer → Does NewLocalRef answer
   unfolding call_effect
@@ -498,6 +519,24 @@ module _ (p : Lowered) (w : World) (store : Store) (pending : Option ℕ) (call 
       by_reference None (Some n) e agree = absurd agree
       by_reference (Some a) None e agree = absurd agree
       by_reference (Some a) (Some n) e agree = by_level a n agree (levelled refl n e) (nat_lt 0 level) refl
+
+  -- what is known of the static whose global reference ends
+  abbrev pub IsHeld : JniFunction → Type 0
+  IsHeld f = f ≡ DeleteGlobalRef → (i n : ℕ) → operand_of function.operands 0 ≡ operand.Static i → reference_given args 0 ≡ Some n → HoldsObject shared (variable_given args 0) i n
+
+  answers_delete_global : IsHeld DeleteGlobalRef → Asked DeleteGlobalRef → (answer : Answer) → Works DeleteGlobalRef answer → Does DeleteGlobalRef answer
+  unfolding call_effect
+  answers_delete_global held h answer is =
+      subst (λ (x : Answer). Does DeleteGlobalRef x) (sym is)
+      (let static = only_static function.operands h.kinds in
+       subst (λ (o : Operand). IsAnswer w.classes store.heap GivesNothing shared s (deletes_global (at 0) o) (delete_global_effect shared s (variable_given args 0) (reference_given args 0))) (sym static.1)
+       (by_reference static.0 (at 0) (reference_given args 0) (held refl static.0 static.1) (agrees DeleteGlobalRef h 0)))
+    where
+      by_reference : (i : ℕ) (o : Option ℕ) (r : Reference) → ((n : ℕ) → r ≡ Some n → HoldsObject shared (variable_given args 0) i n) → ReferenceAgrees store.heap o r → IsAnswer w.classes store.heap GivesNothing shared s (deletes_global o (operand.Static i)) (delete_global_effect shared s (variable_given args 0) r)
+      by_reference i None None holds agree = (refl, refl, tt)
+      by_reference i None (Some n) holds agree = absurd agree
+      by_reference i (Some a) None holds agree = absurd agree
+      by_reference i (Some a) (Some n) holds agree = (refl, (variable_given args 0, n, holds n refl, refl))
 
   -- the class objects are the first of the table
   answers_superclass : Asked GetSuperclass → (answer : Answer) → Works GetSuperclass answer → Does GetSuperclass answer
@@ -759,28 +798,30 @@ module _ (p : Lowered) (w : World) (store : Store) (pending : Option ℕ) (call 
       it.at_holder it.named_holder refl it.place refl refl (held_agrees (at 2) (reference_given args 2) (agrees SetStaticObjectField h 2)) h.store_agrees)
 
   -- the answer is what the call does
-  pub answers : (f : JniFunction) → Asked f → (target : Target) → trap_of_call w.classes shared s target f args ≡ None → (answer : Answer) → Works f answer → IsLevelled f → Does f answer
-  answers FindClass h target free answer is levelled = answers_find h answer is
-  answers GetSuperclass h target free answer is levelled = answers_superclass h answer is
-  answers GetObjectClass h target free answer is levelled = answers_class h target free answer is
-  answers IsInstanceOf h target free answer is levelled = answers_instance h answer is
-  answers IsAssignableFrom h target free answer is levelled = answers_assignable h answer is
-  answers NewLocalRef h target free answer is levelled = answers_new_local h answer is
-  answers IsSameObject h target free answer is levelled = answers_same h answer is
-  answers EnsureLocalCapacity h target free answer is levelled = answers_ensure h answer is
-  answers PushLocalFrame h target free answer is levelled = answers_push h answer is
-  answers PopLocalFrame h target free answer is levelled = answers_pop h answer is
-  answers DeleteLocalRef h target free answer is levelled = answers_delete levelled h answer is
-  answers AllocObject h target free answer is levelled = answers_alloc h target free answer is
-  answers GetFieldID h target free answer is levelled = answers_field h answer is
-  answers GetStaticFieldID h target free answer is levelled = answers_static h answer is
-  answers (GetField T) h target free answer is levelled = answers_get T h target free answer is
-  answers (SetField T) h target free answer is levelled = answers_set T h target free answer is
-  answers GetObjectField h target free answer is levelled = answers_get_object h target free answer is
-  answers SetObjectField h target free answer is levelled = answers_set_object h target free answer is
-  answers (GetStaticField T) h target free answer is levelled = answers_get_static T h target free answer is
-  answers (SetStaticField T) h target free answer is levelled = answers_set_static T h target free answer is
-  answers GetStaticObjectField h target free answer is levelled = answers_get_static_object h target free answer is
-  answers SetStaticObjectField h target free answer is levelled = answers_set_static_object h target free answer is
-  answers GetArrayLength h target free answer is levelled = answers_length h answer is
-  answers f h target free answer is levelled = absurd (let no : is_answered f ≡ true = h.answered in cc)
+  pub answers : (f : JniFunction) → Asked f → (target : Target) → trap_of_call w.classes shared s target f args ≡ None → (answer : Answer) → Works f answer → IsLevelled f → IsHeld f → Does f answer
+  answers FindClass h target free answer is levelled held = answers_find h answer is
+  answers GetSuperclass h target free answer is levelled held = answers_superclass h answer is
+  answers GetObjectClass h target free answer is levelled held = answers_class h target free answer is
+  answers IsInstanceOf h target free answer is levelled held = answers_instance h answer is
+  answers IsAssignableFrom h target free answer is levelled held = answers_assignable h answer is
+  answers NewGlobalRef h target free answer is levelled held = answers_new_global h answer is
+  answers DeleteGlobalRef h target free answer is levelled held = answers_delete_global held h answer is
+  answers NewLocalRef h target free answer is levelled held = answers_new_local h answer is
+  answers IsSameObject h target free answer is levelled held = answers_same h answer is
+  answers EnsureLocalCapacity h target free answer is levelled held = answers_ensure h answer is
+  answers PushLocalFrame h target free answer is levelled held = answers_push h answer is
+  answers PopLocalFrame h target free answer is levelled held = answers_pop h answer is
+  answers DeleteLocalRef h target free answer is levelled held = answers_delete levelled h answer is
+  answers AllocObject h target free answer is levelled held = answers_alloc h target free answer is
+  answers GetFieldID h target free answer is levelled held = answers_field h answer is
+  answers GetStaticFieldID h target free answer is levelled held = answers_static h answer is
+  answers (GetField T) h target free answer is levelled held = answers_get T h target free answer is
+  answers (SetField T) h target free answer is levelled held = answers_set T h target free answer is
+  answers GetObjectField h target free answer is levelled held = answers_get_object h target free answer is
+  answers SetObjectField h target free answer is levelled held = answers_set_object h target free answer is
+  answers (GetStaticField T) h target free answer is levelled held = answers_get_static T h target free answer is
+  answers (SetStaticField T) h target free answer is levelled held = answers_set_static T h target free answer is
+  answers GetStaticObjectField h target free answer is levelled held = answers_get_static_object h target free answer is
+  answers SetStaticObjectField h target free answer is levelled held = answers_set_static_object h target free answer is
+  answers GetArrayLength h target free answer is levelled held = answers_length h answer is
+  answers f h target free answer is levelled held = absurd (let no : is_answered f ≡ true = h.answered in cc)

@@ -12,7 +12,7 @@ use Rattle.class_table.specs.declared.class.FieldHandle.{FieldHandle}
 use Rattle.code.specs.declared.instr.Operand.{Operand}
 use Rattle.code.specs.declared.instr.Operand.TheVariants as operand
 use Rattle.heap.specs.Heap.{Space, IsAddress}
-use Rattle.jni.specs.JniFunction.{JniFunction, is_allowed_pending, AllocObject, NewLocalRef, DeleteLocalRef, IsSameObject, EnsureLocalCapacity, PushLocalFrame, FindClass, GetFieldID, GetStaticFieldID, GetField, SetField, GetStaticField, SetStaticField, GetObjectField, SetObjectField, GetStaticObjectField, SetStaticObjectField, GetArrayLength, GetSuperclass, GetObjectClass, IsInstanceOf, IsAssignableFrom, PopLocalFrame}
+use Rattle.jni.specs.JniFunction.{JniFunction, is_allowed_pending, AllocObject, NewLocalRef, NewGlobalRef, DeleteLocalRef, DeleteGlobalRef, IsSameObject, EnsureLocalCapacity, PushLocalFrame, FindClass, GetFieldID, GetStaticFieldID, GetField, SetField, GetStaticField, SetStaticField, GetObjectField, SetObjectField, GetStaticObjectField, SetStaticObjectField, GetArrayLength, GetSuperclass, GetObjectClass, IsInstanceOf, IsAssignableFrom, PopLocalFrame}
 use Rattle.jni.specs.Prototype.{ParameterKind, Nullable, LocalVariable, StaticVariable, IsCopy, ClassObject, NumberArray, ObjectArray, StringObject, ResultKind, NewLocal, prototype}
 use Rattle.source.specs.Arguments.{Actual, ReferenceActual, FieldActual, NumberActual, TextActual, VariableActual, ModeActual, NothingActual, ReleaseMode, reference_given, reference_in_actual, name_or_zero, field_given, field_in_actual}
 use Rattle.source.specs.CallStep.{trap_of_call, target_element}
@@ -367,6 +367,8 @@ module _ (classes : Classes) (space : Space) (references : References) (fields :
     together_is buffer operands args h IsInstanceOf e = refl
     together_is buffer operands args h IsAssignableFrom e = refl
     together_is buffer operands args h NewLocalRef e = refl
+    together_is buffer operands args h NewGlobalRef e = refl
+    together_is buffer operands args h DeleteGlobalRef e = refl
     together_is buffer operands args h DeleteLocalRef e = refl
     together_is buffer operands args h IsSameObject e = refl
     together_is buffer operands args h PushLocalFrame e = refl

@@ -25,6 +25,7 @@ use Rattle.code.specs.Call.{Call, call_view}
 use Rattle.code.specs.Depth.{Listing, with_fewer, words_taken}
 use Rattle.code.specs.declared.instr.Call.{Call as InMemory}
 use Rattle.code.specs.declared.instr.Instr.TheVariants as instr
+use Rattle.code.specs.declared.instr.Operand.TheVariants as operand
 use Rattle.code.specs.declared.instr.Target.{Target as Destination}
 use Rattle.code.specs.declared.instr.Target.TheVariants as destination
 use Rattle.lower.specs.Does.{CallsFunction, IsOperand, OperandFits, TakesResult}
@@ -39,7 +40,7 @@ use Rattle.machine.specs.declared.thread.Activation.{Activation}
 use Rattle.machine.specs.declared.thread.Event.TheVariants as event
 use Rattle.machine.specs.declared.thread.Executed.TheVariants.{Did}
 use Rattle.machine.specs.Agrees.{FramesAgree, Executes, GoesOn, WorkAgrees, after_any}
-use Rattle.machine.specs.Answers.{IsAnswer}
+use Rattle.machine.specs.Answers.{HoldsObject, IsAnswer}
 use Rattle.machine.specs.Asked.{IsAsked, references_of}
 use Rattle.machine.specs.Statics.{all_held}
 use Rattle.machine.specs.CarriedOut.{CarriesOut, IsPossible, can_fail, frames_left, pending_after, result_after, shared_after}
@@ -58,6 +59,7 @@ use Rattle.machine.proofs.EffectFrames.{left_is}
 use Rattle.machine.proofs.FrameChanges.{frames_left as frames_after_agree}
 use Rattle.machine.proofs.Levels.{HasLevel, level_there}
 use Rattle.machine.proofs.Rooms.{full_where}
+use Rattle.machine.proofs.StaticArguments.{object_held}
 use Rattle.source.specs.Checks.{is_full, frames_after as source_frames_after}
 use Rattle.source.specs.ThreadStep.{next_effect}
 use Rattle.machine.proofs.Invocations.{finishes, going, resumption}
@@ -74,8 +76,8 @@ answered_there IsInstanceOf h = refl
 answered_there IsAssignableFrom h = refl
 answered_there NewLocalRef h = refl
 answered_there DeleteLocalRef h = refl
-answered_there NewGlobalRef h = ?
-answered_there DeleteGlobalRef h = ?
+answered_there NewGlobalRef h = refl
+answered_there DeleteGlobalRef h = refl
 answered_there IsSameObject h = refl
 answered_there EnsureLocalCapacity h = refl
 answered_there PushLocalFrame h = refl
@@ -153,6 +155,8 @@ stays_with classes space kind shared s answer (Halts trap) h = no_halt answer h
         no_halt_of_frame true e = cc
         no_halt_of_frame false e = cc
     no_halt (answers.Pops a) h = let e = h.1.2 in cc
+    no_halt (answers.MakesGlobal a) h = let e = h.1.2 in cc
+    no_halt (answers.DeletesGlobal i) h = let e = h.1.3 in cc
     no_halt (answers.Deletes level a) h = let e = h.3.2 in cc
     no_halt answers.RefusesFrames h = let e = h.1 in cc
 stays_with classes space kind shared s (answers.Gives g) (Leaves made s' t' c) h = stays_same s t' (same_thread (gives_it classes space kind shared s g (Leaves made s' t' c) h).is)
@@ -170,6 +174,8 @@ stays_with classes space kind shared s (answers.Pushes capacity) (Leaves made s'
     stays_framed true = refl
     stays_framed false = refl
 stays_with classes space kind shared s (answers.Pops a) (Leaves made s' t' c) h = subst (StaysBut s) (sym h.1.2) refl
+stays_with classes space kind shared s (answers.MakesGlobal a) (Leaves made s' t' c) h = subst (StaysBut s) (sym h.1.2) refl
+stays_with classes space kind shared s (answers.DeletesGlobal i) (Leaves made s' t' c) h = subst (StaysBut s) (sym h.1.3) refl
 stays_with classes space kind shared s (answers.Deletes level a) (Leaves made s' t' c) h = subst (StaysBut s) (sym h.3.2) refl
 stays_with classes space kind shared s answers.RefusesFrames (Leaves made s' t' c) h = subst (StaysBut s) (sym h.1) refl
 
@@ -271,6 +277,10 @@ module _ (p : Lowered) (w : World) (store : Store) (pending : Option ℕ) (call 
   levelled deletes n given =
       level_there p w.classes store.heap call h.code shared s task rest r function.operands called.args n called.operands given
       (h.steady.deleted called.line called.target called.args (next_is ∙ ap (λ (f : JniFunction). Calls called.line called.target f called.args) deletes))
+
+  -- the static whose global reference ends
+  pub held : called.f ≡ DeleteGlobalRef → (i n : ℕ) → operand_of function.operands 0 ≡ operand.Static i → reference_given called.args 0 ≡ Some n → HoldsObject shared (variable_given called.args 0) i n
+  held deletes i n at given = object_held p w.classes store.heap call h.code shared s task rest r function.operands called.args i n called.operands at given
 
   -- its slot is there
   pub has_target : HasTarget in_memory.target call

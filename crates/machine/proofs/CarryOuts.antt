@@ -14,7 +14,7 @@ use Rattle.machine.specs.declared.statics.StaticReference.{StaticReference}
 use Rattle.machine.specs.declared.statics.StaticReference.TheVariants as static
 use Rattle.machine.specs.Statics.{held as held_of, held_at}
 use Rattle.machine.proofs.GlobalLaws.{address_new}
-use Rattle.machine.proofs.StaticStores.{fresh_global, keeps_but_statics, with_deleted, with_global}
+use Rattle.machine.proofs.StaticStores.{fresh_global, keeps_but_statics, live_there, with_deleted, with_global}
 use Rattle.std.specs.Prelude.{slice_get, slice_set, nat_le, if◌then◌else◌}
 use Rattle.std.proofs.lemmas.Option.{slice_get_within}
 use Rattle.classes.specs.Class.{Classes}
@@ -235,6 +235,14 @@ module _ (p : Lowered) (w : World) (store : Store) (pending : Option ℕ) (frame
         still = λ same. absurd (let clash : GivesNothing ≡ NewGlobal = sym nothing ∙ same in cc);
         could_refuse = λ e. absurd (cc);
       })
+
+  -- the global reference of a static ended, as was answered
+  pub deletes_static : (statics : Vec StaticReference) (globals : List (Option ℕ)) (i : ℕ) (effect : CallEffect) → Does (answer.DeletesGlobal i) effect → statics.items ≡ slice_set store.statics.items i static.Deleted → ((key : ℕ) → slice_get store.statics.items i ≡ Some (static.Live key) → globals ≡ without store.globals key)
+      → Carries effect false (record store { statics = statics; globals = globals }) pending given.Nothing
+  deletes_static statics globals i effect does marked gone =
+      let live = live_there p w store shared h.store_agrees does.1.0 i does.1.1 does.1.2.place does.1.2.there in
+      subst (λ (l : List (Option ℕ)). Carries effect false (record store { statics = statics; globals = l }) pending given.Nothing) (sym (gone live.key live.at))
+      (deletes_global statics effect does.1.0 i live.key live.address does.1.1 does.0 live.at live.held live.named does.1.2.place does.1.3 marked)
 
   module _ (new : Store) (class a : ℕ) (made : HasMade w.classes store class new a) where
     pub makes : (effect : CallEffect) → Does (answer.Makes class) effect → Carries effect false new pending (given.Reference (Some a))

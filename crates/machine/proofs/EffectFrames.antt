@@ -2,7 +2,7 @@
 use Rattle.std.proofs.Common.{◌≡◌, Bool, true, false, Option, Some, None, refl, ap, ℕ, List}
 use Rattle.classes.specs.BuiltIns.{no_class_def_found_error}
 use Rattle.classes.specs.Class.{Classes, class_named}
-use Rattle.jni.specs.JniFunction.{JniFunction, FindClass, GetSuperclass, GetObjectClass, IsInstanceOf, IsAssignableFrom, AllocObject, NewLocalRef, DeleteLocalRef, IsSameObject, EnsureLocalCapacity, PushLocalFrame, PopLocalFrame, GetFieldID, GetStaticFieldID, GetField, SetField, GetStaticField, SetStaticField, GetObjectField, SetObjectField, GetStaticObjectField, SetStaticObjectField, GetArrayLength}
+use Rattle.jni.specs.JniFunction.{JniFunction, FindClass, GetSuperclass, GetObjectClass, IsInstanceOf, IsAssignableFrom, AllocObject, NewLocalRef, NewGlobalRef, DeleteLocalRef, DeleteGlobalRef, IsSameObject, EnsureLocalCapacity, PushLocalFrame, PopLocalFrame, GetFieldID, GetStaticFieldID, GetField, SetField, GetStaticField, SetStaticField, GetObjectField, SetObjectField, GetStaticObjectField, SetStaticObjectField, GetArrayLength}
 use Rattle.jni.specs.Prototype.{NewLocal, prototype}
 use Rattle.source.specs.Arguments.{Actual, text_given}
 use Rattle.source.specs.CallEffects.{found_class_effect}
@@ -40,6 +40,8 @@ module _ (classes : Classes) (lent : BuffersInUse) (k : ℕ) (shared : Shared) (
   left_is PopLocalFrame a n false could = refl
   left_is IsInstanceOf a n refused could = absurd (cc)
   left_is IsAssignableFrom a n refused could = absurd (cc)
+  left_is NewGlobalRef a n refused could = absurd (cc)
+  left_is DeleteGlobalRef a n refused could = absurd (cc)
   left_is DeleteLocalRef a n refused could = absurd (cc)
   left_is IsSameObject a n refused could = absurd (cc)
   left_is EnsureLocalCapacity a n refused could = absurd (cc)

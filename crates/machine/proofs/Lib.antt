@@ -36,6 +36,7 @@ pub mod Frames
 pub mod FrameChanges
 pub mod EffectFrames
 pub mod Levels
+pub mod StaticArguments
 pub mod Rooms
 pub mod Handles
 pub mod FewValues

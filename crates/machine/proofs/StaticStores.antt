@@ -10,14 +10,16 @@ use Rattle.machine.specs.declared.statics.Held.TheVariants as memory
 use Rattle.source.specs.CallEffects.{without_one}
 use Rattle.tables.specs.Globals.{without}
 use Rattle.std.proofs.lemmas.List.{length-map, take_all}
+use Rattle.std.proofs.lemmas.Option.{slice_get-map}
+use Rattle.std.specs.Option.{option_map}
 use Rattle.syntax.specs.Parts.{statics_of}
 use Rattle.syntax.specs.Tree.{Static}
 use Rattle.syntax.specs.Views.{unit_tree}
-use Rattle.base.specs.Bytes.{Identifier}
+use Rattle.base.specs.Bytes.{Identifier, lookup}
 use Rattle.source.specs.Object.{sizes}
 use Rattle.source.specs.Task.{VariableKind}
 use Rattle.source.specs.Thread.{Shared}
-use Rattle.source.specs.Variable.{Empty, Deleted, Statics, StaticReference, assign}
+use Rattle.source.specs.Variable.{Empty, Live, Deleted, Statics, StaticReference, assign}
 use Rattle.source.specs.World.{World}
 use Rattle.code.specs.declared.instr.NullableVariable.{NullableVariable}
 use Rattle.code.specs.declared.instr.NullableVariable.TheVariants as nullable
@@ -32,9 +34,9 @@ use Rattle.machine.specs.declared.statics.StaticReference.{StaticReference as In
 use Rattle.machine.specs.declared.statics.StaticReference.TheVariants as static
 use Rattle.machine.specs.declared.store.Store.{Store}
 use Rattle.machine.specs.Agrees.{AreNamed, GlobalsAgree, HeldAgrees, Keeps, MayChange, StaticsAgree, StoreAgrees}
-use Rattle.machine.specs.Statics.{HaveKeys, all_held, held}
+use Rattle.machine.specs.Statics.{HaveKeys, all_held, held, held_at, held_or_null}
 use Rattle.machine.specs.Variables.{nulled_statics}
-use Rattle.machine.proofs.HeldStatics.{held_set, keys_left, same_names, static_put, statics_count}
+use Rattle.machine.proofs.HeldStatics.{held_set, keys_left, same_names, static_put, static_there, statics_count}
 
 module _ (p : Lowered) (w : World) (store : Store) (shared : Shared) (h : StoreAgrees p w store shared) where
   -- other statics and other global references
@@ -98,6 +100,29 @@ module _ (p : Lowered) (w : World) (store : Store) (shared : Shared) (h : StoreA
       some_there : (o : Option ℕ) (a : ℕ) → o ≡ Some a → IsSome o
       some_there None a e = absurd (cc)
       some_there (Some b) a e = refl
+
+  -- a static that holds an object has a global reference to it
+  pub record LiveThere (i n : ℕ) : Type 0 where
+    pub key : ℕ
+    pub address : ℕ
+    pub at : slice_get store.statics.items i ≡ Some (static.Live key)
+    pub held : address_at store.globals key ≡ Some address
+    pub named : name_at store.heap address ≡ Some n
+
+  pub live_there : (x : Identifier) (i n : ℕ) → static_index x shared.statics ≡ Some i → lookup x shared.statics ≡ Some (Live n) → LiveThere i n
+  live_there x i n place at =
+      by_static (slice_get store.statics.items i) refl
+      (subst (λ (o : Option Held). HeldAgrees store.heap (held_or_null o) (Live n)) (slice_get-map (held store.globals) store.statics.items i) (static_there store.heap x (all_held store.globals store.statics.items) shared.statics i (Live n) h.statics place at))
+    where
+      by_key : (key : ℕ) (o : Option ℕ) → slice_get store.statics.items i ≡ Some (static.Live key) → address_at store.globals key ≡ o → HeldAgrees store.heap (held_at o) (Live n) → LiveThere i n
+      by_key key None at e agree = absurd agree
+      by_key key (Some a) at e agree = record { key = key; address = a; at = at; held = e; named = agree }
+
+      by_static : (o : Option InMemory) → slice_get store.statics.items i ≡ o → HeldAgrees store.heap (held_or_null (option_map (held store.globals) o)) (Live n) → LiveThere i n
+      by_static None e agree = absurd agree
+      by_static (Some static.Empty) e agree = absurd agree
+      by_static (Some static.Deleted) e agree = absurd agree
+      by_static (Some (static.Live key)) e agree = by_key key (address_at store.globals key) e refl agree
 
   -- the global reference of a static ended, and the static is marked
   pub with_deleted : (statics : Vec InMemory) (x : Identifier) (i key a n : ℕ) → slice_get store.statics.items i ≡ Some (static.Live key) → address_at store.globals key ≡ Some a → name_at store.heap a ≡ Some n → static_index x shared.statics ≡ Some i → statics.items ≡ slice_set store.statics.items i static.Deleted

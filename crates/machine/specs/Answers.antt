@@ -1,18 +1,21 @@
 -- What answers are, by the effects of the source's calls.
-use Rattle.std.specs.Prelude.{◌≡◌, ℕ, ◌<◌, ◌≤◌, [], ◌∷◌, drop, length, Option, Some, None, FitsSigned}
+use Rattle.std.specs.Prelude.{◌≡◌, ℕ, ◌<◌, ◌≤◌, [], ◌∷◌, ◌++◌, drop, length, Option, Some, None, FitsSigned}
 use Rattle.std.specs.Int.{w32}
+use Rattle.std.specs.Option.{option_to_list}
+use Rattle.base.specs.Bytes.{Identifier, lookup}
 use Rattle.classes.specs.BuiltIns.{class_class}
 use Rattle.classes.specs.Class.{Classes}
 use Rattle.heap.specs.Heap.{Space, name_at, values_at}
 use Rattle.heap.specs.declared.value.Value.{Value}
-use Rattle.jni.specs.Prototype.{ResultKind, NewLocal, GivesFlag, GivesInt, GivesField, GivesNothing}
-use Rattle.source.specs.CallEffects.{CallResult, NoResult, NullResult, ScalarResult, ReferenceResult, FieldResult, CallEffect, Leaves, Throws, frames_effect, refuses_frames, with_capacity, without_local}
+use Rattle.jni.specs.Prototype.{ResultKind, NewLocal, NewGlobal, GivesFlag, GivesInt, GivesField, GivesNothing}
+use Rattle.source.specs.CallEffects.{CallResult, NoResult, NullResult, ScalarResult, ReferenceResult, FieldResult, CallEffect, Leaves, Throws, delete_global_effect, frames_effect, refuses_frames, with_capacity, without_local}
 use Rattle.source.specs.Heap.{next_name, with_value_at}
 use Rattle.source.specs.Object.{ObjectValue, Reference}
 use Rattle.source.specs.Thread.{Shared, Thread}
 use Rattle.source.specs.Value.{Int, Flag}
+use Rattle.source.specs.Variable.{Live}
 use Rattle.source.specs.World.{fresh_object}
-use Rattle.lower.specs.Slots.{word_of}
+use Rattle.lower.specs.Slots.{word_of, static_index}
 use Rattle.machine.specs.declared.answer.Given.{Given}
 use Rattle.machine.specs.declared.answer.Given.TheVariants as given
 use Rattle.machine.specs.declared.answer.Answer.{Answer}
@@ -46,6 +49,11 @@ pub record WritesAt (space : Space) (s : Shared) (s' : Shared) (a place : ℕ) (
   pub within : place < length (values_at space a)
   pub is : s' ≡ record s { heap = with_value_at s.heap name place value }
 
+-- the static at this place holds the object of this name
+pub record HoldsObject (s : Shared) (x : Identifier) (i n : ℕ) : Type 0 where
+  pub place : static_index x s.statics ≡ Some i
+  pub there : lookup x s.statics ≡ Some (Live n)
+
 -- The answer is what the call does to this state, all checks being passed.
 abbrev pub IsAnswer : Classes → Space → ResultKind → Shared → Thread → Answer → CallEffect → Type 0
 IsAnswer classes space kind s t (answer.Throws c) (Throws class) = (c ≡ class) × IsMakeable classes c
@@ -58,5 +66,8 @@ IsAnswer classes space kind s t (answer.Pushes capacity) effect = (kind ≡ Give
 IsAnswer classes space kind s t (answer.Pops a) effect = (kind ≡ NewLocal) × ((r : Reference) × ReferenceAgrees space a r × (effect ≡ Leaves [] s (record t { frames = drop 1 t.frames }) (ReferenceResult r)))
 IsAnswer classes space kind s t (answer.Deletes level a) effect =
     (kind ≡ GivesNothing) × (0 < level) × (level ≤ length t.frames) × ((n : ℕ) × (name_at space a ≡ Some n) × (effect ≡ Leaves [] s (record t { frames = without_local level n t.frames }) NoResult))
+IsAnswer classes space kind s t (answer.MakesGlobal a) effect =
+    (kind ≡ NewGlobal) × ((r : Reference) × ReferenceAgrees space a r × (effect ≡ Leaves [] (record s { globals = option_to_list r ++ s.globals }) t (ReferenceResult r)))
+IsAnswer classes space kind s t (answer.DeletesGlobal i) effect = (kind ≡ GivesNothing) × ((x : Identifier) × (n : ℕ) × HoldsObject s x i n × (effect ≡ delete_global_effect s t x (Some n)))
 IsAnswer classes space kind s t answer.RefusesFrames effect = (kind ≡ GivesInt) × (effect ≡ refuses_frames classes s t)
 IsAnswer classes space kind s t answer effect = ⊥

@@ -9,15 +9,17 @@ use Rattle.class_table.specs.FieldViews.{field_of, place_among}
 use Rattle.class_table.specs.declared.class.FieldHandle.{FieldHandle}
 use Rattle.code.specs.Call.{Call}
 use Rattle.code.specs.Effect.{element_word, truth_word}
+use Rattle.code.specs.declared.instr.Operand.{Operand}
+use Rattle.code.specs.declared.instr.Operand.TheVariants as operand
 use Rattle.code_generator.specs.Coding.{element_of}
 use Rattle.heap.specs.Heap.{Space, values_at}
 use Rattle.heap.specs.declared.value.Value.{Value}
 use Rattle.heap.specs.declared.value.Value.TheVariants as value
-use Rattle.jni.specs.JniFunction.{JniFunction, FindClass, GetSuperclass, GetObjectClass, IsInstanceOf, IsAssignableFrom, AllocObject, NewLocalRef, DeleteLocalRef, IsSameObject, EnsureLocalCapacity, PushLocalFrame, PopLocalFrame, GetFieldID, GetStaticFieldID, GetField, SetField, GetStaticField, SetStaticField, GetObjectField, SetObjectField, GetStaticObjectField, SetStaticObjectField, GetArrayLength}
+use Rattle.jni.specs.JniFunction.{JniFunction, FindClass, GetSuperclass, GetObjectClass, IsInstanceOf, IsAssignableFrom, AllocObject, NewLocalRef, NewGlobalRef, DeleteLocalRef, DeleteGlobalRef, IsSameObject, EnsureLocalCapacity, PushLocalFrame, PopLocalFrame, GetFieldID, GetStaticFieldID, GetField, SetField, GetStaticField, SetStaticField, GetObjectField, SetObjectField, GetStaticObjectField, SetStaticObjectField, GetArrayLength}
 use Rattle.machine.specs.declared.answer.Given.TheVariants.{Nothing, Number, Reference}
 use Rattle.machine.specs.declared.answer.Given.TheVariants as given
 use Rattle.machine.specs.declared.answer.Answer.{Answer}
-use Rattle.machine.specs.declared.answer.Answer.TheVariants.{Gives, Writes, Makes, Throws, Ensures, Pushes, RefusesFrames, Pops, Deletes}
+use Rattle.machine.specs.declared.answer.Answer.TheVariants.{Gives, Writes, Makes, Throws, Ensures, Pushes, RefusesFrames, Pops, Deletes, MakesGlobal, DeletesGlobal}
 use Rattle.machine.specs.Statics.{References}
 use Rattle.machine.specs.Given.{operand_at, level_at, operand_of, field_at, class_of_given, name_there, fits_there, field_there}
 
@@ -55,6 +57,12 @@ frame_for (negsuc n) = RefusesFrames
 abbrev pub deletes : Option ℕ → (level : ℕ) → Answer
 deletes None level = Gives Nothing
 deletes (Some a) level = if nat_lt 0 level then Deletes level a else Gives Nothing
+
+-- the global reference of a static ends, for one that isn't NULL
+abbrev pub deletes_global : Option ℕ → Operand → Answer
+deletes_global None o = Gives Nothing
+deletes_global (Some a) (operand.Static i) = DeletesGlobal i
+deletes_global (Some a) o = Gives Nothing
 
 -- ---- cells
 
@@ -138,6 +146,8 @@ module _ (classes : Classes) (space : Space) (loaded : List ℕ) (references : R
   worked_out IsAssignableFrom = Gives (Number (truth_word (assignable classes (name_there space (reference 0)) (name_there space (reference 1)))))
   worked_out AllocObject = Makes (name_there space (reference 0))
   worked_out NewLocalRef = Gives (Reference (reference 0))
+  worked_out NewGlobalRef = MakesGlobal (reference 0)
+  worked_out DeleteGlobalRef = deletes_global (reference 0) (operand_of call.operands 0)
   worked_out DeleteLocalRef = deletes (reference 0) (level_at levels (operand_of call.operands 0))
   worked_out IsSameObject = Gives (Number (truth_word (name_there space (reference 0) == name_there space (reference 1))))
   worked_out EnsureLocalCapacity = room_for (cast_signed w32 (top_word stack))

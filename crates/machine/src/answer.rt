@@ -12,7 +12,7 @@ ghost use Rattle.heap.specs.Heap.{IsAddress};
 ghost use Rattle.jni.specs.Table.{function_value};
 ghost use Rattle.machine.specs.Checked.{fit_together, is_answered};
 ghost use Rattle.machine.specs.Given.{class_of_given, field_at, field_there, operand_at, operand_of, AreAddresses, AreHandles};
-ghost use Rattle.machine.specs.WorkedOut.{address_in, class_object, count_there, deletes, found_class, frame_for, held_reference, place_there, room_for, top_word, value_there, word_in, writes_there, IsFoundField, IsWorkedOut};
+ghost use Rattle.machine.specs.WorkedOut.{address_in, class_object, count_there, deletes, deletes_global, found_class, frame_for, held_reference, place_there, room_for, top_word, value_there, word_in, writes_there, IsFoundField, IsWorkedOut};
 ghost use Rattle.syntax.specs.Views.{element_tree};
 
 use crate::operands::{class_of_given, declaring, fits_there, handle_at, level_in, name_there, operand_of, reference_at};
@@ -61,6 +61,10 @@ pub enum Answer {
     Pops(Option<Addr>),
     /// There is one reference less to the object at this address in the frame of this level, counted from 1.
     Deletes(usize, Addr),
+    /// A global reference to the object at this address is made and given, and none for NULL.
+    MakesGlobal(Option<Addr>),
+    /// The global reference of the static of this number ends, and the static is marked.
+    DeletesGlobal(u32),
 }
 
 /// What a function does, all checks being passed. `loaded` has the addresses of the objects made at load, of which the class
@@ -106,6 +110,8 @@ pub fn work_out(
         }
         JniFunction::AllocObject => Answer::Makes(name_there(heap, first)),
         JniFunction::NewLocalRef => Answer::Gives(Given::Reference(first)),
+        JniFunction::NewGlobalRef => Answer::MakesGlobal(first),
+        JniFunction::DeleteGlobalRef => deletes_global(first, operand_of(&function.operands, 0)),
         JniFunction::IsSameObject => {
             let same = name_there(heap, first) == name_there(heap, second);
             Answer::Gives(Given::Number(word_of_truth(same)))
@@ -211,6 +217,16 @@ fn deletes(reference: Option<Addr>, level: usize) -> Answer
 {
     match reference {
         Some(addr) if level > 0 => Answer::Deletes(level, addr),
+        _ => Answer::Gives(Given::Nothing),
+    }
+}
+
+/// The global reference of a static ends, for one that isn't NULL.
+fn deletes_global(reference: Option<Addr>, operand: Operand) -> Answer
+    ensures { result ≡ deletes_global reference operand }
+{
+    match (reference, operand) {
+        (Some(_), Operand::Static(slot)) => Answer::DeletesGlobal(slot),
         _ => Answer::Gives(Given::Nothing),
     }
 }

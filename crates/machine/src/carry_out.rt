@@ -12,7 +12,7 @@ ghost use Rattle.machine.specs.declared.answer.Given.TheVariants.{Number};
 use crate::answer::{Answer, Given};
 use crate::frame::Frames;
 use crate::make::make;
-use crate::statics::StaticReference;
+use crate::statics::{StaticReference, delete_global, make_global};
 use crate::store::Store;
 use heap::Addr;
 use jni::ResultKind;
@@ -29,7 +29,7 @@ pub struct Carried {
 /// Does to the store and to a call's frames what a function of this kind of result answers. An object or an exception that has
 /// no room in the heap is refused: then the OutOfMemoryError object is pending, and the call fails.
 ///
-/// An error says that host memory for a frame was refused; then all is as before.
+/// An error says that host memory for a frame or a global reference was refused; then all is as before.
 pub fn carry_out(
     world: &World,
     store: &mut Store,
@@ -87,6 +87,13 @@ pub fn carry_out(
         }
         Answer::Deletes(level, addr) => {
             frames.delete(level, addr);
+            gives(Given::Nothing)
+        }
+        Answer::MakesGlobal(reference) => {
+            gives(Given::Global(make_global(&mut store.globals, reference)?))
+        }
+        Answer::DeletesGlobal(slot) => {
+            delete_global(&mut store.statics, &mut store.globals, slot);
             gives(Given::Nothing)
         }
     })

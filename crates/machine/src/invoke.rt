@@ -20,7 +20,7 @@ use heap::Addr;
 use std::alloc::AllocError;
 use world::World;
 
-/// The instruction that calls a function. Only a new frame takes host memory.
+/// The instruction that calls a function. Only a new frame and a new global reference take host memory.
 pub fn invoke(
     world: &World,
     store: &mut Store,

@@ -1,10 +1,15 @@
 //! Statics, which hold global references, and what operands can name.
 
-ghost use Rattle.std.specs.Prelude.{◌≡◌, slice_get};
+ghost use Rattle.std.specs.Prelude.{◌≡◌, ℕ, Some, IsSome, slice_get, slice_set, IfOk, OnErr};
 ghost use Rattle.machine.specs.Given.{held_in};
+ghost use Rattle.machine.specs.Made.{MakesGlobal};
 ghost use Rattle.machine.specs.Statics.{all_held, static_at};
+ghost use Rattle.machine.specs.declared.statics.StaticReference.TheVariants.{Live, Deleted};
+ghost use Rattle.tables.specs.Globals.{without};
+ghost use Rattle.tables.specs.References.{address_at};
 
 use heap::Addr;
+use std::alloc::AllocError;
 use std::marker::Model;
 use tables::{Global, Globals};
 
@@ -77,5 +82,40 @@ impl<'a> References<'a> {
             },
             Some(StaticReference::Deleted) => Held::Deleted,
         }
+    }
+}
+
+/// Makes a global reference to the object at this address, and none for NULL.
+///
+/// An error says that host memory for it was refused; then all is as before.
+pub fn make_global(
+    globals: &mut Globals,
+    reference: Option<Addr>,
+) -> Result<StaticReference, AllocError>
+    ensures made { IfOk result (λ held. MakesGlobal globals.old reference globals.new held) }
+    ensures err { OnErr result (globals.new ≡ globals.old) }
+{
+    match reference {
+        None => Ok(StaticReference::Empty),
+        Some(addr) => match globals.make(addr) {
+            Ok(key) => Ok(StaticReference::Live(key)),
+            Err(_) => Err(AllocError),
+        },
+    }
+}
+
+/// Ends the global reference of a static that has one, and marks the static.
+pub fn delete_global(statics: &mut [StaticReference], globals: &mut Globals, slot: u32)
+    requires live { (key : ℕ) × (slice_get statics.old slot ≡ Some (Live key)) × IsSome (address_at globals.old key) }
+    ensures statics { statics.new ≡ slice_set statics.old slot Deleted }
+    ensures globals { (key : ℕ) → slice_get statics.old slot ≡ Some (Live key) → globals.new ≡ without globals.old key }
+{
+    let place = slot as usize;
+    match statics[place] {
+        StaticReference::Live(key) => {
+            globals.delete(key).unwrap();
+            statics[place] = StaticReference::Deleted;
+        }
+        _ => unreachable!(),
     }
 }

@@ -37,7 +37,7 @@ use Rattle.machine.specs.Stops.{trap_view}
 use Rattle.machine.specs.WorkedOut.{IsWorkedOut}
 use Rattle.machine.proofs.BlockObjects.{is_address}
 use Rattle.machine.proofs.CallAnswers.{answers}
-use Rattle.machine.proofs.CallInstructions.{CalledAs, called, r, goes_on, has_frame, has_static, has_target, possible, traps}
+use Rattle.machine.proofs.CallInstructions.{CalledAs, called, r, goes_on, held, has_frame, has_static, has_target, possible, traps}
 use Rattle.machine.proofs.StaticStores.{shared_long, statics_long}
 use Rattle.machine.proofs.CallTraps.{found_is, handles_there, has_passed, objects_there}
 use Rattle.machine.proofs.invoke.invoke.Goals as goal
@@ -90,7 +90,7 @@ module _ (p : Lowered) (w : World) (store : Store) (pending : Option ℕ) (call 
         (subst (λ (l : References). IsWorkedOut w.classes store.heap store.loaded.items l levels fields call.stack (call_view function) (function_value function.function) answer) same_references
         (subst (λ (l : List ℕ). IsWorkedOut w.classes store.heap l references levels fields call.stack (call_view function) (function_value function.function) answer) same_loaded
         (subst (λ (t : Classes). IsWorkedOut t store.heap loaded references levels fields call.stack (call_view function) (function_value function.function) answer) same_classes works))))))
-        (levelled p w store pending call function shared s task rest h))
+        (levelled p w store pending call function shared s task rest h) (held p w store pending call function shared s task rest h))
 
     can_carry : (kind : ResultKind) → kind ≡ (prototype (function_value function.function)).result → IsPossible p w store pending call.frames kind shared s
     can_carry kind same = subst (λ (x : ResultKind). IsPossible p w store pending call.frames x shared s) (sym (kind_is kind same)) (possible p w store pending call function shared s task rest h)
