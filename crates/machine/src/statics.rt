@@ -111,11 +111,10 @@ pub fn delete_global(statics: &mut [StaticReference], globals: &mut Globals, slo
     ensures globals { (key : ℕ) → slice_get statics.old slot ≡ Some (Live key) → globals.new ≡ without globals.old key }
 {
     let place = slot as usize;
-    match statics[place] {
-        StaticReference::Live(key) => {
-            globals.delete(key).unwrap();
-            statics[place] = StaticReference::Deleted;
-        }
+    let held = statics[place];
+    match held {
+        StaticReference::Live(key) => globals.delete(key).unwrap(),
         _ => unreachable!(),
     }
+    statics[place] = StaticReference::Deleted;
 }
