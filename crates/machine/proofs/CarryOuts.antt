@@ -220,7 +220,7 @@ module _ (p : Lowered) (w : World) (store : Store) (pending : Option ℕ) (frame
       })
 
   -- the global reference of a static ended
-  pub deletes_global : (statics : Vec StaticReference) (effect : CallEffect) (x : Identifier) (i key a n : ℕ) → kind ≡ GivesNothing → slice_get store.statics.items i ≡ Some (static.Live key) → address_at store.globals key ≡ Some a → name_at store.heap a ≡ Some n → static_index x shared.statics ≡ Some i
+  deletes_global : (statics : Vec StaticReference) (effect : CallEffect) (x : Identifier) (i key a n : ℕ) → kind ≡ GivesNothing → slice_get store.statics.items i ≡ Some (static.Live key) → address_at store.globals key ≡ Some a → name_at store.heap a ≡ Some n → static_index x shared.statics ≡ Some i
       → effect ≡ Leaves [] (record shared { globals = without_one n shared.globals; statics = assign x Deleted shared.statics }) s NoResult → statics.items ≡ slice_set store.statics.items i static.Deleted
       → Carries effect false (record store { statics = statics; globals = without store.globals key }) pending given.Nothing
   deletes_global statics effect x i key a n nothing at address named place is marked =

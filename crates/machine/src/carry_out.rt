@@ -90,7 +90,8 @@ pub fn carry_out(
             gives(Given::Nothing)
         }
         Answer::MakesGlobal(reference) => {
-            gives(Given::Global(make_global(&mut store.globals, reference)?))
+            let held = make_global(&mut store.globals, reference)?;
+            gives(Given::Global(held))
         }
         Answer::DeletesGlobal(slot) => {
             delete_global(&mut store.statics, &mut store.globals, slot);

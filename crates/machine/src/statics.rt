@@ -106,7 +106,7 @@ pub fn make_global(
 
 /// Ends the global reference of a static that has one, and marks the static.
 pub fn delete_global(statics: &mut [StaticReference], globals: &mut Globals, slot: u32)
-    requires live { (key : ℕ) × (slice_get statics.old slot ≡ Some (Live key)) × IsSome (address_at globals.old key) }
+    requires { (key : ℕ) × (slice_get statics.old slot ≡ Some (Live key)) × IsSome (address_at globals.old key) }
     ensures statics { statics.new ≡ slice_set statics.old slot Deleted }
     ensures globals { (key : ℕ) → slice_get statics.old slot ≡ Some (Live key) → globals.new ≡ without globals.old key }
 {

@@ -1,5 +1,5 @@
-use Rattle.std.proofs.Common.{◌≡◌, ℕ, ◌-◌, ◌<◌, ◌≤◌, ◌^◌, Bool, List, Option, Some, None, length, true, false, refl, sym, ap, ◌∙◌, subst, arith}
-use Rattle.std.specs.Prelude.{slice_get, if◌then◌else◌}
+use Rattle.std.proofs.Common.{rules, ◌≡◌, ℕ, ◌-◌, ◌<◌, ◌≤◌, ◌^◌, Bool, List, Option, Some, None, length, true, false, refl, sym, ap, ◌∙◌, subst, arith}
+use Rattle.std.specs.Prelude.{slice_get, slice_set, IsSome, if◌then◌else◌}
 use Rattle.classes.specs.Class.{Classes}
 use Rattle.heap.specs.Heap.{Space}
 use Rattle.jni.specs.Prototype.{ResultKind}
@@ -21,6 +21,11 @@ use Rattle.machine.specs.Frames.{Frame, can_ensure, with_capacity}
 use Rattle.machine.specs.Made.{HasMade, Makes}
 use Rattle.machine.proofs.AnswerCases.{makes_it, throws_it}
 use Rattle.machine.proofs.CarryOuts as carries
+use Rattle.machine.proofs.StaticStores.{live_there}
+use Rattle.machine.specs.declared.statics.StaticReference.{StaticReference}
+use Rattle.machine.specs.declared.statics.StaticReference.TheVariants as static
+use Rattle.std.specs.Vec.{with_items}
+use Rattle.std.proofs.lemmas.List.{with_items_is, places}
 use Rattle.machine.proofs.LongTables.{classes_loaded}
 use Rattle.machine.proofs.Makes.{few_births}
 use Rattle.machine.proofs.carry_out.carry_out.Goals as goal
@@ -158,3 +163,34 @@ returns-in-RefusesFrames-clause-carried c p shared s effect h does =
     let refuses = subst (λ (a : Answer). IsAnswer w.classes old.heap k shared s a effect) c.in-RefusesFrames.is does in
     told_of_frames p w old.heap k shared s effect old c.refuse_frames-in-RefusesFrames.new.pending frames frames c.refuse_frames-in-RefusesFrames.result refl c.refuse_frames-in-RefusesFrames.ensures.pending c.refuse_frames-in-RefusesFrames.ensures.carried
     (carries.refuses_room p w old c.args.pending.now frames k shared s h effect refuses)
+
+-- the static that is marked has a global reference
+pub delete_global-requires : goal.delete_global-requires
+delete_global-requires c =
+    let r = c.requires.possible in
+    let w = c.args.world.now in
+    let old = c.args.store.now in
+    let slot = c.in-DeletesGlobal.slot in
+    let deletes = subst (λ (a : Answer). IsAnswer w.classes old.heap (result_value c.args.kind) r.1 r.2 a r.3) c.in-DeletesGlobal.is r.5 in
+    let live = live_there r.0 w old r.1 r.4.store_agrees deletes.1.0 slot deletes.1.1 deletes.1.2.place deletes.1.2.there in
+    (live.key, subst (λ (l : List StaticReference). slice_get l slot ≡ Some (static.Live live.key)) (sym c.deref_mut.ensures.value) live.at, subst (λ (o : Option ℕ). IsSome o) (sym live.held) refl)
+
+pub returns-in-DeletesGlobal-clause-carried : goal.returns-in-DeletesGlobal-clause-carried
+returns-in-DeletesGlobal-clause-carried c p shared s effect h does =
+    let w = c.args.world.now in
+    let k = result_value c.args.kind in
+    let old = c.args.store.now in
+    let slot = c.in-DeletesGlobal.slot in
+    let statics = with_items old.statics c.delete_global.new.statics in
+    let deletes = subst (λ (a : Answer). IsAnswer w.classes old.heap k shared s a effect) c.in-DeletesGlobal.is does in
+    carries.deletes_static p w old c.args.pending.now c.args.frames.now k shared s h statics c.delete_global.new.globals slot effect deletes
+    (with_items_is old.statics c.delete_global.new.statics (search (rules, places)) ∙ c.delete_global.ensures.statics ∙ ap (λ (l : List StaticReference). slice_set l slot static.Deleted) c.deref_mut.ensures.value)
+    (λ key at. c.delete_global.ensures.globals key (subst (λ (l : List StaticReference). slice_get l slot ≡ Some (static.Live key)) (sym c.deref_mut.ensures.value) at))
+
+pub returns-in_ok-held-in-MakesGlobal-clause-carried : goal.returns-in_ok-held-in-MakesGlobal-clause-carried
+returns-in_ok-held-in-MakesGlobal-clause-carried c p shared s effect h does =
+    let w = c.args.world.now in
+    let k = result_value c.args.kind in
+    let old = c.args.store.now in
+    let makes = subst (λ (a : Answer). IsAnswer w.classes old.heap k shared s a effect) c.in-MakesGlobal.is does in
+    carries.makes_global p w old c.args.pending.now c.args.frames.now k shared s h c.make_global.new.globals c.in_ok-held-in-MakesGlobal.held effect c.in-MakesGlobal.reference makes.1.0 makes.0 makes.1.1 makes.1.2 c.in_ok-held-in-MakesGlobal.ensures.made
