@@ -10,7 +10,7 @@ use Rattle.base.specs.Element.{ElementType, JChar}
 use Rattle.syntax.specs.Tree as tree
 use Rattle.syntax.specs.Tree.{Expr, Argument, RightSide, FromExpr, FromCall, Test, TestExpr, TestCall, Stmt, Block, End, Next, VariableType, BitOr, Call}
 use Rattle.jni.specs.JniFunction.{Access, ElementsCopy, ArrayView, CharsCopy, CharsView}
-use Rattle.jni.specs.Prototype.{ParameterKind, FieldID, IntNumber, TextBytes, ArrayVariable, BufferVariable, Mode, IsCopy, ResultKind, NewLocal, NewGlobal, GivesFlag, GivesInt, GivesField, function_named, prototype}
+use Rattle.jni.specs.Prototype.{ParameterKind, LocalVariable, StaticVariable, FieldID, IntNumber, TextBytes, ArrayVariable, BufferVariable, Mode, IsCopy, ResultKind, NewLocal, NewGlobal, GivesFlag, GivesInt, GivesField, function_named, prototype}
 use Rattle.types.specs.Sorts.{Sort, Jint, Ref, Global, FieldId, Buffer, Array, is_buffer_for}
 use Rattle.types.specs.Sorts as sort
 use Rattle.types.specs.SortRules.{variable_sort}
@@ -28,7 +28,7 @@ use Rattle.source.specs.Task.{Task, SetScalar, Branch, ReturnValue, Target, Decl
 use Rattle.code_generator.specs.Layout.{Slot, Known, Layout, new_slot, closed, layout_after, block_layout}
 use Rattle.code_generator.specs.Coding.{nullable_of, store_of, element_of, write_code, of_slot, operand_of, address_operand, term_code, expr_code, value_code, right_code, assign_code, returned_code, return_code, ways_code, turn_code, loop_code, if_code, stmt_code, block_code, named_call_code, operand_code, argument_code, arguments_code, argument_text, arguments_texts, result_target}
 use Rattle.lower.specs.Slots.{IsNumberSort}
-use Rattle.lower.specs.Fits.{IsUntouched, NumberFits, IndexWithin, IsLaidOut, HasRoomFor, IsVariable, IsReferenceKind, ArrayFits, BufferFits, ArgumentFits, ValueFits, RightFits, TestFits, ReturnFits, StmtFits, BlockFits, CallFits, ReferenceFits, FieldFits, ResultFits}
+use Rattle.lower.specs.Fits.{IsUntouched, NumberFits, IndexWithin, IsLaidOut, HasRoomFor, IsVariable, TakesLocal, TakesGlobal, NameFits, ArrayFits, BufferFits, ArgumentFits, ValueFits, RightFits, TestFits, ReturnFits, StmtFits, BlockFits, CallFits, ReferenceFits, FieldFits, ResultFits}
 use Rattle.lower.specs.Stands.{held, IsBegun, IsUnderWay, HasAt, AreAmong, IsSlotOf, kind_of_sort, GoesTo, ResultStands, ResultGoes, StaticStands, TargetStands, operand_text, operands_texts, target_name, BlockStands, TasksStand, OperandStands, AreUntouched, operand_rest, operands_rest}
 use Rattle.lower.proofs.SlotLaws.{known_among, known_again, all_among}
 use Rattle.lower.proofs.CodePlaces.{has_front, has_back}
@@ -98,31 +98,41 @@ module _ (code : Listing) (known : Known) (line place : ℕ) (tail : List Task) 
   value_set target x (Array t n) i e names fits name goes at own among further = absurd fits
 
   -- an argument is found where the instruction says
-  reference_stands : (p : ParameterKind) (x : Identifier) (s : Slot) → IsReferenceKind p → lookup x known ≡ Some s → ((s.sort ≡ Ref) ⊎ (s.sort ≡ Global)) → OperandStands known (operand_of (lookup x known)) (p, Given (tree.Value (tree.Variable x)))
-  reference_stands p x s kind found (inl e) =
-      let there : lookup x known ≡ Some (record { sort = Ref; index = s.index }) = found ∙ ap (λ (r : Sort). Some (record { sort = r; index = s.index })) e in
-      subst (λ o. OperandStands known (operand_of o) (p, Given (tree.Value (tree.Variable x)))) (sym there) (x, record { kind = kind; is = refl }, there)
-  reference_stands p x s kind found (inr e) =
-      let there : lookup x known ≡ Some (record { sort = Global; index = s.index }) = found ∙ ap (λ (r : Sort). Some (record { sort = r; index = s.index })) e in
-      subst (λ o. OperandStands known (operand_of o) (p, Given (tree.Value (tree.Variable x)))) (sym there) (x, record { kind = kind; is = refl }, there)
+  local_stands : (p : ParameterKind) (x : Identifier) (i : ℕ) → TakesLocal p → lookup x known ≡ Some (record { sort = Ref; index = i }) → OperandStands known (operand_of (lookup x known)) (p, Given (tree.Value (tree.Variable x)))
+  local_stands p x i kind there = subst (λ o. OperandStands known (operand_of o) (p, Given (tree.Value (tree.Variable x)))) (sym there) (x, kind, refl, there)
 
-  reference_found : (p : ParameterKind) (e : Expr) → IsReferenceKind p → ReferenceFits known e → OperandStands known (operand_code known (p, tree.Value e)) (p, operand (p, tree.Value e))
-  reference_found IntNumber e kind h = absurd kind
-  reference_found FieldID e kind h = absurd kind
-  reference_found Mode e kind h = absurd kind
-  reference_found IsCopy e kind h = absurd kind
-  reference_found p (tree.Named tree.Null) kind h = record { kind = kind; is = refl }
-  reference_found p (tree.Variable x) kind h = reference_stands p x h.0 kind h.1 h.2
-  reference_found p e kind h = absurd h
+  static_stands : (p : ParameterKind) (x : Identifier) (i : ℕ) → TakesGlobal p → lookup x known ≡ Some (record { sort = Global; index = i }) → OperandStands known (operand_of (lookup x known)) (p, Given (tree.Value (tree.Variable x)))
+  static_stands p x i kind there = subst (λ o. OperandStands known (operand_of o) (p, Given (tree.Value (tree.Variable x)))) (sym there) (x, kind, refl, there)
+
+  reference_stands : (p : ParameterKind) (x : Identifier) (s : Slot) → TakesLocal p → TakesGlobal p → lookup x known ≡ Some s → ((s.sort ≡ Ref) ⊎ (s.sort ≡ Global)) → OperandStands known (operand_of (lookup x known)) (p, Given (tree.Value (tree.Variable x)))
+  reference_stands p x s local global found (inl e) = local_stands p x s.index local (found ∙ ap (λ (r : Sort). Some (record { sort = r; index = s.index })) e)
+  reference_stands p x s local global found (inr e) = static_stands p x s.index global (found ∙ ap (λ (r : Sort). Some (record { sort = r; index = s.index })) e)
+
+  reference_found : (p : ParameterKind) (e : Expr) → TakesLocal p → TakesGlobal p → ReferenceFits known e → OperandStands known (operand_code known (p, tree.Value e)) (p, operand (p, tree.Value e))
+  reference_found IntNumber e local global h = absurd local
+  reference_found FieldID e local global h = absurd local
+  reference_found Mode e local global h = absurd local
+  reference_found IsCopy e local global h = absurd local
+  reference_found StaticVariable e local global h = absurd local
+  reference_found LocalVariable e local global h = absurd global
+  reference_found p (tree.Named tree.Null) local global h = record { kind = local; is = refl }
+  reference_found p (tree.Variable x) local global h = reference_stands p x h.0 local global h.1 h.2
+  reference_found p e local global h = absurd h
+
+  local_found : (e : Expr) → NameFits known Ref e → OperandStands known (operand_code known (LocalVariable, tree.Value e)) (LocalVariable, Given (tree.Value e))
+  local_found (tree.Variable x) h = local_stands LocalVariable x h.0 tt h.1
+  local_found e h = absurd h
+
+  static_found : (e : Expr) → NameFits known Global e → OperandStands known (operand_code known (StaticVariable, tree.Value e)) (StaticVariable, Given (tree.Value e))
+  static_found (tree.Variable x) h = static_stands StaticVariable x h.0 tt h.1
+  static_found e h = absurd h
 
   number_found : (e : Expr) → NumberFits known (term_of e) Jint → OperandStands known (operand_code known (IntNumber, tree.Value e)) (IntNumber, operand (IntNumber, tree.Value e))
   number_found e h = record { kind = refl; term = term_of e; is = refl; sort = h.sort }
 
   field_found : (e : Expr) → FieldFits known e → OperandStands known (operand_code known (FieldID, tree.Value e)) (FieldID, Given (tree.Value e))
   field_found (tree.Named tree.Null) h = record { kind = tt; is = refl }
-  field_found (tree.Variable x) h =
-      let there : lookup x known ≡ Some (record { sort = FieldId; index = h.0.index }) = h.1 ∙ ap (λ (r : Sort). Some (record { sort = r; index = h.0.index })) h.2 in
-      subst (λ o. OperandStands known (operand_of o) (FieldID, Given (tree.Value (tree.Variable x)))) (sym there) (x, refl, refl, there)
+  field_found (tree.Variable x) h = subst (λ o. OperandStands known (operand_of o) (FieldID, Given (tree.Value (tree.Variable x)))) (sym h.1) (x, refl, refl, h.1)
   field_found e h = absurd h
 
   array_found : (t : ElementType) (e : Expr) → ArrayFits known t e → OperandStands known (operand_code known (ArrayVariable t, tree.Value e)) (ArrayVariable t, Given (tree.Value e))
@@ -159,7 +169,9 @@ module _ (code : Listing) (known : Known) (line place : ℕ) (tail : List Task) 
   argument_found Mode (tree.Value e) h = record { kind = refl; written = e; is = refl; same = refl }
   argument_found IsCopy (tree.Value e) h = subst (λ (d : Expr). OperandStands known (operand_code known (IsCopy, tree.Value d)) (IsCopy, Given (tree.Value d))) (sym h) (record { kind = tt; is = refl })
   argument_found IsCopy (tree.AddressOf x) h = address_found x h
-  argument_found p (tree.Value e) h = reference_found p e tt h
+  argument_found LocalVariable (tree.Value e) h = local_found e h
+  argument_found StaticVariable (tree.Value e) h = static_found e h
+  argument_found p (tree.Value e) h = reference_found p e tt tt h
   argument_found p a h = absurd h
 
   arguments_found : (parameters : List ParameterKind) (arguments : List Argument) → AllZip (ArgumentFits known) parameters arguments

@@ -10,7 +10,7 @@ use Rattle.base.specs.Bytes.{Identifier, lookup}
 use Rattle.syntax.specs.Tree as tree
 use Rattle.syntax.specs.Tree.{Expr}
 use Rattle.jni.specs.JniFunction.{JniFunction}
-use Rattle.jni.specs.Prototype.{ParameterKind, FieldID, ArrayVariable, BufferVariable, Mode, IsCopy, prototype, IntNumber, ResultKind, GivesInt, GivesFlag}
+use Rattle.jni.specs.Prototype.{ParameterKind, LocalVariable, StaticVariable, FieldID, ArrayVariable, BufferVariable, Mode, IsCopy, prototype, IntNumber, ResultKind, GivesInt, GivesFlag}
 use Rattle.types.specs.Sorts.{Sort, Jint, Ref, Global, FieldId, Buffer, Array}
 use Rattle.types.specs.Sorts as sort
 use Rattle.code.specs.declared.instr.Operand.{Operand as Where}
@@ -30,7 +30,7 @@ use Rattle.source.specs.Value.{Word, Int, Flag, Truth, Gives, Outcome, Traps, St
 use Rattle.code_generator.specs.Layout.{Slot, Known}
 use Rattle.code_generator.specs.Coding.{term_code}
 use Rattle.lower.specs.Slots.{word_of, IsNumberSort, Visible, Slots, Shows}
-use Rattle.lower.specs.Fits.{IsReferenceKind, TakesNull, TermHasSort}
+use Rattle.lower.specs.Fits.{IsReferenceKind, TakesNull, TakesLocal, TakesGlobal, TermHasSort}
 use Rattle.lower.specs.Stands.{held, IsBegun, HasAt, operand_text, operands_texts, ResultStands, ResultGoes, StaticStands, TestStands, number_sort, OperandStands, TargetStands, InvokeStands, TasksStand, task_returns, operands_rest, operand_held, operands_held, AreUntouched, AreBegun}
 use Rattle.lower.specs.Does.{IsOperand, TakesNumber, TakesReference, TakesField, TakesStatic, TakesTest, GoesInto, TakesResult, DoesEffect, word_given, words_given, text_given, texts_given, OperandFits, IsVariableKind, ActualFits}
 use Rattle.lower.proofs.SlotLaws.{fewer_shown, number_below, shows_set, shows_referred, shows_field_set, static_changes}
@@ -150,12 +150,20 @@ goes_on_inside line f task Stuck = refl
 
 -- ---- where the instruction finds them
 
+local_kind : (p : ParameterKind) → TakesLocal p → IsReferenceKind p
+local_kind StaticVariable h = absurd h
+local_kind p h = h
+
+global_kind : (p : ParameterKind) → TakesGlobal p → IsReferenceKind p
+global_kind LocalVariable h = absurd h
+global_kind p h = h
+
 module _ (known : Known) where
   -- an argument that is a number is on the stack
   number_there : (w : Where) (p : ParameterKind) (t : Term) → OperandStands known w (p, NumberOperand t) → (w ≡ operand.Number) × (p ≡ IntNumber) × TermHasSort known t Jint
   number_there operand.Null p t h = absurd (let e = h.is in cc)
-  number_there (operand.Local i) p t h = absurd (let e = h.1.is in cc)
-  number_there (operand.Static i) p t h = absurd (let e = h.1.is in cc)
+  number_there (operand.Local i) p t h = absurd (let e = h.2 in cc)
+  number_there (operand.Static i) p t h = absurd (let e = h.2 in cc)
   number_there (operand.FieldId i) p t h = absurd (let e = h.2 in cc)
   number_there operand.Text p t h = absurd (let e = h.is in cc)
   number_there (operand.Array array) p t h = absurd (let e = h.is in cc)
@@ -325,6 +333,8 @@ module _ (code : Listing) (known : Known) (place : ℕ) (stack : List ℕ) (slot
   null_found : (p : ParameterKind) (given : Operand) → given ≡ Given (tree.Value (tree.Named tree.Null)) → TakesNull p → IsFound operand.Null p given
   null_found FieldID given is kind = found_as operand.Null FieldID given (Given (tree.Value (tree.Named tree.Null))) (FieldActual None) is refl (inr (inl refl)) refl refl refl
   null_found IsCopy given is kind = found_as operand.Null IsCopy given (Given (tree.Value (tree.Named tree.Null))) NothingActual is refl (inr (inr refl)) refl refl refl
+  null_found LocalVariable given is kind = absurd kind
+  null_found StaticVariable given is kind = absurd kind
   null_found p given is kind = found_as operand.Null p given (Given (tree.Value (tree.Named tree.Null))) (ReferenceActual [] Empty) is (looked_up p (tree.Named tree.Null) kind) (inl ([], refl)) kind refl refl
 
   -- the argument of a parameter of a known kind
@@ -333,8 +343,8 @@ module _ (code : Listing) (known : Known) (place : ℕ) (stack : List ℕ) (slot
 
   is_found : (o : Where) (p : ParameterKind) (given : Operand) → is_given given ≡ true → OperandStands known o (p, given) → IsFound o p given
   is_found operand.Null p given ready h = null_found p given h.is h.kind
-  is_found (operand.Local i) p given ready h = found_as (operand.Local i) p given (Given (tree.Value (tree.Variable h.0))) (ReferenceActual h.0 (visible.sight.reference h.0)) h.1.is (looked_up p (tree.Variable h.0) h.1.kind) (h.0, refl, h.2) h.1.kind refl refl
-  is_found (operand.Static i) p given ready h = found_as (operand.Static i) p given (Given (tree.Value (tree.Variable h.0))) (ReferenceActual h.0 (visible.sight.reference h.0)) h.1.is (looked_up p (tree.Variable h.0) h.1.kind) (h.0, refl, h.2) h.1.kind refl refl
+  is_found (operand.Local i) p given ready h = found_as (operand.Local i) p given (Given (tree.Value (tree.Variable h.0))) (ReferenceActual h.0 (visible.sight.reference h.0)) h.2 (looked_up p (tree.Variable h.0) (local_kind p h.1)) (h.0, refl, h.3) (local_kind p h.1) refl refl
+  is_found (operand.Static i) p given ready h = found_as (operand.Static i) p given (Given (tree.Value (tree.Variable h.0))) (ReferenceActual h.0 (visible.sight.reference h.0)) h.2 (looked_up p (tree.Variable h.0) (global_kind p h.1)) (h.0, refl, h.3) (global_kind p h.1) refl refl
   is_found (operand.FieldId i) p given ready h =
       found_as (operand.FieldId i) p given (Given (tree.Value (tree.Variable h.0))) (FieldActual (visible.sight.field h.0)) h.2 (looked_up_at p FieldID (tree.Variable h.0) h.1) (h.0, refl, h.3) h.1 refl refl
   is_found operand.Text p given ready h = found_as operand.Text p given (Given (tree.Text h.bytes)) (TextActual h.bytes) h.is refl (h.bytes, refl) h.kind refl refl
@@ -397,8 +407,8 @@ module _ (code : Listing) (known : Known) (place : ℕ) (stack : List ℕ) (slot
 
   operand_fits : (o : Where) (p : ParameterKind) (given : Operand) → OperandStands known o (p, given) → OperandFits p o
   operand_fits operand.Null p given h = h.kind
-  operand_fits (operand.Local i) p given h = h.1.kind
-  operand_fits (operand.Static i) p given h = h.1.kind
+  operand_fits (operand.Local i) p given h = h.1
+  operand_fits (operand.Static i) p given h = h.1
   operand_fits (operand.FieldId i) p given h = h.1
   operand_fits operand.Text p given h = h.kind
   operand_fits operand.Number p given h = h.kind

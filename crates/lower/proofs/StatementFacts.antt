@@ -10,13 +10,13 @@ use Rattle.syntax.specs.Tree as tree
 use Rattle.syntax.specs.Tree.{ResultType, Void, IntResult, ReferenceResult, Expr, Argument, Call, RightSide, FromExpr, FromCall, Test, TestExpr, TestCall, Stmt}
 use Rattle.jni.specs.JniFunction.{Access, ElementsCopy, ArrayView, CharsCopy, CharsView}
 use Rattle.jni.specs.Prototype.{ParameterKind, Nullable, NonNull, ClassObject, ObjectArray, StringObject, NumberArray, LocalVariable, StaticVariable, FieldID, IntNumber, TextBytes, ArrayVariable, BufferVariable, Mode, IsCopy, ResultKind, NewLocal, NewGlobal, GivesFlag, GivesInt, GivesField, GivesNothing, function_named, prototype}
-use Rattle.types.specs.Sorts.{Sort, Word, Jint, Flag, Truth, Ref, Global, FieldId, Buffer, Array, sort_in, sort_of, is_word, is_jint, is_flag, is_truth, is_index, has_elements, is_null, is_ref, is_field, is_reference, is_array_of, is_buffer_for, name_sort, text_fits, address_fits, argument_fits, arguments_fit, call_arguments_fit}
+use Rattle.types.specs.Sorts.{Sort, Word, Jint, Flag, Truth, Ref, Global, FieldId, Buffer, Array, sort_in, sort_of, is_word, is_jint, is_flag, is_truth, is_index, has_elements, is_null, is_ref, is_global, is_field, is_reference, is_array_of, is_buffer_for, name_sort, text_fits, address_fits, argument_fits, arguments_fit, call_arguments_fit}
 use Rattle.types.specs.SortRules.{result_fits, is_push, call_fits, may_be_tested, value_sets, right_side_sets, buffer_begins, test_fits, return_fits, has_wrong_count, has_wrong_mode, is_mode, is_mode_parameter, modes_fit, copies_reference}
 use Rattle.source.specs.Term as term
 use Rattle.source.specs.Term.{Term, Read, term_of}
 use Rattle.regions.specs.RegionStates.{RegionState}
 use Rattle.code_generator.specs.Layout.{Slot, Known}
-use Rattle.lower.specs.Fits.{IsVariable, IsArray, IsIndexSort, NumberFits, IsReferenceKind, ReferenceFits, FieldFits, ArrayFits, BufferFits, ArgumentFits, CallFits, ResultFits, CallGives, ValueFits, RightFits, TestFits, ReturnFits}
+use Rattle.lower.specs.Fits.{IsVariable, IsArray, IsIndexSort, NumberFits, TakesLocal, TakesGlobal, NameFits, ReferenceFits, FieldFits, ArrayFits, BufferFits, ArgumentFits, CallFits, ResultFits, CallGives, ValueFits, RightFits, TestFits, ReturnFits}
 use Rattle.lower.proofs.SortFacts.{scope_of, slot_of_name, HasNoTruth, IsNoBuffer, IsFine, elements, indexed, index_is_value, number_fits}
 use Rattle.lower.proofs.PlaceFacts.{and_left, and_right, not_false}
 use Rattle.lower.proofs.BuiltCalls.{BuiltCall, built_call, is_taken, result_taken, is_tested}
@@ -43,6 +43,10 @@ truth_is o h = absurd (cc)
 pub ref_is : (o : Option Sort) → is_ref o ≡ true → o ≡ Some Ref
 ref_is (Some Ref) h = refl
 ref_is o h = absurd (cc)
+
+global_is : (o : Option Sort) → is_global o ≡ true → o ≡ Some Global
+global_is (Some Global) h = refl
+global_is o h = absurd (cc)
 
 field_is : (o : Option Sort) → is_field o ≡ true → o ≡ Some FieldId
 field_is (Some FieldId) h = refl
@@ -121,14 +125,6 @@ pub record CallHolds (known : Known) (call : Option Call) : Type 0 where
   pub modes : some_passes (λ c. has_wrong_mode c (function_named c.function)) call ≡ false
   pub fine : AreFine known (called_expressions call)
 
-or_first : (a b : Bool) → a ≡ true → (a || b) ≡ true
-or_first true b h = refl
-or_first false b h = absurd (cc)
-
-or_second : (a b : Bool) → b ≡ true → (a || b) ≡ true
-or_second true b h = refl
-or_second false b h = h
-
 module _ (known : Known) where
   reference_fits : (e : Expr) → (is_null e || is_reference (name_sort (scope_of known) e)) ≡ true → ReferenceFits known e
   reference_fits (tree.Named tree.Null) h = tt
@@ -138,22 +134,23 @@ module _ (known : Known) where
       (record { sort = r.0; index = at.0 }, at.1, r.2)
   reference_fits e h = absurd (cc)
 
-  value_is_reference : (p : ParameterKind) (e : Expr) → IsReferenceKind p → argument_fits (scope_of known) p (tree.Value e) ≡ true → ReferenceFits known e
-  value_is_reference Nullable e kind h = reference_fits e h
-  value_is_reference NonNull e kind h = reference_fits e h
-  value_is_reference ClassObject e kind h = reference_fits e h
-  value_is_reference ObjectArray e kind h = reference_fits e h
-  value_is_reference StringObject e kind h = reference_fits e h
-  value_is_reference (NumberArray t) e kind h = reference_fits e h
-  value_is_reference LocalVariable e kind h = reference_fits e (or_second (is_null e) _ (or_first (is_ref (name_sort (scope_of known) e)) _ h))
-  value_is_reference StaticVariable e kind h = reference_fits e (or_second (is_null e) _ (or_second (is_ref (name_sort (scope_of known) e)) _ h))
-  value_is_reference p e kind h = absurd kind
+  value_is_reference : (p : ParameterKind) (e : Expr) → TakesLocal p → TakesGlobal p → argument_fits (scope_of known) p (tree.Value e) ≡ true → ReferenceFits known e
+  value_is_reference Nullable e local global h = reference_fits e h
+  value_is_reference NonNull e local global h = reference_fits e h
+  value_is_reference ClassObject e local global h = reference_fits e h
+  value_is_reference ObjectArray e local global h = reference_fits e h
+  value_is_reference StringObject e local global h = reference_fits e h
+  value_is_reference (NumberArray t) e local global h = reference_fits e h
+  value_is_reference StaticVariable e local global h = absurd local
+  value_is_reference p e local global h = absurd global
+
+  name_fits : (s : Sort) (e : Expr) → name_sort (scope_of known) e ≡ Some s → NameFits known s e
+  name_fits s (tree.Variable x) h = slot_of_name x known s h
+  name_fits s e h = absurd (cc)
 
   field_fits : (e : Expr) → (is_null e || is_field (name_sort (scope_of known) e)) ≡ true → FieldFits known e
   field_fits (tree.Named tree.Null) h = tt
-  field_fits (tree.Variable x) h =
-      let at = slot_of_name x known FieldId (field_is (sort_in (scope_of known) x) h) in
-      (record { sort = FieldId; index = at.0 }, at.1, refl)
+  field_fits (tree.Variable x) h = slot_of_name x known FieldId (field_is (sort_in (scope_of known) x) h)
   field_fits e h = absurd (cc)
 
   array_fits : (t : ElementType) (e : Expr) → is_array_of t (name_sort (scope_of known) e) ≡ true → ArrayFits known t e
@@ -196,7 +193,9 @@ module _ (known : Known) where
     value_kept (BufferVariable access) e fine h mode = buffer_named access e h
     value_kept Mode e fine h mode = mode
     value_kept IsCopy e fine h mode = null_is e h
-    value_kept p e fine h mode = value_is_reference p e tt h
+    value_kept LocalVariable e fine h mode = name_fits Ref e (ref_is (name_sort (scope_of known) e) h)
+    value_kept StaticVariable e fine h mode = name_fits Global e (global_is (name_sort (scope_of known) e) h)
+    value_kept p e fine h mode = value_is_reference p e tt tt h
 
     one_fits : (p : ParameterKind) (a : Argument) → AreFine known (argument_expressions a) → argument_fits (scope_of known) p a ≡ true → ModeIsKept p a → ArgumentFits known p a
     one_fits p (tree.Value e) fine h mode = value_kept p e fine.0 h mode

@@ -14,7 +14,7 @@ use Rattle.base.specs.Element.{ElementType, JChar}
 use Rattle.code.specs.declared.instr.Target.{Target}
 use Rattle.code.specs.declared.instr.Target.TheVariants as destination
 use Rattle.jni.specs.JniFunction.{Access}
-use Rattle.jni.specs.Prototype.{ParameterKind, FieldID, IntNumber, TextBytes, ArrayVariable, BufferVariable, Mode, IsCopy, ResultKind, NewLocal, NewGlobal, GivesFlag, GivesInt, GivesField, function_named, prototype}
+use Rattle.jni.specs.Prototype.{ParameterKind, LocalVariable, StaticVariable, FieldID, IntNumber, TextBytes, ArrayVariable, BufferVariable, Mode, IsCopy, ResultKind, NewLocal, NewGlobal, GivesFlag, GivesInt, GivesField, function_named, prototype}
 use Rattle.code.specs.declared.instr.Instr.{Instr}
 use Rattle.code.specs.declared.instr.Instr.TheVariants as instr
 use Rattle.code.specs.declared.slots.SlotCounts.{SlotCounts}
@@ -23,7 +23,7 @@ use Rattle.source.specs.Term as term
 use Rattle.source.specs.Term.{Term, Done, Read, IsNull, Prefix, And, Or, Binary, term_of}
 use Rattle.code_generator.specs.Layout.{Slot, Known, Layout, next_index, slots_after, new_slot, closed, layout_after, block_layout}
 use Rattle.code_generator.specs.Coding.{nullable_of, test_of, null_code, element_code, write_code, of_slot, load_code, prefix_code, operator_code, is_signed, skip_code, term_code, expr_code, variable_operand, operand_of, address_operand, arguments_texts, result_target, operand_code, named_call_code, value_code, right_code, assign_code, returned_code, return_code, test_code, ways_code, turn_code, if_code, stmt_code, block_code, argument_code, arguments_code}
-use Rattle.lower.specs.Fits.{IsNullable, TermHasSort, NumberFits, IndexWithin, IsLaidOut, HasRoomFor, ArgumentFits, ValueFits, RightFits, TestFits, ReturnFits, StmtFits, BlockFits, CallFits, IsReferenceKind, ReferenceFits, FieldFits, ArrayFits, BufferFits, ResultFits}
+use Rattle.lower.specs.Fits.{IsNullable, TermHasSort, NumberFits, IndexWithin, IsLaidOut, HasRoomFor, ArgumentFits, ValueFits, RightFits, TestFits, ReturnFits, StmtFits, BlockFits, CallFits, IsReferenceKind, NameFits, ReferenceFits, FieldFits, ArrayFits, BufferFits, ResultFits}
 use Rattle.lower.specs.Slots.{IsNumberSort}
 use Rattle.lower.proofs.Bodies.{value_is}
 use Rattle.lower.proofs.Layouts.{SizeFits, index_more, room_before, room_at_least, declared_slot, laid_after, laid_more, variable_size, block_grows, stmt_grows}
@@ -142,9 +142,15 @@ module _ (slots : SlotCounts) where
   reference_within known p (tree.Variable x) kind all h = name_within known x h.0 all h.1
   reference_within known p e kind all h = absurd h
 
+  named_within : (known : Known) (p : ParameterKind) (s : Sort) (e : Expr) → IsReferenceKind p → AllThere known → NameFits known s e → operand_within slots (operand_code known (p, tree.Value e)) ≡ true
+  named_within known IntNumber s e kind all h = absurd kind
+  named_within known Mode s e kind all h = absurd kind
+  named_within known p s (tree.Variable x) kind all h = name_within known x (record { sort = s; index = h.0 }) all h.1
+  named_within known p s e kind all h = absurd h
+
   field_within : (known : Known) (e : Expr) → AllThere known → FieldFits known e → operand_within slots (operand_code known (FieldID, tree.Value e)) ≡ true
   field_within known (tree.Named tree.Null) all h = refl
-  field_within known (tree.Variable x) all h = name_within known x h.0 all h.1
+  field_within known (tree.Variable x) all h = name_within known x (record { sort = FieldId; index = h.0 }) all h.1
   field_within known e all h = absurd h
 
   array_within : (known : Known) (t : ElementType) (e : Expr) → AllThere known → ArrayFits known t e → operand_within slots (operand_code known (ArrayVariable t, tree.Value e)) ≡ true
@@ -165,6 +171,8 @@ module _ (slots : SlotCounts) where
   operand_fits known Mode (tree.Value e) all h = refl
   operand_fits known IsCopy (tree.Value e) all h = ap (λ (d : Expr). operand_within slots (operand_code known (IsCopy, tree.Value d))) h
   operand_fits known IsCopy (tree.AddressOf x) all h = ap (λ (o : Option Slot). operand_within slots (address_operand o)) h.1 ∙ lt-ltb h.0 slots.numbers (all x (record { sort = sort.Flag; index = h.0 }) h.1)
+  operand_fits known LocalVariable (tree.Value e) all h = named_within known LocalVariable Ref e tt all h
+  operand_fits known StaticVariable (tree.Value e) all h = named_within known StaticVariable Global e tt all h
   operand_fits known p (tree.Value e) all h = reference_within known p e tt all h
   operand_fits known p a all h = absurd h
 

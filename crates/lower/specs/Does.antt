@@ -38,7 +38,7 @@ use Rattle.code_generator.specs.Coding.{mode_code}
 use Rattle.code_generator.specs.Layout.{Known}
 use Rattle.lower.specs.Slots.{word_of, ValueHasSort, Visible, Slots, Shows, IsSet, IsNulled, IsReferred, IsFieldSet, IsMade, IsElementSet, IsHeld, ShowsStatic, holds_null, with_null}
 use Rattle.lower.specs.Stands.{target_name, number_sort, StandsFor}
-use Rattle.lower.specs.Fits.{IsReferenceKind, TakesNull, IsArray}
+use Rattle.lower.specs.Fits.{IsReferenceKind, TakesNull, TakesLocal, TakesGlobal, IsArray}
 
 -- the instructions that leave a function
 abbrev pub IsReturn : Instr → Type 0
@@ -73,8 +73,8 @@ OperandFits p operand.Number = p ≡ IntNumber
 OperandFits p (operand.FieldId i) = p ≡ FieldID
 OperandFits p operand.Text = p ≡ TextBytes
 OperandFits p operand.Null = TakesNull p
-OperandFits p (operand.Local i) = IsReferenceKind p
-OperandFits p (operand.Static i) = IsReferenceKind p
+OperandFits p (operand.Local i) = TakesLocal p
+OperandFits p (operand.Static i) = TakesGlobal p
 OperandFits p (operand.Array array) = (t : ElementType) × (p ≡ ArrayVariable t)
 OperandFits p (operand.Buffer i) = (access : Access) × (p ≡ BufferVariable access)
 OperandFits p (operand.Mode mode) = p ≡ Mode

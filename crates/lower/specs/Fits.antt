@@ -136,6 +136,11 @@ pub record HasRoomFor (slots taken : SlotCounts) : Type 0 where
 
 -- ---- statements
 
+-- the name of a variable of this sort
+abbrev pub NameFits : Known → Sort → Expr → Type 0
+NameFits known s (tree.Variable x) = (i : ℕ) × (lookup x known ≡ Some (record { sort = s; index = i }))
+NameFits known s e = ⊥
+
 -- NULL, the name of a local reference, or that of a static
 abbrev pub ReferenceFits : Known → Expr → Type 0
 ReferenceFits known (tree.Named tree.Null) = Unit {0}
@@ -158,13 +163,24 @@ IsReferenceKind p = ⊥
 abbrev pub TakesNull : ParameterKind → Type 0
 TakesNull FieldID = Unit {0}
 TakesNull IsCopy = Unit {0}
+TakesNull LocalVariable = ⊥
+TakesNull StaticVariable = ⊥
 TakesNull p = IsReferenceKind p
+
+-- a parameter that a local reference may stand for
+abbrev pub TakesLocal : ParameterKind → Type 0
+TakesLocal StaticVariable = ⊥
+TakesLocal p = IsReferenceKind p
+
+-- a parameter that a static may stand for
+abbrev pub TakesGlobal : ParameterKind → Type 0
+TakesGlobal LocalVariable = ⊥
+TakesGlobal p = IsReferenceKind p
 
 -- NULL, or the name of a field ID
 abbrev pub FieldFits : Known → Expr → Type 0
 FieldFits known (tree.Named tree.Null) = Unit {0}
-FieldFits known (tree.Variable x) = (s : Slot) × (lookup x known ≡ Some s) × (s.sort ≡ FieldId)
-FieldFits known e = ⊥
+FieldFits known e = NameFits known FieldId e
 
 -- the name of a local array with elements of this type
 abbrev pub ArrayFits : Known → ElementType → Expr → Type 0
@@ -185,6 +201,8 @@ ArgumentFits known TextBytes (tree.Value e) = ⊥
 ArgumentFits known (ArrayVariable t) (tree.Value e) = ArrayFits known t e
 ArgumentFits known (BufferVariable access) (tree.Value e) = BufferFits known access e
 ArgumentFits known Mode (tree.Value e) = IsTrue (is_mode (tree.Value e))
+ArgumentFits known LocalVariable (tree.Value e) = NameFits known Ref e
+ArgumentFits known StaticVariable (tree.Value e) = NameFits known Global e
 ArgumentFits known IsCopy (tree.Value e) = e ≡ tree.Named tree.Null
 ArgumentFits known IsCopy (tree.AddressOf x) = IsVariable known x Flag
 ArgumentFits known p (tree.Value e) = ReferenceFits known e

@@ -31,7 +31,7 @@ use Rattle.code.specs.Depth.{Listing}
 use Rattle.code.specs.Effect.{truth_word}
 use Rattle.code_generator.specs.Layout.{Slot, Known, Layout, block_layout}
 use Rattle.code_generator.specs.Coding.{mode_code, nullable_of, element_of, term_code, expr_code, ways_code, turn_code, block_code}
-use Rattle.lower.specs.Fits.{IsReferenceKind, TakesNull, IsArray, IsIndexSort, TermHasSort, IsUntouched, NumberFits, IndexWithin, IsOwn, IsLaidOut, HasRoomFor, BlockFits}
+use Rattle.lower.specs.Fits.{TakesNull, TakesLocal, TakesGlobal, IsArray, IsIndexSort, TermHasSort, IsUntouched, NumberFits, IndexWithin, IsOwn, IsLaidOut, HasRoomFor, BlockFits}
 use Rattle.lower.specs.Slots.{word_of, IsNumberSort}
 
 -- ---- terms
@@ -182,11 +182,6 @@ pub record BranchStands (code : Listing) (known : Known) (place : ℕ) (stack : 
 
 -- ---- calls
 
--- an argument that is a reference, which is looked up in the call's own step
-pub record ReferenceStands (p : ParameterKind) (given : Operand) (e : Expr) : Type 0 where
-  pub kind : IsReferenceKind p
-  pub is : given ≡ Given (tree.Value e)
-
 -- NULL for a reference, a field ID or `isCopy`
 pub record NullStands (p : ParameterKind) (given : Operand) : Type 0 where
   pub kind : TakesNull p
@@ -241,9 +236,9 @@ pub record AddressStands (known : Known) (i : ℕ) (p : ParameterKind) (given : 
 abbrev pub OperandStands : Known → Where → ParameterKind × Operand → Type 0
 OperandStands known operand.Null (p, given) = NullStands p given
 OperandStands known (operand.Local i) (p, given) =
-    (x : Identifier) × ReferenceStands p given (tree.Variable x) × (lookup x known ≡ Some (record { sort = Ref; index = i }))
+    (x : Identifier) × TakesLocal p × (given ≡ Given (tree.Value (tree.Variable x))) × (lookup x known ≡ Some (record { sort = Ref; index = i }))
 OperandStands known (operand.Static i) (p, given) =
-    (x : Identifier) × ReferenceStands p given (tree.Variable x) × (lookup x known ≡ Some (record { sort = Global; index = i }))
+    (x : Identifier) × TakesGlobal p × (given ≡ Given (tree.Value (tree.Variable x))) × (lookup x known ≡ Some (record { sort = Global; index = i }))
 OperandStands known operand.Number (p, given) = NumberIsUnderWay known p given
 OperandStands known (operand.FieldId i) (p, given) =
     (x : Identifier) × (p ≡ FieldID) × (given ≡ Given (tree.Value (tree.Variable x))) × (lookup x known ≡ Some (record { sort = FieldId; index = i }))
