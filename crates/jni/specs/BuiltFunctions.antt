@@ -1,6 +1,6 @@
 -- Which functions of the JNI can be called today.
 use Rattle.std.specs.Prelude.{Bool, true, false}
-use Rattle.jni.specs.JniFunction.{JniFunction, FindClass, GetSuperclass, GetObjectClass, IsInstanceOf, IsAssignableFrom, AllocObject, NewLocalRef, IsSameObject, EnsureLocalCapacity, GetFieldID, GetStaticFieldID, GetField, SetField, GetStaticField, SetStaticField, GetObjectField, SetObjectField, GetStaticObjectField, SetStaticObjectField, GetArrayLength}
+use Rattle.jni.specs.JniFunction.{JniFunction, FindClass, GetSuperclass, GetObjectClass, IsInstanceOf, IsAssignableFrom, AllocObject, NewLocalRef, NewGlobalRef, DeleteLocalRef, DeleteGlobalRef, IsSameObject, EnsureLocalCapacity, PushLocalFrame, PopLocalFrame, GetFieldID, GetStaticFieldID, GetField, SetField, GetStaticField, SetStaticField, GetObjectField, SetObjectField, GetStaticObjectField, SetStaticObjectField, GetArrayLength}
 
 -- the functions that can be called
 abbrev pub is_built_function : JniFunction → Bool
@@ -11,8 +11,13 @@ is_built_function IsInstanceOf = true
 is_built_function IsAssignableFrom = true
 is_built_function AllocObject = true
 is_built_function NewLocalRef = true
+is_built_function NewGlobalRef = true
+is_built_function DeleteLocalRef = true
+is_built_function DeleteGlobalRef = true
 is_built_function IsSameObject = true
 is_built_function EnsureLocalCapacity = true
+is_built_function PushLocalFrame = true
+is_built_function PopLocalFrame = true
 is_built_function GetFieldID = true
 is_built_function GetStaticFieldID = true
 is_built_function (GetField T) = true
