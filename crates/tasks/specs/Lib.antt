@@ -1,3 +1,5 @@
+pub mod Names
+pub mod Frames
 pub mod Stores
 pub mod Actuals
 pub mod Answers

@@ -1,11 +1,12 @@
 -- What all threads share, in memory.
-use Rattle.std.specs.Prelude.{◌≡◌, ◌<◌, ◌^◌, ℕ, List, [], map, length, reverse, slice_get, Some}
-use Rattle.source.specs.Heap.{Heap}
+use Rattle.std.specs.Prelude.{◌≡◌, ◌<◌, ◌^◌, ℕ, List, [], map, length, slice_get, Some}
 use Rattle.source.specs.Object.{Object}
-use Rattle.source.specs.Thread.{Frame, Shared}
-use Rattle.source.specs.Variable.{Statics}
-use Rattle.tasks.specs.declared.frame.Frame.{Frame as FrameInMemory}
+use Rattle.source.specs.Thread.{Shared}
+use Rattle.tasks.specs.declared.shared.Shared.{Shared as SharedInMemory}
 use Rattle.tasks.specs.declared.store.Object.{Object as ObjectInMemory}
+use Rattle.source.specs.Sight.{Sight, seen}
+use Rattle.terms.specs.declared.variable.Variable.{Variable as VariableInMemory}
+use Rattle.terms.specs.Views.{variables_view}
 use Rattle.world.specs.Views.{object_value_view}
 
 abbrev pub object_view : ObjectInMemory → Object
@@ -20,10 +21,10 @@ pub record IsStore (objects : List ObjectInMemory) : Type 0 where
   pub short : AreShort objects
   pub few : length objects < 2 ^ 32
 
--- a frame, whose last reference was put last
-abbrev pub frame_view : FrameInMemory → Frame
-frame_view f = record { capacity = f.capacity; references = reverse f.references.items }
+-- what all threads share: no function that can be called enters a monitor
+abbrev pub shared_view : SharedInMemory → Shared
+shared_view s = record { heap = s.store; statics = s.statics; globals = s.globals; monitors = [] }
 
--- what all threads share, with these statics and objects: no function that can be called makes a global reference or enters a monitor
-abbrev pub shared_with : Statics → Heap → Shared
-shared_with statics heap = record { heap = heap; statics = statics; globals = []; monitors = [] }
+-- what a thread with these variables can see
+abbrev pub sight_in : Shared → List VariableInMemory → Sight
+sight_in s vs = seen (variables_view vs) s.statics s.heap
