@@ -4,7 +4,7 @@ ghost use Rattle.std.specs.Prelude.{◌≡◌, IfOk, None, []};
 ghost use Rattle.classes.specs.Class.{Classes};
 ghost use Rattle.source.specs.Thread.{Shared as SharedOfThreads};
 ghost use Rattle.tasks.specs.Activations.{tasks_left, IsInRange, AreSet, Advances, KeepsScene};
-ghost use Rattle.tasks.specs.Stores.{shared_view};
+ghost use Rattle.tasks.specs.Shares.{shared_view};
 
 use crate::frame::Frames;
 use crate::outcome::{End, Outcome};

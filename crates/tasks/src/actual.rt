@@ -13,7 +13,7 @@ ghost use Rattle.source.specs.Sight.{Sight, held_field, held_reference};
 ghost use Rattle.source.specs.Task.{Given, NumberOperand};
 ghost use Rattle.source.specs.Thread.{Shared as SharedOfThreads};
 ghost use Rattle.tasks.specs.Actuals.{actual_view, mode_view, name_view, given_field};
-ghost use Rattle.tasks.specs.Stores.{shared_view, sight_in};
+ghost use Rattle.tasks.specs.Shares.{shared_view, sight_in};
 ghost use Rattle.tasks.specs.Tasks.{operand_view};
 ghost use Rattle.terms.specs.Views.{held_view, term_view, variables_view};
 

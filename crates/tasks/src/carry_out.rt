@@ -7,7 +7,7 @@ ghost use Rattle.source.specs.CallStep.{failure};
 ghost use Rattle.source.specs.Heap.{next_name};
 ghost use Rattle.source.specs.World.{fresh_object};
 ghost use Rattle.tasks.specs.Answers.{answer_view, frames_after, frames_with, given_after, given_view, makes_object, pending_after, shared_after};
-ghost use Rattle.tasks.specs.Stores.{shared_view};
+ghost use Rattle.tasks.specs.Shares.{shared_view};
 
 use crate::answer::Answer;
 use crate::frame::Frames;

@@ -178,7 +178,7 @@ impl Frames {
 
 /// Takes a reference away from a frame.
 fn remove_from(frame: &mut Frame, name: usize)
-    ensures { frame_view frame.new ≡ without_in name (frame_view frame.old) }
+    ensures view { frame_view frame.new ≡ without_in name (frame_view frame.old) }
     ensures capacity { frame.new.capacity ≡ frame.old.capacity }
 {
     frame.references.remove(name);

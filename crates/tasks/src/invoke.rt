@@ -8,7 +8,7 @@ ghost use Rattle.tasks.specs.Actuals.{actual_view};
 ghost use Rattle.tasks.specs.Calls.{MakesCall, ReducesFirst, ReducesOne};
 ghost use Rattle.tasks.specs.Outcomes.{outcome_for};
 ghost use Rattle.tasks.specs.Steps.{Does, scene_with};
-ghost use Rattle.tasks.specs.Stores.{shared_view};
+ghost use Rattle.tasks.specs.Shares.{shared_view};
 ghost use Rattle.tasks.specs.Tasks.{OperandInRange, OperandsInRange, OutcomeInRange, PurposeInRange};
 ghost use Rattle.terms.specs.Views.{variables_view};
 

@@ -8,7 +8,7 @@ ghost use Rattle.tasks.specs.declared.task.Task.TheVariants as task;
 ghost use Rattle.terms.specs.declared.term.Term.TheVariants as term;
 ghost use Rattle.tasks.specs.Outcomes.{else_tree};
 ghost use Rattle.tasks.specs.Steps.{HasEffect, Does, reduced, scene_with};
-ghost use Rattle.tasks.specs.Stores.{shared_view};
+ghost use Rattle.tasks.specs.Shares.{shared_view};
 ghost use Rattle.tasks.specs.Tasks.{branch_task, tasks_of_statements, ExprInRange, BlockInRange, ElseInRange, StatementsInRange, TaskInRange, OutcomeInRange, IsPlain};
 ghost use Rattle.terms.specs.Views.{NumbersInRange, variables_view};
 
