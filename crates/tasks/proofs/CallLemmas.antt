@@ -2,7 +2,7 @@
 use Rattle.std.proofs.Common.{◌≡◌, ℕ, Bool, true, false, List, [], ◌∷◌, ◌++◌, map, Option, Some, None, refl, sym, ap, ◌∙◌, append-nil, IfOk, Result, Ok, Err}
 use Rattle.std.specs.Prelude.{ℤ, pos, negsuc, drop, nat_le, if◌then◌else◌, is_some}
 use Rattle.std.specs.Option.{option_to_list}
-use Rattle.base.specs.Bytes.{Identifier}
+use Rattle.base.specs.Bytes.{Identifier, lookup}
 use Rattle.base.specs.Element.{ElementType}
 use Rattle.classes.specs.BuiltIns.{no_class_def_found_error, no_such_field_error}
 use Rattle.classes.specs.Class.{Classes}
@@ -10,7 +10,7 @@ use Rattle.classes.specs.Fields.{FieldId}
 use Rattle.jni.specs.BuiltFunctions.{is_built_function}
 use Rattle.jni.specs.JniFunction.{JniFunction, FindClass, GetSuperclass, GetObjectClass, IsInstanceOf, IsAssignableFrom, AllocObject, NewLocalRef, NewGlobalRef, DeleteLocalRef, DeleteGlobalRef, IsSameObject, EnsureLocalCapacity, PushLocalFrame, PopLocalFrame, GetFieldID, GetStaticFieldID, GetField, SetField, GetStaticField, SetStaticField, GetObjectField, SetObjectField, GetStaticObjectField, SetStaticObjectField, GetArrayLength}
 use Rattle.jni.specs.Prototype.{ResultKind, NewLocal, prototype}
-use Rattle.source.specs.Arguments.{Actual, variable_given}
+use Rattle.source.specs.Arguments.{Actual, reference_given, variable_given}
 use Rattle.source.specs.CallEffects.{CallResult, NoResult, ReferenceResult, CallEffect, Leaves, delete_global_effect, delete_local_effect, ensure_effect, found_class_effect, found_field_effect, level_of, out_of_memory, push_effect, refuses_frames, with_capacity, without_local}
 use Rattle.source.specs.CallStep.{after_call, after_refusal, call_step, checked, completed, failure, is_zero, makes_objects, put, received, target_element, tell_copy}
 use Rattle.source.specs.CallTable.{call_effect}
@@ -29,7 +29,7 @@ use Rattle.tasks.specs.declared.given.Given.TheVariants as given
 use Rattle.tasks.specs.declared.outcome.Outcome.{Outcome}
 use Rattle.tasks.specs.declared.outcome.Outcome.TheVariants as outcome
 use Rattle.tasks.specs.declared.outcome.Purpose.{Purpose as PurposeInMemory}
-use Rattle.tasks.specs.declared.outcome.Purpose.TheVariants as purpose
+use Rattle.tasks.specs.declared.outcome.Purpose.TheVariants as purposes
 use Rattle.tasks.specs.declared.outcome.Target.TheVariants as target
 use Rattle.tasks.specs.declared.task.Task.{Task as TaskInMemory}
 use Rattle.terms.specs.declared.trap.Trap.{Trap as TrapInMemory}
@@ -133,7 +133,7 @@ module _ (classes : Classes) (lent : BuffersInUse) (k : ℕ) (s : Shared) (t : T
   effects IsAssignableFrom built = refl
   effects NewLocalRef built = refl
   effects NewGlobalRef built = makes_global _
-  effects DeleteLocalRef built = deletes_local _ _
+  effects DeleteLocalRef built = deletes_local (lookup (variable_given args 0) t.variables) (reference_given args 0)
   effects DeleteGlobalRef built = deletes_global _ _
   effects IsSameObject built = refl
   effects AllocObject built = refl
@@ -209,10 +209,10 @@ module _ (classes : Classes) (lent : BuffersInUse) (k : ℕ) (s : Shared) (t : T
 
   by_purpose : (p : PurposeInMemory) (s' : Shared) (fs : List Frame) (r : Reference) (g : Given) (new : TaskInMemory)
       → put (purpose_view line p) (given_view g) s' (with_tasks (in_frames t fs r) (tasks_after line (purpose_view line p) (is_zero (given_view g)) ++ rest)) ≡ left_by k s' (in_frames t fs r) rest (outcome_for line p g) new
-  by_purpose (purpose.Put (target.Declared kind x)) s' fs r g new = refl
-  by_purpose (purpose.Put (target.Assigned x)) s' fs r g new = refl
-  by_purpose (purpose.Put target.Dropped) s' fs r g new = refl
-  by_purpose (purpose.Test b other) s' fs r g new = refl
+  by_purpose (purposes.Put (target.Declared kind x)) s' fs r g new = refl
+  by_purpose (purposes.Put (target.Assigned x)) s' fs r g new = refl
+  by_purpose (purposes.Put target.Dropped) s' fs r g new = refl
+  by_purpose (purposes.Test b other) s' fs r g new = refl
 
   finished : (made : List Object) (s' : Shared) (fs : List Frame) (r : Reference) (c : CallResult) (g : Given) (new : TaskInMemory) → given_view g ≡ c
       → completes made s' (in_frames t fs r) c ≡ left_by k (record s' { heap = s'.heap ++ made }) (in_frames t (frames_with kind (given_view g) fs) r) rest (outcome_for line purpose g) new

@@ -28,7 +28,7 @@ fn last_place(names: &[usize], name: usize) -> Option<usize>
 {
     for done in 0..names.len() {
         let place = names.len() - 1 - done;
-        if names[place] == name {
+        if name == names[place] {
             return Some(place);
         }
     }
