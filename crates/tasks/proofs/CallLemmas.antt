@@ -1,5 +1,5 @@
 -- What a call in memory does is the call's step.
-use Rattle.std.proofs.Common.{◌≡◌, ℕ, Bool, true, false, List, [], ◌∷◌, ◌++◌, map, Option, Some, None, refl, sym, ap, ◌∙◌, append-nil, IfOk, Result, Ok, Err}
+use Rattle.std.proofs.Common.{◌≡◌, ℕ, Bool, true, false, List, [], ◌∷◌, ◌++◌, Option, Some, None, refl, sym, ap, ◌∙◌, append-nil, IfOk, Result, Ok, Err}
 use Rattle.std.specs.Prelude.{ℤ, pos, negsuc, drop, nat_le, if◌then◌else◌, is_some}
 use Rattle.std.specs.Option.{option_to_list}
 use Rattle.base.specs.Bytes.{Identifier, lookup}
@@ -209,7 +209,7 @@ module _ (classes : Classes) (lent : BuffersInUse) (k : ℕ) (s : Shared) (t : T
 
   by_purpose : (p : PurposeInMemory) (s' : Shared) (fs : List Frame) (r : Reference) (g : Given) (new : TaskInMemory)
       → put (purpose_view line p) (given_view g) s' (with_tasks (in_frames t fs r) (tasks_after line (purpose_view line p) (is_zero (given_view g)) ++ rest)) ≡ left_by k s' (in_frames t fs r) rest (outcome_for line p g) new
-  by_purpose (purposes.Put (target.Declared kind x)) s' fs r g new = refl
+  by_purpose (purposes.Put (target.Declared t x)) s' fs r g new = refl
   by_purpose (purposes.Put (target.Assigned x)) s' fs r g new = refl
   by_purpose (purposes.Put target.Dropped) s' fs r g new = refl
   by_purpose (purposes.Test b other) s' fs r g new = refl

@@ -4,7 +4,6 @@ use Rattle.std.specs.Prelude.{remove, ◌==◌, slice_set}
 use Rattle.std.proofs.lemmas.List.{reverse-append, map-append, length-reverse, length-append}
 use Rattle.std.proofs.lemmas.List.Sums.{sum_by-cons}
 use Rattle.std.proofs.lemmas.Option.{slice_get_read}
-use Rattle.std.proofs.lemmas.List.Concat.{flat_map-cons}
 use Rattle.std.proofs.lemmas.Grind.{flat_map-append}
 use Rattle.source.specs.CallEffects.{deleted_in, without_local, without_one}
 use Rattle.source.specs.Thread.{Frame, capacities}

@@ -1,28 +1,21 @@
 -- What tasks do to variables is what they do to those of a thread.
-use Rattle.std.proofs.Common.{◌≡◌, ℕ, ℤ, Bool, true, false, cond, List, [], ◌∷◌, length, map, Option, Some, None, refl, sym, ap, ◌∙◌}
-use Rattle.std.specs.Prelude.{is_some, position, slice_get, slice_set}
+use Rattle.std.proofs.Common.{◌≡◌, ℕ, ℤ, Bool, true, false, cond, List, length, Option, Some, None, refl, sym, ap, ◌∙◌}
+use Rattle.std.specs.Prelude.{position, slice_get, slice_set}
 use Rattle.std.specs.Borrow.{Bor}
 use Rattle.std.specs.Str.{bytes_eq}
-use Rattle.std.proofs.lemmas.Slice.Eq.{bytes_eq-Decides}
 use Rattle.base.specs.Bytes.{Identifier, lookup}
 use Rattle.syntax.specs.Views.{element_tree}
-use Rattle.syntax.specs.Parts.{statics_of}
-use Rattle.syntax.specs.Tree.{Static, SourceUnit}
 use Rattle.source.specs.CallEffects.{CallResult}
 use Rattle.source.specs.CallStep.{blank, filled, static_result, put_assigned, put}
-use Rattle.source.specs.Start.{null_static, null_statics}
 use Rattle.source.specs.Task.{VariableKind, Declared, Assigned}
 use Rattle.source.specs.Thread.{Thread, Shared, Quiet, Advances, NoAdvance}
 use Rattle.source.specs.ThreadStep.{set_variable, set_element}
 use Rattle.source.specs.Value.{convert}
-use Rattle.source.specs.Variable.{Variable, LocalArray, Variables, StaticReference, Empty, Statics, assign}
+use Rattle.source.specs.Variable.{Variable, LocalArray, Variables, Statics, assign}
 use Rattle.tasks.specs.declared.outcome.Outcome.TheVariants as outcome
-use Rattle.tasks.specs.declared.given.Given.{Given}
-use Rattle.tasks.specs.declared.given.Given.TheVariants as given
 use Rattle.terms.specs.declared.variable.Content.{Content}
 use Rattle.terms.specs.declared.variable.Content.TheVariants as content
 use Rattle.terms.specs.declared.variable.Variable.{Variable as VariableInMemory}
-use Rattle.tasks.specs.Answers.{given_view}
 use Rattle.tasks.specs.Outcomes.{variable_step, Holds, LeavesVariables, LeavesIf}
 use Rattle.terms.specs.Views.{content_view, variables_view, written}
 use Rattle.terms.proofs.VariableLemmas.{assigned_there, variable_found}

@@ -1,5 +1,5 @@
 -- What a call in memory does.
-use Rattle.std.specs.Prelude.{◌≡◌, ℕ, Bool, true, false, List, [], ◌∷◌, map, Option, Some, None}
+use Rattle.std.specs.Prelude.{◌≡◌, ℕ, Bool, true, false, List, ◌∷◌, map, Option, Some, None}
 use Rattle.jni.specs.JniFunction.{JniFunction}
 use Rattle.source.specs.Arguments.{Actual}
 use Rattle.source.specs.CallStep.{call_step}
